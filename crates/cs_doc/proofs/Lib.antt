@@ -1,0 +1,4 @@
+pub mod Documents
+pub mod Maps
+pub mod OnLiterals
+pub mod Views

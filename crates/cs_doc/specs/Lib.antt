@@ -1,0 +1,5 @@
+pub mod Document
+pub mod Equality
+pub mod Opened
+pub mod View
+pub mod Texts

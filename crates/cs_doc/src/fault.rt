@@ -1,0 +1,35 @@
+use std::alloc::{AllocError, AllocFailed};
+use thiserror::Error;
+
+/// Why a document was not read or made.
+#[derive(Debug, Drop, Error)]
+pub enum DocFault {
+    #[error("out of memory")]
+    OutOfMemory,
+    #[error("not JSON")]
+    NotJson,
+    #[error("a number is no signed integer of 64 bits")]
+    NotInteger,
+}
+
+impl From<AllocError> for DocFault {
+    ghost use Rattle.std.specs.Prelude.{◌≡◌};
+    ghost use Rattle.cs_doc.specs.declared.fault.DocFault.TheVariants.{OutOfMemory};
+
+    ghost from_gives = { λ _ e. e ≡ OutOfMemory };
+
+    fn from(_refused: AllocError) -> DocFault {
+        DocFault::OutOfMemory
+    }
+}
+
+impl<T: Drop> From<AllocFailed<T>> for DocFault {
+    ghost use Rattle.std.specs.Prelude.{◌≡◌};
+    ghost use Rattle.cs_doc.specs.declared.fault.DocFault.TheVariants.{OutOfMemory};
+
+    ghost from_gives = { λ _ e. e ≡ OutOfMemory };
+
+    fn from(_refused: AllocFailed<T>) -> DocFault {
+        DocFault::OutOfMemory
+    }
+}

@@ -1,0 +1,6 @@
+// Packages whose recursion is guarded.
+#![tactic(auto)]
+
+mod fault;
+
+pub use fault::GuardFault;

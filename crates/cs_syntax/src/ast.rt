@@ -1,0 +1,102 @@
+// The tree that a file spells.
+
+/// A file: its package clause, if it has one, and its definitions in order.
+#[derive(Drop)]
+pub struct File {
+    pub package: Option<String>,
+    pub definitions: Vec<Definition>,
+}
+
+/// A definition: its name without `#`, the byte at which it stands, and its body.
+#[derive(Drop)]
+pub struct Definition {
+    pub name: String,
+    pub at: usize,
+    pub body: Expr,
+}
+
+/// An expression (CUE, expressions). A parenthesis is kept.
+#[cycle(ast)]
+#[derive(Drop)]
+pub enum Expr {
+    /// `_`, which admits every document.
+    Top,
+    /// `_|_`, which admits none.
+    Bottom,
+    Null,
+    Bool(bool),
+    Int(i64),
+    Text(String),
+    /// A name other than `null`, `true` and `false`, and the byte at which it stands.
+    Name {
+        text: String,
+        at: usize,
+    },
+    /// A reference to a definition: its name without `#`, and the byte at which it stands.
+    Reference {
+        text: String,
+        at: usize,
+    },
+    /// `<n`, `<=n`, `>n` or `>=n`.
+    Bound {
+        relation: Relation,
+        limit: i64,
+    },
+    /// `!=n`.
+    NotInt(i64),
+    /// `!="s"`.
+    NotText(String),
+    /// `!=null`.
+    NotNull,
+    /// Two or more operands joined by `&`.
+    And(Vec<Expr>),
+    /// Two or more operands joined by `|`.
+    Or(Vec<Expr>),
+    Paren(Box<Expr>),
+    /// A struct literal, the byte at which it stands, and whether it ends with `...`.
+    Struct {
+        at: usize,
+        fields: Vec<Field>,
+        opened: bool,
+    },
+    List {
+        front: Vec<Expr>,
+        end: ListEnd,
+    },
+}
+
+/// A field of a struct literal.
+#[cycle(ast)]
+#[derive(Drop)]
+pub struct Field {
+    pub label: String,
+    pub quoted: bool,
+    pub mark: FieldMark,
+    pub value: Expr,
+}
+
+/// Whether a field has to be there: `a: T` and `a!: T` have to, `a?: T` has not.
+#[derive(Clone, Copy, Debug, PartialEq, Eq)]
+pub enum FieldMark {
+    Regular,
+    Optional,
+    Required,
+}
+
+/// What stands behind the last fixed element of a list: nothing, `...`, or `...T`.
+#[cycle(ast)]
+#[derive(Drop)]
+pub enum ListEnd {
+    Closed,
+    Any,
+    Each(Box<Expr>),
+}
+
+/// The relation of a bound: `<`, `<=`, `>`, `>=`.
+#[derive(Clone, Copy, Debug, PartialEq, Eq)]
+pub enum Relation {
+    Less,
+    AtMost,
+    More,
+    AtLeast,
+}
