@@ -1,0 +1,4 @@
+pub mod Agreement
+pub mod Names
+pub mod Shapes
+pub mod Slots

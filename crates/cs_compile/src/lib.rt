@@ -1,6 +1,10 @@
-// From a package to a schema.
+// From a package to a schema that admits the same documents.
 #![tactic(auto)]
 
 mod fault;
+mod keywords;
+mod translate;
+mod whole;
 
 pub use fault::CompileFault;
+pub use whole::compile;

@@ -6,7 +6,7 @@ use std::alloc::Global;
 use std::collections::BTreeMap;
 
 impl Doc {
-    /// An equal document.
+    /// An equal document, which owns texts of its own. Only memory can run out.
     pub fn copy(&self, alloc: Global) -> Result<Doc, DocFault>
         ensures value { IfOk result (λ d. doc_view d ≡ doc_view self.now) }
         ensures memory { IsOkUnless result DocFault.OutOfMemory }

@@ -4,10 +4,14 @@ use thiserror::Error;
 /// Why a document was not read or made.
 #[derive(Debug, Drop, Error)]
 pub enum DocFault {
+    /// A growth was refused for want of memory.
     #[error("out of memory")]
     OutOfMemory,
+    /// `serde_json` reads no value from the text: wrong JSON, bytes that are no UTF-8, nesting above
+    /// 127, or a number too large for it.
     #[error("not JSON")]
     NotJson,
+    /// The value that it reads has a number that is no signed integer of 64 bits.
     #[error("a number is no signed integer of 64 bits")]
     NotInteger,
 }

@@ -9,9 +9,10 @@ use serde_json::{Map, Value};
 use std::alloc::Global;
 use std::collections::BTreeMap;
 
-/// The document that a text is.
+/// The document that a text of JSON is (RFC 8259), as `serde_json` reads it: of a key that stands
+/// several times the last value counts. `NotJson` comes before `NotInteger`.
 pub fn read_doc(alloc: Global, text: &[u8]) -> Result<Doc, DocFault>
-    ensures value { IfOk result (λ d. Reads text.now (doc_view d)) }
+    ensures found { IfOk result (λ d. Reads text.now (doc_view d)) }
     ensures document { IfOk result (λ d. IsDocument (doc_view d)) }
     ensures not_json { IsErrOf result DocFault.NotJson → ¬ (IsJson text.now) }
     ensures not_integer { IsErrOf result DocFault.NotInteger → HasOtherNumber text.now }

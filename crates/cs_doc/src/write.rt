@@ -10,7 +10,8 @@ use serde_json::{Map, Value};
 use std::alloc::Global;
 use std::collections::BTreeMap;
 
-/// The compact text of a document.
+/// The compact text of a document, as `serde_json` writes it: no blanks, keys in byte order. It is read
+/// as that document again where the document nests at most 127 deep. Only memory can run out.
 pub fn write_doc(alloc: Global, doc: &Doc) -> Result<Vec<u8>, DocFault>
     ensures text { IfOk result (λ b. b.items ≡ text_of (doc_view doc.now)) }
     ensures document { OnOk result (IsDocument (doc_view doc.now)) }

@@ -1,6 +1,10 @@
 // Packages whose recursion is guarded.
 #![tactic(auto)]
 
+mod cycle;
 mod fault;
+mod guarded;
+mod walk;
 
 pub use fault::GuardFault;
+pub use guarded::{Guarded, guard};

@@ -1,0 +1,8 @@
+pub mod Each
+pub mod Unfolding
+pub mod Parts
+pub mod Induction
+pub mod Meaning
+pub mod Shapes
+mod Rows
+mod Doubling

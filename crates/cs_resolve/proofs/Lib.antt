@@ -1,0 +1,9 @@
+pub mod Environments
+pub mod Views
+pub mod Samples
+pub mod Trees
+pub mod Refusals
+pub mod RepeatTables
+pub mod OpeningRule
+pub mod Sums
+pub mod Order

@@ -1,0 +1,11 @@
+pub mod Expression
+pub mod Predeclared
+pub mod Environment
+pub mod View
+pub mod Code
+pub mod Opening
+pub mod Size
+pub mod Scopes
+pub mod Declarations
+pub mod PackageName
+pub mod Checks

@@ -1,0 +1,10 @@
+pub mod Each
+pub mod Unfolding
+pub mod Locality
+pub mod Chains
+pub mod Meanings
+pub mod Unfolded
+pub mod Rows
+pub mod Escapes
+pub mod Walks
+pub mod Slots

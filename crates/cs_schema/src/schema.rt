@@ -1,4 +1,5 @@
 use cs_doc::Doc;
+use std::alloc::Global;
 use std::collections::BTreeMap;
 
 /// The kinds that `type` names (JSON Schema Validation 2020-12, section 6.1.1).
@@ -60,4 +61,35 @@ pub struct Keywords {
     pub any_of: Vec<Schema>,
     /// `$ref`: the name of the definition
     pub reference: Option<String>,
+}
+
+impl Keywords {
+    ghost use Rattle.std.specs.Prelude.{◌≡◌};
+    ghost use Rattle.cs_doc.specs.Document.{no_members};
+    ghost use Rattle.cs_schema.specs.SchemaDocument.{slots_of, present};
+
+    /// The schema object without a keyword, which validates every document.
+    pub fn empty(alloc: Global) -> Keywords
+        ensures { present (slots_of result) ≡ no_members }
+    {
+        Keywords {
+            kind: None,
+            equal: None,
+            one_of: None,
+            minimum: None,
+            maximum: None,
+            above: None,
+            below: None,
+            min_items: None,
+            required: Vec::new(alloc),
+            properties: BTreeMap::new(alloc),
+            additional: None,
+            rest: None,
+            negated: None,
+            prefix: Vec::new(alloc),
+            all_of: Vec::new(alloc),
+            any_of: Vec::new(alloc),
+            reference: None,
+        }
+    }
 }

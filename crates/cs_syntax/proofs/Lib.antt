@@ -1,0 +1,14 @@
+pub mod WordKinds
+pub mod Runs
+pub mod Marks
+pub mod Fronts
+pub mod Once
+pub mod Cutting
+pub mod Numerals
+pub mod SingleLine
+pub mod BareNames
+pub mod Reader
+pub mod Complete
+pub mod Sound
+pub mod Whole
+pub mod Places

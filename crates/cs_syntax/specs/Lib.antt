@@ -1,0 +1,13 @@
+pub mod Spelling
+pub mod Values
+pub mod Cut
+pub mod Heads
+pub mod Lines
+pub mod Words
+pub mod Tree
+pub mod Spells
+pub mod View
+pub mod Reading
+pub mod Answer
+pub mod Left
+pub mod Place

@@ -3,8 +3,15 @@
 
 mod ast;
 mod fault;
+mod lexer;
+mod parser;
 mod token;
 
 pub use ast::{Definition, Expr, Field, FieldMark, File, ListEnd, Relation};
 pub use fault::SyntaxFault;
+pub use lexer::cut::{lex, one_cut};
+pub use parser::file::parse_file;
 pub use token::{Sort, Token};
+
+#[cfg(test)]
+mod tests;

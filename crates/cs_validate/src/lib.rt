@@ -2,5 +2,10 @@
 #![tactic(auto)]
 
 mod fault;
+mod validity;
 
 pub use fault::ValidateFault;
+pub use validity::is_valid;
+
+#[cfg(test)]
+mod tests;

@@ -1,0 +1,78 @@
+-- The schema of each form of expression that is taken so far, a row for each form (own rule; the keywords are those of
+-- JSON Schema Validation 2020-12, section 6, and Core, section 10). Keys stand in byte order.
+use Rattle.std.specs.Prelude.{ℕ, ℤ, List, [], ◌∷◌, Option, Some, None, false, codes, ◌==◌, if◌then◌else◌}
+use Rattle.cs_doc.specs.Document.{Document, boolean, integer, text, list, object, Documents, no_documents, document, Members, no_members, member}
+use Rattle.cs_resolve.specs.Expression as cue
+use Rattle.cs_resolve.specs.Expression.{Expression, Expressions, Kind, int, number, string, bool, Relation, less, at_most, more, at_least}
+
+-- `int`, `number`, `string`, `bool`
+abbrev pub type_name : Kind → List ℕ
+type_name int = codes "integer"
+type_name number = codes "number"
+type_name string = codes "string"
+type_name bool = codes "boolean"
+
+-- `<n`, `<=n`, `>n`, `>=n`
+abbrev pub limit_name : Relation → List ℕ
+limit_name less = codes "exclusiveMaximum"
+limit_name at_most = codes "maximum"
+limit_name more = codes "exclusiveMinimum"
+limit_name at_least = codes "minimum"
+
+-- the last keywords of a schema: its type
+abbrev pub of_type : List ℕ → Members
+of_type t = member (codes "type") (text t) no_members
+
+abbrev pub from_least : ℤ → Members
+from_least least = member (codes "minimum") (integer least) (of_type (codes "integer"))
+
+-- the integers from the least on, up to the greatest where there is one
+abbrev pub range_keywords : ℤ → Option ℤ → Members
+range_keywords least None = from_least least
+range_keywords least (Some greatest) = member (codes "maximum") (integer greatest) (from_least least)
+
+-- the schemas of a conjunction's operands; without any it asks nothing
+abbrev pub all_of : Documents → Members
+all_of no_documents = no_members
+all_of (document d ds) = member (codes "allOf") (list (document d ds)) no_members
+
+abbrev mutual
+  pub schema_of : Expression → Document
+  schema_of (cue.integer n) = object (member (codes "const") (integer n) no_members)
+  schema_of (cue.kind k) = object (of_type (type_name k))
+  schema_of (cue.range least greatest) = object (range_keywords least greatest)
+  schema_of (cue.bound r n) = object (member (limit_name r) (integer n) (of_type (codes "number")))
+  schema_of (cue.conjunction es) = object (all_of (schemas_of es))
+  schema_of _ = boolean false
+
+  pub schemas_of : Expressions → Documents
+  schemas_of cue.no_expressions = no_documents
+  schemas_of (cue.expression e es) = document (schema_of e) (schemas_of es)
+
+abbrev pub body_schemas : List Expression → Documents
+body_schemas [] = no_documents
+body_schemas (e ∷ es) = document (schema_of e) (body_schemas es)
+
+-- the schema of a definition, by its bodies
+abbrev pub definition_schema : List Expression → Document
+definition_schema (e ∷ []) = schema_of e
+definition_schema es = object (all_of (body_schemas es))
+
+-- the forms that are taken so far
+abbrev mutual
+  pub IsTaken : Expression → Type 0
+  IsTaken (cue.integer n) = Unit {0}
+  IsTaken (cue.kind k) = Unit {0}
+  IsTaken (cue.range least greatest) = Unit {0}
+  IsTaken (cue.bound r n) = Unit {0}
+  IsTaken (cue.conjunction es) = AreTaken es
+  IsTaken _ = ⊥
+
+  pub AreTaken : Expressions → Type 0
+  AreTaken cue.no_expressions = Unit {0}
+  AreTaken (cue.expression e es) = IsTaken e × AreTaken es
+
+-- a name without the `#` that CUE writes before it
+abbrev pub bare_name : List ℕ → List ℕ
+bare_name [] = []
+bare_name (c ∷ cs) = if c == 35 then cs else c ∷ cs

@@ -1,0 +1,44 @@
+-- What a definition refers to (CUE language specification, "Structural cycles"; which references are strong is an own rule).
+use Rattle.std.specs.Prelude.{ℕ, List, [], ◌∷◌, ◌++◌, flat_map, unwrap_or}
+use Rattle.cs_resolve.specs.Expression.{Expression, reference, conjunction, disjunction, struct, list, Expressions, no_expressions, expression, Declarations, no_declarations, declaration, Mark, regular, optional, required}
+use Rattle.cs_resolve.specs.Environment.{Environment, bodies}
+
+-- the names of the references that are reached through `&` and `|` alone
+abbrev mutual
+  pub direct : Expression → List (List ℕ)
+  direct (reference n) = n ∷ []
+  direct (conjunction es) = direct_all es
+  direct (disjunction es) = direct_all es
+  direct _ = []
+
+  pub direct_all : Expressions → List (List ℕ)
+  direct_all no_expressions = []
+  direct_all (expression e es) = direct e ++ direct_all es
+
+-- an optional field asks nothing of its own
+abbrev pub if_asked : Mark → List (List ℕ) → List (List ℕ)
+if_asked regular ns = ns
+if_asked optional ns = []
+if_asked required ns = ns
+
+-- the names of those that are reached also through regular and required fields and fixed list elements
+abbrev mutual
+  pub strong : Expression → List (List ℕ)
+  strong (reference n) = n ∷ []
+  strong (conjunction es) = strong_all es
+  strong (disjunction es) = strong_all es
+  strong (struct ds opened) = strong_under ds
+  strong (list es rest) = strong_all es
+  strong _ = []
+
+  pub strong_all : Expressions → List (List ℕ)
+  strong_all no_expressions = []
+  strong_all (expression e es) = strong e ++ strong_all es
+
+  pub strong_under : Declarations → List (List ℕ)
+  strong_under no_declarations = []
+  strong_under (declaration l m e ds) = if_asked m (strong e) ++ strong_under ds
+
+-- the names that the definition n refers to strongly, in any of its bodies
+abbrev pub strong_of : Environment → List ℕ → List (List ℕ)
+strong_of E n = flat_map strong (unwrap_or (bodies E n) [])

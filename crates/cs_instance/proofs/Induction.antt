@@ -1,0 +1,124 @@
+-- Induction on a document, then on direct references, then on an expression.
+use Rattle.std.proofs.Common.{◌≡◌, ℕ, zero, suc, ◌<◌, ◌≤◌, List, [], ◌∷◌, ◌++◌, map, length, Contains, Option, Some, None, option_map, refl, sym, ap, ◌∙◌, arith, subst}
+use Rattle.std.specs.List.{flat_map}
+use Rattle.std.specs.Option.{unwrap_or}
+use Rattle.std.proofs.lemmas.List.Elements.{Contains-append_left, Contains-append_right, Contains-append_cases}
+use Rattle.std.proofs.Common.{inl, inr}
+use Rattle.cs_doc.specs.Document.{Document, null, boolean, integer, text, list, object, Documents, no_documents, document, Members, no_members, member, elements, entries}
+use Rattle.cs_resolve.specs.Expression as cue
+use Rattle.cs_resolve.specs.Expression.{Expression, Expressions, no_expressions, expression, operands}
+use Rattle.cs_resolve.specs.Environment.{Environment, bodies}
+use Rattle.cs_guard.specs.References.{direct, direct_all, strong, strong_all, strong_of}
+use Rattle.cs_guard.specs.Guarded.{Chain, IsGuarded}
+use Rattle.cs_instance.specs.Instance.{Rule, definition, node, asked, all_bodies}
+use Rattle.cs_instance.proofs.Each.{Each, each_map, each_of, each_front, each_back, each_member, each_over}
+use Rattle.cs_instance.proofs.Parts.{values, children, here_parts}
+
+-- ---- chains of direct references
+
+-- each chain of direct references from n has fewer than k of them
+abbrev pub Short : Environment → ℕ → List ℕ → Type 0
+Short E zero n = ⊥
+Short E (suc k) n = (bs : List Expression) → bodies E n ≡ Some bs → Each (λ b. Each (Short E k) (direct b)) bs
+
+mutual
+  direct-strong : (e : Expression) (m : List ℕ) → Contains (direct e) m → Contains (strong e) m
+  direct-strong (cue.reference n) m c = c
+  direct-strong (cue.conjunction es) m c = direct-strong_all es m c
+  direct-strong (cue.disjunction es) m c = direct-strong_all es m c
+  direct-strong _ m c = absurd (let l : c.0 < 0 = c.1 in omega (arith, l))
+
+  direct-strong_all : (es : Expressions) (m : List ℕ) → Contains (direct_all es) m → Contains (strong_all es) m
+  direct-strong_all no_expressions m c = c
+  direct-strong_all (expression e es) m c =
+      elim (Contains-append_cases (direct e) (direct_all es) m c) [
+        | inl h ↦ Contains-append_left (strong e) (strong_all es) m (direct-strong e m h)
+        | inr h ↦ Contains-append_right (strong e) (strong_all es) m (direct-strong_all es m h)
+      ]
+
+-- what holds of each name that the bodies refer to strongly holds of those that one body refers to directly
+strong-bodies : (P : List ℕ → Type 0) (bs : List Expression) → ((m : List ℕ) → Contains (flat_map strong bs) m → P m) → Each (λ b. Each P (direct b)) bs
+strong-bodies P [] f = tt
+strong-bodies P (b ∷ bs) f = (
+  each_member P (direct b) (λ m c. f m (Contains-append_left (strong b) (flat_map strong bs) m (direct-strong b m c))),
+  strong-bodies P bs (λ m c. f m (Contains-append_right (strong b) (flat_map strong bs) m c)),
+)
+
+short-from : (E : Environment) (k : ℕ) (n : List ℕ) → ((ns : List (List ℕ)) → Chain E n ns → length ns < k) → Short E k n
+short-from E zero n f = let h = f [] tt in omega (arith, h)
+short-from E (suc k) n f = λ bs e.
+    strong-bodies (Short E k) bs (λ m c.
+    let refers : Contains (strong_of E n) m = subst (λ o. Contains (flat_map strong (unwrap_or o [])) m) (sym e) c in
+    short-from E k m (λ ns chain. let h = f (m ∷ ns) (refers, chain) in omega (arith, h)))
+
+pub guarded-short : (E : Environment) → IsGuarded E → (n : List ℕ) → Short E 65 n
+guarded-short E g n = short-from E 65 n (λ ns c. let h = g.short n ns c in omega (arith, h))
+
+-- ---- the induction
+
+any_direct : (e : Expression) → Each (λ n. Unit {0}) (direct e)
+any_direct e = each_of (λ n. Unit {0}) (λ n. tt) (direct e)
+
+module _ (E : Environment) (P : Rule → Document → Type 0) (step : (r : Rule) (x : Document) → Each (λ p. P p x) (here_parts (asked E r)) → Each (λ y. (p : Rule) → P p y) (children x) → P r x) where
+  module _ (x : Document) (kids : Each (λ y. (p : Rule) → P p y) (children x)) where
+    -- an expression, where Q names the definitions that are done
+    module _ (Q : List ℕ → Type 0) (done : (n : List ℕ) → Q n → P (definition n) x) where
+      mutual
+        through : (e : Expression) → Each Q (direct e) → P (node e) x
+        through (cue.reference n) d = step (node (cue.reference n)) x (done n d.0, tt) kids
+        through (cue.conjunction es) d = step (node (cue.conjunction es)) x (throughs es d) kids
+        through (cue.disjunction es) d = step (node (cue.disjunction es)) x (throughs es d) kids
+        through cue.top d = step (node cue.top) x tt kids
+        through cue.bottom d = step (node cue.bottom) x tt kids
+        through cue.null d = step (node cue.null) x tt kids
+        through (cue.boolean b) d = step (node (cue.boolean b)) x tt kids
+        through (cue.integer n) d = step (node (cue.integer n)) x tt kids
+        through (cue.text s) d = step (node (cue.text s)) x tt kids
+        through (cue.kind k) d = step (node (cue.kind k)) x tt kids
+        through (cue.range l g) d = step (node (cue.range l g)) x tt kids
+        through (cue.bound r n) d = step (node (cue.bound r n)) x tt kids
+        through (cue.not_integer n) d = step (node (cue.not_integer n)) x tt kids
+        through (cue.not_text s) d = step (node (cue.not_text s)) x tt kids
+        through cue.not_null d = step (node cue.not_null) x tt kids
+        through (cue.struct ds o) d = step (node (cue.struct ds o)) x tt kids
+        through (cue.list es r) d = step (node (cue.list es r)) x tt kids
+
+        throughs : (es : Expressions) → Each Q (direct_all es) → Each (λ p. P p x) (map node (operands es))
+        throughs no_expressions d = tt
+        throughs (expression e es) d = (through e (each_front Q (direct e) (direct_all es) d), throughs es (each_back Q (direct e) (direct_all es) d))
+
+    definitions : (k : ℕ) (n : List ℕ) → Short E k n → P (definition n) x
+    definitions zero n s = absurd s
+    definitions (suc k) n s = step (definition n) x (bodies_done (definitions k) (bodies E n) refl) kids
+      where
+        bodies_done : ((m : List ℕ) → Short E k m → P (definition m) x) → (o : Option (List Expression)) → bodies E n ≡ o → Each (λ p. P p x) (here_parts (all_bodies o))
+        bodies_done h None e = tt
+        bodies_done h (Some bs) e = each_over node (λ p. P p x) bs (each_map _ _ (λ b d. through (Short E k) h b d) bs (s bs e))
+
+    module _ (k : ℕ) (short : (n : List ℕ) → Short E k n) where
+      any_rule : (r : Rule) → P r x
+      any_rule (definition n) = definitions k n (short n)
+      any_rule (node e) = through (λ n. Unit {0}) (λ n q. definitions k n (short n)) e (any_direct e)
+
+  module _ (at : (x : Document) → Each (λ y. (p : Rule) → P p y) (children x) → (r : Rule) → P r x) where
+    mutual
+      every : (x : Document) (r : Rule) → P r x
+      every null = at null tt
+      every (boolean b) = at (boolean b) tt
+      every (integer n) = at (integer n) tt
+      every (text s) = at (text s) tt
+      every (list ds) = at (list ds) (every_element ds)
+      every (object ms) = at (object ms) (every_member ms)
+
+      every_element : (ds : Documents) → Each (λ y. (p : Rule) → P p y) (elements ds)
+      every_element no_documents = tt
+      every_element (document d ds) = (every d, every_element ds)
+
+      every_member : (ms : Members) → Each (λ y. (p : Rule) → P p y) (values (entries ms))
+      every_member no_members = tt
+      every_member (member k d ms) = (every d, every_member ms)
+
+pub guarded-induction : (E : Environment) → IsGuarded E → (P : Rule → Document → Type 0)
+    → ((r : Rule) (x : Document) → Each (λ p. P p x) (here_parts (asked E r)) → Each (λ y. (p : Rule) → P p y) (children x) → P r x)
+    → (r : Rule) (x : Document) → P r x
+guarded-induction E g P step r x = every E P step (λ x kids. any_rule E P step x kids 65 (guarded-short E g)) x r

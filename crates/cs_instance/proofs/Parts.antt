@@ -1,0 +1,116 @@
+-- What is asked rests on the verdicts on its parts alone.
+use Rattle.std.proofs.Common.{◌≡◌, ℕ, Bool, true, false, ◌&&◌, ◌||◌, List, [], ◌∷◌, cond, Option, Some, None, map, refl, ap, ap₂}
+use Rattle.std.specs.List.{list_all, list_any}
+use Rattle.std.specs.Str.{bytes_eq}
+use Rattle.cs_doc.specs.Document.{Document, null, boolean, integer, text, list, object, Documents, no_documents, document, Members, no_members, member, Entry, elements, entries, under}
+use Rattle.cs_doc.specs.Opened.{Opened, a_null, a_boolean, an_integer, a_text, a_list, an_object, opened}
+use Rattle.cs_resolve.specs.Expression.{Declaration}
+use Rattle.cs_instance.specs.Asked.{Rest, nothing, anything, each, Asked, always, never, the_null, the_boolean, the_integer, the_text, of_kind, in_range, bounded, another_integer, another_text, not_the_null, all_of, one_of, object_of, list_of, held, declaration_holds, rest_holds, elements_hold}
+use Rattle.cs_instance.proofs.Each.{Each, each_map, all_same, any_same}
+
+abbrev pub values : {A : Type 0} → List (Entry A) → List A
+values [] = []
+values (m ∷ ms) = m.1 ∷ values ms
+
+-- the documents directly inside one
+abbrev pub children : Document → List Document
+children (list ds) = elements ds
+children (object ms) = values (entries ms)
+children _ = []
+
+-- what stands inside an opened document
+abbrev pub within : {A : Type 0} → Opened A → List A
+within (a_list ys) = ys
+within (an_object ms) = values ms
+within _ = []
+
+pub within-opened : (x : Document) (P : Document → Type 0) → Each P (children x) → Each P (within (opened x))
+within-opened null P h = h
+within-opened (boolean b) P h = h
+within-opened (integer n) P h = h
+within-opened (text s) P h = h
+within-opened (list ds) P h = h
+within-opened (object ms) P h = h
+
+-- the parts asked of the same document
+abbrev pub here_parts : {D N : Type 0} → Asked D N → List D
+here_parts (all_of rs) = rs
+here_parts (one_of rs) = rs
+here_parts _ = []
+
+module _ {N : Type 0} where
+  abbrev pub declared_values : List (Declaration N) → List N
+  declared_values [] = []
+  declared_values (d ∷ ds) = d.value ∷ declared_values ds
+
+  abbrev pub rest_parts : Rest N → List N
+  rest_parts (each e) = e ∷ []
+  rest_parts _ = []
+
+  abbrev pub list_parts : List N → Rest N → List N
+  list_parts [] rest = rest_parts rest
+  list_parts (e ∷ es) rest = e ∷ list_parts es rest
+
+-- the parts asked of documents inside
+abbrev pub inner_parts : {D N : Type 0} → Asked D N → List N
+inner_parts (object_of ds opened) = declared_values ds
+inner_parts (list_of es rest) = list_parts es rest
+inner_parts _ = []
+
+module _ {A N : Type 0} (inside inside' : A → N → Bool) where
+  abbrev pub SameAt : List N → A → Type 0
+  SameAt es y = Each (λ e. inside y e ≡ inside' y e) es
+
+  declaration_same : (d : Declaration N) (k : List ℕ) (ms : List (Entry A)) → Each (λ y. inside y d.value ≡ inside' y d.value) (values ms) → declaration_holds inside d (under k ms) ≡ declaration_holds inside' d (under k ms)
+  declaration_same d k [] h = refl
+  declaration_same d k (m ∷ ms) h =
+      elim (bytes_eq k m.0) as (λ b. declaration_holds inside d (cond b (Some m.1) (under k ms)) ≡ declaration_holds inside' d (cond b (Some m.1) (under k ms))) [
+        | true ↦ h.0
+        | false ↦ declaration_same d k ms h.1
+      ]
+
+  declarations_same : (ds : List (Declaration N)) (ms : List (Entry A)) → Each (SameAt (declared_values ds)) (values ms) → list_all (λ d. declaration_holds inside d (under d.label ms)) ds ≡ list_all (λ d. declaration_holds inside' d (under d.label ms)) ds
+  declarations_same [] ms h = refl
+  declarations_same (d ∷ ds) ms h =
+      ap₂ ◌&&◌ (declaration_same d d.label ms (each_map _ _ (λ y s. s.0) (values ms) h)) (declarations_same ds ms (each_map _ _ (λ y s. s.1) (values ms) h))
+
+  rest_same : (rest : Rest N) (ys : List A) → Each (SameAt (rest_parts rest)) ys → rest_holds inside rest ys ≡ rest_holds inside' rest ys
+  rest_same nothing [] h = refl
+  rest_same nothing (y ∷ ys) h = refl
+  rest_same anything ys h = refl
+  rest_same (each e) ys h = all_same _ _ ys (each_map _ _ (λ y s. s.0) ys h)
+
+  elements_same : (es : List N) (rest : Rest N) (ys : List A) → Each (SameAt (list_parts es rest)) ys → elements_hold inside es rest ys ≡ elements_hold inside' es rest ys
+  elements_same [] rest ys h = rest_same rest ys h
+  elements_same (e ∷ es) rest [] h = refl
+  elements_same (e ∷ es) rest (y ∷ ys) h = ap₂ ◌&&◌ h.0.0 (elements_same es rest ys (each_map _ _ (λ z s. s.1) ys h.1))
+
+module _ {A D N : Type 0} (here here' : D → Bool) (inside inside' : A → N → Bool) where
+  -- what is asked of a document rests on the parts alone
+  pub held_same : (a : Asked D N) (x : Opened A) → Each (λ r. here r ≡ here' r) (here_parts a) → Each (SameAt inside inside' (inner_parts a)) (within x) → held here inside a x ≡ held here' inside' a x
+  held_same always x d w = refl
+  held_same never x d w = refl
+  held_same the_null x d w = refl
+  held_same (the_boolean b) x d w = refl
+  held_same (the_integer n) x d w = refl
+  held_same (the_text s) x d w = refl
+  held_same (of_kind k) x d w = refl
+  held_same (in_range l g) x d w = refl
+  held_same (bounded r n) x d w = refl
+  held_same (another_integer n) x d w = refl
+  held_same (another_text s) x d w = refl
+  held_same not_the_null x d w = refl
+  held_same (all_of rs) x d w = all_same here here' rs d
+  held_same (one_of rs) x d w = any_same here here' rs d
+  held_same (object_of ds o) (an_object ms) d w = ap (λ b. b && (o || list_all (λ (m : Entry A). list_any (λ (c : Declaration N). bytes_eq m.0 c.label) ds) ms)) (declarations_same inside inside' ds ms w)
+  held_same (object_of ds o) a_null d w = refl
+  held_same (object_of ds o) (a_boolean b) d w = refl
+  held_same (object_of ds o) (an_integer n) d w = refl
+  held_same (object_of ds o) (a_text s) d w = refl
+  held_same (object_of ds o) (a_list ys) d w = refl
+  held_same (list_of es rest) (a_list ys) d w = elements_same inside inside' es rest ys w
+  held_same (list_of es rest) a_null d w = refl
+  held_same (list_of es rest) (a_boolean b) d w = refl
+  held_same (list_of es rest) (an_integer n) d w = refl
+  held_same (list_of es rest) (a_text s) d w = refl
+  held_same (list_of es rest) (an_object ms) d w = refl

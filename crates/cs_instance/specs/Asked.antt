@@ -1,0 +1,140 @@
+-- What a rule asks of a document, both opened once: over any D in place of each rule that it asks of the same
+-- document, any N in place of each expression that it asks of a document inside, and any A in place of each such document.
+use Rattle.std.specs.Prelude.{ℕ, ℤ, Bool, true, false, not, ◌&&◌, ◌||◌, List, [], ◌∷◌, Option, Some, None, map, int_lt, int_le}
+use Rattle.std.specs.Bool.{beq}
+use Rattle.std.specs.List.{list_all, list_any}
+use Rattle.std.specs.Ordering.{int_eq}
+use Rattle.std.specs.Str.{bytes_eq}
+use Rattle.cs_doc.specs.Document.{Entry, under}
+use Rattle.cs_doc.specs.Opened.{Opened, a_null, a_boolean, an_integer, a_text, a_list, an_object}
+use Rattle.cs_resolve.specs.Expression as cue
+use Rattle.cs_resolve.specs.Expression.{Kind, int, number, string, bool, Relation, less, at_most, more, at_least, Mark, regular, optional, required, Expression, Declaration}
+
+-- what stands behind the fixed elements of a list
+pub data Rest (N : Type 0) : Type 0 where
+  nothing anything : Rest N
+  each : N → Rest N
+
+pub data Asked (D N : Type 0) : Type 0 where
+  -- every document, and none
+  always never : Asked D N
+  -- one atom
+  the_null : Asked D N
+  the_boolean : Bool → Asked D N
+  the_integer : ℤ → Asked D N
+  the_text : List ℕ → Asked D N
+  -- atoms of a kind, integers of a range, integers in a relation to one
+  of_kind : Kind → Asked D N
+  in_range : ℤ → Option ℤ → Asked D N
+  bounded : Relation → ℤ → Asked D N
+  -- integers but one, texts but one, everything but null
+  another_integer : ℤ → Asked D N
+  another_text : List ℕ → Asked D N
+  not_the_null : Asked D N
+  -- all of these rules, and some of them
+  all_of one_of : List D → Asked D N
+  -- a map with these declarations, and whether it may have other keys
+  object_of : List (Declaration N) → Bool → Asked D N
+  -- a list of these elements, and the rest
+  list_of : List N → Rest N → Asked D N
+
+-- ---- atoms (CUE language specification, "Values", "Bounds", "Predeclared identifiers")
+
+module _ {A : Type 0} where
+  abbrev pub is_null : Opened A → Bool
+  is_null a_null = true
+  is_null _ = false
+
+  abbrev pub is_boolean : (Bool → Bool) → Opened A → Bool
+  is_boolean p (a_boolean b) = p b
+  is_boolean p _ = false
+
+  abbrev pub is_integer : (ℤ → Bool) → Opened A → Bool
+  is_integer p (an_integer z) = p z
+  is_integer p _ = false
+
+  abbrev pub is_text : (List ℕ → Bool) → Opened A → Bool
+  is_text p (a_text s) = p s
+  is_text p _ = false
+
+  -- every number of a document is an integer
+  abbrev pub is_of_kind : Kind → Opened A → Bool
+  is_of_kind int x = is_integer (λ z. true) x
+  is_of_kind number x = is_integer (λ z. true) x
+  is_of_kind string x = is_text (λ s. true) x
+  is_of_kind bool x = is_boolean (λ b. true) x
+
+abbrev pub at_most_or_any : Option ℤ → ℤ → Bool
+at_most_or_any None z = true
+at_most_or_any (Some greatest) z = int_le z greatest
+
+abbrev pub is_within : ℤ → Option ℤ → ℤ → Bool
+is_within least greatest z = int_le least z && at_most_or_any greatest z
+
+abbrev pub is_related : Relation → ℤ → ℤ → Bool
+is_related less n z = int_lt z n
+is_related at_most n z = int_le z n
+is_related more n z = int_lt n z
+is_related at_least n z = int_le n z
+
+-- ---- structs and lists (CUE language specification, "Structs", "Closed structs", "Lists")
+
+-- `inside y e` says whether y, which stands directly inside the document, is an instance of e
+module _ {A N : Type 0} (inside : A → N → Bool) where
+  abbrev pub may_be_absent : Mark → Bool
+  may_be_absent regular = false
+  may_be_absent optional = true
+  may_be_absent required = false
+
+  -- a declaration, at what stands under its label: the value there is an instance of the declared one, and
+  -- only an optional label may be no key
+  abbrev pub declaration_holds : Declaration N → Option A → Bool
+  declaration_holds d None = may_be_absent d.mark
+  declaration_holds d (Some y) = inside y d.value
+
+  -- each declaration holds, and unless the literal is opened each key is the label of some declaration
+  abbrev pub fields_hold : List (Declaration N) → Bool → List (Entry A) → Bool
+  fields_hold ds opened ms =
+      list_all (λ d. declaration_holds d (under d.label ms)) ds
+      && (opened || list_all (λ m. list_any (λ d. bytes_eq m.0 d.label) ds) ms)
+
+  abbrev pub rest_holds : Rest N → List A → Bool
+  rest_holds nothing [] = true
+  rest_holds nothing (y ∷ ys) = false
+  rest_holds anything ys = true
+  rest_holds (each e) ys = list_all (λ y. inside y e) ys
+
+  -- each fixed element is there and an instance of its place, and the rest holds
+  abbrev pub elements_hold : List N → Rest N → List A → Bool
+  elements_hold [] rest ys = rest_holds rest ys
+  elements_hold (e ∷ es) rest [] = false
+  elements_hold (e ∷ es) rest (y ∷ ys) = inside y e && elements_hold es rest ys
+
+  abbrev pub is_object : List (Declaration N) → Bool → Opened A → Bool
+  is_object ds opened (an_object ms) = fields_hold ds opened ms
+  is_object ds opened _ = false
+
+  abbrev pub is_list : List N → Rest N → Opened A → Bool
+  is_list es rest (a_list ys) = elements_hold es rest ys
+  is_list es rest _ = false
+
+-- ---- all forms
+
+-- whether the document meets what is asked; `here r` says whether it is an instance of r
+abbrev pub held : {A D N : Type 0} → (D → Bool) → (A → N → Bool) → Asked D N → Opened A → Bool
+held here inside always x = true
+held here inside never x = false
+held here inside the_null x = is_null x
+held here inside (the_boolean b) x = is_boolean (beq b) x
+held here inside (the_integer n) x = is_integer (int_eq n) x
+held here inside (the_text s) x = is_text (bytes_eq s) x
+held here inside (of_kind k) x = is_of_kind k x
+held here inside (in_range least greatest) x = is_integer (is_within least greatest) x
+held here inside (bounded r n) x = is_integer (is_related r n) x
+held here inside (another_integer n) x = is_integer (λ z. not (int_eq n z)) x
+held here inside (another_text s) x = is_text (λ t. not (bytes_eq s t)) x
+held here inside not_the_null x = not (is_null x)
+held here inside (all_of rs) x = list_all here rs
+held here inside (one_of rs) x = list_any here rs
+held here inside (object_of ds opened) x = is_object inside ds opened x
+held here inside (list_of es rest) x = is_list inside es rest x

@@ -1,0 +1,54 @@
+-- When a document is an instance of a definition (CUE language specification, "Values" and "Definitions and hidden
+-- fields": the order of the lattice, read for concrete documents).
+use Rattle.std.specs.Prelude.{◌≡◌, ℕ, Bool, List, [], ◌∷◌, Option, Some, None, map}
+use Rattle.cs_doc.specs.Document.{Document}
+use Rattle.cs_doc.specs.Opened.{opened}
+use Rattle.cs_resolve.specs.Expression as cue
+use Rattle.cs_resolve.specs.Expression.{Expression, Expressions, operands, declarations}
+use Rattle.cs_resolve.specs.Environment.{Environment, bodies}
+use Rattle.cs_instance.specs.Asked.{Rest, nothing, anything, each, Asked, always, never, the_null, the_boolean, the_integer, the_text, of_kind, in_range, bounded, another_integer, another_text, not_the_null, all_of, one_of, object_of, list_of, held}
+
+-- what a document may be an instance of: a definition, by its name without `#`, or an expression
+pub data Rule : Type 0 where
+  definition : List ℕ → Rule
+  node : Expression → Rule
+
+abbrev pub rest_of : cue.Rest → Rest Expression
+rest_of cue.closed = nothing
+rest_of cue.any = anything
+rest_of (cue.each e) = each e
+
+-- a definition asks all its bodies; a name that isn't declared has no instance
+abbrev pub all_bodies : Option (List Expression) → Asked Rule Expression
+all_bodies None = never
+all_bodies (Some bs) = all_of (map node bs)
+
+abbrev pub asked : Environment → Rule → Asked Rule Expression
+asked E (definition n) = all_bodies (bodies E n)
+asked E (node cue.top) = always
+asked E (node cue.bottom) = never
+asked E (node cue.null) = the_null
+asked E (node (cue.boolean b)) = the_boolean b
+asked E (node (cue.integer n)) = the_integer n
+asked E (node (cue.text s)) = the_text s
+asked E (node (cue.kind k)) = of_kind k
+asked E (node (cue.range least greatest)) = in_range least greatest
+asked E (node (cue.reference n)) = all_of (definition n ∷ [])
+asked E (node (cue.bound r n)) = bounded r n
+asked E (node (cue.not_integer n)) = another_integer n
+asked E (node (cue.not_text s)) = another_text s
+asked E (node cue.not_null) = not_the_null
+asked E (node (cue.conjunction es)) = all_of (map node (operands es))
+asked E (node (cue.disjunction es)) = one_of (map node (operands es))
+asked E (node (cue.struct ds opened)) = object_of (declarations ds) opened
+asked E (node (cue.list es rest)) = list_of (operands es) (rest_of rest)
+
+-- I is the instance relation of the environment: a document is an instance of a rule just where it meets what
+-- the rule asks, by I itself
+abbrev pub IsInstance : Environment → (Rule → Document → Bool) → Type 0
+IsInstance E I = (r : Rule) (x : Document) → I r x ≡ held (λ part. I part x) (λ y e. I (node e) y) (asked E r) (opened x)
+
+-- there is an instance relation, and only one
+pub record OneMeaning (E : Environment) : Type 0 where
+  pub some : (I : Rule → Document → Bool) × IsInstance E I
+  pub only : (I J : Rule → Document → Bool) → IsInstance E I → IsInstance E J → (r : Rule) (x : Document) → I r x ≡ J r x

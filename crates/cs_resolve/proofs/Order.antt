@@ -1,0 +1,51 @@
+-- Names in order of first declaration.
+use Rattle.std.proofs.Common.{◌≡◌, ℕ, Bool, true, false, cond, not, List, [], ◌∷◌, ◌++◌, map, filter, String, string_bytes, Global, refl, sym, ap, ap₂, subst, ◌∙◌, arith}
+use Rattle.std.specs.Str.{bytes_eq}
+use Rattle.std.specs.Map.{keys_of}
+use Rattle.std.specs.String.{string_eq}
+use Rattle.std.proofs.lemmas.Slice.Eq.{bytes_eq-Decides}
+use Rattle.indexmap.specs.IndexMap.{insert_entry}
+use Rattle.cs_resolve.specs.Declarations.{distinct}
+
+-- a name put behind the others, unless it is among them
+abbrev pub put : List ℕ → List (List ℕ) → List (List ℕ)
+put n [] = n ∷ []
+put n (m ∷ ms) = cond (bytes_eq n m) (m ∷ ms) (m ∷ put n ms)
+
+pub names_insert : {V : Type 0} (k : String Global) (v : V) (es : List (String Global × V)) → map string_bytes (keys_of (insert_entry string_eq es k v)) ≡ put (string_bytes k) (map string_bytes (keys_of es))
+names_insert k v [] = refl
+names_insert k v (e ∷ es) =
+    elim (bytes_eq (string_bytes k) (string_bytes e.0)) as (λ b. map string_bytes (keys_of (cond b ((e.0, v) ∷ es) (e ∷ insert_entry string_eq es k v))) ≡ cond b (string_bytes e.0 ∷ map string_bytes (keys_of es)) (string_bytes e.0 ∷ put (string_bytes k) (map string_bytes (keys_of es)))) [ true ↦ refl | false ↦ ap (λ r. string_bytes e.0 ∷ r) (names_insert k v es) ]
+
+bytes_eq-sym : (x y : List ℕ) → bytes_eq x y ≡ bytes_eq y x
+bytes_eq-sym x y = by (bytes_eq x y) (bytes_eq y x) refl refl
+  where
+    by : (a b : Bool) → bytes_eq x y ≡ a → bytes_eq y x ≡ b → a ≡ b
+    by true true p q = refl
+    by false false p q = refl
+    by true false p q = sym ((bytes_eq-Decides y x).1 (sym ((bytes_eq-Decides x y).0 p))) ∙ q
+    by false true p q = sym p ∙ (bytes_eq-Decides x y).1 (sym ((bytes_eq-Decides y x).0 q))
+
+-- names other than y, after one more was put in
+other : (y n : List ℕ) (ms : List (List ℕ)) → filter (λ m. not (bytes_eq y m)) (put n ms) ≡ cond (bytes_eq n y) (filter (λ m. not (bytes_eq y m)) ms) (put n (filter (λ m. not (bytes_eq y m)) ms))
+other y n [] = by (bytes_eq n y) (bytes_eq-sym y n)
+  where
+    by : (b : Bool) → bytes_eq y n ≡ b → cond (not (bytes_eq y n)) (n ∷ []) [] ≡ cond b [] (n ∷ [])
+    by true e = ap (λ c. cond (not c) (n ∷ []) []) e
+    by false e = ap (λ c. cond (not c) (n ∷ []) []) e
+other y n (m ∷ ms) = by (bytes_eq n m) (bytes_eq y m) (bytes_eq n y) refl refl refl (other y n ms)
+  where
+    F : List (List ℕ)
+    F = filter (λ m. not (bytes_eq y m)) ms
+
+    by : (a b c : Bool) → bytes_eq n m ≡ a → bytes_eq y m ≡ b → bytes_eq n y ≡ c → filter (λ m. not (bytes_eq y m)) (put n ms) ≡ cond (bytes_eq n y) (filter (λ m. not (bytes_eq y m)) ms) (put n (filter (λ m. not (bytes_eq y m)) ms)) → filter (λ m. not (bytes_eq y m)) (put n (m ∷ ms)) ≡ cond (bytes_eq n y) (filter (λ m. not (bytes_eq y m)) (m ∷ ms)) (put n (filter (λ m. not (bytes_eq y m)) (m ∷ ms)))
+    by true b true ea eb ec ih = rw (ea, ec) refl
+    by true true false ea eb ec ih = absurd (let e : bytes_eq n y ≡ true = ap (λ k. bytes_eq k y) ((bytes_eq-Decides n m).0 ea) ∙ bytes_eq-sym m y ∙ eb in let f : true ≡ false = sym e ∙ ec in cc)
+    by true false false ea eb ec ih = rw (ea, ec, eb) (rw ea refl)
+    by false true c ea eb ec ih = rw (ea, eb) ih
+    by false false true ea eb ec ih = rw (ea, eb, ec) (ap (λ l. m ∷ l) (rw ec at ih))
+    by false false false ea eb ec ih = rw (ea, eb, ec) (rw ea (ap (λ l. m ∷ l) (rw ec at ih)))
+
+pub distinct_push : (xs : List (List ℕ)) (n : List ℕ) → distinct (xs ++ n ∷ []) ≡ put n (distinct xs)
+distinct_push [] n = refl
+distinct_push (y ∷ xs) n = ap (λ l. y ∷ filter (λ m. not (bytes_eq y m)) l) (distinct_push xs n) ∙ ap (λ l. y ∷ l) (other y n (distinct xs)) ∙ elim (bytes_eq n y) as (λ b. y ∷ cond b (filter (λ m. not (bytes_eq y m)) (distinct xs)) (put n (filter (λ m. not (bytes_eq y m)) (distinct xs))) ≡ cond b (y ∷ filter (λ m. not (bytes_eq y m)) (distinct xs)) (y ∷ put n (filter (λ m. not (bytes_eq y m)) (distinct xs)))) [ true ↦ refl | false ↦ refl ]

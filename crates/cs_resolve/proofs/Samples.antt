@@ -1,0 +1,103 @@
+-- Samples, worked by the definitions.
+use Rattle.std.proofs.Common.{◌≡◌, ℕ, Bool, true, false, List, [], ◌∷◌, pos, codes, refl}
+use Rattle.cs_syntax.specs.Tree.{Label, Tree, top, bottom, integer, named, reference, meet, join, paren, struct, list, Trees, none, more, Fields, no_field, field, End, closed, any, each, DefinitionTree, definition, FileTree, file}
+use Rattle.cs_syntax.specs.declared.ast.FieldMark.TheVariants.{Regular, Optional, Required}
+use Rattle.cs_resolve.specs.Opening.{unopened, unopened_files}
+use Rattle.cs_resolve.specs.Size.{nodes}
+use Rattle.cs_resolve.specs.Scopes.{places, faults, unknown, of_field}
+use Rattle.cs_resolve.specs.Declarations.{names, faults_of_files}
+use Rattle.cs_resolve.specs.PackageName.{differing_file}
+use Rattle.std.proofs.Common.{Some, None}
+
+abbrev plain : List ℕ → Label
+plain t = record { text = t; quotes = false }
+
+abbrev quoted : List ℕ → Label
+quoted t = record { text = t; quotes = true }
+
+-- `x: 1`
+abbrev one : List ℕ → Fields
+one t = field (plain t) Regular (integer (pos 1)) no_field
+
+-- ---- the opening rule
+
+-- `{a: {p: 1, ...}, b: {q: 1}, b: {r: 1, ...}, a: {s: 1}}`: the literals of q and s, in this order
+first_of_all : unopened false (struct 4 (field (plain (codes "a")) Regular (struct 8 (one (codes "p")) true)
+    (field (plain (codes "b")) Regular (struct 24 (one (codes "q")) false)
+    (field (plain (codes "b")) Regular (struct 35 (one (codes "r")) true)
+    (field (plain (codes "a")) Regular (struct 51 (one (codes "s")) false) no_field)))) false) ≡ 24 ∷ 51 ∷ []
+first_of_all = refl
+
+-- `{a: {b: 1}, ...} & {...}`: the literal inside
+inside : unopened false (meet (more (struct 4 (field (plain (codes "a")) Regular (struct 8 (one (codes "b")) false) no_field) true) (more (struct 23 no_field true) none))) ≡ 8 ∷ []
+inside = refl
+
+-- `(#A & {x: 1, ...}) & int`: a parenthesis is one operand
+one_operand : unopened false (meet (more (paren (meet (more (reference (codes "A") 5) (more (struct 10 (one (codes "x")) true) none)))) (more (named (codes "int") 30) none))) ≡ []
+one_operand = refl
+
+-- `(#A & #B) & {x: 1}`: two operands that aren't plain
+two_operands : unopened false (meet (more (paren (meet (more (reference (codes "A") 5) (more (reference (codes "B") 10) none)))) (more (struct 16 (one (codes "x")) false) none))) ≡ 16 ∷ []
+two_operands = refl
+
+-- `{"a": #A, a: {x: 1}}`: a quoted label and an identifier are one label
+one_label : unopened false (struct 4 (field (quoted (codes "a")) Regular (reference (codes "A") 10) (field (plain (codes "a")) Regular (struct 17 (one (codes "x")) false) no_field)) false) ≡ 17 ∷ []
+one_label = refl
+
+-- `#A: {x: 1}` in one file and `#A: {...}` in the next: the literal of the first file
+two_files : unopened_files (file None (definition (codes "A") 0 (struct 4 (one (codes "x")) false) ∷ []) ∷ file None (definition (codes "A") 0 (struct 4 no_field true) ∷ []) ∷ []) ≡ (0, 4) ∷ []
+two_files = refl
+
+-- ---- nodes
+
+-- `{a: b?: int}`, where `a: b?: int` is short: three nodes
+short_field : nodes (struct 4 (field (plain (codes "a")) Regular (struct 7 (field (plain (codes "b")) Optional (named (codes "int") 11) no_field) false) no_field) false) ≡ 3
+short_field = refl
+
+-- `([...] & [...int])`: the parenthesis and the bare `...` are none
+bare_rest : nodes (paren (meet (more (list none any) (more (list none (each (named (codes "int") 20))) none)))) ≡ 4
+bare_rest = refl
+
+-- ---- package names
+
+-- `package p`, no clause, `package q`: the third file
+third_file : differing_file (file (Some (codes "p")) [] ∷ file None [] ∷ file (Some (codes "q")) [] ∷ []) ≡ Some 2
+third_file = refl
+
+-- no clause, `package p`, `package p`
+joins_any : differing_file (file None [] ∷ file (Some (codes "p")) [] ∷ file (Some (codes "p")) [] ∷ []) ≡ None
+joins_any = refl
+
+-- ---- names
+
+-- `{x: x}`: a field is named, its own one too
+own_field : faults [] (places [] (struct 4 (field (plain (codes "x")) Regular (named (codes "x") 8) no_field) false)) ≡ of_field 8 ∷ []
+own_field = refl
+
+-- `{"x": x}`: a quoted label names nothing
+quoted_label : faults [] (places [] (struct 4 (field (quoted (codes "x")) Regular (named (codes "x") 10) no_field) false)) ≡ unknown 10 ∷ []
+quoted_label = refl
+
+-- `{int: string, x: int}`: the last `int` names the field
+field_named_int : faults [] (places [] (struct 4 (field (plain (codes "int")) Regular (named (codes "string") 10) (field (plain (codes "x")) Regular (named (codes "int") 21) no_field)) false)) ≡ of_field 21 ∷ []
+field_named_int = refl
+
+-- `{"int": string, x: int}`: none
+quoted_int : faults [] (places [] (struct 4 (field (quoted (codes "int")) Regular (named (codes "string") 12) (field (plain (codes "x")) Regular (named (codes "int") 23) no_field)) false)) ≡ []
+quoted_int = refl
+
+-- `x: y: x`, where both fields are short: the outer field is named
+outer_field : faults [] (places [] (struct 4 (field (plain (codes "x")) Regular (struct 7 (field (plain (codes "y")) Regular (named (codes "x") 10) no_field) false) no_field) false)) ≡ of_field 10 ∷ []
+outer_field = refl
+
+-- `float`, and `#B` where `#A` alone is declared: unknown
+unknown_names : faults (codes "A" ∷ []) (places [] (meet (more (named (codes "float") 4) (more (reference (codes "B") 12) none)))) ≡ unknown 4 ∷ unknown 12 ∷ []
+unknown_names = refl
+
+-- `#A: {x: #B}` in one file alone: the reference in file 0
+undeclared : faults_of_files (file None (definition (codes "A") 10 (struct 14 (field (plain (codes "x")) Regular (reference (codes "B") 18) no_field) false) ∷ []) ∷ []) ≡ (0, unknown 18) ∷ []
+undeclared = refl
+
+-- `#A`, `#B`, `#A`: two names, in order of first declaration
+two_names : names (definition (codes "A") 0 top ∷ definition (codes "B") 5 top ∷ definition (codes "A") 10 bottom ∷ []) ≡ codes "A" ∷ codes "B" ∷ []
+two_names = refl

@@ -1,0 +1,71 @@
+-- Expressions and their trees, level by level.
+use Rattle.std.proofs.Common.{◌≡◌, ℕ, ◌+◌, ◌<◌, Bool, List, [], ◌∷◌, ◌++◌, map, length, take, get_or, Vec, Global, rules, string_bytes, String, refl, sym, ap, ◌∙◌}
+use Rattle.std.proofs.lemmas.List.{take_more}
+use Rattle.cs_syntax.specs.declared.ast.Definition.{Definition}
+use Rattle.cs_syntax.specs.declared.ast.File.{File}
+use Rattle.std.specs.List.{flat_map}
+use Rattle.std.proofs.lemmas.List.{map-append, append_assoc, append-nil}
+use Rattle.std.proofs.lemmas.Grind.{flat_map-append}
+use Rattle.cs_resolve.specs.Opening.{Named, named_fields, named_bodies, operands}
+use Rattle.cs_syntax.specs.Tree as T
+use Rattle.cs_syntax.specs.View.{trees_of, definition_view, file_view, expr_view, exprs_view, fields_view, end_view, field_view}
+use Rattle.cs_syntax.specs.declared.ast.Expr as Exprs
+use Rattle.cs_syntax.specs.declared.ast.Expr.{Expr}
+use Rattle.cs_syntax.specs.declared.ast.ListEnd.{ListEnd}
+use Rattle.cs_syntax.specs.declared.ast.Field.{Field}
+
+pub view-Struct : (at : ℕ) (v : Vec Field Global) (o : Bool) → expr_view (Exprs.Struct at v o) ≡ T.struct at (fields_view v.items) o
+view-Struct at v o = search (rules, Exprs.the_lemmas)
+
+pub view-List : (v : Vec Expr Global) (end : ListEnd) → expr_view (Exprs.List v end) ≡ T.list (exprs_view v.items) (end_view end)
+view-List v end = search (rules, Exprs.the_lemmas)
+
+pub view-And : (v : Vec Expr Global) → expr_view (Exprs.And v) ≡ T.meet (exprs_view v.items)
+view-And v = search (rules, Exprs.the_lemmas)
+
+pub view-Reference : (t : String Global) (at : ℕ) → expr_view (Exprs.Reference t at) ≡ T.reference (string_bytes t) at
+view-Reference t at = search (rules, Exprs.the_lemmas)
+
+pub view-value : (f : Field) → (field_view f).value ≡ expr_view f.value
+view-value f = search (rules, Exprs.the_lemmas)
+
+pub view-label : (f : Field) → (field_view f).label ≡ record { text = string_bytes f.label; quotes = f.quoted }
+view-label f = search (rules, Exprs.the_lemmas)
+
+pub view-text : (f : Field) → (field_view f).label.text ≡ string_bytes f.label
+view-text f = ap (λ (l : T.Label). l.text) (view-label f)
+
+pub take_at : {X : Type 0} (xs : List X) (i : ℕ) (x : X) → i < length xs → x ≡ get_or xs i x → take (i + 1) xs ≡ take i xs ++ x ∷ []
+take_at xs i x l is = take_more xs i x l ∙ ap (λ y. take i xs ++ y ∷ []) (sym is)
+
+-- the values of a literal, under their labels, and one more
+named_push : (xs : List Field) (x : Field) (t : List ℕ) → t ≡ string_bytes x.label → named_fields (fields_view (xs ++ x ∷ [])) ≡ named_fields (fields_view xs) ++ record { name = t; value = expr_view x.value } ∷ []
+named_push [] x t same = λ i. record { name = (view-text x ∙ sym same) i; value = view-value x i } ∷ []
+named_push (y ∷ xs) x t same = ap (λ ns. record { name = (field_view y).label.text; value = (field_view y).value } ∷ ns) (named_push xs x t same)
+
+pub named_more : (xs : List Field) (i : ℕ) (x : Field) → i < length xs → x ≡ get_or xs i x → (t : List ℕ) → t ≡ string_bytes x.label → named_fields (fields_view (take (i + 1) xs)) ≡ named_fields (fields_view (take i xs)) ++ record { name = t; value = expr_view x.value } ∷ []
+named_more xs i x l is t same = ap (λ ys. named_fields (fields_view ys)) (take_at xs i x l is) ∙ named_push (take i xs) x t same
+
+pub operands_of : (ts : List T.Tree) → operands (trees_of ts) ≡ ts
+operands_of [] = refl
+operands_of (t ∷ ts) = ap (λ r. t ∷ r) (operands_of ts)
+
+-- ---- definitions and files
+
+-- the bodies of definitions, under their names, and one more
+pub bodies_more : (ns : List Named) (ds : List Definition) (i : ℕ) (d : Definition) → i < length ds → d ≡ get_or ds i d → (t : List ℕ) → t ≡ string_bytes d.name → ns ++ named_bodies (map definition_view (take (i + 1) ds)) ≡ (ns ++ named_bodies (map definition_view (take i ds))) ++ record { name = t; value = expr_view d.body } ∷ []
+bodies_more ns ds i d l is t same =
+    ap (λ es. ns ++ named_bodies (map definition_view es)) (take_at ds i d l is)
+    ∙ ap (λ es. ns ++ named_bodies es) (map-append definition_view (take i ds) (d ∷ []))
+    ∙ ap (λ ms. ns ++ ms) (map-append (λ (e : T.DefinitionTree). record { name = T.defined_name e; value = T.body e }) (map definition_view (take i ds)) (definition_view d ∷ []))
+    ∙ sym (append_assoc ns (named_bodies (map definition_view (take i ds))) (record { name = string_bytes d.name; value = expr_view d.body } ∷ []))
+    ∙ ap (λ s. (ns ++ named_bodies (map definition_view (take i ds))) ++ record { name = s; value = expr_view d.body } ∷ []) (sym same)
+
+-- the bodies of files, and of one more
+pub files_more : (fs : List File) (i : ℕ) (f : File) → i < length fs → f ≡ get_or fs i f → named_bodies (flat_map T.definitions (map file_view (take (i + 1) fs))) ≡ named_bodies (flat_map T.definitions (map file_view (take i fs))) ++ named_bodies (map definition_view f.definitions.items)
+files_more fs i f l is =
+    ap (λ gs. named_bodies (flat_map T.definitions (map file_view gs))) (take_at fs i f l is)
+    ∙ ap (λ gs. named_bodies (flat_map T.definitions gs)) (map-append file_view (take i fs) (f ∷ []))
+    ∙ ap named_bodies (flat_map-append T.definitions (map file_view (take i fs)) (file_view f ∷ []))
+    ∙ ap (λ ds. named_bodies (flat_map T.definitions (map file_view (take i fs)) ++ ds)) (append-nil (map definition_view f.definitions.items))
+    ∙ map-append (λ (e : T.DefinitionTree). record { name = T.defined_name e; value = T.body e }) (flat_map T.definitions (map file_view (take i fs))) (map definition_view f.definitions.items)

@@ -1,0 +1,20 @@
+use Rattle.std.proofs.Common.{◌≡◌, ℕ, List, length, is_some, IfSome, true≢false, sym, ap, ◌∙◌, subst, arith}
+use Rattle.cs_resolve.specs.Environment.{Environment, name_at, written}
+use Rattle.cs_resolve.specs.View.{environment_of}
+use Rattle.cs_resolve.proofs.Environments.{length-is, written-at}
+use Rattle.cs_resolve.proofs.package.Package.name.Goals as goal
+
+pub unreachable-requires : goal.unreachable-requires
+unreachable-requires c =
+    let inside = c.self.inside in
+    let whole = length-is inside.names.entries inside.bodies.items c.self.invariant.long in
+    let there = c.get_index.ensures.found.1 (omega (arith, c.requires, whole, c.self.invariant.long, ap length c.self.view_is)) in
+    true≢false (sym there ∙ ap is_some c.in-None.is)
+
+pub returns : goal.returns
+returns c =
+    let inside = c.self.inside in
+    let P : Environment → Type 0 = λ E. IfSome (name_at E c.args.i) (λ n. c.as_str.result.now ≡ written n) in
+    let Q : List ℕ → Type 0 = λ w. IfSome (name_at (environment_of inside.names.entries inside.bodies.items) c.args.i) (λ n. w ≡ written n) in
+    subst P c.self.view_is
+    (subst Q (sym c.as_str.ensures.value) (written-at inside.names.entries inside.bodies.items c.args.i _ _ c.self.invariant.long c.self.invariant.table.written c.in-Some.ensures.entry))

@@ -1,0 +1,7 @@
+use Rattle.std.proofs.Common.{◌≡◌, drop, map}
+use Rattle.cs_resolve.specs.PackageName.{first_named}
+use Rattle.cs_syntax.specs.View.{file_view}
+use Rattle.cs_resolve.proofs.package_name.first_named.Given as goal
+
+abbrev pub invariant-loop-file : goal.invariant-loop-file
+invariant-loop-file l = first_named (map file_view l.file-items) ≡ first_named (map file_view (drop l.file-index l.file-items))

@@ -1,0 +1,10 @@
+use Rattle.std.proofs.Common.{◌≡◌, ◌+◌, drop}
+use Rattle.cs_resolve.specs.Size.{nodes_all, nodes_in}
+use Rattle.cs_syntax.specs.View.{exprs_view, fields_view}
+use Rattle.cs_resolve.proofs.size.+room.Given as goal
+
+abbrev pub invariant-room_after_all-loop-operand : goal.invariant-room_after_all-loop-operand
+invariant-room_after_all-loop-operand l = l.left + nodes_all (exprs_view l.operand-items) ≡ l.fn.room + nodes_all (exprs_view (drop l.operand-index l.operand-items))
+
+abbrev pub invariant-room_after_fields-loop-field : goal.invariant-room_after_fields-loop-field
+invariant-room_after_fields-loop-field l = l.left + nodes_in (fields_view l.field-items) ≡ l.fn.room + nodes_in (fields_view (drop l.field-index l.field-items))

@@ -1,0 +1,70 @@
+-- Resolved expressions of CUE: names are replaced by what they name, and parentheses are dropped
+-- (CUE language specification, "Expressions").
+use Rattle.std.specs.Prelude.{ℕ, ℤ, Bool, List, [], ◌∷◌, Option}
+
+-- the predeclared kinds
+pub data Kind : Type 0 where
+  int number string bool : Kind
+
+-- the relations of `<n`, `<=n`, `>n`, `>=n`
+pub data Relation : Type 0 where
+  less at_most more at_least : Relation
+
+-- the marks of `a: T`, `a?: T`, `a!: T`
+pub data Mark : Type 0 where
+  regular optional required : Mark
+
+mutual
+  pub data Expression : Type 0 where
+    -- `_` and `_|_`
+    top bottom : Expression
+    -- a literal
+    null : Expression
+    boolean : Bool → Expression
+    integer : ℤ → Expression
+    text : List ℕ → Expression
+    -- a kind, and the integers from the first on, up to the second where there is one
+    kind : Kind → Expression
+    range : ℤ → Option ℤ → Expression
+    -- `#N`, by its name without `#`
+    reference : List ℕ → Expression
+    -- `<n` and its like, `!=n`, `!="s"` and `!=null`
+    bound : Relation → ℤ → Expression
+    not_integer : ℤ → Expression
+    not_text : List ℕ → Expression
+    not_null : Expression
+    -- operands joined by `&`, and by `|`
+    conjunction : Expressions → Expression
+    disjunction : Expressions → Expression
+    -- a struct literal, and whether it ends with `...`
+    struct : Declarations → Bool → Expression
+    -- a list literal: its fixed elements, and what stands behind them
+    list : Expressions → Rest → Expression
+
+  pub data Expressions : Type 0 where
+    no_expressions : Expressions
+    expression : Expression → Expressions → Expressions
+
+  -- the declarations of a struct literal, each with its label, its mark and its value
+  pub data Declarations : Type 0 where
+    no_declarations : Declarations
+    declaration : List ℕ → Mark → Expression → Declarations → Declarations
+
+  -- nothing, `...`, or `...T`
+  pub data Rest : Type 0 where
+    closed any : Rest
+    each : Expression → Rest
+
+abbrev pub operands : Expressions → List Expression
+operands no_expressions = []
+operands (expression e es) = e ∷ operands es
+
+-- a declaration, with an N for its value
+pub record Declaration (N : Type 0) : Type 0 where
+  pub label : List ℕ
+  pub mark : Mark
+  pub value : N
+
+abbrev pub declarations : Declarations → List (Declaration Expression)
+declarations no_declarations = []
+declarations (declaration l m e ds) = record { label = l; mark = m; value = e } ∷ declarations ds

@@ -1,0 +1,23 @@
+-- The package clauses of files (CUE language specification, "Packages"): files that name a package all name the same
+-- one. A file without the clause joins any package (own rule).
+use Rattle.std.specs.Prelude.{◌≡◌, ℕ, Bool, false, not, List, Option, Some, None, position, slice_get}
+use Rattle.std.specs.List.{filter_map}
+use Rattle.std.specs.Option.{option_and_then, option_map_or}
+use Rattle.std.specs.Str.{bytes_eq}
+use Rattle.cs_syntax.specs.Tree.{FileTree, package_name}
+
+-- the first package name that a file gives
+abbrev pub first_named : List FileTree → Option (List ℕ)
+first_named fs = slice_get (filter_map package_name fs) 0
+
+-- whether the file names another package than n
+abbrev pub names_other : List ℕ → FileTree → Bool
+names_other n f = option_map_or (λ m. not (bytes_eq m n)) (package_name f) false
+
+-- the first file whose package name differs from the first one given
+abbrev pub differing_file : List FileTree → Option ℕ
+differing_file fs = option_and_then (λ n. position (names_other n) fs) (first_named fs)
+
+-- any two files that name a package name the same one
+abbrev pub IsOnePackage : List FileTree → Type 0
+IsOnePackage fs = (i j : ℕ) (f g : FileTree) (n m : List ℕ) → slice_get fs i ≡ Some f → slice_get fs j ≡ Some g → package_name f ≡ Some n → package_name g ≡ Some m → n ≡ m

@@ -1,0 +1,80 @@
+// A package: its definitions, each with its bodies.
+ghost use Rattle.std.specs.Prelude.{◌≡◌, ◌<◌, length, map, Some, None, IfSome, IfNone, List, ℕ};
+ghost use Rattle.cs_resolve.specs.Environment.{bodies, name_at, bodies_at, written, Names};
+
+use crate::Shape;
+use indexmap::IndexMap;
+use std::marker::Model;
+
+/// The names of definitions, in order of first declaration, each with the text that it is written as,
+/// which begins with `#`.
+pub(crate) type NameTable = IndexMap<String, String>;
+
+/// A package: definitions in order of first declaration, each with all its bodies, by file and then by text.
+/// A definition's number is its place in that order.
+#[derive(Drop)]
+pub struct Package {
+    names: NameTable,
+    bodies: Vec<Vec<Shape>>,
+}
+
+impl Model for Package {
+    ghost use Rattle.cs_resolve.specs.Environment.{Environment};
+    ghost use Rattle.cs_resolve.specs.Code.{coded_environment};
+
+    ghost Value = { Environment };
+
+    ghost coded = { coded_environment };
+
+    ghost use Rattle.cs_resolve.specs.View.{environment_of, IsWhole};
+
+    ghost view = { λ p. environment_of p.names.entries p.bodies.items };
+
+    ghost invariant = { λ p. IsWhole p.names.entries p.bodies.items };
+}
+
+impl Package {
+    ghost use Rattle.cs_resolve.specs.View.{environment_of, expression_of, IsWhole};
+
+    pub(crate) fn new(names: NameTable, bodies: Vec<Vec<Shape>>) -> Package
+        requires { IsWhole names.entries bodies.items }
+        ensures { result ≡ environment_of names.entries bodies.items }
+    {
+        Package { names, bodies }
+    }
+
+    /// How many definitions there are.
+    pub fn count(&self) -> usize
+        ensures { result ≡ length self.now }
+    {
+        self.bodies.len()
+    }
+
+    /// The number of the definition of that name, which begins with `#`.
+    pub fn find(&self, name: &str) -> Option<usize>
+        ensures found { IfSome result (λ i. (n : List ℕ) × Names self.now name.now n × (name_at self.now i ≡ Some n)) }
+        ensures unknown { IfNone result ((n : List ℕ) → ¬ Names self.now name.now n) }
+    {
+        self.names.get_index_of(name.strip_prefix("#")?)
+    }
+
+    /// The name of a definition, with its `#`.
+    pub fn name(&self, i: usize) -> &str
+        requires { i < length self.now }
+        ensures { IfSome (name_at self.now i) (λ n. result.now ≡ written n) }
+    {
+        match self.names.get_index(i) {
+            Some((_, written)) => written.as_str(),
+            None => unreachable!(),
+        }
+    }
+
+    /// The bodies of a definition.
+    pub fn bodies(&self, i: usize) -> &[Shape]
+        requires { i < length self.now }
+        ensures at { bodies_at self.now i ≡ Some (map expression_of result.now) }
+        ensures named { IfSome (name_at self.now i) (λ n. bodies self.now n ≡ bodies_at self.now i) }
+    {
+        &self.bodies[i]
+    }
+}

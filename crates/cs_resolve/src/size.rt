@@ -1,0 +1,97 @@
+// The size of a package.
+
+ghost use Rattle.std.specs.Prelude.{◌≡◌, ◌+◌, ◌<◌, ◌≤◌, ◌↔◌, IsTrue, MatchOption, map};
+ghost use Rattle.cs_syntax.specs.View.{expr_view, exprs_view, fields_view, end_view, definition_view, file_view};
+ghost use Rattle.cs_resolve.specs.Size.{nodes, nodes_all, nodes_in, nodes_end, nodes_of_definitions, nodes_of_files};
+
+use cs_syntax::{Definition, Expr, Field, File, ListEnd};
+
+/// How many nodes the bodies of a package may have.
+const MOST_NODES: usize = 50_000;
+
+/// What is left of `room` nodes after those of an expression, or `None` where it has more.
+#[cycle(room)]
+fn room_after(room: usize, expr: &Expr) -> Option<usize>
+    ensures { MatchOption result (room < nodes (expr_view expr.now)) (λ left. left + nodes (expr_view expr.now) ≡ room) }
+{
+    match expr {
+        Expr::Top
+        | Expr::Bottom
+        | Expr::Null
+        | Expr::Bool(_)
+        | Expr::Int(_)
+        | Expr::Text(_)
+        | Expr::Name { .. }
+        | Expr::Reference { .. }
+        | Expr::Bound { .. }
+        | Expr::NotInt(_)
+        | Expr::NotText(_)
+        | Expr::NotNull => room.checked_sub(1),
+        Expr::And(operands) | Expr::Or(operands) => room_after_all(room.checked_sub(1)?, operands),
+        Expr::Paren(inner) => room_after(room, inner),
+        Expr::Struct { fields, .. } => room_after_fields(room.checked_sub(1)?, fields),
+        Expr::List { front, end } => {
+            let left = room_after_all(room.checked_sub(1)?, front)?;
+            room_after_end(left, end)
+        }
+    }
+}
+
+#[cycle(room)]
+fn room_after_all(room: usize, operands: &Vec<Expr>) -> Option<usize>
+    ensures { MatchOption result (room < nodes_all (exprs_view operands.now.items)) (λ left. left + nodes_all (exprs_view operands.now.items) ≡ room) }
+{
+    let mut left = room;
+    for operand in operands {
+        left = room_after(left, operand)?;
+    }
+    Some(left)
+}
+
+#[cycle(room)]
+fn room_after_fields(room: usize, fields: &Vec<Field>) -> Option<usize>
+    ensures { MatchOption result (room < nodes_in (fields_view fields.now.items)) (λ left. left + nodes_in (fields_view fields.now.items) ≡ room) }
+{
+    let mut left = room;
+    for field in fields {
+        left = room_after(left, &field.value)?;
+    }
+    Some(left)
+}
+
+#[cycle(room)]
+fn room_after_end(room: usize, end: &ListEnd) -> Option<usize>
+    ensures { MatchOption result (room < nodes_end (end_view end.now)) (λ left. left + nodes_end (end_view end.now) ≡ room) }
+{
+    match end {
+        ListEnd::Closed | ListEnd::Any => Some(room),
+        ListEnd::Each(inner) => room_after(room, inner),
+    }
+}
+
+fn room_after_definitions(room: usize, definitions: &Vec<Definition>) -> Option<usize>
+    ensures { MatchOption result (room < nodes_of_definitions (map definition_view definitions.now.items)) (λ left. left + nodes_of_definitions (map definition_view definitions.now.items) ≡ room) }
+{
+    let mut left = room;
+    for definition in definitions {
+        left = room_after(left, &definition.body)?;
+    }
+    Some(left)
+}
+
+fn room_after_files(room: usize, files: &Vec<File>) -> Option<usize>
+    ensures { MatchOption result (room < nodes_of_files (map file_view files.now.items)) (λ left. left + nodes_of_files (map file_view files.now.items) ≡ room) }
+{
+    let mut left = room;
+    for file in files {
+        left = room_after_definitions(left, &file.definitions)?;
+    }
+    Some(left)
+}
+
+/// Whether files have so few nodes as a package may have.
+pub(crate) fn has_few_nodes(files: &Vec<File>) -> bool
+    ensures { IsTrue result ↔ (nodes_of_files (map file_view files.now.items) ≤ 50000) }
+{
+    room_after_files(MOST_NODES, files).is_some()
+}

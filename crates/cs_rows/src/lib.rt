@@ -1,0 +1,11 @@
+// Worked examples, through the public calls of all crates.
+#![tactic(auto)]
+
+#[cfg(test)]
+mod commands;
+#[cfg(test)]
+mod examples;
+#[cfg(test)]
+mod layers;
+#[cfg(test)]
+mod refusals;

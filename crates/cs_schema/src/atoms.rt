@@ -1,0 +1,120 @@
+// Values of keywords that hold no schema.
+ghost use Rattle.std.specs.Prelude.{◌≡◌, Some, None, false, true, IfSome, IfOk, string_bytes, IsOkUnless};
+ghost use Rattle.std.specs.List.{list_all};
+ghost use Rattle.cs_doc.specs.Document.{text, integer};
+ghost use Rattle.cs_doc.specs.View.{doc_view};
+ghost use Rattle.cs_schema.specs.Shapes.{has_form, a_reference, a_kind, an_integer, the_dialect, is_name as text_is_name, is_name_code as code_is_name};
+ghost use Rattle.cs_schema.specs.SchemaDocument.{kind_name, reference_document};
+
+use crate::{JsonKind, SchemaFault};
+use cs_doc::Doc;
+use std::alloc::Global;
+
+/// The kind that a value names.
+pub(crate) fn kind_of(value: &Doc) -> Option<JsonKind>
+    ensures some { IfSome result (λ k. doc_view value.now ≡ text (kind_name k)) }
+    ensures none { result ≡ None → has_form a_kind (doc_view value.now) ≡ false }
+{
+    match value {
+        Doc::Text(name) => kind_named(name),
+        _ => None,
+    }
+}
+
+fn kind_named(name: &str) -> Option<JsonKind>
+    ensures some { IfSome result (λ k. name.now ≡ kind_name k) }
+    ensures none { result ≡ None → has_form a_kind (text name.now) ≡ false }
+{
+    match name {
+        "null" => Some(JsonKind::Null),
+        "boolean" => Some(JsonKind::Boolean),
+        "object" => Some(JsonKind::Object),
+        "array" => Some(JsonKind::Array),
+        "number" => Some(JsonKind::Number),
+        "string" => Some(JsonKind::String),
+        "integer" => Some(JsonKind::Integer),
+        _ => None,
+    }
+}
+
+/// The name of a kind.
+pub(crate) fn name_of(kind: JsonKind) -> &'static str
+    ensures { result.now ≡ kind_name kind }
+{
+    match kind {
+        JsonKind::Null => "null",
+        JsonKind::Boolean => "boolean",
+        JsonKind::Object => "object",
+        JsonKind::Array => "array",
+        JsonKind::Number => "number",
+        JsonKind::String => "string",
+        JsonKind::Integer => "integer",
+    }
+}
+
+/// The integer that a value is.
+pub(crate) fn integer_of(value: &Doc) -> Option<i64>
+    ensures some { IfSome result (λ z. doc_view value.now ≡ integer z) }
+    ensures none { result ≡ None → has_form an_integer (doc_view value.now) ≡ false }
+{
+    match value {
+        Doc::Int(n) => Some(*n),
+        _ => None,
+    }
+}
+
+/// Whether a value is the text of the dialect.
+pub(crate) fn is_dialect(value: &Doc) -> bool
+    ensures { result ≡ has_form the_dialect (doc_view value.now) }
+{
+    match value {
+        Doc::Text(name) => name.as_str() == "https://json-schema.org/draft/2020-12/schema",
+        _ => false,
+    }
+}
+
+/// The name that the value of a `$ref` refers to.
+pub(crate) fn reference_of(alloc: Global, value: &Doc) -> Result<Option<String>, SchemaFault>
+    ensures some { IfOk result (λ o. IfSome o (λ n. doc_view value.now ≡ reference_document n)) }
+    ensures right { IfOk result (λ o. IfSome o (λ n. has_form a_reference (doc_view value.now) ≡ true)) }
+    ensures none { IfOk result (λ o. o ≡ None → has_form a_reference (doc_view value.now) ≡ false) }
+    ensures memory { IsOkUnless result SchemaFault.OutOfMemory }
+{
+    match value {
+        Doc::Text(text) => match text.strip_prefix("#/$defs/") {
+            Some(name) if is_name(name) => Ok(Some(String::from_str(alloc, name)?)),
+            _ => Ok(None),
+        },
+        _ => Ok(None),
+    }
+}
+
+/// Whether a text may be the name in a `$ref`.
+fn is_name(name: &str) -> bool
+    ensures { result ≡ text_is_name name.now }
+{
+    !name.is_empty() && are_name_codes(name.as_bytes())
+}
+
+fn are_name_codes(codes: &[u8]) -> bool
+    ensures { result ≡ list_all code_is_name codes.now }
+{
+    codes.iter().all(|c| is_name_code(*c))
+}
+
+fn is_name_code(c: u8) -> bool
+    ensures { result ≡ code_is_name c }
+{
+    matches!(c, b'A'..=b'Z' | b'a'..=b'z' | b'0'..=b'9' | b'_' | b'$' | b'.' | b'-')
+}
+
+/// An equal document.
+pub(crate) fn copied(alloc: Global, value: &Doc) -> Result<Doc, SchemaFault>
+    ensures value { IfOk result (λ d. doc_view d ≡ doc_view value.now) }
+    ensures memory { IsOkUnless result SchemaFault.OutOfMemory }
+{
+    match value.copy(alloc) {
+        Ok(doc) => Ok(doc),
+        Err(_) => Err(SchemaFault::OutOfMemory),
+    }
+}

@@ -1,0 +1,96 @@
+-- What the loop of the lexer keeps: whatever cuts the rest completes the cut of the whole text, and where the rest is stuck, so is the text.
+use Rattle.std.proofs.Common.{◌≡◌, ℕ, ◌+◌, ◌-◌, ◌<◌, ◌≤◌, List, [], ◌∷◌, ◌++◌, length, take, drop, get_or, drop-cons, get_or-drop, IsUtf8, true, sym, ap, subst, ◌∙◌, append_assoc, arith}
+use Rattle.std.proofs.Math.Numerals.{add-one}
+use Rattle.std.proofs.Math.ListN.{drop_of_length-le}
+use Rattle.std.proofs.lemmas.List.{drop-drop, take_all, length-drop}
+use Rattle.std.specs.Prelude.{◌==◌}
+use Rattle.std.specs.Str.{IsCharBoundary}
+use Rattle.std.proofs.lemmas.Str.{IsCharBoundary-after_ascii}
+use Rattle.cs_syntax.specs.declared.token.Sort.{Sort}
+use Rattle.cs_syntax.specs.declared.token.Sort.TheVariants as sorts
+use Rattle.cs_syntax.specs.declared.lexer.line.Line.{Line}
+use Rattle.cs_syntax.specs.declared.lexer.line.Line.TheVariants.{Plain, WantsComma, Minus}
+use Rattle.cs_syntax.specs.declared.fault.SyntaxFault.{SyntaxFault}
+use Rattle.cs_syntax.specs.declared.fault.SyntaxFault.TheVariants.{NoToken, IntegerRange}
+use Rattle.cs_syntax.specs.Heads.{Edges}
+use Rattle.cs_syntax.specs.Cut.{is_space, Begins, Lexeme, lexeme, line_after, line_ended, comma_if, Cut, blank, new_line, token, finish, NoneBegins, TooLarge, Stuck, no_token, too_large, past_blank, past_line, past_token}
+
+pub record Before (bs : List ℕ) (at : ℕ) (l : Line) (front : List Lexeme) : Type 0 where
+  pub cut : (ks : List Lexeme) → Cut (drop at bs) at l ks → Cut bs 0 Plain (front ++ ks)
+  pub stuck : (f : SyntaxFault) → Stuck (drop at bs) at l f → Stuck bs 0 Plain f
+
+pub begin : (bs : List ℕ) → Before bs 0 Plain []
+begin bs = record { cut = λ ks h. h; stuck = λ f h. h }
+
+pub comma_front : (front ks : List Lexeme) (l : Line) (o : ℕ) → (front ++ comma_if l o []) ++ ks ≡ front ++ comma_if l o ks
+comma_front front ks WantsComma o = append_assoc front (comma_if WantsComma o []) ks
+comma_front front ks Plain o = append_assoc front [] ks
+comma_front front ks Minus o = append_assoc front [] ks
+
+whole_rest : (bs : List ℕ) (at : ℕ) → take (length bs - at) (drop at bs) ≡ drop at bs
+whole_rest bs at = take_all (length bs - at) (drop at bs) (omega (arith, length-drop at bs))
+
+-- ---- the turns of the loop
+
+module _ (bs : List ℕ) (at : ℕ) (l : Line) (front : List Lexeme) (b : Before bs at l front) where
+  module _ (lt : at < length bs) where
+    first_is : drop at bs ≡ get_or bs at 0 ∷ drop (at + 1) bs
+    first_is = rw add-one (drop-cons bs at 0 lt)
+
+    after_blank : is_space (get_or bs at 0) ≡ true → Before bs (at + 1) l front
+    after_blank h = record {
+      cut = λ ks k. b.cut ks (subst (λ t. Cut t at l ks) (sym first_is) (blank h k));
+      stuck = λ f k. b.stuck f (subst (λ t. Stuck t at l f) (sym first_is) (past_blank h k));
+    }
+
+    after_line : (get_or bs at 0 == 10) ≡ true → Before bs (at + 1) (line_ended l) (front ++ comma_if l at [])
+    after_line h = record {
+      cut = λ ks k. subst (λ xs. Cut bs 0 Plain xs) (sym (comma_front front ks l at)) (b.cut (comma_if l at ks) (subst (λ t. Cut t at l (comma_if l at ks)) (sym first_is) (new_line h k)));
+      stuck = λ f k. b.stuck f (subst (λ t. Stuck t at l f) (sym first_is) (past_line h k));
+    }
+
+  after_token : (n : ℕ) (s : Sort) → Begins l (drop at bs) n s → Before bs (at + n) (line_after s (take n (drop at bs))) (front ++ lexeme s (take n (drop at bs)) at ∷ [])
+  after_token n s h = record {
+    cut = λ ks k. subst (λ xs. Cut bs 0 Plain xs) (sym (append_assoc front (lexeme s (take n (drop at bs)) at ∷ []) ks)) (b.cut (lexeme s (take n (drop at bs)) at ∷ ks) (token h (subst (λ t. Cut t (at + n) (line_after s (take n (drop at bs))) ks) moved k)));
+    stuck = λ f k. b.stuck f (past_token h (subst (λ t. Stuck t (at + n) (line_after s (take n (drop at bs))) f) moved k));
+  }
+    where
+      moved : drop (at + n) bs ≡ drop n (drop at bs)
+      moved = grind (arith, drop-drop)
+
+  pub at_end : length bs ≤ at → Cut bs 0 Plain (front ++ comma_if l at (lexeme sorts.End [] at ∷ []))
+  at_end le = b.cut (comma_if l at (lexeme sorts.End [] at ∷ [])) (subst (λ t. Cut t at l (comma_if l at (lexeme sorts.End [] at ∷ []))) (sym (drop_of_length-le bs le)) finish)
+
+-- ---- the same, of what the code has in hand
+
+abbrev pub rest : List ℕ → ℕ → List ℕ
+rest bs at = take (length bs - at) (drop at bs)
+
+module _ (bs : List ℕ) (at : ℕ) (l : Line) (front : List Lexeme) (b : Before bs at l front) where
+  pub turn_blank : at < length bs → is_space (get_or (rest bs at) 0 0) ≡ true → Before bs (at + 1) l front
+  turn_blank lt h = after_blank bs at l front b lt (rw (whole_rest, first_is bs at l front b lt) at h)
+
+  pub turn_line : at < length bs → (get_or (rest bs at) 0 0 == 10) ≡ true → Before bs (at + 1) (line_ended l) (front ++ comma_if l at [])
+  turn_line lt h = after_line bs at l front b lt (rw (whole_rest, first_is bs at l front b lt) at h)
+
+  pub turn_token : (n : ℕ) (s : Sort) → Begins l (rest bs at) n s → Before bs (at + n) (line_after s (take n (drop at bs))) (front ++ lexeme s (take n (drop at bs)) at ∷ [])
+  turn_token n s h = after_token bs at l front b n s (subst (λ t. Begins l t n s) (whole_rest bs at) h)
+
+  pub turn_none : NoneBegins (rest bs at) → Stuck bs 0 Plain (NoToken at)
+  turn_none h = b.stuck (NoToken at) (no_token (subst NoneBegins (whole_rest bs at) h))
+
+  pub turn_large : (n : ℕ) → TooLarge l (rest bs at) n → Stuck bs 0 Plain (IntegerRange at)
+  turn_large n h = b.stuck (IntegerRange at) (too_large (subst (λ t. TooLarge l t n) (whole_rest bs at) h))
+
+-- ---- slices
+
+pub token_within : (bs : List ℕ) (at n : ℕ) → at ≤ length bs → Edges (rest bs at) n → at + n ≤ length bs
+token_within bs at n le h = omega (arith, h.within, ap length (whole_rest bs at), length-drop at bs)
+
+pub token_boundary : (bs : List ℕ) (at n : ℕ) → IsUtf8 bs → at ≤ length bs → Edges (rest bs at) n → IsCharBoundary bs (at + n)
+token_boundary bs at n utf8 le h =
+    let within = token_within bs at n le h in
+    let some = h.some in
+    let same : get_or (rest bs at) (n - 1) 0 ≡ get_or bs (at + (n - 1)) 0 = ap (λ t. get_or t (n - 1) 0) (whole_rest bs at) ∙ get_or-drop at bs (n - 1) 0 in
+    let next : at + (n - 1) + 1 ≡ at + n = omega arith in
+    subst (λ k. IsCharBoundary bs k) next (IsCharBoundary-after_ascii bs (at + (n - 1)) utf8 (omega arith) (omega (arith, h.last, same)))

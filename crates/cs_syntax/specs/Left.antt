@@ -1,0 +1,39 @@
+-- What the parser's calls answer and leave.
+use Rattle.std.specs.Prelude.{◌≡◌, ◌+◌, Bool, true, false, List, [], ◌∷◌, drop, Option, Some, None, Result, Ok, Err}
+use Rattle.cs_syntax.specs.declared.fault.SyntaxFault.{SyntaxFault}
+use Rattle.cs_syntax.specs.declared.parser.place.Parser.{Parser}
+use Rattle.cs_syntax.specs.declared.token.Token.{Token}
+use Rattle.cs_syntax.specs.Words.{Words}
+use Rattle.cs_syntax.specs.View.{lexemes_view, words}
+use Rattle.cs_syntax.specs.Reading.{Fails}
+
+-- the tokens that are left, and their words
+abbrev pub left_tokens : Parser → List Token
+left_tokens p = drop p.next p.tokens.now
+
+abbrev pub left : Parser → Words
+left p = words (lexemes_view (left_tokens p))
+
+-- the first of the tokens that are left
+abbrev pub IsNext : Option Token → Parser → Type 0
+IsNext None p = left_tokens p ≡ []
+IsNext (Some t) p = left_tokens p ≡ t ∷ drop (p.next + 1) p.tokens.now
+
+-- the token that a call takes, if one is left
+abbrev pub Takes : Option Token → Parser → Parser → Type 0
+Takes None old new = (left_tokens old ≡ []) × (left_tokens new ≡ [])
+Takes (Some t) old new = left_tokens old ≡ t ∷ left_tokens new
+
+-- the answer says whether there was something to pass over
+abbrev pub Skips : Bool → Parser → Parser → Option Words → Type 0
+Skips true old new o = o ≡ Some (left new)
+Skips false old new o = (o ≡ None) × (left new ≡ left old)
+
+-- What a call answers, seen by view, with what it leaves, is what reading gives, unless memory ran out.
+abbrev pub Reads : {X Y : Type 0} → (X → Y) → Result X SyntaxFault → Parser → Result (Y × Words) SyntaxFault → Type 0
+Reads view (Ok x) p read = read ≡ Ok (view x, left p)
+Reads view (Err e) p read = Fails e read
+
+abbrev pub ReadsPast : {X : Type 0} → Result X SyntaxFault → Parser → Result Words SyntaxFault → Type 0
+ReadsPast (Ok x) p read = read ≡ Ok (left p)
+ReadsPast (Err e) p read = Fails e read

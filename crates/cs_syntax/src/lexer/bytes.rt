@@ -1,0 +1,45 @@
+// Classes of bytes.
+
+ghost use Rattle.std.specs.Prelude.{◌≡◌};
+ghost use Rattle.cs_syntax.specs.Spelling.{is_letter, is_digit, is_name_byte, begins_definition, is_run_byte};
+ghost use Rattle.cs_syntax.specs.Cut.{is_space};
+
+pub(crate) fn is_letter(x: u8) -> bool
+    ensures { result ≡ is_letter x }
+{
+    matches!(x, b'A'..=b'Z' | b'a'..=b'z' | b'$')
+}
+
+pub(crate) fn is_digit(x: u8) -> bool
+    ensures { result ≡ is_digit x }
+{
+    matches!(x, b'0'..=b'9')
+}
+
+// A byte behind the first of a name.
+pub(crate) fn is_name_byte(x: u8) -> bool
+    ensures { result ≡ is_name_byte x }
+{
+    is_letter(x) || is_digit(x) || x == b'_'
+}
+
+// A byte with which the name of a definition may begin, behind its `#`.
+pub(crate) fn begins_definition(x: u8) -> bool
+    ensures { result ≡ begins_definition x }
+{
+    is_letter(x) || x == b'_'
+}
+
+// A byte of a run that begins with a digit.
+pub(crate) fn is_run_byte(x: u8) -> bool
+    ensures { result ≡ is_run_byte x }
+{
+    matches!(x, b'A'..=b'Z' | b'a'..=b'z' | b'0'..=b'9' | b'_' | b'.')
+}
+
+// A blank within a line.
+pub(crate) fn is_space(x: u8) -> bool
+    ensures { result ≡ is_space x }
+{
+    matches!(x, b' ' | b'\t' | b'\r')
+}

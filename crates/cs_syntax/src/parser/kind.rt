@@ -1,0 +1,87 @@
+// The tokens as the grammar sees them.
+
+ghost use Rattle.std.specs.Prelude.{◌≡◌};
+ghost use Rattle.cs_syntax.specs.View.{mark_kind, kind_of};
+
+use crate::token::{Sort, Token};
+
+/// What a token is for the grammar.
+#[derive(Clone, Copy, PartialEq, Eq)]
+pub(crate) enum Kind {
+    Name,
+    Definition,
+    Hidden,
+    Top,
+    Bottom,
+    Integer,
+    Text,
+    OpenStruct,
+    CloseStruct,
+    OpenList,
+    CloseList,
+    OpenParen,
+    CloseParen,
+    Comma,
+    Colon,
+    Question,
+    Bang,
+    Amp,
+    Bar,
+    Dots,
+    Less,
+    AtMost,
+    More,
+    AtLeast,
+    Unequal,
+    Minus,
+    LeftOut,
+    Inserted,
+    End,
+}
+
+// What a mark is for the grammar.
+fn mark_kind(text: &str) -> Kind
+    ensures { result ≡ mark_kind text.now }
+{
+    match text {
+        "{" => Kind::OpenStruct,
+        "}" => Kind::CloseStruct,
+        "[" => Kind::OpenList,
+        "]" => Kind::CloseList,
+        "(" => Kind::OpenParen,
+        ")" => Kind::CloseParen,
+        "," => Kind::Comma,
+        ":" => Kind::Colon,
+        "?" => Kind::Question,
+        "!" => Kind::Bang,
+        "&" => Kind::Amp,
+        "|" => Kind::Bar,
+        "..." => Kind::Dots,
+        "<" => Kind::Less,
+        "<=" => Kind::AtMost,
+        ">" => Kind::More,
+        ">=" => Kind::AtLeast,
+        "!=" => Kind::Unequal,
+        "-" => Kind::Minus,
+        _ => Kind::LeftOut,
+    }
+}
+
+// What a token is for the grammar.
+pub(crate) fn kind_of(token: &Token<'_>) -> Kind
+    ensures { result ≡ kind_of token.now.sort token.now.text.now }
+{
+    match token.sort {
+        Sort::Name => Kind::Name,
+        Sort::Definition => Kind::Definition,
+        Sort::Hidden => Kind::Hidden,
+        Sort::Top => Kind::Top,
+        Sort::Bottom => Kind::Bottom,
+        Sort::Integer => Kind::Integer,
+        Sort::Text => Kind::Text,
+        Sort::Mark => mark_kind(token.text),
+        Sort::LeftOut => Kind::LeftOut,
+        Sort::Inserted => Kind::Inserted,
+        Sort::End => Kind::End,
+    }
+}

@@ -1,0 +1,99 @@
+// A place in the tokens.
+
+ghost use Rattle.std.specs.Prelude.{◌≡◌};
+ghost use Rattle.cs_syntax.specs.View.{lexeme_view, word};
+ghost use Rattle.cs_syntax.specs.Left.{left, IsNext, Takes, Skips, ReadsPast};
+ghost use Rattle.cs_syntax.specs.Reading.{is_left_out_name, fault_of, fault_at, after, expected};
+
+use crate::fault::SyntaxFault;
+use crate::parser::kind::{Kind, kind_of};
+use crate::token::Token;
+use std::alloc::Global;
+
+/// A place in the tokens.
+#[derive(Drop)]
+pub(crate) struct Parser<'t, 'a> {
+    pub(crate) alloc: Global,
+    pub(crate) tokens: &'t [Token<'a>],
+    pub(crate) next: usize,
+}
+
+// Whether a name is a word of a form that the profile leaves out.
+fn is_left_out_name(text: &str) -> bool
+    ensures { result ≡ is_left_out_name text.now }
+{
+    matches!(text, "import" | "let" | "for" | "if")
+}
+
+// The fault at a token that is out of place.
+pub(crate) fn fault_of(token: &Token<'_>) -> SyntaxFault
+    ensures { result ≡ fault_of (word (lexeme_view token.now)) }
+{
+    let left_out = match kind_of(token) {
+        Kind::LeftOut | Kind::Hidden => true,
+        Kind::Name => is_left_out_name(token.text),
+        _ => false,
+    };
+    let offset = token.start;
+    if left_out {
+        SyntaxFault::LeftOut { offset }
+    } else {
+        SyntaxFault::Syntax { offset }
+    }
+}
+
+impl<'t, 'a> Parser<'t, 'a> {
+    // The next token, which stays.
+    pub(crate) fn peek(&self) -> Option<Token<'a>>
+        ensures { IsNext result self.now }
+    {
+        if self.next < self.tokens.len() {
+            Some(self.tokens[self.next])
+        } else {
+            None
+        }
+    }
+
+    // The next token.
+    pub(crate) fn take(&mut self) -> Option<Token<'a>>
+        ensures { Takes result self.old self.new }
+    {
+        let token = self.peek()?;
+        self.next += 1;
+        Some(token)
+    }
+
+    // The fault at the next token.
+    pub(crate) fn fault(&self) -> SyntaxFault
+        ensures { result ≡ fault_at (left self.now) }
+    {
+        match self.peek() {
+            None => SyntaxFault::Syntax { offset: 0 },
+            Some(token) => fault_of(&token),
+        }
+    }
+
+    // Passes over a token of that kind, where one stands.
+    pub(crate) fn skip(&mut self, wanted: Kind) -> bool
+        ensures { Skips result self.old self.new (after wanted (left self.old)) }
+    {
+        match self.peek() {
+            Some(token) if kind_of(&token) == wanted => {
+                self.next += 1;
+                true
+            }
+            _ => false,
+        }
+    }
+
+    // Passes over a token of that kind, which has to stand here.
+    pub(crate) fn expect(&mut self, wanted: Kind) -> Result<(), SyntaxFault>
+        ensures { ReadsPast result self.new (expected wanted (left self.old)) }
+    {
+        if self.skip(wanted) {
+            Ok(())
+        } else {
+            Err(self.fault())
+        }
+    }
+}

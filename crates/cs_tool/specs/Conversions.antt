@@ -1,0 +1,62 @@
+-- What the refusals of each crate are among those of the tool.
+use Rattle.cs_tool.specs.declared.fault.Fault.{Fault}
+use Rattle.cs_tool.specs.declared.fault.Fault.TheVariants.{LeftOut, Cycle, UnknownRoot, OutOfMemory, ChainTooLong, SchemaNotJson, Keyword, Shape, Reference, Loop, NotJson, NotInteger}
+use Rattle.cs_syntax.specs.declared.fault.SyntaxFault.{SyntaxFault}
+use Rattle.cs_syntax.specs.declared.fault.SyntaxFault.TheVariants as syntax
+use Rattle.cs_resolve.specs.declared.fault.ResolveFault.{ResolveFault}
+use Rattle.cs_resolve.specs.declared.fault.ResolveFault.TheVariants as resolve
+use Rattle.cs_guard.specs.declared.fault.GuardFault.{GuardFault}
+use Rattle.cs_guard.specs.declared.fault.GuardFault.TheVariants as guard
+use Rattle.cs_instance.specs.declared.fault.InstanceFault.{InstanceFault}
+use Rattle.cs_instance.specs.declared.fault.InstanceFault.TheVariants as instance
+use Rattle.cs_compile.specs.declared.fault.CompileFault.{CompileFault}
+use Rattle.cs_compile.specs.declared.fault.CompileFault.TheVariants as compile
+use Rattle.cs_schema.specs.declared.fault.SchemaFault.{SchemaFault}
+use Rattle.cs_schema.specs.declared.fault.SchemaFault.TheVariants as schema
+use Rattle.cs_validate.specs.declared.fault.ValidateFault.{ValidateFault}
+use Rattle.cs_validate.specs.declared.fault.ValidateFault.TheVariants as validate
+use Rattle.cs_doc.specs.declared.fault.DocFault.{DocFault}
+use Rattle.cs_doc.specs.declared.fault.DocFault.TheVariants as doc
+
+abbrev pub of_syntax : SyntaxFault → Fault
+of_syntax syntax.OutOfMemory = OutOfMemory
+of_syntax _ = LeftOut 0 0
+
+abbrev pub of_resolve : ResolveFault → Fault
+of_resolve resolve.OutOfMemory = OutOfMemory
+of_resolve _ = LeftOut 0 0
+
+abbrev pub of_guard : GuardFault → Fault
+of_guard guard.OutOfMemory = OutOfMemory
+of_guard (guard.Cycle names) = Cycle names
+of_guard guard.ChainTooLong = ChainTooLong
+
+abbrev pub of_instance : InstanceFault → Fault
+of_instance instance.OutOfMemory = OutOfMemory
+of_instance instance.UnknownRoot = UnknownRoot
+
+abbrev pub of_compile : CompileFault → Fault
+of_compile compile.OutOfMemory = OutOfMemory
+of_compile compile.UnknownRoot = UnknownRoot
+
+abbrev pub of_schema : SchemaFault → Fault
+of_schema schema.OutOfMemory = OutOfMemory
+of_schema (schema.Keyword place name) = Keyword place name
+of_schema (schema.Shape place name) = Shape place name
+of_schema (schema.Reference place name) = Reference place name
+of_schema (schema.Loop names) = Loop names
+
+abbrev pub of_validate : ValidateFault → Fault
+of_validate validate.OutOfMemory = OutOfMemory
+
+-- the fault of a document's text
+abbrev pub of_document : DocFault → Fault
+of_document doc.OutOfMemory = OutOfMemory
+of_document doc.NotJson = NotJson
+of_document doc.NotInteger = NotInteger
+
+-- the fault of a schema's text
+abbrev pub of_schema_text : DocFault → Fault
+of_schema_text doc.OutOfMemory = OutOfMemory
+of_schema_text doc.NotJson = SchemaNotJson
+of_schema_text doc.NotInteger = NotInteger

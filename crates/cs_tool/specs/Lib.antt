@@ -1,0 +1,3 @@
+pub mod Conversions
+pub mod Refusals
+pub mod Streams

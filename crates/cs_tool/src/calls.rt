@@ -1,0 +1,53 @@
+// The calls over bytes.
+use crate::Fault;
+use crate::packages::package_of;
+use cs_compile::compile;
+use cs_doc::{Doc, DocFault, read_doc, write_doc};
+use cs_instance::is_instance;
+use cs_schema::{read_schema, to_doc};
+use cs_validate::is_valid;
+use std::alloc::Global;
+
+/// The text of the schema that admits the documents that the root definition of the sources admits,
+/// without a newline. The root is named with its `#`.
+///
+/// Refusals in order: sources above 1,048,576 bytes together; the first source that is no UTF-8; a
+/// source outside the forms that are taken; an unknown root.
+pub fn export(alloc: Global, sources: &[&[u8]], root: &str) -> Result<Vec<u8>, Fault> {
+    let package = package_of(alloc, sources)?;
+    let schema = compile(alloc, &package, root)?;
+    let doc = to_doc(alloc, &schema)?;
+    Ok(write_doc(alloc, &doc)?)
+}
+
+/// Whether the document is an instance of the root definition of the sources.
+///
+/// Refusals in order: those of `export`; a text of the document that is no JSON; a number in it that is
+/// no signed integer of 64 bits.
+pub fn vet(alloc: Global, sources: &[&[u8]], root: &str, doc: &[u8]) -> Result<bool, Fault> {
+    let package = package_of(alloc, sources)?;
+    if package.package().find(root).is_none() {
+        return Err(Fault::UnknownRoot);
+    }
+    let doc = read_doc(alloc, doc)?;
+    Ok(is_instance(alloc, &package, root, &doc)?)
+}
+
+/// Whether the document is valid against the schema.
+///
+/// Refusals in order: a text of the schema that is no JSON; a number in it that is no signed integer of
+/// 64 bits; a schema outside the profile; then those two of the document's text.
+pub fn validate(alloc: Global, schema: &[u8], doc: &[u8]) -> Result<bool, Fault> {
+    let schema = read_schema(alloc, &schema_text(alloc, schema)?)?;
+    let doc = read_doc(alloc, doc)?;
+    Ok(is_valid(alloc, &schema, &doc)?)
+}
+
+/// The document of a schema's text.
+fn schema_text(alloc: Global, text: &[u8]) -> Result<Doc, Fault> {
+    match read_doc(alloc, text) {
+        Ok(doc) => Ok(doc),
+        Err(DocFault::NotJson) => Err(Fault::SchemaNotJson),
+        Err(fault) => Err(Fault::from(fault)),
+    }
+}

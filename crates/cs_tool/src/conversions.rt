@@ -1,0 +1,130 @@
+// What the refusals of each crate are among those of the tool.
+ghost use Rattle.std.specs.Prelude.{◌≡◌};
+
+use crate::Fault;
+use cs_compile::CompileFault;
+use cs_doc::DocFault;
+use cs_guard::GuardFault;
+use cs_instance::InstanceFault;
+use cs_resolve::ResolveFault;
+use cs_schema::SchemaFault;
+use cs_syntax::SyntaxFault;
+use cs_validate::ValidateFault;
+
+/// The refusal of a source that is outside the forms taken so far: 5 at its first byte.
+pub(crate) fn not_taken() -> Fault
+    ensures { result ≡ Fault.LeftOut 0 0 }
+{
+    Fault::LeftOut { file: 0, offset: 0 }
+}
+
+// Until the whole grammar is taken every fault of a source is the same.
+impl From<SyntaxFault> for Fault {
+    ghost use Rattle.cs_tool.specs.Conversions.{of_syntax};
+
+    ghost from_gives = { λ e f. f ≡ of_syntax e };
+
+    fn from(fault: SyntaxFault) -> Fault {
+        match fault {
+            SyntaxFault::OutOfMemory => Fault::OutOfMemory,
+            _ => not_taken(),
+        }
+    }
+}
+
+// Until whole packages are taken every fault of a source is the same.
+impl From<ResolveFault> for Fault {
+    ghost use Rattle.cs_tool.specs.Conversions.{of_resolve};
+
+    ghost from_gives = { λ e f. f ≡ of_resolve e };
+
+    fn from(fault: ResolveFault) -> Fault {
+        match fault {
+            ResolveFault::OutOfMemory => Fault::OutOfMemory,
+            _ => not_taken(),
+        }
+    }
+}
+
+impl From<GuardFault> for Fault {
+    ghost use Rattle.cs_tool.specs.Conversions.{of_guard};
+
+    ghost from_gives = { λ e f. f ≡ of_guard e };
+
+    fn from(fault: GuardFault) -> Fault {
+        match fault {
+            GuardFault::OutOfMemory => Fault::OutOfMemory,
+            GuardFault::Cycle { names } => Fault::Cycle { names },
+            GuardFault::ChainTooLong => Fault::ChainTooLong,
+        }
+    }
+}
+
+impl From<InstanceFault> for Fault {
+    ghost use Rattle.cs_tool.specs.Conversions.{of_instance};
+
+    ghost from_gives = { λ e f. f ≡ of_instance e };
+
+    fn from(fault: InstanceFault) -> Fault {
+        match fault {
+            InstanceFault::OutOfMemory => Fault::OutOfMemory,
+            InstanceFault::UnknownRoot => Fault::UnknownRoot,
+        }
+    }
+}
+
+impl From<CompileFault> for Fault {
+    ghost use Rattle.cs_tool.specs.Conversions.{of_compile};
+
+    ghost from_gives = { λ e f. f ≡ of_compile e };
+
+    fn from(fault: CompileFault) -> Fault {
+        match fault {
+            CompileFault::OutOfMemory => Fault::OutOfMemory,
+            CompileFault::UnknownRoot => Fault::UnknownRoot,
+        }
+    }
+}
+
+impl From<SchemaFault> for Fault {
+    ghost use Rattle.cs_tool.specs.Conversions.{of_schema};
+
+    ghost from_gives = { λ e f. f ≡ of_schema e };
+
+    fn from(fault: SchemaFault) -> Fault {
+        match fault {
+            SchemaFault::OutOfMemory => Fault::OutOfMemory,
+            SchemaFault::Keyword { place, name } => Fault::Keyword { place, name },
+            SchemaFault::Shape { place, name } => Fault::Shape { place, name },
+            SchemaFault::Reference { place, name } => Fault::Reference { place, name },
+            SchemaFault::Loop { names } => Fault::Loop { names },
+        }
+    }
+}
+
+impl From<ValidateFault> for Fault {
+    ghost use Rattle.cs_tool.specs.Conversions.{of_validate};
+
+    ghost from_gives = { λ e f. f ≡ of_validate e };
+
+    fn from(fault: ValidateFault) -> Fault {
+        match fault {
+            ValidateFault::OutOfMemory => Fault::OutOfMemory,
+        }
+    }
+}
+
+// The fault of a document's text; a schema's text has `schema_text_fault`.
+impl From<DocFault> for Fault {
+    ghost use Rattle.cs_tool.specs.Conversions.{of_document};
+
+    ghost from_gives = { λ e f. f ≡ of_document e };
+
+    fn from(fault: DocFault) -> Fault {
+        match fault {
+            DocFault::OutOfMemory => Fault::OutOfMemory,
+            DocFault::NotJson => Fault::NotJson,
+            DocFault::NotInteger => Fault::NotInteger,
+        }
+    }
+}
