@@ -1,11 +1,13 @@
 # make            builds the proved program as bin/cue2schema
 # make run        builds it and runs it on examples/port.cue
 # make test       the gate: every proof from nothing, the must-fail edits, the tests, the program's stored run
+# make memory     runs the program with each of its first 40 allocations refused in turn, half an hour; JOBS=4 for four at once
 # make install    copies the program to $(PREFIX)/bin
 PREFIX ?= /usr/local
+JOBS ?= 1
 SOURCES := crates.txt $(shell find crates -name out -prune -o \( -name '*.rt' -o -name '*.antt' \) -print)
 
-.PHONY: all run test install clean toolchain
+.PHONY: all run test memory install clean toolchain
 
 all: bin/cue2schema
 
@@ -19,6 +21,9 @@ run: bin/cue2schema
 
 test: | toolchain
 	rt ci
+
+memory: | toolchain
+	JOBS=$(JOBS) tools/memory.sh
 
 install: bin/cue2schema
 	install -D -m 755 bin/cue2schema $(DESTDIR)$(PREFIX)/bin/cue2schema

@@ -1,18 +1,14 @@
 -- The schema of an expression validates just the instances of the expression, and that of a definition just its instances.
-use Rattle.std.proofs.Common.{◌≡◌, ℕ, ℤ, List, [], ◌∷◌, map, Bool, true, false, ◌&&◌, Option, Some, None, int_le, refl, sym, ap, ap₂, ◌∙◌}
+use Rattle.std.proofs.Common.{◌≡◌, ℕ, ℤ, List, [], ◌∷◌, map, Bool, true, false, ◌&&◌, Option, Some, None, int_le, refl, sym, ap₂, ◌∙◌}
 use Rattle.std.proofs.Math.Bool.{and-true}
 use Rattle.std.specs.List.{list_all}
-use Rattle.cs_doc.specs.Document.{Document, null, boolean, integer, text, list, object, elements}
+use Rattle.cs_doc.specs.Document.{Document, boolean, integer, text, elements}
 use Rattle.cs_schema.specs.Validity.{IsValidity}
 use Rattle.cs_resolve.specs.Expression as cue
 use Rattle.cs_resolve.specs.Expression.{Expression, Expressions, operands, Kind, int, number, string, bool, Relation, less, at_most, more, at_least}
 use Rattle.cs_resolve.specs.Environment.{Environment, bodies}
 use Rattle.cs_instance.specs.Instance.{IsInstance, Rule, node, definition}
-use Rattle.cs_compile.specs.Translation.{schema_of, schemas_of, body_schemas, definition_schema, IsTaken, AreTaken}
-
-abbrev pub AllTaken : List Expression → Type 0
-AllTaken [] = Unit {0}
-AllTaken (e ∷ es) = IsTaken e × AllTaken es
+use Rattle.cs_compile.specs.Translation.{schema_of, schemas_of, body_schemas, definition_schema, IsTaken, AreTaken, AllTaken}
 
 and_turned : (a b : Bool) → (a && (b && true)) ≡ (b && a)
 and_turned true true = refl

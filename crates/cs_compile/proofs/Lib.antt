@@ -1,4 +1,10 @@
 pub mod Agreement
+pub mod Compiled
+pub mod Declared
+pub mod Depths
+pub mod NameCodes
 pub mod Names
+pub mod Root
 pub mod Shapes
 pub mod Slots
+pub mod Visited

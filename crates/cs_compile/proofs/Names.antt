@@ -1,6 +1,6 @@
 -- Definitions that are put under their names, one after the other.
-use Rattle.std.proofs.Common.{◌≡◌, ℕ, suc, zero, ◌+◌, ◌<◌, List, [], ◌∷◌, take, length, Bool, true, false, ◌||◌, Option, Some, None, is_some, Ordering, Less, Equal, Greater, String, Global, string_bytes, string_cmp, nat_cmp, bytes_eq, cond, add-one, refl, sym, ap, ap₂, ◌∙◌, subst, if◌then◌else◌, arith}
-use Rattle.std.specs.Prelude.{option_map, slice_get, ◌==◌, ◌≢◌}
+use Rattle.std.proofs.Common.{◌≡◌, ℕ, suc, zero, ◌+◌, ◌<◌, List, [], ◌∷◌, take, length, Bool, true, false, ◌||◌, Option, Some, None, is_some, Ordering, Less, Equal, Greater, String, Global, string_bytes, string_cmp, nat_cmp, bytes_eq, cond, add-one, refl, sym, ap, ◌∙◌, if◌then◌else◌, arith}
+use Rattle.std.specs.Prelude.{option_map, ◌==◌, ◌≢◌}
 use Rattle.std.proofs.Math.Bool.{or-true, or-false}
 use Rattle.std.proofs.lemmas.Bool.Decides.{nat_tests}
 use Rattle.std.proofs.lemmas.List.{take_all}
@@ -9,14 +9,13 @@ use Rattle.std.specs.Cmp.Lexicographic.{slice_cmp}
 use Rattle.std.specs.BTreeMap.{insert_entry}
 use Rattle.std.proofs.lemmas.Map.Text.{is_eq-slice_cmp}
 use Rattle.std.proofs.lemmas.Slice.Eq.{bytes_eq-Decides}
-use Rattle.cs_doc.specs.Document.{Document, Members, no_members, member, Entry, entries, under, put}
+use Rattle.cs_doc.specs.Document.{Document, Members, no_members, member, entries, under, put}
 use Rattle.cs_doc.specs.View.{members_of}
 use Rattle.cs_resolve.specs.Expression.{Expression}
-use Rattle.cs_resolve.specs.Environment.{Environment, bodies, name_at, bodies_at}
+use Rattle.cs_resolve.specs.Environment.{Environment, bodies, name_at}
 use Rattle.cs_schema.specs.SchemaDocument.{schema_view, definitions_view}
 use Rattle.cs_schema.specs.declared.schema.Schema.{Schema}
 use Rattle.cs_compile.specs.Translation.{definition_schema, bare_name}
-use Rattle.cs_compile.specs.Whole.{definition_entries}
 
 bare_already : (bs : List ℕ) → ((rest : List ℕ) → bs ≢ 35 ∷ rest) → bs ≡ bare_name bs
 bare_already [] h = refl

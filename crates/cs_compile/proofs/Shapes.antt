@@ -1,12 +1,11 @@
 -- The expressions that shapes stand for have forms that are taken.
-use Rattle.std.proofs.Common.{◌≡◌, ℕ, List, [], ◌∷◌, map, Vec, Global, sym, ap, ◌∙◌, subst}
+use Rattle.std.proofs.Common.{List, [], ◌∷◌, map, sym, ap, ◌∙◌, subst}
 use Rattle.cs_resolve.specs.Expression.{Expression}
 use Rattle.cs_resolve.specs.View.{expression_of, expressions_of, shape_step}
 use Rattle.cs_resolve.specs.declared.shape.Shape.{Shape, map-Shape}
 use Rattle.cs_resolve.specs.declared.shape.Shape.TheOpen.{Shape-F}
-use Rattle.cs_resolve.specs.declared.shape.Shape.TheFolds.{fold-Shape, fold-roll-Shape, ind-Shape}
-use Rattle.cs_compile.specs.Translation.{IsTaken, AreTaken}
-use Rattle.cs_compile.proofs.Agreement.{AllTaken}
+use Rattle.cs_resolve.specs.declared.shape.Shape.TheFolds.{fold-roll-Shape, ind-Shape}
+use Rattle.cs_compile.specs.Translation.{IsTaken, AreTaken, AllTaken}
 
 abbrev Checked : Type 0
 Checked = (s : Shape) × IsTaken (expression_of s)

@@ -72,6 +72,10 @@ abbrev mutual
   AreTaken cue.no_expressions = Unit {0}
   AreTaken (cue.expression e es) = IsTaken e × AreTaken es
 
+abbrev pub AllTaken : List Expression → Type 0
+AllTaken [] = Unit {0}
+AllTaken (e ∷ es) = IsTaken e × AllTaken es
+
 -- a name without the `#` that CUE writes before it
 abbrev pub bare_name : List ℕ → List ℕ
 bare_name [] = []

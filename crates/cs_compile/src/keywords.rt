@@ -2,7 +2,7 @@
 ghost use Rattle.std.specs.Prelude.{◌≡◌, [], ◌∷◌, Some, IfOk, IsOkUnless, codes};
 ghost use Rattle.cs_doc.specs.Document.{text, integer, list, object};
 ghost use Rattle.cs_doc.specs.View.{doc_view, documents_of};
-ghost use Rattle.cs_schema.specs.SchemaDocument.{schema_view, schemas_view, kind_name, slots_of, present, unless_no_list};
+ghost use Rattle.cs_schema.specs.SchemaDocument.{schema_view, schemas_view, kind_name, reference_document, slots_of, present, unless_no_list};
 ghost use Rattle.cs_schema.specs.Reading.{set_slot};
 ghost use Rattle.cs_compile.specs.Translation.{all_of};
 
@@ -25,6 +25,16 @@ pub(crate) fn with_constant(keywords: Keywords, value: Doc) -> Keywords
 {
     Keywords {
         equal: Some(value),
+        ..keywords
+    }
+}
+
+/// The keywords with `$ref`.
+pub(crate) fn with_reference(keywords: Keywords, name: String) -> Keywords
+    ensures { slots_of result ≡ set_slot (codes "$ref") (Some (reference_document name)) (slots_of keywords) }
+{
+    Keywords {
+        reference: Some(name),
         ..keywords
     }
 }

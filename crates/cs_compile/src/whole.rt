@@ -1,11 +1,14 @@
 // The schema of a package.
-ghost use Rattle.std.specs.Prelude.{◌≡◌, ℕ, List, IfOk, IsOkUnless, option_map};
+ghost use Rattle.std.specs.Prelude.{◌≡◌, ℕ, List, IfOk, IsErrOf, IsOkUnless, option_map};
 ghost use Rattle.cs_doc.specs.Document.{under};
-ghost use Rattle.cs_resolve.specs.Environment.{bodies};
+ghost use Rattle.cs_doc.specs.View.{members_of};
+ghost use Rattle.cs_resolve.specs.Environment.{bodies, Names};
+ghost use Rattle.cs_schema.specs.SchemaDocument.{schema_view, definitions_view};
 ghost use Rattle.cs_compile.specs.Translation.{definition_schema, bare_name};
-ghost use Rattle.cs_compile.specs.Whole.{definition_entries};
+ghost use Rattle.cs_compile.specs.Whole.{Compiles, reference_to, definition_entries, AreDefinitions};
 
 use crate::CompileFault;
+use crate::keywords::{object, with_reference};
 use crate::translate::definition_schema;
 use cs_guard::Guarded;
 use cs_resolve::Package;
@@ -14,30 +17,39 @@ use std::alloc::Global;
 use std::collections::BTreeMap;
 
 /// The schema of a root definition, named with its `#`: the root is a `$ref` to its schema, and `$defs`
-/// has the schemas of all definitions of the package.
+/// has the schemas of all definitions of the package. It validates just the instances of the root.
 ///
 /// `UnknownRoot` where the package has no such definition.
-pub fn compile(alloc: Global, package: &Guarded, root: &str) -> Result<SchemaDoc, CompileFault> {
+pub fn compile(alloc: Global, package: &Guarded, root: &str) -> Result<SchemaDoc, CompileFault>
+    ensures found { IfOk result (λ s. (n : List ℕ) × Names «package».now root.now n × Compiles «package».now n s) }
+    ensures unknown { IsErrOf result CompileFault.UnknownRoot → (n : List ℕ) → ¬ Names «package».now root.now n }
+{
     let package = package.package();
     let Some(number) = package.find(root) else {
         return Err(CompileFault::UnknownRoot);
     };
     let definitions = definitions(alloc, package)?;
-    let keywords = Keywords {
-        reference: Some(String::from_str(alloc, bare_name(package.name(number)))?),
-        ..Keywords::empty(alloc)
-    };
-    let root = Schema::Object(Box::new(alloc, keywords)?);
+    let root = reference(alloc, bare_name(package.name(number)))?;
     match SchemaDoc::new(alloc, root, definitions) {
         Ok(schema) => Ok(schema),
         Err(_) => Err(CompileFault::OutOfMemory),
     }
 }
 
+/// The schema that refers to a definition.
+fn reference(alloc: Global, name: &str) -> Result<Schema, CompileFault>
+    ensures value { IfOk result (λ s. schema_view s ≡ reference_to name.now) }
+    ensures memory { IsOkUnless result CompileFault.OutOfMemory }
+{
+    let name = String::from_str(alloc, name)?;
+    object(alloc, with_reference(Keywords::empty(alloc), name))
+}
+
 /// The schema of each definition, by its name.
 fn definitions(alloc: Global, package: &Package) -> Result<BTreeMap<String, Schema>, CompileFault>
     ensures each { IfOk result (λ m. (n : List ℕ) → under n (definition_entries m.entries)
         ≡ option_map definition_schema (bodies «package».now n)) }
+    ensures alone { IfOk result (λ m. AreDefinitions «package».now (members_of (definitions_view m.entries))) }
     ensures memory { IsOkUnless result CompileFault.OutOfMemory }
 {
     let mut schemas = BTreeMap::new(alloc);

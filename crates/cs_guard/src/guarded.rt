@@ -54,7 +54,7 @@ impl Guarded {
 
 /// The package, where its recursion is guarded.
 pub fn guard(alloc: Global, package: Package) -> Result<Guarded, GuardFault>
-    ensures kept { IfOk result (λ g. g ≡ «package») }
+    ensures found { IfOk result (λ g. (g ≡ «package») × IsGuarded «package») }
     ensures only { IsOkUnless result GuardFault.OutOfMemory }
 {
     let count = package.count();

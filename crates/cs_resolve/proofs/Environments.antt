@@ -1,5 +1,5 @@
 -- Environments, place by place and name by name.
-use Rattle.std.proofs.Common.{◌≡◌, ℕ, zero, suc, ◌<◌, Bool, true, false, cond, List, [], ◌∷◌, map, zip, length, min, Option, Some, None, is_some, option_map, slice_get, get_or, position, IfSome, IfNone, String, string_bytes, Vec, Global, refl, sym, ap, ap₂, ◌∙◌, subst, true≢false, arith}
+use Rattle.std.proofs.Common.{◌≡◌, ℕ, zero, suc, Bool, true, false, cond, List, [], ◌∷◌, map, length, Option, Some, None, is_some, option_map, slice_get, get_or, position, IfSome, IfNone, String, string_bytes, Vec, Global, refl, sym, ap, ◌∙◌, subst, true≢false, arith}
 use Rattle.std.specs.List.{IsDistinct, AllByRecursion}
 use Rattle.std.specs.Map.{keys_of, lookup}
 use Rattle.std.specs.Str.{bytes_eq}
@@ -9,16 +9,15 @@ use Rattle.std.proofs.lemmas.List.Quantifiers.{position-Some}
 use Rattle.std.proofs.lemmas.Map.Keys.{IsDistinct-head, IsDistinct-tail, IsDistinct-cons}
 use Rattle.std.proofs.lemmas.Option.{slice_get-map, slice_get-get_or, same_Some}
 use Rattle.std.proofs.lemmas.Slice.Eq.{bytes_eq-Decides}
-use Rattle.std.proofs.lemmas.Slice.Zip.{length-zip}
 use Rattle.cs_resolve.specs.Expression.{Expression}
-use Rattle.cs_resolve.specs.Environment.{Environment, bodies, name_at, bodies_at, written, Names}
+use Rattle.cs_resolve.specs.Environment.{Environment, bodies, name_at, bodies_at, written, Names, IsDefinitionName}
 use Rattle.cs_resolve.specs.View.{expression_of, names_of, bodies_of, environment_of, IsTable}
 use Rattle.cs_resolve.specs.declared.shape.Shape.{Shape}
 
 pub bytes_eq-refl : (t : List ℕ) → bytes_eq t t ≡ true
 bytes_eq-refl t = (bytes_eq-Decides t t).1 refl
 
-bytes_eq-flip : (s t : List ℕ) → bytes_eq s t ≡ false → bytes_eq t s ≡ false
+pub bytes_eq-flip : (s t : List ℕ) → bytes_eq s t ≡ false → bytes_eq t s ≡ false
 bytes_eq-flip s t e = by (bytes_eq t s) refl
   where
     by : (b : Bool) → bytes_eq t s ≡ b → b ≡ false
@@ -28,7 +27,7 @@ bytes_eq-flip s t e = by (bytes_eq t s) refl
 abbrev names : Environment → List (List ℕ)
 names E = map (λ d. d.0) E
 
-apart : (n m : List ℕ) (i : ℕ) (ns : List (List ℕ)) → AllByRecursion (λ y. bytes_eq n y ≡ false) ns → slice_get ns i ≡ Some m → bytes_eq n m ≡ false
+pub apart : (n m : List ℕ) (i : ℕ) (ns : List (List ℕ)) → AllByRecursion (λ y. bytes_eq n y ≡ false) ns → slice_get ns i ≡ Some m → bytes_eq n m ≡ false
 apart n m i [] h e = cc
 apart n m zero (x ∷ ns) h e = subst (λ y. bytes_eq n y ≡ false) (same_Some x m e) h.0
 apart n m (suc i) (x ∷ ns) h e = apart n m i ns h.1 e
@@ -81,15 +80,34 @@ written-insert (x ∷ es) k w h e = by (bytes_eq (string_bytes k) (string_bytes 
     by true q later = (e ∙ ap written ((bytes_eq-Decides (string_bytes k) (string_bytes x.0)).0 q), h.1)
     by false q later = (h.0, later)
 
+spelled-insert : (es : List (String Global × String Global)) (k w : String Global) → AllByRecursion (λ e. IsDefinitionName (string_bytes e.0)) es → IsDefinitionName (string_bytes k)
+    → AllByRecursion (λ e. IsDefinitionName (string_bytes e.0)) (insert_entry string_eq es k w)
+spelled-insert [] k w h e = (e, tt)
+spelled-insert (x ∷ es) k w h e = by (bytes_eq (string_bytes k) (string_bytes x.0)) (spelled-insert es k w h.1 e)
+  where
+    by : (b : Bool) → AllByRecursion (λ e. IsDefinitionName (string_bytes e.0)) (insert_entry string_eq es k w)
+        → AllByRecursion (λ e. IsDefinitionName (string_bytes e.0)) (cond b ((x.0, w) ∷ es) (x ∷ insert_entry string_eq es k w))
+    by true later = h
+    by false later = (h.0, later)
+
+-- the names of a table are names of definitions
+pub spelled-at : (es : List (String Global × String Global)) (i : ℕ) → AllByRecursion (λ e. IsDefinitionName (string_bytes e.0)) es → IfSome (slice_get (names_of es) i) IsDefinitionName
+spelled-at [] i h = tt
+spelled-at (x ∷ es) zero h = h.0
+spelled-at (x ∷ es) (suc i) h = spelled-at es i h.1
+
 -- no name
 pub table-empty : (es : List (String Global × String Global)) → es ≡ [] → IsTable es
-table-empty [] e = record { distinct = none-distinct; written = tt }
+table-empty [] e = record { distinct = none-distinct; written = tt; spelled = tt }
 table-empty (x ∷ es) e = cc
 
 -- a name put into a table
-pub table-insert : (es new : List (String Global × String Global)) (k w : String Global) → IsTable es → string_bytes w ≡ written (string_bytes k) → new ≡ insert_entry string_eq es k w → IsDistinct string_eq (keys_of new) → IsTable new
-table-insert es new k w t e is d =
-    record { distinct = names-distinct (keys_of new) d; written = subst (AllByRecursion (λ x. string_bytes x.1 ≡ written (string_bytes x.0))) (sym is) (written-insert es k w t.written e) }
+pub table-insert : (es new : List (String Global × String Global)) (k w : String Global) → IsTable es → string_bytes w ≡ written (string_bytes k) → IsDefinitionName (string_bytes k) → new ≡ insert_entry string_eq es k w → IsDistinct string_eq (keys_of new) → IsTable new
+table-insert es new k w t e s is d = record {
+  distinct = names-distinct (keys_of new) d;
+  written = subst (AllByRecursion (λ x. string_bytes x.1 ≡ written (string_bytes x.0))) (sym is) (written-insert es k w t.written e);
+  spelled = subst (AllByRecursion (λ x. IsDefinitionName (string_bytes x.0))) (sym is) (spelled-insert es k w t.spelled s);
+}
 
 module _ {V : Type 0} where
   -- a name is declared just where the table has it

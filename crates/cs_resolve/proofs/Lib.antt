@@ -7,3 +7,6 @@ pub mod RepeatTables
 pub mod OpeningRule
 pub mod Sums
 pub mod Order
+pub mod Faults
+pub mod Gathered
+pub mod Spellings

@@ -1,12 +1,12 @@
 -- No literal is at fault just where each conjunction keeps the rule.
-use Rattle.std.proofs.Common.{◌≡◌, ℕ, suc, ◌+◌, ◌<◌, ◌≤◌, Bool, true, false, ◌||◌, ◌⊎◌, ◌↔◌, List, [], ◌∷◌, ◌++◌, map, filter, count_by, nat_lt, cond, inl, inr, refl, sym, ap, ◌∙◌, subst, arith}
+use Rattle.std.proofs.Common.{◌≡◌, ℕ, suc, ◌<◌, ◌≤◌, Bool, true, false, ◌||◌, ◌⊎◌, ◌↔◌, List, [], ◌∷◌, ◌++◌, map, filter, count_by, nat_lt, cond, inl, inr, refl, sym, ap, ◌∙◌, subst, arith}
 use Rattle.std.specs.List.{AllByRecursion, flat_map}
 use Rattle.std.specs.Str.{bytes_eq}
 use Rattle.std.proofs.lemmas.Bool.{cases_lt, lt-ltb, ltb-true, false≢true, or_cases, or_left, or_right}
 use Rattle.std.proofs.lemmas.Grind.{flat_map-append}
 use Rattle.std.proofs.lemmas.Slice.Eq.{bytes_eq-Decides}
-use Rattle.cs_syntax.specs.Tree.{Label, Tree, reference, meet, join, paren, struct, list, Trees, none, more, Fields, no_field, field, End, closed, any, each, DefinitionTree, defined_name, body, FileTree, definitions}
-use Rattle.cs_resolve.specs.Opening.{holds, Literal, literals, literals_all, literals_in, literals_end, operands, Named, named_fields, named_bodies, values, values_of_each, conjunctions, conjunctions_all, conjunctions_in, conjunctions_end, all_conjunctions, KeepsRule, IsOpened, asks, at_fault, unopened, unopened_all, unopened_in, unopened_end, unopened_definitions, unopened_from, unopened_files}
+use Rattle.cs_syntax.specs.Tree.{Tree, meet, join, paren, struct, list, Trees, none, more, Fields, no_field, field, End, closed, any, each, DefinitionTree, defined_name, body, FileTree, definitions}
+use Rattle.cs_resolve.specs.Opening.{holds, Literal, literals, literals_all, literals_in, literals_end, operands, Named, named_fields, named_bodies, values, values_of_each, conjunctions, conjunctions_all, conjunctions_in, conjunctions_end, KeepsRule, IsOpened, asks, at_fault, unopened, unopened_all, unopened_in, unopened_end, unopened_definitions, unopened_from, unopened_files}
 use Rattle.cs_resolve.proofs.Refusals.{nil_left, nil_right}
 
 abbrev IsOpen : Literal → Type 0

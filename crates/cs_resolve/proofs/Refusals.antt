@@ -1,5 +1,5 @@
 -- The first of the faults of several parts.
-use Rattle.std.proofs.Common.{◌≡◌, ℕ, suc, ◌+◌, ◌<◌, List, [], ◌∷◌, ◌++◌, ◌⊎◌, Option, Some, None, option_map, slice_get, map, drop, length, get_or, inl, inr, refl, sym, ap, ◌∙◌, subst, add-one}
+use Rattle.std.proofs.Common.{◌≡◌, ℕ, suc, ◌+◌, ◌<◌, List, [], ◌∷◌, ◌++◌, map, drop, length, get_or, inl, inr, refl, sym, ap, ◌∙◌, subst, add-one}
 use Rattle.std.proofs.Math.Seq.{drop-cons}
 use Rattle.cs_resolve.specs.Checks.{Refuses}
 use Rattle.cs_resolve.specs.declared.fault.ResolveFault.{ResolveFault}
@@ -32,7 +32,7 @@ module _ {X : Type 0} where
 
 -- F gathers the faults of a list, part by part
 module _ {A X : Type 0} (F : List A → List X) (h : A → List X) (parts : (a : A) (rest : List A) → F (a ∷ rest) ≡ h a ++ F rest) where
-  cut : (xs : List A) (i : ℕ) (a : A) → i < length xs → a ≡ get_or xs i a → F xs ≡ F (drop i xs) → F xs ≡ h a ++ F (drop (i + 1) xs)
+  pub cut : (xs : List A) (i : ℕ) (a : A) → i < length xs → a ≡ get_or xs i a → F xs ≡ F (drop i xs) → F xs ≡ h a ++ F (drop (i + 1) xs)
   cut xs i a l is all = all ∙ ap F (at_place xs i a l is) ∙ parts a (drop (i + 1) xs)
 
   -- one part more has none

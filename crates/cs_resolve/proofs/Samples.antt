@@ -1,7 +1,7 @@
 -- Samples, worked by the definitions.
-use Rattle.std.proofs.Common.{◌≡◌, ℕ, Bool, true, false, List, [], ◌∷◌, pos, codes, refl}
-use Rattle.cs_syntax.specs.Tree.{Label, Tree, top, bottom, integer, named, reference, meet, join, paren, struct, list, Trees, none, more, Fields, no_field, field, End, closed, any, each, DefinitionTree, definition, FileTree, file}
-use Rattle.cs_syntax.specs.declared.ast.FieldMark.TheVariants.{Regular, Optional, Required}
+use Rattle.std.proofs.Common.{◌≡◌, ℕ, true, false, List, [], ◌∷◌, pos, codes, refl}
+use Rattle.cs_syntax.specs.Tree.{Label, top, bottom, integer, named, reference, meet, paren, struct, list, none, more, Fields, no_field, field, any, each, definition, file}
+use Rattle.cs_syntax.specs.declared.ast.FieldMark.TheVariants.{Regular, Optional}
 use Rattle.cs_resolve.specs.Opening.{unopened, unopened_files}
 use Rattle.cs_resolve.specs.Size.{nodes}
 use Rattle.cs_resolve.specs.Scopes.{places, faults, unknown, of_field}

@@ -1,10 +1,10 @@
 -- Expressions and their trees, level by level.
-use Rattle.std.proofs.Common.{◌≡◌, ℕ, ◌+◌, ◌<◌, Bool, List, [], ◌∷◌, ◌++◌, map, length, take, get_or, Vec, Global, rules, string_bytes, String, refl, sym, ap, ◌∙◌}
+use Rattle.std.proofs.Common.{◌≡◌, ℕ, ◌+◌, ◌<◌, Bool, List, [], ◌∷◌, ◌++◌, map, length, take, get_or, Vec, Global, rules, string_bytes, String, refl, sym, ap, ◌∙◌, subst, arith}
 use Rattle.std.proofs.lemmas.List.{take_more}
 use Rattle.cs_syntax.specs.declared.ast.Definition.{Definition}
 use Rattle.cs_syntax.specs.declared.ast.File.{File}
-use Rattle.std.specs.List.{flat_map}
-use Rattle.std.proofs.lemmas.List.{map-append, append_assoc, append-nil}
+use Rattle.std.specs.List.{All, flat_map}
+use Rattle.std.proofs.lemmas.List.{map-append, append_assoc, append-nil, get_or-map, length-map}
 use Rattle.std.proofs.lemmas.Grind.{flat_map-append}
 use Rattle.cs_resolve.specs.Opening.{Named, named_fields, named_bodies, operands}
 use Rattle.cs_syntax.specs.Tree as T
@@ -61,11 +61,26 @@ bodies_more ns ds i d l is t same =
     ∙ sym (append_assoc ns (named_bodies (map definition_view (take i ds))) (record { name = string_bytes d.name; value = expr_view d.body } ∷ []))
     ∙ ap (λ s. (ns ++ named_bodies (map definition_view (take i ds))) ++ record { name = s; value = expr_view d.body } ∷ []) (sym same)
 
+-- the definitions of files, and of one more
+pub definitions_more : (fs : List File) (i : ℕ) (f : File) → i < length fs → f ≡ get_or fs i f → flat_map T.definitions (map file_view (take (i + 1) fs)) ≡ flat_map T.definitions (map file_view (take i fs)) ++ map definition_view f.definitions.items
+definitions_more fs i f l is =
+    ap (λ gs. flat_map T.definitions (map file_view gs)) (take_at fs i f l is)
+    ∙ ap (flat_map T.definitions) (map-append file_view (take i fs) (f ∷ []))
+    ∙ flat_map-append T.definitions (map file_view (take i fs)) (file_view f ∷ [])
+    ∙ ap (λ ds. flat_map T.definitions (map file_view (take i fs)) ++ ds) (append-nil (map definition_view f.definitions.items))
+
 -- the bodies of files, and of one more
 pub files_more : (fs : List File) (i : ℕ) (f : File) → i < length fs → f ≡ get_or fs i f → named_bodies (flat_map T.definitions (map file_view (take (i + 1) fs))) ≡ named_bodies (flat_map T.definitions (map file_view (take i fs))) ++ named_bodies (map definition_view f.definitions.items)
 files_more fs i f l is =
-    ap (λ gs. named_bodies (flat_map T.definitions (map file_view gs))) (take_at fs i f l is)
-    ∙ ap (λ gs. named_bodies (flat_map T.definitions gs)) (map-append file_view (take i fs) (f ∷ []))
-    ∙ ap named_bodies (flat_map-append T.definitions (map file_view (take i fs)) (file_view f ∷ []))
-    ∙ ap (λ ds. named_bodies (flat_map T.definitions (map file_view (take i fs)) ++ ds)) (append-nil (map definition_view f.definitions.items))
+    ap named_bodies (definitions_more fs i f l is)
     ∙ map-append (λ (e : T.DefinitionTree). record { name = T.defined_name e; value = T.body e }) (flat_map T.definitions (map file_view (take i fs))) (map definition_view f.definitions.items)
+
+-- what f gives for the first of a list, and for one more
+pub map_more : {X Y : Type 0} (f : X → Y) (xs : List X) (i : ℕ) (x : X) → i < length xs → x ≡ get_or xs i x → map f (take (i + 1) xs) ≡ map f (take i xs) ++ f x ∷ []
+map_more f xs i x l is = ap (map f) (take_at xs i x l is) ∙ map-append f (take i xs) (x ∷ [])
+
+-- what holds of all that f gives holds of what it gives at a place
+pub mapped_at : {X Y : Type 0} (P : Y → Type 0) (f : X → Y) (xs : List X) (i : ℕ) (x : X) → i < length xs → x ≡ get_or xs i x → All P (map f xs) → P (f x)
+mapped_at P f xs i x l is h =
+    let there = length-map xs f in
+    subst P (get_or-map f xs i x (f x) l ∙ ap f (sym is)) (h i (f x) (omega arith))

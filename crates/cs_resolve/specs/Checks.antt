@@ -1,5 +1,5 @@
 -- What the checks of a package answer.
-use Rattle.std.specs.Prelude.{◌≡◌, ℕ, ◌<◌, Bool, ◌⊎◌, List, [], Option, Some, Result, Ok, Err, MatchOption, count_by, nat_lt, slice_get}
+use Rattle.std.specs.Prelude.{◌≡◌, ℕ, ◌<◌, Bool, ◌⊎◌, List, [], Some, Result, Ok, Err, MatchOption, count_by, nat_lt, slice_get}
 use Rattle.std.specs.Borrow.{Bor}
 use Rattle.std.specs.HashMap.{HashMap, get_by}
 use Rattle.std.specs.Option.{option_map}

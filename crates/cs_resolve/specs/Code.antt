@@ -1,5 +1,5 @@
 -- A code for environments, by which a proof tells two of them apart. It says nothing of CUE.
-use Rattle.std.specs.Prelude.{◌≡◌, ℕ, ℤ, Option, List, [], ◌∷◌, refl}
+use Rattle.std.specs.Prelude.{◌≡◌, ℕ, ℤ, Option, List, refl}
 use Rattle.std.proofs.Common.{ap, ap₂, arith}
 use Rattle.std.specs.Coded.{Coded, coded×, coded_ℕ, coded_ℤ, coded_bool, coded_list, coded_option}
 use base.Stored.{Gv, gnil, gnum, gcons}

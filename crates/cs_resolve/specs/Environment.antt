@@ -1,7 +1,8 @@
 -- The definitions of a package, by name (CUE language specification, "Definitions and hidden fields").
-use Rattle.std.specs.Prelude.{◌≡◌, ℕ, List, [], ◌∷◌, ◌++◌, Option, Some, None, IsSome, codes, slice_get, if◌then◌else◌}
+use Rattle.std.specs.Prelude.{◌≡◌, ℕ, List, [], ◌∷◌, ◌++◌, Option, Some, None, IsSome, IsTrue, codes, slice_get, if◌then◌else◌}
 use Rattle.std.specs.Option.{option_map}
 use Rattle.std.specs.Str.{bytes_eq}
+use Rattle.cs_syntax.specs.Spelling.{is_definition_rest}
 use Rattle.cs_resolve.specs.Expression.{Expression}
 
 -- each declared name, without `#`, with all its bodies, in order of first declaration
@@ -19,6 +20,10 @@ name_at E i = option_map (λ d. d.0) (slice_get E i)
 
 abbrev pub bodies_at : Environment → ℕ → Option (List Expression)
 bodies_at E i = option_map (λ d. d.1) (slice_get E i)
+
+-- a letter or `_`, then letters, digits and `_`
+abbrev pub IsDefinitionName : List ℕ → Type 0
+IsDefinitionName n = IsTrue (is_definition_rest n)
 
 -- a name as CUE writes it
 abbrev pub written : List ℕ → List ℕ

@@ -1,11 +1,14 @@
 pub mod Expression
 pub mod Predeclared
 pub mod Environment
+pub mod Height
 pub mod View
 pub mod Code
 pub mod Opening
 pub mod Size
 pub mod Scopes
 pub mod Declarations
+pub mod Resolved
 pub mod PackageName
 pub mod Checks
+pub mod Steps

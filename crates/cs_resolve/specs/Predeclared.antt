@@ -1,5 +1,5 @@
 -- The predeclared names (CUE language specification, "Predeclared identifiers"; this profile has these alone).
-use Rattle.std.specs.Prelude.{ℕ, ℤ, pos, neg_ℤ, List, [], ◌∷◌, Option, Some, None, codes, if◌then◌else◌}
+use Rattle.std.specs.Prelude.{ℕ, pos, neg_ℤ, List, [], ◌∷◌, Option, Some, None, codes, if◌then◌else◌}
 use Rattle.std.specs.Str.{bytes_eq}
 use Rattle.cs_resolve.specs.Expression.{Expression, kind, range, int, number, string, bool}
 

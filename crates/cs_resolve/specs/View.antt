@@ -6,7 +6,7 @@ use Rattle.std.specs.declared.alloc.Global.{Global}
 use Rattle.std.specs.Map.{keys_of}
 use Rattle.cs_resolve.specs.Expression as cue
 use Rattle.cs_resolve.specs.Expression.{Expression, Expressions}
-use Rattle.cs_resolve.specs.Environment.{Environment, written}
+use Rattle.cs_resolve.specs.Environment.{Environment, IsDefinitionName, written}
 use Rattle.cs_resolve.specs.declared.shape.Kind.{Kind}
 use Rattle.cs_resolve.specs.declared.shape.Kind.TheVariants as kinds
 use Rattle.cs_resolve.specs.declared.shape.Shape.{Shape, fold-Shape}
@@ -52,10 +52,11 @@ bodies_of vs = map (λ v. map expression_of v.items) vs
 abbrev pub environment_of : {V : Type 0} → List (String Global × V) → List (Vec Shape Global) → Environment
 environment_of es vs = zip (names_of es) (bodies_of vs)
 
--- a table of names: each stands once, beside itself as CUE writes it
+-- a table of names: each is the name of a definition, and stands once, beside itself as CUE writes it
 pub record IsTable (es : List (String Global × String Global)) : Type 0 where
   pub distinct : IsDistinct bytes_eq (names_of es)
   pub written : AllByRecursion (λ e. string_bytes e.1 ≡ written (string_bytes e.0)) es
+  pub spelled : AllByRecursion (λ e. IsDefinitionName (string_bytes e.0)) es
 
 -- what every package keeps: its names are a table, and each has its bodies
 pub record IsWhole (es : List (String Global × String Global)) (vs : List (Vec Shape Global)) : Type 0 where

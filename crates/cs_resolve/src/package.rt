@@ -1,6 +1,6 @@
 // A package: its definitions, each with its bodies.
 ghost use Rattle.std.specs.Prelude.{◌≡◌, ◌<◌, length, map, Some, None, IfSome, IfNone, List, ℕ};
-ghost use Rattle.cs_resolve.specs.Environment.{bodies, name_at, bodies_at, written, Names};
+ghost use Rattle.cs_resolve.specs.Environment.{bodies, name_at, bodies_at, written, Names, IsDefinitionName};
 
 use crate::Shape;
 use indexmap::IndexMap;
@@ -58,10 +58,11 @@ impl Package {
         self.names.get_index_of(name.strip_prefix("#")?)
     }
 
-    /// The name of a definition, with its `#`.
+    /// The name of a definition, with its `#`: behind that a letter or `_`, then letters, digits and `_`.
     pub fn name(&self, i: usize) -> &str
         requires { i < length self.now }
-        ensures { IfSome (name_at self.now i) (λ n. result.now ≡ written n) }
+        ensures text { IfSome (name_at self.now i) (λ n. result.now ≡ written n) }
+        ensures spelled { IfSome (name_at self.now i) IsDefinitionName }
     {
         match self.names.get_index(i) {
             Some((_, written)) => written.as_str(),

@@ -1,7 +1,13 @@
 // From files to a package.
-ghost use Rattle.std.specs.Prelude.{◌≡◌, OnOk, IfOk, vec_len, length, string_bytes};
-ghost use Rattle.cs_resolve.specs.Environment.{written};
-ghost use Rattle.cs_resolve.specs.View.{IsTable};
+ghost use Rattle.std.specs.Prelude.{◌≡◌, ℕ, List, [], ◌∷◌, ◌++◌, map, length, replicate, string_bytes, OnOk, IfOk, IfErr};
+ghost use Rattle.std.specs.List.{All, flat_map};
+ghost use Rattle.cs_syntax.specs.Tree.{Tree, DefinitionTree, definition, defined_name, body, definitions};
+ghost use Rattle.cs_syntax.specs.View.{definition_view, file_view};
+ghost use Rattle.cs_resolve.specs.Declarations.{distinct, names, places_of, faults_of_files};
+ghost use Rattle.cs_resolve.specs.Environment.{written, IsDefinitionName};
+ghost use Rattle.cs_resolve.specs.Resolved.{environment_of_files, resolved, AreSpelled, AreTaken, IsRefusal, IsResolved, IsTaken};
+ghost use Rattle.cs_resolve.specs.Steps.{faults_in, gathered, Resolves};
+ghost use Rattle.cs_resolve.specs.View.{bodies_of, expression_of, names_of, IsTable};
 
 use crate::package::NameTable;
 use crate::shapes::shape_of;
@@ -10,19 +16,35 @@ use cs_syntax::{Definition, File};
 use indexmap::IndexMap;
 use std::alloc::Global;
 
-/// The package that the files declare.
+/// The package that the files declare: each name, in order of first declaration, with its bodies, by file and
+/// then by text (CUE, definitions).
 ///
-/// A refusal names the first fault, by file and then by offset.
-pub fn resolve(alloc: Global, files: Vec<File>) -> Result<Package, ResolveFault> {
+/// # Errors
+/// `UnknownName` at the first name that names nothing, by file and then by text; `NotTaken` at a form that is
+/// not taken yet.
+pub fn resolve(alloc: Global, files: Vec<File>) -> Result<Package, ResolveFault>
+    requires { AreSpelled (map file_view files.items) }
+    ensures found { IfOk result (λ p. p ≡ environment_of_files (map file_view files.items)) }
+    ensures resolved { OnOk result (IsResolved (map file_view files.items)) }
+    ensures refused { IfErr result (λ e. IsRefusal e (map file_view files.items)) }
+{
+    let names = declared_names(alloc, &files)?;
+    let bodies = declared_bodies(alloc, &names, &files)?;
+    Ok(Package::new(names, bodies))
+}
+
+/// The names that files declare.
+fn declared_names(alloc: Global, files: &Vec<File>) -> Result<NameTable, ResolveFault>
+    requires { AreSpelled (map file_view files.now.items) }
+    ensures table { IfOk result (λ t. IsTable t.entries) }
+    ensures found { IfOk result (λ t. names_of t.entries ≡ names (flat_map definitions (map file_view files.now.items))) }
+    ensures memory { IfErr result (λ e. e ≡ ResolveFault.OutOfMemory) }
+{
     let mut names = IndexMap::new(alloc);
-    for file in &files {
+    for file in files {
         add_names(alloc, &mut names, &file.definitions)?;
     }
-    let mut bodies = no_bodies(alloc, names.len())?;
-    for (number, file) in files.iter().enumerate() {
-        add_bodies(alloc, &names, &mut bodies, number, &file.definitions)?;
-    }
-    Ok(Package::new(names, bodies))
+    Ok(names)
 }
 
 /// Adds the names that a file declares and that are not there yet.
@@ -31,8 +53,12 @@ fn add_names(
     names: &mut NameTable,
     definitions: &Vec<Definition>,
 ) -> Result<(), ResolveFault>
-    requires { IsTable names.old.entries }
-    ensures { OnOk result (IsTable names.new.entries) }
+    requires table { IsTable names.old.entries }
+    requires spelled { All (λ d. IsDefinitionName (defined_name d)) (map definition_view definitions.now.items) }
+    ensures table { OnOk result (IsTable names.new.entries) }
+    ensures added { OnOk result ((ns : List (List ℕ)) → names_of names.old.entries ≡ distinct ns
+        → names_of names.new.entries ≡ distinct (ns ++ map defined_name (map definition_view definitions.now.items))) }
+    ensures memory { IfErr result (λ e. e ≡ ResolveFault.OutOfMemory) }
 {
     for definition in definitions {
         let name = definition.name.clone()?;
@@ -44,16 +70,37 @@ fn add_names(
 
 /// A name as it is written, with `#`.
 fn written_name(alloc: Global, name: &String) -> Result<String, ResolveFault>
-    ensures { IfOk result (λ w. string_bytes w ≡ written (string_bytes name.now)) }
+    ensures text { IfOk result (λ w. string_bytes w ≡ written (string_bytes name.now)) }
+    ensures memory { IfErr result (λ e. e ≡ ResolveFault.OutOfMemory) }
 {
     let mut written = String::from_str(alloc, "#")?;
     written.push_str(name.as_str())?;
     Ok(written)
 }
 
+/// The bodies that files declare, those of each name at its place.
+fn declared_bodies(
+    alloc: Global,
+    names: &NameTable,
+    files: &Vec<File>,
+) -> Result<Vec<Vec<Shape>>, ResolveFault>
+    requires { IsTable names.now.entries }
+    ensures { Resolves result
+        (λ v. bodies_of v.items ≡ gathered (names_of names.now.entries) (flat_map definitions (map file_view files.now.items)))
+        (faults_of_files (map file_view files.now.items))
+        (AreTaken (map file_view files.now.items)) }
+{
+    let mut bodies = no_bodies(alloc, names.len())?;
+    for (number, file) in files.iter().enumerate() {
+        add_bodies(alloc, names, &mut bodies, number, &file.definitions)?;
+    }
+    Ok(bodies)
+}
+
 /// An empty list of bodies for each of so many names.
 fn no_bodies(alloc: Global, count: usize) -> Result<Vec<Vec<Shape>>, ResolveFault>
-    ensures { IfOk result (λ v. length v.items ≡ count) }
+    ensures empty { IfOk result (λ v. bodies_of v.items ≡ replicate count []) }
+    ensures memory { IfErr result (λ e. e ≡ ResolveFault.OutOfMemory) }
 {
     let mut bodies = Vec::with_capacity(alloc, count)?;
     for _ in 0..count {
@@ -70,8 +117,15 @@ fn add_bodies(
     file: usize,
     definitions: &Vec<Definition>,
 ) -> Result<(), ResolveFault>
-    requires { length names.now.entries ≡ length bodies.old.items }
-    ensures { length bodies.new.items ≡ length bodies.old.items }
+    requires table { IsTable names.now.entries }
+    requires long { length names.now.entries ≡ length bodies.old.items }
+    ensures long { length bodies.new.items ≡ length bodies.old.items }
+    ensures added { OnOk result ((ds : List DefinitionTree)
+        → bodies_of bodies.old.items ≡ gathered (names_of names.now.entries) ds
+        → bodies_of bodies.new.items ≡ gathered (names_of names.now.entries) (ds ++ map definition_view definitions.now.items)) }
+    ensures faults { (ns : List (List ℕ)) → Resolves result (λ _. Unit {0})
+        (faults_in file ns (places_of (map definition_view definitions.now.items)))
+        (All (λ d. IsTaken (body d)) (map definition_view definitions.now.items)) }
 {
     for definition in definitions {
         let shape = shape_of(alloc, file, &definition.body)?;
@@ -80,19 +134,23 @@ fn add_bodies(
     Ok(())
 }
 
-/// Adds a body to those of a name.
+/// Adds a body to those of a name of the table.
 fn add_body(
     names: &NameTable,
     bodies: &mut Vec<Vec<Shape>>,
     name: &str,
     shape: Shape,
 ) -> Result<(), ResolveFault>
-    requires { length names.now.entries ≡ length bodies.old.items }
-    ensures { length bodies.new.items ≡ length bodies.old.items }
+    requires table { IsTable names.now.entries }
+    requires long { length names.now.entries ≡ length bodies.old.items }
+    ensures long { length bodies.new.items ≡ length bodies.old.items }
+    ensures added { OnOk result ((ds : List DefinitionTree) (o : ℕ) (t : Tree)
+        → bodies_of bodies.old.items ≡ gathered (names_of names.now.entries) ds → expression_of shape ≡ resolved t
+        → bodies_of bodies.new.items ≡ gathered (names_of names.now.entries) (ds ++ definition name.now o t ∷ [])) }
+    ensures memory { IfErr result (λ e. e ≡ ResolveFault.OutOfMemory) }
 {
-    match names.get_index_of(name) {
-        Some(i) => bodies[i].push(shape)?,
-        None => {}
+    if let Some(i) = names.get_index_of(name) {
+        bodies[i].push(shape)?;
     }
     Ok(())
 }

@@ -2,10 +2,12 @@
 #![tactic(auto)]
 
 #[cfg(test)]
-mod commands;
-#[cfg(test)]
 mod examples;
 #[cfg(test)]
 mod layers;
 #[cfg(test)]
 mod refusals;
+#[cfg(test)]
+mod streams;
+#[cfg(test)]
+mod tables;

@@ -1,15 +1,14 @@
 -- Where no definition reaches itself directly, each chain of direct references comes to an end: a name that it
 -- goes through is not gone through again, and there are only so many.
-use Rattle.std.proofs.Common.{◌≡◌, ℕ, zero, suc, ◌<◌, ◌≤◌, Bool, true, false, ◌||◌, List, [], ◌∷◌, ◌++◌, length, Option, Some, None, codes, refl, sym, ap, subst, ◌∙◌, ◌⊎◌, inl, inr, arith, if◌then◌else◌}
-use Rattle.std.specs.Prelude.{IsTrue}
+use Rattle.std.proofs.Common.{◌≡◌, ℕ, zero, suc, ◌≤◌, Bool, true, false, ◌||◌, List, [], ◌∷◌, ◌++◌, length, Some, codes, refl, sym, ap, subst, ◌∙◌, ◌⊎◌, inl, inr, arith, if◌then◌else◌}
 use Rattle.std.specs.Option.{option_map_or}
 use Rattle.std.specs.Str.{bytes_eq}
 use Rattle.std.specs.List.{list_any}
 use Rattle.std.proofs.lemmas.Slice.Eq.{bytes_eq-Decides}
 use Rattle.cs_doc.specs.Document.{Document, Entry, under}
 use Rattle.cs_schema.specs.Keywords.{defined, listed_under, entries_of}
-use Rattle.cs_schema.specs.Loops.{direct_names, RefersDirectly, IsChain, IsLoop, NoLoop}
-use Rattle.cs_schema.proofs.Each.{Each, each_map}
+use Rattle.cs_schema.specs.Loops.{direct_names, RefersDirectly, IsChain, NoLoop}
+use Rattle.cs_schema.proofs.Each.{Each}
 
 -- each chain of direct references that begins at n goes through fewer than k definitions
 abbrev pub Short : Document → ℕ → List ℕ → Type 0

@@ -8,3 +8,10 @@ pub mod Rows
 pub mod Escapes
 pub mod Walks
 pub mod Slots
+pub mod Definitions
+pub mod Trimmed
+pub mod Writing
+pub mod Faultless
+pub mod Profiles
+pub mod Reader
+pub mod TrimLaw

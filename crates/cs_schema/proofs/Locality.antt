@@ -1,14 +1,14 @@
 -- What a schema asks rests on its parts alone.
-use Rattle.std.proofs.Common.{◌≡◌, ℕ, ℤ, Bool, true, false, not, ◌&&◌, ◌||◌, List, [], ◌∷◌, ◌++◌, Option, Some, None, refl, ap, ap₂, drop, map, if◌then◌else◌}
+use Rattle.std.proofs.Common.{◌≡◌, ℕ, Bool, true, false, not, ◌&&◌, ◌||◌, List, [], ◌∷◌, Option, Some, None, refl, ap, ap₂, drop, if◌then◌else◌}
 use Rattle.std.specs.Prelude.{option_to_list}
 use Rattle.std.specs.Option.{option_map_or}
 use Rattle.std.specs.Str.{bytes_eq}
-use Rattle.std.specs.List.{list_all, list_any, flat_map}
-use Rattle.cs_doc.specs.Document.{Document, null, boolean, integer, text, list, object, Documents, no_documents, document, Members, no_members, member, elements, entries, Entry, under}
-use Rattle.cs_doc.specs.Opened.{Opened, a_null, a_boolean, an_integer, a_text, a_list, an_object, opened}
-use Rattle.cs_schema.specs.Asked.{Assertion, nothing, valid_by, has_kind, equals, is_among, at_least, at_most, above, below, has_keys, at_keys, at_other_keys, in_front, behind, at_least_long, valid_by_all, valid_by_any, not_valid_by, Asked, always, never, conjunction}
+use Rattle.std.specs.List.{list_all, flat_map}
+use Rattle.cs_doc.specs.Document.{Document, null, boolean, integer, text, list, object, elements, entries, Entry, under}
+use Rattle.cs_doc.specs.Opened.{Opened, a_list, an_object, opened}
+use Rattle.cs_schema.specs.Asked.{Assertion, valid_by, at_keys, at_other_keys, in_front, behind, valid_by_all, valid_by_any, not_valid_by, Asked, always, never, conjunction}
 use Rattle.cs_schema.specs.Validity.{if_array, if_object, if_there, front_holds, holds, held}
-use Rattle.cs_schema.proofs.Each.{Each, each_map, each_drop, each_append, each_front, each_back, all_same, any_same}
+use Rattle.cs_schema.proofs.Each.{Each, each_map, each_drop, each_front, each_back, all_same, any_same}
 
 abbrev pub values : {A : Type 0} → List (Entry A) → List A
 values [] = []

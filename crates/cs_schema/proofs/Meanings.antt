@@ -1,14 +1,14 @@
 -- A schema document in which no definition reaches itself directly has one validity: by induction on the
 -- document, then on chains of direct references, then on the schema.
-use Rattle.std.proofs.Common.{◌≡◌, ℕ, zero, suc, Bool, true, false, List, [], ◌∷◌, ◌++◌, length, Option, Some, None, pos, refl, map}
+use Rattle.std.proofs.Common.{◌≡◌, ℕ, zero, suc, Bool, true, false, List, Option, Some, None, pos, refl, map}
 use Rattle.std.specs.Prelude.{option_to_list, option_and_then}
 use Rattle.std.specs.Option.{option_map_or}
 use Rattle.std.specs.List.{flat_map}
 use Rattle.cs_doc.specs.Document.{Document, null, boolean, integer, text, list, object, Documents, no_documents, document, Members, no_members, member, elements, entries, Entry, under}
 use Rattle.cs_doc.specs.Opened.{opened}
-use Rattle.cs_schema.specs.Keywords.{Keyword, Dialect, Definitions, Refers, HasType, Equals, OneOf, Minimum, Maximum, Above, Below, Requires, Properties, Additional, Prefix, Items, MinItems, AllOf, AnyOf, Not, Note, keywords, Kind, kinds, reference_start, text_after, elements_of, defined}
-use Rattle.cs_schema.specs.Asked.{nothing, has_kind, named, assertion, assertion_at, asked}
-use Rattle.cs_schema.specs.Validity.{held, IsValidity, OneMeaning}
+use Rattle.cs_schema.specs.Keywords.{Keyword, Refers, HasType, OneOf, Minimum, Maximum, Above, Below, Requires, Properties, Prefix, MinItems, AllOf, AnyOf, Not, keywords, Kind, kinds, reference_start, text_after, elements_of, defined}
+use Rattle.cs_schema.specs.Asked.{nothing, has_kind, assertion, assertion_at, asked}
+use Rattle.cs_schema.specs.Validity.{held, OneMeaning}
 use Rattle.cs_schema.specs.Loops.{name_in, by_keyword, direct_names, keyword_names, list_names, each_names, NoLoop}
 use Rattle.cs_schema.proofs.Each.{Each, each_of, each_append, each_front, each_back}
 use Rattle.cs_schema.proofs.Locality.{values, children, each_within, here_of, here_parts, inside_parts, held_same}

@@ -1,13 +1,13 @@
 -- A keyword set in its slot goes last, where the keywords that are present come before it.
-use Rattle.std.proofs.Common.{◌≡◌, ℕ, Bool, true, false, ◌||◌, List, [], ◌∷◌, Option, Some, None, Less, Greater, bytes_eq, codes, refl, sym, ap, ap₂, ◌∙◌, subst, if◌then◌else◌, rules}
+use Rattle.std.proofs.Common.{◌≡◌, ℕ, Bool, true, false, ◌||◌, List, [], ◌∷◌, Option, Some, None, Less, Greater, bytes_eq, refl, sym, ap, ◌∙◌, subst, rules}
 use Rattle.std.proofs.lemmas.Cmp.{nat_list_cmp_total}
 use Rattle.std.proofs.lemmas.Slice.Eq.{bytes_eq-Decides}
 use Rattle.std.specs.Cmp.Lexicographic.{slice_cmp}
 use Rattle.std.specs.Ordering.{nat_cmp, ordering_reverse}
-use Rattle.cs_doc.specs.Document.{Document, Members, no_members, member}
+use Rattle.cs_doc.specs.Document.{Document, no_members, member}
 use Rattle.cs_schema.specs.Trim.{with_member}
-use Rattle.cs_schema.specs.SchemaDocument.{Slot, present, slots_of}
-use Rattle.cs_schema.specs.Reading.{set_slot, set_found, found_name, found_value, IsFoundAt, slots}
+use Rattle.cs_schema.specs.SchemaDocument.{Slot, present}
+use Rattle.cs_schema.specs.Reading.{set_slot, set_found, found_value, IsFoundAt, slots}
 use Rattle.cs_schema.specs.declared.parts.Parts.{Parts}
 use Rattle.cs_schema.specs.declared.schema.Schema.{the_lemmas}
 use Rattle.cs_schema.specs.declared.parts.Found.{Found}

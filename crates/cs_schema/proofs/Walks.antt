@@ -1,17 +1,16 @@
 -- The walk and trimming, a part at a time.
-use Rattle.std.proofs.Common.{◌≡◌, ℕ, suc, Bool, true, false, List, [], ◌∷◌, ◌++◌, Option, Some, None, String, Global, string_bytes, string_cmp, Less, refl, ap, ap₂, ◌∙◌, length, subst, ◌==◌, map}
+use Rattle.std.proofs.Common.{◌≡◌, ℕ, Bool, true, false, List, [], ◌∷◌, ◌++◌, Option, Some, None, String, Global, string_bytes, string_cmp, Less, refl, ap, ◌∙◌, length, subst, ◌==◌, map}
 use Rattle.std.specs.List.{AllByRecursion}
 use Rattle.std.specs.List.Sorted.{IsStrictlySortedBy}
 use Rattle.std.specs.Map.{keys_of}
 use Rattle.std.specs.Cmp.Lexicographic.{slice_cmp}
 use Rattle.std.specs.Ordering.{nat_cmp}
-use Rattle.cs_doc.specs.Document.{Document, Documents, no_documents, document, Members, no_members, member, list}
+use Rattle.cs_doc.specs.Document.{Document, document, Members, no_members, member, list}
 use Rattle.cs_doc.specs.View.{doc_view, list_view, object_view, documents_of, members_of}
 use Rattle.cs_doc.specs.declared.doc.Doc.{Doc}
 use Rattle.cs_doc.proofs.Documents.{Entry}
-use Rattle.cs_schema.specs.Profile.{Fault, Visit, first, or_else, fault_of, visits, member_visits, keyword_visits, element_visits, named_visits, value_fault, list_visits}
+use Rattle.cs_schema.specs.Profile.{Fault, Visit, first, or_else, fault_of, element_visits, value_fault, list_visits}
 use Rattle.cs_schema.specs.Shapes.{some_schemas}
-use Rattle.cs_schema.specs.Places.{at_key, at_index}
 use Rattle.cs_schema.specs.Trim.{trimmed, trimmed_members, trimmed_elements, trimmed_named, trimmed_value, with_member, trimmed_list}
 use Rattle.cs_schema.specs.SchemaDocument.{schema_view, schemas_view, definitions_view, unless_no_list, text_document}
 use Rattle.cs_schema.specs.Reading.{Refuses}

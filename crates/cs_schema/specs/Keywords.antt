@@ -1,8 +1,8 @@
 -- The keywords of a schema (JSON Schema Core 2020-12, sections 8 and 10; Validation 2020-12, sections 6 and 9).
-use Rattle.std.specs.Prelude.{ℕ, List, [], ◌∷◌, Bool, true, false, if◌then◌else◌, ◌==◌, Option, Some, None, codes}
+use Rattle.std.specs.Prelude.{ℕ, List, [], ◌∷◌, if◌then◌else◌, ◌==◌, Option, Some, None, codes}
 use Rattle.std.specs.Str.{bytes_eq}
 use Rattle.std.specs.List.{flat_map}
-use Rattle.cs_doc.specs.Document.{Document, null, boolean, integer, text, list, object, Entry, elements, entries, under}
+use Rattle.cs_doc.specs.Document.{Document, list, object, Entry, elements, entries, under}
 
 pub data Keyword : Type 0 where
   Dialect Definitions Refers HasType Equals OneOf Minimum Maximum Above Below Requires Properties Additional Prefix Items MinItems AllOf AnyOf Not Note : Keyword

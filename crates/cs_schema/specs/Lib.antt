@@ -7,4 +7,6 @@ pub mod Places
 pub mod Profile
 pub mod Trim
 pub mod SchemaDocument
+pub mod Refusal
 pub mod Reading
+pub mod Writing

@@ -1,9 +1,9 @@
 -- Definitions that reach themselves without going into a document (JSON Schema Core 2020-12, section 9.4.1).
-use Rattle.std.specs.Prelude.{ℕ, List, [], ◌∷◌, ◌++◌, Option, Some, None, option_to_list, IsTrue}
+use Rattle.std.specs.Prelude.{ℕ, List, [], ◌∷◌, ◌++◌, Option, Some, option_to_list, IsTrue}
 use Rattle.std.specs.Option.{option_map_or}
 use Rattle.std.specs.Str.{bytes_eq}
 use Rattle.std.specs.List.{list_any}
-use Rattle.cs_doc.specs.Document.{Document, null, boolean, integer, text, list, object, Documents, no_documents, document, Members, no_members, member, under}
+use Rattle.cs_doc.specs.Document.{Document, text, list, object, Documents, no_documents, document, Members, no_members, member, under}
 use Rattle.cs_schema.specs.Keywords.{Keyword, Refers, AllOf, AnyOf, Not, keywords, reference_start, text_after, defined}
 
 -- the name in the value of a `$ref`

@@ -1,11 +1,13 @@
 -- What the reader makes of a keyword, and where it puts it.
-use Rattle.std.specs.Prelude.{◌≡◌, ℕ, ℤ, Bool, List, [], ◌∷◌, Option, Some, None, codes, map, option_map, String, string_bytes, if◌then◌else◌}
+use Rattle.std.specs.Prelude.{◌≡◌, ℕ, List, [], ◌∷◌, Option, Some, None, codes, map, String, string_bytes, is_some, if◌then◌else◌}
 use Rattle.std.specs.Str.{bytes_eq}
-use Rattle.cs_doc.specs.Document.{Document, boolean, integer, text, list, object}
+use Rattle.cs_doc.specs.Document.{Document, integer, text, under}
 use Rattle.cs_doc.specs.View.{doc_view}
-use Rattle.cs_schema.specs.Shapes.{Row, row, the_dialect, a_reference, a_kind, anything, an_integer, some_schemas, named_schemas, kept, left_out, left_out_if_empty}
+use Rattle.cs_schema.specs.Shapes.{Row, the_dialect, a_reference, a_kind, anything, an_integer, some_schemas, named_schemas, kept, left_out, left_out_if_empty}
 use Rattle.cs_schema.specs.Profile.{Fault, unknown, misshapen, undefined}
-use Rattle.cs_schema.specs.SchemaDocument.{Slot, slots_of, kind_name, unless_no_list, unless_no_map, reference_document, schemas_view, definitions_view}
+use Rattle.cs_schema.specs.SchemaDocument.{Slot, slots_of, kind_name, unless_no_list, unless_no_map, reference_document, schema_view, schemas_view, definitions_view}
+use Rattle.cs_schema.specs.declared.schema.Schema.{Schema}
+use Rattle.std.specs.declared.alloc.Global.{Global}
 use Rattle.cs_schema.specs.declared.fault.SchemaFault.{SchemaFault}
 use Rattle.cs_schema.specs.declared.fault.SchemaFault.TheVariants as fault
 use Rattle.cs_schema.specs.declared.words.Word.{Word}
@@ -85,6 +87,11 @@ IsNoDefinitions _ = Unit {0}
 
 abbrev pub set_found : Found → List Slot → List Slot
 set_found f ss = set_slot (found_name f) (found_value f) ss
+
+-- the fault of a root that refers to what is not defined
+abbrev pub undefined_name : Option (String Global) → List (String Global × Schema) → Option Fault
+undefined_name None es = None
+undefined_name (Some s) es = if is_some (under (string_bytes s) (map (λ m. (string_bytes m.0, schema_view m.1)) es)) then None else Some (undefined [] (string_bytes s))
 
 -- the refusal names this fault; memory may run out at any time
 abbrev pub Refuses : SchemaFault → Option Fault → Type 0

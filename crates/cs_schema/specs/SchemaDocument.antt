@@ -1,10 +1,11 @@
 -- The document that a schema with its definitions stands for.
-use Rattle.std.specs.Prelude.{◌≡◌, ℕ, ℤ, Bool, true, false, List, [], ◌∷◌, ◌++◌, Option, Some, None, codes, map, option_map, String, string_bytes}
+use Rattle.std.specs.Prelude.{◌≡◌, ℕ, Bool, List, [], ◌∷◌, ◌++◌, Option, Some, None, codes, map, option_map, String, string_bytes}
 use Rattle.std.specs.declared.alloc.Global.{Global}
-use Rattle.cs_doc.specs.Document.{Document, null, boolean, integer, text, list, object, Members, no_members, member, Entry}
+use Rattle.cs_doc.specs.Document.{Document, boolean, integer, text, list, object, Members, no_members, Entry, under}
 use Rattle.cs_doc.specs.View.{doc_view, list_view, documents_of, members_of}
 use Rattle.cs_schema.specs.Keywords.{reference_start}
 use Rattle.cs_schema.specs.Trim.{with_member, with_dialect}
+use Rattle.cs_schema.specs.Profile.{IsSchema}
 use Rattle.cs_schema.specs.declared.schema.Schema.{Schema, fold-Schema}
 use Rattle.cs_schema.specs.declared.schema.Schema.TheOpen.{Schema-F, Keywords-F}
 use Rattle.cs_schema.specs.declared.schema.Keywords.{Keywords, fold-Keywords}
@@ -96,3 +97,12 @@ with_definitions o d = d
 -- the document that a root with its definitions stands for
 abbrev pub document_of : SchemaValue → Document
 document_of s = with_dialect (with_definitions (unless_no_map (definitions_view s.definitions)) (schema_view s.root))
+
+-- a schema document: what it stands for is a schema of the profile, and a truth value has no definitions
+pub record IsWhole (v : SchemaValue) : Type 0 where
+  pub profile : IsSchema (document_of v)
+  pub bare : (b : Bool) → schema_view v.root ≡ boolean b → v.definitions ≡ []
+
+-- the definition of a name, as its document
+abbrev pub definition_of : SchemaValue → List ℕ → Option Document
+definition_of v n = under n (map (λ m. (string_bytes m.0, schema_view m.1)) v.definitions)

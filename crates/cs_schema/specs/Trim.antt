@@ -1,7 +1,8 @@
 -- A schema without the keywords that say nothing of validity (own rule).
-use Rattle.std.specs.Prelude.{ℕ, Bool, true, false, List, [], ◌∷◌, Option, Some, None, codes, if◌then◌else◌}
+use Rattle.std.specs.Prelude.{◌≡◌, ℕ, Bool, true, false, List, Option, Some, None, codes, if◌then◌else◌}
 use Rattle.cs_doc.specs.Document.{Document, null, boolean, integer, text, list, object, Documents, no_documents, document, Members, no_members, member, put}
 use Rattle.cs_schema.specs.Shapes.{Row, row, is_kept, by_form, dialect}
+use Rattle.cs_schema.specs.Validity.{IsValidity}
 
 abbrev pub with_member : Option Document → List ℕ → Members → Members
 with_member None k ms = ms
@@ -53,3 +54,7 @@ with_dialect d = d
 
 abbrev pub trim : Document → Document
 trim d = with_dialect (trimmed true d)
+
+-- the law of trimming: a schema document validates what the trimmed one validates
+abbrev pub KeepsValidity : Document → Type 0
+KeepsValidity d = (V W : Document → Document → Bool) → IsValidity d V → IsValidity (trim d) W → (x : Document) → V d x ≡ W (trim d) x

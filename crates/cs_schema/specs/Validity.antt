@@ -1,6 +1,6 @@
 -- Which documents a schema validates (JSON Schema Core 2020-12, sections 4.3.2, 7, 8.2.3.1 and 10;
 -- Validation 2020-12, section 6).
-use Rattle.std.specs.Prelude.{◌≡◌, ℕ, ℤ, List, [], ◌∷◌, drop, length, Bool, true, false, not, ◌&&◌, ◌||◌, Option, Some, None, is_some, nat_le, int_le, int_lt}
+use Rattle.std.specs.Prelude.{◌≡◌, ℤ, List, ◌∷◌, drop, length, Bool, true, false, not, ◌&&◌, ◌||◌, Option, is_some, nat_le, int_le, int_lt}
 use Rattle.std.specs.Option.{option_map_or}
 use Rattle.std.specs.Str.{bytes_eq}
 use Rattle.std.specs.List.{list_all, list_any}

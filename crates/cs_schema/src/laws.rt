@@ -1,9 +1,11 @@
-ghost use Rattle.cs_doc.specs.Document.{Document};
+ghost use Rattle.cs_schema.specs.SchemaDocument.{document_of};
 ghost use Rattle.cs_schema.specs.Validity.{OneMeaning};
-ghost use Rattle.cs_schema.specs.Loops.{NoLoop};
 
-/// The law of one meaning: where no definition reaches itself directly, there is a validity of the
-/// schemas of a document, and only one.
-pub fn one_meaning()
-    ensures { (R : Document) → NoLoop R → OneMeaning R }
-{}
+use crate::SchemaDoc;
+
+/// The law of one meaning: there is a validity of the schemas of a schema document, and only one.
+pub fn one_meaning(schema: &SchemaDoc)
+    ensures { OneMeaning (document_of schema.now) }
+{
+    schema.is_whole();
+}

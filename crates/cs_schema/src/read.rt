@@ -3,11 +3,13 @@ ghost use Rattle.std.specs.Prelude.{◌≡◌, None, Some, IfOk, OnOk, IfErr, []
 ghost use Rattle.cs_doc.specs.Document.{object};
 ghost use Rattle.cs_doc.specs.View.{doc_view, list_view, object_view, documents_of, members_of};
 ghost use Rattle.cs_schema.specs.Shapes.{some_schemas, named_schemas};
-ghost use Rattle.cs_schema.specs.Profile.{first, fault_of, value_fault, visits, list_visits, map_visits, member_visits, keyword_visits, element_visits, named_visits, walk_fault};
+ghost use Rattle.cs_schema.specs.Profile.{first, fault_of, value_fault, visits, list_visits, map_visits, member_visits, keyword_visits, element_visits, named_visits, IsSchema};
+ghost use Rattle.cs_schema.specs.Refusal.{IsRefusal};
 ghost use Rattle.cs_schema.specs.Places.{at_key as key_place};
-ghost use Rattle.cs_schema.specs.Trim.{trim, trimmed, trimmed_members, trimmed_elements, trimmed_named, trimmed_value, trimmed_list, trimmed_map};
+ghost use Rattle.cs_schema.specs.Trim.{trim, KeepsValidity, trimmed, trimmed_members, trimmed_elements, trimmed_named, trimmed_value, trimmed_list, trimmed_map};
+ghost use Rattle.cs_schema.specs.Validity.{OneMeaning};
 ghost use Rattle.cs_schema.specs.SchemaDocument.{schema_view, schemas_view, definitions_view, unless_no_list, present, document_of};
-ghost use Rattle.cs_schema.specs.Reading.{Refuses, slots, found_value, IsFoundAt, IsNoDefinitions};
+ghost use Rattle.cs_schema.specs.Reading.{Refuses, undefined_name, slots, found_value, IsFoundAt, IsNoDefinitions};
 
 use crate::atoms::{copied, integer_of, is_dialect, kind_of, reference_of};
 use crate::parts::{Found, Parts};
@@ -18,8 +20,18 @@ use cs_doc::Doc;
 use std::alloc::Global;
 use std::collections::BTreeMap;
 
-/// The schema document that a document is.
-pub fn read_schema(alloc: Global, doc: &Doc) -> Result<SchemaDoc, SchemaFault> {
+/// The schema document that a document is, trimmed: without the keywords that say nothing of validity. It
+/// validates what the document does.
+///
+/// Refused by the first fault: of a keyword or a value (`Keyword`, `Shape`), of a reference (`Reference`), and
+/// of definitions that reach themselves (`Loop`).
+pub fn read_schema(alloc: Global, doc: &Doc) -> Result<SchemaDoc, SchemaFault>
+    ensures found { OnOk result (IsSchema (doc_view doc.now)) }
+    ensures value { IfOk result (λ s. document_of s ≡ trim (doc_view doc.now)) }
+    ensures refused { IfErr result (λ e. IsRefusal e (doc_view doc.now)) }
+    ensures one_meaning { OnOk result (OneMeaning (doc_view doc.now)) }
+    ensures meaning { OnOk result (KeepsValidity (doc_view doc.now)) }
+{
     match doc {
         Doc::Bool(b) => SchemaDoc::new(alloc, Schema::Always(*b), BTreeMap::new(alloc)),
         Doc::Object(members) => {
@@ -27,7 +39,7 @@ pub fn read_schema(alloc: Global, doc: &Doc) -> Result<SchemaDoc, SchemaFault> {
                 keywords,
                 definitions,
             } = read_members(alloc, true, "", members)?;
-            find_reference(alloc, &keywords, &definitions)?;
+            find_reference(alloc, &keywords.reference, &definitions)?;
             let root = Schema::Object(Box::new(alloc, keywords)?);
             SchemaDoc::new(alloc, root, definitions)
         },
@@ -35,15 +47,22 @@ pub fn read_schema(alloc: Global, doc: &Doc) -> Result<SchemaDoc, SchemaFault> {
     }
 }
 
-/// Refuses a root that refers to what is not defined.
+/// Refuses a root that refers to what is not defined. Below the root nothing refers to a name.
 fn find_reference(
     alloc: Global,
-    root: &Keywords,
+    reference: &Option<String>,
     definitions: &BTreeMap<String, Schema>,
-) -> Result<(), SchemaFault> {
-    match &root.reference {
-        Some(name) if !definitions.contains_key(name.as_str()) => Err(undefined(alloc, "", name)),
-        _ => Ok(()),
+) -> Result<(), SchemaFault>
+    ensures right { OnOk result (undefined_name reference.now definitions.now.entries ≡ None) }
+    ensures fault { IfErr result (λ e. Refuses e (undefined_name reference.now definitions.now.entries)) }
+{
+    let Some(name) = reference else {
+        return Ok(());
+    };
+    if definitions.contains_key(name.as_str()) {
+        Ok(())
+    } else {
+        Err(undefined(alloc, "", name))
     }
 }
 

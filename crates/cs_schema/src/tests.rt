@@ -24,6 +24,16 @@ fn reads_what_it_writes(rt: HostRuntime) -> Result<(), Fail> {
     Ok(())
 }
 
+#[test]
+fn takes_away_what_says_nothing(rt: HostRuntime) -> Result<(), Fail> {
+    let alloc = rt.alloc();
+    let trimmed = "{\"$schema\":\"https://json-schema.org/draft/2020-12/schema\"}";
+    for text in ["{}", "{\"$defs\":{}}", trimmed] {
+        assert_eq!(rt; again(alloc, text)?.as_slice(), trimmed.as_bytes());
+    }
+    Ok(())
+}
+
 /// The refusal's number, place and name; 0 where there is none.
 fn refusal(alloc: Global, text: &str) -> Result<(u8, String, String), Fail> {
     let doc = read_doc(alloc, text.as_bytes())?;
@@ -59,6 +69,12 @@ fn refuses_by_the_first_fault(rt: HostRuntime) -> Result<(), Fail> {
         ("{\"pattern\":\"x\"}", 21, "", "pattern"),
         ("{\"$ref\":\"#/$defs/\"}", 22, "", "$ref"),
         ("{\"$ref\":\"#/$defs/A\"}", 23, "", "A"),
+        (
+            "{\"$ref\":\"#/$defs/A\",\"pattern\":\"x\"}",
+            21,
+            "",
+            "pattern",
+        ),
         ("{\"$defs\":{\"a b\":true,\"\":true}}", 0, "", ""),
     ] {
         let found = refusal(alloc, text)?;

@@ -1,4 +1,12 @@
 // The writer: the keywords of each object, in the byte order of their names.
+ghost use Rattle.std.specs.Prelude.{◌≡◌, IfOk, OnOk, IsOkUnless, Some, None, map, option_map, take, drop};
+ghost use Rattle.cs_doc.specs.Document.{text as a_text, integer, list};
+ghost use Rattle.cs_doc.specs.View.{doc_view, list_view, object_view};
+ghost use Rattle.cs_schema.specs.Profile.{IsSchema};
+ghost use Rattle.cs_schema.specs.Trim.{trim};
+ghost use Rattle.cs_schema.specs.SchemaDocument.{kind_name, schema_view, schemas_view, definitions_view, slots_of, present, unless_no_list, unless_no_map, reference_document, text_document, document_of};
+ghost use Rattle.cs_schema.specs.Writing.{put_some, put_all};
+
 use crate::atoms::{copied, name_of};
 use crate::{JsonKind, Keywords, Schema, SchemaDoc, SchemaFault};
 use cs_doc::Doc;
@@ -8,25 +16,23 @@ use std::collections::BTreeMap;
 /// The members of a schema object.
 type Members = BTreeMap<String, Doc>;
 
-/// The document that a schema document stands for. An object as root also gets `$schema`.
-pub fn to_doc(alloc: Global, schema: &SchemaDoc) -> Result<Doc, SchemaFault> {
+/// The document that a schema document stands for, trimmed. An object as root has `$schema`. Only memory can
+/// run out.
+pub fn to_doc(alloc: Global, schema: &SchemaDoc) -> Result<Doc, SchemaFault>
+    ensures found { IfOk result (λ d. doc_view d ≡ document_of schema.now) }
+    ensures profile { IsSchema (document_of schema.now) }
+    ensures trimmed { trim (document_of schema.now) ≡ document_of schema.now }
+    ensures memory { IsOkUnless result SchemaFault.OutOfMemory }
+{
+    schema.is_whole();
     match schema.root() {
         Schema::Always(b) => Ok(Doc::Bool(*b)),
         Schema::Object(keywords) => {
             let mut members = keywords_doc(alloc, keywords)?;
-            set(
-                alloc,
-                &mut members,
-                "$defs",
-                map_doc(alloc, schema.definitions())?,
-            )?;
-            let dialect = "https://json-schema.org/draft/2020-12/schema";
-            set(
-                alloc,
-                &mut members,
-                "$schema",
-                Some(text_doc(alloc, dialect)?),
-            )?;
+            let definitions = map_doc(alloc, schema.definitions())?;
+            set(alloc, &mut members, "$defs", definitions)?;
+            let dialect = text_doc(alloc, "https://json-schema.org/draft/2020-12/schema")?;
+            set(alloc, &mut members, "$schema", Some(dialect))?;
             Ok(Doc::Object(members))
         },
     }
@@ -38,16 +44,24 @@ fn set(
     members: &mut Members,
     name: &str,
     value: Option<Doc>,
-) -> Result<(), SchemaFault> {
-    if let Some(value) = value {
-        drop(members.insert(String::from_str(alloc, name)?, value)?);
-    }
+) -> Result<(), SchemaFault>
+    ensures put { OnOk result (object_view members.new.entries
+        ≡ put_some name.now (option_map doc_view value) (object_view members.old.entries)) }
+    ensures memory { IsOkUnless result SchemaFault.OutOfMemory }
+{
+    let Some(value) = value else {
+        return Ok(());
+    };
+    drop(members.insert(String::from_str(alloc, name)?, value)?);
     Ok(())
 }
 
 /// The document that a schema below the root stands for.
 #[cycle(write)]
-fn schema_doc(alloc: Global, schema: &Schema) -> Result<Doc, SchemaFault> {
+fn schema_doc(alloc: Global, schema: &Schema) -> Result<Doc, SchemaFault>
+    ensures value { IfOk result (λ d. doc_view d ≡ schema_view schema.now) }
+    ensures memory { IsOkUnless result SchemaFault.OutOfMemory }
+{
     match schema {
         Schema::Always(b) => Ok(Doc::Bool(*b)),
         Schema::Object(keywords) => Ok(Doc::Object(keywords_doc(alloc, keywords)?)),
@@ -56,107 +70,105 @@ fn schema_doc(alloc: Global, schema: &Schema) -> Result<Doc, SchemaFault> {
 
 /// The keywords of an object.
 #[cycle(write)]
-fn keywords_doc(alloc: Global, keywords: &Keywords) -> Result<Members, SchemaFault> {
+fn keywords_doc(alloc: Global, keywords: &Keywords) -> Result<Members, SchemaFault>
+    ensures value { IfOk result (λ m. object_view m.entries ≡ present (slots_of keywords.now)) }
+    ensures memory { IsOkUnless result SchemaFault.OutOfMemory }
+{
     let mut members = BTreeMap::new(alloc);
-    set(
-        alloc,
-        &mut members,
-        "$ref",
-        reference_doc(alloc, &keywords.reference)?,
-    )?;
-    let additional = option_doc(alloc, &keywords.additional)?;
-    set(alloc, &mut members, "additionalProperties", additional)?;
-    set(
-        alloc,
-        &mut members,
-        "allOf",
-        list_doc(alloc, &keywords.all_of)?,
-    )?;
-    set(
-        alloc,
-        &mut members,
-        "anyOf",
-        list_doc(alloc, &keywords.any_of)?,
-    )?;
-    set(
-        alloc,
-        &mut members,
-        "const",
-        equal_doc(alloc, &keywords.equal)?,
-    )?;
-    set(
-        alloc,
-        &mut members,
-        "enum",
-        one_of_doc(alloc, &keywords.one_of)?,
-    )?;
-    set(
-        alloc,
-        &mut members,
-        "exclusiveMaximum",
-        keywords.below.map(Doc::Int),
-    )?;
-    set(
-        alloc,
-        &mut members,
-        "exclusiveMinimum",
-        keywords.above.map(Doc::Int),
-    )?;
-    set(
-        alloc,
-        &mut members,
-        "items",
-        option_doc(alloc, &keywords.rest)?,
-    )?;
-    set(
-        alloc,
-        &mut members,
-        "maximum",
-        keywords.maximum.map(Doc::Int),
-    )?;
-    set(
-        alloc,
-        &mut members,
-        "minItems",
-        keywords.min_items.map(Doc::Int),
-    )?;
-    set(
-        alloc,
-        &mut members,
-        "minimum",
-        keywords.minimum.map(Doc::Int),
-    )?;
-    set(
-        alloc,
-        &mut members,
-        "not",
-        option_doc(alloc, &keywords.negated)?,
-    )?;
-    set(
-        alloc,
-        &mut members,
-        "prefixItems",
-        list_doc(alloc, &keywords.prefix)?,
-    )?;
-    set(
-        alloc,
-        &mut members,
-        "properties",
-        map_doc(alloc, &keywords.properties)?,
-    )?;
-    set(
-        alloc,
-        &mut members,
-        "required",
-        texts_doc(alloc, &keywords.required)?,
-    )?;
-    set(alloc, &mut members, "type", kind_doc(alloc, keywords.kind)?)?;
+    set_to_any_of(alloc, keywords, &mut members)?;
+    set_to_above(alloc, keywords, &mut members)?;
+    set_to_minimum(alloc, keywords, &mut members)?;
+    set_to_kind(alloc, keywords, &mut members)?;
     Ok(members)
+}
+
+/// Puts the keywords from `$ref` to `anyOf`, in byte order.
+#[cycle(write)]
+fn set_to_any_of(
+    alloc: Global,
+    keywords: &Keywords,
+    members: &mut Members,
+) -> Result<(), SchemaFault>
+    ensures put { OnOk result (object_view members.new.entries
+        ≡ put_all (take 4 (slots_of keywords.now)) (object_view members.old.entries)) }
+    ensures memory { IsOkUnless result SchemaFault.OutOfMemory }
+{
+    let reference = reference_doc(alloc, &keywords.reference)?;
+    set(alloc, members, "$ref", reference)?;
+    let additional = option_doc(alloc, &keywords.additional)?;
+    set(alloc, members, "additionalProperties", additional)?;
+    let all_of = list_doc(alloc, &keywords.all_of)?;
+    set(alloc, members, "allOf", all_of)?;
+    let any_of = list_doc(alloc, &keywords.any_of)?;
+    set(alloc, members, "anyOf", any_of)
+}
+
+/// Puts the keywords from `const` to `exclusiveMinimum`, in byte order.
+fn set_to_above(
+    alloc: Global,
+    keywords: &Keywords,
+    members: &mut Members,
+) -> Result<(), SchemaFault>
+    ensures put { OnOk result (object_view members.new.entries
+        ≡ put_all (take 4 (drop 4 (slots_of keywords.now))) (object_view members.old.entries)) }
+    ensures memory { IsOkUnless result SchemaFault.OutOfMemory }
+{
+    let equal = equal_doc(alloc, &keywords.equal)?;
+    set(alloc, members, "const", equal)?;
+    let one_of = one_of_doc(alloc, &keywords.one_of)?;
+    set(alloc, members, "enum", one_of)?;
+    let below = integer_doc(keywords.below);
+    set(alloc, members, "exclusiveMaximum", below)?;
+    let above = integer_doc(keywords.above);
+    set(alloc, members, "exclusiveMinimum", above)
+}
+
+/// Puts the keywords from `items` to `minimum`, in byte order.
+#[cycle(write)]
+fn set_to_minimum(
+    alloc: Global,
+    keywords: &Keywords,
+    members: &mut Members,
+) -> Result<(), SchemaFault>
+    ensures put { OnOk result (object_view members.new.entries
+        ≡ put_all (take 4 (drop 8 (slots_of keywords.now))) (object_view members.old.entries)) }
+    ensures memory { IsOkUnless result SchemaFault.OutOfMemory }
+{
+    let rest = option_doc(alloc, &keywords.rest)?;
+    set(alloc, members, "items", rest)?;
+    let maximum = integer_doc(keywords.maximum);
+    set(alloc, members, "maximum", maximum)?;
+    let min_items = integer_doc(keywords.min_items);
+    set(alloc, members, "minItems", min_items)?;
+    let minimum = integer_doc(keywords.minimum);
+    set(alloc, members, "minimum", minimum)
+}
+
+/// Puts the keywords from `not` to `type`, in byte order.
+#[cycle(write)]
+fn set_to_kind(alloc: Global, keywords: &Keywords, members: &mut Members) -> Result<(), SchemaFault>
+    ensures put { OnOk result (object_view members.new.entries
+        ≡ put_all (drop 12 (slots_of keywords.now)) (object_view members.old.entries)) }
+    ensures memory { IsOkUnless result SchemaFault.OutOfMemory }
+{
+    let negated = option_doc(alloc, &keywords.negated)?;
+    set(alloc, members, "not", negated)?;
+    let prefix = list_doc(alloc, &keywords.prefix)?;
+    set(alloc, members, "prefixItems", prefix)?;
+    let properties = map_doc(alloc, &keywords.properties)?;
+    set(alloc, members, "properties", properties)?;
+    let required = texts_doc(alloc, &keywords.required)?;
+    set(alloc, members, "required", required)?;
+    let kind = kind_doc(alloc, keywords.kind)?;
+    set(alloc, members, "type", kind)
 }
 
 /// A schema, where there is one.
 #[cycle(write)]
-fn option_doc(alloc: Global, schema: &Option<Schema>) -> Result<Option<Doc>, SchemaFault> {
+fn option_doc(alloc: Global, schema: &Option<Schema>) -> Result<Option<Doc>, SchemaFault>
+    ensures value { IfOk result (λ o. option_map doc_view o ≡ option_map schema_view schema.now) }
+    ensures memory { IsOkUnless result SchemaFault.OutOfMemory }
+{
     match schema {
         Some(schema) => Ok(Some(schema_doc(alloc, schema)?)),
         None => Ok(None),
@@ -165,7 +177,10 @@ fn option_doc(alloc: Global, schema: &Option<Schema>) -> Result<Option<Doc>, Sch
 
 /// A list of schemas, unless it is empty.
 #[cycle(write)]
-fn list_doc(alloc: Global, schemas: &Vec<Schema>) -> Result<Option<Doc>, SchemaFault> {
+fn list_doc(alloc: Global, schemas: &Vec<Schema>) -> Result<Option<Doc>, SchemaFault>
+    ensures value { IfOk result (λ o. option_map doc_view o ≡ unless_no_list (schemas_view schemas.now.items)) }
+    ensures memory { IsOkUnless result SchemaFault.OutOfMemory }
+{
     if schemas.is_empty() {
         return Ok(None);
     }
@@ -178,7 +193,10 @@ fn list_doc(alloc: Global, schemas: &Vec<Schema>) -> Result<Option<Doc>, SchemaF
 
 /// A map of schemas, unless it is empty.
 #[cycle(write)]
-fn map_doc(alloc: Global, schemas: &BTreeMap<String, Schema>) -> Result<Option<Doc>, SchemaFault> {
+fn map_doc(alloc: Global, schemas: &BTreeMap<String, Schema>) -> Result<Option<Doc>, SchemaFault>
+    ensures value { IfOk result (λ o. option_map doc_view o ≡ unless_no_map (definitions_view schemas.now.entries)) }
+    ensures memory { IsOkUnless result SchemaFault.OutOfMemory }
+{
     if schemas.is_empty() {
         return Ok(None);
     }
@@ -191,44 +209,75 @@ fn map_doc(alloc: Global, schemas: &BTreeMap<String, Schema>) -> Result<Option<D
     Ok(Some(Doc::Object(docs)))
 }
 
-fn text_doc(alloc: Global, text: &str) -> Result<Doc, SchemaFault> {
+fn text_doc(alloc: Global, text: &str) -> Result<Doc, SchemaFault>
+    ensures value { IfOk result (λ d. doc_view d ≡ a_text text.now) }
+    ensures memory { IsOkUnless result SchemaFault.OutOfMemory }
+{
     Ok(Doc::Text(String::from_str(alloc, text)?))
 }
 
-fn reference_doc(alloc: Global, name: &Option<String>) -> Result<Option<Doc>, SchemaFault> {
+fn integer_doc(n: Option<i64>) -> Option<Doc>
+    ensures { option_map doc_view result ≡ option_map integer n }
+{
+    n.map(Doc::Int)
+}
+
+fn reference_doc(alloc: Global, name: &Option<String>) -> Result<Option<Doc>, SchemaFault>
+    ensures value { IfOk result (λ o. option_map doc_view o ≡ option_map reference_document name.now) }
+    ensures memory { IsOkUnless result SchemaFault.OutOfMemory }
+{
     match name {
         Some(name) => Ok(Some(Doc::Text(format!(in alloc; "#/$defs/{name}")?))),
         None => Ok(None),
     }
 }
 
-fn kind_doc(alloc: Global, kind: Option<JsonKind>) -> Result<Option<Doc>, SchemaFault> {
+fn kind_doc(alloc: Global, kind: Option<JsonKind>) -> Result<Option<Doc>, SchemaFault>
+    ensures value { IfOk result (λ o. option_map doc_view o ≡ option_map (λ k. a_text (kind_name k)) kind) }
+    ensures memory { IsOkUnless result SchemaFault.OutOfMemory }
+{
     match kind {
         Some(kind) => Ok(Some(text_doc(alloc, name_of(kind))?)),
         None => Ok(None),
     }
 }
 
-fn equal_doc(alloc: Global, value: &Option<Doc>) -> Result<Option<Doc>, SchemaFault> {
+fn equal_doc(alloc: Global, value: &Option<Doc>) -> Result<Option<Doc>, SchemaFault>
+    ensures value { IfOk result (λ o. option_map doc_view o ≡ option_map doc_view value.now) }
+    ensures memory { IsOkUnless result SchemaFault.OutOfMemory }
+{
     match value {
         Some(value) => Ok(Some(copied(alloc, value)?)),
         None => Ok(None),
     }
 }
 
-fn one_of_doc(alloc: Global, values: &Option<Vec<Doc>>) -> Result<Option<Doc>, SchemaFault> {
-    let Some(values) = values else {
-        return Ok(None);
-    };
+fn one_of_doc(alloc: Global, values: &Option<Vec<Doc>>) -> Result<Option<Doc>, SchemaFault>
+    ensures value { IfOk result (λ o. option_map doc_view o ≡ option_map (λ v. list (list_view v.items)) values.now) }
+    ensures memory { IsOkUnless result SchemaFault.OutOfMemory }
+{
+    match values {
+        Some(values) => Ok(Some(Doc::List(copies_of(alloc, values)?))),
+        None => Ok(None),
+    }
+}
+
+fn copies_of(alloc: Global, values: &Vec<Doc>) -> Result<Vec<Doc>, SchemaFault>
+    ensures value { IfOk result (λ v. list_view v.items ≡ list_view values.now.items) }
+    ensures memory { IsOkUnless result SchemaFault.OutOfMemory }
+{
     let mut docs = Vec::with_capacity(alloc, values.len())?;
     for value in values {
         docs.push(copied(alloc, value)?)?;
     }
-    Ok(Some(Doc::List(docs)))
+    Ok(docs)
 }
 
 /// A list of texts, unless it is empty.
-fn texts_doc(alloc: Global, texts: &Vec<String>) -> Result<Option<Doc>, SchemaFault> {
+fn texts_doc(alloc: Global, texts: &Vec<String>) -> Result<Option<Doc>, SchemaFault>
+    ensures value { IfOk result (λ o. option_map doc_view o ≡ unless_no_list (map text_document texts.now.items)) }
+    ensures memory { IsOkUnless result SchemaFault.OutOfMemory }
+{
     if texts.is_empty() {
         return Ok(None);
     }

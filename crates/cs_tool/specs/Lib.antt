@@ -1,3 +1,6 @@
 pub mod Conversions
 pub mod Refusals
 pub mod Streams
+pub mod Accepted
+pub mod Headline
+pub mod Runs

@@ -1,4 +1,8 @@
 // A command over a reader and a writer.
+ghost use Rattle.std.specs.Prelude.{◌≡◌, ℕ, true, List, map, IfOk, IfErr};
+ghost use Rattle.std.specs.Io.KnownBytes.{Appends};
+ghost use Rattle.cs_tool.specs.Runs.{AreSources, IsAnswer, InputRefusal, LineRefusal, Leaves, line_of};
+
 use crate::Fault;
 use crate::calls::export;
 use crate::packages::SOURCES_LIMIT;
@@ -21,23 +25,43 @@ pub fn run<R: Read, W: Write>(
     request: Request,
     input: &mut R,
     output: &mut W,
-) -> Result<bool, Fault> {
-    let Request::Export { files, root } = request;
-    let line = export_line(alloc, files, &root, input)?;
+) -> Result<bool, Fault>
+    ensures done { IfOk result (λ truth. (text : List ℕ)
+        × IsAnswer request (R.remaining input.old) truth text
+        × Appends (W.contents output.old) (W.contents output.new) (line_of text)) }
+    ensures left { IfErr result (λ e. Leaves request (R.remaining input.old) e
+        (W.contents output.old) (W.contents output.new)) }
+{
+    let line = answer(alloc, request, input)?;
     write_text(output, &line)?;
     Ok(true)
+}
+
+/// The text of the answer and a newline.
+fn answer<R: Read>(alloc: Global, request: Request, input: &mut R) -> Result<Vec<u8>, Fault>
+    ensures line { IfOk result (λ b. (text : List ℕ)
+        × IsAnswer request (R.remaining input.old) true text × (b.items ≡ line_of text)) }
+    ensures refused { IfErr result (LineRefusal request (R.remaining input.old)) }
+{
+    let Request::Export { files, root } = request;
+    export_line(alloc, files, root, input)
 }
 
 /// The schema text and a newline.
 fn export_line<R: Read>(
     alloc: Global,
     files: Vec<Vec<u8>>,
-    root: &str,
+    root: String,
     input: &mut R,
-) -> Result<Vec<u8>, Fault> {
+) -> Result<Vec<u8>, Fault>
+    ensures line { IfOk result (λ b. (text : List ℕ)
+        × IsAnswer (Request.Export files root) (R.remaining input.old) true text
+        × (b.items ≡ line_of text)) }
+    ensures refused { IfErr result (LineRefusal (Request.Export files root) (R.remaining input.old)) }
+{
     let files = files_or_input(alloc, files, input)?;
     let sources = slices_of(alloc, &files)?;
-    let mut line = export(alloc, &sources, root)?;
+    let mut line = export(alloc, &sources, &root)?;
     line.push(b'\n')?;
     Ok(line)
 }
@@ -47,7 +71,10 @@ fn files_or_input<R: Read>(
     alloc: Global,
     files: Vec<Vec<u8>>,
     input: &mut R,
-) -> Result<Vec<Vec<u8>>, Fault> {
+) -> Result<Vec<Vec<u8>>, Fault>
+    ensures sources { IfOk result (λ v. AreSources files.items (R.remaining input.old) (map (λ f. f.items) v.items)) }
+    ensures refused { IfErr result (InputRefusal files.items (R.remaining input.old)) }
+{
     if !files.is_empty() {
         return Ok(files);
     }
@@ -59,7 +86,11 @@ fn files_or_input<R: Read>(
     Ok(read)
 }
 
-fn slices_of(alloc: Global, files: &[Vec<u8>]) -> Result<Vec<&[u8]>, Fault> {
+/// The bytes of each file.
+fn slices_of(alloc: Global, files: &[Vec<u8>]) -> Result<Vec<&[u8]>, Fault>
+    ensures bytes { IfOk result (λ v. map (λ s. s.now) v.items ≡ map (λ f. f.items) files.now) }
+    ensures memory { IfErr result (λ e. e ≡ Fault.OutOfMemory) }
+{
     let mut slices: Vec<&[u8]> = Vec::with_capacity(alloc, files.len())?;
     for file in files {
         slices.push(file.as_slice())?;

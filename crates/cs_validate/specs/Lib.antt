@@ -1,0 +1,2 @@
+pub mod Shaped
+pub mod Asserted

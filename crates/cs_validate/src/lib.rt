@@ -2,6 +2,7 @@
 #![tactic(auto)]
 
 mod fault;
+mod keywords;
 mod validity;
 
 pub use fault::ValidateFault;

@@ -1,95 +1,93 @@
 // Validity by the keywords of a schema.
+ghost use Rattle.std.specs.Prelude.{◌≡◌, Bool, List, IfOk, string_bytes};
+ghost use Rattle.std.specs.List.{All, list_all};
+ghost use Rattle.cs_doc.specs.Document.{Document, Entry};
+ghost use Rattle.cs_doc.specs.View.{doc_view};
+ghost use Rattle.cs_schema.specs.Validity.{IsValidity, OneMeaning};
+ghost use Rattle.cs_schema.specs.SchemaDocument.{schema_view, slots_of, document_of, IsWhole};
+ghost use Rattle.cs_validate.specs.Shaped.{IsShaped, AreShaped};
+ghost use Rattle.cs_validate.specs.Asserted.{unless_absent, slot_holds, but_reference, defined_holds};
+
 use crate::ValidateFault;
+use crate::keywords::are_kept;
 use cs_doc::Doc;
-use cs_schema::{JsonKind, Keywords, Schema, SchemaDoc};
+use cs_schema::{Keywords, Schema, SchemaDoc, one_meaning};
 use std::alloc::Global;
 
-/// Whether a document is valid against a schema document.
-pub fn is_valid(_alloc: Global, schema: &SchemaDoc, doc: &Doc) -> Result<bool, ValidateFault> {
-    Ok(holds(schema.root(), doc) && holds_by_name(schema, doc))
-}
-
-/// Whether the schema that the root refers to validates a document, where it refers to one.
-fn holds_by_name(schema: &SchemaDoc, doc: &Doc) -> bool {
+/// Whether a document is valid against a schema document: its root validates it (JSON Schema Core 2020-12,
+/// sections 4.3 and 7). No memory is taken, so nothing is refused.
+pub fn is_valid(_alloc: Global, schema: &SchemaDoc, doc: &Doc) -> Result<bool, ValidateFault>
+    ensures answer { IfOk result (λ b. (V : Document → Document → Bool) → IsValidity (document_of schema.now) V
+        → b ≡ V (document_of schema.now) (doc_view doc.now)) }
+    ensures one_meaning { OneMeaning (document_of schema.now) }
+{
+    schema.is_whole();
+    one_meaning(schema);
     match schema.root() {
-        Schema::Always(_) => true,
-        Schema::Object(keywords) => match &keywords.reference {
-            Some(name) => is_defined_and_holds(schema, name, doc),
-            None => true,
-        },
+        Schema::Always(b) => Ok(*b),
+        Schema::Object(keywords) => Ok(
+            reference_holds(schema, &keywords.reference, doc) && keywords_hold(keywords, doc),
+        ),
     }
 }
 
-fn is_defined_and_holds(schema: &SchemaDoc, name: &str, doc: &Doc) -> bool {
+/// Whether the schema that the root refers to, if it does, validates a document (Core, section 8.2.3.1).
+fn reference_holds(schema: &SchemaDoc, reference: &Option<String>, doc: &Doc) -> bool
+    requires { IsWhole schema.now }
+    ensures { (V : Document → Document → Bool) → IsValidity (document_of schema.now) V
+        → result ≡ unless_absent (λ n. defined_holds (document_of schema.now) V (doc_view doc.now) (string_bytes n)) reference.now }
+{
+    match reference {
+        Some(name) => definition_holds(schema, name, doc),
+        None => true,
+    }
+}
+
+fn definition_holds(schema: &SchemaDoc, name: &str, doc: &Doc) -> bool
+    requires { IsWhole schema.now }
+    ensures { (V : Document → Document → Bool) → IsValidity (document_of schema.now) V
+        → result ≡ defined_holds (document_of schema.now) V (doc_view doc.now) name.now }
+{
     match schema.definition(name) {
         Some(definition) => holds(definition, doc),
         None => false,
     }
 }
 
-/// Whether a schema validates a document, its reference aside.
+/// Whether a schema below the root validates a document.
 #[cycle(holds)]
-fn holds(schema: &Schema, doc: &Doc) -> bool {
+fn holds(schema: &Schema, doc: &Doc) -> bool
+    requires { IsShaped (schema_view schema.now) }
+    ensures { (R : Document) (V : Document → Document → Bool) → IsValidity R V
+        → result ≡ V (schema_view schema.now) (doc_view doc.now) }
+{
     match schema {
         Schema::Always(b) => *b,
-        Schema::Object(keywords) => {
-            has_kind(keywords, doc)
-                && is_equal(keywords, doc)
-                && is_within(keywords, doc)
-                && all_hold(&keywords.all_of, doc)
-        },
+        Schema::Object(keywords) => keywords_hold(keywords, doc),
     }
+}
+
+/// Whether what the keywords of an object assert holds of a document, `$ref` aside.
+#[cycle(holds)]
+fn keywords_hold(keywords: &Keywords, doc: &Doc) -> bool
+    requires { (root : Bool) × AreShaped root (but_reference (slots_of keywords.now)) }
+    ensures { (R : Document) (V : Document → Document → Bool) (beside : List (Entry Document)) → IsValidity R V
+        → result ≡ list_all (slot_holds R V beside (doc_view doc.now)) (but_reference (slots_of keywords.now)) }
+{
+    are_kept(keywords, doc) && all_hold(&keywords.all_of, doc)
 }
 
 /// Whether each of the schemas validates a document (Core, section 10.2.1.1).
 #[cycle(holds)]
-fn all_hold(schemas: &Vec<Schema>, doc: &Doc) -> bool {
+fn all_hold(schemas: &Vec<Schema>, doc: &Doc) -> bool
+    requires { All (λ s. IsShaped (schema_view s)) schemas.now.items }
+    ensures { (R : Document) (V : Document → Document → Bool) → IsValidity R V
+        → result ≡ list_all (λ s. V (schema_view s) (doc_view doc.now)) schemas.now.items }
+{
     for schema in schemas {
         if !holds(schema, doc) {
             return false;
         }
     }
     true
-}
-
-/// Whether a document is of the kind that `type` names (Validation, section 6.1.1).
-fn has_kind(keywords: &Keywords, doc: &Doc) -> bool {
-    match keywords.kind {
-        Some(kind) => is_of_kind(kind, doc),
-        None => true,
-    }
-}
-
-fn is_of_kind(kind: JsonKind, doc: &Doc) -> bool {
-    match kind {
-        JsonKind::Null => matches!(doc, Doc::Null),
-        JsonKind::Boolean => matches!(doc, Doc::Bool(_)),
-        JsonKind::Object => matches!(doc, Doc::Object(_)),
-        JsonKind::Array => matches!(doc, Doc::List(_)),
-        JsonKind::Number | JsonKind::Integer => matches!(doc, Doc::Int(_)),
-        JsonKind::String => matches!(doc, Doc::Text(_)),
-    }
-}
-
-/// Whether a document equals the value of `const` (Validation, section 6.1.3).
-fn is_equal(keywords: &Keywords, doc: &Doc) -> bool {
-    match &keywords.equal {
-        Some(value) => value == doc,
-        None => true,
-    }
-}
-
-/// Whether a document is no number or within the limits (Validation, section 6.2).
-fn is_within(keywords: &Keywords, doc: &Doc) -> bool {
-    match doc {
-        Doc::Int(n) => keeps_limits(keywords, *n),
-        _ => true,
-    }
-}
-
-fn keeps_limits(keywords: &Keywords, n: i64) -> bool {
-    keywords.minimum.is_none_or(|limit| limit <= n)
-        && keywords.maximum.is_none_or(|limit| n <= limit)
-        && keywords.above.is_none_or(|limit| limit < n)
-        && keywords.below.is_none_or(|limit| n < limit)
 }

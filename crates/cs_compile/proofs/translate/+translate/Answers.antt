@@ -1,10 +1,10 @@
 use Rattle.std.specs.Prelude.{codes}
-use Rattle.std.proofs.Common.{◌≡◌, map, Some, w64, sym, ap, ◌∙◌, subst, rules}
+use Rattle.std.proofs.Common.{◌≡◌, map, Some, w64, ap, ◌∙◌, subst, rules}
 use Rattle.std.proofs.lemmas.List.{take_all}
 use Rattle.std.specs.Result.{IfOk}
 use mir.Val.{to_z, of_z}
 use Rattle.cs_doc.specs.Document.{integer, text, object, member, no_members}
-use Rattle.cs_doc.specs.View.{doc_view, documents_of}
+use Rattle.cs_doc.specs.View.{documents_of}
 use Rattle.cs_doc.proofs.Views.{view-Int}
 use Rattle.cs_resolve.specs.Expression as cue
 use Rattle.cs_resolve.specs.View.{expression_of, expressions_of, kind_of}

@@ -1,16 +1,21 @@
-use Rattle.std.proofs.Common.{◌≡◌, ℕ, ◌<◌, List, length, map, Some, IfSome, string_bytes, ap, ap₂, ◌∙◌, subst, arith}
+use Rattle.std.proofs.Common.{◌≡◌, ◌<◌, length, map, Some, IfSome, string_bytes, sym, ap, ap₂, ◌∙◌, subst, arith}
 use Rattle.cs_doc.specs.Document.{entries, under, put}
 use Rattle.cs_doc.specs.View.{members_of}
-use Rattle.cs_resolve.specs.Environment.{bodies, bodies_at, name_at, written}
+use Rattle.cs_resolve.specs.Environment.{bodies, bodies_at, written}
 use Rattle.cs_resolve.specs.View.{expression_of}
 use Rattle.cs_schema.specs.SchemaDocument.{definitions_view}
 use Rattle.cs_compile.specs.Translation.{definition_schema, bare_name}
-use Rattle.cs_compile.specs.Whole.{definition_entries}
+use Rattle.cs_compile.specs.Whole.{definition_entries, AreDefinitions}
+use Rattle.cs_compile.proofs.Declared.{are_definitions-put}
 use Rattle.cs_compile.proofs.Names.{first_schemas, first_schemas-more, first_schemas-all, made-insert_entry, name_there}
+use Rattle.cs_compile.proofs.Shapes.{shapes_taken}
 use Rattle.cs_compile.proofs.whole.definitions.Goals as goal
 
 pub loop-number-init : goal.loop-number-init
-loop-number-init c = λ n. ap (λ es. under n (definition_entries es)) c.new-schemas.ensures.empty
+loop-number-init c = record {
+  each = λ n. ap (λ es. under n (definition_entries es)) c.new-schemas.ensures.empty;
+  alone = subst (λ es. AreDefinitions c.args.package.now (members_of (definitions_view es))) (sym c.new-schemas.ensures.empty) tt;
+}
 
 pub loop-number-preserved : goal.loop-number-preserved
 loop-number-preserved c =
@@ -19,17 +24,23 @@ loop-number-preserved c =
     let within : i < length E = omega arith in
     let place = name_there E i within in
     let bs = map expression_of c.bodies.result.now in
-    let text : c.name.result.now ≡ written place.0 = subst (λ o. IfSome o (λ n. c.name.result.now ≡ written n)) place.1 c.name.ensures in
+    let text : c.name.result.now ≡ written place.0 = subst (λ o. IfSome o (λ n. c.name.result.now ≡ written n)) place.1 c.name.ensures.text in
     let has : bodies E place.0 ≡ Some bs = subst (λ o. IfSome o (λ n. bodies E n ≡ bodies_at E i)) place.1 c.bodies.ensures.named ∙ c.bodies.ensures.at in
     let bare : string_bytes c.in_ok-name.name ≡ place.0 = c.in_ok-name.ensures.ok ∙ c.bare_name.ensures ∙ ap bare_name text in
     let old = members_of (definitions_view c.loop-number.schemas.entries) in
     let grown : members_of (definitions_view c.insert.new.self.entries) ≡ put place.0 (definition_schema bs) old =
     ap (λ es. members_of (definitions_view es)) c.in_ok-insert.ensures.entries
     ∙ made-insert_entry c.loop-number.schemas.entries c.in_ok-name.name c.in_ok-schema.schema ∙ ap₂ (λ t d. put t d old) bare c.in_ok-schema.ensures.value in
-    λ n. ap (λ ms. under n (entries ms)) grown ∙ first_schemas-more E i place.0 bs old place.1 has c.loop-number.invariant n
+    record {
+      each = λ n. ap (λ ms. under n (entries ms)) grown ∙ first_schemas-more E i place.0 bs old place.1 has c.loop-number.invariant.each n;
+      alone = subst (AreDefinitions E) (sym grown) (are_definitions-put E place.0 bs has (shapes_taken c.bodies.result.now) old c.loop-number.invariant.alone);
+    }
 
 pub returns-clause-each : goal.returns-clause-each
 returns-clause-each c =
     let E = c.args.package.now in
     let end : c.loop-number.number ≡ length E = omega arith in
-    λ n. c.loop-number.invariant n ∙ ap (λ i. first_schemas E i n) end ∙ first_schemas-all E n
+    λ n. c.loop-number.invariant.each n ∙ ap (λ i. first_schemas E i n) end ∙ first_schemas-all E n
+
+pub returns-clause-alone : goal.returns-clause-alone
+returns-clause-alone c = c.loop-number.invariant.alone

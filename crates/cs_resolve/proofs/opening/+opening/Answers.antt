@@ -1,4 +1,4 @@
-use Rattle.std.proofs.Common.{◌≡◌, ℕ, Bool, true, false, ◌||◌, List, [], ◌∷◌, ◌++◌, map, refl, sym, ap, ap₂, ◌∙◌, subst, string_bytes}
+use Rattle.std.proofs.Common.{◌≡◌, ℕ, Bool, ◌||◌, List, [], ◌∷◌, ◌++◌, map, refl, sym, ap, ap₂, ◌∙◌, subst, string_bytes}
 use Rattle.std.proofs.lemmas.Result.{err_from_is_err_and}
 use Rattle.cs_syntax.specs.View.{expr_view, exprs_view, fields_view, field_view, end_view}
 use Rattle.cs_syntax.specs.declared.ast.Expr.{Expr}
@@ -6,7 +6,7 @@ use Rattle.cs_syntax.specs.declared.ast.Field.{Field}
 use Rattle.cs_resolve.specs.Opening.{Named, asks, values, named_fields, at_fault, unopened, unopened_all, unopened_in, unopened_end}
 use Rattle.cs_resolve.specs.Checks.{Checks, Repeats}
 use Rattle.cs_resolve.specs.declared.fault.ResolveFault.TheVariants.{NotOpened}
-use Rattle.cs_resolve.proofs.Refusals.{first_left, first_right, same_first, first_here, none_more}
+use Rattle.cs_resolve.proofs.Refusals.{first_left, same_first, first_here, none_more}
 use Rattle.cs_resolve.proofs.Trees.{view-Struct, view-List, view-And, view-value, view-text, operands_of}
 use Rattle.cs_resolve.proofs.opening.+opening.Goals as goal
 use Rattle.cs_resolve.proofs.opening.+opening.Goals.{check_expr-then-asked, check_expr-else-asked, check_expr-else-asked-2-via-then-asked-2+else-not-opened, check_expr-else-asked-2-via-else-asked-2, check_fields-then-asked, check_fields-else-asked}

@@ -1,6 +1,6 @@
-use Rattle.std.proofs.Common.{◌≡◌, ◌+◌, ◌∷◌, [], ◌++◌, List, take, map, sym, ap, ◌∙◌, subst}
-use Rattle.cs_syntax.specs.View.{fields_view, field_view, expr_view}
-use Rattle.cs_resolve.specs.Opening.{Named, named_fields}
+use Rattle.std.proofs.Common.{take, sym, subst}
+use Rattle.cs_syntax.specs.View.{fields_view}
+use Rattle.cs_resolve.specs.Opening.{named_fields}
 use Rattle.cs_resolve.specs.Checks.{Repeats}
 use Rattle.cs_resolve.proofs.Trees.{named_more}
 use Rattle.cs_resolve.proofs.opening.label_repeats.Goals as goal

@@ -1,4 +1,4 @@
-use Rattle.std.proofs.Common.{◌≡◌, ◌+◌, ◌++◌, ◌∷◌, [], List, take, map, sym, ap, ◌∙◌, subst}
+use Rattle.std.proofs.Common.{◌++◌, take, map, sym, subst}
 use Rattle.cs_syntax.specs.View.{definition_view}
 use Rattle.cs_resolve.specs.Opening.{named_bodies}
 use Rattle.cs_resolve.specs.Checks.{Repeats}

@@ -1,4 +1,4 @@
-use Rattle.std.proofs.Common.{◌≡◌, ◌+◌, Bool, true, false, List, [], ◌∷◌, Some, None, cond, not, map, position, length, nat_lt, refl, sym, ap, ap₂, ◌∙◌, rules, tests}
+use Rattle.std.proofs.Common.{◌≡◌, ◌+◌, Bool, List, [], ◌∷◌, Some, None, cond, not, map, position, nat_lt, refl, sym, ap, ap₂, ◌∙◌, rules, tests}
 use Rattle.std.specs.List.{prefix_len}
 use Rattle.std.specs.Option.{option_and_then}
 use Rattle.std.proofs.lemmas.Iterator.{YieldsList-from_slice}

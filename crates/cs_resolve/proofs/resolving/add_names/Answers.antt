@@ -1,9 +1,36 @@
-use Rattle.std.proofs.Common.{◌≡◌, string_bytes, ◌∙◌}
+use Rattle.std.proofs.Common.{◌≡◌, [], ◌∷◌, ◌++◌, map, take, string_bytes, sym, ap, ap₂, ◌∙◌, subst}
+use Rattle.std.specs.List.{All}
+use Rattle.std.proofs.lemmas.List.{append_assoc, map-append}
+use Rattle.cs_syntax.specs.Tree.{DefinitionTree, defined_name}
+use Rattle.cs_syntax.specs.View.{definition_view}
+use Rattle.cs_resolve.specs.Declarations.{distinct}
+use Rattle.cs_resolve.specs.Environment.{IsDefinitionName}
+use Rattle.cs_resolve.specs.View.{names_of}
 use Rattle.cs_resolve.proofs.Environments.{table-insert}
+use Rattle.cs_resolve.proofs.Order.{put, names_insert, distinct_push}
+use Rattle.cs_resolve.proofs.Trees.{map_more, mapped_at}
 use Rattle.cs_resolve.proofs.resolving.add_names.Goals as goal
 
 pub loop-definition-preserved : goal.loop-definition-preserved
 loop-definition-preserved c =
+    let l = c.loop-definition in
+    let i = l.definition-index in
+    let items = c.deref-definition-items.result.now in
+    let d = c.definition-item.result in
     let name = c.in_ok-name.name in
     let written = c.in_ok-written.written in
-    table-insert c.loop-definition.names.entries c.insert.new.self.entries name written c.loop-definition.invariant c.in_ok-written.ensures c.in_ok-insert.ensures.entries c.in_ok-insert.ensures.unique
+    let old = l.names.entries in
+    let new = c.insert.new.self.entries in
+    let same : string_bytes name ≡ string_bytes d.name = c.in_ok-name.ensures.cases in
+    let all = subst (λ es. All (λ (e : DefinitionTree). IsDefinitionName (defined_name e)) (map definition_view es)) (sym c.deref-definition-items.ensures.value) c.requires.spelled in
+    let spelled = mapped_at (λ (e : DefinitionTree). IsDefinitionName (defined_name e)) definition_view items i d c.loop-definition-test.true c.definition-item.is all in
+    let more = ap (map defined_name) (map_more definition_view items i d c.loop-definition-test.true c.definition-item.is) ∙ map-append defined_name (map definition_view (take i items)) (definition_view d ∷ []) in
+    record {
+      table = table-insert old new name written l.invariant.table c.in_ok-written.ensures.text (subst IsDefinitionName (sym same) spelled) c.in_ok-insert.ensures.entries c.in_ok-insert.ensures.unique;
+      added = λ ns is.
+          ap names_of c.in_ok-insert.ensures.entries
+          ∙ names_insert name written old
+          ∙ ap₂ put same (l.invariant.added ns is)
+          ∙ sym (distinct_push (ns ++ map defined_name (map definition_view (take i items))) (string_bytes d.name))
+          ∙ ap distinct (append_assoc ns (map defined_name (map definition_view (take i items))) (string_bytes d.name ∷ []) ∙ ap (λ r. ns ++ r) (sym more));
+    }

@@ -1,9 +1,11 @@
-use Rattle.std.proofs.Common.{arith}
-use Rattle.cs_resolve.proofs.Environments.{table-empty}
+use Rattle.std.proofs.Common.{map, ◌∙◌}
+use Rattle.cs_syntax.specs.View.{file_view}
+use Rattle.cs_resolve.specs.View.{bodies_of, names_of}
+use Rattle.cs_resolve.proofs.Gathered.{environment-gathered}
 use Rattle.cs_resolve.proofs.resolving.resolve.Goals as goal
 
-pub loop-file-init : goal.loop-file-init
-loop-file-init c = table-empty c.new-names.result.entries c.new-names.ensures.empty
-
-pub new-requires : goal.new-requires
-new-requires c = record { long = omega arith; table = c.loop-file.invariant }
+pub returns-clause-found : goal.returns-clause-found
+returns-clause-found c =
+    let names = c.in_ok-names.names.entries in
+    let bodies = c.in_ok-bodies.bodies.items in
+    c.new.ensures ∙ environment-gathered (map file_view c.args.files.items) (names_of names) (bodies_of bodies) c.in_ok-names.ensures.found c.in_ok-bodies.ensures.0

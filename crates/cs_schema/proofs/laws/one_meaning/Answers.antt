@@ -1,5 +1,6 @@
+use Rattle.cs_schema.specs.SchemaDocument.{document_of}
 use Rattle.cs_schema.proofs.Meanings as meanings
 use Rattle.cs_schema.proofs.laws.one_meaning.Goals as goal
 
 pub returns : goal.returns
-returns c = λ R h. meanings.one_meaning R h
+returns c = meanings.one_meaning (document_of c.args.schema.now) c.is_whole.ensures.whole.profile.no_loop

@@ -1,4 +1,4 @@
-use Rattle.std.proofs.Common.{◌≡◌, ℕ, suc, add-one, ◌+◌, false, [], ◌∷◌, ◌++◌, None, Some, List, take, drop, String, Global, string_bytes, string_cmp, sym, ap, ◌∙◌, subst, append_assoc, append-nil, refl, rules}
+use Rattle.std.proofs.Common.{◌≡◌, suc, add-one, ◌+◌, false, [], ◌∷◌, ◌++◌, None, take, drop, string_bytes, string_cmp, sym, ap, ◌∙◌, subst, append_assoc, rules}
 use Rattle.std.proofs.lemmas.List.{take_all}
 use Rattle.std.specs.List.Sorted.{IsStrictlySortedBy}
 use Rattle.std.specs.Map.{keys_of}
@@ -10,9 +10,9 @@ use Rattle.cs_doc.proofs.Documents.{Entry}
 use Rattle.cs_doc.proofs.Maps.{texts, insert_last, texts_more, drop_at, drop_past, take_at}
 use Rattle.cs_schema.specs.Profile.{first, fault_of, visits, member_visits, keyword_visits, element_visits, named_visits}
 use Rattle.cs_schema.specs.Places.{at_key as key_place, at_index as index_place}
-use Rattle.cs_schema.specs.Trim.{trimmed, trimmed_members, trimmed_elements, trimmed_named, trimmed_value, with_member}
-use Rattle.cs_schema.specs.SchemaDocument.{schema_view, schemas_view, definitions_view, present}
-use Rattle.cs_schema.specs.Reading.{slots, found_value, set_found, IsFoundAt, Refuses}
+use Rattle.cs_schema.specs.Trim.{trimmed_elements, trimmed_value, with_member}
+use Rattle.cs_schema.specs.SchemaDocument.{schemas_view, definitions_view, present}
+use Rattle.cs_schema.specs.Reading.{slots, found_value, IsFoundAt, Refuses}
 use Rattle.cs_schema.proofs.Walks.{first_past, refuses_at, trimmed_members-push, trimmed_below, trimmed_named-push, trimmed_elements-push, join, KeysBelow, is_nil, not_nil, some_right, some_value}
 use Rattle.cs_schema.proofs.Slots.{set_found-last}
 use Rattle.cs_schema.proofs.read.+read.Goals as goal

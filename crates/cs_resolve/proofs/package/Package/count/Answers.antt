@@ -1,4 +1,4 @@
-use Rattle.std.proofs.Common.{length, sym, ap, ◌∙◌, arith}
+use Rattle.std.proofs.Common.{length, ap, arith}
 use Rattle.cs_resolve.proofs.Environments.{length-is}
 use Rattle.cs_resolve.proofs.package.Package.count.Goals as goal
 

@@ -1,0 +1,23 @@
+use Rattle.std.proofs.Common.{◌≡◌, IfSome, sym, subst}
+use Rattle.cs_resolve.specs.Environment.{Names, IsDefinitionName}
+use Rattle.cs_schema.specs.SchemaDocument.{schema_view}
+use Rattle.cs_compile.specs.Whole.{Compiles, reference_to}
+use Rattle.cs_compile.proofs.Compiled.{refers, whole, compiles}
+use Rattle.cs_compile.proofs.whole.compile.Goals as goal
+
+pub new-requires : goal.new-requires
+new-requires c =
+    let n = c.in-Some.ensures.found.0 in
+    let there = c.in-Some.ensures.found.2 in
+    let spelled : IsDefinitionName n = subst (λ o. IfSome o IsDefinitionName) there c.name.ensures.spelled in
+    let root : schema_view c.in_ok-root.root ≡ reference_to n = refers _ n _ _ _ there c.name.ensures.text c.bare_name.ensures c.in_ok-root.ensures.value in
+    whole c.package-package.result.now n _ root c.in_ok-definitions.ensures.each c.in_ok-definitions.ensures.alone c.in-Some.ensures.found.1.declared spelled
+
+pub returns-in-Ok-clause-found : goal.returns-in-Ok-clause-found
+returns-in-Ok-clause-found c =
+    let n = c.in-Some.ensures.found.0 in
+    let names = c.in-Some.ensures.found.1 in
+    let root : schema_view c.in_ok-root.root ≡ reference_to n = refers _ n _ _ _ c.in-Some.ensures.found.2 c.name.ensures.text c.bare_name.ensures c.in_ok-root.ensures.value in
+    let made = compiles c.package-package.result.now n (record { root = c.in_ok-root.root; definitions = c.in_ok-definitions.definitions.entries }) root c.in_ok-definitions.ensures.each c.in_ok-definitions.ensures.alone names.declared in
+    let kept = c.package-package.ensures.kept in
+    (n, subst (λ E. Names E c.args.root.now n) kept names, subst (λ E. Compiles E n c.in-Ok.schema) kept (subst (Compiles c.package-package.result.now n) (sym c.in-Ok.ensures.found) made))

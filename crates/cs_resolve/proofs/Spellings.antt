@@ -1,0 +1,124 @@
+-- The names of definitions that a source spells.
+use Rattle.std.proofs.Common.{◌≡◌, ℕ, Bool, true, false, cond, List, [], ◌∷◌, ◌++◌, map, take, Option, Some, None, codes, arith, refl, sym, ap, ◌∙◌, subst}
+use Rattle.std.specs.List.{All, AllByRecursion, list_any}
+use Rattle.std.specs.Str.{bytes_eq}
+use Rattle.std.proofs.lemmas.List.{map-append}
+use Rattle.std.proofs.lemmas.List.Elements.{All-cons, All-nil, All-push}
+use Rattle.std.specs.Prelude.{◌==◌}
+use Rattle.cs_syntax.specs.Answer.{IsSpelled}
+use Rattle.cs_syntax.specs.Cut.{Lexeme, lexeme, Cut, blank, new_line, token, finish, comma_if, line_after, line_after_mark, line_ended}
+use Rattle.cs_syntax.specs.Spelling.{is_letter, is_digit, is_definition_rest, mark_sort, sort_if, sort_of, used_marks, left_out_marks}
+use Rattle.cs_syntax.specs.Spells.{SpellsFile, spelled, defined}
+use Rattle.cs_syntax.specs.Tree.{FileTree, definition, defined_name, definitions}
+use Rattle.cs_syntax.specs.View.{bare_name, file_view, mark_kind, word_of, word, words}
+use Rattle.cs_syntax.specs.Words as W
+use Rattle.cs_syntax.specs.Words.{Word, Words}
+use Rattle.cs_syntax.specs.declared.ast.File.{File}
+use Rattle.cs_syntax.specs.declared.token.Sort.{Sort}
+use Rattle.cs_syntax.specs.declared.token.Sort.TheVariants as sorts
+use Rattle.cs_resolve.specs.Environment.{IsDefinitionName}
+use Rattle.cs_resolve.specs.Resolved.{AreSpelled}
+
+-- what a word names, if it is the name of a definition, is one
+abbrev is_named : Word → Bool
+is_named (W.definition_name n o) = is_definition_rest n
+is_named _ = true
+
+-- ---- texts
+
+-- only the second test gives the sort of a definition's name
+second : (a b c d e f : Bool) (m : Option Sort) → (m ≡ Some sorts.Definition → ⊥) → cond a (sort_if d sorts.Name) (cond b (sort_if e sorts.Definition) (cond c (sort_if f sorts.Integer) m)) ≡ Some sorts.Definition → (b ≡ true) × (e ≡ true)
+second true b c true e f m other h = cc
+second true b c false e f m other h = cc
+second false true c d true f m other h = (refl, refl)
+second false true c d false f m other h = cc
+second false false true d e true m other h = cc
+second false false true d e false m other h = cc
+second false false false d e f m other h = absurd (other h)
+
+mark_sort_other : (a b : Bool) → cond a (Some sorts.Mark) (cond b (Some sorts.LeftOut) None) ≡ Some sorts.Definition → ⊥
+mark_sort_other true b h = cc
+mark_sort_other false true h = cc
+mark_sort_other false false h = cc
+
+bare : (t : List ℕ) → sort_of t ≡ Some sorts.Definition → IsDefinitionName (bare_name t)
+bare [] h = cc
+bare (x ∷ xs) h =
+    let is = second (is_letter x) (x == 35) (is_digit x) _ (is_definition_rest xs) _ (mark_sort (x ∷ xs)) (mark_sort_other (list_any (bytes_eq (x ∷ xs)) used_marks) (list_any (bytes_eq (x ∷ xs)) left_out_marks)) h in
+    ap (λ b. is_definition_rest (cond b xs (x ∷ xs))) is.0 ∙ is.1
+
+-- ---- words
+
+module _ (t : List ℕ) (o : ℕ) where
+  -- a mark is no name
+  of_mark : is_named (word_of (mark_kind t) t o) ≡ true
+  of_mark = grind arith
+
+  of_token : (s : Sort) → sort_of t ≡ Some s → is_named (word (lexeme s t o)) ≡ true
+  of_token sorts.Definition h = bare t h
+  of_token sorts.Mark h = of_mark
+  of_token _ h = refl
+
+-- ---- the cut
+
+abbrev AreNamed : List Lexeme → Type 0
+AreNamed ks = AllByRecursion (λ w. is_named w ≡ true) (words ks)
+
+-- what a line inserts is no name, nor what it inserts once it has ended
+module _ {L : Type 0} (inserts : L → ℕ → List Lexeme → List Lexeme) (ended : L → L) where
+  abbrev Inserts : L → Type 0
+  Inserts l = (o : ℕ) (ks : List Lexeme) → AreNamed ks → AreNamed (inserts l o ks)
+
+  record IsPlain (l : L) : Type 0 where
+    now : Inserts l
+    next : Inserts (ended l)
+    once : ended (ended l) ≡ ended l
+
+  at_end : (l : L) → IsPlain l → IsPlain (ended l)
+  at_end l p = record { now = p.next; next = subst Inserts (sym p.once) p.next; once = ap ended p.once }
+
+  either : (b : Bool) {j k : L} → IsPlain j → IsPlain k → IsPlain (cond b j k)
+  either true p q = p
+  either false p q = q
+
+plain : IsPlain comma_if line_ended (line_after_mark [])
+plain = record { now = λ o ks h. h; next = λ o ks h. h; once = refl }
+
+minus : IsPlain comma_if line_ended (line_after_mark (codes "-"))
+minus = record { now = λ o ks h. h; next = λ o ks h. h; once = refl }
+
+wants : IsPlain comma_if line_ended (line_after_mark (codes ")"))
+wants = record { now = λ o ks h. (refl, h); next = λ o ks h. h; once = refl }
+
+after_mark : (t : List ℕ) → IsPlain comma_if line_ended (line_after_mark t)
+after_mark [] = plain
+after_mark (x ∷ []) = either comma_if line_ended _ minus (either comma_if line_ended _ wants plain)
+after_mark (x ∷ y ∷ []) = plain
+after_mark (x ∷ y ∷ z ∷ []) = either comma_if line_ended _ wants plain
+after_mark (x ∷ y ∷ z ∷ w ∷ t) = plain
+
+after : (s : Sort) (t : List ℕ) → IsPlain comma_if line_ended (line_after s t)
+after sorts.Mark t = after_mark t
+after sorts.LeftOut t = plain
+after sorts.Inserted t = plain
+after sorts.End t = plain
+after _ t = wants
+
+of_cut : {bs : List ℕ} {o : ℕ} {l : _} {ks : List Lexeme} → IsPlain comma_if line_ended l → Cut bs o l ks → AreNamed ks
+of_cut p (blank h k) = of_cut p k
+of_cut p (new_line {o} {l} {ks} h k) = p.now o ks (of_cut (at_end comma_if line_ended l p) k)
+of_cut p (token {n} {o} {s} {bs} b k) = (of_token (take n bs) o s b.token.spelled, of_cut (after s (take n bs)) k)
+of_cut p (finish {o}) = p.now o (lexeme sorts.End [] o ∷ []) (refl, tt)
+
+-- ---- files
+
+of_file : {f : FileTree} {ts : Words} → SpellsFile f ts → AllByRecursion (λ w. is_named w ≡ true) ts → All (λ d. IsDefinitionName (defined_name d)) (definitions f)
+of_file (spelled (defined {s} {p} {q} {e} c)) h = All-cons (λ d. IsDefinitionName (defined_name d)) (definition s p e) [] h.0 (All-nil (λ d. IsDefinitionName (defined_name d)))
+
+-- each definition of a file that a source spells has the name of one
+pub names-spelled : (t : List ℕ) (f : FileTree) → IsSpelled t f → All (λ d. IsDefinitionName (defined_name d)) (definitions f)
+names-spelled t f h = of_file h.spelled (of_cut plain h.cut)
+
+-- one file more
+pub spelled-push : (fs : List File) (f : File) (t : List ℕ) → AreSpelled (map file_view fs) → IsSpelled t (file_view f) → AreSpelled (map file_view (fs ++ f ∷ []))
+spelled-push fs f t all one = subst AreSpelled (sym (map-append file_view fs (f ∷ []))) (All-push (λ (g : FileTree). (s : List ℕ) × IsSpelled s g) (map file_view fs) (file_view f) all (t, one))

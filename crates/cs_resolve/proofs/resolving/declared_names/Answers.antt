@@ -1,0 +1,40 @@
+use Rattle.std.proofs.Common.{ℕ, List, map, take, sym, ap, ◌∙◌, subst}
+use Rattle.std.specs.List.{flat_map}
+use Rattle.std.proofs.lemmas.List.{map-append}
+use Rattle.cs_syntax.specs.Answer.{IsSpelled}
+use Rattle.cs_syntax.specs.Tree.{FileTree, defined_name, definitions}
+use Rattle.cs_syntax.specs.View.{definition_view, file_view}
+use Rattle.cs_resolve.specs.Declarations.{distinct}
+use Rattle.cs_resolve.specs.Resolved.{AreSpelled}
+use Rattle.cs_resolve.specs.View.{names_of}
+use Rattle.cs_resolve.proofs.Environments.{table-empty}
+use Rattle.cs_resolve.proofs.Spellings.{names-spelled}
+use Rattle.cs_resolve.proofs.Trees.{definitions_more, mapped_at}
+use Rattle.cs_resolve.proofs.resolving.declared_names.Goals as goal
+
+pub loop-file-init : goal.loop-file-init
+loop-file-init c = record {
+  table = table-empty c.new-names.result.entries c.new-names.ensures.empty;
+  found = ap names_of c.new-names.ensures.empty;
+}
+
+pub add_names-requires-clause-spelled : goal.add_names-requires-clause-spelled
+add_names-requires-clause-spelled c =
+    let fs = c.deref-file-items.result.now in
+    let f = c.file-item.result in
+    let all = subst (λ gs. AreSpelled (map file_view gs)) (sym c.deref-file-items.ensures.value) c.requires in
+    let one = mapped_at (λ (g : FileTree). (t : List ℕ) × IsSpelled t g) file_view fs c.loop-file.file-index f c.loop-file-test.true c.file-item.is all in
+    names-spelled one.0 (file_view f) one.1
+
+pub loop-file-preserved : goal.loop-file-preserved
+loop-file-preserved c =
+    let l = c.loop-file in
+    let i = l.file-index in
+    let fs = c.deref-file-items.result.now in
+    let f = c.file-item.result in
+    let before = map defined_name (flat_map definitions (map file_view (take i fs))) in
+    let more = ap (map defined_name) (definitions_more fs i f c.loop-file-test.true c.file-item.is) ∙ map-append defined_name (flat_map definitions (map file_view (take i fs))) (map definition_view f.definitions.items) in
+    record {
+      table = c.in_ok-add_names.ensures.table;
+      found = c.in_ok-add_names.ensures.added before l.invariant.found ∙ ap distinct (sym more);
+    }

@@ -1,0 +1,47 @@
+use Rattle.std.proofs.Common.{◌≡◌, [], ◌∷◌, ◌++◌, Some, String, Global, string_bytes, string_cmp, take, drop, sym, ap, ◌∙◌, subst, append_assoc, append-nil}
+use Rattle.std.specs.List.Sorted.{IsStrictlySortedBy}
+use Rattle.std.specs.Map.{keys_of}
+use Rattle.cs_doc.specs.Document.{object}
+use Rattle.cs_doc.specs.View.{object_view, members_of}
+use Rattle.cs_doc.proofs.Views.{view-Object}
+use Rattle.cs_doc.proofs.Maps.{texts, insert_last, texts_more}
+use Rattle.cs_schema.specs.SchemaDocument.{definitions_view, slots_of}
+use Rattle.cs_schema.specs.Writing.{put_all}
+use Rattle.cs_schema.specs.declared.schema.Schema.{Schema}
+use Rattle.cs_schema.proofs.Writing.{keywords_put, members_of-push, some_named, not_empty}
+use Rattle.cs_schema.proofs.write.+write.Goals as goal
+
+pub keywords_doc-returns-clause-value : goal.keywords_doc-returns-clause-value
+keywords_doc-returns-clause-value t c =
+    let ss = slots_of c.args.keywords.now in
+    c.in_ok-set_to_kind.ensures.put
+    ∙ ap (put_all (drop 12 ss)) (c.in_ok-set_to_minimum.ensures.put
+    ∙ ap (put_all (take 4 (drop 8 ss))) (c.in_ok-set_to_above.ensures.put
+    ∙ ap (put_all (take 4 (drop 4 ss))) (c.in_ok-set_to_any_of.ensures.put
+    ∙ ap (λ es. put_all (take 4 ss) (object_view es)) c.new-members.ensures.empty)))
+    ∙ keywords_put c.args.keywords.now
+
+pub map_doc-loop-name-preserved : goal.map_doc-loop-name-preserved
+map_doc-loop-name-preserved t c =
+    let l = c.loop-name in
+    let done = l.invariant.done in
+    let e : String Global × Schema = (c.in-Some.name.now, c.in-Some.schema.now) in
+    let left = c.next.new.self in
+    let name = c.in_ok-name.name in
+    let doc = c.in_ok-doc.doc in
+    let all : c.args.schemas.now.entries ≡ done ++ e ∷ left = l.invariant.all ∙ ap (λ es. done ++ es) c.in-Some.ensures.steps in
+    let named : string_bytes name ≡ string_bytes e.0 = c.in_ok-name.ensures.cases in
+    let sorted = subst (λ es. IsStrictlySortedBy string_cmp (keys_of es)) all c.into_iter-name-iterator.ensures.into_iter_gives.5 in
+    let grown : c.insert.new.self.entries ≡ l.docs.entries ++ (name, doc) ∷ [] = c.in_ok-insert.ensures.entries ∙ insert_last l.docs.entries done e left name doc l.invariant.same named sorted in record {
+      done = done ++ e ∷ [];
+      all = all ∙ sym (append_assoc done (e ∷ []) left);
+      same = ap texts grown ∙ texts_more l.docs.entries done e name doc l.invariant.same named;
+      made = ap object_view grown ∙ members_of-push l.docs.entries done name doc e l.invariant.made named c.in_ok-doc.ensures.value;
+    }
+
+pub map_doc-returns-clause-value : goal.map_doc-returns-clause-value
+map_doc-returns-clause-value t c =
+    let l = c.loop-name in
+    let all : c.args.schemas.now.entries ≡ l.invariant.done = l.invariant.all ∙ ap (λ es. l.invariant.done ++ es) c.in-None.ensures.steps.0 ∙ append-nil l.invariant.done in
+    ap Some (view-Object l.docs ∙ ap object (l.invariant.made ∙ ap (λ es. members_of (definitions_view es)) (sym all)))
+    ∙ sym (some_named c.args.schemas.now.entries (not_empty c.is_empty.result c.args.schemas.now.entries c.is_empty.ensures c.if-is_empty.false))

@@ -1,0 +1,17 @@
+use Rattle.std.proofs.Common.{◌≡◌, List, ◌++◌, String, Global, map, take}
+use Rattle.cs_doc.specs.View.{doc_view, object_view, members_of}
+use Rattle.cs_doc.proofs.Maps.{texts}
+use Rattle.cs_schema.specs.SchemaDocument.{schema_view, definitions_view}
+use Rattle.cs_schema.specs.declared.schema.Schema.{Schema}
+use Rattle.cs_schema.proofs.write.+write.Given as goal
+
+abbrev pub invariant-list_doc-loop-schema : goal.invariant-list_doc-loop-schema
+invariant-list_doc-loop-schema l = map doc_view l.docs.items ≡ map schema_view (take l.schema-index l.schema-items)
+
+abbrev pub invariant-map_doc-loop-name : goal.invariant-map_doc-loop-name
+invariant-map_doc-loop-name l = record {
+  done : List (String Global × Schema);
+  all : l.schemas.entries ≡ done ++ l.name-iterator;
+  same : texts l.docs.entries ≡ texts done;
+  made : object_view l.docs.entries ≡ members_of (definitions_view done);
+}

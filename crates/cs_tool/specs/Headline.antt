@@ -1,0 +1,112 @@
+-- What the calls answer. A schema admits just the documents that are instances of the root definition.
+use Rattle.std.specs.Prelude.{◌≡◌, ℕ, ◌≤◌, ◌⊎◌, List, Bool, option_map}
+use Rattle.cs_doc.specs.Document.{Document, IsDocument, depth}
+use Rattle.cs_doc.specs.Texts.{Reads, IsJson, HasOtherNumber, text_of}
+use Rattle.cs_resolve.specs.Environment.{Environment, Names, bodies}
+use Rattle.cs_instance.specs.Instance.{Rule, definition, IsInstance}
+use Rattle.cs_instance.specs.Instance as instance
+use Rattle.cs_schema.specs.Keywords.{defined}
+use Rattle.cs_schema.specs.Profile.{IsSchema}
+use Rattle.cs_schema.specs.Trim.{trim}
+use Rattle.cs_schema.specs.Validity.{IsValidity}
+use Rattle.cs_schema.specs.Validity as validity
+use Rattle.cs_schema.specs.Refusal as schema
+use Rattle.cs_schema.specs.declared.fault.SchemaFault.{SchemaFault}
+use Rattle.cs_schema.specs.declared.fault.SchemaFault.TheVariants as schema_fault
+use Rattle.cs_compile.specs.Translation.{definition_schema}
+use Rattle.cs_tool.specs.Accepted.{IsAccepted, First}
+use Rattle.cs_tool.specs.declared.fault.Fault.{Fault}
+use Rattle.cs_tool.specs.declared.fault.Fault.TheVariants.{OutOfMemory, SchemaNotJson, Keyword, Shape, Reference, Loop, NotJson, NotInteger}
+
+-- the text is the schema of the root definition that the sources spell
+pub record IsExport (sources : List (List ℕ)) (root text : List ℕ) : Type 0 where
+  -- the sources are accepted, and declare the root
+  pub environment : Environment
+  pub accepted : IsAccepted sources environment
+  pub name : List ℕ
+  pub named : Names environment root name
+  -- the text is the compact text of a schema of the profile, nests at most 114 deep and is read as that schema
+  pub schema : Document
+  pub written : text ≡ text_of schema
+  pub nested : depth schema ≤ 114
+  pub read : Reads text schema
+  pub profile : IsSchema schema
+  pub trimmed : trim schema ≡ schema
+  -- it has the schema of each declared definition, and no other
+  pub definitions : (n : List ℕ) → defined schema n ≡ option_map definition_schema (bodies environment n)
+  -- there is one instance relation and one validity, and each document is valid just where it is an instance of the root
+  pub one_instance : instance.OneMeaning environment
+  pub one_validity : validity.OneMeaning schema
+  pub admits : (V : Document → Document → Bool) (I : Rule → Document → Bool) → IsValidity schema V → IsInstance environment I
+      → (x : Document) → IsDocument x → V schema x ≡ I (definition name) x
+
+-- the answer says whether the document is an instance of the root definition that the sources spell
+pub record IsVerdict (sources : List (List ℕ)) (root text : List ℕ) (answer : Bool) : Type 0 where
+  pub environment : Environment
+  pub accepted : IsAccepted sources environment
+  pub name : List ℕ
+  pub named : Names environment root name
+  pub document : Document
+  pub read : Reads text document
+  pub one_instance : instance.OneMeaning environment
+  pub holds : (I : Rule → Document → Bool) → IsInstance environment I → answer ≡ I (definition name) document
+
+-- the answer says whether the document is valid against the schema
+pub record IsValidated (schema_text text : List ℕ) (answer : Bool) : Type 0 where
+  pub schema : Document
+  pub read_schema : Reads schema_text schema
+  pub profile : IsSchema schema
+  pub document : Document
+  pub read : Reads text document
+  pub one_validity : validity.OneMeaning schema
+  pub holds : (V : Document → Document → Bool) → IsValidity schema V → answer ≡ V schema document
+
+-- ---- refusals; memory may run out at any time
+
+abbrev pub ExportRefusal : List (List ℕ) → List ℕ → Fault → Type 0
+ExportRefusal sources root OutOfMemory = Unit {0}
+ExportRefusal sources root f = First sources root f
+
+-- the sources are accepted and declare the root
+pub record IsReady (sources : List (List ℕ)) (root : List ℕ) : Type 0 where
+  pub environment : Environment
+  pub accepted : IsAccepted sources environment
+  pub name : List ℕ
+  pub named : Names environment root name
+
+-- the document's text comes after the sources and the root
+abbrev pub VetRefusal : List (List ℕ) → List ℕ → List ℕ → Fault → Type 0
+VetRefusal sources root text OutOfMemory = Unit {0}
+VetRefusal sources root text NotJson = IsReady sources root × ¬ (IsJson text)
+VetRefusal sources root text NotInteger = IsReady sources root × HasOtherNumber text
+VetRefusal sources root text f = First sources root f
+
+-- the schema's text is read as a document, which is no schema of the profile by this fault
+pub record IsNoSchema (schema_text : List ℕ) (f : SchemaFault) : Type 0 where
+  pub document : Document
+  pub read : Reads schema_text document
+  pub refused : schema.IsRefusal f document
+
+-- the schema's text is read as a schema of the profile
+pub record IsSchemaText (schema_text : List ℕ) : Type 0 where
+  pub document : Document
+  pub read : Reads schema_text document
+  pub profile : IsSchema document
+
+-- the document's text comes after the schema's
+abbrev pub ValidateRefusal : List ℕ → List ℕ → Fault → Type 0
+ValidateRefusal schema_text text OutOfMemory = Unit {0}
+ValidateRefusal schema_text text SchemaNotJson = ¬ (IsJson schema_text)
+ValidateRefusal schema_text text (Keyword place name) = IsNoSchema schema_text (schema_fault.Keyword place name)
+ValidateRefusal schema_text text (Shape place name) = IsNoSchema schema_text (schema_fault.Shape place name)
+ValidateRefusal schema_text text (Reference place name) = IsNoSchema schema_text (schema_fault.Reference place name)
+ValidateRefusal schema_text text (Loop names) = IsNoSchema schema_text (schema_fault.Loop names)
+ValidateRefusal schema_text text NotInteger = HasOtherNumber schema_text ⊎ (IsSchemaText schema_text × HasOtherNumber text)
+ValidateRefusal schema_text text NotJson = IsSchemaText schema_text × ¬ (IsJson text)
+ValidateRefusal schema_text text _ = ⊥
+
+abbrev pub SchemaTextRefusal : List ℕ → Fault → Type 0
+SchemaTextRefusal schema_text OutOfMemory = Unit {0}
+SchemaTextRefusal schema_text SchemaNotJson = ¬ (IsJson schema_text)
+SchemaTextRefusal schema_text NotInteger = HasOtherNumber schema_text
+SchemaTextRefusal schema_text _ = ⊥
