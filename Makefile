@@ -2,12 +2,13 @@
 # make run        builds it and runs it on examples/port.cue
 # make test       the gate: every proof from nothing, the must-fail edits, the tests, the program's stored run
 # make memory     runs the program with each of its first 40 allocations refused in turn, half an hour; JOBS=4 for four at once
+# make bench      times the lexer on 1 MiB of source in four shapes
 # make install    copies the program to $(PREFIX)/bin
 PREFIX ?= /usr/local
 JOBS ?= 1
 SOURCES := crates.txt $(shell find crates -name out -prune -o \( -name '*.rt' -o -name '*.antt' \) -print)
 
-.PHONY: all run test memory install clean toolchain
+.PHONY: all run test memory bench install clean toolchain
 
 all: bin/cue2schema
 
@@ -24,6 +25,10 @@ test: | toolchain
 
 memory: | toolchain
 	JOBS=$(JOBS) tools/memory.sh
+
+bench: | toolchain
+	cd crates/cs_bench && rt run < stdin > /dev/null
+	sh bench/lex.sh crates/cs_bench/out/cs_bench
 
 install: bin/cue2schema
 	install -D -m 755 bin/cue2schema $(DESTDIR)$(PREFIX)/bin/cue2schema

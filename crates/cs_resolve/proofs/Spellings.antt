@@ -1,13 +1,13 @@
 -- The names of definitions that a source spells.
 use Rattle.std.proofs.Common.{◌≡◌, ℕ, Bool, true, false, cond, List, [], ◌∷◌, ◌++◌, map, take, Option, Some, None, codes, arith, refl, sym, ap, ◌∙◌, subst}
-use Rattle.std.specs.List.{All, AllByRecursion, list_any}
+use Rattle.std.specs.List.{All, AllByRecursion, list_all, list_any}
 use Rattle.std.specs.Str.{bytes_eq}
 use Rattle.std.proofs.lemmas.List.{map-append}
 use Rattle.std.proofs.lemmas.List.Elements.{All-cons, All-nil, All-push}
 use Rattle.std.specs.Prelude.{◌==◌}
 use Rattle.cs_syntax.specs.Answer.{IsSpelled}
-use Rattle.cs_syntax.specs.Cut.{Lexeme, lexeme, Cut, blank, new_line, token, finish, comma_if, line_after, line_after_mark, line_ended}
-use Rattle.cs_syntax.specs.Spelling.{is_letter, is_digit, is_definition_rest, mark_sort, sort_if, sort_of, used_marks, left_out_marks}
+use Rattle.cs_syntax.specs.Cut.{Lexeme, lexeme, Cut, blank, new_line, comment, token, finish, comma_if, line_after, line_after_mark, line_ended}
+use Rattle.cs_syntax.specs.Spelling.{is_letter, is_digit, is_name_byte, is_integer, is_definition_rest, underscore_sort, mark_sort, sort_if, sort_of, used_marks, left_out_marks}
 use Rattle.cs_syntax.specs.Spells.{SpellsFile, spelled, defined}
 use Rattle.cs_syntax.specs.Tree.{FileTree, definition, defined_name, definitions}
 use Rattle.cs_syntax.specs.View.{bare_name, file_view, mark_kind, word_of, word, words}
@@ -26,25 +26,41 @@ is_named _ = true
 
 -- ---- texts
 
--- only the second test gives the sort of a definition's name
-second : (a b c d e f : Bool) (m : Option Sort) → (m ≡ Some sorts.Definition → ⊥) → cond a (sort_if d sorts.Name) (cond b (sort_if e sorts.Definition) (cond c (sort_if f sorts.Integer) m)) ≡ Some sorts.Definition → (b ≡ true) × (e ≡ true)
-second true b c true e f m other h = cc
-second true b c false e f m other h = cc
-second false true c d true f m other h = (refl, refl)
-second false true c d false f m other h = cc
-second false false true d e true m other h = cc
-second false false true d e false m other h = cc
-second false false false d e f m other h = absurd (other h)
+-- it isn't that of a definition's name
+abbrev Other : Option Sort → Type 0
+Other o = o ≡ Some sorts.Definition → ⊥
 
-mark_sort_other : (a b : Bool) → cond a (Some sorts.Mark) (cond b (Some sorts.LeftOut) None) ≡ Some sorts.Definition → ⊥
-mark_sort_other true b h = cc
-mark_sort_other false true h = cc
-mark_sort_other false false h = cc
+either_other : (b : Bool) (p q : Option Sort) → Other p → Other q → Other (cond b p q)
+either_other true p q h k = h
+either_other false p q h k = k
+
+sort_other : (b : Bool) (s : Sort) → Other (Some s) → Other (sort_if b s)
+sort_other true s h = h
+sort_other false s h = λ e. cc
+
+underscore_other : (xs : List ℕ) → Other (underscore_sort xs)
+underscore_other [] = λ e. cc
+underscore_other (y ∷ ys) =
+    either_other (is_name_byte y) _ _ (sort_other _ sorts.Hidden (λ e. cc)) (either_other (y == 35) _ _ (sort_other _ sorts.Hidden (λ e. cc)) (sort_other _ sorts.Bottom (λ e. cc)))
+
+mark_other : (t : List ℕ) → Other (mark_sort t)
+mark_other t = either_other (list_any (bytes_eq t) used_marks) _ _ (λ e. cc) (either_other (list_any (bytes_eq t) left_out_marks) _ _ (λ e. cc) (λ e. cc))
+
+-- only the second test gives the sort of a definition's name
+second : (a b d e : Bool) (m : Option Sort) → Other m → cond a (sort_if d sorts.Name) (cond b (sort_if e sorts.Definition) m) ≡ Some sorts.Definition → (b ≡ true) × (e ≡ true)
+second true b true e m other h = cc
+second true b false e m other h = cc
+second false true d true m other h = (refl, refl)
+second false true d false m other h = cc
+second false false d e m other h = absurd (other h)
 
 bare : (t : List ℕ) → sort_of t ≡ Some sorts.Definition → IsDefinitionName (bare_name t)
 bare [] h = cc
 bare (x ∷ xs) h =
-    let is = second (is_letter x) (x == 35) (is_digit x) _ (is_definition_rest xs) _ (mark_sort (x ∷ xs)) (mark_sort_other (list_any (bytes_eq (x ∷ xs)) used_marks) (list_any (bytes_eq (x ∷ xs)) left_out_marks)) h in
+    let rest = either_other (x == 95) (underscore_sort xs) _ (underscore_other xs)
+        (either_other (is_digit x) _ _ (sort_other (is_integer (x ∷ xs)) sorts.Integer (λ e. cc))
+        (either_other (x == 34) _ _ (sort_other _ sorts.Text (λ e. cc)) (mark_other (x ∷ xs)))) in
+    let is = second (is_letter x) (x == 35) (list_all is_name_byte xs) (is_definition_rest xs) _ rest h in
     ap (λ b. is_definition_rest (cond b xs (x ∷ xs))) is.0 ∙ is.1
 
 -- ---- words
@@ -107,6 +123,7 @@ after _ t = wants
 of_cut : {bs : List ℕ} {o : ℕ} {l : _} {ks : List Lexeme} → IsPlain comma_if line_ended l → Cut bs o l ks → AreNamed ks
 of_cut p (blank h k) = of_cut p k
 of_cut p (new_line {o} {l} {ks} h k) = p.now o ks (of_cut (at_end comma_if line_ended l p) k)
+of_cut p (comment {o} {bs} {l} {ks} h k) = p.now o ks (of_cut (at_end comma_if line_ended l p) k)
 of_cut p (token {n} {o} {s} {bs} b k) = (of_token (take n bs) o s b.token.spelled, of_cut (after s (take n bs)) k)
 of_cut p (finish {o}) = p.now o (lexeme sorts.End [] o ∷ []) (refl, tt)
 

@@ -134,7 +134,7 @@ fn add_bodies(
     Ok(())
 }
 
-/// Adds a body to those of a name of the table.
+/// Adds a body to those of a name, if the table has it.
 fn add_body(
     names: &NameTable,
     bodies: &mut Vec<Vec<Shape>>,

@@ -1,9 +1,10 @@
 -- What the loop of the lexer keeps: whatever cuts the rest completes the cut of the whole text, and where the rest is stuck, so is the text.
-use Rattle.std.proofs.Common.{◌≡◌, ℕ, ◌+◌, ◌-◌, ◌<◌, ◌≤◌, List, [], ◌∷◌, ◌++◌, length, take, drop, get_or, drop-cons, get_or-drop, IsUtf8, true, sym, ap, subst, ◌∙◌, append_assoc, arith}
+use Rattle.std.proofs.Common.{◌≡◌, ℕ, ◌+◌, ◌-◌, ◌<◌, ◌≤◌, List, [], ◌∷◌, ◌++◌, length, take, drop, get_or, drop-cons, get_or-drop, IsUtf8, Bool, true, false, cond, refl, sym, ap, subst, ◌∙◌, append_assoc, arith}
 use Rattle.std.proofs.Math.Numerals.{add-one}
 use Rattle.std.proofs.Math.ListN.{drop_of_length-le}
 use Rattle.std.proofs.lemmas.List.{drop-drop, take_all, length-drop}
-use Rattle.std.specs.Prelude.{◌==◌}
+use Rattle.std.proofs.lemmas.Bool.Decides.{nat_tests}
+use Rattle.std.specs.Prelude.{◌==◌, not}
 use Rattle.std.specs.Str.{IsCharBoundary}
 use Rattle.std.proofs.lemmas.Str.{IsCharBoundary-after_ascii}
 use Rattle.cs_syntax.specs.declared.token.Sort.{Sort}
@@ -13,7 +14,8 @@ use Rattle.cs_syntax.specs.declared.lexer.line.Line.TheVariants.{Plain, WantsCom
 use Rattle.cs_syntax.specs.declared.fault.SyntaxFault.{SyntaxFault}
 use Rattle.cs_syntax.specs.declared.fault.SyntaxFault.TheVariants.{NoToken, IntegerRange}
 use Rattle.cs_syntax.specs.Heads.{Edges}
-use Rattle.cs_syntax.specs.Cut.{is_space, Begins, Lexeme, lexeme, line_after, line_ended, comma_if, Cut, blank, new_line, token, finish, NoneBegins, TooLarge, Stuck, no_token, too_large, past_blank, past_line, past_token}
+use Rattle.cs_syntax.proofs.Runs.{prefix_within}
+use Rattle.cs_syntax.specs.Cut.{is_space, Begins, Lexeme, lexeme, line_after, line_ended, line_len, begins_comment, comma_if, Cut, blank, new_line, comment, token, finish, NoneBegins, TooLarge, Stuck, no_token, too_large, past_blank, past_line, past_comment, past_token}
 
 pub record Before (bs : List ℕ) (at : ℕ) (l : Line) (front : List Lexeme) : Type 0 where
   pub cut : (ks : List Lexeme) → Cut (drop at bs) at l ks → Cut bs 0 Plain (front ++ ks)
@@ -49,6 +51,15 @@ module _ (bs : List ℕ) (at : ℕ) (l : Line) (front : List Lexeme) (b : Before
       stuck = λ f k. b.stuck f (subst (λ t. Stuck t at l f) (sym first_is) (past_line h k));
     }
 
+  after_comment : begins_comment (drop at bs) ≡ true → Before bs (at + line_len (drop at bs)) (line_ended l) (front ++ comma_if l at [])
+  after_comment h = record {
+    cut = λ ks k. subst (λ xs. Cut bs 0 Plain xs) (sym (comma_front front ks l at)) (b.cut (comma_if l at ks) (comment h (subst (λ t. Cut t (at + line_len (drop at bs)) (line_ended l) ks) moved k)));
+    stuck = λ f k. b.stuck f (past_comment h (subst (λ t. Stuck t (at + line_len (drop at bs)) (line_ended l) f) moved k));
+  }
+    where
+      moved : drop (at + line_len (drop at bs)) bs ≡ drop (line_len (drop at bs)) (drop at bs)
+      moved = grind (arith, drop-drop)
+
   after_token : (n : ℕ) (s : Sort) → Begins l (drop at bs) n s → Before bs (at + n) (line_after s (take n (drop at bs))) (front ++ lexeme s (take n (drop at bs)) at ∷ [])
   after_token n s h = record {
     cut = λ ks k. subst (λ xs. Cut bs 0 Plain xs) (sym (append_assoc front (lexeme s (take n (drop at bs)) at ∷ []) ks)) (b.cut (lexeme s (take n (drop at bs)) at ∷ ks) (token h (subst (λ t. Cut t (at + n) (line_after s (take n (drop at bs))) ks) moved k)));
@@ -73,6 +84,11 @@ module _ (bs : List ℕ) (at : ℕ) (l : Line) (front : List Lexeme) (b : Before
   pub turn_line : at < length bs → (get_or (rest bs at) 0 0 == 10) ≡ true → Before bs (at + 1) (line_ended l) (front ++ comma_if l at [])
   turn_line lt h = after_line bs at l front b lt (rw (whole_rest, first_is bs at l front b lt) at h)
 
+  pub turn_comment : (n : ℕ) → begins_comment (rest bs at) ≡ true → n ≡ line_len (rest bs at) → Before bs (at + n) (line_ended l) (front ++ comma_if l at [])
+  turn_comment n h e =
+      let is : n ≡ line_len (drop at bs) = e ∙ ap line_len (whole_rest bs at) in
+      rw is (after_comment bs at l front b (rw whole_rest at h))
+
   pub turn_token : (n : ℕ) (s : Sort) → Begins l (rest bs at) n s → Before bs (at + n) (line_after s (take n (drop at bs))) (front ++ lexeme s (take n (drop at bs)) at ∷ [])
   turn_token n s h = after_token bs at l front b n s (subst (λ t. Begins l t n s) (whole_rest bs at) h)
 
@@ -81,6 +97,22 @@ module _ (bs : List ℕ) (at : ℕ) (l : Line) (front : List Lexeme) (b : Before
 
   pub turn_large : (n : ℕ) → TooLarge l (rest bs at) n → Stuck bs 0 Plain (IntegerRange at)
   turn_large n h = b.stuck (IntegerRange at) (too_large (subst (λ t. TooLarge l t n) (whole_rest bs at) h))
+
+pub line_within : (bs : List ℕ) → line_len bs ≤ length bs
+line_within bs = prefix_within (λ x. not (x == 10)) bs
+
+pub comment_within : (bs : List ℕ) (at n : ℕ) → at ≤ length bs → n ≡ line_len (rest bs at) → at + n ≤ length bs
+comment_within bs at n le e = omega (arith, e, line_within (rest bs at), ap length (whole_rest bs at), length-drop at bs)
+
+-- a comment is no empty line
+pub comment_some : (bs : List ℕ) → begins_comment bs ≡ true → 0 < line_len bs
+comment_some [] h = absurd cc
+comment_some (x ∷ []) h = absurd cc
+comment_some (x ∷ y ∷ xs) h = by (x == 10) refl
+  where
+    by : (b : Bool) → (x == 10) ≡ b → 0 < cond (not b) (1 + line_len (y ∷ xs)) 0
+    by true e = let never : ⊥ = grind (arith, nat_tests) in absurd never
+    by false e = omega arith
 
 -- ---- slices
 

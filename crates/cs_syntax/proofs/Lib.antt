@@ -1,9 +1,17 @@
 pub mod WordKinds
 pub mod Runs
+pub mod Bytes
+pub mod Names
+pub mod Numbers
+pub mod Texts
 pub mod Marks
 pub mod Fronts
 pub mod Once
 pub mod Cutting
+pub mod Always
+pub mod Slices
+pub mod Literals
+pub mod Samples
 pub mod Numerals
 pub mod SingleLine
 pub mod BareNames

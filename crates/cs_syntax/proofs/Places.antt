@@ -1,12 +1,12 @@
 -- A fault stands at a word: what is left is an end of the words, and a fault is that of the first word of such an end.
-use Rattle.std.proofs.Common.{◌≡◌, ℕ, zero, suc, ℤ, Bool, true, false, [], ◌∷◌, List, length, Option, Some, None, Result, Ok, Err, refl, ap, ◌∙◌, inr}
+use Rattle.std.proofs.Common.{◌≡◌, ℕ, zero, suc, ℤ, Bool, true, false, [], ◌∷◌, List, length, Option, Some, None, Result, Ok, Err, refl, ap, ◌∙◌, inl}
 use Rattle.cs_syntax.specs.declared.fault.SyntaxFault.{SyntaxFault}
 use Rattle.cs_syntax.specs.declared.fault.SyntaxFault.TheVariants as faults
 use Rattle.cs_syntax.specs.declared.parser.kind.Kind.TheVariants as kinds
 use Rattle.cs_syntax.specs.declared.ast.Relation.TheVariants as relations
 use Rattle.cs_syntax.specs.declared.lexer.line.Line.{Line}
 use Rattle.cs_syntax.specs.declared.lexer.line.Line.TheVariants.{Plain, WantsComma, Minus}
-use Rattle.cs_syntax.specs.Cut.{Lexeme, comma_if, Cut, blank, new_line, token, finish, Stuck, no_token, too_large, past_blank, past_line, past_token, IsCut}
+use Rattle.cs_syntax.specs.Cut.{Lexeme, comma_if, Cut, blank, new_line, comment, token, finish, Stuck, no_token, too_large, past_blank, past_line, past_comment, past_token, IsCut}
 use Rattle.cs_syntax.specs.Words as W
 use Rattle.std.specs.Prelude.{IfErr}
 use Rattle.cs_syntax.specs.Words.{Word, Words, start, name, definition_name, numeral, colon, amp, nl, relation, minus}
@@ -31,6 +31,7 @@ comma_ended Minus o ks h = h
 cut_ended : {bs : List ℕ} {o : ℕ} {l : Line} {ks : List Lexeme} → Cut bs o l ks → WellEnded (words ks)
 cut_ended (blank h k) = cut_ended k
 cut_ended (new_line {o = o} {l = l} {ks = ks} h k) = comma_ended l o ks (cut_ended k)
+cut_ended (comment {o = o} {l = l} {ks = ks} h k) = comma_ended l o ks (cut_ended k)
 cut_ended (token h k) = before (cut_ended k)
 cut_ended (finish {o} {l}) = comma_ended l o _ last
 
@@ -141,6 +142,7 @@ stuck_lexical (no_token h) = refl
 stuck_lexical (too_large h) = refl
 stuck_lexical (past_blank h k) = stuck_lexical k
 stuck_lexical (past_line h k) = stuck_lexical k
+stuck_lexical (past_comment h k) = stuck_lexical k
 stuck_lexical (past_token h k) = stuck_lexical k
 
 pub stuck_refused : (source : List ℕ) (f : SyntaxFault) → IsRefusal source f → IsFileRefusal source f
@@ -166,8 +168,8 @@ fault_of_word ts f h = ap is_of_word h.3 ∙ of_word (is_left_out h.0) (start h.
 pub file_refused : {X : Type 0} (view : X → FileTree) (source : List ℕ) (r : Result X SyntaxFault) (ks : List Lexeme) → IsCut source ks → Gives view r (file_at (words ks)) → IfErr r (λ f. IsFileRefusal source f)
 file_refused view source (Ok x) ks cut g = tt
 file_refused view source (Err faults.OutOfMemory) ks cut g = tt
-file_refused view source (Err (faults.Syntax o)) ks cut g = record { tokens = ks; cut = cut; place = inr (file_fault (words ks) (cut_ended cut) (faults.Syntax o) g) }
-file_refused view source (Err (faults.LeftOut o)) ks cut g = record { tokens = ks; cut = cut; place = inr (file_fault (words ks) (cut_ended cut) (faults.LeftOut o) g) }
+file_refused view source (Err (faults.Syntax o)) ks cut g = record { tokens = ks; cut = cut; place = inl (file_fault (words ks) (cut_ended cut) (faults.Syntax o) g) }
+file_refused view source (Err (faults.LeftOut o)) ks cut g = record { tokens = ks; cut = cut; place = inl (file_fault (words ks) (cut_ended cut) (faults.LeftOut o) g) }
 file_refused view source (Err (faults.NoToken o)) ks cut g = let e = fault_of_word (words ks) (faults.NoToken o) (file_fault (words ks) (cut_ended cut) (faults.NoToken o) g) in absurd cc
 file_refused view source (Err (faults.IntegerRange o)) ks cut g = let e = fault_of_word (words ks) (faults.IntegerRange o) (file_fault (words ks) (cut_ended cut) (faults.IntegerRange o) g) in absurd cc
 file_refused view source (Err faults.TooHigh) ks cut g = let e = fault_of_word (words ks) faults.TooHigh (file_fault (words ks) (cut_ended cut) faults.TooHigh g) in absurd cc

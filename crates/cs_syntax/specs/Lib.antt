@@ -1,4 +1,5 @@
 pub mod Spelling
+pub mod Literal
 pub mod Values
 pub mod Cut
 pub mod Heads

@@ -7,3 +7,4 @@ mod line;
 pub(crate) mod lines;
 mod mark;
 pub(crate) mod numeral;
+pub(crate) mod text;

@@ -10,6 +10,7 @@ mod token;
 pub use ast::{Definition, Expr, Field, FieldMark, File, ListEnd, Relation};
 pub use fault::SyntaxFault;
 pub use lexer::cut::{lex, one_cut};
+pub use lexer::text::text_parts;
 pub use parser::file::parse_file;
 pub use token::{Sort, Token};
 

@@ -1,7 +1,7 @@
 // Classes of bytes.
 
 ghost use Rattle.std.specs.Prelude.{◌≡◌};
-ghost use Rattle.cs_syntax.specs.Spelling.{is_letter, is_digit, is_name_byte, begins_definition, is_run_byte};
+ghost use Rattle.cs_syntax.specs.Spelling.{is_letter, is_digit, is_hex_digit, digit_value, is_name_byte, begins_definition, is_run_byte};
 ghost use Rattle.cs_syntax.specs.Cut.{is_space};
 
 pub(crate) fn is_letter(x: u8) -> bool
@@ -14,6 +14,24 @@ pub(crate) fn is_digit(x: u8) -> bool
     ensures { result ≡ is_digit x }
 {
     matches!(x, b'0'..=b'9')
+}
+
+pub(crate) fn is_hex_digit(x: u8) -> bool
+    ensures { result ≡ is_hex_digit x }
+{
+    matches!(x, b'0'..=b'9' | b'A'..=b'F' | b'a'..=b'f')
+}
+
+// The value of a decimal or hexadecimal digit.
+pub(crate) fn digit_value(x: u8) -> u8
+    ensures { result ≡ digit_value x }
+{
+    match x {
+        b'0'..=b'9' => x - b'0',
+        b'A'..=b'F' => x - b'A' + 10,
+        b'a'..=b'f' => x - b'a' + 10,
+        _ => 0,
+    }
 }
 
 // A byte behind the first of a name.

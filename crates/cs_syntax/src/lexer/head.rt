@@ -3,8 +3,8 @@
 ghost use Rattle.std.specs.Prelude.{◌≡◌, ◌<◌, length, slice_index, true};
 ghost use Rattle.std.specs.List.{prefix_len};
 ghost use Rattle.cs_syntax.specs.Spelling.{is_digit, is_name_byte};
-ghost use Rattle.cs_syntax.specs.Cut.{run, is_too_large};
-ghost use Rattle.cs_syntax.specs.Heads.{IsHead};
+ghost use Rattle.cs_syntax.specs.Cut.{run, begins_comment, line_len, is_too_large};
+ghost use Rattle.cs_syntax.specs.Heads.{IsHead, begins_name, begins_definition_name, begins_bottom_rest};
 
 use crate::lexer::bytes::{
     begins_definition, is_digit, is_letter, is_name_byte, is_run_byte, is_space,
@@ -12,6 +12,7 @@ use crate::lexer::bytes::{
 use crate::lexer::line::Line;
 use crate::lexer::mark::longest_mark;
 use crate::lexer::numeral::{integer_value, is_integer};
+use crate::lexer::text::{begins_quotes, text_len};
 use crate::token::Sort;
 
 /// What stands at the front of a text.
@@ -21,6 +22,8 @@ pub(crate) enum Head {
     Space,
     /// The end of a line.
     NewLine,
+    /// A comment of that length.
+    Comment(usize),
     /// A token of that sort and length.
     Token(Sort, usize),
     /// Nothing that the profile has.
@@ -41,6 +44,23 @@ fn run_len(bytes: &[u8]) -> usize
     ensures { result ≡ run bytes.now }
 {
     bytes.iter().take_while(|x| is_run_byte(**x)).count()
+}
+
+// Whether the bytes begin with a comment.
+pub(crate) fn begins_comment(bytes: &[u8]) -> bool
+    ensures { result ≡ begins_comment bytes.now }
+{
+    match bytes {
+        [x, y, ..] => *x == b'/' && *y == b'/',
+        _ => false,
+    }
+}
+
+// The length of what is left of the line.
+fn line_len(bytes: &[u8]) -> usize
+    ensures { result ≡ line_len bytes.now }
+{
+    bytes.iter().take_while(|x| **x != b'\n').count()
 }
 
 // Whether an integer is out of range: the least one needs its minus.
@@ -71,15 +91,75 @@ fn number_head(line: Line, bytes: &[u8]) -> Head
     Head::Token(Sort::Integer, len)
 }
 
+// Whether the bytes begin with a byte of a name.
+fn begins_name(bytes: &[u8]) -> bool
+    ensures { result ≡ begins_name bytes.now }
+{
+    match bytes {
+        [first, ..] => is_name_byte(*first),
+        [] => false,
+    }
+}
+
+// Whether the bytes begin with the name of a definition.
+fn begins_definition_name(bytes: &[u8]) -> bool
+    ensures { result ≡ begins_definition_name bytes.now }
+{
+    match bytes {
+        [b'#', next, ..] => begins_definition(*next),
+        _ => false,
+    }
+}
+
+// Whether the bytes begin with what makes `_` to `_|_`.
+fn begins_bottom_rest(bytes: &[u8]) -> bool
+    ensures { result ≡ begins_bottom_rest bytes.now }
+{
+    matches!(bytes, [b'|', b'_', ..])
+}
+
 fn definition_head(line: Line, bytes: &[u8]) -> Head
     requires some { 0 < length bytes.now }
     requires hash { slice_index bytes.now 0 ≡ 35 }
     ensures { IsHead line bytes.now result }
 {
-    if bytes.len() < 2 || !begins_definition(bytes[1]) {
+    if !begins_definition_name(bytes) {
         return Head::NoToken;
     }
     Head::Token(Sort::Definition, name_len(&bytes[1..]) + 1)
+}
+
+// A token that begins with `_`: a hidden name, `_|_` or `_`.
+fn underscore_head(line: Line, bytes: &[u8]) -> Head
+    requires some { 0 < length bytes.now }
+    requires underscore { slice_index bytes.now 0 ≡ 95 }
+    ensures { IsHead line bytes.now result }
+{
+    let rest = &bytes[1..];
+    if begins_name(rest) {
+        return Head::Token(Sort::Hidden, name_len(rest) + 1);
+    }
+    if begins_definition_name(rest) {
+        return Head::Token(Sort::Hidden, name_len(&rest[1..]) + 2);
+    }
+    if begins_bottom_rest(rest) {
+        return Head::Token(Sort::Bottom, 3);
+    }
+    Head::Token(Sort::Top, 1)
+}
+
+fn text_head(line: Line, bytes: &[u8]) -> Head
+    requires some { 0 < length bytes.now }
+    requires quote { slice_index bytes.now 0 ≡ 34 }
+    ensures { IsHead line bytes.now result }
+{
+    if begins_quotes(bytes) {
+        return Head::NoToken;
+    }
+    match text_len(&bytes[1..]) {
+        Some(len) => Head::Token(Sort::Text, len + 1),
+        None => Head::NoToken,
+    }
 }
 
 // What stands at the front of the bytes, behind tokens that leave the line so.
@@ -97,11 +177,20 @@ pub(crate) fn read_head(line: Line, bytes: &[u8]) -> Head
     if is_letter(first) {
         return Head::Token(Sort::Name, name_len(bytes));
     }
+    if is_digit(first) {
+        return number_head(line, bytes);
+    }
     if first == b'#' {
         return definition_head(line, bytes);
     }
-    if is_digit(first) {
-        return number_head(line, bytes);
+    if first == b'_' {
+        return underscore_head(line, bytes);
+    }
+    if first == b'"' {
+        return text_head(line, bytes);
+    }
+    if begins_comment(bytes) {
+        return Head::Comment(line_len(bytes));
     }
     match longest_mark(bytes) {
         Some((sort, len)) => Head::Token(sort, len),

@@ -30,7 +30,9 @@ pub(crate) fn mark_sort(text: &[u8]) -> Option<Sort>
         | b">="
         | b"!="
         | b"-" => Some(Sort::Mark),
-        b"+" | b"*" | b"." | b"=" | b"==" | b"=~" | b"!~" | b"&&" | b"||" => Some(Sort::LeftOut),
+        b"+" | b"*" | b"/" | b"." | b"=" | b"==" | b"=~" | b"!~" | b"&&" | b"||" => Some(
+            Sort::LeftOut,
+        ),
         _ => None,
     }
 }

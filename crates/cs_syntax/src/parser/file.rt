@@ -10,7 +10,7 @@ ghost use Rattle.cs_syntax.specs.Answer.{Answers, IsFileRefusal, IsSpelled};
 use crate::ast::{Definition, File};
 use crate::fault::SyntaxFault;
 use crate::lexer::cut::lex;
-use crate::lexer::lines::several_lines;
+use crate::lexer::lines::{other_integer, several_lines};
 use crate::parser::kind::{Kind, kind_of};
 use crate::parser::place::{Parser, fault_of};
 use crate::token::Token;
@@ -80,19 +80,24 @@ fn file_of(alloc: Global, tokens: &[Token<'_>]) -> Result<File, SyntaxFault>
 /// joined by `&`, on one line (CUE, source file organization).
 ///
 /// # Errors
-/// Those of `lex`; `Syntax` or `LeftOut` at a token that is out of place; `Syntax` at the end of
-/// the first line, if something stands behind it.
+/// Those of `lex`; `Syntax` or `LeftOut` at a token that is out of place. Not taken yet are a second
+/// line, which is `Syntax` at the end of the first one, a comment, `Syntax` too, and an integer with
+/// underscores or in hexadecimal digits, `LeftOut`.
 pub fn parse_file(alloc: Global, source: &str) -> Result<File, SyntaxFault>
     // What is answered is spelled by the tokens of the source.
     ensures found { IfOk result (λ f. IsSpelled source.now (file_view f)) }
     // A file that the tokens of the source spell is answered, unless memory runs out.
     ensures only { (f : FileTree) → IsSpelled source.now f → Answers file_view result f }
-    // A fault other than want of memory says where the source is stuck, or which word is out of place.
+    // A fault other than want of memory says where the source is stuck, or which word is out of place,
+    // or it is of a form that is not taken yet.
     ensures refused { IfErr result (λ f. IsFileRefusal source.now f) }
 {
     let tokens = lex(alloc, source)?;
     if let Some(offset) = several_lines(source.as_bytes()) {
         return Err(SyntaxFault::Syntax { offset });
+    }
+    if let Some(offset) = other_integer(&tokens) {
+        return Err(SyntaxFault::LeftOut { offset });
     }
     file_of(alloc, &tokens)
 }

@@ -3,7 +3,9 @@ use Rattle.std.proofs.lemmas.List.{map_push}
 use Rattle.cs_syntax.specs.declared.token.Sort.TheVariants as sorts
 use Rattle.cs_syntax.specs.Cut.{lexeme, line_after, comma_if}
 use Rattle.cs_syntax.specs.View.{lexeme_view, lexemes_view}
-use Rattle.cs_syntax.proofs.Cutting.{comma_front, at_end, turn_blank, turn_line, turn_token, turn_none, turn_large, token_within, token_boundary}
+use Rattle.cs_syntax.proofs.Cutting.{comma_front, at_end, turn_blank, turn_line, turn_comment, comment_within, turn_token, turn_none, turn_large, token_within, token_boundary}
+use Rattle.cs_syntax.proofs.Once.{cut_once, stuck_once, cut_not_stuck}
+use Rattle.cs_syntax.proofs.Slices.{slices}
 use Rattle.cs_syntax.proofs.lexer.cut.lex.Goals as goal
 
 pub text-preserved-in-Space : goal.text-preserved-in-Space
@@ -11,6 +13,12 @@ text-preserved-in-Space c = record { in_range = omega arith; before = turn_blank
 
 pub text-preserved-in-NewLine : goal.text-preserved-in-NewLine
 text-preserved-in-NewLine c = record { in_range = omega arith; before = rw (c.line_ended-line.ensures, c.in_ok-end_line-in-NewLine.ensures) (turn_line _ _ _ _ c.text.invariant.before c.text-test.true c.in-NewLine.ensures) }
+
+pub overflow_add-at-in-Comment : goal.overflow_add-at-in-Comment
+overflow_add-at-in-Comment c = omega (arith, comment_within c.as_bytes-bytes.result.now c.text.at c.in-Comment.len c.text.invariant.in_range c.in-Comment.ensures.1)
+
+pub text-preserved-in-Comment : goal.text-preserved-in-Comment
+text-preserved-in-Comment c = record { in_range = comment_within c.as_bytes-bytes.result.now c.text.at c.in-Comment.len c.text.invariant.in_range c.in-Comment.ensures.1; before = rw (c.line_ended-line-in-Comment.ensures, c.in_ok-end_line-in-Comment.ensures) (turn_comment _ _ _ _ c.text.invariant.before c.in-Comment.len c.in-Comment.ensures.0 c.in-Comment.ensures.1) }
 
 pub range-requires-clause-end_boundary : goal.range-requires-clause-end_boundary
 range-requires-clause-end_boundary c =
@@ -39,6 +47,29 @@ returns-in-TooLarge-clause-stuck c = rw (← c.as_bytes-bytes.ensures.value) (tu
 pub returns-clause-found : goal.returns-clause-found
 returns-clause-found c =
     let front = lexemes_view c.text.tokens.items in
-    let pushed : lexemes_view c.push-2.new.self.items ≡ front ++ comma_if c.text.line c.text.at (lexeme sorts.End [] c.text.at ∷ []) =
-    ap lexemes_view c.in_ok-push.ensures.items ∙ map_push lexeme_view c.end_line-2.new.tokens.items _ ∙ ap (λ ks. ks ++ lexeme sorts.End [] c.text.at ∷ []) c.in_ok-end_line.ensures ∙ comma_front front (lexeme sorts.End [] c.text.at ∷ []) c.text.line c.text.at in
+    let pushed : lexemes_view c.put.new.tokens.items ≡ front ++ comma_if c.text.line c.text.at (lexeme sorts.End [] c.text.at ∷ []) =
+    c.in_ok-put.ensures ∙ ap (λ ks. ks ++ lexeme sorts.End [] c.text.at ∷ []) c.in_ok-end_line.ensures ∙ comma_front front (lexeme sorts.End [] c.text.at ∷ []) c.text.line c.text.at in
     rw (pushed, ← c.as_bytes-bytes.ensures.value) (at_end _ _ _ _ c.text.invariant.before (omega arith))
+
+-- ---- the other clauses follow
+
+pub returns-in-NoToken-clause-only : goal.returns-in-NoToken-clause-only
+returns-in-NoToken-clause-only c ks cut = cut_not_stuck cut (returns-in-NoToken-clause-stuck c)
+
+pub returns-in-NoToken-clause-refused : goal.returns-in-NoToken-clause-refused
+returns-in-NoToken-clause-refused c f stuck = stuck_once (returns-in-NoToken-clause-stuck c) stuck
+
+pub returns-in-TooLarge-clause-only : goal.returns-in-TooLarge-clause-only
+returns-in-TooLarge-clause-only c ks cut = cut_not_stuck cut (returns-in-TooLarge-clause-stuck c)
+
+pub returns-in-TooLarge-clause-refused : goal.returns-in-TooLarge-clause-refused
+returns-in-TooLarge-clause-refused c f stuck = stuck_once (returns-in-TooLarge-clause-stuck c) stuck
+
+pub returns-clause-only : goal.returns-clause-only
+returns-clause-only c ks cut = cut_once (returns-clause-found c) cut
+
+pub returns-clause-refused : goal.returns-clause-refused
+returns-clause-refused c f stuck = cut_not_stuck (returns-clause-found c) stuck
+
+pub returns-clause-slices : goal.returns-clause-slices
+returns-clause-slices c = slices c.args.source.now _ (returns-clause-found c)

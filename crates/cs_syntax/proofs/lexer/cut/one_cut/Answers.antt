@@ -1,4 +1,6 @@
 use Rattle.cs_syntax.proofs.Once.{cut_once, stuck_once, cut_not_stuck}
+use Rattle.cs_syntax.specs.declared.lexer.line.Line.TheVariants.{Plain}
+use Rattle.cs_syntax.proofs.Always.{cut_or_stuck}
 use Rattle.cs_syntax.proofs.lexer.cut.one_cut.Goals as goal
 
 pub returns-clause-once : goal.returns-clause-once
@@ -9,3 +11,6 @@ returns-clause-stuck_once c bs f g p q = stuck_once p q
 
 pub returns-clause-apart : goal.returns-clause-apart
 returns-clause-apart c bs ks f p q = cut_not_stuck p q
+
+pub returns-clause-always : goal.returns-clause-always
+returns-clause-always c bs = cut_or_stuck bs 0 Plain

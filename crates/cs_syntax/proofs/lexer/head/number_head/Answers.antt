@@ -1,5 +1,5 @@
 use Rattle.std.proofs.Common.{sym}
-use Rattle.cs_syntax.proofs.Fronts.{number_case, large_number_case, bad_number_case}
+use Rattle.cs_syntax.proofs.Numbers.{number_case, large_number_case, bad_number_case}
 use Rattle.cs_syntax.proofs.lexer.head.number_head.Goals as goal
 
 pub returns-then-not-is_integer : goal.returns-then-not-is_integer

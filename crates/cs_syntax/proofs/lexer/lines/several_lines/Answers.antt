@@ -1,9 +1,9 @@
-use Rattle.std.proofs.Common.{sym, ◌∙◌}
-use Rattle.cs_syntax.proofs.SingleLine.{one_line}
+use Rattle.std.proofs.Common.{sym, ◌∙◌, arith}
+use Rattle.cs_syntax.proofs.SingleLine.{line_goes_on, line_out}
 use Rattle.cs_syntax.proofs.lexer.lines.several_lines.Goals as goal
 
-pub returns-then-all_blank : goal.returns-then-all_blank
-returns-then-all_blank c = sym (one_line c.args.bytes.now c.line_len-len.result c.line_len-len.ensures.value) ∙ sym c.if-all_blank.ensures
+pub loop-at-preserved : goal.loop-at-preserved
+loop-at-preserved c = sym (line_goes_on c.args.bytes.now c.loop-at.at (omega arith) (sym c.if-ends_line.ensures)) ∙ c.loop-at.invariant
 
-pub returns-else-all_blank : goal.returns-else-all_blank
-returns-else-all_blank c = sym (one_line c.args.bytes.now c.line_len-len.result c.line_len-len.ensures.value) ∙ sym c.if-all_blank.ensures
+pub returns : goal.returns
+returns c = sym c.loop-at.invariant ∙ line_out c.args.bytes.now c.loop-at.at (omega arith)
