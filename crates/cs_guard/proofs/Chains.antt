@@ -1,14 +1,11 @@
 -- Chains of strong references.
-use Rattle.std.proofs.Common.{◌≡◌, ℕ, zero, suc, ◌<◌, ◌≤◌, Bool, true, false, cond, List, [], ◌∷◌, ◌++◌, map, length, Contains, Option, Some, None, IfSome, option_map, slice_get, get_or, refl, sym, ap, ◌∙◌, subst, arith}
+use Rattle.std.proofs.Common.{◌≡◌, ℕ, suc, ◌<◌, ◌≤◌, true, false, cond, List, [], ◌∷◌, ◌++◌, length, Contains, Option, Some, None, IfSome, get_or, refl, sym, ap, subst, arith}
 use Rattle.std.specs.List.{flat_map}
 use Rattle.std.specs.Option.{unwrap_or}
 use Rattle.std.specs.Str.{bytes_eq}
 use Rattle.std.proofs.lemmas.List.{get_or_read_under}
 use Rattle.std.proofs.lemmas.Option.{IfSome_then}
-use Rattle.cs_resolve.specs.Expression.{Expression}
 use Rattle.cs_resolve.specs.Environment.{Environment, bodies, name_at, bodies_at}
-use Rattle.cs_resolve.specs.View.{expression_of}
-use Rattle.cs_resolve.specs.declared.shape.Shape.{Shape}
 use Rattle.cs_guard.specs.References.{strong, strong_of}
 use Rattle.cs_guard.specs.Guarded.{Chain, IsGuarded, IsHeight}
 use Rattle.cs_guard.specs.Ranks.{AreRanks}

@@ -1,7 +1,7 @@
 -- Marks, before and after one is written.
 use Rattle.std.proofs.Common.{◌≡◌, ℕ, zero, suc, ◌+◌, ◌-◌, ◌<◌, ◌≤◌, Bool, true, false, cond, List, [], ◌∷◌, ◌++◌, ◌⊎◌, inl, inr, Some, length, slice_get, get_or, take, Vec, Global, refl, sym, ap, ap₂, subst, ◌∙◌, arith, add-one}
-use Rattle.std.proofs.Math.ListN.{set, length-set, length-map, get_or-append}
-use Rattle.std.proofs.Math.Seq.{take-suc, take-append_seam, get_or-append_seam}
+use Rattle.std.proofs.Math.ListN.{set, length-set, length-map}
+use Rattle.std.proofs.Math.Seq.{take-suc, take-append_seam}
 use Rattle.std.proofs.lemmas.List.{length-append}
 use Rattle.std.proofs.lemmas.List.Sums.{sum_by-set}
 use Rattle.std.proofs.lemmas.Option.{slice_get-map, slice_get-get_or, slice_get_within, get_or_from_slice_get}
@@ -9,7 +9,7 @@ use Rattle.std.specs.List.{count_by}
 use Rattle.std.specs.Option.{option_map}
 use Rattle.cs_guard.specs.Chains.{On, Links}
 use Rattle.cs_guard.specs.Graph.{Graph, Refers, graph_of}
-use Rattle.cs_guard.specs.Walk.{State, Settled, Below, HasChain, Keeps, Deep, is_new, is_done}
+use Rattle.cs_guard.specs.Walk.{State, Settled, Below, HasChain, Keeps, is_new, is_done}
 use Rattle.cs_guard.specs.declared.walk.Mark.{Mark}
 use Rattle.cs_guard.specs.declared.walk.Mark.TheVariants.{New, Open, Done}
 use Rattle.cs_guard.proofs.Places.{on_left, on_end, on_cases, distinct_push, distinct_front, last_apart}

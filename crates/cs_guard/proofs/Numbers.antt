@@ -1,10 +1,10 @@
 -- What the graph of an environment says by numbers, said by names.
-use Rattle.std.proofs.Common.{◌≡◌, ℕ, zero, suc, ◌+◌, ◌<◌, ◌≤◌, Bool, true, false, cond, List, [], ◌∷◌, ◌++◌, ◌⊎◌, inl, inr, map, length, Contains, Option, Some, None, is_some, option_map, slice_get, get_or, refl, sym, ap, ap₂, ◌∙◌, subst, arith}
+use Rattle.std.proofs.Common.{◌≡◌, ℕ, zero, suc, ◌<◌, ◌≤◌, Bool, true, false, cond, List, [], ◌∷◌, ◌++◌, inl, inr, map, length, Contains, Option, Some, None, slice_get, get_or, refl, sym, ap, ◌∙◌, subst, arith}
 use Rattle.std.specs.List.{flat_map, IsDistinct, AllByRecursion}
 use Rattle.std.specs.Option.{unwrap_or}
 use Rattle.std.specs.Str.{bytes_eq}
 use Rattle.std.proofs.lemmas.Map.Keys.{IsDistinct-head, IsDistinct-tail, IsDistinct-cons}
-use Rattle.std.proofs.lemmas.Option.{slice_get-get_or, slice_get_within, same_Some}
+use Rattle.std.proofs.lemmas.Option.{slice_get-get_or, same_Some}
 use Rattle.std.proofs.lemmas.Slice.Eq.{bytes_eq-Decides}
 use Rattle.std.proofs.Math.ListN.{length-map}
 use Rattle.std.proofs.lemmas.List.{map-append}
@@ -14,7 +14,7 @@ use Rattle.cs_guard.specs.References.{strong, strong_of}
 use Rattle.cs_guard.specs.Guarded as by_name
 use Rattle.cs_guard.specs.Ranks.{AreRanks}
 use Rattle.cs_guard.specs.Cycles as refused
-use Rattle.cs_guard.specs.Chains.{On, Distinct, Chain, IsCycle, NoCycle, LongChain, IsGuarded, IsHeight}
+use Rattle.cs_guard.specs.Chains.{On, Distinct, Chain, NoCycle, LongChain, IsGuarded, IsHeight}
 use Rattle.cs_guard.specs.Graph.{Graph, Refers, IsLowestFirst, IsLowestCycle, AreHeights}
 use Rattle.cs_guard.specs.Numbered.{names, name_of, IsGraphOf}
 use Rattle.cs_guard.proofs.Places.{on_left, on_end}

@@ -1,11 +1,11 @@
 -- The shapes that are taken yet refer to nothing.
-use Rattle.std.proofs.Common.{◌≡◌, ℕ, List, [], ◌∷◌, ◌++◌, map, Vec, Global, refl, sym, ap, ap₂, ◌∙◌, subst, rules}
+use Rattle.std.proofs.Common.{◌≡◌, ℕ, List, [], ◌∷◌, ◌++◌, map, refl, sym, ap, ap₂, ◌∙◌}
 use Rattle.std.specs.List.{flat_map}
 use Rattle.cs_resolve.specs.Expression.{Expression}
 use Rattle.cs_resolve.specs.View.{expression_of, expressions_of, shape_step}
 use Rattle.cs_resolve.specs.declared.shape.Shape.{Shape, map-Shape}
 use Rattle.cs_resolve.specs.declared.shape.Shape.TheOpen.{Shape-F}
-use Rattle.cs_resolve.specs.declared.shape.Shape.TheFolds.{fold-Shape, fold-roll-Shape, ind-Shape}
+use Rattle.cs_resolve.specs.declared.shape.Shape.TheFolds.{fold-roll-Shape, ind-Shape}
 use Rattle.cs_guard.specs.References.{strong, strong_all}
 
 abbrev IsAlone : Shape → Type 0

@@ -75,3 +75,11 @@ faults-cut ns fs i f l is =
 -- the definitions of the file at a place are taken, and those of the files behind it
 pub taken-cut : (fs : List File) (i : ℕ) (f : File) → i < length fs → f ≡ get_or fs i f → AreTaken (map file_view (drop i fs)) → All IsTakenIn (map definition_view f.definitions.items) × AreTaken (map file_view (drop (i + 1) fs))
 taken-cut fs i f l is h = All-parts IsTakenIn (map definition_view f.definitions.items) (flat_map definitions (map file_view (drop (i + 1) fs))) (subst (λ gs. AreTaken (map file_view gs)) (at_place fs i f l is) h)
+
+All-joined : {X : Type 0} (P : X → Type 0) (xs ys : List X) → All P xs → All P ys → All P (xs ++ ys)
+All-joined P [] ys h k = k
+All-joined P (x ∷ xs) ys h k = All-cons P x (xs ++ ys) (All-head P x xs h) (All-joined P xs ys (All-tail P x xs h) k)
+
+pub taken-joined : (fs : List File) (i : ℕ) (f : File) → i < length fs → f ≡ get_or fs i f → All IsTakenIn (map definition_view f.definitions.items) → AreTaken (map file_view (drop (i + 1) fs)) → AreTaken (map file_view (drop i fs))
+taken-joined fs i f l is h k =
+    subst (λ gs. AreTaken (map file_view gs)) (sym (at_place fs i f l is)) (All-joined IsTakenIn (map definition_view f.definitions.items) (flat_map definitions (map file_view (drop (i + 1) fs))) h k)

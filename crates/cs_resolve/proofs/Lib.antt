@@ -9,4 +9,5 @@ pub mod Sums
 pub mod Order
 pub mod Faults
 pub mod Gathered
+pub mod Rests
 pub mod Spellings

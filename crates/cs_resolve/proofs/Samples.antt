@@ -1,7 +1,11 @@
 -- Samples, worked by the definitions.
 use Rattle.std.proofs.Common.{◌≡◌, ℕ, true, false, List, [], ◌∷◌, pos, codes, refl}
-use Rattle.cs_syntax.specs.Tree.{Label, top, bottom, integer, named, reference, meet, paren, struct, list, none, more, Fields, no_field, field, any, each, definition, file}
+use Rattle.cs_syntax.specs.Tree.{Label, top, bottom, integer, named, bound, reference, meet, paren, struct, list, none, more, Fields, no_field, field, any, each, definition, file}
+use Rattle.cs_syntax.specs.declared.ast.Relation.TheVariants.{More}
 use Rattle.cs_syntax.specs.declared.ast.FieldMark.TheVariants.{Regular, Optional}
+use Rattle.cs_resolve.specs.Expression as cue
+use Rattle.cs_resolve.specs.Height.{height, heights}
+use Rattle.cs_resolve.specs.Resolved.{environment_of_files}
 use Rattle.cs_resolve.specs.Opening.{unopened, unopened_files}
 use Rattle.cs_resolve.specs.Size.{nodes}
 use Rattle.cs_resolve.specs.Scopes.{places, faults, unknown, of_field}
@@ -101,3 +105,18 @@ undeclared = refl
 -- `#A`, `#B`, `#A`: two names, in order of first declaration
 two_names : names (definition (codes "A") 0 top ∷ definition (codes "B") 5 top ∷ definition (codes "A") 10 bottom ∷ []) ≡ codes "A" ∷ codes "B" ∷ []
 two_names = refl
+
+-- ---- environments
+
+-- `#A: int`, `#B: 1`, `#A: >2 & 3`: two definitions, of which the first has two bodies
+two_bodies : environment_of_files (file None (definition (codes "A") 0 (named (codes "int") 4) ∷ []) ∷ file None (definition (codes "B") 0 (integer (pos 1)) ∷ []) ∷ file None (definition (codes "A") 0 (meet (more (bound More (pos 2)) (more (integer (pos 3)) none))) ∷ []) ∷ [])
+    ≡ (codes "A", cue.kind cue.int ∷ cue.conjunction (cue.expression (cue.bound cue.more (pos 2)) (cue.expression (cue.integer (pos 3)) cue.no_expressions)) ∷ []) ∷ (codes "B", cue.integer (pos 1) ∷ []) ∷ []
+two_bodies = refl
+
+-- `{}` and `{a: int & 1}`
+heights_of_two : heights (cue.struct cue.no_declarations false ∷ cue.struct (cue.declaration (codes "a") cue.regular (cue.conjunction (cue.expression (cue.kind cue.int) (cue.expression (cue.integer (pos 1)) cue.no_expressions))) cue.no_declarations) false ∷ []) ≡ 3
+heights_of_two = refl
+
+-- `{}` alone
+height_of_none : height (cue.struct cue.no_declarations false) ≡ 1
+height_of_none = refl

@@ -3,12 +3,11 @@ use Rattle.std.proofs.Common.{◌≡◌, ℕ, Bool, true, false, cond, List, [],
 use Rattle.std.specs.List.{All, AllByRecursion, list_all, list_any}
 use Rattle.std.specs.Str.{bytes_eq}
 use Rattle.std.proofs.lemmas.List.{map-append}
-use Rattle.std.proofs.lemmas.List.Elements.{All-cons, All-nil, All-push}
+use Rattle.std.proofs.lemmas.List.Elements.{All-push}
 use Rattle.std.specs.Prelude.{◌==◌}
 use Rattle.cs_syntax.specs.Answer.{IsSpelled}
 use Rattle.cs_syntax.specs.Cut.{Lexeme, lexeme, Cut, blank, new_line, comment, token, finish, comma_if, line_after, line_after_mark, line_ended}
 use Rattle.cs_syntax.specs.Spelling.{is_letter, is_digit, is_name_byte, is_integer, is_definition_rest, underscore_sort, mark_sort, sort_if, sort_of, used_marks, left_out_marks}
-use Rattle.cs_syntax.specs.Spells.{SpellsFile, spelled, defined}
 use Rattle.cs_syntax.specs.Tree.{FileTree, definition, defined_name, definitions}
 use Rattle.cs_syntax.specs.View.{bare_name, file_view, mark_kind, word_of, word, words}
 use Rattle.cs_syntax.specs.Words as W
@@ -18,6 +17,7 @@ use Rattle.cs_syntax.specs.declared.token.Sort.{Sort}
 use Rattle.cs_syntax.specs.declared.token.Sort.TheVariants as sorts
 use Rattle.cs_resolve.specs.Environment.{IsDefinitionName}
 use Rattle.cs_resolve.specs.Resolved.{AreSpelled}
+use Rattle.cs_resolve.proofs.Rests.{of_file}
 
 -- what a word names, if it is the name of a definition, is one
 abbrev is_named : Word → Bool
@@ -58,8 +58,8 @@ bare : (t : List ℕ) → sort_of t ≡ Some sorts.Definition → IsDefinitionNa
 bare [] h = cc
 bare (x ∷ xs) h =
     let rest = either_other (x == 95) (underscore_sort xs) _ (underscore_other xs)
-        (either_other (is_digit x) _ _ (sort_other (is_integer (x ∷ xs)) sorts.Integer (λ e. cc))
-        (either_other (x == 34) _ _ (sort_other _ sorts.Text (λ e. cc)) (mark_other (x ∷ xs)))) in
+    (either_other (is_digit x) _ _ (sort_other (is_integer (x ∷ xs)) sorts.Integer (λ e. cc))
+    (either_other (x == 34) _ _ (sort_other _ sorts.Text (λ e. cc)) (mark_other (x ∷ xs)))) in
     let is = second (is_letter x) (x == 35) (list_all is_name_byte xs) (is_definition_rest xs) _ rest h in
     ap (λ b. is_definition_rest (cond b xs (x ∷ xs))) is.0 ∙ is.1
 
@@ -129,12 +129,9 @@ of_cut p (finish {o}) = p.now o (lexeme sorts.End [] o ∷ []) (refl, tt)
 
 -- ---- files
 
-of_file : {f : FileTree} {ts : Words} → SpellsFile f ts → AllByRecursion (λ w. is_named w ≡ true) ts → All (λ d. IsDefinitionName (defined_name d)) (definitions f)
-of_file (spelled (defined {s} {p} {q} {e} c)) h = All-cons (λ d. IsDefinitionName (defined_name d)) (definition s p e) [] h.0 (All-nil (λ d. IsDefinitionName (defined_name d)))
-
 -- each definition of a file that a source spells has the name of one
 pub names-spelled : (t : List ℕ) (f : FileTree) → IsSpelled t f → All (λ d. IsDefinitionName (defined_name d)) (definitions f)
-names-spelled t f h = of_file h.spelled (of_cut plain h.cut)
+names-spelled t f h = of_file (λ w. is_named w ≡ true) IsDefinitionName (λ n o named. named) h.spelled (of_cut plain h.cut)
 
 -- one file more
 pub spelled-push : (fs : List File) (f : File) (t : List ℕ) → AreSpelled (map file_view fs) → IsSpelled t (file_view f) → AreSpelled (map file_view (fs ++ f ∷ []))

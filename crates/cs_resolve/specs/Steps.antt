@@ -11,9 +11,9 @@ use Rattle.cs_resolve.specs.declared.fault.ResolveFault.{ResolveFault}
 abbrev pub faults_in : ℕ → List (List ℕ) → List Place → List (ℕ × NameFault)
 faults_in file names ps = map (λ x. (file, x)) (faults names ps)
 
--- what is answered is so, and no name is at fault; or it is refused for what is
+-- what is answered is so, no name is at fault and all is taken; or it is refused for what is
 abbrev pub Resolves : {X : Type 0} → Result X ResolveFault → (X → Type 0) → List (ℕ × NameFault) → Type 0 → Type 0
-Resolves (Ok x) IsSo faults Taken = IsSo x × (faults ≡ [])
+Resolves (Ok x) IsSo faults Taken = IsSo x × (faults ≡ []) × Taken
 Resolves (Err e) IsSo faults Taken = Refusal e faults Taken
 
 -- the resolved bodies that definitions give to each of the names

@@ -26,6 +26,7 @@ pub fn resolve(alloc: Global, files: Vec<File>) -> Result<Package, ResolveFault>
     requires { AreSpelled (map file_view files.items) }
     ensures found { IfOk result (λ p. p ≡ environment_of_files (map file_view files.items)) }
     ensures resolved { OnOk result (IsResolved (map file_view files.items)) }
+    ensures taken { OnOk result (AreTaken (map file_view files.items)) }
     ensures refused { IfErr result (λ e. IsRefusal e (map file_view files.items)) }
 {
     let names = declared_names(alloc, &files)?;

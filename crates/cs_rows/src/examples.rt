@@ -9,6 +9,11 @@ const DEFINITIONS: &str = r#"
 #P: int & >=1 & <=65535 ~ {"allOf":[{"type":"integer"},{"minimum":1,"type":"number"},{"maximum":65535,"type":"number"}]} ~ 1 65535 ~ 0 65536 "1"
 #P: >9223372036854775807 ~ {"exclusiveMinimum":9223372036854775807,"type":"number"} ~ ~ 0 9223372036854775807 "a" null
 #P: -5 ~ {"const":-5} ~ -5 ~ 5
+#P: 1_000 ~ {"const":1000} ~ 1000 ~ 1
+#P: 0x10 ~ {"const":16} ~ 16 ~ 10
+#P: -9_223_372_036_854_775_808 ~ {"const":-9223372036854775808} ~ -9223372036854775808 ~ 0
+#P: int // c ~ {"type":"integer"} ~ 1 ~ "a"
+#P: int, #P: >2 ~ {"allOf":[{"type":"integer"},{"exclusiveMinimum":2,"type":"number"}]} ~ 3 ~ 2
 #P: int ~ {"type":"integer"} ~ -1 ~ "a"
 #P: number ~ {"type":"number"} ~ 7 ~ true
 #P: string ~ {"type":"string"} ~ "a" ~ 1
@@ -74,14 +79,24 @@ fn definitions(rt: HostRuntime) -> Result<(), Fail> {
         assert!(rt; holds(rt.alloc(), row)?, "{row}");
         count = count.saturating_add(1);
     }
-    assert_eq!(rt; count, 19);
+    assert_eq!(rt; count, 24);
     Ok(())
 }
 
 #[test]
 fn blanks_stand_anywhere_between_tokens(rt: HostRuntime) -> Result<(), Fail> {
     let alloc = rt.alloc();
-    let spread = export(alloc, &[b"#P\t:  >= -3\t& int \n"], "#P")?;
+    let spread = export(alloc, &[b"#P\t:  >= // c\n -3\t&\n int \n"], "#P")?;
     assert!(rt; spread == export(alloc, &[b"#P:>=-3&int"], "#P")?);
+    Ok(())
+}
+
+#[test]
+fn each_definition_has_its_schema(rt: HostRuntime) -> Result<(), Fail> {
+    let alloc = rt.alloc();
+    let text = export(alloc, &[b"#P: int\n#Q: string\n"], "#P")?;
+    let wanted =
+        b"{\"$defs\":{\"P\":{\"type\":\"integer\"},\"Q\":{\"type\":\"string\"}},\"$ref\":\"#/$defs/P\",\"$schema\":\"https://json-schema.org/draft/2020-12/schema\"}";
+    assert!(rt; text.as_slice() == wanted.as_slice());
     Ok(())
 }

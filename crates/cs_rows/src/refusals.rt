@@ -19,6 +19,14 @@ fn wanted_number(cell: &str) -> u32 {
     }
 }
 
+/// The number of a refusal, and the offset behind ` at `, if one is wanted.
+fn wanted_fault(cell: &str) -> (u32, Option<usize>) {
+    match cell.split_once(" at ") {
+        Some((number, offset)) => (wanted_number(number), offset.parse::<usize>().ok()),
+        None => (wanted_number(cell), None),
+    }
+}
+
 /// Schema, document, the number that `validate` answers (0: a verdict).
 const VALIDATED: &str = r##"
 true ~ 1.0 ~ 26
@@ -46,7 +54,7 @@ fn documents_and_schemas_that_are_none(rt: HostRuntime) -> Result<(), Fail> {
     Ok(())
 }
 
-/// Source, root, document, the number that `vet` answers (0: a verdict).
+/// Source, root, document, the number that `vet` answers (0: a verdict), with its offset where that is wanted.
 const VETTED: &str = r##"
 #P: int ~ #P ~ 1.0 ~ 26
 #P: int ~ #P ~ 1e3 ~ 26
@@ -57,15 +65,25 @@ const VETTED: &str = r##"
 #P: int ~ P ~ [1 ~ 13
 #P: int ~ # ~ [1 ~ 13
 #P: int ~ ~ [1 ~ 13
-~ #P ~ 1 ~ 5
+~ #P ~ 1 ~ 13
+// c ~ #A ~ 1 ~ 13
 #P: {a: int} ~ #P ~ 1 ~ 5
 #P: int | string ~ #P ~ 1 ~ 5
 #P: float ~ #P ~ 1 ~ 5
 #P: #P ~ #P ~ 1 ~ 5
-#P: 1_000 ~ #P ~ 1 ~ 5
-#P: 0x1 ~ #P ~ 1 ~ 5
-#P: int // c ~ #P ~ 1 ~ 5
-#P: 9223372036854775808 ~ #P ~ 1 ~ 5
+#P: int ~ #Q ~ 1 ~ 13
+#P: {a: int ~ #P ~ 1 ~ 4 at 11
+#P: ~ #P ~ 1 ~ 4 at 3
+#P: int & >= ~ #P ~ 1 ~ 4 at 12
+#A0: #A1 & ~ #P ~ 1 ~ 4 at 10
+#P: (int ~ #P ~ 1 ~ 4 at 8
+#A: 077 ~ #A ~ 1 ~ 3 at 4
+#S: !="s ~ #S ~ 1 ~ 3 at 6
+#M: 9_223_372_036_854_775_808 ~ #M ~ 1 ~ 6 at 4
+import "a" ~ #A ~ 1 ~ 5 at 0
+#A: *1 & int ~ #A ~ 1 ~ 5 at 4
+#H: [[[[[[[[[[[[[[[[[[[[[[[[[[[[[ ~ #H ~ 1 ~ 7
+#H: ((((((((((((((((((((((((((((1)))))))))))))))))))))))))))) ~ #H ~ 1 ~ 7
 "##;
 
 #[test]
@@ -75,11 +93,22 @@ fn sources_and_roots_that_are_refused(rt: HostRuntime) -> Result<(), Fail> {
         let (source, rest) = cell(row);
         let (root, rest) = cell(rest);
         let (doc, rest) = cell(rest);
-        let wanted = wanted_number(cell(rest).0);
-        let found = number(&vet(alloc, &[source.as_bytes()], root, doc.as_bytes()));
-        assert_eq!(rt; found, wanted, "{row}");
-        let exported = number(&export(alloc, &[source.as_bytes()], root));
-        assert_eq!(rt; exported, if wanted > 20 { 0 } else { wanted }, "{row}");
+        let (wanted, offset) = wanted_fault(cell(rest).0);
+        let found = vet(alloc, &[source.as_bytes()], root, doc.as_bytes());
+        assert_eq!(rt; number(&found), wanted, "{row}");
+        let exported = export(alloc, &[source.as_bytes()], root);
+        assert_eq!(rt;
+            number(&exported),
+            if wanted > 20 { 0 } else { wanted },
+            "{row}"
+        );
+        if offset.is_some() {
+            assert_eq!(rt;
+                found.err().and_then(|fault| fault.offset()),
+                offset,
+                "{row}"
+            );
+        }
     }
     Ok(())
 }
@@ -90,58 +119,28 @@ fn refusal(alloc: Global, sources: &[&[u8]]) -> Option<Fault> {
 }
 
 #[test]
-fn bytes_of_sources(rt: HostRuntime) -> Result<(), Fail> {
+fn bytes_and_number_of_sources(rt: HostRuntime) -> Result<(), Fail> {
     let alloc = rt.alloc();
-    assert!(rt;
-        matches!(
-            &refusal(alloc, &[b"\xff"]),
-            Some(Fault::NotUtf8 { file: 0 })
-        )
-    );
-    assert!(rt;
-        matches!(
-            &refusal(alloc, &[b"#P: {", b"\xff"]),
-            Some(Fault::NotUtf8 { file: 1 })
-        )
-    );
-    assert!(rt;
-        matches!(
-            &refusal(alloc, &[]),
-            Some(Fault::LeftOut { file: 0, offset: 0 })
-        )
-    );
-    assert!(rt;
-        matches!(
-            &refusal(alloc, &[b"#P: int", b"#Q: int"]),
-            Some(Fault::LeftOut { .. })
-        )
-    );
-    assert!(rt;
-        matches!(
-            &refusal(alloc, &[b"#P:\nint"]),
-            Some(Fault::LeftOut { file: 0, offset: 0 })
-        )
-    );
-    assert!(rt;
-        matches!(
-            &refusal(alloc, &[b"#P: int\n#Q: int"]),
-            Some(Fault::LeftOut { .. })
-        )
-    );
+    let other = refusal(alloc, &[b"#P: {", b"\xff"]);
+    assert!(rt; matches!(&other, Some(Fault::NotUtf8 { file: 1 })));
+    let none = refusal(alloc, &[]);
+    assert!(rt; matches!(&none, Some(Fault::LeftOut { file: 0, offset: 0 })));
+    let two = refusal(alloc, &[b"#P: int", b"#Q: ["]);
+    assert!(rt; matches!(&two, Some(Fault::LeftOut { file: 0, offset: 0 })));
     let blanks = vec![in alloc; b' '; 1_048_577]?;
-    assert!(rt; matches!(&refusal(alloc, &[&blanks]), Some(Fault::SourcesTooLong)));
-    assert!(rt;
-        matches!(
-            &refusal(alloc, &[&blanks[1..]]),
-            Some(Fault::LeftOut { .. })
-        )
-    );
-    assert!(rt;
-        matches!(
-            &refusal(alloc, &[&blanks[1..], b"\xff"]),
-            Some(Fault::SourcesTooLong)
-        )
-    );
+    let long = refusal(alloc, &[&blanks]);
+    assert!(rt; matches!(&long, Some(Fault::SourcesTooLong)));
+    let full = refusal(alloc, &[&blanks[1..]]);
+    assert!(rt; matches!(&full, Some(Fault::UnknownRoot)));
+    let longer = refusal(alloc, &[&blanks[1..], b"\xff"]);
+    assert!(rt; matches!(&longer, Some(Fault::SourcesTooLong)));
+    Ok(())
+}
+
+#[test]
+fn a_comma_is_needed_between_elements(rt: HostRuntime) -> Result<(), Fail> {
+    let fault = refusal(rt.alloc(), &[b"#N: [1\n2]"]);
+    assert!(rt; matches!(&fault, Some(Fault::Syntax { file: 0, offset: 7 })));
     Ok(())
 }
 

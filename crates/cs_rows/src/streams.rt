@@ -184,7 +184,7 @@ fn an_input_at_its_limit(rt: HostRuntime) -> Result<(), Fail> {
     assert!(rt; matches!(&answer, Err(Fault::SourcesTooLong)));
     let mut input: &[u8] = &blanks[1..];
     let answer = run(alloc, from_input(alloc)?, &mut input, &mut output);
-    assert!(rt; matches!(&answer, Err(Fault::LeftOut { .. })));
+    assert!(rt; matches!(&answer, Err(Fault::UnknownRoot)));
     assert_eq!(rt; output.taken.len(), 0);
     Ok(())
 }

@@ -1,19 +1,19 @@
 -- Keywords that are put in their order stand in that order.
-use Rattle.std.proofs.Common.{◌≡◌, ◌↔◌, IsTrue, length, ℕ, zero, suc, Bool, false, List, [], ◌∷◌, ◌++◌, map, take, drop, Option, Some, None, String, Global, Box, Less, Greater, nat_cmp, string_bytes, codes, refl, sym, ap, ap₂, ◌∙◌, rules}
+use Rattle.std.proofs.Common.{◌≡◌, ◌↔◌, IsTrue, length, ℕ, zero, suc, Bool, false, List, [], ◌∷◌, ◌++◌, map, take, drop, Option, Some, None, option_map, String, Global, Box, Less, Greater, nat_cmp, string_bytes, codes, refl, sym, ap, ap₂, ◌∙◌, rules}
 use Rattle.std.proofs.lemmas.Cmp.{nat_list_cmp_total}
 use Rattle.std.proofs.Math.Seq.{drop-nil}
 use Rattle.std.specs.Cmp.Lexicographic.{slice_cmp}
 use Rattle.std.specs.Ordering.{ordering_reverse}
-use Rattle.cs_doc.specs.Document.{Document, Members, no_members, member, text, list, object, put}
+use Rattle.cs_doc.specs.Document.{Document, Members, no_members, member, integer, text, list, object, put}
 use Rattle.cs_doc.specs.View.{doc_view, object_view, documents_of, members_of}
 use Rattle.cs_doc.specs.declared.doc.Doc.{Doc}
 use Rattle.cs_doc.proofs.Documents.{Entry}
 use Rattle.cs_schema.specs.Shapes.{dialect}
 use Rattle.cs_schema.specs.Trim.{with_member, with_dialect}
-use Rattle.cs_schema.specs.SchemaDocument.{Slot, present, slots_of, schema_view, definitions_view, unless_no_list, unless_no_map, SchemaValue, with_definitions, document_of}
+use Rattle.cs_schema.specs.SchemaDocument.{Slot, present, slots_of, schema_view, schemas_view, text_document, kind_name, definitions_view, unless_no_list, unless_no_map, SchemaValue, with_definitions, document_of}
 use Rattle.cs_schema.specs.Writing.{put_some, put_all}
 use Rattle.cs_schema.specs.declared.schema.Schema.{Schema, Object, the_lemmas}
-use Rattle.cs_schema.specs.declared.schema.Keywords.{Keywords}
+use Rattle.cs_schema.specs.declared.schema.Keywords.{Keywords, out-Keywords}
 use Rattle.cs_schema.proofs.Slots.{Above, Ordered}
 use Rattle.cs_schema.proofs.Walks.{join, join-nil, KeysBelow, is_nil}
 
@@ -134,3 +134,16 @@ pub document_put : (v : SchemaValue) (k : Box Keywords Global) (o : Option Docum
 document_put v k o root is =
     ap (λ ms. object (put (codes "$schema") (text dialect) ms)) (definitions_put k.value o ∙ ap (λ d. with_member d (codes "$defs") (present (slots_of k.value))) is)
     ∙ ap (λ d. with_dialect (with_definitions (unless_no_map (definitions_view v.definitions)) d)) (sym (ap schema_view root ∙ view-Object k))
+
+-- ---- the values of some keywords
+
+pub from_items : (k : Keywords) → take 4 (drop 8 (slots_of k))
+    ≡ (codes "items", option_map schema_view (out-Keywords k).rest) ∷ (codes "maximum", option_map integer (out-Keywords k).maximum)
+    ∷ (codes "minItems", option_map integer (out-Keywords k).min_items) ∷ (codes "minimum", option_map integer (out-Keywords k).minimum) ∷ []
+from_items k = search (rules, the_lemmas)
+
+pub from_not : (k : Keywords) → drop 12 (slots_of k)
+    ≡ (codes "not", option_map schema_view (out-Keywords k).negated) ∷ (codes "prefixItems", unless_no_list (schemas_view (out-Keywords k).prefix.items))
+    ∷ (codes "properties", unless_no_map (definitions_view (out-Keywords k).properties.entries)) ∷ (codes "required", unless_no_list (map text_document (out-Keywords k).required.items))
+    ∷ (codes "type", option_map (λ j. text (kind_name j)) (out-Keywords k).kind) ∷ []
+from_not k = search (rules, the_lemmas)

@@ -4,6 +4,7 @@ pub mod Bytes
 pub mod Names
 pub mod Numbers
 pub mod Texts
+pub mod Characters
 pub mod Marks
 pub mod Fronts
 pub mod Once
@@ -13,10 +14,13 @@ pub mod Slices
 pub mod Literals
 pub mod Samples
 pub mod Numerals
-pub mod SingleLine
 pub mod BareNames
 pub mod Reader
 pub mod Complete
 pub mod Sound
-pub mod Whole
 pub mod Places
+pub mod Rests
+pub mod Whole
+pub mod Depths
+pub mod Heights
+pub mod GrammarSamples

@@ -1,25 +1,28 @@
 -- A fault stands at a word: what is left is an end of the words, and a fault is that of the first word of such an end.
-use Rattle.std.proofs.Common.{◌≡◌, ℕ, zero, suc, ℤ, Bool, true, false, [], ◌∷◌, List, length, Option, Some, None, Result, Ok, Err, refl, ap, ◌∙◌, inl}
+use Rattle.std.proofs.Common.{◌≡◌, ℕ, zero, suc, ℤ, Bool, true, false, [], ◌∷◌, List, length, drop, Option, Some, None, Result, Ok, Err, refl, ap, ◌∙◌}
 use Rattle.cs_syntax.specs.declared.fault.SyntaxFault.{SyntaxFault}
 use Rattle.cs_syntax.specs.declared.fault.SyntaxFault.TheVariants as faults
+use denote.Enum.Bare.{sameb}
+use Rattle.cs_syntax.specs.contracts.parser.kind.Kind.{the_type}
+use Rattle.cs_syntax.specs.declared.parser.kind.Kind.{Kind}
 use Rattle.cs_syntax.specs.declared.parser.kind.Kind.TheVariants as kinds
 use Rattle.cs_syntax.specs.declared.ast.Relation.TheVariants as relations
 use Rattle.cs_syntax.specs.declared.lexer.line.Line.{Line}
 use Rattle.cs_syntax.specs.declared.lexer.line.Line.TheVariants.{Plain, WantsComma, Minus}
-use Rattle.cs_syntax.specs.Cut.{Lexeme, comma_if, Cut, blank, new_line, comment, token, finish, Stuck, no_token, too_large, past_blank, past_line, past_comment, past_token, IsCut}
+use Rattle.cs_syntax.specs.Cut.{Lexeme, comma_if, Cut, blank, new_line, comment, token, finish, Stuck, no_token, too_large, past_blank, past_line, past_comment, past_token}
 use Rattle.cs_syntax.specs.Words as W
-use Rattle.std.specs.Prelude.{IfErr}
-use Rattle.cs_syntax.specs.Words.{Word, Words, start, name, definition_name, numeral, colon, amp, nl, relation, minus}
-use Rattle.cs_syntax.specs.Tree.{DefinitionTree, FileTree, file}
-use Rattle.cs_syntax.specs.Spells.{is_other_name}
+use Rattle.std.specs.Prelude.{◌&&◌, ◌||◌, not, cond}
+use Rattle.cs_syntax.specs.Words.{Word, Words, start, name, quoted, definition_name, numeral, top_mark, bottom_mark, open_paren, open_struct, open_list, close_paren, close_struct, close_list, comma, nl, colon, question, bang, dots, relation, unequal, minus}
+use Rattle.cs_syntax.specs.Tree.{Tree, not_integer, DefinitionTree, FileTree, file}
+use Rattle.cs_syntax.specs.Spells.{is_keyword, is_null, literal_of}
 use Rattle.cs_syntax.specs.View.{words}
-use Rattle.cs_syntax.specs.Reading.{◌>>=◌, Read, Gives, is_left_out, fault_if, fault_at, expected, signed, number_or, number_at, name_or, bound_at, operand_at, many, amps_at, conj_at, definition_at, whole, file_at}
+use Rattle.cs_syntax.specs.Reading.{◌>>=◌, Read, word_kind, begins_with, begins_comma, is_left_out, fault_if, fault_at, behind_if, after, after_comma, or_fault, beyond, comma_at, close_at, paren_end, expected, signed, number_or, number_at, name_or, null_or, bound_at, unequal_at, integer_at, plain_at, or_more, many, another_field, another_element, opening, opening_if, opening_at, rest_behind, may_end, label_at, mark_if, mark_at, field_with, fields_with, struct_if, struct_with, rest_if, rest_with, end_if, end_with, elements_with, list_if, list_with, operand_with, amps_with, conj_with, bars_with, expr_with, value_if, begins_field, inner, definition_at, line_at, before_end, definitions_at, is_clause, clause_at, package_if, package_at, whole, file_with, file_at}
 use Rattle.cs_syntax.specs.Place.{Ends, same, past, IsFaultIn}
 use Rattle.cs_syntax.specs.Answer.{IsRefusal, IsFileRefusal}
 
 -- ---- the words of a source end with the end
 
-data WellEnded : Words → Type 0 where
+pub data WellEnded : Words → Type 0 where
   last : {p : ℕ} → WellEnded (W.finish p ∷ [])
   before : {w : Word} {ts : Words} → WellEnded ts → WellEnded (w ∷ ts)
 
@@ -28,7 +31,7 @@ comma_ended WantsComma o ks h = before h
 comma_ended Plain o ks h = h
 comma_ended Minus o ks h = h
 
-cut_ended : {bs : List ℕ} {o : ℕ} {l : Line} {ks : List Lexeme} → Cut bs o l ks → WellEnded (words ks)
+pub cut_ended : {bs : List ℕ} {o : ℕ} {l : Line} {ks : List Lexeme} → Cut bs o l ks → WellEnded (words ks)
 cut_ended (blank h k) = cut_ended k
 cut_ended (new_line {o = o} {l = l} {ks = ks} h k) = comma_ended l o ks (cut_ended k)
 cut_ended (comment {o = o} {l = l} {ks = ks} h k) = comma_ended l o ks (cut_ended k)
@@ -37,7 +40,7 @@ cut_ended (finish {o} {l}) = comma_ended l o _ last
 
 -- ---- reading goes on, or stops at a word
 
-trans : {ts us vs : Words} → Ends ts us → Ends us vs → Ends ts vs
+pub trans : {ts us vs : Words} → Ends ts us → Ends us vs → Ends ts vs
 trans same e = e
 trans (past a) e = past (trans a e)
 
@@ -63,7 +66,75 @@ fault_here : (ts : Words) → WellEnded ts → IsFaultIn (fault_at ts) ts
 fault_here (w ∷ ts) e = (w, ts, same, refl)
 fault_here [] e = elim e [ ]
 
--- ---- the grammar
+abbrev GoesTo : Words → Result Words SyntaxFault → Type 0
+GoesTo ts (Ok us) = Ends ts us × WellEnded us
+GoesTo ts (Err f) = IsFaultIn f ts
+
+-- what is behind is an end
+abbrev GoesBehind : Words → Option Words → Type 0
+GoesBehind ts (Some us) = Ends ts us × WellEnded us
+GoesBehind ts None = Unit {0}
+
+moved_to : (ts us : Words) (m : Result Words SyntaxFault) → Ends ts us → GoesTo us m → GoesTo ts m
+moved_to ts us (Ok x) e g = (trans e g.0, g.1)
+moved_to ts us (Err f) e g = fault_moved ts us f e g
+
+then_to : {B : Type 0} (ts : Words) (m : Result Words SyntaxFault) (f : Words → Result (B × Words) SyntaxFault) → GoesTo ts m → ((us : Words) → WellEnded us → Goes us (f us)) → Goes ts (m >>= f)
+then_to ts (Ok us) f g k = moved ts us (f us) g.0 (k us g.1)
+then_to ts (Err e) f g k = g
+
+-- ---- marks
+
+after_goes : (k : Kind) → sameb the_type kinds.End k ≡ false → (ts : Words) → WellEnded ts → GoesBehind ts (after k ts)
+after_goes k z (W.finish p ∷ []) last = rw z tt
+after_goes k z (w ∷ ts) (before e) = by (sameb the_type (word_kind w) k)
+  where
+    by : (b : Bool) → GoesBehind (w ∷ ts) (cond b (Some ts) None)
+    by true = (past same, e)
+    by false = tt
+after_goes k z [] e = elim e [ ]
+
+behind_goes : (c : Words → Bool) → ((p : ℕ) → c (W.finish p ∷ []) ≡ false) → (ts : Words) → WellEnded ts → GoesBehind ts (behind_if (c ts) ts)
+behind_goes c z (W.finish p ∷ []) last = rw (z p) tt
+behind_goes c z (w ∷ ts) (before e) = by (c (w ∷ ts))
+  where
+    by : (b : Bool) → GoesBehind (w ∷ ts) (behind_if b (w ∷ ts))
+    by true = (past same, e)
+    by false = tt
+behind_goes c z [] e = elim e [ ]
+
+or_fault_goes : (ts : Words) (o : Option Words) → WellEnded ts → GoesBehind ts o → GoesTo ts (or_fault ts o)
+or_fault_goes ts None e g = fault_here ts e
+or_fault_goes ts (Some us) e g = g
+
+expected_goes : (k : Kind) → sameb the_type kinds.End k ≡ false → (ts : Words) → WellEnded ts → GoesTo ts (expected k ts)
+expected_goes k z ts e = or_fault_goes ts (after k ts) e (after_goes k z ts e)
+
+comma_goes : (ts : Words) → WellEnded ts → GoesTo ts (comma_at ts)
+comma_goes ts e = or_fault_goes ts (after_comma ts) e (behind_goes begins_comma (λ p. refl) ts e)
+
+beyond_goes : (k : Kind) → sameb the_type kinds.End k ≡ false → (ts : Words) (o : Option Words) → WellEnded ts → GoesBehind ts o → GoesTo ts (expected k (beyond ts o))
+beyond_goes k z ts None e g = expected_goes k z ts e
+beyond_goes k z ts (Some us) e g = moved_to ts us (expected k us) g.0 (expected_goes k z us g.1)
+
+list_end_goes : (ts : Words) → WellEnded ts → GoesTo ts (close_at kinds.CloseList ts)
+list_end_goes ts e = beyond_goes kinds.CloseList refl ts (after_comma ts) e (behind_goes begins_comma (λ p. refl) ts e)
+
+struct_end_goes : (ts : Words) → WellEnded ts → GoesTo ts (close_at kinds.CloseStruct ts)
+struct_end_goes ts e = beyond_goes kinds.CloseStruct refl ts (after_comma ts) e (behind_goes begins_comma (λ p. refl) ts e)
+
+paren_end_goes : (ts : Words) → WellEnded ts → GoesTo ts (paren_end ts)
+paren_end_goes ts e = beyond_goes kinds.CloseParen refl ts (after kinds.Inserted ts) e (after_goes kinds.Inserted refl ts e)
+
+mark_goes : (ts : Words) → WellEnded ts → Ends ts (mark_at ts).1 × WellEnded (mark_at ts).1
+mark_goes ts e = by (after kinds.Question ts) (after kinds.Bang ts) (after_goes kinds.Question refl ts e) (after_goes kinds.Bang refl ts e)
+  where
+    by : (o q : Option Words) → GoesBehind ts o → GoesBehind ts q → Ends ts (mark_if ts o q).1 × WellEnded (mark_if ts o q).1
+    by (Some us) q g h = g
+    by None (Some us) g h = h
+    by None None g h = (same, e)
+
+-- ---- numbers and operands without brackets
 
 number_or_goes : (n p : ℕ) (ts : Words) (o : Option ℤ) → WellEnded ts → Goes (numeral n p ∷ ts) (number_or o p ts)
 number_or_goes n p ts (Some z) e = (past same, e)
@@ -77,36 +148,166 @@ number_goes (minus q ∷ ts) (before e) = fault_moved (minus q ∷ ts) ts (fault
 number_goes (relation relations.Less p ∷ ts) e = fault_here (relation relations.Less p ∷ ts) e
 number_goes ts e = fault_here ts e
 
-name_or_goes : (b : Bool) (s : List ℕ) (p : ℕ) (ts : Words) → WellEnded ts → Goes (name s p ∷ ts) (name_or b s p ts)
-name_or_goes true s p ts e = (name s p, ts, same, refl)
-name_or_goes false s p ts e = (past same, e)
+name_or_goes : (b : Bool) (o : Option Tree) (s : List ℕ) (p : ℕ) (ts : Words) → WellEnded ts → Goes (name s p ∷ ts) (name_or b o s p ts)
+name_or_goes true o s p ts e = (name s p, ts, same, refl)
+name_or_goes false o s p ts e = (past same, e)
 
-operand_goes : IsGoing operand_at
-unfolding operand_at bound_at
-operand_goes (name s p ∷ ts) (before e) = name_or_goes (is_other_name s) s p ts e
-operand_goes (relation b p ∷ ts) (before e) = moved (relation b p ∷ ts) ts (bound_at b ts) (past same) (then ts (number_at ts) _ (number_goes ts e) (λ x h. (same, h)))
-operand_goes (numeral n p ∷ ts) e = then (numeral n p ∷ ts) (number_at (numeral n p ∷ ts)) _ (number_goes (numeral n p ∷ ts) e) (λ x h. (same, h))
-operand_goes (minus p ∷ ts) e = then (minus p ∷ ts) (number_at (minus p ∷ ts)) _ (number_goes (minus p ∷ ts) e) (λ x h. (same, h))
-operand_goes ts e = fault_here ts e
+null_or_goes : (b : Bool) (s : List ℕ) (p : ℕ) (ts : Words) → WellEnded ts → Goes (name s p ∷ ts) (null_or b s p ts)
+null_or_goes false s p ts e = (name s p, ts, same, refl)
+null_or_goes true s p ts e = (past same, e)
 
-amps_goes : (n : ℕ) → IsGoing (amps_at n)
-unfolding many
-amps_goes zero ts e = (same, e)
-amps_goes (suc n) (amp o ∷ ts) (before e) = moved (amp o ∷ ts) ts (amps_at (suc n) (amp o ∷ ts)) (past same) (then ts (operand_at ts) _ (operand_goes ts e) (λ x h. then x.1 (amps_at n x.1) _ (amps_goes n x.1 h) (λ y k. (same, k))))
-amps_goes (suc n) (relation relations.Less p ∷ ts) e = (same, e)
-amps_goes (suc n) [] e = (same, e)
-amps_goes (suc n) ts e = (same, e)
+unequal_number_goes : IsGoing (λ ts. number_at ts >>= λ z. Ok (not_integer z.0, z.1))
+unequal_number_goes ts e = then ts (number_at ts) _ (number_goes ts e) (λ x h. (same, h))
 
-conj_goes : IsGoing conj_at
-unfolding conj_at
-conj_goes ts e = then ts (operand_at ts) _ (operand_goes ts e) (λ x h. then x.1 (amps_at (length x.1) x.1) _ (amps_goes (length x.1) x.1 h) (λ y k. (same, k)))
+unequal_goes : IsGoing unequal_at
+unfolding unequal_at
+unequal_goes (quoted s p ∷ ts) (before e) = (past same, e)
+unequal_goes (name s p ∷ ts) (before e) = null_or_goes (is_null s) s p ts e
+unequal_goes ts e = unequal_number_goes ts e
 
-definition_goes : IsGoing definition_at
+integer_goes : IsGoing integer_at
+unfolding integer_at
+integer_goes ts e = then ts (number_at ts) _ (number_goes ts e) (λ x h. (same, h))
+
+plain_goes : IsGoing plain_at
+unfolding plain_at bound_at
+plain_goes (top_mark p ∷ ts) (before e) = (past same, e)
+plain_goes (bottom_mark p ∷ ts) (before e) = (past same, e)
+plain_goes (definition_name s p ∷ ts) (before e) = (past same, e)
+plain_goes (name s p ∷ ts) (before e) = name_or_goes (is_keyword s) (literal_of s) s p ts e
+plain_goes (quoted s p ∷ ts) (before e) = (past same, e)
+plain_goes (relation b p ∷ ts) (before e) = moved (relation b p ∷ ts) ts (bound_at b ts) (past same) (then ts (number_at ts) _ (number_goes ts e) (λ x h. (same, h)))
+plain_goes (unequal p ∷ ts) (before e) = moved (unequal p ∷ ts) ts (unequal_at ts) (past same) (unequal_goes ts e)
+plain_goes (numeral n p ∷ ts) e = integer_goes (numeral n p ∷ ts) e
+plain_goes (minus p ∷ ts) e = integer_goes (minus p ∷ ts) e
+plain_goes ts e = fault_here ts e
+
+-- ---- one after the other
+
+module _ {A : Type 0} (skip : Words → Option Words) (s : (ts : Words) → WellEnded ts → GoesBehind ts (skip ts)) (p : Read A) (h : IsGoing p) where
+  or_more_goes : (again : Read (List A)) → IsGoing again → (ts : Words) → WellEnded ts → (o : Option Words) → GoesBehind ts o → Goes ts (or_more p again ts o)
+  or_more_goes again a ts e None g = (same, e)
+  or_more_goes again a ts e (Some us) g = moved ts us (or_more p again ts (Some us)) g.0 (then us (p us) _ (h us g.1) (λ x k. then x.1 (again x.1) _ (a x.1 k) (λ y l. (same, l))))
+
+  many_goes : (n : ℕ) → IsGoing (many skip p n)
+  unfolding many
+  many_goes zero ts e = (same, e)
+  many_goes (suc n) ts e = or_more_goes (many skip p n) (many_goes n) ts e (skip ts) (s ts e)
+
+-- ---- fields, lists and expressions
+
+label_goes : IsGoing label_at
+unfolding label_at
+label_goes (name s p ∷ ts) (before e) = (past same, e)
+label_goes (quoted s p ∷ ts) (before e) = (past same, e)
+label_goes ts e = fault_here ts e
+
+opening_goes : IsGoing opening_at
+opening_goes ts e = by (opening ts) (behind_goes (λ us. begins_comma us && begins_with kinds.Dots (drop 1 us)) (λ p. refl) ts e)
+  where
+    by : (o : Option Words) → GoesBehind ts o → Goes ts (opening_if ts o)
+    by None g = then_to ts (close_at kinds.CloseStruct ts) _ (struct_end_goes ts e) (λ us h. (same, h))
+    by (Some us) g = moved ts us (opening_if ts (Some us)) g.0 (then_to us (expected kinds.Dots us) _ (expected_goes kinds.Dots refl us g.1) (λ vs h. then_to vs (close_at kinds.CloseStruct vs) _ (struct_end_goes vs h) (λ ws k. (same, k))))
+
+field_skips : (ts : Words) → WellEnded ts → GoesBehind ts (another_field ts)
+field_skips ts e = behind_goes (λ us. begins_comma us && not (begins_with kinds.CloseStruct (drop 1 us) || begins_with kinds.Dots (drop 1 us))) (λ p. refl) ts e
+
+element_skips : (ts : Words) → WellEnded ts → GoesBehind ts (another_element ts)
+element_skips ts e = behind_goes (λ us. begins_with kinds.Comma us && not (begins_with kinds.CloseList (drop 1 us) || begins_with kinds.Dots (drop 1 us))) (λ p. refl) ts e
+
+module _ (r : Bool → Read Tree) (h : (b : Bool) → IsGoing (r b)) where
+  field_goes : IsGoing (field_with r)
+  unfolding field_with
+  field_goes ts e = then ts (label_at ts) _ (label_goes ts e) (λ l k. let m = mark_goes l.1 k in moved l.1 (mark_at l.1).1 (expected kinds.Colon (mark_at l.1).1 >>= λ us. r true us >>= λ x. Ok (record { label = l.0; mark = (mark_at l.1).0; value = x.0 }, x.1)) m.0 (then_to (mark_at l.1).1 (expected kinds.Colon (mark_at l.1).1) _ (expected_goes kinds.Colon refl (mark_at l.1).1 m.1) (λ us n. then us (r true us) _ (h true us n) (λ x o. (same, o)))))
+
+  struct_goes : IsGoing (struct_with r)
+  unfolding struct_with
+  struct_goes ts e = by (after kinds.CloseStruct ts) (after kinds.Dots ts) (after_goes kinds.CloseStruct refl ts e) (after_goes kinds.Dots refl ts e)
+    where
+      by : (o d : Option Words) → GoesBehind ts o → GoesBehind ts d → Goes ts (struct_if r ts o d)
+      by (Some us) d g k = g
+      by None (Some us) g k = moved ts us (struct_if r ts None (Some us)) k.0 (then_to us (close_at kinds.CloseStruct us) _ (struct_end_goes us k.1) (λ vs l. (same, l)))
+      by None None g k = then ts (field_with r ts) _ (field_goes ts e) (λ f l. then f.1 (fields_with r (length f.1) f.1) _ (many_goes another_field field_skips (field_with r) field_goes (length f.1) f.1 l) (λ fs m. then fs.1 (opening_at fs.1) _ (opening_goes fs.1 m) (λ b n. (same, n))))
+
+  rest_goes : IsGoing (rest_with r)
+  unfolding rest_with
+  rest_goes ts e = by (may_end ts)
+    where
+      by : (b : Bool) → Goes ts (rest_if r b ts)
+      by true = then_to ts (close_at kinds.CloseList ts) _ (list_end_goes ts e) (λ us k. (same, k))
+      by false = then ts (r false ts) _ (h false ts e) (λ x k. then_to x.1 (close_at kinds.CloseList x.1) _ (list_end_goes x.1 k) (λ us l. (same, l)))
+
+  end_goes : IsGoing (end_with r)
+  unfolding end_with
+  end_goes ts e = by (rest_behind ts) (behind_goes (λ us. begins_with kinds.Comma us && begins_with kinds.Dots (drop 1 us)) (λ p. refl) ts e)
+    where
+      by : (o : Option Words) → GoesBehind ts o → Goes ts (end_if r ts o)
+      by None g = then_to ts (close_at kinds.CloseList ts) _ (list_end_goes ts e) (λ us k. (same, k))
+      by (Some us) g = moved ts us (end_if r ts (Some us)) g.0 (then_to us (expected kinds.Dots us) _ (expected_goes kinds.Dots refl us g.1) (λ vs k. rest_goes vs k))
+
+  list_goes : IsGoing (list_with r)
+  unfolding list_with
+  list_goes ts e = by (after kinds.CloseList ts) (after kinds.Dots ts) (after_goes kinds.CloseList refl ts e) (after_goes kinds.Dots refl ts e)
+    where
+      by : (o d : Option Words) → GoesBehind ts o → GoesBehind ts d → Goes ts (list_if r ts o d)
+      by (Some us) d g k = g
+      by None (Some us) g k = moved ts us (list_if r ts None (Some us)) k.0 (then us (rest_with r us) _ (rest_goes us k.1) (λ x l. (same, l)))
+      by None None g k = then ts (r false ts) _ (h false ts e) (λ x l. then x.1 (elements_with r (length x.1) x.1) _ (many_goes another_element element_skips (r false) (h false) (length x.1) x.1 l) (λ es m. then es.1 (end_with r es.1) _ (end_goes es.1 m) (λ b n. (same, n))))
+
+  operand_goes : IsGoing (operand_with r)
+  unfolding operand_with
+  operand_goes (open_paren o ∷ ts) (before e) = moved (open_paren o ∷ ts) ts (operand_with r (open_paren o ∷ ts)) (past same) (then ts (r false ts) _ (h false ts e) (λ x k. then_to x.1 (paren_end x.1) _ (paren_end_goes x.1 k) (λ us l. (same, l))))
+  operand_goes (open_struct o ∷ ts) (before e) = moved (open_struct o ∷ ts) ts (operand_with r (open_struct o ∷ ts)) (past same) (then ts (struct_with r ts) _ (struct_goes ts e) (λ x k. (same, k)))
+  operand_goes (open_list o ∷ ts) (before e) = moved (open_list o ∷ ts) ts (operand_with r (open_list o ∷ ts)) (past same) (then ts (list_with r ts) _ (list_goes ts e) (λ x k. (same, k)))
+  operand_goes ts e = plain_goes ts e
+
+  conj_goes : IsGoing (conj_with r)
+  unfolding conj_with
+  conj_goes ts e = then ts (operand_with r ts) _ (operand_goes ts e) (λ x k. then x.1 (amps_with r (length x.1) x.1) _ (many_goes (after kinds.Amp) (after_goes kinds.Amp refl) (operand_with r) operand_goes (length x.1) x.1 k) (λ y l. (same, l)))
+
+  expr_goes : IsGoing (expr_with r)
+  unfolding expr_with
+  expr_goes ts e = then ts (conj_with r ts) _ (conj_goes ts e) (λ x k. then x.1 (bars_with r (length x.1) x.1) _ (many_goes (after kinds.Bar) (after_goes kinds.Bar refl) (conj_with r) conj_goes (length x.1) x.1 k) (λ y l. (same, l)))
+
+  value_goes : (b : Bool) → IsGoing (value_if r b)
+  value_goes true ts e = then ts (field_with r ts) _ (field_goes ts e) (λ x k. (same, k))
+  value_goes false ts e = expr_goes ts e
+
+inner_goes : (d : ℕ) (b : Bool) → IsGoing (inner d b)
+unfolding inner
+inner_goes zero b ts e = fault_here ts e
+inner_goes (suc d) b ts e = value_goes (inner d) (inner_goes d) (b && begins_field ts) ts e
+
+-- ---- definitions and files
+
+definition_goes : (d : ℕ) → IsGoing (definition_at d)
 unfolding definition_at
-definition_goes (definition_name s p ∷ colon q ∷ ts) (before (before e)) = moved (definition_name s p ∷ colon q ∷ ts) ts (definition_at (definition_name s p ∷ colon q ∷ ts)) (past (past same)) (then ts (conj_at ts) _ (conj_goes ts e) (λ x h. (same, h)))
-definition_goes (definition_name s p ∷ relation relations.Less q ∷ ts) (before e) = fault_moved (definition_name s p ∷ relation relations.Less q ∷ ts) (relation relations.Less q ∷ ts) (fault_at (relation relations.Less q ∷ ts)) (past same) (fault_here (relation relations.Less q ∷ ts) e)
-definition_goes (definition_name s p ∷ ts) (before e) = fault_moved (definition_name s p ∷ ts) ts (fault_at ts) (past same) (fault_here ts e)
-definition_goes ts e = fault_here ts e
+definition_goes d (definition_name s p ∷ ts) (before e) = moved (definition_name s p ∷ ts) ts (definition_at d (definition_name s p ∷ ts)) (past same) (then_to ts (expected kinds.Colon ts) _ (expected_goes kinds.Colon refl ts e) (λ us k. then us (inner d true us) _ (inner_goes d true us k) (λ x l. (same, l))))
+definition_goes d ts e = fault_here ts e
+
+line_goes : (d : ℕ) → IsGoing (line_at d)
+unfolding line_at
+line_goes d ts e = then ts (definition_at d ts) _ (definition_goes d ts e) (λ x k. then_to x.1 (comma_at x.1) _ (comma_goes x.1 k) (λ us l. (same, l)))
+
+line_skips : (ts : Words) → WellEnded ts → GoesBehind ts (before_end ts)
+line_skips ts e = by (begins_with kinds.End ts)
+  where
+    by : (b : Bool) → GoesBehind ts (cond b None (Some ts))
+    by true = tt
+    by false = (same, e)
+
+clause_goes : IsGoing clause_at
+unfolding clause_at
+clause_goes (name s p ∷ ts) (before e) = moved (name s p ∷ ts) ts (clause_at (name s p ∷ ts)) (past same) (then_to ts (comma_at ts) _ (comma_goes ts e) (λ us k. (same, k)))
+clause_goes ts e = fault_here ts e
+
+package_goes : IsGoing package_at
+unfolding package_at
+package_goes ts e = by (behind_if (is_clause ts) ts) (behind_goes is_clause (λ p. refl) ts e)
+  where
+    by : (o : Option Words) → GoesBehind ts o → Goes ts (package_if ts o)
+    by None g = (same, e)
+    by (Some us) g = moved ts us (package_if ts (Some us)) g.0 (then us (clause_at us) _ (clause_goes us g.1) (λ x k. (same, k)))
 
 -- ---- the end of a file
 
@@ -114,21 +315,23 @@ fault_is : (us : Words) (f : SyntaxFault) → WellEnded us → f ≡ fault_at us
 fault_is (w ∷ us) f e h = (w, us, same, h)
 fault_is [] f e h = elim e [ ]
 
-rest_fault : (us : Words) → WellEnded us → (d : DefinitionTree) (f : SyntaxFault) → (expected kinds.Inserted us >>= λ vs. expected kinds.End vs >>= λ ws. whole (file None (d ∷ [])) ws) ≡ Err f → IsFaultIn f us
-rest_fault (nl p ∷ W.finish q ∷ []) e d f is = absurd cc
-rest_fault (nl p ∷ W.finish q ∷ w ∷ us) e d f is = (w, us, past (past same), cc)
-rest_fault (nl p ∷ relation relations.Less q ∷ us) (before e) d f is = fault_moved (nl p ∷ relation relations.Less q ∷ us) (relation relations.Less q ∷ us) f (past same) (fault_is (relation relations.Less q ∷ us) f e cc)
-rest_fault (nl p ∷ us) (before e) d f is = fault_moved (nl p ∷ us) us f (past same) (fault_is us f e cc)
-rest_fault (relation relations.Less p ∷ us) e d f is = fault_is (relation relations.Less p ∷ us) f e cc
-rest_fault us e d f is = fault_is us f e cc
+rest_fault : (us : Words) → WellEnded us → (x : FileTree) (f : SyntaxFault) → (expected kinds.End us >>= λ ws. whole x ws) ≡ Err f → IsFaultIn f us
+rest_fault (W.finish q ∷ []) e x f is = absurd cc
+rest_fault (W.finish q ∷ w ∷ us) e x f is = (w, us, past same, cc)
+rest_fault (relation relations.Less p ∷ us) e x f is = fault_is (relation relations.Less p ∷ us) f e cc
+rest_fault us e x f is = fault_is us f e cc
 
-file_fault : (ts : Words) → WellEnded ts → (f : SyntaxFault) → file_at ts ≡ Err f → IsFaultIn f ts
-unfolding file_at
-file_fault ts e f is = placed (definition_at ts) (definition_goes ts e) is
+pub file_fault : (ts : Words) → WellEnded ts → (f : SyntaxFault) → file_at ts ≡ Err f → IsFaultIn f ts
+unfolding file_with
+file_fault ts e f is = packaged (package_at ts) (package_goes ts e) is
   where
-    placed : (m : Result (DefinitionTree × Words) SyntaxFault) → Goes ts m → (m >>= λ d. expected kinds.Inserted d.1 >>= λ us. expected kinds.End us >>= λ vs. whole (file None (d.0 ∷ [])) vs) ≡ Err f → IsFaultIn f ts
-    placed (Ok x) g k = fault_moved ts x.1 f g.0 (rest_fault x.1 g.1 x.0 f k)
-    placed (Err h) g k = (g.0, g.1, g.2, let same_fault : f ≡ h = cc in same_fault ∙ g.3)
+    packaged : (m : Result (Option (List ℕ) × Words) SyntaxFault) → Goes ts m → (m >>= λ c. definitions_at (length ts) (length c.1) c.1 >>= λ ds. expected kinds.End ds.1 >>= λ us. whole (file c.0 ds.0) us) ≡ Err f → IsFaultIn f ts
+    packaged (Ok x) g k = fault_moved ts x.1 f g.0 (lined (definitions_at (length ts) (length x.1) x.1) (many_goes before_end line_skips (line_at (length ts)) (line_goes (length ts)) (length x.1) x.1 g.1) k)
+      where
+        lined : (m : Result (List DefinitionTree × Words) SyntaxFault) → Goes x.1 m → (m >>= λ ds. expected kinds.End ds.1 >>= λ us. whole (file x.0 ds.0) us) ≡ Err f → IsFaultIn f x.1
+        lined (Ok y) g k = fault_moved x.1 y.1 f g.0 (rest_fault y.1 g.1 (file x.0 y.0) f k)
+        lined (Err h) g k = (g.0, g.1, g.2, let same_fault : f ≡ h = cc in same_fault ∙ g.3)
+    packaged (Err h) g k = (g.0, g.1, g.2, let same_fault : f ≡ h = cc in same_fault ∙ g.3)
 
 -- ---- why a source is refused
 
@@ -153,7 +356,7 @@ stuck_refused source (faults.Syntax o) h = let e = stuck_lexical h in absurd cc
 stuck_refused source (faults.LeftOut o) h = let e = stuck_lexical h in absurd cc
 stuck_refused source faults.TooHigh h = let e = stuck_lexical h in absurd cc
 
-abbrev is_of_word : SyntaxFault → Bool
+abbrev pub is_of_word : SyntaxFault → Bool
 is_of_word (faults.Syntax o) = true
 is_of_word (faults.LeftOut o) = true
 is_of_word _ = false
@@ -162,14 +365,5 @@ of_word : (b : Bool) (o : ℕ) → is_of_word (fault_if b o) ≡ true
 of_word true o = refl
 of_word false o = refl
 
-fault_of_word : (ts : Words) (f : SyntaxFault) → IsFaultIn f ts → is_of_word f ≡ true
+pub fault_of_word : (ts : Words) (f : SyntaxFault) → IsFaultIn f ts → is_of_word f ≡ true
 fault_of_word ts f h = ap is_of_word h.3 ∙ of_word (is_left_out h.0) (start h.0)
-
-pub file_refused : {X : Type 0} (view : X → FileTree) (source : List ℕ) (r : Result X SyntaxFault) (ks : List Lexeme) → IsCut source ks → Gives view r (file_at (words ks)) → IfErr r (λ f. IsFileRefusal source f)
-file_refused view source (Ok x) ks cut g = tt
-file_refused view source (Err faults.OutOfMemory) ks cut g = tt
-file_refused view source (Err (faults.Syntax o)) ks cut g = record { tokens = ks; cut = cut; place = inl (file_fault (words ks) (cut_ended cut) (faults.Syntax o) g) }
-file_refused view source (Err (faults.LeftOut o)) ks cut g = record { tokens = ks; cut = cut; place = inl (file_fault (words ks) (cut_ended cut) (faults.LeftOut o) g) }
-file_refused view source (Err (faults.NoToken o)) ks cut g = let e = fault_of_word (words ks) (faults.NoToken o) (file_fault (words ks) (cut_ended cut) (faults.NoToken o) g) in absurd cc
-file_refused view source (Err (faults.IntegerRange o)) ks cut g = let e = fault_of_word (words ks) (faults.IntegerRange o) (file_fault (words ks) (cut_ended cut) (faults.IntegerRange o) g) in absurd cc
-file_refused view source (Err faults.TooHigh) ks cut g = let e = fault_of_word (words ks) faults.TooHigh (file_fault (words ks) (cut_ended cut) faults.TooHigh g) in absurd cc

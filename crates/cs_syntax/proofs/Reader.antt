@@ -1,12 +1,12 @@
 -- Reading one after the other, as a loop does.
-use Rattle.std.proofs.Common.{◌≡◌, ℕ, zero, suc, ◌<◌, List, [], ◌∷◌, ◌++◌, Option, Some, None, Result, Ok, Err, refl, ap, subst, length, rules, arith, Vec, Global}
+use Rattle.std.proofs.Common.{◌≡◌, ℕ, zero, suc, ◌<◌, List, [], ◌∷◌, ◌++◌, map, Option, Some, None, Result, Ok, Err, refl, ap, subst, length, rules, arith, Vec, Global}
 use Rattle.cs_syntax.specs.declared.fault.SyntaxFault.{SyntaxFault}
 use Rattle.cs_syntax.specs.declared.fault.SyntaxFault.TheVariants as faults
-use Rattle.cs_syntax.specs.declared.ast.Expr.{Expr, And, the_lemmas}
+use Rattle.cs_syntax.specs.declared.ast.Expr.{Expr, And, Or, the_lemmas}
 use Rattle.cs_syntax.specs.Words.{Words}
-use Rattle.cs_syntax.specs.Tree.{Tree, meet, Trees, none, more}
+use Rattle.cs_syntax.specs.Tree.{Tree, meet, join, more}
 use Rattle.cs_syntax.specs.View.{expr_view, exprs_view}
-use Rattle.cs_syntax.specs.Reading.{◌>>=◌, Fails, Read, many, meet_of}
+use Rattle.cs_syntax.specs.Reading.{◌>>=◌, Fails, Read, many, meet_of, join_of}
 
 -- ---- faults
 
@@ -21,52 +21,60 @@ fails-bind faults.TooHigh m g h = rw h refl
 pub fails-of : {A : Type 0} (f : SyntaxFault) (m n : Result A SyntaxFault) → m ≡ n → Fails f m → Fails f n
 fails-of f m n e h = subst (λ r. Fails f r) e h
 
--- ---- operands of one mark
+-- ---- one after the other
 
--- the trees of these expressions, and then these
-abbrev pub trees_before : List Expr → Trees → Trees
-trees_before [] rest = rest
-trees_before (e ∷ es) rest = more (expr_view e) (trees_before es rest)
+module _ {X A : Type 0} (view : X → A) where
+  -- these, seen by view, and then those
+  abbrev pub viewed_before : List X → List A → List A
+  viewed_before [] rest = rest
+  viewed_before (x ∷ xs) rest = view x ∷ viewed_before xs rest
 
--- what was read before, and what is still read
-abbrev pub with_front : List Expr → Result (Trees × Words) SyntaxFault → Result (Trees × Words) SyntaxFault
-with_front es read = read >>= λ x. Ok (trees_before es x.0, x.1)
+  -- what was read before, and what is still read
+  abbrev pub with_front : List X → Result (List A × Words) SyntaxFault → Result (List A × Words) SyntaxFault
+  with_front xs read = read >>= λ y. Ok (viewed_before xs y.0, y.1)
 
-before-none : (es : List Expr) → trees_before es none ≡ exprs_view es
-before-none [] = refl
-before-none (e ∷ es) = ap (more (expr_view e)) (before-none es)
+  before-none : (xs : List X) → viewed_before xs [] ≡ map view xs
+  before-none [] = refl
+  before-none (x ∷ xs) = ap (λ ys. view x ∷ ys) (before-none xs)
 
-before-push : (es : List Expr) (e : Expr) (rest : Trees) → trees_before (es ++ e ∷ []) rest ≡ trees_before es (more (expr_view e) rest)
-before-push [] e rest = refl
-before-push (f ∷ es) e rest = ap (more (expr_view f)) (before-push es e rest)
+  before-push : (xs : List X) (x : X) (rest : List A) → viewed_before (xs ++ x ∷ []) rest ≡ viewed_before xs (view x ∷ rest)
+  before-push [] x rest = refl
+  before-push (y ∷ xs) x rest = ap (λ ys. view y ∷ ys) (before-push xs x rest)
 
-front-push : (es : List Expr) (e : Expr) (read : Result (Trees × Words) SyntaxFault) → with_front (es ++ e ∷ []) read ≡ with_front es (read >>= λ x. Ok (more (expr_view e) x.0, x.1))
-front-push es e (Ok x) = ap (λ ts. Ok (ts, x.1)) (before-push es e x.0)
-front-push es e (Err f) = refl
+  front-push : (xs : List X) (x : X) (read : Result (List A × Words) SyntaxFault) → with_front (xs ++ x ∷ []) read ≡ with_front xs (read >>= λ y. Ok (view x ∷ y.0, y.1))
+  front-push xs x (Ok y) = ap (λ ys. Ok (ys, y.1)) (before-push xs x y.0)
+  front-push xs x (Err f) = refl
 
-module _ (skip : Words → Option Words) (p : Read Tree) (es : List Expr) where
-  pub goes_on : (e : Expr) (k n : ℕ) (ts us vs : Words) → k ≡ suc n → skip ts ≡ Some us → p us ≡ Ok (expr_view e, vs) → with_front (es ++ e ∷ []) (many skip p n vs) ≡ with_front es (many skip p k ts)
-  unfolding many
-  goes_on e k n ts us vs is s r = rw (is, s, r) (front-push es e (many skip p n vs))
+  module _ (skip : Words → Option Words) (p : Read A) (xs : List X) where
+    pub goes_on : (x : X) (k n : ℕ) (ts us vs : Words) → k ≡ suc n → skip ts ≡ Some us → p us ≡ Ok (view x, vs) → with_front (xs ++ x ∷ []) (many skip p n vs) ≡ with_front xs (many skip p k ts)
+    unfolding many
+    goes_on x k n ts us vs is s r = rw (is, s, r) (front-push xs x (many skip p n vs))
 
-  pub ends : (k : ℕ) (ts : Words) → skip ts ≡ None → with_front es (many skip p k ts) ≡ Ok (exprs_view es, ts)
-  unfolding many
-  ends zero ts s = ap (λ x. Ok (x, ts)) (before-none es)
-  ends (suc n) ts s = rw s (ap (λ x. Ok (x, ts)) (before-none es))
+    pub ends : (k : ℕ) (ts : Words) → skip ts ≡ None → with_front xs (many skip p k ts) ≡ Ok (map view xs, ts)
+    unfolding many
+    ends zero ts s = ap (λ y. Ok (y, ts)) (before-none xs)
+    ends (suc n) ts s = rw s (ap (λ y. Ok (y, ts)) (before-none xs))
 
-  pub out : (k : ℕ) (ts : Words) → k ≡ 0 → with_front es (many skip p k ts) ≡ Ok (exprs_view es, ts)
-  unfolding many
-  out k ts is = rw is (ap (λ x. Ok (x, ts)) (before-none es))
+    pub out : (k : ℕ) (ts : Words) → k ≡ 0 → with_front xs (many skip p k ts) ≡ Ok (map view xs, ts)
+    unfolding many
+    out k ts is = rw is (ap (λ y. Ok (y, ts)) (before-none xs))
 
-  pub breaks : (f : SyntaxFault) (k n : ℕ) (ts us : Words) → k ≡ suc n → skip ts ≡ Some us → Fails f (p us) → Fails f (with_front es (many skip p k ts))
-  unfolding many
-  breaks f k n ts us is s h = rw (is, s) (fails-bind f (p us >>= λ e. many skip p n e.1 >>= λ x. Ok (more e.0 x.0, x.1)) (λ x. Ok (trees_before es x.0, x.1)) (fails-bind f (p us) (λ e. many skip p n e.1 >>= λ x. Ok (more e.0 x.0, x.1)) h))
+    pub breaks : (f : SyntaxFault) (k n : ℕ) (ts us : Words) → k ≡ suc n → skip ts ≡ Some us → Fails f (p us) → Fails f (with_front xs (many skip p k ts))
+    unfolding many
+    breaks f k n ts us is s h = rw (is, s) (fails-bind f (p us >>= λ y. many skip p n y.1 >>= λ z. Ok (y.0 ∷ z.0, z.1)) (λ y. Ok (viewed_before xs y.0, y.1)) (fails-bind f (p us) (λ y. many skip p n y.1 >>= λ z. Ok (y.0 ∷ z.0, z.1)) h))
 
 -- ---- two or more operands make one tree
 
 pub view-And : (v : Vec Expr Global) → expr_view (And v) ≡ meet (exprs_view v.items)
 view-And v = search (rules, the_lemmas)
 
-pub met : (e : Tree) (es : List Expr) → 0 < length es → meet_of e (exprs_view es) ≡ meet (more e (exprs_view es))
+pub view-Or : (v : Vec Expr Global) → expr_view (Or v) ≡ join (exprs_view v.items)
+view-Or v = search (rules, the_lemmas)
+
+pub met : (e : Tree) (es : List Expr) → 0 < length es → meet_of e (map expr_view es) ≡ meet (more e (exprs_view es))
 met e [] h = let never : ⊥ = omega arith in absurd never
 met e (f ∷ fs) h = refl
+
+pub joined : (e : Tree) (es : List Expr) → 0 < length es → join_of e (map expr_view es) ≡ join (more e (exprs_view es))
+joined e [] h = let never : ⊥ = omega arith in absurd never
+joined e (f ∷ fs) h = refl

@@ -1,10 +1,13 @@
 -- Words and what they are marks of.
-use Rattle.std.proofs.Common.{◌≡◌, ℕ, Bool, List, ◌∷◌, Err, refl}
+use Rattle.std.proofs.Common.{◌≡◌, ℕ, Bool, true, false, List, [], ◌∷◌, Some, None, Result, Err, refl}
+use Rattle.cs_syntax.specs.declared.fault.SyntaxFault.{SyntaxFault}
+use Rattle.cs_syntax.specs.declared.token.Token.{Token}
 use Rattle.cs_syntax.specs.declared.parser.kind.Kind.{Kind}
 use Rattle.cs_syntax.specs.declared.parser.kind.Kind.TheVariants as kinds
-use Rattle.cs_syntax.specs.Words.{Words}
-use Rattle.cs_syntax.specs.View.{word_of}
-use Rattle.cs_syntax.specs.Reading.{word_kind, fault_of, unsigned_at}
+use Rattle.cs_syntax.specs.Words.{Words, start}
+use Rattle.cs_syntax.specs.Tree.{Tree}
+use Rattle.cs_syntax.specs.View.{word_of, words, lexemes_view}
+use Rattle.cs_syntax.specs.Reading.{Fails, Read, word_kind, fault_of, fault_at, unsigned_at, unequal_at, plain_at, operand_with, number_at, begins_with, before_end}
 
 pub word_kind-word_of : (k : Kind) (t : List ℕ) (o : ℕ) → word_kind (word_of k t o) ≡ k
 word_kind-word_of kinds.Name t o = refl
@@ -41,3 +44,55 @@ word_kind-word_of kinds.End t o = refl
 pub unsigned_other : (b : Bool) (k : Kind) (t : List ℕ) (o : ℕ) (ts : Words) → (k ≡ kinds.Integer → ⊥) → unsigned_at b (word_of k t o ∷ ts) ≡ Err (fault_of (word_of k t o))
 unsigned_other b kinds.Integer t o ts h = absurd (h refl)
 unsigned_other b k t o ts h = refl
+
+pub start_word_of : (k : Kind) (t : List ℕ) (o : ℕ) → start (word_of k t o) ≡ o
+start_word_of kinds.Name t o = refl
+start_word_of kinds.Definition t o = refl
+start_word_of kinds.Hidden t o = refl
+start_word_of kinds.Top t o = refl
+start_word_of kinds.Bottom t o = refl
+start_word_of kinds.Integer t o = refl
+start_word_of kinds.Text t o = refl
+start_word_of kinds.OpenStruct t o = refl
+start_word_of kinds.CloseStruct t o = refl
+start_word_of kinds.OpenList t o = refl
+start_word_of kinds.CloseList t o = refl
+start_word_of kinds.OpenParen t o = refl
+start_word_of kinds.CloseParen t o = refl
+start_word_of kinds.Comma t o = refl
+start_word_of kinds.Colon t o = refl
+start_word_of kinds.Question t o = refl
+start_word_of kinds.Bang t o = refl
+start_word_of kinds.Amp t o = refl
+start_word_of kinds.Bar t o = refl
+start_word_of kinds.Dots t o = refl
+start_word_of kinds.Less t o = refl
+start_word_of kinds.AtMost t o = refl
+start_word_of kinds.More t o = refl
+start_word_of kinds.AtLeast t o = refl
+start_word_of kinds.Unequal t o = refl
+start_word_of kinds.Minus t o = refl
+start_word_of kinds.LeftOut t o = refl
+start_word_of kinds.Inserted t o = refl
+start_word_of kinds.End t o = refl
+
+-- ---- behind the last word
+
+pub at_end : {A : Type 0} (read : Words → Result A SyntaxFault) (ts : List Token) (f : SyntaxFault) → ts ≡ [] → f ≡ fault_at (words (lexemes_view ts)) → read [] ≡ Err (fault_at []) → Fails f (read (words (lexemes_view ts)))
+at_end read ts f e h r = rw (h, e, r) refl
+
+pub unequal_end : unequal_at [] ≡ Err (fault_at [])
+unfolding unequal_at number_at
+unequal_end = refl
+
+pub operand_end : (r : Bool → Read Tree) → operand_with r [] ≡ Err (fault_at [])
+unfolding operand_with plain_at
+operand_end r = refl
+
+-- ---- before the end of a file
+
+pub stops : (ts : Words) → begins_with kinds.End ts ≡ true → before_end ts ≡ None
+stops ts e = rw e refl
+
+pub proceeds : (ts : Words) → begins_with kinds.End ts ≡ false → before_end ts ≡ Some ts
+proceeds ts e = rw e refl

@@ -3,12 +3,14 @@ pub mod Literal
 pub mod Values
 pub mod Cut
 pub mod Heads
-pub mod Lines
 pub mod Words
 pub mod Tree
 pub mod Spells
 pub mod View
 pub mod Reading
+pub mod Height
+pub mod Nesting
+pub mod Within
 pub mod Answer
 pub mod Left
 pub mod Place

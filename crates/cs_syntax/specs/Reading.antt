@@ -1,6 +1,7 @@
 -- Reading from left to right with one word of look-ahead.
-use Rattle.std.specs.Prelude.{◌≡◌, ℕ, ℤ, pos, neg_ℤ, zero, suc, ◌^◌, [], ◌∷◌, List, length, Bool, true, false, nat_lt, nat_le, if◌then◌else◌, Option, Some, None, Result, Ok, Err, codes}
+use Rattle.std.specs.Prelude.{◌≡◌, ℕ, ℤ, pos, neg_ℤ, zero, suc, ◌^◌, [], ◌∷◌, List, length, drop, Bool, true, false, ◌&&◌, ◌||◌, not, nat_lt, nat_le, if◌then◌else◌, Option, Some, None, Result, Ok, Err, codes}
 use Rattle.std.specs.List.{list_any}
+use Rattle.std.specs.Option.{unwrap_or}
 use Rattle.std.specs.Str.{bytes_eq}
 use denote.Enum.Bare.{sameb}
 use Rattle.cs_syntax.specs.contracts.parser.kind.Kind.{the_type}
@@ -11,8 +12,11 @@ use Rattle.cs_syntax.specs.declared.ast.Relation.TheVariants as relations
 use Rattle.cs_syntax.specs.declared.fault.SyntaxFault.{SyntaxFault}
 use Rattle.cs_syntax.specs.declared.fault.SyntaxFault.TheVariants as faults
 use Rattle.cs_syntax.specs.Words.{Word, Words, start, name, definition_name, hidden, top_mark, bottom_mark, numeral, quoted, open_struct, close_struct, open_list, close_list, open_paren, close_paren, comma, nl, colon, question, bang, amp, bar, dots, relation, unequal, minus, left_out, finish}
-use Rattle.cs_syntax.specs.Tree.{Tree, integer, named, bound, meet, Trees, none, more, DefinitionTree, definition, FileTree, file}
-use Rattle.cs_syntax.specs.Spells.{is_other_name}
+use Rattle.cs_syntax.specs.declared.ast.FieldMark.{FieldMark}
+use Rattle.cs_syntax.specs.declared.ast.FieldMark.TheVariants.{Regular, Optional, Required}
+use Rattle.cs_syntax.specs.Tree.{Label, Tree, top, bottom, integer, text, named, reference, bound, not_integer, not_text, not_null, meet, join, paren, struct, list, End, closed, any, each, DefinitionTree, definition, FileTree, file}
+use Rattle.cs_syntax.specs.View.{trees_of, fields_of, Seen}
+use Rattle.cs_syntax.specs.Spells.{is_keyword, is_null, is_package, literal_of, start_at}
 
 infixl 10 ◌>>=◌
 abbrev pub ◌>>=◌ : {A B : Type 0} → Result A SyntaxFault → (A → Result B SyntaxFault) → Result B SyntaxFault
@@ -128,9 +132,87 @@ number_behind ts (Some us) = unsigned_at true us
 unfoldable pub number_at : Read ℤ
 number_at ts = number_behind ts (after kinds.Minus ts)
 
-abbrev pub name_or : Bool → List ℕ → ℕ → Words → Result (Tree × Words) SyntaxFault
-name_or true s p ts = Err (fault_of (name s p))
-name_or false s p ts = Ok (named s p, ts)
+-- ---- what stands here
+
+-- a word of that kind
+abbrev pub begins_with : Kind → Words → Bool
+begins_with k [] = false
+begins_with k (w ∷ ts) = sameb the_type (word_kind w) k
+
+-- the words behind the first
+abbrev pub behind_if : Bool → Words → Option Words
+behind_if b [] = None
+behind_if b (w ∷ ts) = if b then Some ts else None
+
+-- comma, of either kind
+abbrev pub begins_comma : Words → Bool
+begins_comma ts = begins_with kinds.Comma ts || begins_with kinds.Inserted ts
+
+abbrev pub after_comma : Words → Option Words
+after_comma ts = behind_if (begins_comma ts) ts
+
+abbrev pub comma_at : Words → Result Words SyntaxFault
+comma_at ts = or_fault ts (after_comma ts)
+
+abbrev pub beyond : Words → Option Words → Words
+beyond ts None = ts
+beyond ts (Some us) = us
+
+-- [ comma ] and a mark
+abbrev pub close_at : Kind → Words → Result Words SyntaxFault
+close_at k ts = expected k (beyond ts (after_comma ts))
+
+-- [ nl ] `)`
+abbrev pub paren_end : Words → Result Words SyntaxFault
+paren_end ts = expected kinds.CloseParen (beyond ts (after kinds.Inserted ts))
+
+-- what goes on a label
+abbrev pub goes_on_label : Words → Bool
+goes_on_label ts = begins_with kinds.Colon ts || (begins_with kinds.Question ts || begins_with kinds.Bang ts)
+
+-- a name or a text that is a label: one that goes on so, or a name that is no operand
+abbrev pub begins_field : Words → Bool
+begins_field (name s p ∷ ts) = is_keyword s || goes_on_label ts
+begins_field (quoted s p ∷ ts) = goes_on_label ts
+begins_field ts = false
+
+-- behind a comma: another field, another element, or `...`
+abbrev pub another_field : Words → Option Words
+another_field ts = behind_if (begins_comma ts && not (begins_with kinds.CloseStruct (drop 1 ts) || begins_with kinds.Dots (drop 1 ts))) ts
+
+abbrev pub another_element : Words → Option Words
+another_element ts = behind_if (begins_with kinds.Comma ts && not (begins_with kinds.CloseList (drop 1 ts) || begins_with kinds.Dots (drop 1 ts))) ts
+
+abbrev pub opening : Words → Option Words
+opening ts = behind_if (begins_comma ts && begins_with kinds.Dots (drop 1 ts)) ts
+
+abbrev pub rest_behind : Words → Option Words
+rest_behind ts = behind_if (begins_with kinds.Comma ts && begins_with kinds.Dots (drop 1 ts)) ts
+
+-- the bracket of a list may close here
+abbrev pub may_end : Words → Bool
+may_end ts = begins_with kinds.CloseList ts || begins_comma ts
+
+-- ---- one after the other
+
+-- what is passed over and what p reads behind it, any number of times
+abbrev pub or_more : {A : Type 0} → Read A → Read (List A) → Words → Option Words → Result (List A × Words) SyntaxFault
+or_more p again ts None = Ok ([], ts)
+or_more p again ts (Some us) = do
+  x ← p us
+  xs ← again x.1
+  Ok (x.0 ∷ xs.0, xs.1)
+
+-- the same with at most so many turns: the count of the words is enough
+unfoldable pub many : {A : Type 0} → (Words → Option Words) → Read A → ℕ → Read (List A)
+many skip p zero ts = Ok ([], ts)
+many skip p (suc n) ts = or_more p (many skip p n) ts (skip ts)
+
+-- ---- operands without parts
+
+abbrev pub name_or : Bool → Option Tree → List ℕ → ℕ → Words → Result (Tree × Words) SyntaxFault
+name_or true literal s p ts = Err (fault_of (name s p))
+name_or false literal s p ts = Ok (unwrap_or literal (named s p), ts)
 
 -- a number, behind a relation
 unfoldable pub bound_at : Relation → Read Tree
@@ -138,17 +220,23 @@ bound_at b ts = do
   z ← number_at ts
   Ok (bound b z.0, z.1)
 
--- an operand
-unfoldable pub operand_at : Read Tree
-operand_at (name s p ∷ ts) = name_or (is_other_name s) s p ts
-operand_at (relation b p ∷ ts) = bound_at b ts
-operand_at (numeral n p ∷ ts) = do
-  z ← number_at (numeral n p ∷ ts)
+abbrev pub null_or : Bool → List ℕ → ℕ → Words → Result (Tree × Words) SyntaxFault
+null_or true s p ts = Ok (not_null, ts)
+null_or false s p ts = Err (fault_of (name s p))
+
+-- what stands behind `!=`
+unfoldable pub unequal_at : Read Tree
+unequal_at (quoted s p ∷ ts) = Ok (not_text s, ts)
+unequal_at (name s p ∷ ts) = null_or (is_null s) s p ts
+unequal_at ts = do
+  z ← number_at ts
+  Ok (not_integer z.0, z.1)
+
+-- an integer
+unfoldable pub integer_at : Read Tree
+integer_at ts = do
+  z ← number_at ts
   Ok (integer z.0, z.1)
-operand_at (minus p ∷ ts) = do
-  z ← number_at (minus p ∷ ts)
-  Ok (integer z.0, z.1)
-operand_at ts = Err (fault_at ts)
 
 -- the relation of a mark
 abbrev pub relation_of : Kind → Option Relation
@@ -158,50 +246,233 @@ relation_of kinds.More = Some relations.More
 relation_of kinds.AtLeast = Some relations.AtLeast
 relation_of _ = None
 
--- a mark and what p reads behind it, any number of times
-abbrev pub or_more : Read Tree → Read Trees → Words → Option Words → Result (Trees × Words) SyntaxFault
-or_more p again ts None = Ok (none, ts)
-or_more p again ts (Some us) = do
-  e ← p us
-  es ← again e.1
-  Ok (more e.0 es.0, es.1)
+-- an operand without brackets
+unfoldable pub plain_at : Read Tree
+plain_at (top_mark p ∷ ts) = Ok (top, ts)
+plain_at (bottom_mark p ∷ ts) = Ok (bottom, ts)
+plain_at (definition_name s p ∷ ts) = Ok (reference s p, ts)
+plain_at (name s p ∷ ts) = name_or (is_keyword s) (literal_of s) s p ts
+plain_at (quoted s p ∷ ts) = Ok (text s, ts)
+plain_at (relation b p ∷ ts) = bound_at b ts
+plain_at (unequal p ∷ ts) = unequal_at ts
+plain_at (numeral n p ∷ ts) = integer_at (numeral n p ∷ ts)
+plain_at (minus p ∷ ts) = integer_at (minus p ∷ ts)
+plain_at ts = Err (fault_at ts)
 
--- the same with at most so many turns: the count of the words is enough
-unfoldable pub many : (Words → Option Words) → Read Tree → ℕ → Read Trees
-many skip p zero ts = Ok (none, ts)
-many skip p (suc n) ts = or_more p (many skip p n) ts (skip ts)
+-- ---- fields
+-- In what follows `r true` reads the values that stand inside, and `r false` the expressions, where no short form may stand.
+
+unfoldable pub label_at : Read Label
+label_at (name s p ∷ ts) = Ok (record { text = s; quotes = false }, ts)
+label_at (quoted s p ∷ ts) = Ok (record { text = s; quotes = true }, ts)
+label_at ts = Err (fault_at ts)
+
+abbrev pub mark_if : Words → Option Words → Option Words → FieldMark × Words
+mark_if ts (Some us) q = (Optional, us)
+mark_if ts None (Some us) = (Required, us)
+mark_if ts None None = (Regular, ts)
+
+-- [ `?` or `!` ]
+abbrev pub mark_at : Words → FieldMark × Words
+mark_at ts = mark_if ts (after kinds.Question ts) (after kinds.Bang ts)
+
+unfoldable pub field_with : (Bool → Read Tree) → Read Seen
+field_with r ts = do
+  l ← label_at ts
+  us ← expected kinds.Colon (mark_at l.1).1
+  e ← r true us
+  Ok (record { label = l.0; mark = (mark_at l.1).0; value = e.0 }, e.1)
+
+abbrev pub opening_if : Words → Option Words → Result (Bool × Words) SyntaxFault
+opening_if ts None = do
+  us ← close_at kinds.CloseStruct ts
+  Ok (false, us)
+opening_if ts (Some us) = do
+  vs ← expected kinds.Dots us
+  ws ← close_at kinds.CloseStruct vs
+  Ok (true, ws)
+
+-- what stands behind the last field
+abbrev pub opening_at : Read Bool
+opening_at ts = opening_if ts (opening ts)
+
+-- { comma Field }
+abbrev pub fields_with : (Bool → Read Tree) → ℕ → Read (List Seen)
+fields_with r = many another_field (field_with r)
+
+abbrev pub struct_if : (Bool → Read Tree) → Words → Option Words → Option Words → Result ((List Seen × Bool) × Words) SyntaxFault
+struct_if r ts (Some us) d = Ok (([], false), us)
+struct_if r ts None (Some us) = do
+  vs ← close_at kinds.CloseStruct us
+  Ok (([], true), vs)
+struct_if r ts None None = do
+  f ← field_with r ts
+  fs ← fields_with r (length f.1) f.1
+  b ← opening_at fs.1
+  Ok ((f.0 ∷ fs.0, b.0), b.1)
+
+-- what stands behind `{`
+unfoldable pub struct_with : (Bool → Read Tree) → Read (List Seen × Bool)
+struct_with r ts = struct_if r ts (after kinds.CloseStruct ts) (after kinds.Dots ts)
+
+-- ---- lists
+
+abbrev pub rest_if : (Bool → Read Tree) → Bool → Words → Result (End × Words) SyntaxFault
+rest_if r true ts = do
+  us ← close_at kinds.CloseList ts
+  Ok (any, us)
+rest_if r false ts = do
+  e ← r false ts
+  us ← close_at kinds.CloseList e.1
+  Ok (each e.0, us)
+
+-- what stands behind the `...` of a list
+unfoldable pub rest_with : (Bool → Read Tree) → Read End
+rest_with r ts = rest_if r (may_end ts) ts
+
+abbrev pub end_if : (Bool → Read Tree) → Words → Option Words → Result (End × Words) SyntaxFault
+end_if r ts None = do
+  us ← close_at kinds.CloseList ts
+  Ok (closed, us)
+end_if r ts (Some us) = do
+  vs ← expected kinds.Dots us
+  rest_with r vs
+
+-- what stands behind the last element
+unfoldable pub end_with : (Bool → Read Tree) → Read End
+end_with r ts = end_if r ts (rest_behind ts)
+
+-- { `,` Expr }
+abbrev pub elements_with : (Bool → Read Tree) → ℕ → Read (List Tree)
+elements_with r = many another_element (r false)
+
+abbrev pub list_if : (Bool → Read Tree) → Words → Option Words → Option Words → Result ((List Tree × End) × Words) SyntaxFault
+list_if r ts (Some us) d = Ok (([], closed), us)
+list_if r ts None (Some us) = do
+  x ← rest_with r us
+  Ok (([], x.0), x.1)
+list_if r ts None None = do
+  e ← r false ts
+  es ← elements_with r (length e.1) e.1
+  x ← end_with r es.1
+  Ok ((e.0 ∷ es.0, x.0), x.1)
+
+-- what stands behind `[`
+unfoldable pub list_with : (Bool → Read Tree) → Read (List Tree × End)
+list_with r ts = list_if r ts (after kinds.CloseList ts) (after kinds.Dots ts)
+
+-- ---- expressions
+
+unfoldable pub operand_with : (Bool → Read Tree) → Read Tree
+operand_with r (open_paren p ∷ ts) = do
+  e ← r false ts
+  us ← paren_end e.1
+  Ok (paren e.0, us)
+operand_with r (open_struct p ∷ ts) = do
+  x ← struct_with r ts
+  Ok (struct p (fields_of x.0.0) x.0.1, x.1)
+operand_with r (open_list p ∷ ts) = do
+  x ← list_with r ts
+  Ok (list (trees_of x.0.0) x.0.1, x.1)
+operand_with r ts = plain_at ts
 
 -- { `&` Operand }
-abbrev pub amps_at : ℕ → Read Trees
-amps_at = many (after kinds.Amp) operand_at
+abbrev pub amps_with : (Bool → Read Tree) → ℕ → Read (List Tree)
+amps_with r = many (after kinds.Amp) (operand_with r)
 
-abbrev pub meet_of : Tree → Trees → Tree
-meet_of e none = e
-meet_of e (more f fs) = meet (more e (more f fs))
+abbrev pub meet_of : Tree → List Tree → Tree
+meet_of e [] = e
+meet_of e (f ∷ fs) = meet (trees_of (e ∷ f ∷ fs))
 
-unfoldable pub conj_at : Read Tree
-conj_at ts = do
-  e ← operand_at ts
-  es ← amps_at (length e.1) e.1
+unfoldable pub conj_with : (Bool → Read Tree) → Read Tree
+conj_with r ts = do
+  e ← operand_with r ts
+  es ← amps_with r (length e.1) e.1
   Ok (meet_of e.0 es.0, es.1)
 
--- a definition
-unfoldable pub definition_at : Read DefinitionTree
-definition_at (definition_name s p ∷ ts) = do
+-- { `|` Conj }
+abbrev pub bars_with : (Bool → Read Tree) → ℕ → Read (List Tree)
+bars_with r = many (after kinds.Bar) (conj_with r)
+
+abbrev pub join_of : Tree → List Tree → Tree
+join_of e [] = e
+join_of e (f ∷ fs) = join (trees_of (e ∷ f ∷ fs))
+
+unfoldable pub expr_with : (Bool → Read Tree) → Read Tree
+expr_with r ts = do
+  e ← conj_with r ts
+  es ← bars_with r (length e.1) e.1
+  Ok (join_of e.0 es.0, es.1)
+
+abbrev pub value_if : (Bool → Read Tree) → Bool → Words → Result (Tree × Words) SyntaxFault
+value_if r true ts = do
+  f ← field_with r ts
+  Ok (struct (start_at ts) (fields_of (f.0 ∷ [])) false, f.1)
+value_if r false ts = expr_with r ts
+
+-- a value, or an expression, that has at most so many others around it
+unfoldable pub inner : ℕ → Bool → Read Tree
+inner zero b ts = Err (fault_at ts)
+inner (suc d) b ts = value_if (inner d) (b && begins_field ts) ts
+
+-- ---- files
+
+-- a definition, with values so deep at most
+unfoldable pub definition_at : ℕ → Read DefinitionTree
+definition_at d (definition_name s p ∷ ts) = do
   us ← expected kinds.Colon ts
-  e ← conj_at us
+  e ← inner d true us
   Ok (definition s p e.0, e.1)
-definition_at ts = Err (fault_at ts)
+definition_at d ts = Err (fault_at ts)
+
+-- Definition comma
+unfoldable pub line_at : ℕ → Read DefinitionTree
+line_at d ts = do
+  x ← definition_at d ts
+  us ← comma_at x.1
+  Ok (x.0, us)
+
+-- all but the end
+abbrev pub before_end : Words → Option Words
+before_end ts = if begins_with kinds.End ts then None else Some ts
+
+-- { Definition comma }
+abbrev pub definitions_at : ℕ → ℕ → Read (List DefinitionTree)
+definitions_at d = many before_end (line_at d)
+
+abbrev pub is_clause : Words → Bool
+is_clause (name s p ∷ ts) = is_package s
+is_clause ts = false
+
+unfoldable pub clause_at : Read (List ℕ)
+clause_at (name s p ∷ ts) = do
+  us ← comma_at ts
+  Ok (s, us)
+clause_at ts = Err (fault_at ts)
+
+abbrev pub package_if : Words → Option Words → Result (Option (List ℕ) × Words) SyntaxFault
+package_if ts None = Ok (None, ts)
+package_if ts (Some us) = do
+  s ← clause_at us
+  Ok (Some s.0, s.1)
+
+-- [ `package` name comma ]
+unfoldable pub package_at : Read (Option (List ℕ))
+package_at ts = package_if ts (behind_if (is_clause ts) ts)
 
 -- nothing is left
 abbrev pub whole : {A : Type 0} → A → Words → Result A SyntaxFault
 whole x [] = Ok x
 whole x (w ∷ ts) = Err (fault_of w)
 
--- a file
-unfoldable pub file_at : Words → Result FileTree SyntaxFault
-file_at ts = do
-  d ← definition_at ts
-  us ← expected kinds.Inserted d.1
-  vs ← expected kinds.End us
-  whole (file None (d.0 ∷ [])) vs
+-- a file, with values so deep at most
+unfoldable pub file_with : ℕ → Words → Result FileTree SyntaxFault
+file_with d ts = do
+  c ← package_at ts
+  ds ← definitions_at d (length c.1) c.1
+  us ← expected kinds.End ds.1
+  whole (file c.0 ds.0) us
+
+-- a file: no value has more others around it than there are words
+abbrev pub file_at : Words → Result FileTree SyntaxFault
+file_at ts = file_with (length ts) ts

@@ -110,7 +110,7 @@ closes_by (More s) xs again = again s
 closes_by Ends xs again = is_nothing xs
 closes_by Fails xs again = false
 
--- what stands behind the first quote of a text: characters other than newline, `"` and `\`, or escapes, and then a quote
+-- what stands behind the first quote of a text: characters other than newline, `"` and `\`, or escapes, and then a quote; the law `text_parts` says it by these parts
 abbrev pub closes : Spot → List ℕ → Bool
 closes s [] = false
 closes s (x ∷ xs) = closes_by (text_step s x) xs (λ t. closes t xs)

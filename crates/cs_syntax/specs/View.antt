@@ -1,5 +1,5 @@
 -- What tokens, expressions and files stand for.
-use Rattle.std.specs.Prelude.{ℕ, List, [], ◌∷◌, map, ◌==◌, if◌then◌else◌, codes, string_bytes}
+use Rattle.std.specs.Prelude.{ℕ, Bool, List, [], ◌∷◌, map, ◌==◌, if◌then◌else◌, codes, string_bytes}
 use Rattle.std.specs.Option.{option_map}
 use Rattle.std.specs.Str.{bytes_eq}
 use Rattle.cs_syntax.specs.declared.ast.Expr.{Expr, fold-Expr}
@@ -151,6 +151,9 @@ abbrev pub end_step : ListEnd-F Tree End Seen → End
 end_step ListEnd-F.Closed = T.closed
 end_step ListEnd-F.Any = T.any
 end_step (ListEnd-F.Each b) = T.each b.value
+
+abbrev pub label_of : List ℕ → Bool → Label
+label_of s b = record { text = s; quotes = b }
 
 abbrev pub field_step : Field-F Tree End Seen → Seen
 field_step f = record { label = record { text = string_bytes f.label; quotes = f.quoted }; mark = f.mark; value = f.value }

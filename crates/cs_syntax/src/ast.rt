@@ -1,14 +1,14 @@
 // The tree that a file spells.
 
 /// A file: its package clause, if it has one, and its definitions in order.
-#[derive(Drop)]
+#[derive(Debug, Drop)]
 pub struct File {
     pub package: Option<String>,
     pub definitions: Vec<Definition>,
 }
 
 /// A definition: its name without `#`, the byte at which it stands, and its body.
-#[derive(Drop)]
+#[derive(Debug, Drop)]
 pub struct Definition {
     pub name: String,
     pub at: usize,
@@ -17,7 +17,7 @@ pub struct Definition {
 
 /// An expression (CUE, expressions). A parenthesis is kept.
 #[cycle(ast)]
-#[derive(Drop)]
+#[derive(Debug, Drop)]
 pub enum Expr {
     /// `_`, which admits every document.
     Top,
@@ -67,7 +67,7 @@ pub enum Expr {
 
 /// A field of a struct literal.
 #[cycle(ast)]
-#[derive(Drop)]
+#[derive(Debug, Drop)]
 pub struct Field {
     pub label: String,
     pub quoted: bool,
@@ -85,7 +85,7 @@ pub enum FieldMark {
 
 /// What stands behind the last fixed element of a list: nothing, `...`, or `...T`.
 #[cycle(ast)]
-#[derive(Drop)]
+#[derive(Debug, Drop)]
 pub enum ListEnd {
     Closed,
     Any,

@@ -19,7 +19,7 @@ pub enum SyntaxFault {
     /// An integer at the offset that has not 64 signed bits.
     #[error("integer out of range at {offset}")]
     IntegerRange { offset: usize },
-    /// An expression higher than 28.
+    /// Tokens that nest deeper than 28, or an expression higher than that.
     #[error("an expression is too high")]
     TooHigh,
 }

@@ -2,7 +2,13 @@
 // (CUE, expressions).
 
 mod expression;
+mod field;
 pub(crate) mod file;
+mod height;
 mod kind;
+mod name;
+mod nesting;
 mod number;
+mod operand;
 mod place;
+mod text;

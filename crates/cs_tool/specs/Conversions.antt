@@ -1,6 +1,7 @@
 -- What the refusals of each crate are among those of the tool.
+use Rattle.std.specs.Prelude.{ℕ}
 use Rattle.cs_tool.specs.declared.fault.Fault.{Fault}
-use Rattle.cs_tool.specs.declared.fault.Fault.TheVariants.{LeftOut, Cycle, UnknownRoot, OutOfMemory, ChainTooLong, SchemaNotJson, Keyword, Shape, Reference, Loop, NotJson, NotInteger}
+use Rattle.cs_tool.specs.declared.fault.Fault.TheVariants.{NoToken, Syntax, LeftOut, IntegerRange, TooHigh, Cycle, UnknownRoot, OutOfMemory, ChainTooLong, SchemaNotJson, Keyword, Shape, Reference, Loop, NotJson, NotInteger}
 use Rattle.cs_syntax.specs.declared.fault.SyntaxFault.{SyntaxFault}
 use Rattle.cs_syntax.specs.declared.fault.SyntaxFault.TheVariants as syntax
 use Rattle.cs_resolve.specs.declared.fault.ResolveFault.{ResolveFault}
@@ -18,9 +19,14 @@ use Rattle.cs_validate.specs.declared.fault.ValidateFault.TheVariants as validat
 use Rattle.cs_doc.specs.declared.fault.DocFault.{DocFault}
 use Rattle.cs_doc.specs.declared.fault.DocFault.TheVariants as doc
 
-abbrev pub of_syntax : SyntaxFault → Fault
-of_syntax syntax.OutOfMemory = OutOfMemory
-of_syntax _ = LeftOut 0 0
+-- the fault of the source in that file
+abbrev pub of_syntax : ℕ → SyntaxFault → Fault
+of_syntax file syntax.OutOfMemory = OutOfMemory
+of_syntax file (syntax.NoToken offset) = NoToken file offset
+of_syntax file (syntax.Syntax offset) = Syntax file offset
+of_syntax file (syntax.LeftOut offset) = LeftOut file offset
+of_syntax file (syntax.IntegerRange offset) = IntegerRange file offset
+of_syntax file syntax.TooHigh = TooHigh file
 
 abbrev pub of_resolve : ResolveFault → Fault
 of_resolve resolve.OutOfMemory = OutOfMemory

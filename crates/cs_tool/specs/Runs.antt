@@ -15,6 +15,10 @@ abbrev pub AreSources : List (Vec ℕ Global) → Option (List ℕ) → List (Li
 AreSources [] remaining sources = (input : List ℕ) × IsWholeInput remaining input × (sources ≡ input ∷ [])
 AreSources (file ∷ files) remaining sources = sources ≡ map (λ f. f.items) (file ∷ files)
 
+-- the request has files of its own, so that the input is none of its sources
+abbrev pub HasFiles : Request → Type 0
+HasFiles (Export files root) = ¬ (files.items ≡ [])
+
 -- the truth value and the text are those of the request's call
 abbrev pub IsAnswer : Request → Option (List ℕ) → Bool → List ℕ → Type 0
 IsAnswer (Export files root) remaining truth text =

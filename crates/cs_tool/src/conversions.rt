@@ -1,5 +1,6 @@
 // What the refusals of each crate are among those of the tool.
 ghost use Rattle.std.specs.Prelude.{◌≡◌};
+ghost use Rattle.cs_tool.specs.Conversions.{of_syntax};
 
 use crate::Fault;
 use cs_compile::CompileFault;
@@ -11,24 +12,24 @@ use cs_schema::SchemaFault;
 use cs_syntax::SyntaxFault;
 use cs_validate::ValidateFault;
 
-/// The refusal of a source that is outside the forms taken so far: 5 at its first byte.
+/// The refusal of sources outside the forms that are taken so far: 5 at the first byte.
 pub(crate) fn not_taken() -> Fault
     ensures { result ≡ Fault.LeftOut 0 0 }
 {
     Fault::LeftOut { file: 0, offset: 0 }
 }
 
-// Until the whole grammar is taken every fault of a source is the same.
-impl From<SyntaxFault> for Fault {
-    ghost use Rattle.cs_tool.specs.Conversions.{of_syntax};
-
-    ghost from_gives = { λ e f. f ≡ of_syntax e };
-
-    fn from(fault: SyntaxFault) -> Fault {
-        match fault {
-            SyntaxFault::OutOfMemory => Fault::OutOfMemory,
-            _ => not_taken(),
-        }
+/// What a fault of the source in a file is.
+pub(crate) fn of_syntax(file: usize, fault: SyntaxFault) -> Fault
+    ensures { result ≡ of_syntax file fault }
+{
+    match fault {
+        SyntaxFault::OutOfMemory => Fault::OutOfMemory,
+        SyntaxFault::NoToken { offset } => Fault::NoToken { file, offset },
+        SyntaxFault::Syntax { offset } => Fault::Syntax { file, offset },
+        SyntaxFault::LeftOut { offset } => Fault::LeftOut { file, offset },
+        SyntaxFault::IntegerRange { offset } => Fault::IntegerRange { file, offset },
+        SyntaxFault::TooHigh => Fault::TooHigh { file },
     }
 }
 

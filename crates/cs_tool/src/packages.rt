@@ -1,13 +1,15 @@
 // From the bytes of sources to their package.
-ghost use Rattle.std.specs.Prelude.{◌≡◌, ◌≤◌, ◌↔◌, IsTrue, IfOk, IfErr, OnOk, map, IsUtf8};
+ghost use Rattle.std.specs.Prelude.{◌≡◌, ◌≤◌, ◌↔◌, IsTrue, IfOk, IfErr, OnOk, [], ◌∷◌, map, IsUtf8};
 ghost use Rattle.std.specs.List.{AllByRecursion};
-ghost use Rattle.cs_tool.specs.Accepted.{most_bytes, bytes_of, IsAccepted, IsPackageOf, IsNoPackage, SourcesRefusal, TextsRefusal};
+ghost use Rattle.cs_syntax.specs.View.{file_view};
+ghost use Rattle.cs_resolve.specs.Resolved.{AreSpelled};
+ghost use Rattle.cs_tool.specs.Accepted.{most_bytes, bytes_of, IsAccepted, IsPackageOf, IsNoPackage, IsSpelledSo, SourceRefusal, SourcesRefusal, TextsRefusal};
 
 use crate::Fault;
-use crate::conversions::not_taken;
+use crate::conversions::{not_taken, of_syntax};
 use cs_guard::{Guarded, guard};
 use cs_resolve::resolve;
-use cs_syntax::parse_file;
+use cs_syntax::{File, parse_file};
 use std::alloc::Global;
 
 /// The bytes that all sources of a call may have together.
@@ -31,11 +33,23 @@ pub(crate) fn package_of(alloc: Global, sources: &[&[u8]]) -> Result<Guarded, Fa
 
 /// The guarded package of one source.
 fn package_of_text(alloc: Global, text: &str) -> Result<Guarded, Fault>
-    ensures found { IfOk result (λ g. IsPackageOf text.now g) }
-    ensures refused { IfErr result (λ e. IsNoPackage text.now e) }
+    ensures found { IfOk result (λ g. IsSpelledSo text.now (λ file. IsPackageOf file g)) }
+    ensures refused { IfErr result (λ e. SourceRefusal text.now e) }
+{
+    match parse_file(alloc, text) {
+        Ok(file) => package_of_file(alloc, file),
+        Err(fault) => Err(of_syntax(0, fault)),
+    }
+}
+
+/// The guarded package of one file.
+fn package_of_file(alloc: Global, file: File) -> Result<Guarded, Fault>
+    requires { AreSpelled (file_view file ∷ []) }
+    ensures found { IfOk result (λ g. IsPackageOf (file_view file) g) }
+    ensures refused { IfErr result (λ e. IsNoPackage (file_view file) e) }
 {
     let mut files = Vec::new(alloc);
-    files.push(parse_file(alloc, text)?)?;
+    files.push(file)?;
     Ok(guard(alloc, resolve(alloc, files)?)?)
 }
 

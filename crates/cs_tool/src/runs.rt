@@ -1,7 +1,7 @@
 // A command over a reader and a writer.
-ghost use Rattle.std.specs.Prelude.{◌≡◌, ℕ, true, List, map, IfOk, IfErr};
+ghost use Rattle.std.specs.Prelude.{◌≡◌, ℕ, true, List, [], map, IfOk, IfErr};
 ghost use Rattle.std.specs.Io.KnownBytes.{Appends};
-ghost use Rattle.cs_tool.specs.Runs.{AreSources, IsAnswer, InputRefusal, LineRefusal, Leaves, line_of};
+ghost use Rattle.cs_tool.specs.Runs.{AreSources, IsAnswer, HasFiles, InputRefusal, LineRefusal, Leaves, line_of};
 
 use crate::Fault;
 use crate::calls::export;
@@ -31,6 +31,7 @@ pub fn run<R: Read, W: Write>(
         × Appends (W.contents output.old) (W.contents output.new) (line_of text)) }
     ensures left { IfErr result (λ e. Leaves request (R.remaining input.old) e
         (W.contents output.old) (W.contents output.new)) }
+    ensures unread { HasFiles request → input.new ≡ input.old }
 {
     let line = answer(alloc, request, input)?;
     write_text(output, &line)?;
@@ -42,6 +43,7 @@ fn answer<R: Read>(alloc: Global, request: Request, input: &mut R) -> Result<Vec
     ensures line { IfOk result (λ b. (text : List ℕ)
         × IsAnswer request (R.remaining input.old) true text × (b.items ≡ line_of text)) }
     ensures refused { IfErr result (LineRefusal request (R.remaining input.old)) }
+    ensures unread { HasFiles request → input.new ≡ input.old }
 {
     let Request::Export { files, root } = request;
     export_line(alloc, files, root, input)
@@ -58,6 +60,7 @@ fn export_line<R: Read>(
         × IsAnswer (Request.Export files root) (R.remaining input.old) true text
         × (b.items ≡ line_of text)) }
     ensures refused { IfErr result (LineRefusal (Request.Export files root) (R.remaining input.old)) }
+    ensures unread { HasFiles (Request.Export files root) → input.new ≡ input.old }
 {
     let files = files_or_input(alloc, files, input)?;
     let sources = slices_of(alloc, &files)?;
@@ -74,6 +77,7 @@ fn files_or_input<R: Read>(
 ) -> Result<Vec<Vec<u8>>, Fault>
     ensures sources { IfOk result (λ v. AreSources files.items (R.remaining input.old) (map (λ f. f.items) v.items)) }
     ensures refused { IfErr result (InputRefusal files.items (R.remaining input.old)) }
+    ensures unread { ¬ (files.items ≡ []) → input.new ≡ input.old }
 {
     if !files.is_empty() {
         return Ok(files);

@@ -43,7 +43,7 @@ pub(crate) fn begins_quotes(bytes: &[u8]) -> bool
 }
 
 // The character that a letter behind a backslash stands for.
-fn escape_value(x: u8) -> Option<u8>
+pub(crate) fn escape_value(x: u8) -> Option<u8>
     ensures { result ≡ escape_value x }
 {
     match x {
@@ -105,7 +105,7 @@ fn escape_step(x: u8) -> Step
 }
 
 // What a byte does in a text.
-fn text_step(spot: Spot, x: u8) -> Step
+pub(crate) fn text_step(spot: Spot, x: u8) -> Step
     ensures { result ≡ text_step spot x }
 {
     match spot {

@@ -1,98 +1,251 @@
-// Expressions: operands joined by `&`.
+// Expressions and values. Recursion goes by brackets and fields alone: `depth` says how many may
+// still stand inside one another.
 
-ghost use Rattle.std.specs.Prelude.{◌≡◌, length, not};
-ghost use Rattle.cs_syntax.specs.View.{expr_view, exprs_view};
-ghost use Rattle.cs_syntax.specs.Spells.{is_other_name};
+ghost use Rattle.std.specs.Prelude.{◌≡◌, map, length, true, false};
+ghost use Rattle.cs_syntax.specs.View.{expr_view, field_view, end_view};
 ghost use Rattle.cs_syntax.specs.Left.{left, Reads};
-ghost use Rattle.cs_syntax.specs.Reading.{relation_of, bound_at, operand_at, amps_at, conj_at};
+ghost use Rattle.cs_syntax.specs.Reading.{inner, field_with, fields_with, struct_with, rest_with, end_with, elements_with, list_with, operand_with, amps_with, conj_with, bars_with, expr_with};
 
-use crate::ast::{Expr, Relation};
+use crate::ast::{Expr, Field, ListEnd};
 use crate::fault::SyntaxFault;
 use crate::parser::kind::{Kind, kind_of};
-use crate::parser::place::{Parser, fault_of};
-
-// Whether a name may stand as an operand.
-fn names_operand(text: &str) -> bool
-    ensures { result ≡ not (is_other_name text.now) }
-{
-    !matches!(text, "for" | "if" | "let" | "null" | "true" | "false")
-}
-
-// The relation of a mark.
-fn relation_of(kind: Kind) -> Option<Relation>
-    ensures { result ≡ relation_of kind }
-{
-    match kind {
-        Kind::Less => Some(Relation::Less),
-        Kind::AtMost => Some(Relation::AtMost),
-        Kind::More => Some(Relation::More),
-        Kind::AtLeast => Some(Relation::AtLeast),
-        _ => None,
-    }
-}
+use crate::parser::place::Parser;
 
 impl Parser<'_, '_> {
-    // The limit behind a relation.
-    #[tactic(auto, unfolding(crate::specs::Reading::bound_at))]
-    fn bound(&mut self, relation: Relation) -> Result<Expr, SyntaxFault>
-        ensures { Reads expr_view result self.new (bound_at relation (left self.old)) }
+    // A value, which may be a field alone, or an expression, where no such short form may stand.
+    #[cycle(parse)]
+    #[tactic(auto, unfolding(crate::specs::Reading::inner))]
+    pub(crate) fn inside(&mut self, depth: usize, short: bool) -> Result<Expr, SyntaxFault>
+        ensures { Reads expr_view result self.new (inner depth short (left self.old)) }
     {
-        let limit = self.number()?;
-        Ok(Expr::Bound { relation, limit })
+        if depth == 0 {
+            return Err(self.fault());
+        }
+        if !short || !self.begins_field() {
+            return self.expr(depth - 1);
+        }
+        let at = self.start();
+        let only = self.field(depth - 1)?;
+        let mut fields = Vec::new(self.alloc);
+        fields.push(only)?;
+        Ok(Expr::Struct {
+            at,
+            fields,
+            opened: false,
+        })
     }
 
-    // A name, a number or a bound.
-    #[tactic(auto, unfolding(crate::specs::Reading::operand_at))]
-    fn operand(&mut self) -> Result<Expr, SyntaxFault>
-        ensures { Reads expr_view result self.new (operand_at (left self.old)) }
+    // A field: its label, its mark, a colon and its value.
+    #[cycle(parse)]
+    #[tactic(auto, unfolding(crate::specs::Reading::field_with))]
+    fn field(&mut self, depth: usize) -> Result<Field, SyntaxFault>
+        ensures { Reads field_view result self.new (field_with (inner depth) (left self.old)) }
+    {
+        let (label, quoted) = self.label()?;
+        let mark = self.mark();
+        self.expect(Kind::Colon)?;
+        let value = self.inside(depth, true)?;
+        Ok(Field {
+            label,
+            quoted,
+            mark,
+            value,
+        })
+    }
+
+    // The fields behind the first.
+    #[cycle(parse)]
+    fn fields(&mut self, depth: usize) -> Result<Vec<Field>, SyntaxFault>
+        ensures { Reads (λ v. map field_view v.items) result self.new
+            (fields_with (inner depth) (length (left self.old)) (left self.old)) }
+    {
+        let mut fields = Vec::new(self.alloc);
+        for _ in self.next..self.tokens.len() {
+            if !self.skip_to_field() {
+                return Ok(fields);
+            }
+            fields.push(self.field(depth)?)?;
+        }
+        Ok(fields)
+    }
+
+    // What stands behind the bracket that opens a struct: its fields, and whether it is opened.
+    #[cycle(parse)]
+    #[tactic(auto, unfolding(crate::specs::Reading::struct_with))]
+    fn structure(&mut self, depth: usize) -> Result<(Vec<Field>, bool), SyntaxFault>
+        ensures { Reads (λ x. (map field_view x.0.items, x.1)) result self.new
+            (struct_with (inner depth) (left self.old)) }
+    {
+        if self.skip(Kind::CloseStruct) {
+            return Ok((Vec::new(self.alloc), false));
+        }
+        if self.skip(Kind::Dots) {
+            self.close(Kind::CloseStruct)?;
+            return Ok((Vec::new(self.alloc), true));
+        }
+        let first = self.field(depth)?;
+        let mut fields = self.fields(depth)?;
+        let opened = self.opening()?;
+        fields.insert(0, first)?;
+        Ok((fields, opened))
+    }
+
+    // What stands behind the `...` of a list.
+    #[cycle(parse)]
+    #[tactic(auto, unfolding(crate::specs::Reading::rest_with))]
+    fn list_rest(&mut self, depth: usize) -> Result<ListEnd, SyntaxFault>
+        ensures { Reads end_view result self.new (rest_with (inner depth) (left self.old)) }
+    {
+        if self.may_end() {
+            self.close(Kind::CloseList)?;
+            return Ok(ListEnd::Any);
+        }
+        let each = self.inside(depth, false)?;
+        self.close(Kind::CloseList)?;
+        Ok(ListEnd::Each(Box::new(self.alloc, each)?))
+    }
+
+    // What stands behind the last element of a list.
+    #[cycle(parse)]
+    #[tactic(auto, unfolding(crate::specs::Reading::end_with))]
+    fn list_end(&mut self, depth: usize) -> Result<ListEnd, SyntaxFault>
+        ensures { Reads end_view result self.new (end_with (inner depth) (left self.old)) }
+    {
+        if !self.skip_to_rest() {
+            self.close(Kind::CloseList)?;
+            return Ok(ListEnd::Closed);
+        }
+        self.expect(Kind::Dots)?;
+        self.list_rest(depth)
+    }
+
+    // The elements behind the first.
+    #[cycle(parse)]
+    fn elements(&mut self, depth: usize) -> Result<Vec<Expr>, SyntaxFault>
+        ensures { Reads (λ v. map expr_view v.items) result self.new
+            (elements_with (inner depth) (length (left self.old)) (left self.old)) }
+    {
+        let mut elements = Vec::new(self.alloc);
+        for _ in self.next..self.tokens.len() {
+            if !self.skip_to_element() {
+                return Ok(elements);
+            }
+            elements.push(self.inside(depth, false)?)?;
+        }
+        Ok(elements)
+    }
+
+    // What stands behind the bracket that opens a list.
+    #[cycle(parse)]
+    #[tactic(auto, unfolding(crate::specs::Reading::list_with))]
+    fn list(&mut self, depth: usize) -> Result<(Vec<Expr>, ListEnd), SyntaxFault>
+        ensures { Reads (λ x. (map expr_view x.0.items, end_view x.1)) result self.new
+            (list_with (inner depth) (left self.old)) }
+    {
+        if self.skip(Kind::CloseList) {
+            return Ok((Vec::new(self.alloc), ListEnd::Closed));
+        }
+        if self.skip(Kind::Dots) {
+            let end = self.list_rest(depth)?;
+            return Ok((Vec::new(self.alloc), end));
+        }
+        let first = self.inside(depth, false)?;
+        let mut front = self.elements(depth)?;
+        let end = self.list_end(depth)?;
+        front.insert(0, first)?;
+        Ok((front, end))
+    }
+
+    // An operand.
+    #[cycle(parse)]
+    #[tactic(auto, unfolding(crate::specs::Reading::operand_with))]
+    fn operand(&mut self, depth: usize) -> Result<Expr, SyntaxFault>
+        ensures { Reads expr_view result self.new (operand_with (inner depth) (left self.old)) }
     {
         let Some(token) = self.peek() else {
             return Err(self.fault());
         };
         match kind_of(&token) {
-            Kind::Integer | Kind::Minus => Ok(Expr::Int(self.number()?)),
-            Kind::Name if names_operand(token.text) => {
+            Kind::OpenParen => {
                 self.next += 1;
-                let text = String::from_str(self.alloc, token.text)?;
-                let at = token.start;
-                Ok(Expr::Name { text, at })
+                let kept = self.inside(depth, false)?;
+                self.close_paren()?;
+                Ok(Expr::Paren(Box::new(self.alloc, kept)?))
             }
-            other => match relation_of(other) {
-                Some(relation) => {
-                    self.next += 1;
-                    self.bound(relation)
-                }
-                None => Err(fault_of(&token)),
-            },
+            Kind::OpenStruct => {
+                self.next += 1;
+                let (fields, opened) = self.structure(depth)?;
+                let at = token.start;
+                Ok(Expr::Struct { at, fields, opened })
+            }
+            Kind::OpenList => {
+                self.next += 1;
+                let (front, end) = self.list(depth)?;
+                Ok(Expr::List { front, end })
+            }
+            _ => self.plain(),
         }
     }
 
     // The operands of `&` behind the first.
-    fn amps(&mut self) -> Result<Vec<Expr>, SyntaxFault>
-        ensures { Reads (λ v. exprs_view v.items) result self.new
-            (amps_at (length (left self.old)) (left self.old)) }
+    #[cycle(parse)]
+    fn amps(&mut self, depth: usize) -> Result<Vec<Expr>, SyntaxFault>
+        ensures { Reads (λ v. map expr_view v.items) result self.new
+            (amps_with (inner depth) (length (left self.old)) (left self.old)) }
     {
         let mut operands = Vec::new(self.alloc);
         for _ in self.next..self.tokens.len() {
             if !self.skip(Kind::Amp) {
                 return Ok(operands);
             }
-            operands.push(self.operand()?)?;
+            operands.push(self.operand(depth)?)?;
         }
         Ok(operands)
     }
 
     // Operands joined by `&`; one alone makes no `And`.
-    #[tactic(auto, unfolding(crate::specs::Reading::conj_at))]
-    pub(crate) fn conj(&mut self) -> Result<Expr, SyntaxFault>
-        ensures { Reads expr_view result self.new (conj_at (left self.old)) }
+    #[cycle(parse)]
+    #[tactic(auto, unfolding(crate::specs::Reading::conj_with))]
+    fn conj(&mut self, depth: usize) -> Result<Expr, SyntaxFault>
+        ensures { Reads expr_view result self.new (conj_with (inner depth) (left self.old)) }
     {
-        let first = self.operand()?;
-        let mut operands = self.amps()?;
+        let first = self.operand(depth)?;
+        let mut operands = self.amps(depth)?;
         if operands.is_empty() {
             return Ok(first);
         }
         operands.insert(0, first)?;
         Ok(Expr::And(operands))
+    }
+
+    // The operands of `|` behind the first.
+    #[cycle(parse)]
+    fn bars(&mut self, depth: usize) -> Result<Vec<Expr>, SyntaxFault>
+        ensures { Reads (λ v. map expr_view v.items) result self.new
+            (bars_with (inner depth) (length (left self.old)) (left self.old)) }
+    {
+        let mut operands = Vec::new(self.alloc);
+        for _ in self.next..self.tokens.len() {
+            if !self.skip(Kind::Bar) {
+                return Ok(operands);
+            }
+            operands.push(self.conj(depth)?)?;
+        }
+        Ok(operands)
+    }
+
+    // Operands joined by `|`, which binds looser than `&`; one alone makes no `Or`.
+    #[cycle(parse)]
+    #[tactic(auto, unfolding(crate::specs::Reading::expr_with))]
+    fn expr(&mut self, depth: usize) -> Result<Expr, SyntaxFault>
+        ensures { Reads expr_view result self.new (expr_with (inner depth) (left self.old)) }
+    {
+        let first = self.conj(depth)?;
+        let mut operands = self.bars(depth)?;
+        if operands.is_empty() {
+            return Ok(first);
+        }
+        operands.insert(0, first)?;
+        Ok(Expr::Or(operands))
     }
 }

@@ -1,36 +1,32 @@
 // Files.
 
-ghost use Rattle.std.specs.Prelude.{◌≡◌, IfOk, IfErr, Ok};
+ghost use Rattle.std.specs.Prelude.{◌≡◌, map, length, string_bytes, IfOk, IfErr, Ok};
+ghost use Rattle.std.specs.Option.{option_map};
+ghost use Rattle.cs_syntax.specs.Words.{Words};
 ghost use Rattle.cs_syntax.specs.Tree.{FileTree};
-ghost use Rattle.cs_syntax.specs.View.{bare_name, definition_view, file_view, lexemes_view, words};
+ghost use Rattle.cs_syntax.specs.Spells.{SpellsFile};
+ghost use Rattle.cs_syntax.specs.View.{definition_view, file_view, lexemes_view, words};
 ghost use Rattle.cs_syntax.specs.Left.{left, Reads};
-ghost use Rattle.cs_syntax.specs.Reading.{Gives, definition_at, file_at};
+ghost use Rattle.cs_syntax.specs.Reading.{Gives, definition_at, line_at, definitions_at, is_clause, clause_at, package_at, file_with, file_at};
+ghost use Rattle.cs_syntax.specs.Within.{file_within};
 ghost use Rattle.cs_syntax.specs.Answer.{Answers, IsFileRefusal, IsSpelled};
 
 use crate::ast::{Definition, File};
 use crate::fault::SyntaxFault;
 use crate::lexer::cut::lex;
-use crate::lexer::lines::{other_integer, several_lines};
+use crate::parser::height::are_low_bodies;
 use crate::parser::kind::{Kind, kind_of};
+use crate::parser::name::{bare_name, is_package};
+use crate::parser::nesting::is_too_nested;
 use crate::parser::place::{Parser, fault_of};
 use crate::token::Token;
 use std::alloc::Global;
 
-// The name of a definition without its `#`.
-fn bare_name(text: &str) -> &str
-    ensures { result.now ≡ bare_name text.now }
-{
-    match text.strip_prefix('#') {
-        Some(name) => name,
-        None => text,
-    }
-}
-
 impl Parser<'_, '_> {
     // A definition: its name, a colon and its body.
     #[tactic(auto, unfolding(crate::specs::Reading::definition_at))]
-    fn definition(&mut self) -> Result<Definition, SyntaxFault>
-        ensures { Reads definition_view result self.new (definition_at (left self.old)) }
+    fn definition(&mut self, depth: usize) -> Result<Definition, SyntaxFault>
+        ensures { Reads definition_view result self.new (definition_at depth (left self.old)) }
     {
         let Some(token) = self.take() else {
             return Err(self.fault());
@@ -39,27 +35,87 @@ impl Parser<'_, '_> {
             return Err(fault_of(&token));
         }
         self.expect(Kind::Colon)?;
-        let body = self.conj()?;
+        let body = self.inside(depth, true)?;
         let name = String::from_str(self.alloc, bare_name(token.text))?;
         let at = token.start;
         Ok(Definition { name, at, body })
     }
 
-    // A file of one definition, and the end.
-    #[tactic(auto, unfolding(crate::specs::Reading::file_at))]
-    fn file(&mut self) -> Result<File, SyntaxFault>
-        ensures { Gives file_view result (file_at (left self.old)) }
+    // A definition and its comma.
+    #[tactic(auto, unfolding(crate::specs::Reading::line_at))]
+    fn line(&mut self, depth: usize) -> Result<Definition, SyntaxFault>
+        ensures { Reads definition_view result self.new (line_at depth (left self.old)) }
     {
-        let definition = self.definition()?;
-        self.expect(Kind::Inserted)?;
+        let definition = self.definition(depth)?;
+        self.expect_comma()?;
+        Ok(definition)
+    }
+
+    // The definitions up to the end.
+    fn definitions(&mut self, depth: usize) -> Result<Vec<Definition>, SyntaxFault>
+        ensures { Reads (λ v. map definition_view v.items) result self.new
+            (definitions_at depth (length (left self.old)) (left self.old)) }
+    {
+        let mut definitions = Vec::new(self.alloc);
+        for _ in self.next..self.tokens.len() {
+            if self.is_at(Kind::End) {
+                return Ok(definitions);
+            }
+            definitions.push(self.line(depth)?)?;
+        }
+        Ok(definitions)
+    }
+
+    // Whether the next token begins a package clause.
+    fn is_clause(&self) -> bool
+        ensures { result ≡ is_clause (left self.now) }
+    {
+        match self.peek() {
+            Some(token) if kind_of(&token) == Kind::Name => is_package(token.text),
+            _ => false,
+        }
+    }
+
+    // The name of a package clause, and its comma.
+    #[tactic(auto, unfolding(crate::specs::Reading::clause_at))]
+    fn clause(&mut self) -> Result<String, SyntaxFault>
+        ensures { Reads string_bytes result self.new (clause_at (left self.old)) }
+    {
+        let Some(token) = self.take() else {
+            return Err(self.fault());
+        };
+        if kind_of(&token) != Kind::Name {
+            return Err(fault_of(&token));
+        }
+        self.expect_comma()?;
+        Ok(String::from_str(self.alloc, token.text)?)
+    }
+
+    // The package clause, where one stands.
+    #[tactic(auto, unfolding(crate::specs::Reading::package_at))]
+    fn package(&mut self) -> Result<Option<String>, SyntaxFault>
+        ensures { Reads (option_map string_bytes) result self.new (package_at (left self.old)) }
+    {
+        let stands = self.is_clause();
+        if !self.skip_if(stands) {
+            return Ok(None);
+        }
+        Ok(Some(self.clause()?))
+    }
+
+    // A file, and the end.
+    #[tactic(auto, unfolding(crate::specs::Reading::file_with))]
+    fn file(&mut self, depth: usize) -> Result<File, SyntaxFault>
+        ensures { Gives file_view result (file_with depth (left self.old)) }
+    {
+        let package = self.package()?;
+        let definitions = self.definitions(depth)?;
         self.expect(Kind::End)?;
         if let Some(token) = self.peek() {
             return Err(fault_of(&token));
         }
-        let mut definitions = Vec::new(self.alloc);
-        definitions.push(definition)?;
         Ok(File {
-            package: None,
+            package,
             definitions,
         })
     }
@@ -73,31 +129,43 @@ fn file_of(alloc: Global, tokens: &[Token<'_>]) -> Result<File, SyntaxFault>
         tokens,
         next: 0,
     };
-    parser.file()
+    parser.file(tokens.len())
 }
 
-/// The file that a source spells: one definition, whose body is names, integers and bounds
-/// joined by `&`, on one line (CUE, source file organization).
+// The file that tokens spell within the limits.
+#[tactic(auto, unfolding(crate::specs::Within::file_within))]
+fn file_within(alloc: Global, tokens: &[Token<'_>]) -> Result<File, SyntaxFault>
+    ensures { Gives file_view result (file_within (words (lexemes_view tokens.now))) }
+{
+    if is_too_nested(alloc, tokens)? {
+        return Err(SyntaxFault::TooHigh);
+    }
+    let file = file_of(alloc, tokens)?;
+    if !are_low_bodies(&file.definitions, 28) {
+        return Err(SyntaxFault::TooHigh);
+    }
+    Ok(file)
+}
+
+/// The file that a source spells (CUE, source file organization).
 ///
 /// # Errors
-/// Those of `lex`; `Syntax` or `LeftOut` at a token that is out of place. Not taken yet are a second
-/// line, which is `Syntax` at the end of the first one, a comment, `Syntax` too, and an integer with
-/// underscores or in hexadecimal digits, `LeftOut`.
+/// Those of `lex`. `TooHigh` where the tokens nest deeper than 28, or a body is higher than that.
+/// `Syntax` or `LeftOut` at a token that is out of place.
 pub fn parse_file(alloc: Global, source: &str) -> Result<File, SyntaxFault>
-    // What is answered is spelled by the tokens of the source.
+    // What is answered is spelled by the tokens of the source, within the limits.
     ensures found { IfOk result (λ f. IsSpelled source.now (file_view f)) }
-    // A file that the tokens of the source spell is answered, unless memory runs out.
+    // A file that the tokens of the source spell so is answered, unless memory runs out.
     ensures only { (f : FileTree) → IsSpelled source.now f → Answers file_view result f }
-    // A fault other than want of memory says where the source is stuck, or which word is out of place,
-    // or it is of a form that is not taken yet.
+    // A fault other than want of memory says where the source is stuck, which word is out of place
+    // where its tokens spell no file, or that it is too high.
     ensures refused { IfErr result (λ f. IsFileRefusal source.now f) }
 {
     let tokens = lex(alloc, source)?;
-    if let Some(offset) = several_lines(source.as_bytes()) {
-        return Err(SyntaxFault::Syntax { offset });
-    }
-    if let Some(offset) = other_integer(&tokens) {
-        return Err(SyntaxFault::LeftOut { offset });
-    }
-    file_of(alloc, &tokens)
+    file_within(alloc, &tokens)
 }
+
+/// Tokens spell one file at most.
+pub fn one_file()
+    ensures { (f g : FileTree) (ts : Words) → SpellsFile f ts → SpellsFile g ts → f ≡ g }
+{}

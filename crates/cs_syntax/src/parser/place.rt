@@ -1,9 +1,10 @@
 // A place in the tokens.
 
-ghost use Rattle.std.specs.Prelude.{◌≡◌};
+ghost use Rattle.std.specs.Prelude.{◌≡◌, drop};
 ghost use Rattle.cs_syntax.specs.View.{lexeme_view, word};
 ghost use Rattle.cs_syntax.specs.Left.{left, IsNext, Takes, Skips, ReadsPast};
-ghost use Rattle.cs_syntax.specs.Reading.{is_left_out_name, fault_of, fault_at, after, expected};
+ghost use Rattle.cs_syntax.specs.Spells.{start_at};
+ghost use Rattle.cs_syntax.specs.Reading.{is_left_out_name, fault_of, fault_at, after, expected, begins_with, behind_if, after_comma, comma_at, close_at, paren_end};
 
 use crate::fault::SyntaxFault;
 use crate::parser::kind::{Kind, kind_of};
@@ -95,5 +96,89 @@ impl<'t, 'a> Parser<'t, 'a> {
         } else {
             Err(self.fault())
         }
+    }
+
+    // The byte at which the next token stands.
+    #[tactic(auto, using(crate::proofs::WordKinds::start_word_of))]
+    pub(crate) fn start(&self) -> usize
+        ensures { result ≡ start_at (left self.now) }
+    {
+        match self.peek() {
+            None => 0,
+            Some(token) => token.start,
+        }
+    }
+
+    // Whether the next token is of that kind.
+    pub(crate) fn is_at(&self, wanted: Kind) -> bool
+        ensures { result ≡ begins_with wanted (left self.now) }
+    {
+        match self.peek() {
+            None => false,
+            Some(token) => kind_of(&token) == wanted,
+        }
+    }
+
+    // Whether the token behind the next one is of that kind.
+    pub(crate) fn is_behind(&self, wanted: Kind) -> bool
+        ensures { result ≡ begins_with wanted (drop 1 (left self.now)) }
+    {
+        if self.peek().is_none() {
+            return false;
+        }
+        let behind = Parser {
+            alloc: self.alloc,
+            tokens: self.tokens,
+            next: self.next + 1,
+        };
+        behind.is_at(wanted)
+    }
+
+    // Passes over a token, where one stands and is wanted.
+    pub(crate) fn skip_if(&mut self, wanted: bool) -> bool
+        ensures { Skips result self.old self.new (behind_if wanted (left self.old)) }
+    {
+        match self.peek() {
+            Some(_) if wanted => {
+                self.next += 1;
+                true
+            }
+            _ => false,
+        }
+    }
+
+    // Passes over a comma of either kind, where one stands.
+    pub(crate) fn skip_comma(&mut self) -> bool
+        ensures { Skips result self.old self.new (after_comma (left self.old)) }
+    {
+        let comma = self.is_at(Kind::Comma) || self.is_at(Kind::Inserted);
+        self.skip_if(comma)
+    }
+
+    // Passes over a comma of either kind, which has to stand here.
+    pub(crate) fn expect_comma(&mut self) -> Result<(), SyntaxFault>
+        ensures { ReadsPast result self.new (comma_at (left self.old)) }
+    {
+        if self.skip_comma() {
+            Ok(())
+        } else {
+            Err(self.fault())
+        }
+    }
+
+    // Passes over a closing bracket, which may have a comma before it.
+    pub(crate) fn close(&mut self, wanted: Kind) -> Result<(), SyntaxFault>
+        ensures { ReadsPast result self.new (close_at wanted (left self.old)) }
+    {
+        self.skip_comma();
+        self.expect(wanted)
+    }
+
+    // Passes over the bracket that closes a parenthesis.
+    pub(crate) fn close_paren(&mut self) -> Result<(), SyntaxFault>
+        ensures { ReadsPast result self.new (paren_end (left self.old)) }
+    {
+        self.skip(Kind::Inserted);
+        self.expect(Kind::CloseParen)
     }
 }

@@ -1,4 +1,4 @@
-use Rattle.std.proofs.Common.{◌≡◌, ◌<◌, ◌++◌, List, ℕ, length, take, drop, sym, subst, ap, ◌∙◌, rules}
+use Rattle.std.proofs.Common.{◌≡◌, ◌++◌, take, drop, sym, subst, ap, ◌∙◌, rules}
 use Rattle.cs_guard.specs.Graph.{IsLowestFirst}
 use Rattle.cs_guard.proofs.Turning.{lowest_turned, lowest_none}
 use Rattle.cs_guard.proofs.cycle.cycle_from.Goals as goal

@@ -1,11 +1,9 @@
-use Rattle.std.proofs.Common.{◌≡◌, ℕ, ◌+◌, ◌<◌, ◌≤◌, ◌⊎◌, inl, inr, true, false, List, [], ◌∷◌, ◌++◌, Some, length, take, get_or, slice_get, vec_len, refl, sym, ap, subst, ◌∙◌, arith, rules}
-use Rattle.std.proofs.Math.ListN.{set}
+use Rattle.std.proofs.Common.{◌≡◌, ℕ, ◌+◌, ◌<◌, ◌≤◌, ◌⊎◌, inl, inr, List, [], ◌∷◌, ◌++◌, Some, length, take, get_or, vec_len, refl, sym, ap, subst, ◌∙◌, arith, rules}
 use Rattle.std.proofs.lemmas.List.{take_all}
 use Rattle.std.proofs.lemmas.List.Sums.{count_by-le-length}
-use Rattle.std.specs.List.{count_by}
 use Rattle.cs_guard.specs.Chains.{On, Links}
 use Rattle.cs_guard.specs.Graph.{graph_of, Refers}
-use Rattle.cs_guard.specs.Walk.{is_new, is_done, Below}
+use Rattle.cs_guard.specs.Walk.{is_new, is_done}
 use Rattle.cs_guard.specs.declared.walk.Mark.TheVariants.{New, Open, Done}
 use Rattle.cs_guard.proofs.Places.{on_end, on_get}
 use Rattle.cs_guard.proofs.Paths.{closes, links_push, turned}

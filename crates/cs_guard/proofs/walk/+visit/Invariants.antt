@@ -1,4 +1,4 @@
-use Rattle.std.proofs.Common.{◌≡◌, ℕ, ◌<◌, ◌≤◌, List, [], ◌∷◌, ◌++◌, take}
+use Rattle.std.proofs.Common.{◌≡◌, ℕ, ◌<◌, ◌≤◌, [], ◌∷◌, ◌++◌, take}
 use Rattle.std.specs.List.{count_by}
 use Rattle.cs_guard.specs.Chains.{On}
 use Rattle.cs_guard.specs.Graph.{graph_of}

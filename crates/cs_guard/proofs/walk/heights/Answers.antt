@@ -1,8 +1,7 @@
-use Rattle.std.proofs.Common.{◌≡◌, ℕ, ◌+◌, ◌<◌, ◌≤◌, true, false, List, [], ◌∷◌, ◌++◌, Some, length, get_or, slice_get, refl, sym, ap, subst, ◌∙◌, arith, rules}
+use Rattle.std.proofs.Common.{◌≡◌, ◌+◌, [], ◌∷◌, ◌++◌, Some, length, get_or, slice_get, sym, ap, subst, ◌∙◌, arith}
 use Rattle.std.proofs.lemmas.List.{length-append}
 use Rattle.cs_guard.specs.Graph.{graph_of, Refers}
 use Rattle.cs_guard.specs.Walk.{State, Keeps, Deep}
-use Rattle.cs_guard.specs.declared.walk.Mark.{Mark}
 use Rattle.cs_guard.specs.declared.walk.Mark.TheVariants.{Done}
 use Rattle.cs_guard.proofs.Paths.{no_cycle, guarded}
 use Rattle.cs_guard.proofs.Marks.{same_path, graph_long}

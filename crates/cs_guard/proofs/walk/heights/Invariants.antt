@@ -1,4 +1,4 @@
-use Rattle.std.proofs.Common.{◌≡◌, ℕ, ◌<◌, List, [], Some, get_or, slice_get, length}
+use Rattle.std.proofs.Common.{◌≡◌, ℕ, ◌<◌, [], Some, get_or, slice_get, length}
 use Rattle.cs_guard.specs.Graph.{graph_of}
 use Rattle.cs_guard.specs.Walk.{State, Deep}
 use Rattle.cs_guard.specs.declared.walk.Mark.TheVariants.{Done}

@@ -1,7 +1,7 @@
-use Rattle.std.proofs.Common.{◌≡◌, ℕ, List, [], ◌∷◌, ◌++◌, map, take, sym, ap, ◌∙◌, subst}
+use Rattle.std.proofs.Common.{◌≡◌, ℕ, List, [], ◌∷◌, ◌++◌, map, take, drop, ◌+◌, sym, ap, ◌∙◌, subst}
 use Rattle.std.specs.List.{All}
 use Rattle.std.proofs.lemmas.List.{append_assoc, drop_all}
-use Rattle.std.proofs.lemmas.List.Elements.{All-head, All-tail}
+use Rattle.std.proofs.lemmas.List.Elements.{All-cons, All-head, All-nil, All-tail}
 use Rattle.std.proofs.lemmas.Result.{err_from_is_err_and}
 use Rattle.cs_syntax.specs.Tree.{DefinitionTree, definition, body}
 use Rattle.cs_syntax.specs.View.{definition_view, expr_view}
@@ -12,7 +12,7 @@ use Rattle.cs_resolve.specs.Scopes.{places, NameFault}
 use Rattle.cs_resolve.specs.Steps.{faults_in, gathered}
 use Rattle.cs_resolve.specs.View.{names_of}
 use Rattle.cs_resolve.proofs.Faults.{faults_in-append, refusal-at, refusal-same, taken-more}
-use Rattle.cs_resolve.proofs.Refusals.{none_more}
+use Rattle.cs_resolve.proofs.Refusals.{at_place, none_more}
 use Rattle.cs_resolve.proofs.Trees.{map_more}
 use Rattle.cs_resolve.proofs.resolving.add_bodies.Goals as goal
 
@@ -54,6 +54,7 @@ loop-definition-preserved c =
     let within = c.loop-definition-test.true in
     let ns = names_of c.args.names.now.entries in
     let one = (c.in_ok-shape.ensures []).0 in
+    let here = (c.in_ok-shape.ensures []).2 in
     let more = map_more definition_view ds i d within c.definition-item.is in
     record {
       long = c.in_ok-add_body.ensures.long ∙ l.invariant.long;
@@ -62,6 +63,7 @@ loop-definition-preserved c =
           ∙ ap (gathered ns) (append_assoc es (map definition_view (take i ds)) (definition c.as_str.result.now d.at (expr_view d.body) ∷ []) ∙ ap (λ n. es ++ (map definition_view (take i ds) ++ definition n d.at (expr_view d.body) ∷ [])) c.as_str.ensures.value ∙ ap (λ r. es ++ r) (sym more));
       faults = λ names. none_more (found c.args.file names) (found_at c.args.file names) (parts c.args.file names) ds i d within c.definition-item.is (l.invariant.faults names) (c.in_ok-shape.ensures names).1;
       taken = taken-more (found c.args.file []) (found_at c.args.file []) (parts c.args.file []) taken (λ x. IsTaken (expr_view x.body)) taken-parts ds i d within c.definition-item.is l.invariant.taken;
+      given = λ g. l.invariant.given (subst taken (sym (at_place ds i d within c.definition-item.is)) (All-cons (λ (x : DefinitionTree). IsTaken (body x)) (definition_view d) (map definition_view (drop (i + 1) ds)) here g));
     }
 
 pub returns-clause-faults : goal.returns-clause-faults
@@ -69,4 +71,6 @@ returns-clause-faults c ns =
     let ds = c.deref-definition-items.result.now in
     let l = c.loop-definition in
     let F = found c.args.file ns in
-    (tt, ap F (sym c.deref-definition-items.ensures.value) ∙ l.invariant.faults ns ∙ ap F (drop_all l.definition-index ds c.loop-definition-test.false))
+    let all = drop_all l.definition-index ds c.loop-definition-test.false in
+    let same = c.deref-definition-items.ensures.value in
+    (tt, ap F (sym same) ∙ l.invariant.faults ns ∙ ap F all, subst taken same (l.invariant.given (subst taken (sym all) (All-nil (λ (x : DefinitionTree). IsTaken (body x))))))

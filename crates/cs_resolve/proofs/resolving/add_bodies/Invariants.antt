@@ -14,4 +14,5 @@ invariant-loop-definition l = record {
   added : (ds : List DefinitionTree) → bodies_of l.fn.bodies.items ≡ gathered (names_of l.names.entries) ds → bodies_of l.bodies.items ≡ gathered (names_of l.names.entries) (ds ++ map definition_view (take l.definition-index l.definition-items));
   faults : (ns : List (List ℕ)) → faults_in l.file ns (places_of (map definition_view l.definition-items)) ≡ faults_in l.file ns (places_of (map definition_view (drop l.definition-index l.definition-items)));
   taken : All (λ d. IsTaken (body d)) (map definition_view l.definition-items) → All (λ d. IsTaken (body d)) (map definition_view (drop l.definition-index l.definition-items));
+  given : All (λ d. IsTaken (body d)) (map definition_view (drop l.definition-index l.definition-items)) → All (λ d. IsTaken (body d)) (map definition_view l.definition-items);
 }

@@ -1,6 +1,7 @@
 use Rattle.std.proofs.Common.{◌≡◌, ℕ, ◌+◌, List, [], ◌++◌, map, take, drop, length, replicate, Vec, Global, refl, sym, ap, ◌∙◌, subst, arith}
 use Rattle.std.specs.List.{All, flat_map}
 use Rattle.std.proofs.lemmas.List.{drop_all, length-map, length-replicate, take_all}
+use Rattle.std.proofs.lemmas.List.Elements.{All-nil}
 use Rattle.std.proofs.lemmas.Result.{err_from_is_err_and}
 use Rattle.cs_syntax.specs.Tree.{definitions}
 use Rattle.cs_syntax.specs.View.{definition_view, file_view}
@@ -11,7 +12,7 @@ use Rattle.cs_resolve.specs.Resolved.{AreTaken}
 use Rattle.cs_resolve.specs.Steps.{faults_in, gathered}
 use Rattle.cs_resolve.specs.View.{expression_of, names_of}
 use Rattle.cs_resolve.specs.declared.shape.Shape.{Shape}
-use Rattle.cs_resolve.proofs.Faults.{faults-cut, taken-cut, refusal-first, refusal-same, IsTakenIn}
+use Rattle.cs_resolve.proofs.Faults.{faults-cut, taken-cut, taken-joined, refusal-first, refusal-same, IsTakenIn}
 use Rattle.cs_resolve.proofs.Gathered.{gathered-none, length-names}
 use Rattle.cs_resolve.proofs.Trees.{definitions_more}
 use Rattle.cs_resolve.proofs.resolving.declared_bodies.Goals as goal
@@ -31,6 +32,7 @@ loop-number-init c =
       bodies = empty ∙ ap (λ n. replicate n []) count ∙ sym (gathered-none (names_of es));
       faults = refl;
       taken = λ h. h;
+      given = λ h. h;
     }
 
 pub returns-in_err-add_bodies : goal.returns-in_err-add_bodies
@@ -61,11 +63,13 @@ loop-number-preserved c =
     let ns = names_of c.args.names.now.entries in
     let before = flat_map definitions (map file_view (take i fs)) in
     let none = (c.in_ok-add_bodies.ensures.faults (whole fs)).1 in
+    let here = (c.in_ok-add_bodies.ensures.faults (whole fs)).2 in
     record {
       long = omega (arith, l.invariant.long, c.in_ok-add_bodies.ensures.long);
       bodies = c.in_ok-add_bodies.ensures.added before l.invariant.bodies ∙ ap (gathered ns) (sym (definitions_more fs i f within c.file-item.is));
       faults = l.invariant.faults ∙ faults-cut (whole fs) fs i f within c.file-item.is ∙ ap (λ xs. xs ++ faults_from (i + 1) (whole fs) (map file_view (drop (i + 1) fs))) none;
       taken = λ h. (taken-cut fs i f within c.file-item.is (l.invariant.taken h)).1;
+      given = λ h. l.invariant.given (taken-joined fs i f within c.file-item.is here h);
     }
 
 pub returns : goal.returns
@@ -75,4 +79,4 @@ returns c =
     let ns = names_of c.args.names.now.entries in
     let same = c.deref-file-items.ensures.value in
     let all = c.loop-number-test.false in
-    (l.invariant.bodies ∙ ap (λ gs. gathered ns (flat_map definitions (map file_view gs))) (take_all l.number fs all ∙ same), ap (λ gs. faults_of_files (map file_view gs)) (sym same) ∙ l.invariant.faults ∙ ap (λ gs. faults_from l.number (whole fs) (map file_view gs)) (drop_all l.number fs all))
+    (l.invariant.bodies ∙ ap (λ gs. gathered ns (flat_map definitions (map file_view gs))) (take_all l.number fs all ∙ same), ap (λ gs. faults_of_files (map file_view gs)) (sym same) ∙ l.invariant.faults ∙ ap (λ gs. faults_from l.number (whole fs) (map file_view gs)) (drop_all l.number fs all), subst (λ gs. AreTaken (map file_view gs)) same (l.invariant.given (subst (λ gs. AreTaken (map file_view gs)) (sym (drop_all l.number fs all)) (All-nil IsTakenIn))))

@@ -14,4 +14,5 @@ invariant-loop-number l = record {
   bodies : bodies_of l.bodies.items ≡ gathered (names_of l.names.entries) (flat_map definitions (map file_view (take l.number l.file-items)));
   faults : faults_of_files (map file_view l.file-items) ≡ faults_from l.number (names (flat_map definitions (map file_view l.file-items))) (map file_view (drop l.number l.file-items));
   taken : AreTaken (map file_view l.file-items) → AreTaken (map file_view (drop l.number l.file-items));
+  given : AreTaken (map file_view (drop l.number l.file-items)) → AreTaken (map file_view l.file-items);
 }

@@ -11,7 +11,7 @@ use Rattle.cs_resolve.specs.Scopes.{places, places_all, NameFault}
 use Rattle.cs_resolve.specs.Steps.{faults_in}
 use Rattle.cs_resolve.specs.View.{expression_of, expressions_of}
 use Rattle.cs_resolve.proofs.Faults.{faults_in-append, refusal-at, refusal-same, refusal-tree, taken-more}
-use Rattle.cs_resolve.proofs.Refusals.{none_more}
+use Rattle.cs_resolve.proofs.Refusals.{at_place, none_more}
 use Rattle.cs_resolve.proofs.Trees.{view-And, map_more}
 use Rattle.cs_resolve.proofs.Views.{expression_of-And}
 use Rattle.cs_resolve.proofs.shapes.+shapes.Goals as goal
@@ -45,7 +45,7 @@ shape_of-returns-in_ok-shapes_of-in-And t c names =
     let os = c.in-And.operands in
     let is = ap expr_view c.in-And.is ∙ view-And os in
     let got = c.in_ok-shapes_of-in-And.ensures names in
-    (expression_of-And c.in_ok-shapes_of-in-And.field-0 ∙ ap (λ es. cue.conjunction (expressions_of es)) got.0 ∙ ap cue.conjunction (all_resolved os.items) ∙ ap resolved (sym is), ap (λ t. faults_in c.args.file names (places [] t)) is ∙ got.1)
+    (expression_of-And c.in_ok-shapes_of-in-And.field-0 ∙ ap (λ es. cue.conjunction (expressions_of es)) got.0 ∙ ap cue.conjunction (all_resolved os.items) ∙ ap resolved (sym is), ap (λ t. faults_in c.args.file names (places [] t)) is ∙ got.1, subst IsTaken (sym is) got.2)
 
 pub shapes_of-returns-in_err-shape : goal.shapes_of-returns-in_err-shape
 shapes_of-returns-in_err-shape t c names =
@@ -74,6 +74,7 @@ shapes_of-loop-operand-preserved t c =
           ∙ sym (map_more (λ o. resolved (expr_view o)) es i e within c.operand-item.is);
       faults = λ names. none_more (found c.args.file names) (found_at c.args.file names) (parts c.args.file names) es i e within c.operand-item.is (l.invariant.faults names) (c.in_ok-shape.ensures names).1;
       taken = taken-more (found c.args.file []) (found_at c.args.file []) (parts c.args.file []) taken (λ x. IsTaken (expr_view x)) (λ x xs g. g) es i e within c.operand-item.is l.invariant.taken;
+      given = λ g. l.invariant.given (subst taken (sym (at_place es i e within c.operand-item.is)) (one.2, g));
     }
 
 pub shapes_of-returns : goal.shapes_of-returns
@@ -82,4 +83,4 @@ shapes_of-returns t c names =
     let l = c.loop-operand in
     let same = c.deref-operand-items.ensures.value in
     let all = c.loop-operand-test.false in
-    (l.invariant.shapes ∙ ap (map (λ o. resolved (expr_view o))) (take_all l.operand-index es all ∙ same), ap (found c.args.file names) (sym same) ∙ l.invariant.faults names ∙ ap (found c.args.file names) (drop_all l.operand-index es all))
+    (l.invariant.shapes ∙ ap (map (λ o. resolved (expr_view o))) (take_all l.operand-index es all ∙ same), ap (found c.args.file names) (sym same) ∙ l.invariant.faults names ∙ ap (found c.args.file names) (drop_all l.operand-index es all), subst taken same (l.invariant.given (subst taken (sym (drop_all l.operand-index es all)) tt)))

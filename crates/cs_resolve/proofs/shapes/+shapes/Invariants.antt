@@ -11,4 +11,5 @@ invariant-shapes_of-loop-operand l = record {
   shapes : map expression_of l.shapes.items ≡ map (λ o. resolved (expr_view o)) (take l.operand-index l.operand-items);
   faults : (names : List (List ℕ)) → faults_in l.file names (places_all [] (exprs_view l.operand-items)) ≡ faults_in l.file names (places_all [] (exprs_view (drop l.operand-index l.operand-items)));
   taken : IsEachTaken (exprs_view l.operand-items) → IsEachTaken (exprs_view (drop l.operand-index l.operand-items));
+  given : IsEachTaken (exprs_view (drop l.operand-index l.operand-items)) → IsEachTaken (exprs_view l.operand-items);
 }

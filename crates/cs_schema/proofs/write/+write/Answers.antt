@@ -1,4 +1,5 @@
-use Rattle.std.proofs.Common.{◌≡◌, [], ◌∷◌, ◌++◌, Some, String, Global, string_bytes, string_cmp, take, drop, sym, ap, ◌∙◌, subst, append_assoc, append-nil}
+use Rattle.std.proofs.Common.{◌≡◌, ap₂, codes, [], ◌∷◌, ◌++◌, Some, String, Global, string_bytes, string_cmp, take, drop, sym, ap, ◌∙◌, subst, append_assoc, append-nil}
+use Rattle.std.proofs.lemmas.Result.{on_ok_weaker}
 use Rattle.std.specs.List.Sorted.{IsStrictlySortedBy}
 use Rattle.std.specs.Map.{keys_of}
 use Rattle.cs_doc.specs.Document.{object}
@@ -6,9 +7,9 @@ use Rattle.cs_doc.specs.View.{object_view, members_of}
 use Rattle.cs_doc.proofs.Views.{view-Object}
 use Rattle.cs_doc.proofs.Maps.{texts, insert_last, texts_more}
 use Rattle.cs_schema.specs.SchemaDocument.{definitions_view, slots_of}
-use Rattle.cs_schema.specs.Writing.{put_all}
+use Rattle.cs_schema.specs.Writing.{put_some, put_all}
 use Rattle.cs_schema.specs.declared.schema.Schema.{Schema}
-use Rattle.cs_schema.proofs.Writing.{keywords_put, members_of-push, some_named, not_empty}
+use Rattle.cs_schema.proofs.Writing.{keywords_put, from_items, from_not, members_of-push, some_named, not_empty}
 use Rattle.cs_schema.proofs.write.+write.Goals as goal
 
 pub keywords_doc-returns-clause-value : goal.keywords_doc-returns-clause-value
@@ -45,3 +46,22 @@ map_doc-returns-clause-value t c =
     let all : c.args.schemas.now.entries ≡ l.invariant.done = l.invariant.all ∙ ap (λ es. l.invariant.done ++ es) c.in-None.ensures.steps.0 ∙ append-nil l.invariant.done in
     ap Some (view-Object l.docs ∙ ap object (l.invariant.made ∙ ap (λ es. members_of (definitions_view es)) (sym all)))
     ∙ sym (some_named c.args.schemas.now.entries (not_empty c.is_empty.result c.args.schemas.now.entries c.is_empty.ensures c.if-is_empty.false))
+
+pub set_to_minimum-returns-clause-put : goal.set_to_minimum-returns-clause-put
+set_to_minimum-returns-clause-put t c =
+    let old = object_view c.args.members.now.entries in
+    let items = c.in_ok-set.ensures.put ∙ ap (λ o. put_some (codes "items") o old) c.in_ok-rest.ensures.value in
+    let maximum = c.in_ok-set-2.ensures.put ∙ ap₂ (put_some (codes "maximum")) c.integer_doc-maximum.ensures items in
+    let min_items = c.in_ok-set-3.ensures.put ∙ ap₂ (put_some (codes "minItems")) c.integer_doc-min_items.ensures maximum in
+    let minimum = ap₂ (put_some (codes "minimum")) c.integer_doc-minimum.ensures min_items ∙ ap (λ ss. put_all ss old) (sym (from_items c.args.keywords.now)) in
+    on_ok_weaker c.set-4.result (λ h. h ∙ minimum) c.set-4.ensures.put
+
+pub set_to_kind-returns-clause-put : goal.set_to_kind-returns-clause-put
+set_to_kind-returns-clause-put t c =
+    let old = object_view c.args.members.now.entries in
+    let negated = c.in_ok-set.ensures.put ∙ ap (λ o. put_some (codes "not") o old) c.in_ok-negated.ensures.value in
+    let prefix = c.in_ok-set-2.ensures.put ∙ ap₂ (put_some (codes "prefixItems")) c.in_ok-prefix.ensures.value negated in
+    let properties = c.in_ok-set-3.ensures.put ∙ ap₂ (put_some (codes "properties")) c.in_ok-properties.ensures.value prefix in
+    let required = c.in_ok-set-4.ensures.put ∙ ap₂ (put_some (codes "required")) c.in_ok-required.ensures.value properties in
+    let kind = ap₂ (put_some (codes "type")) c.in_ok-kind.ensures.value required ∙ ap (λ ss. put_all ss old) (sym (from_not c.args.keywords.now)) in
+    on_ok_weaker c.set-5.result (λ h. h ∙ kind) c.set-5.ensures.put

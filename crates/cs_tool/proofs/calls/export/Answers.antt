@@ -8,14 +8,14 @@ use Rattle.cs_resolve.specs.Height.{IsLow}
 use Rattle.cs_resolve.specs.Resolved.{environment_of_files}
 use Rattle.cs_schema.specs.SchemaDocument.{document_of}
 use Rattle.cs_tool.specs.Accepted.{AreFiles, IsAccepted}
-use Rattle.cs_tool.proofs.Spelled.{low_file}
+use Rattle.cs_tool.proofs.Taken.{low_file}
 use Rattle.cs_tool.proofs.calls.export.Goals as goal
 
 -- what one spelled file declares is low
 low_files : (sources : List (List ℕ)) (files : List FileTree) → length sources ≡ 1 → AreFiles sources files → IsLow (environment_of_files files)
 low_files [] files alone spelled = absurd (omega arith)
 low_files (s ∷ ss) [] alone spelled = absurd spelled
-low_files (s ∷ []) (f ∷ []) alone spelled = low_file spelled.0.spelled
+low_files (s ∷ []) (f ∷ []) alone spelled = low_file f spelled.0.low
 low_files (s ∷ []) (f ∷ g ∷ files) alone spelled = absurd spelled.1
 low_files (s ∷ t ∷ ss) (f ∷ files) alone spelled = absurd (omega arith)
 

@@ -1,9 +1,8 @@
-use Rattle.std.proofs.Common.{◌≡◌, ℕ, zero, suc, ◌<◌, inl, inr, Bool, true, false, ◌&&◌, List, [], ◌∷◌, Some, slice_get, length, nat_lt, Vec, Global, refl, sym, ap, ◌∙◌, subst, arith}
+use Rattle.std.proofs.Common.{◌≡◌, ℕ, zero, suc, ◌<◌, inl, inr, Bool, true, false, ◌&&◌, List, [], ◌∷◌, Some, slice_get, length, nat_lt, Vec, Global, refl, sym, ◌∙◌, subst, arith}
 use Rattle.std.proofs.lemmas.Bool.Decides.{nat_tests}
-use Rattle.std.proofs.Math.ListN.{length-map}
 use Rattle.std.specs.List.{list_all}
 use Rattle.cs_guard.specs.Chains.{On}
-use Rattle.cs_guard.specs.Graph.{graph_of, Refers}
+use Rattle.cs_guard.specs.Graph.{graph_of}
 use Rattle.cs_guard.proofs.Marks.{graph_long}
 use Rattle.cs_guard.proofs.walk.tests.is_within.Goals as goal
 

@@ -1,7 +1,7 @@
 use Rattle.std.proofs.lemmas.Result.{err_from_is_err_and}
 use Rattle.cs_syntax.specs.View.{file_view}
-use Rattle.cs_syntax.proofs.Places.{file_refused, stuck_refused}
-use Rattle.cs_syntax.proofs.Whole.{spelled_found, spelled_only, stuck_only, untaken_only}
+use Rattle.cs_syntax.proofs.Places.{stuck_refused}
+use Rattle.cs_syntax.proofs.Whole.{spelled_found, spelled_only, stuck_only, file_refused}
 use Rattle.cs_syntax.proofs.parser.file.parse_file.Goals as goal
 
 pub returns-in_err-tokens-clause-only : goal.returns-in_err-tokens-clause-only
@@ -10,10 +10,10 @@ returns-in_err-tokens-clause-only c f s =
     rw (p.1, p.2) (stuck_only file_view c.args.source.now c.in_err-tokens.field-0.0 c.in_err-tokens.ensures.stuck f s)
 
 pub returns-clause-found : goal.returns-clause-found
-returns-clause-found c = spelled_found file_view c.args.source.now c.file_of.result _ c.in_ok-tokens.ensures.found (rw c.as_bytes.ensures.value at c.in_default.ensures) (rw c.deref.ensures.value at c.in_default-other_integer.ensures) (rw c.deref-2.ensures.value at c.file_of.ensures)
+returns-clause-found c = spelled_found file_view c.args.source.now c.file_within.result _ c.in_ok-tokens.ensures.found (rw c.deref.ensures.value at c.file_within.ensures)
 
 pub returns-clause-only : goal.returns-clause-only
-returns-clause-only c f s = spelled_only file_view c.args.source.now c.file_of.result _ c.in_ok-tokens.ensures.found (rw c.deref-2.ensures.value at c.file_of.ensures) f s
+returns-clause-only c f s = spelled_only file_view c.args.source.now c.file_within.result _ c.in_ok-tokens.ensures.found (rw c.deref.ensures.value at c.file_within.ensures) f s
 
 pub returns-in_err-tokens-clause-refused : goal.returns-in_err-tokens-clause-refused
 returns-in_err-tokens-clause-refused c =
@@ -21,7 +21,4 @@ returns-in_err-tokens-clause-refused c =
     rw (p.1, p.2) (stuck_refused c.args.source.now c.in_err-tokens.field-0.0 c.in_err-tokens.ensures.stuck)
 
 pub returns-clause-refused : goal.returns-clause-refused
-returns-clause-refused c = file_refused file_view c.args.source.now c.file_of.result _ c.in_ok-tokens.ensures.found (rw c.deref-2.ensures.value at c.file_of.ensures)
-
-pub returns-in-Some-other_integer-clause-only : goal.returns-in-Some-other_integer-clause-only
-returns-in-Some-other_integer-clause-only c f s = untaken_only c.args.source.now _ c.in_ok-tokens.ensures.found (rw c.deref.ensures.value at c.in-Some-other_integer.ensures) f s
+returns-clause-refused c = file_refused file_view c.args.source.now c.file_within.result _ c.in_ok-tokens.ensures.found (rw c.deref.ensures.value at c.file_within.ensures)

@@ -1,0 +1,5 @@
+use Rattle.cs_syntax.proofs.Whole.{file_once}
+use Rattle.cs_syntax.proofs.parser.file.one_file.Goals as goal
+
+pub returns : goal.returns
+returns c = file_once

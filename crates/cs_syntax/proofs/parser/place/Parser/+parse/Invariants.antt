@@ -1,0 +1,57 @@
+use Rattle.std.proofs.Common.{◌≡◌, length, ◌+◌, ◌-◌, ◌*◌}
+use Rattle.cs_syntax.specs.View.{expr_view, field_view}
+use Rattle.cs_syntax.specs.Left.{left}
+use Rattle.cs_syntax.specs.Reading.{inner, fields_with, elements_with, amps_with, bars_with}
+use Rattle.cs_syntax.proofs.Reader.{with_front}
+use Rattle.cs_syntax.proofs.parser.place.Parser.+parse.Given as goal
+
+abbrev pub decreases-inside : goal.decreases-inside
+decreases-inside l = 9 * l.depth
+
+abbrev pub decreases-field : goal.decreases-field
+decreases-field l = 9 * l.depth + 1
+
+abbrev pub decreases-fields : goal.decreases-fields
+decreases-fields l = 9 * l.depth + 2
+
+abbrev pub decreases-structure : goal.decreases-structure
+decreases-structure l = 9 * l.depth + 3
+
+abbrev pub decreases-list_rest : goal.decreases-list_rest
+decreases-list_rest l = 9 * l.depth + 1
+
+abbrev pub decreases-list_end : goal.decreases-list_end
+decreases-list_end l = 9 * l.depth + 2
+
+abbrev pub decreases-elements : goal.decreases-elements
+decreases-elements l = 9 * l.depth + 1
+
+abbrev pub decreases-list : goal.decreases-list
+decreases-list l = 9 * l.depth + 3
+
+abbrev pub decreases-operand : goal.decreases-operand
+decreases-operand l = 9 * l.depth + 4
+
+abbrev pub decreases-amps : goal.decreases-amps
+decreases-amps l = 9 * l.depth + 5
+
+abbrev pub decreases-conj : goal.decreases-conj
+decreases-conj l = 9 * l.depth + 6
+
+abbrev pub decreases-bars : goal.decreases-bars
+decreases-bars l = 9 * l.depth + 7
+
+abbrev pub decreases-expr : goal.decreases-expr
+decreases-expr l = 9 * l.depth + 8
+
+abbrev pub invariant-fields-loop : goal.invariant-fields-loop
+invariant-fields-loop l = with_front field_view l.fields.items (fields_with (inner l.depth) (l.end - l.counter) (left l.self)) ≡ fields_with (inner l.depth) (length (left l.fn.self)) (left l.fn.self)
+
+abbrev pub invariant-elements-loop : goal.invariant-elements-loop
+invariant-elements-loop l = with_front expr_view l.elements.items (elements_with (inner l.depth) (l.end - l.counter) (left l.self)) ≡ elements_with (inner l.depth) (length (left l.fn.self)) (left l.fn.self)
+
+abbrev pub invariant-amps-loop : goal.invariant-amps-loop
+invariant-amps-loop l = with_front expr_view l.operands.items (amps_with (inner l.depth) (l.end - l.counter) (left l.self)) ≡ amps_with (inner l.depth) (length (left l.fn.self)) (left l.fn.self)
+
+abbrev pub invariant-bars-loop : goal.invariant-bars-loop
+invariant-bars-loop l = with_front expr_view l.operands.items (bars_with (inner l.depth) (l.end - l.counter) (left l.self)) ≡ bars_with (inner l.depth) (length (left l.fn.self)) (left l.fn.self)

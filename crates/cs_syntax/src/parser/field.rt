@@ -1,0 +1,118 @@
+// Fields, up to their values.
+
+ghost use Rattle.std.specs.Prelude.{◌≡◌, string_bytes};
+ghost use Rattle.cs_syntax.specs.Left.{left, Reads, Skips};
+ghost use Rattle.cs_syntax.specs.View.{label_of};
+ghost use Rattle.cs_syntax.specs.Reading.{begins_field, goes_on_label, another_field, another_element, opening, rest_behind, may_end, label_at, mark_at, opening_at};
+
+use crate::ast::FieldMark;
+use crate::fault::SyntaxFault;
+use crate::parser::kind::{Kind, kind_of};
+use crate::parser::name::is_keyword;
+use crate::parser::place::{Parser, fault_of};
+use crate::parser::text::unescape;
+
+impl Parser<'_, '_> {
+    // Whether the next token is a label: one with a mark or a colon behind it, or a name that is
+    // no operand.
+    pub(crate) fn begins_field(&self) -> bool
+        ensures { result ≡ begins_field (left self.now) }
+    {
+        let Some(token) = self.peek() else {
+            return false;
+        };
+        let goes_on = self.is_behind(Kind::Colon)
+            || self.is_behind(Kind::Question)
+            || self.is_behind(Kind::Bang);
+        match kind_of(&token) {
+            Kind::Name => is_keyword(token.text) || goes_on,
+            Kind::Text => goes_on,
+            _ => false,
+        }
+    }
+
+    // Passes over a comma that has another field behind it.
+    pub(crate) fn skip_to_field(&mut self) -> bool
+        ensures { Skips result self.old self.new (another_field (left self.old)) }
+    {
+        let comma = self.is_at(Kind::Comma) || self.is_at(Kind::Inserted);
+        let ends = self.is_behind(Kind::CloseStruct) || self.is_behind(Kind::Dots);
+        self.skip_if(comma && !ends)
+    }
+
+    // Passes over a comma that has another element behind it.
+    pub(crate) fn skip_to_element(&mut self) -> bool
+        ensures { Skips result self.old self.new (another_element (left self.old)) }
+    {
+        let comma = self.is_at(Kind::Comma);
+        let ends = self.is_behind(Kind::CloseList) || self.is_behind(Kind::Dots);
+        self.skip_if(comma && !ends)
+    }
+
+    // Passes over a comma that has the `...` of a struct behind it.
+    fn skip_to_opening(&mut self) -> bool
+        ensures { Skips result self.old self.new (opening (left self.old)) }
+    {
+        let comma = self.is_at(Kind::Comma) || self.is_at(Kind::Inserted);
+        let dots = self.is_behind(Kind::Dots);
+        self.skip_if(comma && dots)
+    }
+
+    // Passes over a comma that has the `...` of a list behind it.
+    pub(crate) fn skip_to_rest(&mut self) -> bool
+        ensures { Skips result self.old self.new (rest_behind (left self.old)) }
+    {
+        let comma = self.is_at(Kind::Comma);
+        let dots = self.is_behind(Kind::Dots);
+        self.skip_if(comma && dots)
+    }
+
+    // Whether the bracket of a list may close here.
+    pub(crate) fn may_end(&self) -> bool
+        ensures { result ≡ may_end (left self.now) }
+    {
+        let comma = self.is_at(Kind::Comma) || self.is_at(Kind::Inserted);
+        self.is_at(Kind::CloseList) || comma
+    }
+
+    // The name or the text of a label, and whether it stands in quotes.
+    #[tactic(auto, unfolding(crate::specs::Reading::label_at))]
+    pub(crate) fn label(&mut self) -> Result<(String, bool), SyntaxFault>
+        ensures { Reads (λ x. label_of (string_bytes x.0) x.1) result self.new (label_at (left self.old)) }
+    {
+        let Some(token) = self.take() else {
+            return Err(self.fault());
+        };
+        match kind_of(&token) {
+            Kind::Name => Ok((String::from_str(self.alloc, token.text)?, false)),
+            Kind::Text => Ok((unescape(self.alloc, token.text)?, true)),
+            _ => Err(fault_of(&token)),
+        }
+    }
+
+    // The mark of a field.
+    pub(crate) fn mark(&mut self) -> FieldMark
+        ensures { mark_at (left self.old) ≡ (result, left self.new) }
+    {
+        if self.skip(Kind::Question) {
+            return FieldMark::Optional;
+        }
+        if self.skip(Kind::Bang) {
+            return FieldMark::Required;
+        }
+        FieldMark::Regular
+    }
+
+    // What stands behind the last field of a struct: whether it is opened.
+    pub(crate) fn opening(&mut self) -> Result<bool, SyntaxFault>
+        ensures { Reads (λ b. b) result self.new (opening_at (left self.old)) }
+    {
+        if !self.skip_to_opening() {
+            self.close(Kind::CloseStruct)?;
+            return Ok(false);
+        }
+        self.expect(Kind::Dots)?;
+        self.close(Kind::CloseStruct)?;
+        Ok(true)
+    }
+}

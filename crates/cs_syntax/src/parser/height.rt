@@ -1,0 +1,76 @@
+// How high expressions are.
+
+ghost use Rattle.std.specs.Prelude.{◌≡◌, map, nat_le};
+ghost use Rattle.cs_syntax.specs.View.{expr_view, exprs_view, fields_view, end_view, definition_view};
+ghost use Rattle.cs_syntax.specs.Height.{height, heights, field_heights, end_height, definition_heights};
+
+use crate::ast::{Definition, Expr, Field, ListEnd};
+
+// Whether an expression is at most so high.
+#[cycle(height)]
+fn is_low(expr: &Expr, limit: usize) -> bool
+    ensures { result ≡ nat_le (height (expr_view expr.now)) limit }
+{
+    if limit == 0 {
+        return false;
+    }
+    let inside = limit - 1;
+    match expr {
+        Expr::And(operands) => are_low(operands, inside),
+        Expr::Or(operands) => are_low(operands, inside),
+        Expr::Paren(kept) => is_low(kept, inside),
+        Expr::Struct { fields, .. } => are_low_fields(fields, inside),
+        Expr::List { front, end } => are_low(front, inside) && is_low_end(end, inside),
+        Expr::Top | Expr::Bottom | Expr::Null | Expr::Bool(_) => true,
+        Expr::Int(_) | Expr::Text(_) => true,
+        Expr::Name { .. } | Expr::Reference { .. } | Expr::Bound { .. } => true,
+        Expr::NotInt(_) | Expr::NotText(_) | Expr::NotNull => true,
+    }
+}
+
+#[cycle(height)]
+fn are_low(exprs: &Vec<Expr>, limit: usize) -> bool
+    ensures { result ≡ nat_le (heights (exprs_view exprs.now.items)) limit }
+{
+    for expr in exprs {
+        if !is_low(expr, limit) {
+            return false;
+        }
+    }
+    true
+}
+
+#[cycle(height)]
+fn are_low_fields(fields: &Vec<Field>, limit: usize) -> bool
+    ensures { result ≡ nat_le (field_heights (fields_view fields.now.items)) limit }
+{
+    for field in fields {
+        if !is_low(&field.value, limit) {
+            return false;
+        }
+    }
+    true
+}
+
+#[cycle(height)]
+fn is_low_end(end: &ListEnd, limit: usize) -> bool
+    ensures { result ≡ nat_le (end_height (end_view end.now)) limit }
+{
+    match end {
+        ListEnd::Closed => true,
+        ListEnd::Any => true,
+        ListEnd::Each(each) => is_low(each, limit),
+    }
+}
+
+// Whether no body is higher than that.
+pub(crate) fn are_low_bodies(definitions: &Vec<Definition>, limit: usize) -> bool
+    ensures { result ≡ nat_le (definition_heights (map definition_view definitions.now.items)) limit }
+{
+    for definition in definitions {
+        if !is_low(&definition.body, limit) {
+            return false;
+        }
+    }
+    true
+}

@@ -1,0 +1,29 @@
+// Names.
+
+ghost use Rattle.std.specs.Prelude.{◌≡◌};
+ghost use Rattle.cs_syntax.specs.View.{bare_name};
+ghost use Rattle.cs_syntax.specs.Spells.{is_keyword, is_package};
+
+// Whether a name is no operand.
+pub(crate) fn is_keyword(text: &str) -> bool
+    ensures { result ≡ is_keyword text.now }
+{
+    matches!(text, "for" | "if" | "let")
+}
+
+// Whether a name may begin a package clause.
+pub(crate) fn is_package(text: &str) -> bool
+    ensures { result ≡ is_package text.now }
+{
+    text == "package"
+}
+
+// The name of a definition without its `#`.
+pub(crate) fn bare_name(text: &str) -> &str
+    ensures { result.now ≡ bare_name text.now }
+{
+    match text.strip_prefix('#') {
+        Some(name) => name,
+        None => text,
+    }
+}
