@@ -16,8 +16,8 @@ use std::alloc::Global;
 /// The text of the schema that admits the documents that the root definition of the sources admits,
 /// without a newline. The root is named with its `#`.
 ///
-/// Refusals in order: sources above 1,048,576 bytes together; the first source that is no UTF-8; a
-/// source outside the forms that are taken; an unknown root.
+/// Refusals in order: sources above 1,048,576 bytes together; the first source that is no UTF-8; a fault
+/// of the source's text; a source outside the forms that are taken; an unknown root.
 pub fn export(alloc: Global, sources: &[&[u8]], root: &str) -> Result<Vec<u8>, Fault>
     ensures found { IfOk result
         (λ text. IsExport (map (λ s. s.now) sources.now) root.now text.items) }

@@ -33,7 +33,7 @@ pub(crate) fn of_syntax(file: usize, fault: SyntaxFault) -> Fault
     }
 }
 
-// Until whole packages are taken every fault of a source is the same.
+// Until whole packages are taken every fault of a package is the same.
 impl From<ResolveFault> for Fault {
     ghost use Rattle.cs_tool.specs.Conversions.{of_resolve};
 
