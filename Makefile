@@ -2,7 +2,7 @@
 # make run        builds it and runs it on examples/port.cue
 # make test       the gate: every proof from nothing, the must-fail edits, the tests, the program's stored run
 # make memory     runs the program with each of its first 40 allocations refused in turn, half an hour; JOBS=4 for four at once
-# make bench      times the lexer and the parser on 1 MiB of source in four shapes each
+# make bench      times the lexer and the parser on 1 MiB of source in four shapes each, and packages at their limits
 # make install    copies the program to $(PREFIX)/bin
 PREFIX ?= /usr/local
 JOBS ?= 1
@@ -29,6 +29,7 @@ memory: | toolchain
 bench: | toolchain
 	cd crates/cs_bench && rt run < stdin > /dev/null
 	sh bench/front.sh crates/cs_bench/out/cs_bench
+	sh bench/packages.sh crates/cs_bench/out/cs_bench
 
 install: bin/cue2schema
 	install -D -m 755 bin/cue2schema $(DESTDIR)$(PREFIX)/bin/cue2schema

@@ -5,9 +5,7 @@
 # usage: front.sh PROGRAM, which takes `lex` or `parse` and how many times the source on standard input
 set -eu
 
-program=$1
-folder=$(mktemp -d)
-trap 'rm -rf "$folder"' EXIT
+. "$(dirname "$0")/timing.sh"
 
 # The whole lines of a shape up to so many bytes.
 source_of() { # shape bytes
@@ -22,19 +20,6 @@ source_of() { # shape bytes
         if (shape == "nested")       { line = "#Deep: "; for (i = 0; i < 26; i++) line = line "{a: "; line = line "1"; for (i = 0; i < 26; i++) line = line "}" }
         for (n = length(line) + 1; n <= size; n += length(line) + 1) print line
     }'
-}
-
-# The nanoseconds of one pass over a source: the least of five means, since other work on the machine only adds.
-time_of() { # source step times
-    best=
-    for _ in 1 2 3 4 5; do
-        begin=$(date +%s%N)
-        "$program" "$2" "$3" < "$1" > /dev/null
-        end=$(date +%s%N)
-        taken=$(((end - begin) / $3))
-        if [ -z "$best" ] || [ "$taken" -lt "$best" ]; then best=$taken; fi
-    done
-    echo "$best"
 }
 
 # A line for a shape.

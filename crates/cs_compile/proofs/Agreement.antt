@@ -8,7 +8,8 @@ use Rattle.cs_resolve.specs.Expression as cue
 use Rattle.cs_resolve.specs.Expression.{Expression, Expressions, operands, Kind, int, number, string, bool, Relation, less, at_most, more, at_least}
 use Rattle.cs_resolve.specs.Environment.{Environment, bodies}
 use Rattle.cs_instance.specs.Instance.{IsInstance, Rule, node, definition}
-use Rattle.cs_compile.specs.Translation.{schema_of, schemas_of, body_schemas, definition_schema, IsTaken, AreTaken, AllTaken}
+use Rattle.cs_instance.specs.Taken.{IsTaken, AreTaken, AllTaken}
+use Rattle.cs_compile.specs.Translation.{schema_of, schemas_of, body_schemas, definition_schema}
 
 and_turned : (a b : Bool) → (a && (b && true)) ≡ (b && a)
 and_turned true true = refl

@@ -7,7 +7,8 @@ use Rattle.std.proofs.lemmas.Slice.Eq.{bytes_eq-Decides}
 use Rattle.cs_doc.specs.Document.{Document, Members, no_members, member, entries, under, put}
 use Rattle.cs_resolve.specs.Expression.{Expression}
 use Rattle.cs_resolve.specs.Environment.{Environment, bodies}
-use Rattle.cs_compile.specs.Translation.{definition_schema, AllTaken}
+use Rattle.cs_instance.specs.Taken.{AllTaken}
+use Rattle.cs_compile.specs.Translation.{definition_schema}
 use Rattle.cs_compile.specs.Whole.{IsDefinition, AreDefinitions}
 
 module _ (E : Environment) (k : List ℕ) (bs : List Expression) (has : bodies E k ≡ Some bs) (taken : AllTaken bs) where

@@ -5,6 +5,5 @@ pub mod Depths
 pub mod NameCodes
 pub mod Names
 pub mod Root
-pub mod Shapes
 pub mod Slots
 pub mod Visited

@@ -58,24 +58,6 @@ abbrev pub definition_schema : List Expression → Document
 definition_schema (e ∷ []) = schema_of e
 definition_schema es = object (all_of (body_schemas es))
 
--- the forms that are taken so far
-abbrev mutual
-  pub IsTaken : Expression → Type 0
-  IsTaken (cue.integer n) = Unit {0}
-  IsTaken (cue.kind k) = Unit {0}
-  IsTaken (cue.range least greatest) = Unit {0}
-  IsTaken (cue.bound r n) = Unit {0}
-  IsTaken (cue.conjunction es) = AreTaken es
-  IsTaken _ = ⊥
-
-  pub AreTaken : Expressions → Type 0
-  AreTaken cue.no_expressions = Unit {0}
-  AreTaken (cue.expression e es) = IsTaken e × AreTaken es
-
-abbrev pub AllTaken : List Expression → Type 0
-AllTaken [] = Unit {0}
-AllTaken (e ∷ es) = IsTaken e × AllTaken es
-
 -- a name without the `#` that CUE writes before it
 abbrev pub bare_name : List ℕ → List ℕ
 bare_name [] = []

@@ -11,7 +11,8 @@ use Rattle.cs_schema.specs.Keywords.{reference_start, defined}
 use Rattle.cs_schema.specs.SchemaDocument.{SchemaValue, document_of, schema_view, definitions_view}
 use Rattle.cs_schema.specs.Validity.{IsValidity}
 use Rattle.cs_schema.specs.declared.schema.Schema.{Schema}
-use Rattle.cs_compile.specs.Translation.{definition_schema, AllTaken}
+use Rattle.cs_instance.specs.Taken.{AllTaken}
+use Rattle.cs_compile.specs.Translation.{definition_schema}
 
 -- a schema that refers to the definition n alone (JSON Schema Core 2020-12, section 8.2.3.1)
 abbrev pub reference_to : List ℕ → Document

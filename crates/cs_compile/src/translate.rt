@@ -1,7 +1,8 @@
 // The schema of each form of expression.
-ghost use Rattle.std.specs.Prelude.{◌≡◌, IfOk, IsOkUnless, codes, map};
+ghost use Rattle.std.specs.Prelude.{◌≡◌, ℕ, List, IfOk, IsOkUnless, codes, map};
 ghost use Rattle.cs_doc.specs.Document.{object, member, integer};
 ghost use Rattle.cs_resolve.specs.View.{expression_of, kind_of, relation_of};
+ghost use Rattle.cs_instance.specs.Taken.{IsTaken, AllTaken};
 ghost use Rattle.cs_schema.specs.SchemaDocument.{schema_view, kind_name};
 ghost use Rattle.cs_compile.specs.Translation.{schema_of, definition_schema, all_of, body_schemas, of_type, type_name, range_keywords, limit_name};
 
@@ -17,8 +18,9 @@ use std::alloc::Global;
 
 /// The schema of a definition: that of its one body, or `allOf` of those of its bodies in order.
 pub(crate) fn definition_schema(alloc: Global, bodies: &[Shape]) -> Result<Schema, CompileFault>
-    ensures value { IfOk result
-        (λ s. schema_view s ≡ definition_schema (map expression_of bodies.now)) }
+    requires { (ns : List (List ℕ)) × AllTaken (map (expression_of ns) bodies.now) }
+    ensures value { (ns : List (List ℕ)) → IfOk result
+        (λ s. schema_view s ≡ definition_schema (map (expression_of ns) bodies.now)) }
     ensures memory { IsOkUnless result CompileFault.OutOfMemory }
 {
     match bodies {
@@ -30,7 +32,8 @@ pub(crate) fn definition_schema(alloc: Global, bodies: &[Shape]) -> Result<Schem
 /// The schema that admits the documents that the expression admits.
 #[cycle(translate)]
 fn schema_of(alloc: Global, shape: &Shape) -> Result<Schema, CompileFault>
-    ensures value { IfOk result (λ s. schema_view s ≡ schema_of (expression_of shape.now)) }
+    requires { (ns : List (List ℕ)) × IsTaken (expression_of ns shape.now) }
+    ensures value { (ns : List (List ℕ)) → IfOk result (λ s. schema_view s ≡ schema_of (expression_of ns shape.now)) }
     ensures memory { IsOkUnless result CompileFault.OutOfMemory }
 {
     match shape {
@@ -39,14 +42,16 @@ fn schema_of(alloc: Global, shape: &Shape) -> Result<Schema, CompileFault>
         Shape::Range { least, greatest } => range(alloc, *least, *greatest),
         Shape::Bound { relation, limit } => bound(alloc, *relation, *limit),
         Shape::And(operands) => all_of(alloc, operands),
+        _ => unreachable!(),
     }
 }
 
 /// What all of the operands ask.
 #[cycle(translate)]
 fn all_of(alloc: Global, operands: &[Shape]) -> Result<Schema, CompileFault>
-    ensures value { IfOk result
-        (λ s. schema_view s ≡ object (all_of (body_schemas (map expression_of operands.now)))) }
+    requires { (ns : List (List ℕ)) × AllTaken (map (expression_of ns) operands.now) }
+    ensures value { (ns : List (List ℕ)) → IfOk result
+        (λ s. schema_view s ≡ object (all_of (body_schemas (map (expression_of ns) operands.now)))) }
     ensures memory { IsOkUnless result CompileFault.OutOfMemory }
 {
     let mut members = Vec::with_capacity(alloc, operands.len())?;

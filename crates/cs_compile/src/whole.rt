@@ -3,6 +3,7 @@ ghost use Rattle.std.specs.Prelude.{◌≡◌, ℕ, List, IfOk, IsErrOf, IsOkUnl
 ghost use Rattle.cs_doc.specs.Document.{under};
 ghost use Rattle.cs_doc.specs.View.{members_of};
 ghost use Rattle.cs_resolve.specs.Environment.{bodies, Names};
+ghost use Rattle.cs_instance.specs.Taken.{IsTakenPackage};
 ghost use Rattle.cs_schema.specs.SchemaDocument.{schema_view, definitions_view};
 ghost use Rattle.cs_compile.specs.Translation.{definition_schema, bare_name};
 ghost use Rattle.cs_compile.specs.Whole.{Compiles, reference_to, definition_entries, AreDefinitions};
@@ -21,6 +22,7 @@ use std::collections::BTreeMap;
 ///
 /// `UnknownRoot` where the package has no such definition.
 pub fn compile(alloc: Global, package: &Guarded, root: &str) -> Result<SchemaDoc, CompileFault>
+    requires { IsTakenPackage «package».now }
     ensures found { IfOk result (λ s. (n : List ℕ) × Names «package».now root.now n × Compiles «package».now n s) }
     ensures unknown { IsErrOf result CompileFault.UnknownRoot → (n : List ℕ) → ¬ Names «package».now root.now n }
 {
@@ -47,6 +49,7 @@ fn reference(alloc: Global, name: &str) -> Result<Schema, CompileFault>
 
 /// The schema of each definition, by its name.
 fn definitions(alloc: Global, package: &Package) -> Result<BTreeMap<String, Schema>, CompileFault>
+    requires { IsTakenPackage «package».now }
     ensures each { IfOk result (λ m. (n : List ℕ) → under n (definition_entries m.entries)
         ≡ option_map definition_schema (bodies «package».now n)) }
     ensures alone { IfOk result (λ m. AreDefinitions «package».now (members_of (definitions_view m.entries))) }

@@ -6,14 +6,15 @@ use Rattle.std.specs.Str.{bytes_eq}
 use Rattle.std.proofs.lemmas.List.{get_or_read_under}
 use Rattle.std.proofs.lemmas.Option.{IfSome_then}
 use Rattle.cs_resolve.specs.Environment.{Environment, bodies, name_at, bodies_at}
-use Rattle.cs_guard.specs.References.{strong, strong_of}
+use Rattle.cs_guard.specs.References.{strong, strong_of, RefersStrongly}
+use Rattle.cs_guard.specs.Chains.{NoCycle, most_references}
 use Rattle.cs_guard.specs.Guarded.{Chain, IsGuarded, IsHeight}
 use Rattle.cs_guard.specs.Ranks.{AreRanks}
 
 -- a definition is higher than each one that it refers to strongly
-pub height-falls : (E : Environment) (n m : List ℕ) (h k : ℕ) → IsHeight E n h → Contains (strong_of E n) m → IsHeight E m k → k < h
+pub height-falls : (E : Environment) (n m : List ℕ) (h k : ℕ) → IsHeight E n h → RefersStrongly E n m → IsHeight E m k → k < h
 height-falls E n m h k high refers low =
-    let longer = high.longest (m ∷ low.chain) (refers, low.begins) in
+    let longer = high.longest (m ∷ low.steps) (refers, low.chain) in
     omega (arith, longer, low.long)
 
 no_element : {X : Type 0} (xs : List X) (x : X) → xs ≡ [] → Contains xs x → ⊥
@@ -28,16 +29,16 @@ module _ (E : Environment) (alone : (n : List ℕ) → strong_of E n ≡ []) whe
   pub alone-guarded : IsGuarded E
   alone-guarded = record { no_cycle = cycle; short = chain }
     where
-      cycle : (n : List ℕ) (ns : List (List ℕ)) → Chain E n (ns ++ n ∷ []) → ⊥
+      cycle : NoCycle (RefersStrongly E)
       cycle n [] c = no_chain n n [] c
       cycle n (m ∷ ns) c = no_chain n m (ns ++ n ∷ []) c
 
-      chain : (n : List ℕ) (ns : List (List ℕ)) → Chain E n ns → length ns ≤ 64
+      chain : (n : List ℕ) (ns : List (List ℕ)) → Chain E n ns → length ns ≤ most_references
       chain n [] c = omega arith
       chain n (m ∷ ns) c = absurd (no_chain n m ns c)
 
   pub alone-height : (n : List ℕ) → IsHeight E n 0
-  alone-height n = record { chain = []; begins = tt; long = refl; longest = longest }
+  alone-height n = record { steps = []; chain = tt; long = refl; longest = longest }
     where
       longest : (ns : List (List ℕ)) → Chain E n ns → length ns ≤ 0
       longest [] c = omega arith

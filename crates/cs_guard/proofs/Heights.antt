@@ -4,7 +4,7 @@ use Rattle.std.proofs.Math.ListN.{get_or-append}
 use Rattle.std.proofs.Math.Seq.{get_or-append_seam}
 use Rattle.std.proofs.lemmas.List.{append-nil, take_all, drop_all}
 use Rattle.std.proofs.lemmas.Option.{slice_get_within}
-use Rattle.cs_guard.specs.Chains.{IsHeight}
+use Rattle.cs_guard.specs.Chains.{IsHeight, most_references}
 use Rattle.cs_guard.specs.Graph.{Graph, Refers}
 use Rattle.cs_guard.specs.Walk.{State, Keeps, Deep}
 use Rattle.cs_guard.specs.declared.walk.Mark.{Mark}
@@ -25,11 +25,11 @@ done_more M N hs new n h long grown kept before at k l = elim (same_or k n) [
     below_or (suc k) zero ne l = absurd (omega arith)
     below_or (suc k) (suc n) ne l = let r = below_or k n (λ e. ne (ap suc e)) (omega arith) in omega arith
 
-pub deep_more : (G : Graph) (d : Bool) (hs : List ℕ) (h : ℕ) → Deep G d hs → h ≤ 64 → Deep G d (hs ++ h ∷ [])
+pub deep_more : (G : Graph) (d : Bool) (hs : List ℕ) (h : ℕ) → Deep G d hs → h ≤ most_references → Deep G d (hs ++ h ∷ [])
 deep_more G true hs h s l = s
 deep_more G false hs h s l = low hs s
   where
-    low : (hs : List ℕ) → ((n : ℕ) → get_or hs n 0 ≤ 64) → (n : ℕ) → get_or (hs ++ h ∷ []) n 0 ≤ 64
+    low : (hs : List ℕ) → ((n : ℕ) → get_or hs n 0 ≤ most_references) → (n : ℕ) → get_or (hs ++ h ∷ []) n 0 ≤ most_references
     low [] s zero = l
     low [] s (suc n) = omega arith
     low (x ∷ xs) s zero = s zero

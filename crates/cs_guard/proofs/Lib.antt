@@ -1,8 +1,10 @@
 pub mod Chains
-pub mod Shapes
 pub mod Places
 pub mod Paths
 pub mod Turning
 pub mod Marks
 pub mod Heights
 pub mod Numbers
+pub mod Pushes
+pub mod GraphRows
+pub mod Samples

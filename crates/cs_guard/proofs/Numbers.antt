@@ -9,19 +9,18 @@ use Rattle.std.proofs.lemmas.Slice.Eq.{bytes_eq-Decides}
 use Rattle.std.proofs.Math.ListN.{length-map}
 use Rattle.std.proofs.lemmas.List.{map-append}
 use Rattle.cs_resolve.specs.Expression.{Expression}
-use Rattle.cs_resolve.specs.Environment.{Environment, bodies, name_at}
-use Rattle.cs_guard.specs.References.{strong, strong_of}
-use Rattle.cs_guard.specs.Guarded as by_name
+use Rattle.cs_resolve.specs.Environment.{Environment, declared_names, bodies, name_at}
+use Rattle.cs_guard.specs.References.{strong, strong_of, RefersStrongly}
 use Rattle.cs_guard.specs.Ranks.{AreRanks}
 use Rattle.cs_guard.specs.Cycles as refused
-use Rattle.cs_guard.specs.Chains.{On, Distinct, Chain, NoCycle, LongChain, IsGuarded, IsHeight}
+use Rattle.cs_guard.specs.Chains.{On, Distinct, Chain, NoCycle, IsGuarded, IsTooDeep, IsHeight, most_references}
 use Rattle.cs_guard.specs.Graph.{Graph, Refers, IsLowestFirst, IsLowestCycle, AreHeights}
-use Rattle.cs_guard.specs.Numbered.{names, name_of, IsGraphOf}
+use Rattle.cs_guard.specs.Numbered.{name_of, IsGraphOf}
 use Rattle.cs_guard.proofs.Places.{on_left, on_end}
 
 -- ---- what stands in a list
 
-on_contains : {X : Type 0} (x : X) (xs : List X) → On x xs → Contains xs x
+pub on_contains : {X : Type 0} (x : X) (xs : List X) → On x xs → Contains xs x
 on_contains x [] o = absurd o
 on_contains x (y ∷ xs) (inl e) = (0, omega arith, sym e)
 on_contains x (y ∷ xs) (inr o) = let c = on_contains x xs o in (suc c.0, (let l = c.1 in omega arith), c.2)
@@ -46,7 +45,7 @@ map_on f y (x ∷ xs) (inr o) = let r = map_on f y xs o in (r.0, inr r.1, r.2)
 
 -- ---- names and numbers
 
-name_within : (E : Environment) (i : ℕ) → i < length E → name_at E i ≡ Some (name_of E i)
+pub name_within : (E : Environment) (i : ℕ) → i < length E → name_at E i ≡ Some (name_of E i)
 name_within [] i l = absurd (omega arith)
 name_within (d ∷ E) zero l = refl
 name_within (d ∷ E) (suc i) l = name_within E i (omega arith)
@@ -66,25 +65,25 @@ number_of (d ∷ E) n bs e = by (bytes_eq n d.0) refl (number_of E n bs) e
     by false q later e = let r = later e in (suc r.0, r.1)
 
 -- what refers to anything has a number
-referring : (E : Environment) (n m : List ℕ) → Contains (strong_of E n) m → (i : ℕ) × (name_at E i ≡ Some n)
+referring : (E : Environment) (n m : List ℕ) → RefersStrongly E n m → (i : ℕ) × (name_at E i ≡ Some n)
 referring E n m c = by (bodies E n) refl c
   where
     by : (o : Option (List Expression)) → bodies E n ≡ o → Contains (flat_map strong (unwrap_or o [])) m → (i : ℕ) × (name_at E i ≡ Some n)
     by None e c = absurd (contains_on m [] c)
     by (Some bs) e c = number_of E n bs e
 
-differs : (n : List ℕ) (E : Environment) (i : ℕ) → AllByRecursion (λ y. bytes_eq n y ≡ false) (names E) → name_at E i ≡ Some n → ⊥
+differs : (n : List ℕ) (E : Environment) (i : ℕ) → AllByRecursion (λ y. bytes_eq n y ≡ false) (declared_names E) → name_at E i ≡ Some n → ⊥
 differs n [] i h e = cc
 differs n (d ∷ E) zero h e = let yes : bytes_eq n d.0 ≡ true = (bytes_eq-Decides n d.0).1 (sym (same_Some d.0 n e)) in let no : bytes_eq n d.0 ≡ false = h.0 in cc
 differs n (d ∷ E) (suc i) h e = differs n E i h.1 e
 
 -- where names are distinct, each has one number
-one_number : (E : Environment) (n : List ℕ) (i j : ℕ) → IsDistinct bytes_eq (names E) → name_at E i ≡ Some n → name_at E j ≡ Some n → i ≡ j
+one_number : (E : Environment) (n : List ℕ) (i j : ℕ) → IsDistinct bytes_eq (declared_names E) → name_at E i ≡ Some n → name_at E j ≡ Some n → i ≡ j
 one_number [] n i j d a b = cc
 one_number (x ∷ E) n zero zero d a b = refl
-one_number (x ∷ E) n zero (suc j) d a b = absurd (differs n E j (subst (λ y. AllByRecursion (λ z. bytes_eq y z ≡ false) (names E)) (same_Some x.0 n a) (IsDistinct-head bytes_eq x.0 (names E) d)) b)
-one_number (x ∷ E) n (suc i) zero d a b = absurd (differs n E i (subst (λ y. AllByRecursion (λ z. bytes_eq y z ≡ false) (names E)) (same_Some x.0 n b) (IsDistinct-head bytes_eq x.0 (names E) d)) a)
-one_number (x ∷ E) n (suc i) (suc j) d a b = ap suc (one_number E n i j (IsDistinct-tail bytes_eq x.0 (names E) d) a b)
+one_number (x ∷ E) n zero (suc j) d a b = absurd (differs n E j (subst (λ y. AllByRecursion (λ z. bytes_eq y z ≡ false) (declared_names E)) (same_Some x.0 n a) (IsDistinct-head bytes_eq x.0 (declared_names E) d)) b)
+one_number (x ∷ E) n (suc i) zero d a b = absurd (differs n E i (subst (λ y. AllByRecursion (λ z. bytes_eq y z ≡ false) (declared_names E)) (same_Some x.0 n b) (IsDistinct-head bytes_eq x.0 (declared_names E) d)) a)
+one_number (x ∷ E) n (suc i) (suc j) d a b = ap suc (one_number E n i j (IsDistinct-tail bytes_eq x.0 (declared_names E) d) a b)
 
 none_distinct : IsDistinct bytes_eq []
 unfolding IsDistinct
@@ -93,77 +92,70 @@ none_distinct = tt
 -- ---- chains
 
 module _ (E : Environment) (G : Graph) (is : IsGraphOf E G) where
-  pub along : (i j : ℕ) → Refers G i j → Contains (strong_of E (name_of E i)) (name_of E j)
+  along : (i j : ℕ) → Refers G i j → RefersStrongly E (name_of E i) (name_of E j)
   along i j r = on_contains (name_of E j) (strong_of E (name_of E i)) (subst (On (name_of E j)) (is.rows i r.row r.found) (on_map (name_of E) j r.row r.on))
 
-  pub back : (i : ℕ) (m : List ℕ) → i < length E → Contains (strong_of E (name_of E i)) m → (j : ℕ) × Refers G i j × (name_of E j ≡ m)
-  back i m l c =
-      let row = get_or G i [] in
-      let found : slice_get G i ≡ Some row = slice_get-get_or G i [] (omega (arith, is.long)) in
-      let o = map_on (name_of E) m row (subst (On m) (sym (is.rows i row found)) (contains_on m (strong_of E (name_of E i)) c)) in
-      (o.0, record { row = row; found = found; on = o.1 }, o.2)
-
-  inside : (i j : ℕ) → Refers G i j → j < length E
+  pub inside : (i j : ℕ) → Refers G i j → j < length E
   inside i j r = let l = is.within i j r in omega (arith, is.long)
 
-  chain_along : (i : ℕ) (js : List ℕ) → Chain (Refers G) i js → by_name.Chain E (name_of E i) (map (name_of E) js)
+  -- what a number's name refers to has a number that it refers to
+  back : (i : ℕ) (n m : List ℕ) → name_at E i ≡ Some n → RefersStrongly E n m → (j : ℕ) × Refers G i j × (name_at E j ≡ Some m)
+  back i n m at c =
+      let row = get_or G i [] in
+      let found : slice_get G i ≡ Some row = slice_get-get_or G i [] (let l = named_within E i n at in omega (arith, is.long)) in
+      let names : map (name_of E) row ≡ strong_of E n = is.rows i row found ∙ ap (λ o. strong_of E (unwrap_or o [])) at in
+      let o = map_on (name_of E) m row (subst (On m) (sym names) (contains_on m (strong_of E n) c)) in
+      let r : Refers G i o.0 = record { row = row; found = found; on = o.1 } in
+      (o.0, r, name_within E o.0 (inside i o.0 r) ∙ ap Some o.2)
+
+  pub chain_along : (i : ℕ) (js : List ℕ) → Chain (Refers G) i js → Chain (RefersStrongly E) (name_of E i) (map (name_of E) js)
   chain_along i [] c = tt
   chain_along i (j ∷ js) c = (along i j c.0, chain_along j js c.1)
 
-  chain_back : (i : ℕ) (ms : List (List ℕ)) → i < length E → by_name.Chain E (name_of E i) ms → (js : List ℕ) × Chain (Refers G) i js × (length js ≡ length ms)
-  chain_back i [] l c = ([], tt, refl)
-  chain_back i (m ∷ ms) l c =
-      let r = back i m l c.0 in
-      let next = chain_back r.0 ms (inside i r.0 r.1) (subst (λ n. by_name.Chain E n ms) (sym r.2) c.1) in
+  chain_back : (i : ℕ) (n : List ℕ) (ms : List (List ℕ)) → name_at E i ≡ Some n → Chain (RefersStrongly E) n ms → (js : List ℕ) × Chain (Refers G) i js × (length js ≡ length ms)
+  chain_back i n [] at c = ([], tt, refl)
+  chain_back i n (m ∷ ms) at c =
+      let r = back i n m at c.0 in
+      let next = chain_back r.0 m ms r.2 c.1 in
       (r.0 ∷ next.0, (r.1, next.1), ap suc next.2)
 
   -- a chain up to a name, as one up to a number of that name
-  upto_back : (i : ℕ) (ms : List (List ℕ)) (m : List ℕ) → i < length E → by_name.Chain E (name_of E i) (ms ++ m ∷ []) → (js : List ℕ) × (j : ℕ) × Chain (Refers G) i (js ++ j ∷ []) × (j < length E) × (name_of E j ≡ m)
-  upto_back i [] m l c = let r = back i m l c.0 in ([], r.0, (r.1, tt), inside i r.0 r.1, r.2)
-  upto_back i (n ∷ ms) m l c =
-      let r = back i n l c.0 in
-      let next = upto_back r.0 ms m (inside i r.0 r.1) (subst (λ k. by_name.Chain E k (ms ++ m ∷ [])) (sym r.2) c.1) in
-      (r.0 ∷ next.0, next.1, (r.1, next.2), next.3, next.4)
+  pub upto_back : (i : ℕ) (n m : List ℕ) (ms : List (List ℕ)) → name_at E i ≡ Some n → Chain (RefersStrongly E) n (ms ++ m ∷ []) → (js : List ℕ) × (j : ℕ) × Chain (Refers G) i (js ++ j ∷ []) × (name_at E j ≡ Some m)
+  upto_back i n m [] at c = let r = back i n m at c.0 in ([], r.0, (r.1, tt), r.2)
+  upto_back i n m (o ∷ ms) at c =
+      let r = back i n o at c.0 in
+      let next = upto_back r.0 o m ms r.2 c.1 in
+      (r.0 ∷ next.0, next.1, (r.1, next.2), next.3)
 
-  pub height_by_name : (i : ℕ) (n : List ℕ) (h : ℕ) → name_at E i ≡ Some n → IsHeight (Refers G) i h → by_name.IsHeight E n h
-  height_by_name i n h at high =
-      let l = named_within E i n at in
-      let same : name_of E i ≡ n = ap (λ o. unwrap_or o []) at in
-      let of : by_name.IsHeight E (name_of E i) h = record {
-        chain = map (name_of E) high.steps;
-        begins = chain_along i high.steps high.chain;
-        long = length-map high.steps (name_of E) ∙ high.long;
-        longest = λ ns c. let b = chain_back i ns l c in let top = high.longest b.0 b.1 in omega (arith, b.2);
-      } in
-      subst (λ m. by_name.IsHeight E m h) same of
+  pub height_by_name : (i : ℕ) (n : List ℕ) (h : ℕ) → name_at E i ≡ Some n → IsHeight (Refers G) i h → IsHeight (RefersStrongly E) n h
+  height_by_name i n h at high = record {
+    steps = map (name_of E) high.steps;
+    chain = subst (λ o. Chain (RefersStrongly E) (unwrap_or o []) (map (name_of E) high.steps)) at (chain_along i high.steps high.chain);
+    long = length-map high.steps (name_of E) ∙ high.long;
+    longest = λ ns c. let b = chain_back i n ns at c in let top = high.longest b.0 b.1 in omega (arith, b.2);
+  }
 
-  pub short_by_name : ((i : ℕ) (js : List ℕ) → Chain (Refers G) i js → length js ≤ 64) → (n : List ℕ) (ns : List (List ℕ)) → by_name.Chain E n ns → length ns ≤ 64
+  pub short_by_name : ((i : ℕ) (js : List ℕ) → Chain (Refers G) i js → length js ≤ most_references) → (n : List ℕ) (ns : List (List ℕ)) → Chain (RefersStrongly E) n ns → length ns ≤ most_references
   short_by_name short n [] c = omega arith
   short_by_name short n (m ∷ ms) c =
       let at = referring E n m c.0 in
-      let same : name_of E at.0 ≡ n = ap (λ o. unwrap_or o []) at.1 in
-      let b = chain_back at.0 (m ∷ ms) (named_within E at.0 n at.1) (subst (λ k. by_name.Chain E k (m ∷ ms)) (sym same) c) in
+      let b = chain_back at.0 n (m ∷ ms) at.1 c in
       let s = short at.0 b.0 b.1 in
       let long = b.2 in omega arith
 
-module _ (E : Environment) (G : Graph) (is : IsGraphOf E G) (once : IsDistinct bytes_eq (names E)) where
-  same_number : (i j : ℕ) → i < length E → j < length E → name_of E i ≡ name_of E j → i ≡ j
-  same_number i j k l e = one_number E (name_of E j) i j once (name_within E i k ∙ ap Some e) (name_within E j l)
+-- what begins a chain has a number
+beginning : (E : Environment) (n m : List ℕ) (ns : List (List ℕ)) → Chain (RefersStrongly E) n (ns ++ m ∷ []) → (i : ℕ) × (name_at E i ≡ Some n)
+beginning E n m [] c = referring E n m c.0
+beginning E n m (o ∷ ns) c = referring E n o c.0
 
-  pub no_cycle_by_name : NoCycle (Refers G) → (n : List ℕ) (ns : List (List ℕ)) → by_name.Chain E n (ns ++ n ∷ []) → ⊥
+module _ (E : Environment) (G : Graph) (is : IsGraphOf E G) (once : IsDistinct bytes_eq (declared_names E)) where
+  no_cycle_by_name : NoCycle (Refers G) → NoCycle (RefersStrongly E)
   no_cycle_by_name none n ns c =
-      let at = elim ns as (λ ms. by_name.Chain E n (ms ++ n ∷ []) → (i : ℕ) × (name_at E i ≡ Some n)) [
-        | [] ↦ λ d. referring E n n d.0
-        | m ∷ ms ↦ λ d. referring E n m d.0
-      ] in
-      let i = (at c).0 in
-      let l = named_within E i n (at c).1 in
-      let same : name_of E i ≡ n = ap (λ o. unwrap_or o []) (at c).1 in
-      let b = upto_back E G is i ns n l (subst (λ k. by_name.Chain E k (ns ++ n ∷ [])) (sym same) c) in
-      let returns : b.1 ≡ i = same_number b.1 i b.3 l (b.4 ∙ sym same) in
-      none i b.0 (subst (λ k. Chain (Refers G) i (b.0 ++ k ∷ [])) returns b.2)
+      let at = beginning E n n ns c in
+      let b = upto_back E G is at.0 n n ns at.1 c in
+      none at.0 b.0 (subst (λ k. Chain (Refers G) at.0 (b.0 ++ k ∷ [])) (one_number E n b.1 at.0 once b.3 at.1) b.2)
 
-  pub guarded_by_name : IsGuarded (Refers G) → by_name.IsGuarded E
+  guarded_by_name : IsGuarded (Refers G) → IsGuarded (RefersStrongly E)
   guarded_by_name g = record { no_cycle = no_cycle_by_name g.no_cycle; short = short_by_name E G is g.short }
 
   -- heights by numbers are the ranks of the definitions
@@ -174,14 +166,16 @@ module _ (E : Environment) (G : Graph) (is : IsGraphOf E G) (once : IsDistinct b
     heights = λ i n at. height_by_name E G is i n (get_or hs i 0) at (h.each i (let l = named_within E i n at in omega (arith, is.long)));
   }
 
-  pub too_deep_by_name : NoCycle (Refers G) → LongChain (Refers G) → refused.IsTooDeep E
-  too_deep_by_name none c = record {
-    no_cycle = no_cycle_by_name none;
-    start = name_of E c.start;
-    steps = map (name_of E) c.steps;
-    chain = chain_along E G is c.start c.steps c.chain;
-    long = let l = c.long in omega (arith, length-map c.steps (name_of E));
-  }
+  pub too_deep_by_name : IsTooDeep (Refers G) → IsTooDeep (RefersStrongly E)
+  too_deep_by_name d = (
+    no_cycle_by_name d.0,
+    record {
+      start = name_of E d.1.start;
+      steps = map (name_of E) d.1.steps;
+      chain = chain_along E G is d.1.start d.1.steps d.1.chain;
+      long = let l = d.1.long in omega (arith, length-map d.1.steps (name_of E));
+    },
+  )
 
   -- ---- a cycle
 
@@ -196,7 +190,7 @@ module _ (E : Environment) (G : Graph) (is : IsGraphOf E G) (once : IsDistinct b
     where
       by : (b : Bool) → bytes_eq (name_of E i) (name_of E j) ≡ b → b ≡ false
       by false q = refl
-      by true q = absurd (h (inl (same_number i j l (in_E j (inl refl)) ((bytes_eq-Decides (name_of E i) (name_of E j)).0 q))))
+      by true q = absurd (h (inl (one_number E (name_of E j) i j once (name_within E i l ∙ ap Some ((bytes_eq-Decides (name_of E i) (name_of E j)).0 q)) (name_within E j (in_E j (inl refl))))))
 
   distinct_by_name : (js : List ℕ) → ((j : ℕ) → On j js → j < length E) → Distinct js → IsDistinct bytes_eq (map (name_of E) js)
   distinct_by_name [] in_E d = none_distinct
@@ -211,14 +205,27 @@ module _ (E : Environment) (G : Graph) (is : IsGraphOf E G) (once : IsDistinct b
       let least = low o.0 o.1 in
       omega (arith, first, other, least)
 
+  -- the numbers of a cycle are those of definitions
+  pub cycle_inside : (js : List ℕ) → IsLowestCycle G js → (j : ℕ) → On j js → j < length E
+  cycle_inside [] c = absurd c.cycle.0
+  cycle_inside (i ∷ js) c = λ j o.
+      let all = all_inside i (js ++ i ∷ []) c.cycle.0 in
+      elim o as (λ _. j < length E) [ inl e ↦ subst (λ m. m < length E) (sym e) (all i (on_end i js)) | inr o' ↦ all j (on_left j js (i ∷ []) o') ]
+
   pub cycle_by_name : (js : List ℕ) → IsLowestCycle G js → refused.IsCycle E (map (name_of E) js)
-  cycle_by_name [] c = absurd c.cycle
+  cycle_by_name [] c = absurd c.cycle.0
   cycle_by_name (i ∷ js) c =
-      let round = c.cycle.0 in
-      let all = all_inside i (js ++ i ∷ []) round in
-      let l = all i (on_end i js) in
-      let in_E = λ (j : ℕ) (o : On j (i ∷ js)). elim o as (λ _. j < length E) [ inl e ↦ subst (λ m. m < length E) (sym e) l | inr o' ↦ all j (on_left j js (i ∷ []) o') ] in record {
-        closed = subst (by_name.Chain E (name_of E i)) (map-append (name_of E) js (i ∷ [])) (chain_along E G is i (js ++ i ∷ []) round);
+      let in_E = cycle_inside (i ∷ js) c in record {
+        closed = subst (Chain (RefersStrongly E) (name_of E i)) (map-append (name_of E) js (i ∷ [])) (chain_along E G is i (js ++ i ∷ []) c.cycle.0);
         distinct = distinct_by_name (i ∷ js) in_E c.cycle.1;
-        earliest = earliest_by_name i js l (λ j o. in_E j (inr o)) c.lowest;
+        earliest = earliest_by_name i js (in_E i (inl refl)) (λ j o. in_E j (inr o)) c.lowest;
       }
+
+-- ---- what is guarded isn't refused
+
+pub guarded_no_cycle : (E : Environment) (ns : List (List ℕ)) → IsGuarded (RefersStrongly E) → refused.IsCycle E ns → ⊥
+guarded_no_cycle E [] g c = c.closed
+guarded_no_cycle E (n ∷ ns) g c = g.no_cycle n ns c.closed
+
+pub guarded_not_deep : (E : Environment) → IsGuarded (RefersStrongly E) → IsTooDeep (RefersStrongly E) → ⊥
+guarded_not_deep E g d = let c = d.1 in let most = g.short c.start c.steps c.chain in let long = c.long in omega arith

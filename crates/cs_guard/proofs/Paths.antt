@@ -4,7 +4,7 @@ use Rattle.std.proofs.Math.Numerals.{one-add}
 use Rattle.std.proofs.lemmas.Bool.Decides.{nat_tests}
 use Rattle.std.proofs.lemmas.List.{append-nil}
 use Rattle.std.specs.List.{position_or_len}
-use Rattle.cs_guard.specs.Chains.{On, Distinct, Chain, Links, IsCycle, NoCycle, IsGuarded}
+use Rattle.cs_guard.specs.Chains.{On, Distinct, Chain, Links, IsCycle, NoCycle, IsGuarded, most_references}
 use Rattle.cs_guard.specs.Graph.{IsTurned, tail_from}
 use Rattle.cs_guard.proofs.Places.{distinct_turned}
 
@@ -58,7 +58,7 @@ module _ {X : Type 0} (R : X → X → Type 0) where
 
 -- a number on the path that the path's last refers to closes a cycle
 pub closes : (R : ℕ → ℕ → Type 0) (x : ℕ) (P : List ℕ) → Links R (P ++ x ∷ []) → On x P → Distinct P → IsCycle R (tail_from x P)
-closes R x [] l o d = o
+closes R x [] l o d = absurd o
 closes R x (p ∷ ps) l o d = by (p == x) refl (λ o'. closes R x ps (links_behind R p x ps l) o' d.1)
   where
     by : (b : Bool) → (p == x) ≡ b → (On x ps → IsCycle R (tail_from x ps)) → IsCycle R (drop (cond (not b) (1 + position_or_len (λ m. m == x) ps) 0) (p ∷ ps))
@@ -79,5 +79,5 @@ module _ {X : Type 0} (R : X → X → Type 0) (rank : X → ℕ) (falls : (x y 
   no_cycle x xs c = let h = rank_below x x xs c in omega (arith, h)
 
   -- and bound the chains
-  pub guarded : ((x : X) → rank x ≤ 64) → IsGuarded R
+  pub guarded : ((x : X) → rank x ≤ most_references) → IsGuarded R
   guarded most = record { no_cycle = no_cycle; short = λ x xs c. let h = chain_short x xs c in let k = most x in omega (arith, h, k) }

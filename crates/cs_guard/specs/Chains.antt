@@ -21,25 +21,37 @@ abbrev pub Links : {X : Type 0} → (X → X → Type 0) → List X → Type 0
 Links R [] = Unit {0}
 Links R (x ∷ xs) = Chain R x xs
 
+-- each refers to the next, and the last to the first
+abbrev pub IsClosed : {X : Type 0} → (X → X → Type 0) → List X → Type 0
+IsClosed R [] = ⊥
+IsClosed R (x ∷ xs) = Chain R x (xs ++ x ∷ [])
+
 -- each refers to the next and the last to the first, and none stands twice
 abbrev pub IsCycle : {X : Type 0} → (X → X → Type 0) → List X → Type 0
-IsCycle R [] = ⊥
-IsCycle R (x ∷ xs) = Chain R x (xs ++ x ∷ []) × Distinct (x ∷ xs)
+IsCycle R xs = IsClosed R xs × Distinct xs
 
 abbrev pub NoCycle : {X : Type 0} → (X → X → Type 0) → Type 0
 NoCycle {X} R = (x : X) (xs : List X) → Chain R x (xs ++ x ∷ []) → ⊥
 
--- a chain of more than 64 references
+-- how many references a chain may have
+abbrev pub most_references : ℕ
+most_references = 64
+
+-- a chain of more references than that
 pub record LongChain {X : Type 0} (R : X → X → Type 0) : Type 0 where
   pub start : X
   pub steps : List X
   pub chain : Chain R start steps
-  pub long : 64 < length steps
+  pub long : most_references < length steps
 
--- no cycle, and no chain of more than 64 references
+-- no cycle, and no chain that is too long
 pub record IsGuarded {X : Type 0} (R : X → X → Type 0) : Type 0 where
   pub no_cycle : NoCycle R
-  pub short : (x : X) (xs : List X) → Chain R x xs → length xs ≤ 64
+  pub short : (x : X) (xs : List X) → Chain R x xs → length xs ≤ most_references
+
+-- no cycle, and a chain that is too long
+abbrev pub IsTooDeep : {X : Type 0} → (X → X → Type 0) → Type 0
+IsTooDeep R = NoCycle R × LongChain R
 
 -- the longest chain from x has this length
 pub record IsHeight {X : Type 0} (R : X → X → Type 0) (x : X) (height : ℕ) : Type 0 where

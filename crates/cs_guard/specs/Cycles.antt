@@ -1,15 +1,13 @@
 -- What is refused: cycles of strong references, and chains that are too long (CUE language specification,
 -- "Structural cycles"; the bound, and which cycle is told in which order, are own rules).
-use Rattle.std.specs.Prelude.{◌≡◌, ℕ, ◌<◌, ◌≤◌, List, [], ◌∷◌, ◌++◌, Some, length, Contains}
+use Rattle.std.specs.Prelude.{◌≡◌, ℕ, ◌≤◌, List, [], ◌∷◌, Some, map, Contains, string_bytes}
 use Rattle.std.specs.List.{IsDistinct}
 use Rattle.std.specs.Str.{bytes_eq}
-use Rattle.cs_resolve.specs.Environment.{Environment, name_at}
-use Rattle.cs_guard.specs.Guarded.{Chain}
-
--- each name refers strongly to the next, and the last to the first
-abbrev pub IsClosed : Environment → List (List ℕ) → Type 0
-IsClosed E [] = ⊥
-IsClosed E (n ∷ ns) = Chain E n (ns ++ n ∷ [])
+use Rattle.cs_resolve.specs.Environment.{Environment, name_at, written}
+use Rattle.cs_guard.specs.Chains as general
+use Rattle.cs_guard.specs.References.{RefersStrongly}
+use Rattle.cs_guard.specs.declared.fault.GuardFault.{GuardFault}
+use Rattle.cs_guard.specs.declared.fault.GuardFault.TheVariants.{OutOfMemory, Cycle, ChainTooLong}
 
 -- the first is declared before the others
 abbrev pub IsEarliestFirst : Environment → List (List ℕ) → Type 0
@@ -18,14 +16,16 @@ IsEarliestFirst E (n ∷ ns) = (i j : ℕ) (m : List ℕ) → Contains ns m → 
 
 -- a cycle of strong references, no name twice, told from the name on that is declared first
 pub record IsCycle (E : Environment) (ns : List (List ℕ)) : Type 0 where
-  pub closed : IsClosed E ns
+  pub closed : general.IsClosed (RefersStrongly E) ns
   pub distinct : IsDistinct bytes_eq ns
   pub earliest : IsEarliestFirst E ns
 
--- there is no cycle, and a chain of more than 64 strong references
-pub record IsTooDeep (E : Environment) : Type 0 where
-  pub no_cycle : (n : List ℕ) (ns : List (List ℕ)) → Chain E n (ns ++ n ∷ []) → ⊥
-  pub start : List ℕ
-  pub steps : List (List ℕ)
-  pub chain : Chain E start steps
-  pub long : 64 < length steps
+-- there is no cycle, and a chain of more strong references than may be
+abbrev pub IsTooDeep : Environment → Type 0
+IsTooDeep E = general.IsTooDeep (RefersStrongly E)
+
+-- what is refused: a cycle, told by its names as CUE writes them, or a chain that is too long where there is no cycle
+abbrev pub IsRefusal : GuardFault → Environment → Type 0
+IsRefusal OutOfMemory E = Unit {0}
+IsRefusal (Cycle texts) E = (ns : List (List ℕ)) × (map string_bytes texts.items ≡ map written ns) × IsCycle E ns
+IsRefusal ChainTooLong E = IsTooDeep E

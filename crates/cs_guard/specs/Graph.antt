@@ -2,7 +2,7 @@
 use Rattle.std.specs.Prelude.{◌≡◌, ℕ, ◌<◌, ◌≤◌, List, [], ◌∷◌, ◌++◌, Some, map, length, slice_get, get_or, drop, Vec, ◌==◌}
 use Rattle.std.specs.List.{position_or_len}
 use Rattle.std.specs.declared.alloc.Global.{Global}
-use Rattle.cs_guard.specs.Chains.{On, IsCycle, IsGuarded, IsHeight}
+use Rattle.cs_guard.specs.Chains.{On, IsCycle, IsGuarded, IsHeight, most_references}
 
 abbrev pub Graph : Type 0
 Graph = List (List ℕ)
@@ -41,10 +41,10 @@ pub record IsLowestCycle (G : Graph) (ns : List ℕ) : Type 0 where
   pub cycle : IsCycle (Refers G) ns
   pub lowest : IsLowestFirst ns
 
--- each number has its height, which is at most 64 and falls along references; so the graph is guarded
+-- each number has its height, which falls along references and is one that a chain may have; so the graph is guarded
 pub record AreHeights (G : Graph) (heights : List ℕ) : Type 0 where
   pub long : length heights ≡ length G
   pub each : (n : ℕ) → n < length G → IsHeight (Refers G) n (get_or heights n 0)
   pub falls : (n m : ℕ) → Refers G n m → get_or heights m 0 < get_or heights n 0
-  pub most : (n : ℕ) → get_or heights n 0 ≤ 64
+  pub most : (n : ℕ) → get_or heights n 0 ≤ most_references
   pub guarded : IsGuarded (Refers G)

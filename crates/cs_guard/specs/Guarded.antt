@@ -1,21 +1,17 @@
 -- Environments whose recursion is guarded (CUE language specification, "Structural cycles"; the bound is an own rule).
-use Rattle.std.specs.Prelude.{◌≡◌, ℕ, ◌≤◌, List, [], ◌∷◌, ◌++◌, length, Contains}
+use Rattle.std.specs.Prelude.{ℕ, List}
 use Rattle.cs_resolve.specs.Environment.{Environment}
-use Rattle.cs_guard.specs.References.{strong_of}
+use Rattle.cs_guard.specs.Chains as general
+use Rattle.cs_guard.specs.References.{RefersStrongly}
 
 -- from n on, each name refers strongly to the next; a chain's length is the number of its references
 abbrev pub Chain : Environment → List ℕ → List (List ℕ) → Type 0
-Chain E n [] = Unit {0}
-Chain E n (m ∷ ms) = Contains (strong_of E n) m × Chain E m ms
+Chain E = general.Chain (RefersStrongly E)
 
--- no cycle of strong references, and no chain of more than 64 of them
-pub record IsGuarded (E : Environment) : Type 0 where
-  pub no_cycle : (n : List ℕ) (ns : List (List ℕ)) → Chain E n (ns ++ n ∷ []) → ⊥
-  pub short : (n : List ℕ) (ns : List (List ℕ)) → Chain E n ns → length ns ≤ 64
+-- no cycle of strong references, and no chain of more of them than may be
+abbrev pub IsGuarded : Environment → Type 0
+IsGuarded E = general.IsGuarded (RefersStrongly E)
 
 -- the longest chain from n has this length
-pub record IsHeight (E : Environment) (n : List ℕ) (height : ℕ) : Type 0 where
-  pub chain : List (List ℕ)
-  pub begins : Chain E n chain
-  pub long : length chain ≡ height
-  pub longest : (ns : List (List ℕ)) → Chain E n ns → length ns ≤ height
+abbrev pub IsHeight : Environment → List ℕ → ℕ → Type 0
+IsHeight E = general.IsHeight (RefersStrongly E)

@@ -6,3 +6,4 @@ pub mod Graph
 pub mod Walk
 pub mod Cycles
 pub mod Numbered
+pub mod Pushed

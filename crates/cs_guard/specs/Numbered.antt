@@ -5,9 +5,6 @@ use Rattle.cs_resolve.specs.Environment.{Environment, name_at}
 use Rattle.cs_guard.specs.Graph.{Graph, Within}
 use Rattle.cs_guard.specs.References.{strong_of}
 
-abbrev pub names : Environment → List (List ℕ)
-names E = map (λ d. d.0) E
-
 -- the name of that number
 abbrev pub name_of : Environment → ℕ → List ℕ
 name_of E i = unwrap_or (name_at E i) []

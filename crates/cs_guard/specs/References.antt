@@ -1,5 +1,5 @@
 -- What a definition refers to (CUE language specification, "Structural cycles"; which references are strong is an own rule).
-use Rattle.std.specs.Prelude.{ℕ, List, [], ◌∷◌, ◌++◌, flat_map, unwrap_or}
+use Rattle.std.specs.Prelude.{ℕ, List, [], ◌∷◌, ◌++◌, flat_map, unwrap_or, Contains}
 use Rattle.cs_resolve.specs.Expression.{Expression, reference, conjunction, disjunction, struct, list, Expressions, no_expressions, expression, Declarations, no_declarations, declaration, Mark, regular, optional, required}
 use Rattle.cs_resolve.specs.Environment.{Environment, bodies}
 
@@ -42,3 +42,6 @@ abbrev mutual
 -- the names that the definition n refers to strongly, in any of its bodies
 abbrev pub strong_of : Environment → List ℕ → List (List ℕ)
 strong_of E n = flat_map strong (unwrap_or (bodies E n) [])
+
+abbrev pub RefersStrongly : Environment → List ℕ → List ℕ → Type 0
+RefersStrongly E n m = Contains (strong_of E n) m

@@ -1,7 +1,7 @@
 -- What holds while a graph is walked: each number is new, open (it stands on the path), or done.
 use Rattle.std.specs.Prelude.{◌≡◌, ℕ, ◌<◌, ◌≤◌, Bool, true, false, List, Some, Result, Ok, Err, length, slice_get, get_or, count_by, Vec}
 use Rattle.std.specs.declared.alloc.Global.{Global}
-use Rattle.cs_guard.specs.Chains.{On, Distinct, Chain, Links, NoCycle, LongChain}
+use Rattle.cs_guard.specs.Chains.{On, Distinct, Chain, Links, LongChain, IsTooDeep, most_references}
 use Rattle.cs_guard.specs.Graph.{Graph, Refers, IsLowestCycle, AreHeights}
 use Rattle.cs_guard.specs.declared.walk.Mark.{Mark}
 use Rattle.cs_guard.specs.declared.walk.Mark.TheVariants.{New, Open, Done}
@@ -64,14 +64,14 @@ Visited G M N P Q n (Err OutOfMemory) = Unit {0}
 Visited G M N P Q n (Err (Cycle v)) = IsLowestCycle G v.items
 Visited G M N P Q n (Err TooDeep) = ⊥
 
--- a chain above 64 was seen, or there is none yet
+-- a chain that is too long was seen, or there is none yet
 abbrev pub Deep : Graph → Bool → List ℕ → Type 0
 Deep G true hs = LongChain (Refers G)
-Deep G false hs = (n : ℕ) → get_or hs n 0 ≤ 64
+Deep G false hs = (n : ℕ) → get_or hs n 0 ≤ most_references
 
--- the heights; a cycle; or a chain above 64 where no cycle is
+-- the heights; a cycle; or a chain that is too long where no cycle is
 abbrev pub Answers : Graph → Result (Vec ℕ Global) WalkFault → Type 0
 Answers G (Ok v) = AreHeights G v.items
 Answers G (Err OutOfMemory) = Unit {0}
 Answers G (Err (Cycle v)) = IsLowestCycle G v.items
-Answers G (Err TooDeep) = NoCycle (Refers G) × LongChain (Refers G)
+Answers G (Err TooDeep) = IsTooDeep (Refers G)

@@ -1,13 +1,16 @@
 // A guarded package.
-ghost use Rattle.std.specs.Prelude.{◌≡◌, ◌<◌, ℕ, List, [], map, length, flat_map, Contains, IfOk, IfSome, IsOkUnless};
-ghost use Rattle.cs_resolve.specs.Environment.{name_at};
-ghost use Rattle.cs_resolve.specs.View.{expression_of};
-ghost use Rattle.cs_guard.specs.References.{strong, strong_of};
+ghost use Rattle.std.specs.Prelude.{◌≡◌, ◌<◌, ℕ, List, map, length, string_bytes, All, Contains, IfOk, IfErr, OnOk, IfSome, IsOkUnless};
+ghost use Rattle.cs_resolve.specs.Environment.{name_at, written};
+ghost use Rattle.cs_guard.specs.Numbered.{name_of};
+ghost use Rattle.cs_guard.specs.Cycles.{IsRefusal};
+ghost use Rattle.cs_guard.specs.References.{strong_of};
 ghost use Rattle.cs_guard.specs.Guarded.{IsGuarded, IsHeight};
 
 use crate::GuardFault;
-use cs_resolve::{Package, Shape};
-use std::alloc::Global;
+use crate::references::graph_of_package;
+use crate::walk::{WalkFault, heights};
+use cs_resolve::Package;
+use std::alloc::{AllocError, Global};
 use std::marker::Model;
 
 /// A package without a cycle of strong references and without a chain of more than 64 of them.
@@ -52,24 +55,38 @@ impl Guarded {
     }
 }
 
-/// The package, where its recursion is guarded.
+/// The package, where its recursion is guarded: no cycle of strong references, and no chain of more than 64 of them
+/// (CUE, structural cycles).
+///
+/// # Errors
+/// `Cycle`, with the names of a cycle as CUE writes them: each refers strongly to the next and the last to the first,
+/// no name stands twice, and the one that is declared first stands first. `ChainTooLong`, only where there is no cycle.
 pub fn guard(alloc: Global, package: Package) -> Result<Guarded, GuardFault>
-    ensures found { IfOk result (λ g. (g ≡ «package») × IsGuarded «package») }
-    ensures only { IsOkUnless result GuardFault.OutOfMemory }
+    ensures found { IfOk result (λ g. g ≡ «package») }
+    ensures guarded { OnOk result (IsGuarded «package») }
+    ensures refused { IfErr result (λ e. IsRefusal e «package») }
+    ensures only { IsGuarded «package» → IsOkUnless result GuardFault.OutOfMemory }
 {
-    let count = package.count();
-    let mut ranks = Vec::with_capacity(alloc, count)?;
-    for i in 0..count {
-        ranks.push(rank_of(package.bodies(i)))?;
+    let graph = graph_of_package(alloc, &package)?;
+    match heights(alloc, &graph) {
+        Ok(ranks) => Ok(Guarded { package, ranks }),
+        Err(WalkFault::OutOfMemory) => Err(GuardFault::OutOfMemory),
+        Err(WalkFault::Cycle { numbers }) => {
+            let names = names_of(alloc, &package, &numbers)?;
+            Err(GuardFault::Cycle { names })
+        }
+        Err(WalkFault::TooDeep) => Err(GuardFault::ChainTooLong),
     }
-    Ok(Guarded { package, ranks })
 }
 
-/// The rank of a definition with these bodies. The forms that are taken yet refer to nothing.
-fn rank_of(bodies: &[Shape]) -> usize
-    ensures zero { result ≡ 0 }
-    ensures alone { flat_map strong (map expression_of bodies.now) ≡ [] }
+/// The names of definitions, as CUE writes them.
+fn names_of(alloc: Global, package: &Package, numbers: &[usize]) -> Result<Vec<String>, AllocError>
+    requires { All (λ i. i < length «package».now) numbers.now }
+    ensures { IfOk result (λ v. map string_bytes v.items ≡ map (λ i. written (name_of «package».now i)) numbers.now) }
 {
-    let _bodies = bodies;
-    0
+    let mut names = Vec::with_capacity(alloc, numbers.len())?;
+    for number in numbers {
+        names.push(String::from_str(alloc, package.name(*number))?)?;
+    }
+    Ok(names)
 }

@@ -4,7 +4,11 @@
 mod cycle;
 mod fault;
 mod guarded;
+mod references;
 mod walk;
 
 pub use fault::GuardFault;
 pub use guarded::{Guarded, guard};
+
+#[cfg(test)]
+mod tests;

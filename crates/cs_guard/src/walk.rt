@@ -89,7 +89,7 @@ fn visit(
 }
 
 /// The height of each number. All are walked before a long chain is told of, so that a cycle comes first.
-fn heights(alloc: Global, graph: &[Vec<usize>]) -> Result<Vec<usize>, WalkFault>
+pub(crate) fn heights(alloc: Global, graph: &[Vec<usize>]) -> Result<Vec<usize>, WalkFault>
     requires { Within (graph_of graph.now) }
     ensures { Answers (graph_of graph.now) result }
 {

@@ -4,5 +4,6 @@ pub mod Parts
 pub mod Induction
 pub mod Meaning
 pub mod Shapes
+pub mod Taken
 mod Rows
 mod Doubling

@@ -7,7 +7,7 @@ use Rattle.cs_guard.specs.Guarded.{IsGuarded}
 use Rattle.cs_instance.specs.Asked.{held}
 use Rattle.cs_instance.specs.Instance.{Rule, node, asked, IsInstance, OneMeaning}
 use Rattle.cs_instance.proofs.Each.{Each, each_map, each_under}
-use Rattle.cs_instance.proofs.Parts.{children, within, within-opened, here_parts, inner_parts, held_same}
+use Rattle.cs_instance.proofs.Parts.{children, within-opened, here_parts, inner_parts, held_same}
 use Rattle.cs_instance.proofs.Induction.{guarded-induction}
 use Rattle.cs_instance.proofs.Unfolding.{unfolds_only, solution, steps, is_known, known}
 

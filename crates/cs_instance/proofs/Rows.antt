@@ -1,6 +1,6 @@
 -- Definitions of CUE with documents, each judged as it is to be. A wrong expectation, or a definition of the
 -- meaning that is turned, stops the check here.
-use Rattle.std.proofs.Common.{◌≡◌, ℕ, ℤ, pos, negsuc, neg_ℤ, Bool, true, false, ◌&&◌, List, [], ◌∷◌, Option, Some, None, map, codes, cond, refl, ap, ◌∙◌, arith, FitsSigned, w64, int_lt}
+use Rattle.std.proofs.Common.{◌≡◌, ℕ, ℤ, pos, neg_ℤ, Bool, true, false, ◌&&◌, List, [], ◌∷◌, Some, None, codes, cond, refl, ap, ◌∙◌, arith, FitsSigned, w64, int_lt}
 use Rattle.std.specs.Bool.{beq}
 use Rattle.std.specs.List.{list_all, flat_map}
 use Rattle.std.specs.Option.{unwrap_or}

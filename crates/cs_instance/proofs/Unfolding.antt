@@ -1,6 +1,6 @@
 -- A step that asks only finitely much of a rule's parts and of what is inside a document has one
 -- solution, where the parts are well founded.
-use Rattle.std.proofs.Common.{◌≡◌, ℕ, zero, suc, ◌≤◌, Bool, true, false, ◌&&◌, List, refl, sym, ◌∙◌, arith}
+use Rattle.std.proofs.Common.{◌≡◌, ℕ, zero, suc, ◌≤◌, Bool, true, false, ◌&&◌, List, sym, ◌∙◌, arith}
 use Rattle.std.specs.List.{list_all}
 use Rattle.cs_doc.specs.Document.{Document}
 use Rattle.cs_instance.proofs.Each.{Each, each_map, each_of, both_true, all_true, From, collect, both_from}

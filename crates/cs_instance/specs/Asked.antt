@@ -1,14 +1,13 @@
 -- What a rule asks of a document, both opened once: over any D in place of each rule that it asks of the same
 -- document, any N in place of each expression that it asks of a document inside, and any A in place of each such document.
-use Rattle.std.specs.Prelude.{ℕ, ℤ, Bool, true, false, not, ◌&&◌, ◌||◌, List, [], ◌∷◌, Option, Some, None, map, int_lt, int_le}
+use Rattle.std.specs.Prelude.{ℕ, ℤ, Bool, true, false, not, ◌&&◌, ◌||◌, List, [], ◌∷◌, Option, Some, None, int_lt, int_le}
 use Rattle.std.specs.Bool.{beq}
 use Rattle.std.specs.List.{list_all, list_any}
 use Rattle.std.specs.Ordering.{int_eq}
 use Rattle.std.specs.Str.{bytes_eq}
 use Rattle.cs_doc.specs.Document.{Entry, under}
 use Rattle.cs_doc.specs.Opened.{Opened, a_null, a_boolean, an_integer, a_text, a_list, an_object}
-use Rattle.cs_resolve.specs.Expression as cue
-use Rattle.cs_resolve.specs.Expression.{Kind, int, number, string, bool, Relation, less, at_most, more, at_least, Mark, regular, optional, required, Expression, Declaration}
+use Rattle.cs_resolve.specs.Expression.{Kind, int, number, string, bool, Relation, less, at_most, more, at_least, Mark, regular, optional, required, Declaration}
 
 -- what stands behind the fixed elements of a list
 pub data Rest (N : Type 0) : Type 0 where

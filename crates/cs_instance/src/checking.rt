@@ -1,11 +1,12 @@
 // Whether a document is an instance.
-ghost use Rattle.std.specs.Prelude.{◌≡◌, ℕ, Bool, List, IfOk, IsErrOf};
+ghost use Rattle.std.specs.Prelude.{◌≡◌, ℕ, Bool, List, map, IfOk, IsErrOf};
 ghost use Rattle.std.specs.List.{list_all};
 ghost use Rattle.cs_doc.specs.Document.{Document};
 ghost use Rattle.cs_doc.specs.View.{doc_view};
 ghost use Rattle.cs_resolve.specs.Environment.{Environment, Names};
 ghost use Rattle.cs_resolve.specs.View.{expression_of};
 ghost use Rattle.cs_instance.specs.Instance.{Rule, definition, node, IsInstance, OneMeaning};
+ghost use Rattle.cs_instance.specs.Taken.{IsTaken, AllTaken, IsTakenPackage};
 
 use crate::InstanceFault;
 use crate::atoms::{is_bounded, is_in_range, is_integer, is_of_kind};
@@ -21,6 +22,7 @@ pub fn is_instance(
     root: &str,
     doc: &Doc,
 ) -> Result<bool, InstanceFault>
+    requires { IsTakenPackage «package».now }
     ensures one_meaning { OneMeaning «package».now }
     ensures answer { IfOk result (λ b. (n : List ℕ) × Names «package».now root.now n
         × ((I : Rule → Document → Bool) → IsInstance «package».now I → b ≡ I (definition n) (doc_view doc.now))) }
@@ -36,8 +38,9 @@ pub fn is_instance(
 /// Whether the document is an instance of a shape.
 #[cycle(checking)]
 fn admits(shape: &Shape, doc: &Doc) -> bool
-    ensures { (E : Environment) (I : Rule → Document → Bool) → IsInstance E I
-        → result ≡ I (node (expression_of shape.now)) (doc_view doc.now) }
+    requires { (ns : List (List ℕ)) × IsTaken (expression_of ns shape.now) }
+    ensures { (ns : List (List ℕ)) (E : Environment) (I : Rule → Document → Bool) → IsInstance E I
+        → result ≡ I (node (expression_of ns shape.now)) (doc_view doc.now) }
 {
     match shape {
         Shape::Int(n) => is_integer(*n, doc),
@@ -45,13 +48,15 @@ fn admits(shape: &Shape, doc: &Doc) -> bool
         Shape::Range { least, greatest } => is_in_range(*least, *greatest, doc),
         Shape::Bound { relation, limit } => is_bounded(*relation, *limit, doc),
         Shape::And(operands) => all_admit(operands, doc),
+        _ => unreachable!(),
     }
 }
 
 #[cycle(checking)]
 fn all_admit(shapes: &[Shape], doc: &Doc) -> bool
-    ensures { (E : Environment) (I : Rule → Document → Bool) → IsInstance E I
-        → result ≡ list_all (λ s. I (node (expression_of s)) (doc_view doc.now)) shapes.now }
+    requires { (ns : List (List ℕ)) × AllTaken (map (expression_of ns) shapes.now) }
+    ensures { (ns : List (List ℕ)) (E : Environment) (I : Rule → Document → Bool) → IsInstance E I
+        → result ≡ list_all (λ s. I (node (expression_of ns s)) (doc_view doc.now)) shapes.now }
 {
     for shape in shapes {
         if !admits(shape, doc) {

@@ -10,7 +10,7 @@ use Rattle.std.proofs.lemmas.Map.Keys.{IsDistinct-head, IsDistinct-tail, IsDisti
 use Rattle.std.proofs.lemmas.Option.{slice_get-map, slice_get-get_or, same_Some}
 use Rattle.std.proofs.lemmas.Slice.Eq.{bytes_eq-Decides}
 use Rattle.cs_resolve.specs.Expression.{Expression}
-use Rattle.cs_resolve.specs.Environment.{Environment, bodies, name_at, bodies_at, written, Names, IsDefinitionName}
+use Rattle.cs_resolve.specs.Environment.{Environment, declared_names, bodies, name_at, bodies_at, written, Names, IsDefinitionName}
 use Rattle.cs_resolve.specs.View.{expression_of, names_of, bodies_of, environment_of, IsTable}
 use Rattle.cs_resolve.specs.declared.shape.Shape.{Shape}
 
@@ -24,8 +24,11 @@ bytes_eq-flip s t e = by (bytes_eq t s) refl
     by false q = refl
     by true q = let same : t ≡ s = (bytes_eq-Decides t s).0 q in let yes : bytes_eq s t ≡ true = (bytes_eq-Decides s t).1 (sym same) in cc
 
-abbrev names : Environment → List (List ℕ)
-names E = map (λ d. d.0) E
+-- what holds of all holds of the one at a place
+pub all-at : {X : Type 0} (P : X → Type 0) (xs : List X) (i : ℕ) (x : X) → AllByRecursion P xs → slice_get xs i ≡ Some x → P x
+all-at P [] i x h e = cc
+all-at P (y ∷ xs) zero x h e = subst P (same_Some y x e) h.0
+all-at P (y ∷ xs) (suc i) x h e = all-at P xs i x h.1 e
 
 pub apart : (n m : List ℕ) (i : ℕ) (ns : List (List ℕ)) → AllByRecursion (λ y. bytes_eq n y ≡ false) ns → slice_get ns i ≡ Some m → bytes_eq n m ≡ false
 apart n m i [] h e = cc
@@ -33,15 +36,15 @@ apart n m zero (x ∷ ns) h e = subst (λ y. bytes_eq n y ≡ false) (same_Some 
 apart n m (suc i) (x ∷ ns) h e = apart n m i ns h.1 e
 
 -- where names stand once, a name's bodies are those at its place
-pub bodies-at : (E : Environment) (i : ℕ) (n : List ℕ) → IsDistinct bytes_eq (names E) → name_at E i ≡ Some n → bodies E n ≡ bodies_at E i
+pub bodies-at : (E : Environment) (i : ℕ) (n : List ℕ) → IsDistinct bytes_eq (declared_names E) → name_at E i ≡ Some n → bodies E n ≡ bodies_at E i
 bodies-at [] i n d e = cc
 bodies-at (x ∷ E) zero n d e = let same : x.0 ≡ n = same_Some x.0 n e in ap (λ b. cond b (Some x.1) (bodies E n)) (ap (λ y. bytes_eq n y) same ∙ bytes_eq-refl n)
 bodies-at (x ∷ E) (suc i) n d e =
-    let there : slice_get (names E) i ≡ Some n = slice_get-map (λ (y : List ℕ × List Expression). y.0) E i ∙ e in
-    let other = bytes_eq-flip x.0 n (apart x.0 n i (names E) (IsDistinct-head bytes_eq x.0 (names E) d) there) in
-    ap (λ b. cond b (Some x.1) (bodies E n)) other ∙ bodies-at E i n (IsDistinct-tail bytes_eq x.0 (names E) d) e
+    let there : slice_get (declared_names E) i ≡ Some n = slice_get-map (λ (y : List ℕ × List Expression). y.0) E i ∙ e in
+    let other = bytes_eq-flip x.0 n (apart x.0 n i (declared_names E) (IsDistinct-head bytes_eq x.0 (declared_names E) d) there) in
+    ap (λ b. cond b (Some x.1) (bodies E n)) other ∙ bodies-at E i n (IsDistinct-tail bytes_eq x.0 (declared_names E) d) e
 
-pub bodies-named : (E : Environment) (i : ℕ) → IsDistinct bytes_eq (names E) → IfSome (name_at E i) (λ n. bodies E n ≡ bodies_at E i)
+pub bodies-named : (E : Environment) (i : ℕ) → IsDistinct bytes_eq (declared_names E) → IfSome (name_at E i) (λ n. bodies E n ≡ bodies_at E i)
 bodies-named E i d = by (name_at E i) refl
   where
     by : (o : Option (List ℕ)) → name_at E i ≡ o → IfSome o (λ n. bodies E n ≡ bodies_at E i)
@@ -49,13 +52,13 @@ bodies-named E i d = by (name_at E i) refl
     by (Some n) e = bodies-at E i n d e
 
 -- the text beside a name is that name as CUE writes it
-pub written-at : (es : List (String Global × String Global)) (vs : List (Vec Shape Global)) (i : ℕ) (k w : String Global) → length es ≡ length vs → AllByRecursion (λ e. string_bytes e.1 ≡ written (string_bytes e.0)) es
+pub written-at : (ns : List (List ℕ)) (es : List (String Global × String Global)) (vs : List (Vec Shape Global)) (i : ℕ) (k w : String Global) → length es ≡ length vs → AllByRecursion (λ e. string_bytes e.1 ≡ written (string_bytes e.0)) es
     → Some (k, w) ≡ slice_get es i
-    → IfSome (name_at (environment_of es vs) i) (λ n. string_bytes w ≡ written n)
-written-at [] vs i k w long h e = tt
-written-at (x ∷ es) [] i k w long h e = tt
-written-at (x ∷ es) (v ∷ vs) zero k w long h e = let same = same_Some (k, w) x e in ap (λ (p : String Global × String Global). string_bytes p.1) same ∙ h.0
-written-at (x ∷ es) (v ∷ vs) (suc i) k w long h e = written-at es vs i k w (omega arith) h.1 e
+    → IfSome (name_at (environment_of ns es vs) i) (λ n. string_bytes w ≡ written n)
+written-at ns [] vs i k w long h e = tt
+written-at ns (x ∷ es) [] i k w long h e = tt
+written-at ns (x ∷ es) (v ∷ vs) zero k w long h e = let same = same_Some (k, w) x e in ap (λ (p : String Global × String Global). string_bytes p.1) same ∙ h.0
+written-at ns (x ∷ es) (v ∷ vs) (suc i) k w long h e = written-at ns es vs i k w (omega arith) h.1 e
 
 keys-apart : (k : String Global) (ks : List (String Global)) → AllByRecursion (λ y. string_eq k y ≡ false) ks → AllByRecursion (λ y. bytes_eq (string_bytes k) y ≡ false) (map string_bytes ks)
 keys-apart k [] h = tt
@@ -109,36 +112,36 @@ table-insert es new k w t e s is d = record {
   spelled = subst (AllByRecursion (λ x. IsDefinitionName (string_bytes x.0))) (sym is) (spelled-insert es k w t.spelled s);
 }
 
-module _ {V : Type 0} where
+module _ {V : Type 0} (ns : List (List ℕ)) where
   -- a name is declared just where the table has it
-  pub declared : (t : List ℕ) (es : List (String Global × V)) (vs : List (Vec Shape Global)) → length es ≡ length vs → is_some (bodies (environment_of es vs) t) ≡ is_some (lookup (λ k. bytes_eq t (string_bytes k)) es)
+  pub declared : (t : List ℕ) (es : List (String Global × V)) (vs : List (Vec Shape Global)) → length es ≡ length vs → is_some (bodies (environment_of ns es vs) t) ≡ is_some (lookup (λ k. bytes_eq t (string_bytes k)) es)
   declared t [] vs e = refl
   declared t (x ∷ es) [] e = absurd (omega arith)
   declared t (x ∷ es) (v ∷ vs) e =
-      elim (bytes_eq t (string_bytes x.0)) as (λ b. is_some (cond b (Some (map expression_of v.items)) (bodies (environment_of es vs) t)) ≡ is_some (cond b (Some x.1) (lookup (λ k. bytes_eq t (string_bytes k)) es))) [
+      elim (bytes_eq t (string_bytes x.0)) as (λ b. is_some (cond b (Some (map (expression_of ns) v.items)) (bodies (environment_of ns es vs) t)) ≡ is_some (cond b (Some x.1) (lookup (λ k. bytes_eq t (string_bytes k)) es))) [
         | true ↦ refl
         | false ↦ declared t es vs (omega arith)
       ]
 
-  pub name_at-is : (es : List (String Global × V)) (vs : List (Vec Shape Global)) (i : ℕ) → length es ≡ length vs → name_at (environment_of es vs) i ≡ slice_get (names_of es) i
+  pub name_at-is : (es : List (String Global × V)) (vs : List (Vec Shape Global)) (i : ℕ) → length es ≡ length vs → name_at (environment_of ns es vs) i ≡ slice_get (names_of es) i
   name_at-is [] vs i e = refl
   name_at-is (x ∷ es) [] i e = absurd (omega arith)
   name_at-is (x ∷ es) (v ∷ vs) zero e = refl
   name_at-is (x ∷ es) (v ∷ vs) (suc i) e = name_at-is es vs i (omega arith)
 
-  pub bodies_at-is : (es : List (String Global × V)) (vs : List (Vec Shape Global)) (i : ℕ) → length es ≡ length vs → bodies_at (environment_of es vs) i ≡ slice_get (bodies_of vs) i
+  pub bodies_at-is : (es : List (String Global × V)) (vs : List (Vec Shape Global)) (i : ℕ) → length es ≡ length vs → bodies_at (environment_of ns es vs) i ≡ slice_get (bodies_of ns vs) i
   bodies_at-is [] [] i e = refl
   bodies_at-is [] (v ∷ vs) i e = absurd (omega arith)
   bodies_at-is (x ∷ es) [] i e = absurd (omega arith)
   bodies_at-is (x ∷ es) (v ∷ vs) zero e = refl
   bodies_at-is (x ∷ es) (v ∷ vs) (suc i) e = bodies_at-is es vs i (omega arith)
 
-  pub names-is : (es : List (String Global × V)) (vs : List (Vec Shape Global)) → length es ≡ length vs → names (environment_of es vs) ≡ names_of es
+  pub names-is : (es : List (String Global × V)) (vs : List (Vec Shape Global)) → length es ≡ length vs → declared_names (environment_of ns es vs) ≡ names_of es
   names-is [] vs e = refl
   names-is (x ∷ es) [] e = absurd (omega arith)
   names-is (x ∷ es) (v ∷ vs) e = ap (λ ns. string_bytes x.0 ∷ ns) (names-is es vs (omega arith))
 
-  pub length-is : (es : List (String Global × V)) (vs : List (Vec Shape Global)) → length es ≡ length vs → length (environment_of es vs) ≡ length vs
+  pub length-is : (es : List (String Global × V)) (vs : List (Vec Shape Global)) → length es ≡ length vs → length (environment_of ns es vs) ≡ length vs
   length-is [] [] e = refl
   length-is [] (v ∷ vs) e = absurd (omega arith)
   length-is (x ∷ es) [] e = absurd (omega arith)
@@ -154,15 +157,15 @@ module _ {V : Type 0} where
       ∙ ap Some (sym ((bytes_eq-Decides t (string_bytes k)).0 p.1))
 
   pub found_at : (t : List ℕ) (es : List (String Global × V)) (vs : List (Vec Shape Global)) → length es ≡ length vs → (o : Option ℕ) → o ≡ position (λ k. bytes_eq t (string_bytes k)) (keys_of es) → is_some o ≡ is_some (lookup (λ k. bytes_eq t (string_bytes k)) es)
-      → (text : List ℕ) → text ≡ written t → IfSome o (λ i. (n : List ℕ) × Names (environment_of es vs) text n × (name_at (environment_of es vs) i ≡ Some n))
+      → (text : List ℕ) → text ≡ written t → IfSome o (λ i. (n : List ℕ) × Names (environment_of ns es vs) text n × (name_at (environment_of ns es vs) i ≡ Some n))
   found_at t es vs long None is has text e = tt
   found_at t es vs long (Some i) is has text e = (t, record { text = e; declared = declared t es vs long ∙ sym has }, name_at-is es vs i long ∙ place t es i (sym is))
 
   pub found_nowhere : (t : List ℕ) (es : List (String Global × V)) (vs : List (Vec Shape Global)) → length es ≡ length vs → (o : Option ℕ) → is_some o ≡ is_some (lookup (λ k. bytes_eq t (string_bytes k)) es)
-      → (text : List ℕ) → text ≡ written t → IfNone o ((n : List ℕ) → ¬ Names (environment_of es vs) text n)
+      → (text : List ℕ) → text ≡ written t → IfNone o ((n : List ℕ) → ¬ Names (environment_of ns es vs) text n)
   found_nowhere t es vs long (Some i) has text e = tt
   found_nowhere t es vs long None has text e = λ n h.
       let words : written t ≡ written n = sym e ∙ h.text in
       let same : t ≡ n = cc in
-      let there : is_some (bodies (environment_of es vs) t) ≡ true = ap (λ m. is_some (bodies (environment_of es vs) m)) same ∙ h.declared in
+      let there : is_some (bodies (environment_of ns es vs) t) ≡ true = ap (λ m. is_some (bodies (environment_of ns es vs) m)) same ∙ h.declared in
       true≢false (sym there ∙ declared t es vs long ∙ sym has)

@@ -1,19 +1,24 @@
 -- Bodies under their names, and one more.
-use Rattle.std.proofs.Common.{◌≡◌, ℕ, zero, suc, Bool, true, false, cond, List, [], ◌∷◌, ◌++◌, map, zip, filter, length, set, replicate, Some, is_some, slice_get, String, string_bytes, Global, refl, sym, ap, ap₂, ◌∙◌, subst}
-use Rattle.std.specs.List.{IsDistinct, AllByRecursion, flat_map}
+use Rattle.std.proofs.Common.{◌≡◌, ℕ, zero, suc, Bool, true, false, ◌&&◌, cond, List, [], ◌∷◌, ◌++◌, map, zip, filter, length, set, Some, is_some, option_map, slice_get, String, string_bytes, Vec, Global, refl, sym, ap, ap₂, ◌∙◌, subst, arith}
+use Rattle.std.specs.List.{IsDistinct, AllByRecursion, flat_map, list_all}
 use Rattle.std.specs.Map.{lookup}
 use Rattle.std.specs.Str.{bytes_eq}
-use Rattle.std.proofs.lemmas.List.{map-append, append-nil}
+use Rattle.std.proofs.lemmas.List.{map-append, map-set, append-nil, length-map}
+use Rattle.std.proofs.lemmas.List.Folds.{list_all-append}
 use Rattle.std.proofs.lemmas.List.Elements.{filter-append}
 use Rattle.std.proofs.lemmas.Map.Keys.{IsDistinct-head, IsDistinct-tail}
-use Rattle.std.proofs.lemmas.Option.{same_Some}
+use Rattle.std.proofs.lemmas.Option.{same_Some, slice_get-map}
 use Rattle.cs_syntax.specs.Tree.{Tree, DefinitionTree, definition, defined_name, body, FileTree, definitions}
 use Rattle.cs_resolve.specs.Declarations as Declared
 use Rattle.cs_resolve.specs.Expression.{Expression}
 use Rattle.cs_resolve.specs.Resolved.{resolved, environment_of_files}
-use Rattle.cs_resolve.specs.Steps.{gathered}
-use Rattle.cs_resolve.specs.View.{names_of}
-use Rattle.cs_resolve.proofs.Environments.{bytes_eq-refl, bytes_eq-flip, apart}
+use Rattle.cs_resolve.specs.Steps.{gathered, AreBodiesOf, IsShapeOf}
+use Rattle.cs_resolve.specs.View.{bodies_of, expression_of, is_known, names_of}
+use Rattle.cs_resolve.specs.declared.shape.Shape.{Shape}
+use Rattle.cs_resolve.proofs.Environments.{all-at, bytes_eq-refl, bytes_eq-flip, apart}
+
+abbrev seen : List (List ℕ) → Vec Shape Global → List Expression
+seen ns v = map (expression_of ns) v.items
 
 -- the resolved bodies of n
 abbrev found : List DefinitionTree → List ℕ → List Expression
@@ -57,11 +62,6 @@ module _ (s : List ℕ) (o : ℕ) (t : Tree) (ds : List DefinitionTree) where
       let other = bytes_eq-flip n s (apart n s i ns (IsDistinct-head bytes_eq n ns d) at) in
       ap₂ (λ xs rest. xs ∷ rest) (sym (bodies-same n other)) (gathered-more ns i es (IsDistinct-tail bytes_eq n ns d) at has)
 
--- no definitions, no bodies
-pub gathered-none : (ns : List (List ℕ)) → gathered ns [] ≡ replicate (length ns) []
-gathered-none [] = refl
-gathered-none (n ∷ ns) = ap (λ rest. [] ∷ rest) (gathered-none ns)
-
 -- a text that the table has not differs from each of its names
 pub other_names : {V : Type 0} (t : List ℕ) (es : List (String Global × V)) → is_some (lookup (λ k. bytes_eq t (string_bytes k)) es) ≡ false → AllByRecursion (λ n. bytes_eq t n ≡ false) (names_of es)
 other_names t [] h = tt
@@ -83,3 +83,51 @@ environment-gathered fs ns bs names bodies =
 pub length-names : {V : Type 0} (es : List (String Global × V)) → length (names_of es) ≡ length es
 length-names [] = refl
 length-names (x ∷ es) = ap suc (length-names es)
+
+-- ---- shapes
+
+module _ (ns : List (List ℕ)) where
+  abbrev IsKnown : Vec Shape Global → Type 0
+  IsKnown v = list_all (is_known (length ns)) v.items ≡ true
+
+  all-set : (vs : List (Vec Shape Global)) (i : ℕ) (v : Vec Shape Global) → AllByRecursion IsKnown vs → IsKnown v → AllByRecursion IsKnown (set vs i v)
+  all-set [] i v h k = tt
+  all-set (x ∷ vs) zero v h k = (k, h.1)
+  all-set (x ∷ vs) (suc i) v h k = (h.0, all-set vs i v h.1 k)
+
+  -- one body more stands behind those of its name
+  pub bodies-added : (s : List ℕ) (o : ℕ) (t : Tree) (shape : Shape) (ds : List DefinitionTree) (vs : List (Vec Shape Global)) (i : ℕ) (old new : Vec Shape Global) → IsDistinct bytes_eq ns → slice_get ns i ≡ Some s → slice_get vs i ≡ Some old → new.items ≡ old.items ++ shape ∷ []
+      → AreBodiesOf ns vs ds → IsShapeOf ns shape t → AreBodiesOf ns (set vs i new) (ds ++ definition s o t ∷ [])
+  bodies-added s o t shape ds vs i old new distinct at there grown before is =
+      let es = map (expression_of ns) old.items in
+      let has = ap (λ bs. slice_get bs i) (sym before.same) ∙ slice_get-map (seen ns) vs i ∙ ap (option_map (seen ns)) there in
+      let one = ap (map (expression_of ns)) grown ∙ map-append (expression_of ns) old.items (shape ∷ []) ∙ ap (λ x. es ++ x ∷ []) is.same in
+      let known = all-at IsKnown vs i old before.known there in
+      record {
+        same = map-set (seen ns) vs i new ∙ ap₂ (λ bs x. set bs i x) before.same one ∙ gathered-more s o t ds ns i es distinct at has;
+        known = all-set vs i new before.known (ap (list_all (is_known (length ns))) grown ∙ list_all-append (is_known (length ns)) old.items (shape ∷ []) ∙ ap₂ (λ a b. a && (b && true)) known is.known);
+      }
+
+  -- a body of another name adds nothing
+  pub bodies-kept : (s : List ℕ) (o : ℕ) (t : Tree) (ds : List DefinitionTree) (vs : List (Vec Shape Global)) → AllByRecursion (λ n. bytes_eq s n ≡ false) ns → AreBodiesOf ns vs ds → AreBodiesOf ns vs (ds ++ definition s o t ∷ [])
+  bodies-kept s o t ds vs other before = record {
+    same = before.same ∙ sym (gathered-same s o t ds ns other);
+    known = before.known;
+  }
+
+  -- empty lists are the bodies that no definitions give
+  pub bodies-none : (vs : List (Vec Shape Global)) → length vs ≡ length ns → AllByRecursion (λ v. v.items ≡ []) vs → AreBodiesOf ns vs []
+  bodies-none vs long empty = record { same = same vs ns long empty; known = known vs empty }
+    where
+      same : (us : List (Vec Shape Global)) (ms : List (List ℕ)) → length us ≡ length ms → AllByRecursion (λ v. v.items ≡ []) us → bodies_of ns us ≡ gathered ms []
+      same [] [] l e = refl
+      same [] (m ∷ ms) l e = absurd (omega arith)
+      same (u ∷ us) [] l e = absurd (omega arith)
+      same (u ∷ us) (m ∷ ms) l e = ap₂ (λ x rest. map (expression_of ns) x ∷ rest) e.0 (same us ms (omega arith) e.1)
+
+      known : (us : List (Vec Shape Global)) → AllByRecursion (λ v. v.items ≡ []) us → AllByRecursion IsKnown us
+      known [] e = tt
+      known (u ∷ us) e = (ap (list_all (is_known (length ns))) e.0, known us e.1)
+
+pub length-bodies : (ns : List (List ℕ)) (vs : List (Vec Shape Global)) (ds : List DefinitionTree) → AreBodiesOf ns vs ds → length ns ≡ length vs
+length-bodies ns vs ds h = sym (length-map ns (found ds)) ∙ sym (ap length h.same) ∙ length-map vs (seen ns)

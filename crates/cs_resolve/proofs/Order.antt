@@ -1,11 +1,12 @@
 -- Names in order of first declaration.
-use Rattle.std.proofs.Common.{◌≡◌, ℕ, Bool, true, false, cond, not, List, [], ◌∷◌, ◌++◌, map, filter, String, string_bytes, Global, refl, sym, ap, ◌∙◌}
+use Rattle.std.proofs.Common.{◌≡◌, ℕ, Bool, true, false, cond, not, List, [], ◌∷◌, ◌++◌, map, filter, Some, is_some, String, string_bytes, Global, refl, sym, ap, ◌∙◌}
 use Rattle.std.specs.Str.{bytes_eq}
-use Rattle.std.specs.Map.{keys_of}
+use Rattle.std.specs.Map.{keys_of, lookup}
 use Rattle.std.specs.String.{string_eq}
 use Rattle.std.proofs.lemmas.Slice.Eq.{bytes_eq-Decides}
 use Rattle.indexmap.specs.IndexMap.{insert_entry}
 use Rattle.cs_resolve.specs.Declarations.{distinct}
+use Rattle.cs_resolve.specs.View.{names_of}
 
 -- a name put behind the others, unless it is among them
 abbrev pub put : List ℕ → List (List ℕ) → List (List ℕ)
@@ -16,6 +17,15 @@ pub names_insert : {V : Type 0} (k : String Global) (v : V) (es : List (String G
 names_insert k v [] = refl
 names_insert k v (e ∷ es) =
     elim (bytes_eq (string_bytes k) (string_bytes e.0)) as (λ b. map string_bytes (keys_of (cond b ((e.0, v) ∷ es) (e ∷ insert_entry string_eq es k v))) ≡ cond b (string_bytes e.0 ∷ map string_bytes (keys_of es)) (string_bytes e.0 ∷ put (string_bytes k) (map string_bytes (keys_of es)))) [ true ↦ refl | false ↦ ap (λ r. string_bytes e.0 ∷ r) (names_insert k v es) ]
+
+-- a name that the table has is among them
+pub put_there : {V : Type 0} (t : List ℕ) (es : List (String Global × V)) → is_some (lookup (λ k. bytes_eq t (string_bytes k)) es) ≡ true → put t (names_of es) ≡ names_of es
+put_there t [] h = cc
+put_there t (x ∷ es) h = by (bytes_eq t (string_bytes x.0)) h (put_there t es)
+  where
+    by : (b : Bool) → is_some (cond b (Some x.1) (lookup (λ k. bytes_eq t (string_bytes k)) es)) ≡ true → (is_some (lookup (λ k. bytes_eq t (string_bytes k)) es) ≡ true → put t (names_of es) ≡ names_of es) → cond b (names_of (x ∷ es)) (string_bytes x.0 ∷ put t (names_of es)) ≡ names_of (x ∷ es)
+    by true is later = refl
+    by false is later = ap (λ ns. string_bytes x.0 ∷ ns) (later is)
 
 bytes_eq-sym : (x y : List ℕ) → bytes_eq x y ≡ bytes_eq y x
 bytes_eq-sym x y = by (bytes_eq x y) (bytes_eq y x) refl refl

@@ -52,6 +52,15 @@ one_label = refl
 two_files : unopened_files (file None (definition (codes "A") 0 (struct 4 (one (codes "x")) false) ∷ []) ∷ file None (definition (codes "A") 0 (struct 4 no_field true) ∷ []) ∷ []) ≡ (0, 4) ∷ []
 two_files = refl
 
+-- `#A: {a: b: int, a: c: int}`: two short fields of one label, so both literals, each at its own label
+short_fields : unopened_files (file None (definition (codes "A") 0 (struct 4 (field (plain (codes "a")) Regular (struct 8 (field (plain (codes "b")) Regular (named (codes "int") 11) no_field) false)
+    (field (plain (codes "a")) Regular (struct 19 (field (plain (codes "c")) Regular (named (codes "int") 22) no_field) false) no_field)) false) ∷ []) ∷ []) ≡ (0, 8) ∷ (0, 19) ∷ []
+short_fields = refl
+
+-- `#B: 1` and `#A: {a: {x: 1}, ...}` in one file and `#A: #B` in the next: the literal inside the opened one
+inside_a_body : unopened_files (file None (definition (codes "B") 0 (integer (pos 1)) ∷ definition (codes "A") 6 (struct 10 (field (plain (codes "a")) Regular (struct 14 (one (codes "x")) false) no_field) true) ∷ []) ∷ file None (definition (codes "A") 0 (reference (codes "B") 4) ∷ []) ∷ []) ≡ (0, 14) ∷ []
+inside_a_body = refl
+
 -- ---- nodes
 
 -- `{a: b?: int}`, where `a: b?: int` is short: three nodes

@@ -1,5 +1,5 @@
 -- The names of definitions that a source spells.
-use Rattle.std.proofs.Common.{◌≡◌, ℕ, Bool, true, false, cond, List, [], ◌∷◌, ◌++◌, map, take, Option, Some, None, codes, arith, refl, sym, ap, ◌∙◌, subst}
+use Rattle.std.proofs.Common.{◌≡◌, ℕ, Bool, true, false, cond, List, [], ◌∷◌, ◌++◌, map, take, Option, Some, codes, arith, refl, sym, ap, ◌∙◌, subst}
 use Rattle.std.specs.List.{All, AllByRecursion, list_all, list_any}
 use Rattle.std.specs.Str.{bytes_eq}
 use Rattle.std.proofs.lemmas.List.{map-append}
@@ -8,7 +8,7 @@ use Rattle.std.specs.Prelude.{◌==◌}
 use Rattle.cs_syntax.specs.Answer.{IsSpelled}
 use Rattle.cs_syntax.specs.Cut.{Lexeme, lexeme, Cut, blank, new_line, comment, token, finish, comma_if, line_after, line_after_mark, line_ended}
 use Rattle.cs_syntax.specs.Spelling.{is_letter, is_digit, is_name_byte, is_integer, is_definition_rest, underscore_sort, mark_sort, sort_if, sort_of, used_marks, left_out_marks}
-use Rattle.cs_syntax.specs.Tree.{FileTree, definition, defined_name, definitions}
+use Rattle.cs_syntax.specs.Tree.{FileTree, defined_name, definitions}
 use Rattle.cs_syntax.specs.View.{bare_name, file_view, mark_kind, word_of, word, words}
 use Rattle.cs_syntax.specs.Words as W
 use Rattle.cs_syntax.specs.Words.{Word, Words}

@@ -1,5 +1,5 @@
 -- Expressions and their trees, level by level.
-use Rattle.std.proofs.Common.{◌≡◌, ℕ, ◌+◌, ◌<◌, Bool, List, [], ◌∷◌, ◌++◌, map, length, take, get_or, Vec, Global, rules, string_bytes, String, refl, sym, ap, ◌∙◌, subst, arith}
+use Rattle.std.proofs.Common.{◌≡◌, ℕ, ◌+◌, ◌<◌, Bool, List, [], ◌∷◌, ◌++◌, map, length, take, get_or, Vec, Box, Global, rules, string_bytes, String, refl, sym, ap, ◌∙◌, subst, arith}
 use Rattle.std.proofs.lemmas.List.{take_more}
 use Rattle.cs_syntax.specs.declared.ast.Definition.{Definition}
 use Rattle.cs_syntax.specs.declared.ast.File.{File}
@@ -11,6 +11,7 @@ use Rattle.cs_syntax.specs.Tree as T
 use Rattle.cs_syntax.specs.View.{trees_of, definition_view, file_view, expr_view, exprs_view, fields_view, end_view, field_view}
 use Rattle.cs_syntax.specs.declared.ast.Expr as Exprs
 use Rattle.cs_syntax.specs.declared.ast.Expr.{Expr}
+use Rattle.cs_syntax.specs.declared.ast.ListEnd as Ends
 use Rattle.cs_syntax.specs.declared.ast.ListEnd.{ListEnd}
 use Rattle.cs_syntax.specs.declared.ast.Field.{Field}
 
@@ -23,6 +24,15 @@ view-List v end = search (rules, Exprs.the_lemmas)
 pub view-And : (v : Vec Expr Global) → expr_view (Exprs.And v) ≡ T.meet (exprs_view v.items)
 view-And v = search (rules, Exprs.the_lemmas)
 
+pub view-Or : (v : Vec Expr Global) → expr_view (Exprs.Or v) ≡ T.join (exprs_view v.items)
+view-Or v = search (rules, Exprs.the_lemmas)
+
+pub view-Name : (t : String Global) (at : ℕ) → expr_view (Exprs.Name t at) ≡ T.named (string_bytes t) at
+view-Name t at = search (rules, Exprs.the_lemmas)
+
+pub view-Each : (b : Box Expr Global) → end_view (Ends.Each b) ≡ T.each (expr_view b.value)
+view-Each b = search (rules, Exprs.the_lemmas)
+
 pub view-Reference : (t : String Global) (at : ℕ) → expr_view (Exprs.Reference t at) ≡ T.reference (string_bytes t) at
 view-Reference t at = search (rules, Exprs.the_lemmas)
 
@@ -31,6 +41,9 @@ view-value f = search (rules, Exprs.the_lemmas)
 
 pub view-label : (f : Field) → (field_view f).label ≡ record { text = string_bytes f.label; quotes = f.quoted }
 view-label f = search (rules, Exprs.the_lemmas)
+
+pub view-mark : (f : Field) → (field_view f).mark ≡ f.mark
+view-mark f = search (rules, Exprs.the_lemmas)
 
 pub view-text : (f : Field) → (field_view f).label.text ≡ string_bytes f.label
 view-text f = ap (λ (l : T.Label). l.text) (view-label f)

@@ -1,22 +1,69 @@
--- The expression of each form of shape.
-use Rattle.std.proofs.Common.{◌≡◌, ℤ, Option, Vec, Global, map, rules}
+-- The expression of each form of shape, and whether its references are known.
+use Rattle.std.proofs.Common.{◌≡◌, ℕ, Bool, ◌&&◌, nat_lt, List, [], map, get_or, Vec, Box, Global, string_bytes, rules, ap, ◌∙◌}
+use Rattle.std.specs.List.{list_all}
+use Rattle.std.proofs.lemmas.List.Folds.{list_all-map}
 use Rattle.cs_resolve.specs.Expression as cue
-use Rattle.cs_resolve.specs.View.{kind_of, relation_of, expressions_of, expression_of}
-use Rattle.cs_resolve.specs.declared.shape.Kind.{Kind}
-use Rattle.cs_resolve.specs.declared.shape.Shape.{Shape, Int, Kind as KindShape, Range, Bound, And, the_lemmas}
-use Rattle.cs_syntax.specs.declared.ast.Relation.{Relation}
+use Rattle.cs_resolve.specs.View.{mark_of, expressions_of, declarations_of, expression_of, rest_of, part_of, is_known, is_known_end, is_known_part}
+use Rattle.cs_resolve.specs.declared.shape.Shape as Shapes
+use Rattle.cs_resolve.specs.declared.shape.Shape.{Shape}
+use Rattle.cs_resolve.specs.declared.shape.Shape.TheOpen.{Part-F}
+use Rattle.cs_resolve.specs.declared.shape.Shape.TheViews.{roll-Part}
+use Rattle.cs_resolve.specs.declared.shape.ShapeEnd as Ends
+use Rattle.cs_resolve.specs.declared.shape.ShapeEnd.{ShapeEnd}
+use Rattle.cs_resolve.specs.declared.shape.Part.{Part}
 
-pub expression_of-Int : (n : ℤ) → expression_of (Int n) ≡ cue.integer n
-expression_of-Int n = search (rules, the_lemmas)
+module _ (ns : List (List ℕ)) where
+  pub of-Definition : (i : ℕ) → expression_of ns (Shapes.Definition i) ≡ cue.reference (get_or ns i [])
+  of-Definition i = search (rules, Shapes.the_lemmas)
 
-pub expression_of-Kind : (k : Kind) → expression_of (KindShape k) ≡ cue.kind (kind_of k)
-expression_of-Kind k = search (rules, the_lemmas)
+  pub of-And : (v : Vec Shape Global) → expression_of ns (Shapes.And v) ≡ cue.conjunction (expressions_of (map (expression_of ns) v.items))
+  of-And v = search (rules, Shapes.the_lemmas)
 
-pub expression_of-Range : (least : ℤ) (greatest : Option ℤ) → expression_of (Range least greatest) ≡ cue.range least greatest
-expression_of-Range least greatest = search (rules, the_lemmas)
+  pub of-Or : (v : Vec Shape Global) → expression_of ns (Shapes.Or v) ≡ cue.disjunction (expressions_of (map (expression_of ns) v.items))
+  of-Or v = search (rules, Shapes.the_lemmas)
 
-pub expression_of-Bound : (r : Relation) (n : ℤ) → expression_of (Bound r n) ≡ cue.bound (relation_of r) n
-expression_of-Bound r n = search (rules, the_lemmas)
+  pub of-Struct : (v : Vec Part Global) (o : Bool) → expression_of ns (Shapes.Struct v o) ≡ cue.struct (declarations_of (map (part_of ns) v.items)) o
+  of-Struct v o = search (rules, Shapes.the_lemmas)
 
-pub expression_of-And : (v : Vec Shape Global) → expression_of (And v) ≡ cue.conjunction (expressions_of (map expression_of v.items))
-expression_of-And v = search (rules, the_lemmas)
+  pub of-List : (v : Vec Shape Global) (e : ShapeEnd) → expression_of ns (Shapes.List v e) ≡ cue.list (expressions_of (map (expression_of ns) v.items)) (rest_of ns e)
+  of-List v e = search (rules, Shapes.the_lemmas)
+
+  pub of-Each : (b : Box Shape Global) → rest_of ns (Ends.Each b) ≡ cue.each (expression_of ns b.value)
+  of-Each b = search (rules, Shapes.the_lemmas)
+
+  pub of-Part : (p : Part-F Shape ShapeEnd Part) → part_of ns (roll-Part p) ≡ record { label = string_bytes p.label; mark = mark_of p.mark; value = expression_of ns p.value }
+  of-Part p = search (rules, Shapes.the_lemmas)
+
+module _ (n : ℕ) where
+  pub known-Definition : (i : ℕ) → is_known n (Shapes.Definition i) ≡ nat_lt i n
+  known-Definition i = search (rules, Shapes.the_lemmas)
+
+  known-And-mapped : (v : Vec Shape Global) → is_known n (Shapes.And v) ≡ list_all (λ b. b) (map (is_known n) v.items)
+  known-And-mapped v = search (rules, Shapes.the_lemmas)
+
+  pub known-And : (v : Vec Shape Global) → is_known n (Shapes.And v) ≡ list_all (is_known n) v.items
+  known-And v = known-And-mapped v ∙ list_all-map (λ b. b) (is_known n) v.items
+
+  known-Or-mapped : (v : Vec Shape Global) → is_known n (Shapes.Or v) ≡ list_all (λ b. b) (map (is_known n) v.items)
+  known-Or-mapped v = search (rules, Shapes.the_lemmas)
+
+  pub known-Or : (v : Vec Shape Global) → is_known n (Shapes.Or v) ≡ list_all (is_known n) v.items
+  known-Or v = known-Or-mapped v ∙ list_all-map (λ b. b) (is_known n) v.items
+
+  known-Struct-mapped : (v : Vec Part Global) (o : Bool) → is_known n (Shapes.Struct v o) ≡ list_all (λ b. b) (map (is_known_part n) v.items)
+  known-Struct-mapped v o = search (rules, Shapes.the_lemmas)
+
+  pub known-Struct : (v : Vec Part Global) (o : Bool) → is_known n (Shapes.Struct v o) ≡ list_all (is_known_part n) v.items
+  known-Struct v o = known-Struct-mapped v o ∙ list_all-map (λ b. b) (is_known_part n) v.items
+
+  known-List-mapped : (v : Vec Shape Global) (e : ShapeEnd) → is_known n (Shapes.List v e) ≡ (list_all (λ b. b) (map (is_known n) v.items) && is_known_end n e)
+  known-List-mapped v e = search (rules, Shapes.the_lemmas)
+
+  pub known-List : (v : Vec Shape Global) (e : ShapeEnd) → is_known n (Shapes.List v e) ≡ (list_all (is_known n) v.items && is_known_end n e)
+  known-List v e = known-List-mapped v e ∙ ap (λ b. b && is_known_end n e) (list_all-map (λ b. b) (is_known n) v.items)
+
+  pub known-Each : (b : Box Shape Global) → is_known_end n (Ends.Each b) ≡ is_known n b.value
+  known-Each b = search (rules, Shapes.the_lemmas)
+
+  pub known-Part : (p : Part-F Shape ShapeEnd Part) → is_known_part n (roll-Part p) ≡ is_known n p.value
+  known-Part p = search (rules, Shapes.the_lemmas)

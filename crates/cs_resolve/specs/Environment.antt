@@ -1,5 +1,5 @@
 -- The definitions of a package, by name (CUE language specification, "Definitions and hidden fields").
-use Rattle.std.specs.Prelude.{◌≡◌, ℕ, List, [], ◌∷◌, ◌++◌, Option, Some, None, IsSome, IsTrue, codes, slice_get, if◌then◌else◌}
+use Rattle.std.specs.Prelude.{◌≡◌, ℕ, List, [], ◌∷◌, ◌++◌, Option, Some, None, IsSome, IsTrue, codes, map, slice_get, if◌then◌else◌}
 use Rattle.std.specs.Option.{option_map}
 use Rattle.std.specs.Str.{bytes_eq}
 use Rattle.cs_syntax.specs.Spelling.{is_definition_rest}
@@ -8,6 +8,9 @@ use Rattle.cs_resolve.specs.Expression.{Expression}
 -- each declared name, without `#`, with all its bodies, in order of first declaration
 abbrev pub Environment : Type 0
 Environment = List (List ℕ × List Expression)
+
+abbrev pub declared_names : Environment → List (List ℕ)
+declared_names E = map (λ d. d.0) E
 
 -- the bodies of a name, where it is declared
 abbrev pub bodies : Environment → List ℕ → Option (List Expression)
@@ -21,7 +24,7 @@ name_at E i = option_map (λ d. d.0) (slice_get E i)
 abbrev pub bodies_at : Environment → ℕ → Option (List Expression)
 bodies_at E i = option_map (λ d. d.1) (slice_get E i)
 
--- a letter or `_`, then letters, digits and `_`
+-- a letter, `_` or `$`, then letters, digits, `_` and `$`
 abbrev pub IsDefinitionName : List ℕ → Type 0
 IsDefinitionName n = IsTrue (is_definition_rest n)
 

@@ -2,6 +2,7 @@ pub mod Expression
 pub mod Predeclared
 pub mod Environment
 pub mod Height
+pub mod Joined
 pub mod View
 pub mod Code
 pub mod Opening
@@ -12,3 +13,4 @@ pub mod Resolved
 pub mod PackageName
 pub mod Checks
 pub mod Steps
+pub mod Around

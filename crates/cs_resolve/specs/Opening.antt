@@ -1,6 +1,6 @@
 -- The opening rule (own rule). An operand is plain where it holds no struct literal and no reference. Where two or
 -- more operands of a conjunction aren't plain, each struct literal in its operands, at any depth, ends with `...`.
-use Rattle.std.specs.Prelude.{◌≡◌, ℕ, suc, ◌≤◌, Bool, true, false, ◌||◌, ◌⊎◌, List, [], ◌∷◌, ◌++◌, map, filter, count_by, nat_lt}
+use Rattle.std.specs.Prelude.{◌≡◌, ℕ, suc, ◌≤◌, Bool, true, false, ◌||◌, ◌⊎◌, List, [], ◌∷◌, ◌++◌, map, filter, count_by, nat_lt, Some, slice_get, Any, Contains}
 use Rattle.std.specs.List.{AllByRecursion, flat_map}
 use Rattle.std.specs.Str.{bytes_eq}
 use Rattle.cs_syntax.specs.Tree.{Tree, reference, meet, join, paren, struct, list, Trees, none, more, Fields, no_field, field, End, closed, any, each, DefinitionTree, defined_name, body, FileTree, definitions}
@@ -165,3 +165,23 @@ unopened_from i all (f ∷ fs) = map (λ o. (i, o)) (unopened_definitions all (d
 -- by file, and then in order of the text
 abbrev pub unopened_files : List FileTree → List (ℕ × ℕ)
 unopened_files fs = unopened_from 0 (named_bodies (flat_map definitions fs)) fs
+
+-- ---- the same literals, by the conjunctions that hold them
+
+-- a literal in the body of d is in a conjunction that asks: that of the bodies under the name of d, where ds are all
+-- definitions, or one inside the body
+abbrev pub IsAsked : List DefinitionTree → DefinitionTree → Literal → Type 0
+IsAsked ds d l =
+    ((asks (values (defined_name d) (named_bodies ds)) ≡ true) × Contains (literals (body d)) l)
+    ⊎ Any (λ es. (asks es ≡ true) × Contains (flat_map literals es) l) (conjunctions (body d))
+
+-- at offset o of the file at number i stands a literal that is asked to end with `...` and doesn't
+pub record IsAskedFor (fs : List FileTree) (i o : ℕ) : Type 0 where
+  pub source : FileTree
+  pub numbered : slice_get fs i ≡ Some source
+  pub declared : DefinitionTree
+  pub in_source : Contains (definitions source) declared
+  pub literal : Literal
+  pub at_offset : literal.at ≡ o
+  pub not_opened : literal.opened ≡ false
+  pub asked : IsAsked (flat_map definitions fs) declared literal

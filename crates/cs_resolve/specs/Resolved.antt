@@ -1,25 +1,21 @@
 -- What files resolve to (CUE language specification, "Definitions and hidden fields" and "Declarations and scopes").
-use Rattle.std.specs.Prelude.{◌≡◌, ℕ, List, [], map, slice_get, Some, unwrap_or}
+use Rattle.std.specs.Prelude.{◌≡◌, ℕ, ◌≤◌, List, [], map, length, slice_get, Some, unwrap_or}
 use Rattle.std.specs.List.{All, flat_map}
 use Rattle.cs_syntax.specs.Answer.{IsSpelled}
 use Rattle.cs_syntax.specs.Tree as T
-use Rattle.cs_syntax.specs.Tree.{Tree, Trees, Fields, End, body, FileTree, definitions}
-use Rattle.cs_syntax.specs.declared.ast.FieldMark.{FieldMark}
-use Rattle.cs_syntax.specs.declared.ast.FieldMark.TheVariants as marks
+use Rattle.cs_syntax.specs.Tree.{Tree, Trees, Fields, End, FileTree, definitions}
 use Rattle.cs_resolve.specs.Expression as cue
 use Rattle.cs_resolve.specs.Expression.{Expression, Expressions, Declarations, Rest}
 use Rattle.cs_resolve.specs.Environment.{Environment}
 use Rattle.cs_resolve.specs.Predeclared.{predeclared}
-use Rattle.cs_resolve.specs.Scopes.{NameFault, unknown}
-use Rattle.cs_resolve.specs.Declarations.{declared, faults_of_files}
-use Rattle.cs_resolve.specs.View.{relation_of}
+use Rattle.cs_resolve.specs.Scopes.{unknown, of_field}
+use Rattle.cs_resolve.specs.Declarations.{names, declared, faults_of_files}
+use Rattle.cs_resolve.specs.Opening.{IsOpened, unopened_files}
+use Rattle.cs_resolve.specs.PackageName.{IsOnePackage, differing_file}
+use Rattle.cs_resolve.specs.Size.{nodes_of_files}
+use Rattle.cs_resolve.specs.View.{relation_of, mark_of}
 use Rattle.cs_resolve.specs.declared.fault.ResolveFault.{ResolveFault}
-use Rattle.cs_resolve.specs.declared.fault.ResolveFault.TheVariants.{OutOfMemory, UnknownName, NotTaken}
-
-abbrev pub mark_of : FieldMark → cue.Mark
-mark_of marks.Regular = cue.regular
-mark_of marks.Optional = cue.optional
-mark_of marks.Required = cue.required
+use Rattle.cs_resolve.specs.declared.fault.ResolveFault.TheVariants.{OutOfMemory, PackageName, TooLarge, UnknownName, FieldReference, NotOpened}
 
 -- names are replaced by what they name: where no name is at fault, every one is predeclared
 abbrev mutual
@@ -63,33 +59,36 @@ environment_of_files fs = map (λ d. (d.0, map resolved d.1)) (declared (flat_ma
 abbrev pub IsResolved : List FileTree → Type 0
 IsResolved fs = faults_of_files fs ≡ []
 
--- the forms that are taken yet: names, integers, bounds, and these joined by `&`
-abbrev mutual
-  pub IsTaken : Tree → Type 0
-  IsTaken (T.named t o) = Unit {0}
-  IsTaken (T.integer z) = Unit {0}
-  IsTaken (T.bound r z) = Unit {0}
-  IsTaken (T.meet ts) = IsEachTaken ts
-  IsTaken _ = ⊥
-
-  pub IsEachTaken : Trees → Type 0
-  IsEachTaken T.none = Unit {0}
-  IsEachTaken (T.more t ts) = IsTaken t × IsEachTaken ts
-
-abbrev pub AreTaken : List FileTree → Type 0
-AreTaken fs = All (λ d. IsTaken (body d)) (flat_map definitions fs)
-
 -- each file is spelled by the tokens of a text
 abbrev pub AreSpelled : List FileTree → Type 0
 AreSpelled fs = All (λ f. (t : List ℕ) × IsSpelled t f) fs
 
--- what a refusal says of the faults of names, in order and each with the number of its file, and of what is taken
-abbrev pub Refusal : ResolveFault → List (ℕ × NameFault) → Type 0 → Type 0
-Refusal OutOfMemory faults Taken = Unit {0}
-Refusal (UnknownName f o) faults Taken = slice_get faults 0 ≡ Some (f, unknown o)
-Refusal NotTaken faults Taken = (Taken → ⊥)
-Refusal _ faults Taken = ⊥
+-- as many definitions and nodes as a package may have (own rule)
+abbrev pub most_definitions : ℕ
+most_definitions = 1000
 
--- an unknown name is the first fault of all, by file and then by text
+abbrev pub most_nodes : ℕ
+most_nodes = 50000
+
+-- distinct names of definitions, over all files, and nodes of all their bodies
+pub record IsSmall (fs : List FileTree) : Type 0 where
+  pub definitions : length (names (flat_map definitions fs)) ≤ most_definitions
+  pub nodes : nodes_of_files fs ≤ most_nodes
+
+-- the files are one package
+pub record IsPackage (fs : List FileTree) : Type 0 where
+  pub agree : IsOnePackage fs
+  pub small : IsSmall fs
+  pub resolved : IsResolved fs
+  pub opened : IsOpened fs
+
+-- the first condition that the files fail, in the order of the lines: the first file that names another package; too
+-- many definitions or nodes; the first name of all that is at fault, by file and then by text; the first literal that
+-- isn't opened, likewise
 abbrev pub IsRefusal : ResolveFault → List FileTree → Type 0
-IsRefusal e fs = Refusal e (faults_of_files fs) (AreTaken fs)
+IsRefusal OutOfMemory fs = Unit {0}
+IsRefusal (PackageName f) fs = differing_file fs ≡ Some f
+IsRefusal TooLarge fs = IsOnePackage fs × ¬ (IsSmall fs)
+IsRefusal (UnknownName f o) fs = IsOnePackage fs × IsSmall fs × (slice_get (faults_of_files fs) 0 ≡ Some (f, unknown o))
+IsRefusal (FieldReference f o) fs = IsOnePackage fs × IsSmall fs × (slice_get (faults_of_files fs) 0 ≡ Some (f, of_field o))
+IsRefusal (NotOpened f o) fs = IsOnePackage fs × IsSmall fs × IsResolved fs × (slice_get (unopened_files fs) 0 ≡ Some (f, o))

@@ -1,21 +1,44 @@
 -- What the steps from files to a package answer.
-use Rattle.std.specs.Prelude.{◌≡◌, ℕ, List, [], map, Result, Ok, Err}
-use Rattle.cs_syntax.specs.Tree.{DefinitionTree}
+use Rattle.std.specs.Prelude.{◌≡◌, ℕ, true, List, [], map, length, slice_get, Some, Result, Ok, Err, Vec}
+use Rattle.std.specs.List.{AllByRecursion, list_all}
+use Rattle.std.specs.declared.alloc.Global.{Global}
+use Rattle.cs_syntax.specs.Tree.{Tree, DefinitionTree}
 use Rattle.cs_resolve.specs.Expression.{Expression}
-use Rattle.cs_resolve.specs.Scopes.{Place, NameFault, faults}
+use Rattle.cs_resolve.specs.Scopes.{Place, NameFault, unknown, of_field, faults}
 use Rattle.cs_resolve.specs.Declarations.{bodies_of}
-use Rattle.cs_resolve.specs.Resolved.{resolved, Refusal}
+use Rattle.cs_resolve.specs.Resolved.{resolved}
+use Rattle.cs_resolve.specs.View as View
+use Rattle.cs_resolve.specs.View.{expression_of, is_known}
+use Rattle.cs_resolve.specs.declared.shape.Shape.{Shape}
 use Rattle.cs_resolve.specs.declared.fault.ResolveFault.{ResolveFault}
+use Rattle.cs_resolve.specs.declared.fault.ResolveFault.TheVariants.{OutOfMemory, UnknownName, FieldReference}
 
 -- the faults at places in the file of that number
 abbrev pub faults_in : ℕ → List (List ℕ) → List Place → List (ℕ × NameFault)
 faults_in file names ps = map (λ x. (file, x)) (faults names ps)
 
--- what is answered is so, no name is at fault and all is taken; or it is refused for what is
-abbrev pub Resolves : {X : Type 0} → Result X ResolveFault → (X → Type 0) → List (ℕ × NameFault) → Type 0 → Type 0
-Resolves (Ok x) IsSo faults Taken = IsSo x × (faults ≡ []) × Taken
-Resolves (Err e) IsSo faults Taken = Refusal e faults Taken
-
 -- the resolved bodies that definitions give to each of the names
 abbrev pub gathered : List (List ℕ) → List DefinitionTree → List (List Expression)
 gathered names ds = map (λ n. map resolved (bodies_of n ds)) names
+
+-- the refusal is for want of memory, or is the first of these faults of names
+abbrev pub IsNameRefusal : ResolveFault → List (ℕ × NameFault) → Type 0
+IsNameRefusal OutOfMemory faults = Unit {0}
+IsNameRefusal (UnknownName f o) faults = slice_get faults 0 ≡ Some (f, unknown o)
+IsNameRefusal (FieldReference f o) faults = slice_get faults 0 ≡ Some (f, of_field o)
+IsNameRefusal _ faults = ⊥
+
+-- what is answered is so, and no name is at fault; or it is refused for the first that is
+abbrev pub Resolves : {X : Type 0} → Result X ResolveFault → (X → Type 0) → List (ℕ × NameFault) → Type 0
+Resolves (Ok x) IsSo faults = IsSo x × (faults ≡ [])
+Resolves (Err e) IsSo faults = IsNameRefusal e faults
+
+-- the shape stands for the resolved expression, where the names of the definitions are these, and refers to them alone
+pub record IsShapeOf (ns : List (List ℕ)) (s : Shape) (t : Tree) : Type 0 where
+  pub same : expression_of ns s ≡ resolved t
+  pub known : is_known (length ns) s ≡ true
+
+-- these are the resolved bodies that definitions give to each of the names, as shapes that refer to these names alone
+pub record AreBodiesOf (ns : List (List ℕ)) (vs : List (Vec Shape Global)) (ds : List DefinitionTree) : Type 0 where
+  pub same : View.bodies_of ns vs ≡ gathered ns ds
+  pub known : AllByRecursion (λ v. list_all (is_known (length ns)) v.items ≡ true) vs

@@ -22,9 +22,6 @@ pub enum ResolveFault {
     /// More than 1,000 definitions, or more than 50,000 nodes of expressions.
     #[error("too many definitions or nodes")]
     TooLarge,
-    /// A form of expression that is not taken yet.
-    #[error("a form of expression that is not taken yet")]
-    NotTaken,
 }
 
 impl From<AllocError> for ResolveFault {

@@ -1,15 +1,16 @@
 // The predeclared names: kinds, and ranges of integers.
-ghost use Rattle.std.specs.Prelude.{◌≡◌};
+ghost use Rattle.std.specs.Prelude.{◌≡◌, ℕ, true, List, IfSome};
 ghost use Rattle.std.specs.Option.{option_map};
 ghost use Rattle.cs_resolve.specs.Expression as cue;
 ghost use Rattle.cs_resolve.specs.Predeclared.{predeclared};
-ghost use Rattle.cs_resolve.specs.View.{expression_of};
+ghost use Rattle.cs_resolve.specs.View.{expression_of, is_known};
 
 use crate::{Kind, Shape};
 
 /// The kind or range that a predeclared name names (CUE, predeclared identifiers).
 pub(crate) fn predeclared_shape(name: &str) -> Option<Shape>
-    ensures { option_map expression_of result ≡ predeclared name.now }
+    ensures named { (ns : List (List ℕ)) → option_map (expression_of ns) result ≡ predeclared name.now }
+    ensures known { (count : ℕ) → IfSome result (λ s. is_known count s ≡ true) }
 {
     match name {
         "int" => Some(Shape::Kind(Kind::Int)),
@@ -29,7 +30,7 @@ pub(crate) fn predeclared_shape(name: &str) -> Option<Shape>
 }
 
 fn range(least: i64, greatest: Option<i64>) -> Shape
-    ensures { expression_of result ≡ cue.range least greatest }
+    ensures { result ≡ Shape.Range least greatest }
 {
     Shape::Range { least, greatest }
 }

@@ -16,7 +16,7 @@ pub use fault::ResolveFault;
 pub use opening::opening_law;
 pub use package::Package;
 pub use resolving::resolve;
-pub use shape::{Kind, Shape};
+pub use shape::{Kind, Part, Shape, ShapeEnd};
 
 #[cfg(test)]
 mod tests;

@@ -1,12 +1,12 @@
 // The opening rule: a conjunction of two or more operands that hold a struct literal or a reference asks each struct
 // literal in its operands to end with `...`.
 
-ghost use Rattle.std.specs.Prelude.{◌≡◌, ◌++◌, [], ◌∷◌, List, ℕ, map, IfOk, IfErr, OnOk, ◌||◌, ◌↔◌};
+ghost use Rattle.std.specs.Prelude.{◌≡◌, ◌++◌, [], ◌∷◌, List, ℕ, map, IfOk, IfErr, OnOk, ◌||◌, ◌↔◌, Contains};
 ghost use Rattle.cs_syntax.specs.View.{expr_view, exprs_view, end_view, fields_view, definition_view, file_view};
 ghost use Rattle.cs_syntax.specs.Tree.{FileTree, definitions};
 ghost use Rattle.std.specs.List.{flat_map};
 ghost use Rattle.cs_resolve.specs.Opening as Opening;
-ghost use Rattle.cs_resolve.specs.Opening.{Named, values, named_fields, named_bodies, IsOpened, unopened, unopened_all, unopened_in, unopened_end, unopened_definitions, unopened_files};
+ghost use Rattle.cs_resolve.specs.Opening.{Named, values, named_fields, named_bodies, IsOpened, IsAskedFor, unopened, unopened_all, unopened_in, unopened_end, unopened_definitions, unopened_files};
 ghost use Rattle.cs_resolve.specs.Checks.{Checks, Repeats};
 
 use crate::ResolveFault;
@@ -238,7 +238,9 @@ pub(crate) fn check_opened(alloc: Global, files: &Vec<File>) -> Result<(), Resol
 }
 
 /// A law: no literal is at fault just where each conjunction has at most one operand that isn't plain, or all struct
-/// literals in its operands end with `...`.
+/// literals in its operands end with `...`; and the literals at fault are just those that don't end with `...` though
+/// a conjunction that holds them asks it.
 pub fn opening_law()
-    ensures { (fs : List FileTree) → (unopened_files fs ≡ []) ↔ IsOpened fs }
+    ensures kept { (fs : List FileTree) → (unopened_files fs ≡ []) ↔ IsOpened fs }
+    ensures told { (fs : List FileTree) (i o : ℕ) → Contains (unopened_files fs) (i, o) ↔ IsAskedFor fs i o }
 {}

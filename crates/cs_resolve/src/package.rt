@@ -1,6 +1,9 @@
 // A package: its definitions, each with its bodies.
-ghost use Rattle.std.specs.Prelude.{◌≡◌, ◌<◌, length, map, Some, None, IfSome, IfNone, List, ℕ};
-ghost use Rattle.cs_resolve.specs.Environment.{bodies, name_at, bodies_at, written, Names, IsDefinitionName};
+ghost use Rattle.std.specs.Prelude.{◌≡◌, ◌<◌, length, map, Some, None, IfSome, IfNone, IsTrue, List, ℕ};
+ghost use Rattle.std.specs.List.{IsDistinct, AllByRecursion, list_all};
+ghost use Rattle.std.specs.Str.{bytes_eq};
+ghost use Rattle.cs_resolve.specs.Environment.{bodies, declared_names, name_at, bodies_at, written, Names, IsDefinitionName};
+ghost use Rattle.cs_resolve.specs.Joined.{IsJoined};
 
 use crate::Shape;
 use indexmap::IndexMap;
@@ -26,26 +29,27 @@ impl Model for Package {
 
     ghost coded = { coded_environment };
 
-    ghost use Rattle.cs_resolve.specs.View.{environment_of, IsWhole};
+    ghost use Rattle.cs_resolve.specs.View.{environment_of, names_of, IsWhole};
 
-    ghost view = { λ p. environment_of p.names.entries p.bodies.items };
+    ghost view = { λ p. environment_of (names_of p.names.entries) p.names.entries p.bodies.items };
 
     ghost invariant = { λ p. IsWhole p.names.entries p.bodies.items };
 }
 
 impl Package {
-    ghost use Rattle.cs_resolve.specs.View.{environment_of, expression_of, IsWhole};
+    ghost use Rattle.cs_resolve.specs.View.{environment_of, names_of, expression_of, is_known, IsWhole};
 
     pub(crate) fn new(names: NameTable, bodies: Vec<Vec<Shape>>) -> Package
         requires { IsWhole names.entries bodies.items }
-        ensures { result ≡ environment_of names.entries bodies.items }
+        ensures { result ≡ environment_of (names_of names.entries) names.entries bodies.items }
     {
         Package { names, bodies }
     }
 
-    /// How many definitions there are.
+    /// How many definitions there are. Each has another name.
     pub fn count(&self) -> usize
-        ensures { result ≡ length self.now }
+        ensures length { result ≡ length self.now }
+        ensures distinct { IsDistinct bytes_eq (declared_names self.now) }
     {
         self.bodies.len()
     }
@@ -58,7 +62,7 @@ impl Package {
         self.names.get_index_of(name.strip_prefix("#")?)
     }
 
-    /// The name of a definition, with its `#`: behind that a letter or `_`, then letters, digits and `_`.
+    /// The name of a definition, with its `#`: behind that a letter, `_` or `$`, then letters, digits, `_` and `$`.
     pub fn name(&self, i: usize) -> &str
         requires { i < length self.now }
         ensures text { IfSome (name_at self.now i) (λ n. result.now ≡ written n) }
@@ -70,10 +74,13 @@ impl Package {
         }
     }
 
-    /// The bodies of a definition.
+    /// The bodies of a definition. Each reference in them is to a number below the count, and stands for the name
+    /// at that place. Each `&` and each `|` in them, at any depth, has two operands or more.
     pub fn bodies(&self, i: usize) -> &[Shape]
         requires { i < length self.now }
-        ensures at { bodies_at self.now i ≡ Some (map expression_of result.now) }
+        ensures at { bodies_at self.now i ≡ Some (map (expression_of (declared_names self.now)) result.now) }
+        ensures known { IsTrue (list_all (is_known (length self.now)) result.now) }
+        ensures joined { AllByRecursion IsJoined (map (expression_of (declared_names self.now)) result.now) }
         ensures named { IfSome (name_at self.now i) (λ n. bodies self.now n ≡ bodies_at self.now i) }
     {
         &self.bodies[i]

@@ -1,16 +1,19 @@
 // From files to a package.
-ghost use Rattle.std.specs.Prelude.{◌≡◌, ℕ, List, [], ◌∷◌, ◌++◌, map, length, replicate, string_bytes, OnOk, IfOk, IfErr};
-ghost use Rattle.std.specs.List.{All, flat_map};
-ghost use Rattle.cs_syntax.specs.Tree.{Tree, DefinitionTree, definition, defined_name, body, definitions};
+ghost use Rattle.std.specs.Prelude.{◌≡◌, ℕ, List, [], ◌∷◌, ◌++◌, map, length, string_bytes, OnOk, IfOk, IfErr, IsOkUnless};
+ghost use Rattle.std.specs.List.{All, AllByRecursion, flat_map};
+ghost use Rattle.cs_syntax.specs.Tree.{Tree, DefinitionTree, definition, defined_name, definitions};
 ghost use Rattle.cs_syntax.specs.View.{definition_view, file_view};
-ghost use Rattle.cs_resolve.specs.Declarations.{distinct, names, places_of, faults_of_files};
+ghost use Rattle.cs_resolve.specs.Declarations.{distinct, names, places_of, faults_from};
 ghost use Rattle.cs_resolve.specs.Environment.{written, IsDefinitionName};
-ghost use Rattle.cs_resolve.specs.Resolved.{environment_of_files, resolved, AreSpelled, AreTaken, IsRefusal, IsResolved, IsTaken};
-ghost use Rattle.cs_resolve.specs.Steps.{faults_in, gathered, Resolves};
-ghost use Rattle.cs_resolve.specs.View.{bodies_of, expression_of, names_of, IsTable};
+ghost use Rattle.cs_resolve.specs.Resolved.{environment_of_files, AreSpelled, IsPackage, IsRefusal};
+ghost use Rattle.cs_resolve.specs.Steps.{faults_in, AreBodiesOf, IsShapeOf, Resolves};
+ghost use Rattle.cs_resolve.specs.View.{names_of, IsTable};
 
+use crate::opening::check_opened;
 use crate::package::NameTable;
-use crate::shapes::shape_of;
+use crate::package_name::differing_file;
+use crate::shapes::body_shape;
+use crate::size::{MOST_DEFINITIONS, has_few_nodes};
 use crate::{Package, ResolveFault, Shape};
 use cs_syntax::{Definition, File};
 use indexmap::IndexMap;
@@ -20,17 +23,25 @@ use std::alloc::Global;
 /// then by text (CUE, definitions).
 ///
 /// # Errors
-/// `UnknownName` at the first name that names nothing, by file and then by text; `NotTaken` at a form that is
-/// not taken yet.
+/// In this order: `PackageName`, with the first file that names another package than the first one named;
+/// `TooLarge`; `UnknownName` or `FieldReference`, at the first name of all that names nothing or a field, by file and
+/// then by text; `NotOpened`, at the first struct literal that has to end with `...` and doesn't.
 pub fn resolve(alloc: Global, files: Vec<File>) -> Result<Package, ResolveFault>
     requires { AreSpelled (map file_view files.items) }
     ensures found { IfOk result (λ p. p ≡ environment_of_files (map file_view files.items)) }
-    ensures resolved { OnOk result (IsResolved (map file_view files.items)) }
-    ensures taken { OnOk result (AreTaken (map file_view files.items)) }
+    ensures accepted { OnOk result (IsPackage (map file_view files.items)) }
     ensures refused { IfErr result (λ e. IsRefusal e (map file_view files.items)) }
+    ensures only { IsPackage (map file_view files.items) → IsOkUnless result ResolveFault.OutOfMemory }
 {
+    if let Some(file) = differing_file(&files) {
+        return Err(ResolveFault::PackageName { file });
+    }
     let names = declared_names(alloc, &files)?;
+    if names.len() > MOST_DEFINITIONS || !has_few_nodes(&files) {
+        return Err(ResolveFault::TooLarge);
+    }
     let bodies = declared_bodies(alloc, &names, &files)?;
+    check_opened(alloc, &files)?;
     Ok(Package::new(names, bodies))
 }
 
@@ -62,6 +73,9 @@ fn add_names(
     ensures memory { IfErr result (λ e. e ≡ ResolveFault.OutOfMemory) }
 {
     for definition in definitions {
+        if names.contains_key(definition.name.as_str()) {
+            continue;
+        }
         let name = definition.name.clone()?;
         let written = written_name(alloc, &name)?;
         drop(names.insert(name, written)?);
@@ -87,9 +101,8 @@ fn declared_bodies(
 ) -> Result<Vec<Vec<Shape>>, ResolveFault>
     requires { IsTable names.now.entries }
     ensures { Resolves result
-        (λ v. bodies_of v.items ≡ gathered (names_of names.now.entries) (flat_map definitions (map file_view files.now.items)))
-        (faults_of_files (map file_view files.now.items))
-        (AreTaken (map file_view files.now.items)) }
+        (λ v. AreBodiesOf (names_of names.now.entries) v.items (flat_map definitions (map file_view files.now.items)))
+        (faults_from 0 (names_of names.now.entries) (map file_view files.now.items)) }
 {
     let mut bodies = no_bodies(alloc, names.len())?;
     for (number, file) in files.iter().enumerate() {
@@ -100,7 +113,8 @@ fn declared_bodies(
 
 /// An empty list of bodies for each of so many names.
 fn no_bodies(alloc: Global, count: usize) -> Result<Vec<Vec<Shape>>, ResolveFault>
-    ensures empty { IfOk result (λ v. bodies_of v.items ≡ replicate count []) }
+    ensures long { IfOk result (λ v. length v.items ≡ count) }
+    ensures empty { IfOk result (λ v. AllByRecursion (λ b. b.items ≡ []) v.items) }
     ensures memory { IfErr result (λ e. e ≡ ResolveFault.OutOfMemory) }
 {
     let mut bodies = Vec::with_capacity(alloc, count)?;
@@ -122,14 +136,13 @@ fn add_bodies(
     requires long { length names.now.entries ≡ length bodies.old.items }
     ensures long { length bodies.new.items ≡ length bodies.old.items }
     ensures added { OnOk result ((ds : List DefinitionTree)
-        → bodies_of bodies.old.items ≡ gathered (names_of names.now.entries) ds
-        → bodies_of bodies.new.items ≡ gathered (names_of names.now.entries) (ds ++ map definition_view definitions.now.items)) }
-    ensures faults { (ns : List (List ℕ)) → Resolves result (λ _. Unit {0})
-        (faults_in file ns (places_of (map definition_view definitions.now.items)))
-        (All (λ d. IsTaken (body d)) (map definition_view definitions.now.items)) }
+        → AreBodiesOf (names_of names.now.entries) bodies.old.items ds
+        → AreBodiesOf (names_of names.now.entries) bodies.new.items (ds ++ map definition_view definitions.now.items)) }
+    ensures faults { Resolves result (λ _. Unit {0})
+        (faults_in file (names_of names.now.entries) (places_of (map definition_view definitions.now.items))) }
 {
     for definition in definitions {
-        let shape = shape_of(alloc, file, &definition.body)?;
+        let shape = body_shape(alloc, names, file, &definition.body)?;
         add_body(names, bodies, definition.name.as_str(), shape)?;
     }
     Ok(())
@@ -146,8 +159,8 @@ fn add_body(
     requires long { length names.now.entries ≡ length bodies.old.items }
     ensures long { length bodies.new.items ≡ length bodies.old.items }
     ensures added { OnOk result ((ds : List DefinitionTree) (o : ℕ) (t : Tree)
-        → bodies_of bodies.old.items ≡ gathered (names_of names.now.entries) ds → expression_of shape ≡ resolved t
-        → bodies_of bodies.new.items ≡ gathered (names_of names.now.entries) (ds ++ definition name.now o t ∷ [])) }
+        → AreBodiesOf (names_of names.now.entries) bodies.old.items ds → IsShapeOf (names_of names.now.entries) shape t
+        → AreBodiesOf (names_of names.now.entries) bodies.new.items (ds ++ definition name.now o t ∷ [])) }
     ensures memory { IfErr result (λ e. e ≡ ResolveFault.OutOfMemory) }
 {
     if let Some(i) = names.get_index_of(name) {

@@ -1,47 +1,221 @@
 // From an expression to its shape: names are replaced by what they name.
-ghost use Rattle.std.specs.Prelude.{◌≡◌, ℕ, List, [], map};
-ghost use Rattle.cs_syntax.specs.View.{expr_view, exprs_view};
-ghost use Rattle.cs_resolve.specs.Resolved.{resolved, IsTaken, IsEachTaken};
-ghost use Rattle.cs_resolve.specs.Scopes.{places, places_all};
-ghost use Rattle.cs_resolve.specs.Steps.{faults_in, Resolves};
-ghost use Rattle.cs_resolve.specs.View.{expression_of};
+ghost use Rattle.std.specs.Prelude.{◌≡◌, ◌++◌, ℕ, List, [], ◌∷◌, IfOk, IfErr, OnOk};
+ghost use Rattle.std.specs.List.{list_any};
+ghost use Rattle.cs_syntax.specs.Tree.{Label, named, reference};
+ghost use Rattle.cs_syntax.specs.View.{expr_view, exprs_view, field_view, fields_view, end_view};
+ghost use Rattle.cs_resolve.specs.Around.{has_text, HoldsLabels, HoldAround, AreShapesOf, ArePartsOf, IsEndOf};
+ghost use Rattle.cs_resolve.specs.Scopes.{places, places_all, places_in, places_end, labels};
+ghost use Rattle.cs_resolve.specs.Steps.{faults_in, IsShapeOf, Resolves};
+ghost use Rattle.cs_resolve.specs.View.{names_of, IsTable};
 
 use crate::kinds::predeclared_shape;
-use crate::{ResolveFault, Shape};
-use cs_syntax::Expr;
+use crate::package::NameTable;
+use crate::{Part, ResolveFault, Shape, ShapeEnd};
+use cs_syntax::{Expr, Field, ListEnd};
 use std::alloc::Global;
+use std::collections::HashSet;
 
-/// The shape of an expression that stands in the file of that number. No struct literal is around it.
+/// The labels of a struct literal that aren't quoted: a name can refer to these alone.
+type Labels<'a> = HashSet<&'a str>;
+
+/// Puts the label of a field among these, where it isn't quoted.
+fn put_label<'a>(labels: &mut Labels<'a>, field: &'a Field) -> Result<(), ResolveFault>
+    ensures put { OnOk result ((ls : List Label) → HoldsLabels labels.old ls
+        → HoldsLabels labels.new (ls ++ (field_view field.now).label ∷ [])) }
+    ensures memory { IfErr result (λ e. e ≡ ResolveFault.OutOfMemory) }
+{
+    if !field.quoted {
+        labels.insert(field.label.as_str())?;
+    }
+    Ok(())
+}
+
+fn labels_of(alloc: Global, fields: &Vec<Field>) -> Result<Labels<'_>, ResolveFault>
+    ensures found { IfOk result (λ s. HoldsLabels s (labels (fields_view fields.now.items))) }
+    ensures memory { IfErr result (λ e. e ≡ ResolveFault.OutOfMemory) }
+{
+    let mut labels = HashSet::new(alloc);
+    for field in fields {
+        put_label(&mut labels, field)?;
+    }
+    Ok(labels)
+}
+
+/// Whether a name names a field of a struct literal around.
+fn names_field(around: &Vec<Labels<'_>>, name: &str) -> bool
+    ensures { result ≡ list_any (has_text name.now) around.now.items }
+{
+    around.iter().any(|labels| labels.contains(name))
+}
+
+/// The shape of a name. A field of a struct literal around hides what is predeclared, and can't be referred to itself.
+fn name_shape(
+    file: usize,
+    around: &Vec<Labels<'_>>,
+    name: &str,
+    at: usize,
+) -> Result<Shape, ResolveFault>
+    ensures { (ns : List (List ℕ)) (scopes : List (List Label)) → HoldAround around.now.items scopes
+        → Resolves result (λ s. IsShapeOf ns s (named name.now at))
+        (faults_in file ns (places scopes (named name.now at))) }
+{
+    if names_field(around, name) {
+        return Err(ResolveFault::FieldReference { file, offset: at });
+    }
+    predeclared_shape(name).ok_or(ResolveFault::UnknownName { file, offset: at })
+}
+
+/// A reference by the number of the definition that it names.
+fn reference_shape(
+    names: &NameTable,
+    file: usize,
+    name: &str,
+    at: usize,
+) -> Result<Shape, ResolveFault>
+    ensures { (scopes : List (List Label))
+        → Resolves result (λ s. IsShapeOf (names_of names.now.entries) s (reference name.now at))
+        (faults_in file (names_of names.now.entries) (places scopes (reference name.now at))) }
+{
+    match names.get_index_of(name) {
+        Some(number) => Ok(Shape::Definition(number)),
+        None => Err(ResolveFault::UnknownName { file, offset: at }),
+    }
+}
+
+/// The shape of an expression, with the labels of the struct literals around it.
 #[cycle(shapes)]
-pub(crate) fn shape_of(alloc: Global, file: usize, expr: &Expr) -> Result<Shape, ResolveFault>
-    ensures { (names : List (List ℕ)) → Resolves result (λ s. expression_of s ≡ resolved (expr_view expr.now))
-        (faults_in file names (places [] (expr_view expr.now))) (IsTaken (expr_view expr.now)) }
+fn shape_of<'a>(
+    alloc: Global,
+    names: &NameTable,
+    file: usize,
+    around: &mut Vec<Labels<'a>>,
+    expr: &'a Expr,
+) -> Result<Shape, ResolveFault>
+    ensures kept { OnOk result (around.new.items ≡ around.old.items) }
+    ensures shape { (scopes : List (List Label)) → HoldAround around.old.items scopes
+        → Resolves result (λ s. IsShapeOf (names_of names.now.entries) s (expr_view expr.now))
+        (faults_in file (names_of names.now.entries) (places scopes (expr_view expr.now))) }
 {
     match expr {
-        Expr::Int(n) => Ok(Shape::Int(*n)),
-        Expr::Name { text, at } => match predeclared_shape(text.as_str()) {
-            Some(shape) => Ok(shape),
-            None => Err(ResolveFault::UnknownName { file, offset: *at }),
-        },
+        Expr::Top => Ok(Shape::Top),
+        Expr::Bottom => Ok(Shape::Bottom),
+        Expr::Null => Ok(Shape::Null),
+        Expr::Bool(value) => Ok(Shape::Bool(*value)),
+        Expr::Int(value) => Ok(Shape::Int(*value)),
+        Expr::Text(text) => Ok(Shape::Text(text.clone()?)),
+        Expr::Name { text, at } => name_shape(file, around, text.as_str(), *at),
+        Expr::Reference { text, at } => reference_shape(names, file, text.as_str(), *at),
         Expr::Bound { relation, limit } => Ok(Shape::Bound {
             relation: *relation,
             limit: *limit,
         }),
-        Expr::And(operands) => Ok(Shape::And(shapes_of(alloc, file, operands)?)),
-        _ => Err(ResolveFault::NotTaken),
+        Expr::NotInt(value) => Ok(Shape::NotInt(*value)),
+        Expr::NotText(text) => Ok(Shape::NotText(text.clone()?)),
+        Expr::NotNull => Ok(Shape::NotNull),
+        Expr::And(operands) => Ok(Shape::And(shapes_of(alloc, names, file, around, operands)?)),
+        Expr::Or(operands) => Ok(Shape::Or(shapes_of(alloc, names, file, around, operands)?)),
+        Expr::Paren(inner) => shape_of(alloc, names, file, around, inner),
+        Expr::Struct { fields, opened, .. } => {
+            let parts = parts_of(alloc, names, file, around, fields)?;
+            Ok(Shape::Struct {
+                parts,
+                opened: *opened,
+            })
+        }
+        Expr::List { front, end } => {
+            let front = shapes_of(alloc, names, file, around, front)?;
+            let end = shape_end(alloc, names, file, around, end)?;
+            Ok(Shape::List { front, end })
+        }
     }
 }
 
 #[cycle(shapes)]
-fn shapes_of(alloc: Global, file: usize, operands: &Vec<Expr>) -> Result<Vec<Shape>, ResolveFault>
-    ensures { (names : List (List ℕ)) → Resolves result
-        (λ v. map expression_of v.items ≡ map (λ o. resolved (expr_view o)) operands.now.items)
-        (faults_in file names (places_all [] (exprs_view operands.now.items))) (IsEachTaken (exprs_view operands.now.items)) }
+fn shapes_of<'a>(
+    alloc: Global,
+    names: &NameTable,
+    file: usize,
+    around: &mut Vec<Labels<'a>>,
+    exprs: &'a Vec<Expr>,
+) -> Result<Vec<Shape>, ResolveFault>
+    ensures kept { OnOk result (around.new.items ≡ around.old.items) }
+    ensures shapes { (scopes : List (List Label)) → HoldAround around.old.items scopes
+        → Resolves result (λ v. AreShapesOf (names_of names.now.entries) v.items (exprs_view exprs.now.items))
+        (faults_in file (names_of names.now.entries) (places_all scopes (exprs_view exprs.now.items))) }
 {
-    let mut shapes = Vec::with_capacity(alloc, operands.len())?;
-    for operand in operands {
-        let shape = shape_of(alloc, file, operand)?;
+    let mut shapes = Vec::with_capacity(alloc, exprs.len())?;
+    for expr in exprs {
+        let shape = shape_of(alloc, names, file, around, expr)?;
         shapes.push(shape)?;
     }
     Ok(shapes)
+}
+
+/// The declarations of a struct literal. Its own labels are around its values.
+#[cycle(shapes)]
+fn parts_of<'a>(
+    alloc: Global,
+    names: &NameTable,
+    file: usize,
+    around: &mut Vec<Labels<'a>>,
+    fields: &'a Vec<Field>,
+) -> Result<Vec<Part>, ResolveFault>
+    ensures kept { OnOk result (around.new.items ≡ around.old.items) }
+    ensures parts { (scopes : List (List Label)) → HoldAround around.old.items scopes
+        → Resolves result (λ v. ArePartsOf (names_of names.now.entries) v.items (fields_view fields.now.items))
+        (faults_in file (names_of names.now.entries)
+        (places_in (labels (fields_view fields.now.items) ∷ scopes) (fields_view fields.now.items))) }
+{
+    let own = labels_of(alloc, fields)?;
+    around.push(own)?;
+    let mut parts = Vec::with_capacity(alloc, fields.len())?;
+    for field in fields {
+        let label = field.label.clone()?;
+        let value = shape_of(alloc, names, file, around, &field.value)?;
+        parts.push(Part {
+            label,
+            mark: field.mark,
+            value,
+        })?;
+    }
+    let _ = around.pop();
+    Ok(parts)
+}
+
+#[cycle(shapes)]
+fn shape_end<'a>(
+    alloc: Global,
+    names: &NameTable,
+    file: usize,
+    around: &mut Vec<Labels<'a>>,
+    end: &'a ListEnd,
+) -> Result<ShapeEnd, ResolveFault>
+    ensures kept { OnOk result (around.new.items ≡ around.old.items) }
+    ensures end { (scopes : List (List Label)) → HoldAround around.old.items scopes
+        → Resolves result (λ s. IsEndOf (names_of names.now.entries) s (end_view end.now))
+        (faults_in file (names_of names.now.entries) (places_end scopes (end_view end.now))) }
+{
+    match end {
+        ListEnd::Closed => Ok(ShapeEnd::Closed),
+        ListEnd::Any => Ok(ShapeEnd::Any),
+        ListEnd::Each(inner) => {
+            let shape = shape_of(alloc, names, file, around, inner)?;
+            Ok(ShapeEnd::Each(Box::new(alloc, shape)?))
+        }
+    }
+}
+
+/// The shape of a definition's body, which stands in the file of that number. No struct literal is around it.
+pub(crate) fn body_shape(
+    alloc: Global,
+    names: &NameTable,
+    file: usize,
+    body: &Expr,
+) -> Result<Shape, ResolveFault>
+    requires { IsTable names.now.entries }
+    ensures { Resolves result (λ s. IsShapeOf (names_of names.now.entries) s (expr_view body.now))
+        (faults_in file (names_of names.now.entries) (places [] (expr_view body.now))) }
+{
+    let mut around = Vec::new(alloc);
+    shape_of(alloc, names, file, &mut around, body)
 }

@@ -6,6 +6,9 @@ ghost use Rattle.cs_resolve.specs.Size.{nodes, nodes_all, nodes_in, nodes_end, n
 
 use cs_syntax::{Definition, Expr, Field, File, ListEnd};
 
+/// How many definitions a package may have.
+pub(crate) const MOST_DEFINITIONS: usize = 1_000;
+
 /// How many nodes the bodies of a package may have.
 const MOST_NODES: usize = 50_000;
 

@@ -1,6 +1,6 @@
 // Definitions with their schemas, and documents with their verdicts on both sides.
-use crate::tables::cell;
-use cs_tool::{export, validate, vet};
+use crate::tables::{all_are, cell, schema_of};
+use cs_tool::export;
 use std::alloc::Global;
 use std::test::Fail;
 
@@ -32,43 +32,19 @@ const DEFINITIONS: &str = r#"
 #P: >= -3 ~ {"minimum":-3,"type":"number"} ~ -3 ~ -4 "a"
 "#;
 
-/// The schema text of a package of one definition `P`.
-fn schema_of(alloc: Global, definition: &str) -> Result<String, Fail> {
-    Ok(format!(in alloc;
-        "{{\"$defs\":{{\"P\":{definition}}},\"$ref\":\"#/$defs/P\",\"$schema\":\"https://json-schema.org/draft/2020-12/schema\"}}"
-    )?)
-}
-
-/// Whether `vet` and `validate` give each of the documents the verdict.
-fn all_are(
-    alloc: Global,
-    source: &str,
-    schema: &[u8],
-    docs: &str,
-    verdict: bool,
-) -> Result<bool, Fail> {
-    for doc in docs.split_whitespace() {
-        let vetted = vet(alloc, &[source.as_bytes()], "#P", doc.as_bytes())?;
-        let validated = validate(alloc, schema, doc.as_bytes())?;
-        if vetted != verdict || validated != verdict {
-            return Ok(false);
-        }
-    }
-    Ok(true)
-}
-
 /// Whether a row holds: the exported text is that of its schema, and each document has its verdict.
 fn holds(alloc: Global, row: &str) -> Result<bool, Fail> {
     let (source, row) = cell(row);
     let (definition, row) = cell(row);
     let (valid, row) = cell(row);
     let (invalid, _) = cell(row);
-    let text = export(alloc, &[source.as_bytes()], "#P")?;
-    let wanted = schema_of(alloc, definition)?;
+    let sources = [source.as_bytes()];
+    let text = export(alloc, &sources, "#P")?;
+    let wanted = schema_of(alloc, &format!(in alloc; "\"P\":{definition}")?)?;
     Ok(
         text.as_slice() == wanted.as_bytes()
-            && all_are(alloc, source, &text, valid, true)?
-            && all_are(alloc, source, &text, invalid, false)?,
+            && all_are(alloc, &sources, &text, valid, true)?
+            && all_are(alloc, &sources, &text, invalid, false)?,
     )
 }
 

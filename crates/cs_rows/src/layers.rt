@@ -1,11 +1,10 @@
-// One definition through the public calls of each crate.
-use cs_compile::{CompileFault, compile};
+// One definition through the public calls of the crates; `compile` and `is_instance` are called by `export` and `vet`.
 use cs_doc::{read_doc, write_doc};
 use cs_guard::{Guarded, guard};
-use cs_instance::{InstanceFault, is_instance};
 use cs_resolve::resolve;
-use cs_schema::{Schema, read_schema, to_doc};
+use cs_schema::{Schema, SchemaDoc, read_schema, to_doc};
 use cs_syntax::{Sort, lex, parse_file};
+use cs_tool::export;
 use cs_validate::is_valid;
 use std::alloc::Global;
 use std::test::Fail;
@@ -50,44 +49,30 @@ fn from_source_to_package(rt: HostRuntime) -> Result<(), Fail> {
     Ok(())
 }
 
+/// The schema that the exported text is read as.
+fn schema_of(alloc: Global, source: &str) -> Result<SchemaDoc, Fail> {
+    let text = export(alloc, &[source.as_bytes()], "#P")?;
+    Ok(read_schema(alloc, &read_doc(alloc, &text)?)?)
+}
+
 #[test]
-fn from_package_to_schema(rt: HostRuntime) -> Result<(), Fail> {
-    let alloc = rt.alloc();
-    let package = package_of(alloc, SOURCE)?;
-    let schema = compile(alloc, &package, "#P")?;
+fn from_text_to_schema(rt: HostRuntime) -> Result<(), Fail> {
+    let schema = schema_of(rt.alloc(), SOURCE)?;
     assert!(rt; matches!(schema.root(), Schema::Object(_)));
     assert!(rt; schema.definition("P").is_some());
     assert!(rt; schema.definition("#P").is_none());
     assert_eq!(rt; schema.definitions().len(), 1);
-    assert!(rt;
-        matches!(
-            &compile(alloc, &package, "#Q"),
-            Err(CompileFault::UnknownRoot)
-        )
-    );
     Ok(())
 }
 
 #[test]
 fn from_schema_to_text_and_back(rt: HostRuntime) -> Result<(), Fail> {
     let alloc = rt.alloc();
-    let schema = compile(alloc, &package_of(alloc, SOURCE)?, "#P")?;
+    let schema = schema_of(alloc, SOURCE)?;
     let doc = to_doc(alloc, &schema)?;
     let again = read_schema(alloc, &read_doc(alloc, &write_doc(alloc, &doc)?)?)?;
     assert!(rt; to_doc(alloc, &again)? == doc);
     assert!(rt; is_valid(alloc, &again, &read_doc(alloc, b"1")?)?);
     assert!(rt; !is_valid(alloc, &again, &read_doc(alloc, b"65536")?)?);
-    Ok(())
-}
-
-#[test]
-fn from_package_to_verdicts(rt: HostRuntime) -> Result<(), Fail> {
-    let alloc = rt.alloc();
-    let package = package_of(alloc, SOURCE)?;
-    assert!(rt; is_instance(alloc, &package, "#P", &read_doc(alloc, b"1")?)?);
-    let document = read_doc(alloc, b"65536")?;
-    assert!(rt; !is_instance(alloc, &package, "#P", &document)?);
-    let unknown = is_instance(alloc, &package, "P", &document);
-    assert!(rt; matches!(&unknown, Err(InstanceFault::UnknownRoot)));
     Ok(())
 }

@@ -6,6 +6,8 @@ mod examples;
 #[cfg(test)]
 mod layers;
 #[cfg(test)]
+mod packages;
+#[cfg(test)]
 mod refusals;
 #[cfg(test)]
 mod streams;

@@ -1,31 +1,8 @@
 // Refusals by their numbers, and what they carry.
-use crate::tables::cell;
+use crate::tables::{Wanted, cell};
 use cs_tool::{Fault, export, validate, vet};
 use std::alloc::Global;
 use std::test::Fail;
-
-/// The number of a refusal, or 0 for an answer.
-fn number<T: Drop>(outcome: &Result<T, Fault>) -> u32 {
-    match outcome {
-        Ok(_) => 0,
-        Err(fault) => fault.number(),
-    }
-}
-
-fn wanted_number(cell: &str) -> u32 {
-    match cell.parse::<u32>() {
-        Ok(number) => number,
-        Err(_) => 99,
-    }
-}
-
-/// The number of a refusal, and the offset behind ` at `, if one is wanted.
-fn wanted_fault(cell: &str) -> (u32, Option<usize>) {
-    match cell.split_once(" at ") {
-        Some((number, offset)) => (wanted_number(number), offset.parse::<usize>().ok()),
-        None => (wanted_number(cell), None),
-    }
-}
 
 /// Schema, document, the number that `validate` answers (0: a verdict).
 const VALIDATED: &str = r##"
@@ -47,9 +24,8 @@ fn documents_and_schemas_that_are_none(rt: HostRuntime) -> Result<(), Fail> {
     for row in VALIDATED.trim().lines() {
         let (schema, rest) = cell(row);
         let (doc, rest) = cell(rest);
-        let wanted = wanted_number(cell(rest).0);
-        let found = number(&validate(rt.alloc(), schema.as_bytes(), doc.as_bytes()));
-        assert_eq!(rt; found, wanted, "{row}");
+        let found = validate(rt.alloc(), schema.as_bytes(), doc.as_bytes());
+        assert!(rt; Wanted::of(cell(rest).0, "").is_met_by(&found), "{row}");
     }
     Ok(())
 }
@@ -67,10 +43,9 @@ const VETTED: &str = r##"
 #P: int ~ ~ [1 ~ 13
 ~ #P ~ 1 ~ 13
 // c ~ #A ~ 1 ~ 13
-#P: {a: int} ~ #P ~ 1 ~ 5
-#P: int | string ~ #P ~ 1 ~ 5
-#P: float ~ #P ~ 1 ~ 5
-#P: #P ~ #P ~ 1 ~ 5
+#P: {a: int} ~ #P ~ 1 ~ 5 at 0
+#P: int | string ~ #P ~ 1 ~ 5 at 0
+#P: "a" ~ #P ~ [1 ~ 5 at 0
 #P: int ~ #Q ~ 1 ~ 13
 #P: {a: int ~ #P ~ 1 ~ 4 at 11
 #P: ~ #P ~ 1 ~ 4 at 3
@@ -93,22 +68,11 @@ fn sources_and_roots_that_are_refused(rt: HostRuntime) -> Result<(), Fail> {
         let (source, rest) = cell(row);
         let (root, rest) = cell(rest);
         let (doc, rest) = cell(rest);
-        let (wanted, offset) = wanted_fault(cell(rest).0);
+        let wanted = Wanted::of(cell(rest).0, "");
         let found = vet(alloc, &[source.as_bytes()], root, doc.as_bytes());
-        assert_eq!(rt; number(&found), wanted, "{row}");
+        assert!(rt; wanted.is_met_by(&found), "{row}");
         let exported = export(alloc, &[source.as_bytes()], root);
-        assert_eq!(rt;
-            number(&exported),
-            if wanted > 20 { 0 } else { wanted },
-            "{row}"
-        );
-        if offset.is_some() {
-            assert_eq!(rt;
-                found.err().and_then(|fault| fault.offset()),
-                offset,
-                "{row}"
-            );
-        }
+        assert!(rt; wanted.of_sources().is_met_by(&exported), "{row}");
     }
     Ok(())
 }
@@ -123,10 +87,12 @@ fn bytes_and_number_of_sources(rt: HostRuntime) -> Result<(), Fail> {
     let alloc = rt.alloc();
     let other = refusal(alloc, &[b"#P: {", b"\xff"]);
     assert!(rt; matches!(&other, Some(Fault::NotUtf8 { file: 1 })));
+    let byte = refusal(alloc, &[b"\xff"]);
+    assert!(rt; matches!(&byte, Some(Fault::NotUtf8 { file: 0 })));
     let none = refusal(alloc, &[]);
-    assert!(rt; matches!(&none, Some(Fault::LeftOut { file: 0, offset: 0 })));
-    let two = refusal(alloc, &[b"#P: int", b"#Q: ["]);
-    assert!(rt; matches!(&two, Some(Fault::LeftOut { file: 0, offset: 0 })));
+    assert!(rt; matches!(&none, Some(Fault::UnknownRoot)));
+    let none = vet(alloc, &[], "#P", b"[1");
+    assert!(rt; matches!(&none, Err(Fault::UnknownRoot)));
     let blanks = vec![in alloc; b' '; 1_048_577]?;
     let long = refusal(alloc, &[&blanks]);
     assert!(rt; matches!(&long, Some(Fault::SourcesTooLong)));

@@ -196,9 +196,14 @@ fn writes_a_refusal(rt: HostRuntime) -> Result<(), Fail> {
         file: 0,
         offset: 21,
     };
+    let cycle = Fault::Cycle {
+        names: Vec::new(alloc),
+    };
     for (fault, line) in [
         (&field, "error 10 at 21\n"),
+        (&cycle, "error 12\n"),
         (&Fault::UnknownRoot, "error 13\n"),
+        (&Fault::ChainTooLong, "error 16\n"),
         (&Fault::OutOfMemory, "error 15\n"),
         (&Fault::TooHigh { file: 3 }, "error 7\n"),
     ] {

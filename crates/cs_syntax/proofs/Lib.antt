@@ -12,6 +12,7 @@ pub mod Cutting
 pub mod Always
 pub mod Slices
 pub mod Literals
+pub mod QuotedTexts
 pub mod Samples
 pub mod Numerals
 pub mod BareNames

@@ -1,8 +1,8 @@
 -- What follows a spelling is an end of its words, so the name of each definition of a file stands among the file's words.
-use Rattle.std.proofs.Common.{◌≡◌, ℕ, ℤ, Bool, List, [], ◌∷◌, Option}
+use Rattle.std.proofs.Common.{ℕ, ℤ, Bool, List, Option}
 use Rattle.cs_syntax.specs.declared.ast.FieldMark.{FieldMark}
-use Rattle.cs_syntax.specs.Words.{Words, definition_name}
-use Rattle.cs_syntax.specs.Tree.{Label, Tree, Trees, Fields, End, DefinitionTree, definition}
+use Rattle.cs_syntax.specs.Words.{Words}
+use Rattle.cs_syntax.specs.Tree.{Label, Tree, Trees, Fields, End, DefinitionTree}
 use Rattle.cs_syntax.specs.Spells.{Comma, explicit, inserted, ClosesParen, paren_here, paren_after, ClosesList, list_here, list_after, ClosesStruct, struct_here, struct_after, SpellsNumber, positive, negative, SpellsBound, limit_is, other_number, other_text, other_null, SpellsLabel, bare_label, quoted_label, SpellsMark, regular, optional, required, SpellsOpening, unopened, opened, SpellsValue, long, short, SpellsField, labelled, SpellsExpr, one_conj, joined, SpellsBars, no_bar, a_bar, SpellsConj, one_operand, met, SpellsAmps, no_amp, an_amp, SpellsOperand, top_is, bottom_is, reference_is, name_is, number_is, text_is, bound_is, paren_is, struct_is, list_is, SpellsStruct, no_fields, dots_alone, fields, SpellsFields, no_more_fields, next_field, SpellsList, no_elements, rest_alone, elements, SpellsElements, no_more_elements, next_element, SpellsEnd, closed_is, rest_is, SpellsRest, any_is, each_is, SpellsDefinition, defined, SpellsPackage, no_clause, clause}
 use Rattle.cs_syntax.specs.Place.{Ends, same, past}
 use Rattle.cs_syntax.proofs.Places.{trans}

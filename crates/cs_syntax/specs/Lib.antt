@@ -13,4 +13,5 @@ pub mod Nesting
 pub mod Within
 pub mod Answer
 pub mod Left
+pub mod Quoted
 pub mod Place

@@ -6,12 +6,16 @@ use Rattle.cs_syntax.specs.Tree.{FileTree}
 use Rattle.cs_syntax.specs.Answer.{IsSpelled, IsFileRefusal}
 use Rattle.cs_syntax.specs.declared.fault.SyntaxFault.{SyntaxFault}
 use Rattle.cs_resolve.specs.Environment.{Environment, Names}
-use Rattle.cs_resolve.specs.Resolved.{environment_of_files, AreTaken, IsResolved}
-use Rattle.cs_resolve.specs.Opening.{IsOpened}
+use Rattle.cs_resolve.specs.Resolved as resolve
+use Rattle.cs_resolve.specs.Resolved.{environment_of_files, IsPackage}
+use Rattle.cs_resolve.specs.declared.fault.ResolveFault.{ResolveFault}
+use Rattle.cs_guard.specs.Cycles as guard
 use Rattle.cs_guard.specs.Guarded.{IsGuarded}
+use Rattle.cs_guard.specs.declared.fault.GuardFault.{GuardFault}
+use Rattle.cs_instance.specs.Taken.{IsTakenPackage}
 use Rattle.cs_tool.specs.declared.fault.Fault.{Fault}
-use Rattle.cs_tool.specs.declared.fault.Fault.TheVariants.{SourcesTooLong, NotUtf8, NoToken, Syntax, LeftOut, IntegerRange, TooHigh, UnknownRoot, OutOfMemory}
-use Rattle.cs_tool.specs.Conversions.{of_syntax}
+use Rattle.cs_tool.specs.declared.fault.Fault.TheVariants.{SourcesTooLong, NotUtf8, NoToken, Syntax, LeftOut, IntegerRange, TooHigh, PackageName, UnknownName, FieldReference, NotOpened, Cycle, UnknownRoot, TooLarge, OutOfMemory, ChainTooLong}
+use Rattle.cs_tool.specs.Conversions.{of_syntax, of_resolve, of_guard}
 
 -- the bytes that the sources of a call may have together, and those that they have
 abbrev pub most_bytes : ℕ
@@ -20,6 +24,11 @@ most_bytes = 1048576
 abbrev pub bytes_of : List (List ℕ) → ℕ
 bytes_of sources = sum_by length sources
 
+-- the sources are texts, and no longer than they may be
+pub record AreTexts (sources : List (List ℕ)) : Type 0 where
+  pub within : bytes_of sources ≤ most_bytes
+  pub utf8 : AllByRecursion IsUtf8 sources
+
 -- each source is spelled by the file at its place
 abbrev pub AreFiles : List (List ℕ) → List FileTree → Type 0
 AreFiles [] [] = Unit {0}
@@ -27,94 +36,102 @@ AreFiles [] (f ∷ fs) = ⊥
 AreFiles (s ∷ ss) [] = ⊥
 AreFiles (s ∷ ss) (f ∷ fs) = IsSpelled s f × AreFiles ss fs
 
--- the sources are accepted, and declare the environment; so far one source is taken, of the forms of expression that
--- packages take
+-- the sources are accepted, and declare the environment
 pub record IsAccepted (sources : List (List ℕ)) (E : Environment) : Type 0 where
-  pub within : bytes_of sources ≤ most_bytes
-  pub utf8 : AllByRecursion IsUtf8 sources
-  pub alone : length sources ≡ 1
+  pub texts : AreTexts sources
   pub files : List FileTree
   pub spelled : AreFiles sources files
-  pub taken : AreTaken files
-  pub resolved : IsResolved files
-  pub opened : IsOpened files
+  pub one_package : IsPackage files
   pub declares : E ≡ environment_of_files files
   pub guarded : IsGuarded E
 
+-- ---- each condition, where it is the first that fails
+
 -- the source of that number is no UTF-8, and those before it are
-pub record IsFirstOther (sources : List (List ℕ)) (file : ℕ) : Type 0 where
+pub record IsFirstOther (sources : List (List ℕ)) (number : ℕ) : Type 0 where
   pub source : List ℕ
-  pub there : slice_get sources file ≡ Some source
+  pub there : slice_get sources number ≡ Some source
   pub other : ¬ (IsUtf8 source)
-  pub before : AllByRecursion IsUtf8 (take file sources)
+  pub before : AllByRecursion IsUtf8 (take number sources)
 
--- the one source spells no file, and that is its fault
-pub record IsMisspelled (sources : List (List ℕ)) (f : Fault) : Type 0 where
-  pub within : bytes_of sources ≤ most_bytes
-  pub utf8 : AllByRecursion IsUtf8 sources
+-- a source spells no file, and that is its fault; those before it spell files
+pub record IsFirstMisspelled (sources : List (List ℕ)) (f : Fault) : Type 0 where
+  pub number : ℕ
   pub source : List ℕ
-  pub alone : sources ≡ source ∷ []
+  pub there : slice_get sources number ≡ Some source
+  pub files : List FileTree
+  pub before : AreFiles (take number sources) files
   pub fault : SyntaxFault
-  pub told : f ≡ of_syntax 0 fault
   pub refused : IsFileRefusal source fault
+  pub told : f ≡ of_syntax number fault
 
--- the sources fail no condition on their bytes, the one source, where there is one, spells a file, and yet they aren't accepted
+-- the sources are texts of which one spells no file
+pub record IsMisspelled (sources : List (List ℕ)) (f : Fault) : Type 0 where
+  pub texts : AreTexts sources
+  pub first : IsFirstMisspelled sources f
+
+-- the sources spell files, and that is why these are no package
+pub record IsNoPackage (sources : List (List ℕ)) (f : Fault) : Type 0 where
+  pub texts : AreTexts sources
+  pub files : List FileTree
+  pub spelled : AreFiles sources files
+  pub fault : ResolveFault
+  pub refused : resolve.IsRefusal fault files
+  pub told : f ≡ of_resolve fault
+
+-- the sources are a package, and that is why its recursion isn't guarded
+pub record IsUnguarded (sources : List (List ℕ)) (f : Fault) : Type 0 where
+  pub texts : AreTexts sources
+  pub files : List FileTree
+  pub spelled : AreFiles sources files
+  pub one_package : IsPackage files
+  pub fault : GuardFault
+  pub refused : guard.IsRefusal fault (environment_of_files files)
+  pub told : f ≡ of_guard fault
+
+-- the sources are accepted, and have a form of expression that isn't taken yet
 pub record IsNotTaken (sources : List (List ℕ)) : Type 0 where
-  pub within : bytes_of sources ≤ most_bytes
-  pub utf8 : AllByRecursion IsUtf8 sources
-  pub spelled : (source : List ℕ) → sources ≡ source ∷ [] → (f : FileTree) × IsSpelled source f
-  pub refused : (E : Environment) → ¬ (IsAccepted sources E)
+  pub environment : Environment
+  pub accepted : IsAccepted sources environment
+  pub other : ¬ (IsTakenPackage environment)
 
--- the sources are accepted, and don't declare the root
+-- the sources are accepted and their forms taken, and they don't declare the root
 pub record IsUnknownRoot (sources : List (List ℕ)) (root : List ℕ) : Type 0 where
   pub environment : Environment
   pub accepted : IsAccepted sources environment
+  pub taken : IsTakenPackage environment
   pub unknown : (n : List ℕ) → ¬ (Names environment root n)
 
--- the refusal tells the first condition that the sources and the root fail; until whole packages and all forms of
--- expression are taken, what is neither a condition on bytes, a fault of the source nor the root is told as a form that
--- is left out, at the first byte of the first source
+-- the refusal tells the first condition that the sources and the root fail; a form of expression that isn't taken yet is
+-- told as one that is left out, at the first byte of the first source, after all else but the root
 abbrev pub First : List (List ℕ) → List ℕ → Fault → Type 0
 First sources root SourcesTooLong = most_bytes < bytes_of sources
-First sources root (NotUtf8 file) = (bytes_of sources ≤ most_bytes) × IsFirstOther sources file
-First sources root (NoToken file offset) = IsMisspelled sources (NoToken file offset)
-First sources root (Syntax file offset) = IsMisspelled sources (Syntax file offset)
-First sources root (IntegerRange file offset) = IsMisspelled sources (IntegerRange file offset)
-First sources root (TooHigh file) = IsMisspelled sources (TooHigh file)
-First sources root (LeftOut file offset) = IsMisspelled sources (LeftOut file offset) ⊎ ((file ≡ 0) × (offset ≡ 0) × IsNotTaken sources)
+First sources root (NotUtf8 number) = (bytes_of sources ≤ most_bytes) × IsFirstOther sources number
+First sources root (NoToken number offset) = IsMisspelled sources (NoToken number offset)
+First sources root (Syntax number offset) = IsMisspelled sources (Syntax number offset)
+First sources root (IntegerRange number offset) = IsMisspelled sources (IntegerRange number offset)
+First sources root (TooHigh number) = IsMisspelled sources (TooHigh number)
+First sources root (LeftOut number offset) = IsMisspelled sources (LeftOut number offset) ⊎ ((number ≡ 0) × (offset ≡ 0) × IsNotTaken sources)
+First sources root (PackageName number) = IsNoPackage sources (PackageName number)
+First sources root TooLarge = IsNoPackage sources TooLarge
+First sources root (UnknownName number offset) = IsNoPackage sources (UnknownName number offset)
+First sources root (FieldReference number offset) = IsNoPackage sources (FieldReference number offset)
+First sources root (NotOpened number offset) = IsNoPackage sources (NotOpened number offset)
+First sources root (Cycle names) = IsUnguarded sources (Cycle names)
+First sources root ChainTooLong = IsUnguarded sources ChainTooLong
 First sources root UnknownRoot = IsUnknownRoot sources root
 First sources root _ = ⊥
 
 -- ---- the parts, for the functions below the calls; memory may run out at any time
 
--- the environment is that of the file
-pub record IsPackageOf (file : FileTree) (E : Environment) : Type 0 where
-  pub taken : AreTaken (file ∷ [])
-  pub resolved : IsResolved (file ∷ [])
-  pub declares : E ≡ environment_of_files (file ∷ [])
-  pub guarded : IsGuarded E
-
--- the file has a form that isn't taken, or a name that isn't resolved
-abbrev pub IsNoPackage : FileTree → Fault → Type 0
-IsNoPackage tree OutOfMemory = Unit {0}
-IsNoPackage tree (LeftOut file offset) = (file ≡ 0) × (offset ≡ 0) × (AreTaken (tree ∷ []) → ¬ (IsResolved (tree ∷ [])))
-IsNoPackage tree _ = ⊥
-
--- the file that a source spells, and no other, is so
-pub record IsSpelledSo (source : List ℕ) (Q : FileTree → Type 0) : Type 0 where
-  pub file : FileTree
-  pub spelled : IsSpelled source file
-  pub only : (f : FileTree) → IsSpelled source f → file ≡ f
-  pub so : Q file
-
--- the refusal is that of the source, or of the file that it spells
-abbrev pub SourceRefusal : List ℕ → Fault → Type 0
-SourceRefusal source e = ((f : SyntaxFault) × (e ≡ of_syntax 0 f) × IsFileRefusal source f) ⊎ IsSpelledSo source (λ file. IsNoPackage file e)
-
 abbrev pub TextsRefusal : List (List ℕ) → Fault → Type 0
 TextsRefusal sources OutOfMemory = Unit {0}
-TextsRefusal sources (NotUtf8 file) = IsFirstOther sources file
+TextsRefusal sources (NotUtf8 number) = IsFirstOther sources number
 TextsRefusal sources _ = ⊥
+
+abbrev pub FilesRefusal : List (List ℕ) → Fault → Type 0
+FilesRefusal sources OutOfMemory = Unit {0}
+FilesRefusal sources f = IsFirstMisspelled sources f
 
 -- the refusals of the sources, whatever the root is
 abbrev pub SourcesRefusal : List (List ℕ) → Fault → Type 0

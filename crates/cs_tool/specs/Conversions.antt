@@ -1,7 +1,7 @@
 -- What the refusals of each crate are among those of the tool.
 use Rattle.std.specs.Prelude.{ℕ}
 use Rattle.cs_tool.specs.declared.fault.Fault.{Fault}
-use Rattle.cs_tool.specs.declared.fault.Fault.TheVariants.{NoToken, Syntax, LeftOut, IntegerRange, TooHigh, Cycle, UnknownRoot, OutOfMemory, ChainTooLong, SchemaNotJson, Keyword, Shape, Reference, Loop, NotJson, NotInteger}
+use Rattle.cs_tool.specs.declared.fault.Fault.TheVariants.{NoToken, Syntax, LeftOut, IntegerRange, TooHigh, PackageName, UnknownName, FieldReference, NotOpened, Cycle, UnknownRoot, TooLarge, OutOfMemory, ChainTooLong, Keyword, Shape, Reference, Loop, NotJson, NotInteger}
 use Rattle.cs_syntax.specs.declared.fault.SyntaxFault.{SyntaxFault}
 use Rattle.cs_syntax.specs.declared.fault.SyntaxFault.TheVariants as syntax
 use Rattle.cs_resolve.specs.declared.fault.ResolveFault.{ResolveFault}
@@ -30,7 +30,11 @@ of_syntax file syntax.TooHigh = TooHigh file
 
 abbrev pub of_resolve : ResolveFault → Fault
 of_resolve resolve.OutOfMemory = OutOfMemory
-of_resolve _ = LeftOut 0 0
+of_resolve (resolve.PackageName file) = PackageName file
+of_resolve (resolve.UnknownName file offset) = UnknownName file offset
+of_resolve (resolve.FieldReference file offset) = FieldReference file offset
+of_resolve (resolve.NotOpened file offset) = NotOpened file offset
+of_resolve resolve.TooLarge = TooLarge
 
 abbrev pub of_guard : GuardFault → Fault
 of_guard guard.OutOfMemory = OutOfMemory
@@ -60,9 +64,3 @@ abbrev pub of_document : DocFault → Fault
 of_document doc.OutOfMemory = OutOfMemory
 of_document doc.NotJson = NotJson
 of_document doc.NotInteger = NotInteger
-
--- the fault of a schema's text
-abbrev pub of_schema_text : DocFault → Fault
-of_schema_text doc.OutOfMemory = OutOfMemory
-of_schema_text doc.NotJson = SchemaNotJson
-of_schema_text doc.NotInteger = NotInteger

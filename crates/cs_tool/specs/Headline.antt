@@ -1,28 +1,32 @@
 -- What the calls answer. A schema admits just the documents that are instances of the root definition.
-use Rattle.std.specs.Prelude.{◌≡◌, ℕ, ◌≤◌, ◌⊎◌, List, Bool, option_map}
+use Rattle.std.specs.Prelude.{◌≡◌, ℕ, ◌≤◌, ◌⊎◌, List, Bool, Option, option_map}
 use Rattle.cs_doc.specs.Document.{Document, IsDocument, depth}
 use Rattle.cs_doc.specs.Texts.{Reads, IsJson, HasOtherNumber, text_of}
 use Rattle.cs_resolve.specs.Environment.{Environment, Names, bodies}
+use Rattle.cs_instance.specs.Taken.{IsTakenPackage}
 use Rattle.cs_instance.specs.Instance.{Rule, definition, IsInstance}
 use Rattle.cs_instance.specs.Instance as instance
 use Rattle.cs_schema.specs.Keywords.{defined}
 use Rattle.cs_schema.specs.Profile.{IsSchema}
-use Rattle.cs_schema.specs.Trim.{trim}
+use Rattle.cs_schema.specs.SchemaDocument.{with_definitions}
+use Rattle.cs_schema.specs.Trim.{trim, with_dialect}
 use Rattle.cs_schema.specs.Validity.{IsValidity}
 use Rattle.cs_schema.specs.Validity as validity
 use Rattle.cs_schema.specs.Refusal as schema
 use Rattle.cs_schema.specs.declared.fault.SchemaFault.{SchemaFault}
 use Rattle.cs_schema.specs.declared.fault.SchemaFault.TheVariants as schema_fault
 use Rattle.cs_compile.specs.Translation.{definition_schema}
+use Rattle.cs_compile.specs.Whole.{reference_to}
 use Rattle.cs_tool.specs.Accepted.{IsAccepted, First}
 use Rattle.cs_tool.specs.declared.fault.Fault.{Fault}
 use Rattle.cs_tool.specs.declared.fault.Fault.TheVariants.{OutOfMemory, SchemaNotJson, Keyword, Shape, Reference, Loop, NotJson, NotInteger}
 
 -- the text is the schema of the root definition that the sources spell
 pub record IsExport (sources : List (List ℕ)) (root text : List ℕ) : Type 0 where
-  -- the sources are accepted, and declare the root
+  -- the sources are accepted, their forms taken, and they declare the root
   pub environment : Environment
   pub accepted : IsAccepted sources environment
+  pub taken : IsTakenPackage environment
   pub name : List ℕ
   pub named : Names environment root name
   -- the text is the compact text of a schema of the profile, nests at most 114 deep and is read as that schema
@@ -32,7 +36,8 @@ pub record IsExport (sources : List (List ℕ)) (root text : List ℕ) : Type 0 
   pub read : Reads text schema
   pub profile : IsSchema schema
   pub trimmed : trim schema ≡ schema
-  -- it has the schema of each declared definition, and no other
+  -- it refers to the root's definition, and has the schema of each declared definition, and no other
+  pub refers : (ds : Option Document) × (schema ≡ with_dialect (with_definitions ds (reference_to name)))
   pub definitions : (n : List ℕ) → defined schema n ≡ option_map definition_schema (bodies environment n)
   -- there is one instance relation and one validity, and each document is valid just where it is an instance of the root
   pub one_instance : instance.OneMeaning environment
@@ -44,6 +49,7 @@ pub record IsExport (sources : List (List ℕ)) (root text : List ℕ) : Type 0 
 pub record IsVerdict (sources : List (List ℕ)) (root text : List ℕ) (answer : Bool) : Type 0 where
   pub environment : Environment
   pub accepted : IsAccepted sources environment
+  pub taken : IsTakenPackage environment
   pub name : List ℕ
   pub named : Names environment root name
   pub document : Document
@@ -67,10 +73,11 @@ abbrev pub ExportRefusal : List (List ℕ) → List ℕ → Fault → Type 0
 ExportRefusal sources root OutOfMemory = Unit {0}
 ExportRefusal sources root f = First sources root f
 
--- the sources are accepted and declare the root
+-- the sources are accepted, their forms taken, and they declare the root
 pub record IsReady (sources : List (List ℕ)) (root : List ℕ) : Type 0 where
   pub environment : Environment
   pub accepted : IsAccepted sources environment
+  pub taken : IsTakenPackage environment
   pub name : List ℕ
   pub named : Names environment root name
 

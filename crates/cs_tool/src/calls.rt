@@ -1,8 +1,9 @@
 // The calls over bytes.
-ghost use Rattle.std.specs.Prelude.{IfOk, IfErr, map};
+ghost use Rattle.std.specs.Prelude.{IfOk, IfErr, IsOkUnless, map};
+ghost use Rattle.cs_doc.specs.Document.{Document};
 ghost use Rattle.cs_doc.specs.Texts.{Reads};
 ghost use Rattle.cs_doc.specs.View.{doc_view};
-ghost use Rattle.cs_tool.specs.Headline.{IsExport, IsVerdict, IsValidated, ExportRefusal, VetRefusal, ValidateRefusal, SchemaTextRefusal};
+ghost use Rattle.cs_tool.specs.Headline.{IsExport, IsVerdict, IsValidated, IsReady, ExportRefusal, VetRefusal, ValidateRefusal, SchemaTextRefusal};
 
 use crate::Fault;
 use crate::packages::package_of;
@@ -16,13 +17,15 @@ use std::alloc::Global;
 /// The text of the schema that admits the documents that the root definition of the sources admits,
 /// without a newline. The root is named with its `#`.
 ///
-/// Refusals in order: sources above 1,048,576 bytes together; the first source that is no UTF-8; a fault
-/// of the source's text; a source outside the forms that are taken; an unknown root.
+/// Refusals in order: sources above 1,048,576 bytes together; the first source that is no UTF-8; the fault
+/// of the first source's text that spells no file; files that are no package; recursion that is not guarded; a
+/// form of expression that is not taken yet; an unknown root.
 pub fn export(alloc: Global, sources: &[&[u8]], root: &str) -> Result<Vec<u8>, Fault>
     ensures found { IfOk result
         (λ text. IsExport (map (λ s. s.now) sources.now) root.now text.items) }
     ensures refused { IfErr result
         (λ e. ExportRefusal (map (λ s. s.now) sources.now) root.now e) }
+    ensures only { IsReady (map (λ s. s.now) sources.now) root.now → IsOkUnless result Fault.OutOfMemory }
 {
     let package = package_of(alloc, sources)?;
     let schema = compile(alloc, &package, root)?;
@@ -41,13 +44,15 @@ pub fn vet(alloc: Global, sources: &[&[u8]], root: &str, doc: &[u8]) -> Result<b
         (λ b. IsVerdict (map (λ s. s.now) sources.now) root.now doc.now b) }
     ensures refused { IfErr result
         (λ e. VetRefusal (map (λ s. s.now) sources.now) root.now doc.now e) }
+    ensures only { (d : Document) → IsReady (map (λ s. s.now) sources.now) root.now → Reads doc.now d
+        → IsOkUnless result Fault.OutOfMemory }
 {
-    let package = package_of(alloc, sources)?;
-    if package.package().find(root).is_none() {
+    let guarded = package_of(alloc, sources)?;
+    if guarded.package().find(root).is_none() {
         return Err(Fault::UnknownRoot);
     }
     let doc = read_doc(alloc, doc)?;
-    Ok(is_instance(alloc, &package, root, &doc)?)
+    Ok(is_instance(alloc, &guarded, root, &doc)?)
 }
 
 /// Whether the document is valid against the schema.

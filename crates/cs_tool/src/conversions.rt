@@ -12,7 +12,7 @@ use cs_schema::SchemaFault;
 use cs_syntax::SyntaxFault;
 use cs_validate::ValidateFault;
 
-/// The refusal of sources outside the forms that are taken so far: 5 at the first byte.
+/// The refusal of a package with a form of expression that isn't taken yet: 5 at the first byte of the first source.
 pub(crate) fn not_taken() -> Fault
     ensures { result ≡ Fault.LeftOut 0 0 }
 {
@@ -33,7 +33,6 @@ pub(crate) fn of_syntax(file: usize, fault: SyntaxFault) -> Fault
     }
 }
 
-// Until whole packages are taken every fault of a package is the same.
 impl From<ResolveFault> for Fault {
     ghost use Rattle.cs_tool.specs.Conversions.{of_resolve};
 
@@ -42,7 +41,11 @@ impl From<ResolveFault> for Fault {
     fn from(fault: ResolveFault) -> Fault {
         match fault {
             ResolveFault::OutOfMemory => Fault::OutOfMemory,
-            _ => not_taken(),
+            ResolveFault::PackageName { file } => Fault::PackageName { file },
+            ResolveFault::UnknownName { file, offset } => Fault::UnknownName { file, offset },
+            ResolveFault::FieldReference { file, offset } => Fault::FieldReference { file, offset },
+            ResolveFault::NotOpened { file, offset } => Fault::NotOpened { file, offset },
+            ResolveFault::TooLarge => Fault::TooLarge,
         }
     }
 }
@@ -115,7 +118,7 @@ impl From<ValidateFault> for Fault {
     }
 }
 
-// The fault of a document's text; a schema's text has `schema_text_fault`.
+// The fault of a document's text; `schema_text` among the calls tells that of a schema's.
 impl From<DocFault> for Fault {
     ghost use Rattle.cs_tool.specs.Conversions.{of_document};
 

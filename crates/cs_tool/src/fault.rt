@@ -2,77 +2,80 @@
 use std::alloc::{AllocError, AllocFailed};
 use thiserror::Error;
 
-/// A refusal of the tool. A file is named by its place in the list of sources, an offset counts its
-/// bytes from 0, a place in a schema is a JSON pointer.
+/// A refusal of the tool. `file` is the place of a source in the list of sources, `offset` counts its bytes
+/// from 0, `place` is the JSON pointer of a schema object in a schema's text.
 #[derive(Debug, Drop, Error)]
 pub enum Fault {
     /// 1: the sources have more than 1,048,576 bytes together.
     #[error("the sources are too long")]
     SourcesTooLong,
-    /// 2: a source is no UTF-8.
+    /// 2: the source is the first that is no UTF-8.
     #[error("file {file} is not UTF-8")]
     NotUtf8 { file: usize },
-    /// 3: no token of the profile begins here.
+    /// 3: no token of the profile begins at the offset.
     #[error("no token begins in file {file} at {offset}")]
     NoToken { file: usize, offset: usize },
-    /// 4: no file of the grammar begins with the tokens up to and with the one here.
+    /// 4: no file of the grammar begins with the tokens up to and with the one at the offset.
     #[error("syntax fault in file {file} at {offset}")]
     Syntax { file: usize, offset: usize },
-    /// 5: a form of CUE that the profile leaves out.
+    /// 5: the same, at a token of a form of CUE that the profile leaves out. At the first byte of the first source
+    /// also where a package has a form of expression that is not taken yet.
     #[error("left-out form in file {file} at {offset}")]
     LeftOut { file: usize, offset: usize },
-    /// 6: an integer that has not 64 signed bits.
+    /// 6: an integer at the offset that has not 64 signed bits.
     #[error("integer out of range in file {file} at {offset}")]
     IntegerRange { file: usize, offset: usize },
-    /// 7: an expression higher than 28.
+    /// 7: the tokens of the source nest deeper than 28, or a body in it is higher than that.
     #[error("an expression of file {file} is too high")]
     TooHigh { file: usize },
-    /// 8: the file's package name differs from the first one named.
+    /// 8: the source is the first whose package name differs from the first one named.
     #[error("file {file} names another package")]
     PackageName { file: usize },
-    /// 9: a name that names nothing.
+    /// 9: the name at the offset names nothing, and is the first at fault.
     #[error("unknown name in file {file} at {offset}")]
     UnknownName { file: usize, offset: usize },
-    /// 10: a name that names a field.
+    /// 10: the name at the offset names a field, and is the first at fault.
     #[error("reference to a field in file {file} at {offset}")]
     FieldReference { file: usize, offset: usize },
-    /// 11: a struct literal that has to end with `...`.
+    /// 11: the struct literal at the offset has to end with `...`, and is the first that does not.
     #[error("struct literal not opened in file {file} at {offset}")]
     NotOpened { file: usize, offset: usize },
-    /// 12: each name refers strongly to the next, and the last to the first.
+    /// 12: a cycle of definitions, by their names with `#`: each refers strongly to the next, and the last to the
+    /// first. The one that is declared first stands first, and no name stands twice.
     #[error("cycle of strong references")]
     Cycle { names: Vec<String> },
-    /// 13: the root is no definition.
+    /// 13: the package declares no definition of the root's name.
     #[error("unknown root")]
     UnknownRoot,
-    /// 14: more than 1,000 definitions, or more than 50,000 nodes of expressions.
+    /// 14: more than 1,000 names of definitions, or more than 50,000 nodes of expressions, in all sources together.
     #[error("too many definitions or nodes")]
     TooLarge,
     /// 15: a growth was refused for want of memory.
     #[error("out of memory")]
     OutOfMemory,
-    /// 16: a chain of more than 64 strong references.
+    /// 16: a chain of more than 64 strong references, where there is no cycle.
     #[error("chain of strong references too long")]
     ChainTooLong,
     /// 20: the schema text is no JSON that `serde_json` reads.
     #[error("the schema is not JSON")]
     SchemaNotJson,
-    /// 21: a keyword outside the profile.
+    /// 21: the keyword of that name is none of the profile.
     #[error("unknown keyword {name} at {place}")]
     Keyword { place: String, name: String },
-    /// 22: a keyword whose value has not its shape; with the empty name, a value that is no schema.
+    /// 22: the value of the keyword of that name has not its shape; with the empty name, the value at the place is no
+    /// schema.
     #[error("keyword {name} at {place} has a wrong value")]
     Shape { place: String, name: String },
-    /// 23: a `$ref` to a name that is not defined.
+    /// 23: a `$ref` to a definition of that name, which the schema does not have.
     #[error("reference to {name} at {place}, which is not defined")]
     Reference { place: String, name: String },
-    /// 24: definitions of a schema that reach themselves.
+    /// 24: definitions of a schema that reach themselves: each refers directly to the next, and the last to the first.
     #[error("a definition reaches itself")]
     Loop { names: Vec<String> },
     /// 25: the document text is no JSON that `serde_json` reads.
     #[error("the document is not JSON")]
     NotJson,
-    /// 26: a number of a document or a schema is no signed integer of 64 bits.
+    /// 26: a number of a document's or a schema's text is no signed integer of 64 bits.
     #[error("a number is no signed integer of 64 bits")]
     NotInteger,
     /// 27: more than 67,108,864 pairs of a value of the document and a rule.

@@ -8,6 +8,7 @@ mod packages;
 mod reads;
 mod request;
 mod runs;
+mod taken;
 mod writes;
 
 pub use calls::{export, validate, vet};

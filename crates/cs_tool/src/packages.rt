@@ -1,12 +1,15 @@
 // From the bytes of sources to their package.
-ghost use Rattle.std.specs.Prelude.{◌≡◌, ◌≤◌, ◌↔◌, IsTrue, IfOk, IfErr, OnOk, [], ◌∷◌, map, IsUtf8};
+ghost use Rattle.std.specs.Prelude.{◌≡◌, ◌≤◌, ◌↔◌, List, map, IsTrue, IfOk, IfErr, OnOk, IsOkUnless, IsUtf8};
 ghost use Rattle.std.specs.List.{AllByRecursion};
+ghost use Rattle.cs_syntax.specs.Tree.{FileTree};
 ghost use Rattle.cs_syntax.specs.View.{file_view};
-ghost use Rattle.cs_resolve.specs.Resolved.{AreSpelled};
-ghost use Rattle.cs_tool.specs.Accepted.{most_bytes, bytes_of, IsAccepted, IsPackageOf, IsNoPackage, IsSpelledSo, SourceRefusal, SourcesRefusal, TextsRefusal};
+ghost use Rattle.cs_resolve.specs.Environment.{Environment};
+ghost use Rattle.cs_instance.specs.Taken.{IsTakenPackage};
+ghost use Rattle.cs_tool.specs.Accepted.{most_bytes, bytes_of, AreFiles, IsAccepted, SourcesRefusal, TextsRefusal, FilesRefusal};
 
 use crate::Fault;
 use crate::conversions::{not_taken, of_syntax};
+use crate::taken::is_taken;
 use cs_guard::{Guarded, guard};
 use cs_resolve::resolve;
 use cs_syntax::{File, parse_file};
@@ -16,41 +19,43 @@ use std::alloc::Global;
 pub(crate) const SOURCES_LIMIT: usize = 1_048_576;
 
 /// The guarded package that the sources spell. In order: their length, UTF-8, each file in turn, their
-/// package, its recursion.
+/// package, its recursion, the forms that are taken.
 pub(crate) fn package_of(alloc: Global, sources: &[&[u8]]) -> Result<Guarded, Fault>
     ensures accepted { IfOk result (λ g. IsAccepted (map (λ s. s.now) sources.now) g) }
+    ensures taken { IfOk result (λ g. IsTakenPackage g) }
     ensures refused { IfErr result (λ e. SourcesRefusal (map (λ s. s.now) sources.now) e) }
+    ensures only { (E : Environment) → IsAccepted (map (λ s. s.now) sources.now) E → IsTakenPackage E
+        → IsOkUnless result Fault.OutOfMemory }
+    ensures one { (E : Environment) → IsAccepted (map (λ s. s.now) sources.now) E → IfOk result (λ g. g ≡ E) }
 {
     if !fits(sources) {
         return Err(Fault::SourcesTooLong);
     }
     let texts = texts_of(alloc, sources)?;
-    let [text] = texts.as_slice() else {
+    let files = files_of(alloc, &texts)?;
+    let package = guard(alloc, resolve(alloc, files)?)?;
+    if !is_taken(package.package()) {
         return Err(not_taken());
-    };
-    package_of_text(alloc, text)
-}
-
-/// The guarded package of one source.
-fn package_of_text(alloc: Global, text: &str) -> Result<Guarded, Fault>
-    ensures found { IfOk result (λ g. IsSpelledSo text.now (λ file. IsPackageOf file g)) }
-    ensures refused { IfErr result (λ e. SourceRefusal text.now e) }
-{
-    match parse_file(alloc, text) {
-        Ok(file) => package_of_file(alloc, file),
-        Err(fault) => Err(of_syntax(0, fault)),
     }
+    Ok(package)
 }
 
-/// The guarded package of one file.
-fn package_of_file(alloc: Global, file: File) -> Result<Guarded, Fault>
-    requires { AreSpelled (file_view file ∷ []) }
-    ensures found { IfOk result (λ g. IsPackageOf (file_view file) g) }
-    ensures refused { IfErr result (λ e. IsNoPackage (file_view file) e) }
+/// The file that each text spells; the fault is that of the first one that spells none.
+fn files_of(alloc: Global, texts: &[&str]) -> Result<Vec<File>, Fault>
+    ensures spelled { IfOk result (λ v. AreFiles (map (λ t. t.now) texts.now) (map file_view v.items)) }
+    ensures refused { IfErr result (λ e. FilesRefusal (map (λ t. t.now) texts.now) e) }
+    ensures only { (fs : List FileTree) → AreFiles (map (λ t. t.now) texts.now) fs → IsOkUnless result Fault.OutOfMemory }
+    ensures one { (fs : List FileTree) → AreFiles (map (λ t. t.now) texts.now) fs
+        → IfOk result (λ v. map file_view v.items ≡ fs) }
 {
-    let mut files = Vec::new(alloc);
-    files.push(file)?;
-    Ok(guard(alloc, resolve(alloc, files)?)?)
+    let mut files = Vec::with_capacity(alloc, texts.len())?;
+    for (number, text) in texts.iter().enumerate() {
+        match parse_file(alloc, text) {
+            Ok(file) => files.push(file)?,
+            Err(fault) => return Err(of_syntax(number, fault)),
+        }
+    }
+    Ok(files)
 }
 
 /// Whether the sources keep the limit.
@@ -72,6 +77,7 @@ fn texts_of<'a>(alloc: Global, sources: &[&'a [u8]]) -> Result<Vec<&'a str>, Fau
     ensures texts { IfOk result (λ v. map (λ t. t.now) v.items ≡ map (λ s. s.now) sources.now) }
     ensures utf8 { OnOk result (AllByRecursion IsUtf8 (map (λ s. s.now) sources.now)) }
     ensures refused { IfErr result (λ e. TextsRefusal (map (λ s. s.now) sources.now) e) }
+    ensures only { AllByRecursion IsUtf8 (map (λ s. s.now) sources.now) → IsOkUnless result Fault.OutOfMemory }
 {
     let mut texts: Vec<&'a str> = Vec::with_capacity(alloc, sources.len())?;
     for (file, source) in sources.iter().enumerate() {

@@ -1,12 +1,13 @@
 // Files.
 
-ghost use Rattle.std.specs.Prelude.{◌≡◌, map, length, string_bytes, IfOk, IfErr, Ok};
+ghost use Rattle.std.specs.Prelude.{◌≡◌, map, length, string_bytes, true, IfOk, IfErr, Ok};
 ghost use Rattle.std.specs.Option.{option_map};
 ghost use Rattle.cs_syntax.specs.Words.{Words};
 ghost use Rattle.cs_syntax.specs.Tree.{FileTree};
 ghost use Rattle.cs_syntax.specs.Spells.{SpellsFile};
 ghost use Rattle.cs_syntax.specs.View.{definition_view, file_view, lexemes_view, words};
 ghost use Rattle.cs_syntax.specs.Left.{left, Reads};
+ghost use Rattle.cs_syntax.specs.Quoted.{are_quoted};
 ghost use Rattle.cs_syntax.specs.Reading.{Gives, definition_at, line_at, definitions_at, is_clause, clause_at, package_at, file_with, file_at};
 ghost use Rattle.cs_syntax.specs.Within.{file_within};
 ghost use Rattle.cs_syntax.specs.Answer.{Answers, IsFileRefusal, IsSpelled};
@@ -17,7 +18,7 @@ use crate::lexer::cut::lex;
 use crate::parser::height::are_low_bodies;
 use crate::parser::kind::{Kind, kind_of};
 use crate::parser::name::{bare_name, is_package};
-use crate::parser::nesting::is_too_nested;
+use crate::parser::nesting::{MOST_NESTED, is_too_nested};
 use crate::parser::place::{Parser, fault_of};
 use crate::token::Token;
 use std::alloc::Global;
@@ -122,6 +123,7 @@ impl Parser<'_, '_> {
 }
 
 fn file_of(alloc: Global, tokens: &[Token<'_>]) -> Result<File, SyntaxFault>
+    requires { are_quoted (lexemes_view tokens.now) ≡ true }
     ensures { Gives file_view result (file_at (words (lexemes_view tokens.now))) }
 {
     let mut parser = Parser {
@@ -135,13 +137,14 @@ fn file_of(alloc: Global, tokens: &[Token<'_>]) -> Result<File, SyntaxFault>
 // The file that tokens spell within the limits.
 #[tactic(auto, unfolding(crate::specs::Within::file_within))]
 fn file_within(alloc: Global, tokens: &[Token<'_>]) -> Result<File, SyntaxFault>
+    requires { are_quoted (lexemes_view tokens.now) ≡ true }
     ensures { Gives file_view result (file_within (words (lexemes_view tokens.now))) }
 {
     if is_too_nested(alloc, tokens)? {
         return Err(SyntaxFault::TooHigh);
     }
     let file = file_of(alloc, tokens)?;
-    if !are_low_bodies(&file.definitions, 28) {
+    if !are_low_bodies(&file.definitions, MOST_NESTED) {
         return Err(SyntaxFault::TooHigh);
     }
     Ok(file)

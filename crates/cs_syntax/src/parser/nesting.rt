@@ -10,6 +10,9 @@ use crate::parser::kind::{Kind, kind_of};
 use crate::token::Token;
 use std::alloc::Global;
 
+/// How deep tokens may nest, and how high a body may be.
+pub(crate) const MOST_NESTED: usize = 28;
+
 /// What stands before a token.
 #[derive(Clone, Copy)]
 pub(crate) enum Before {
@@ -89,7 +92,7 @@ impl Levels {
     }
 }
 
-// Whether tokens nest deeper than 28.
+// Whether tokens nest too deep.
 pub(crate) fn is_too_nested(alloc: Global, tokens: &[Token<'_>]) -> Result<bool, SyntaxFault>
     ensures { Tells result (nat_lt 28 (nesting (words (lexemes_view tokens.now)))) }
 {
@@ -100,12 +103,12 @@ pub(crate) fn is_too_nested(alloc: Global, tokens: &[Token<'_>]) -> Result<bool,
         outer: Vec::new(alloc),
     };
     for token in tokens {
-        if levels.nested > 28 {
+        if levels.nested > MOST_NESTED {
             return Ok(true);
         }
         let kind = kind_of(token);
         levels.pass(before, kind)?;
         before = before_next(before, kind);
     }
-    Ok(levels.nested > 28)
+    Ok(levels.nested > MOST_NESTED)
 }

@@ -1,8 +1,8 @@
 // A place in the tokens.
 
-ghost use Rattle.std.specs.Prelude.{◌≡◌, drop};
-ghost use Rattle.cs_syntax.specs.View.{lexeme_view, word};
-ghost use Rattle.cs_syntax.specs.Left.{left, IsNext, Takes, Skips, ReadsPast};
+ghost use Rattle.std.specs.Prelude.{◌≡◌, drop, true};
+ghost use Rattle.cs_syntax.specs.View.{lexeme_view, lexemes_view, word};
+ghost use Rattle.cs_syntax.specs.Quoted.{are_quoted};
 ghost use Rattle.cs_syntax.specs.Spells.{start_at};
 ghost use Rattle.cs_syntax.specs.Reading.{is_left_out_name, fault_of, fault_at, after, expected, begins_with, behind_if, after_comma, comma_at, close_at, paren_end};
 
@@ -17,6 +17,8 @@ pub(crate) struct Parser<'t, 'a> {
     pub(crate) alloc: Global,
     pub(crate) tokens: &'t [Token<'a>],
     pub(crate) next: usize,
+    // Each text begins with a quote.
+    ghost quoted: { are_quoted (lexemes_view tokens.now) ≡ true },
 }
 
 // Whether a name is a word of a form that the profile leaves out.
@@ -44,6 +46,8 @@ pub(crate) fn fault_of(token: &Token<'_>) -> SyntaxFault
 }
 
 impl<'t, 'a> Parser<'t, 'a> {
+    ghost use Rattle.cs_syntax.specs.Left.{left, IsNext, Takes, Skips, ReadsPast};
+
     // The next token, which stays.
     pub(crate) fn peek(&self) -> Option<Token<'a>>
         ensures { IsNext result self.now }

@@ -1,8 +1,9 @@
-use Rattle.std.proofs.Common.{◌≡◌, map, take}
+use Rattle.std.proofs.Common.{◌≡◌, ℕ, List, map, take}
 use Rattle.cs_resolve.specs.View.{expression_of}
 use Rattle.cs_schema.specs.SchemaDocument.{schema_view}
 use Rattle.cs_compile.specs.Translation.{schema_of}
 use Rattle.cs_compile.proofs.translate.+translate.Given as goal
 
 abbrev pub invariant-all_of-loop-operand : goal.invariant-all_of-loop-operand
-invariant-all_of-loop-operand l = map schema_view l.members.items ≡ map (λ s. schema_of (expression_of s)) (take l.operand-index l.operands)
+invariant-all_of-loop-operand l =
+    (ns : List (List ℕ)) → map schema_view l.members.items ≡ map (λ s. schema_of (expression_of ns s)) (take l.operand-index l.operands)

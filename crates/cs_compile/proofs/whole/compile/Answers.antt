@@ -1,5 +1,6 @@
 use Rattle.std.proofs.Common.{◌≡◌, IfSome, sym, subst}
 use Rattle.cs_resolve.specs.Environment.{Names, IsDefinitionName}
+use Rattle.cs_instance.specs.Taken.{IsTakenPackage}
 use Rattle.cs_schema.specs.SchemaDocument.{schema_view}
 use Rattle.cs_compile.specs.Whole.{Compiles, reference_to}
 use Rattle.cs_compile.proofs.Compiled.{refers, whole, compiles}
@@ -21,3 +22,6 @@ returns-in-Ok-clause-found c =
     let made = compiles c.package-package.result.now n (record { root = c.in_ok-root.root; definitions = c.in_ok-definitions.definitions.entries }) root c.in_ok-definitions.ensures.each c.in_ok-definitions.ensures.alone names.declared in
     let kept = c.package-package.ensures.kept in
     (n, subst (λ E. Names E c.args.root.now n) kept names, subst (λ E. Compiles E n c.in-Ok.schema) kept (subst (Compiles c.package-package.result.now n) (sym c.in-Ok.ensures.found) made))
+
+pub definitions-requires : goal.definitions-requires
+definitions-requires c = subst IsTakenPackage (sym c.package-package.ensures.kept) c.requires

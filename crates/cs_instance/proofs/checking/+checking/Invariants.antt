@@ -1,4 +1,4 @@
-use Rattle.std.proofs.Common.{◌≡◌, Bool, drop}
+use Rattle.std.proofs.Common.{◌≡◌, ℕ, Bool, List, drop}
 use Rattle.std.specs.List.{list_all}
 use Rattle.cs_doc.specs.Document.{Document}
 use Rattle.cs_doc.specs.View.{doc_view}
@@ -9,5 +9,5 @@ use Rattle.cs_instance.proofs.checking.+checking.Given as goal
 
 abbrev pub invariant-all_admit-loop-shape : goal.invariant-all_admit-loop-shape
 invariant-all_admit-loop-shape l =
-    (E : Environment) (I : Rule → Document → Bool) → IsInstance E I
-    → list_all (λ s. I (node (expression_of s)) (doc_view l.doc)) l.shapes ≡ list_all (λ s. I (node (expression_of s)) (doc_view l.doc)) (drop l.shape-index l.shapes)
+    (ns : List (List ℕ)) (E : Environment) (I : Rule → Document → Bool) → IsInstance E I
+    → list_all (λ s. I (node (expression_of ns s)) (doc_view l.doc)) l.shapes ≡ list_all (λ s. I (node (expression_of ns s)) (doc_view l.doc)) (drop l.shape-index l.shapes)

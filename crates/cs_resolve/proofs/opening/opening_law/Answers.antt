@@ -1,5 +1,5 @@
-use Rattle.cs_resolve.proofs.OpeningRule.{opened_law}
+use Rattle.cs_resolve.proofs.OpeningRule.{opened_law, told_law}
 use Rattle.cs_resolve.proofs.opening.opening_law.Goals as goal
 
 pub returns : goal.returns
-returns c = opened_law
+returns c = record { kept = opened_law; told = told_law }

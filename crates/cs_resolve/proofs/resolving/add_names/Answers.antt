@@ -1,15 +1,37 @@
-use Rattle.std.proofs.Common.{◌≡◌, [], ◌∷◌, ◌++◌, map, take, string_bytes, sym, ap, ap₂, ◌∙◌, subst}
+use Rattle.std.proofs.Common.{◌≡◌, ℕ, ◌+◌, ◌<◌, List, [], ◌∷◌, ◌++◌, map, length, take, get_or, string_bytes, sym, ap, ap₂, ◌∙◌, subst}
 use Rattle.std.specs.List.{All}
 use Rattle.std.proofs.lemmas.List.{append_assoc, map-append}
 use Rattle.cs_syntax.specs.Tree.{DefinitionTree, defined_name}
 use Rattle.cs_syntax.specs.View.{definition_view}
+use Rattle.cs_syntax.specs.declared.ast.Definition.{Definition}
 use Rattle.cs_resolve.specs.Declarations.{distinct}
 use Rattle.cs_resolve.specs.Environment.{IsDefinitionName}
 use Rattle.cs_resolve.specs.View.{names_of}
 use Rattle.cs_resolve.proofs.Environments.{table-insert}
-use Rattle.cs_resolve.proofs.Order.{put, names_insert, distinct_push}
+use Rattle.cs_resolve.proofs.Order.{put, put_there, names_insert, distinct_push}
 use Rattle.cs_resolve.proofs.Trees.{map_more, mapped_at}
 use Rattle.cs_resolve.proofs.resolving.add_names.Goals as goal
+
+-- one name more is behind those of so many definitions
+pushed : (ns : List (List ℕ)) (xs : List Definition) (i : ℕ) (d : Definition) → i < length xs → d ≡ get_or xs i d
+    → put (string_bytes d.name) (distinct (ns ++ map defined_name (map definition_view (take i xs)))) ≡ distinct (ns ++ map defined_name (map definition_view (take (i + 1) xs)))
+pushed ns xs i d l is =
+    let before = map defined_name (map definition_view (take i xs)) in
+    sym (distinct_push (ns ++ before) (string_bytes d.name))
+    ∙ ap distinct (append_assoc ns before (string_bytes d.name ∷ []) ∙ ap (λ r. ns ++ r) (sym (ap (map defined_name) (map_more definition_view xs i d l is) ∙ map-append defined_name (map definition_view (take i xs)) (definition_view d ∷ []))))
+
+-- a name that is there stays where it is
+pub loop-definition-preserved-then-contains_key : goal.loop-definition-preserved-then-contains_key
+loop-definition-preserved-then-contains_key c =
+    let l = c.loop-definition in
+    let d = c.definition-item.result in
+    let there = put_there c.as_str.result.now l.names.entries (sym c.contains_key.ensures ∙ c.if-contains_key.true) in
+    record {
+      table = l.invariant.table;
+      added = λ ns is.
+          let same = l.invariant.added ns is in
+          sym there ∙ ap₂ put c.as_str.ensures.value same ∙ pushed ns c.deref-definition-items.result.now l.definition-index d c.loop-definition-test.true c.definition-item.is;
+    }
 
 pub loop-definition-preserved : goal.loop-definition-preserved
 loop-definition-preserved c =
@@ -24,13 +46,11 @@ loop-definition-preserved c =
     let same : string_bytes name ≡ string_bytes d.name = c.in_ok-name.ensures.cases in
     let all = subst (λ es. All (λ (e : DefinitionTree). IsDefinitionName (defined_name e)) (map definition_view es)) (sym c.deref-definition-items.ensures.value) c.requires.spelled in
     let spelled = mapped_at (λ (e : DefinitionTree). IsDefinitionName (defined_name e)) definition_view items i d c.loop-definition-test.true c.definition-item.is all in
-    let more = ap (map defined_name) (map_more definition_view items i d c.loop-definition-test.true c.definition-item.is) ∙ map-append defined_name (map definition_view (take i items)) (definition_view d ∷ []) in
     record {
       table = table-insert old new name written l.invariant.table c.in_ok-written.ensures.text (subst IsDefinitionName (sym same) spelled) c.in_ok-insert.ensures.entries c.in_ok-insert.ensures.unique;
       added = λ ns is.
           ap names_of c.in_ok-insert.ensures.entries
           ∙ names_insert name written old
           ∙ ap₂ put same (l.invariant.added ns is)
-          ∙ sym (distinct_push (ns ++ map defined_name (map definition_view (take i items))) (string_bytes d.name))
-          ∙ ap distinct (append_assoc ns (map defined_name (map definition_view (take i items))) (string_bytes d.name ∷ []) ∙ ap (λ r. ns ++ r) (sym more));
+          ∙ pushed ns items i d c.loop-definition-test.true c.definition-item.is;
     }

@@ -1,11 +1,113 @@
-use Rattle.std.proofs.Common.{map, ◌∙◌}
+use Rattle.std.proofs.Common.{◌≡◌, ◌<◌, ◌≤◌, ◌↔◌, Bool, true, false, List, map, length, Some, None, IsTrue, String, Global, sym, ap, ◌∙◌, subst, arith}
+use Rattle.std.specs.List.{AllByRecursion, flat_map, list_all}
+use Rattle.std.proofs.lemmas.Result.{err_from_is_err_and}
+use Rattle.cs_syntax.specs.Tree.{FileTree, definitions}
 use Rattle.cs_syntax.specs.View.{file_view}
-use Rattle.cs_resolve.specs.View.{bodies_of, names_of}
-use Rattle.cs_resolve.proofs.Gathered.{environment-gathered}
+use Rattle.cs_resolve.specs.Declarations.{names, faults_from}
+use Rattle.cs_resolve.specs.Joined.{IsJoined}
+use Rattle.cs_resolve.specs.Opening.{unopened_files}
+use Rattle.cs_resolve.specs.Resolved.{IsSmall}
+use Rattle.cs_resolve.specs.Size.{nodes_of_files}
+use Rattle.cs_resolve.specs.View.{bodies_of, is_known, names_of}
+use Rattle.cs_resolve.proofs.Faults.{name-refusal, opening-refusal, opening-none, refusal-none, refusal-same}
+use Rattle.cs_resolve.proofs.Gathered.{environment-gathered, length-bodies, length-names}
+use Rattle.cs_resolve.proofs.JoinedTrees.{joined-gathered}
+use Rattle.cs_resolve.proofs.OnePackage.{one_package}
+use Rattle.cs_resolve.proofs.OpeningRule.{opened_law}
 use Rattle.cs_resolve.proofs.resolving.resolve.Goals as goal
+use Rattle.cs_resolve.proofs.resolving.resolve.Goals.{then-len-gt-MOST_DEFINITIONS-via-then-len-gt-MOST_DEFINITIONS, then-len-gt-MOST_DEFINITIONS-via-else-len-gt-MOST_DEFINITIONS+then-not-has_few_nodes}
+
+module _ (fs : List FileTree) (es : List (String Global × String Global)) (found : names_of es ≡ names (flat_map definitions fs)) where
+  count : length (names (flat_map definitions fs)) ≡ length es
+  count = sym (ap length found) ∙ length-names es
+
+  is_small : (few : Bool) → length es ≤ 1000 → (IsTrue few ↔ (nodes_of_files fs ≤ 50000)) → few ≡ true → IsSmall fs
+  is_small few le nodes is = record { definitions = omega (arith, le, count); nodes = nodes.0 is }
+
+  many_names : 1000 < length es → ¬ IsSmall fs
+  many_names l h = omega (arith, l, count, h.definitions)
+
+  many_nodes : (few : Bool) → (IsTrue few ↔ (nodes_of_files fs ≤ 50000)) → few ≡ false → ¬ IsSmall fs
+  many_nodes few nodes is h = let yes : few ≡ true = nodes.1 h.nodes in cc
+
+pub returns-in-Some-clause-only : goal.returns-in-Some-clause-only
+returns-in-Some-clause-only c h =
+    let none = c.differing_file.ensures ∙ (one_package (map file_view c.args.files.items)).1 h.agree in
+    let both : None ≡ Some c.in-Some.file = sym none ∙ c.in-Some.is in
+    cc
+
+pub returns-then-len-gt-MOST_DEFINITIONS-clause-refused : goal.returns-then-len-gt-MOST_DEFINITIONS-clause-refused
+returns-then-len-gt-MOST_DEFINITIONS-clause-refused c =
+    let fs = map file_view c.args.files.items in
+    let es = c.in_ok-names.names.entries in
+    let found = c.in_ok-names.ensures.found in (
+      (one_package fs).0 (sym c.differing_file.ensures ∙ c.in_default.is),
+      elim c.then-len-gt-MOST_DEFINITIONS.branch [
+        | then-len-gt-MOST_DEFINITIONS-via-then-len-gt-MOST_DEFINITIONS w ↦ many_names fs es found (omega (arith, w.if-len-gt-MOST_DEFINITIONS.true, c.len.ensures.len))
+        | then-len-gt-MOST_DEFINITIONS-via-else-len-gt-MOST_DEFINITIONS+then-not-has_few_nodes w ↦ many_nodes fs es found w.has_few_nodes.result w.has_few_nodes.ensures w.if-not-has_few_nodes.true
+      ],
+    )
+
+pub returns-in_err-bodies-clause-refused : goal.returns-in_err-bodies-clause-refused
+returns-in_err-bodies-clause-refused c =
+    let fs = map file_view c.args.files.items in
+    let es = c.in_ok-names.names.entries in
+    let found = c.in_ok-names.ensures.found in
+    let e = c.in_err-bodies.field-0.0 in
+    let p = err_from_is_err_and c.from_residual-in_err-bodies.result c.from_residual-in_err-bodies.ensures.1 in
+    let one = (one_package fs).0 (sym c.differing_file.ensures ∙ c.in_default.is) in
+    let small = is_small fs es found c.has_few_nodes.result (omega (arith, c.if-len-gt-MOST_DEFINITIONS.false, c.len.ensures.len)) c.has_few_nodes.ensures c.if-not-has_few_nodes.false in
+    rw (p.1, p.2) (name-refusal e fs one small (refusal-same e _ _ (ap (λ ns. faults_from 0 ns fs) found) c.in_err-bodies.ensures))
+
+pub returns-in_err-bodies-clause-only : goal.returns-in_err-bodies-clause-only
+returns-in_err-bodies-clause-only c h =
+    let fs = map file_view c.args.files.items in
+    let found = c.in_ok-names.ensures.found in
+    let p = err_from_is_err_and c.from_residual-in_err-bodies.result c.from_residual-in_err-bodies.ensures.1 in
+    rw (p.1, p.2) (refusal-none c.in_err-bodies.field-0.0 _ (ap (λ ns. faults_from 0 ns fs) found ∙ h.resolved) c.in_err-bodies.ensures)
+
+pub returns-in_err-check_opened-clause-refused : goal.returns-in_err-check_opened-clause-refused
+returns-in_err-check_opened-clause-refused c =
+    let fs = map file_view c.args.files.items in
+    let es = c.in_ok-names.names.entries in
+    let found = c.in_ok-names.ensures.found in
+    let p = err_from_is_err_and c.from_residual-in_err-check_opened.result c.from_residual-in_err-check_opened.ensures.1 in
+    let one = (one_package fs).0 (sym c.differing_file.ensures ∙ c.in_default.is) in
+    let small = is_small fs es found c.has_few_nodes.result (omega (arith, c.if-len-gt-MOST_DEFINITIONS.false, c.len.ensures.len)) c.has_few_nodes.ensures c.if-not-has_few_nodes.false in
+    let resolved = sym (ap (λ ns. faults_from 0 ns fs) found) ∙ c.in_ok-bodies.ensures.1 in
+    rw (p.1, p.2) (opening-refusal c.in_err-check_opened.field-0.0 fs one small resolved c.in_err-check_opened.ensures)
+
+pub returns-in_err-check_opened-clause-only : goal.returns-in_err-check_opened-clause-only
+returns-in_err-check_opened-clause-only c h =
+    let fs = map file_view c.args.files.items in
+    let p = err_from_is_err_and c.from_residual-in_err-check_opened.result c.from_residual-in_err-check_opened.ensures.1 in
+    rw (p.1, p.2) (opening-none c.in_err-check_opened.field-0.0 (unopened_files fs) ((opened_law fs).1 h.opened) c.in_err-check_opened.ensures)
+
+pub new-requires : goal.new-requires
+new-requires c =
+    let es = c.in_ok-names.names.entries in
+    let vs = c.in_ok-bodies.bodies.items in
+    let there = c.in_ok-bodies.ensures.0 in
+    record {
+      long = sym (length-names es) ∙ length-bodies (names_of es) vs _ there;
+      table = c.in_ok-names.ensures.table;
+      known = subst (λ n. AllByRecursion (λ v. list_all (is_known n) v.items ≡ true) vs) (length-names es) there.known;
+      joined = subst (AllByRecursion (AllByRecursion IsJoined)) (sym there.same) (joined-gathered (names_of es) (map file_view c.args.files.items) c.requires);
+    }
 
 pub returns-clause-found : goal.returns-clause-found
 returns-clause-found c =
-    let names = c.in_ok-names.names.entries in
-    let bodies = c.in_ok-bodies.bodies.items in
-    c.new.ensures ∙ environment-gathered (map file_view c.args.files.items) (names_of names) (bodies_of bodies) c.in_ok-names.ensures.found c.in_ok-bodies.ensures.0
+    let ns = names_of c.in_ok-names.names.entries in
+    c.new.ensures ∙ environment-gathered (map file_view c.args.files.items) ns (bodies_of ns c.in_ok-bodies.bodies.items) c.in_ok-names.ensures.found c.in_ok-bodies.ensures.0.same
+
+pub returns-clause-accepted : goal.returns-clause-accepted
+returns-clause-accepted c =
+    let fs = map file_view c.args.files.items in
+    let es = c.in_ok-names.names.entries in
+    let found = c.in_ok-names.ensures.found in
+    record {
+      agree = (one_package fs).0 (sym c.differing_file.ensures ∙ c.in_default.is);
+      small = is_small fs es found c.has_few_nodes.result (omega (arith, c.if-len-gt-MOST_DEFINITIONS.false, c.len.ensures.len)) c.has_few_nodes.ensures c.if-not-has_few_nodes.false;
+      resolved = sym (ap (λ ns. faults_from 0 ns fs) found) ∙ c.in_ok-bodies.ensures.1;
+      opened = (opened_law fs).0 c.in_ok-check_opened.ensures;
+    }

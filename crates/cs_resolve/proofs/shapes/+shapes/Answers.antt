@@ -1,86 +1,200 @@
-use Rattle.std.proofs.Common.{◌≡◌, ℕ, List, [], ◌∷◌, ◌++◌, map, refl, sym, ap, ap₂, ◌∙◌, subst}
-use Rattle.std.proofs.lemmas.List.{map-append, take_all, drop_all}
+use Rattle.std.proofs.Common.{◌≡◌, ℕ, List, Vec, Global, ◌&&◌, ◌∷◌, ◌++◌, length, rules, string_bytes, refl, sym, ap, ap₂, ◌∙◌, subst, vec_len, arith}
 use Rattle.std.proofs.lemmas.Result.{err_from_is_err_and}
 use Rattle.cs_syntax.specs.Tree as T
-use Rattle.cs_syntax.specs.Tree.{Tree}
-use Rattle.cs_syntax.specs.View.{expr_view, exprs_view}
+use Rattle.cs_syntax.specs.View.{expr_view, exprs_view, fields_view, end_view}
+use Rattle.cs_syntax.specs.declared.ast.Expr as Exprs
 use Rattle.cs_syntax.specs.declared.ast.Expr.{Expr}
+use Rattle.cs_syntax.specs.declared.ast.ListEnd.{ListEnd}
+use Rattle.cs_resolve.specs.Around.{HoldAround}
 use Rattle.cs_resolve.specs.Expression as cue
-use Rattle.cs_resolve.specs.Resolved.{resolved, resolved_all, IsTaken, IsEachTaken}
-use Rattle.cs_resolve.specs.Scopes.{places, places_all, NameFault}
-use Rattle.cs_resolve.specs.Steps.{faults_in}
-use Rattle.cs_resolve.specs.View.{expression_of, expressions_of}
-use Rattle.cs_resolve.proofs.Faults.{faults_in-append, refusal-at, refusal-same, refusal-tree, taken-more}
-use Rattle.cs_resolve.proofs.Refusals.{at_place, none_more}
-use Rattle.cs_resolve.proofs.Trees.{view-And, map_more}
-use Rattle.cs_resolve.proofs.Views.{expression_of-And}
+use Rattle.cs_resolve.specs.Resolved.{resolved, resolved_end}
+use Rattle.cs_resolve.specs.Scopes.{labels, places, places_all, places_end}
+use Rattle.cs_resolve.specs.Steps.{faults_in, IsShapeOf, Resolves}
+use Rattle.cs_resolve.specs.View.{names_of, mark_of, expression_of, expressions_of, declarations_of, is_known}
+use Rattle.cs_resolve.proofs.LabelSets.{entered, left}
+use Rattle.cs_resolve.proofs.Made.{of_exprs, of_fields, none-made, one-made, all-made, refused-at, all_resolved, declared, all_declared, same_declaration}
+use Rattle.cs_resolve.proofs.NameFaults.{faults_in-append, refused-same, refused-left, refused-right}
+use Rattle.cs_resolve.proofs.Trees.{view-Name, view-Reference, view-And, view-Or, view-Struct, view-List, view-Each, view-value, view-mark, view-text}
+use Rattle.cs_resolve.proofs.Views.{of-And, of-Or, of-Struct, of-List, of-Each, of-Part, known-And, known-Or, known-Struct, known-List, known-Each, known-Part}
 use Rattle.cs_resolve.proofs.shapes.+shapes.Goals as goal
 
-module _ (file : ℕ) (names : List (List ℕ)) where
-  abbrev found : List Expr → List (ℕ × NameFault)
-  found es = faults_in file names (places_all [] (exprs_view es))
+-- ---- one expression
 
-  abbrev found_at : Expr → List (ℕ × NameFault)
-  found_at e = faults_in file names (places [] (expr_view e))
+-- the faults of a list are those of its elements, and of its end
+list_cut : (file : ℕ) (ns : List (List ℕ)) (scopes : List (List T.Label)) (e : Expr) (v : Vec Expr Global) (end : ListEnd) → e ≡ Exprs.List v end → faults_in file ns (places scopes (expr_view e)) ≡ faults_in file ns (places_all scopes (exprs_view v.items)) ++ faults_in file ns (places_end scopes (end_view end))
+list_cut file ns scopes e v end is =
+    ap (λ u. faults_in file ns (places scopes u)) (ap expr_view is ∙ view-List v end)
+    ∙ faults_in-append file ns (places_all scopes (exprs_view v.items)) (places_end scopes (end_view end))
 
-  parts : (e : Expr) (es : List Expr) → found (e ∷ es) ≡ found_at e ++ found es
-  parts e es = faults_in-append file names (places [] (expr_view e)) (places_all [] (exprs_view es))
+pub shape_of-returns-in-Name-clause-shape : goal.shape_of-returns-in-Name-clause-shape
+shape_of-returns-in-Name-clause-shape t c scopes around =
+    let ns = names_of c.args.names.now.entries in
+    let is = ap expr_view c.in-Name.is ∙ view-Name c.in-Name.text c.in-Name.at ∙ ap (λ s. T.named s c.in-Name.at) (sym c.as_str.ensures.value) in
+    subst (λ u. Resolves c.name_shape.result (λ s. IsShapeOf ns s u) (faults_in c.args.file ns (places scopes u))) (sym is) (c.name_shape.ensures ns scopes around)
 
-abbrev taken : List Expr → Type 0
-taken es = IsEachTaken (exprs_view es)
+pub shape_of-returns-in-Reference-clause-shape : goal.shape_of-returns-in-Reference-clause-shape
+shape_of-returns-in-Reference-clause-shape t c scopes around =
+    let ns = names_of c.args.names.now.entries in
+    let is = ap expr_view c.in-Reference.is ∙ view-Reference c.in-Reference.text c.in-Reference.at ∙ ap (λ s. T.reference s c.in-Reference.at) (sym c.as_str-in-Reference.ensures.value) in
+    subst (λ u. Resolves c.reference_shape.result (λ s. IsShapeOf ns s u) (faults_in c.args.file ns (places scopes u))) (sym is) (c.reference_shape.ensures scopes)
 
-all_resolved : (es : List Expr) → expressions_of (map (λ o. resolved (expr_view o)) es) ≡ resolved_all (exprs_view es)
-all_resolved [] = refl
-all_resolved (e ∷ es) = ap (cue.expression (resolved (expr_view e))) (all_resolved es)
+pub shape_of-returns-in_ok-shapes_of-in-And-clause-shape :
+    goal.shape_of-returns-in_ok-shapes_of-in-And-clause-shape
+shape_of-returns-in_ok-shapes_of-in-And-clause-shape t c scopes around =
+    let ns = names_of c.args.names.now.entries in
+    let v = c.in_ok-shapes_of-in-And.field-0 in
+    let is = ap expr_view c.in-And.is ∙ view-And c.in-And.operands in
+    let got = c.in_ok-shapes_of-in-And.ensures.shapes scopes around in (
+      record { same = of-And ns v ∙ ap cue.conjunction got.0.same ∙ ap resolved (sym is); known = known-And (length ns) v ∙ got.0.known },
+      ap (λ u. faults_in c.args.file ns (places scopes u)) is ∙ got.1,
+    )
 
-pub shape_of-returns-in_err-shapes_of-in-And : goal.shape_of-returns-in_err-shapes_of-in-And
-shape_of-returns-in_err-shapes_of-in-And t c names =
-    let os = c.in-And.operands in
-    let p = err_from_is_err_and c.from_residual.result c.from_residual.ensures.1 in
-    let is = ap expr_view c.in-And.is ∙ view-And os in
-    rw (p.1, p.2) (refusal-tree c.in_err-shapes_of-in-And.field-0.0 c.args.file names (expr_view c.args.expr.now) (T.meet (exprs_view os.items)) is (c.in_err-shapes_of-in-And.ensures names))
+pub shape_of-returns-in_ok-shapes_of-in-Or-clause-shape :
+    goal.shape_of-returns-in_ok-shapes_of-in-Or-clause-shape
+shape_of-returns-in_ok-shapes_of-in-Or-clause-shape t c scopes around =
+    let ns = names_of c.args.names.now.entries in
+    let v = c.in_ok-shapes_of-in-Or.field-0 in
+    let is = ap expr_view c.in-Or.is ∙ view-Or c.in-Or.operands in
+    let got = c.in_ok-shapes_of-in-Or.ensures.shapes scopes around in (
+      record { same = of-Or ns v ∙ ap cue.disjunction got.0.same ∙ ap resolved (sym is); known = known-Or (length ns) v ∙ got.0.known },
+      ap (λ u. faults_in c.args.file ns (places scopes u)) is ∙ got.1,
+    )
 
-pub shape_of-returns-in_ok-shapes_of-in-And : goal.shape_of-returns-in_ok-shapes_of-in-And
-shape_of-returns-in_ok-shapes_of-in-And t c names =
-    let os = c.in-And.operands in
-    let is = ap expr_view c.in-And.is ∙ view-And os in
-    let got = c.in_ok-shapes_of-in-And.ensures names in
-    (expression_of-And c.in_ok-shapes_of-in-And.field-0 ∙ ap (λ es. cue.conjunction (expressions_of es)) got.0 ∙ ap cue.conjunction (all_resolved os.items) ∙ ap resolved (sym is), ap (λ t. faults_in c.args.file names (places [] t)) is ∙ got.1, subst IsTaken (sym is) got.2)
+pub shape_of-returns-in_ok-parts-in-Struct-clause-shape :
+    goal.shape_of-returns-in_ok-parts-in-Struct-clause-shape
+shape_of-returns-in_ok-parts-in-Struct-clause-shape t c scopes around =
+    let ns = names_of c.args.names.now.entries in
+    let v = c.in_ok-parts-in-Struct.parts in
+    let opened = c.in-Struct.opened in
+    let is = ap expr_view c.in-Struct.is ∙ view-Struct c.in-Struct.at c.in-Struct.fields opened in
+    let got = c.in_ok-parts-in-Struct.ensures.parts scopes around in (
+      record { same = of-Struct ns v opened ∙ ap (λ ds. cue.struct ds opened) got.0.same ∙ ap resolved (sym is); known = known-Struct (length ns) v opened ∙ got.0.known },
+      ap (λ u. faults_in c.args.file ns (places scopes u)) is ∙ got.1,
+    )
 
-pub shapes_of-returns-in_err-shape : goal.shapes_of-returns-in_err-shape
-shapes_of-returns-in_err-shape t c names =
-    let es = c.deref-operand-items.result.now in
-    let e = c.operand-item.result in
-    let l = c.loop-operand in
+pub shape_of-returns-in_err-front-in-List-clause-shape :
+    goal.shape_of-returns-in_err-front-in-List-clause-shape
+shape_of-returns-in_err-front-in-List-clause-shape t c scopes around =
+    let p = err_from_is_err_and c.from_residual-in_err-front-in-List.result c.from_residual-in_err-front-in-List.ensures.1 in
+    let cut = list_cut c.args.file (names_of c.args.names.now.entries) scopes c.args.expr.now c.in-List.front c.in-List.end c.in-List.is in
+    let e = c.in_err-front-in-List.field-0.0 in
+    rw (p.1, p.2) (refused-same e _ _ (sym cut) (refused-left e _ _ (c.in_err-front-in-List.ensures.shapes scopes around)))
+
+pub shape_of-returns-in_err-end-in-List-clause-shape :
+    goal.shape_of-returns-in_err-end-in-List-clause-shape
+shape_of-returns-in_err-end-in-List-clause-shape t c scopes around =
+    let p = err_from_is_err_and c.from_residual-in_err-end-in-List.result c.from_residual-in_err-end-in-List.ensures.1 in
+    let cut = list_cut c.args.file (names_of c.args.names.now.entries) scopes c.args.expr.now c.in-List.front c.in-List.end c.in-List.is in
+    let e = c.in_err-end-in-List.field-0.0 in
+    let still = subst (λ sets. HoldAround sets scopes) (sym c.in_ok-front-in-List.ensures.kept) around in
+    rw (p.1, p.2) (refused-same e _ _ (sym cut) (refused-right e _ _ (c.in_ok-front-in-List.ensures.shapes scopes around).1 (c.in_err-end-in-List.ensures.end scopes still)))
+
+pub shape_of-returns-in_ok-end-in-List-clause-shape :
+    goal.shape_of-returns-in_ok-end-in-List-clause-shape
+shape_of-returns-in_ok-end-in-List-clause-shape t c scopes around =
+    let ns = names_of c.args.names.now.entries in
+    let v = c.in_ok-front-in-List.front in
+    let end = c.in_ok-end-in-List.end in
+    let is = ap expr_view c.in-List.is ∙ view-List c.in-List.front c.in-List.end in
+    let cut = list_cut c.args.file ns scopes c.args.expr.now c.in-List.front c.in-List.end c.in-List.is in
+    let front = c.in_ok-front-in-List.ensures.shapes scopes around in
+    let rest = c.in_ok-end-in-List.ensures.end scopes (subst (λ sets. HoldAround sets scopes) (sym c.in_ok-front-in-List.ensures.kept) around) in (
+      record { same = of-List ns v end ∙ ap₂ cue.list front.0.same rest.0.same ∙ ap resolved (sym is); known = known-List (length ns) v end ∙ ap₂ (λ a b. a && b) front.0.known rest.0.known },
+      cut ∙ ap₂ (λ xs ys. xs ++ ys) front.1 rest.1,
+    )
+
+pub shape_end-returns-in_ok-new-in-Each-clause-end :
+    goal.shape_end-returns-in_ok-new-in-Each-clause-end
+shape_end-returns-in_ok-new-in-Each-clause-end t c scopes around =
+    let ns = names_of c.args.names.now.entries in
+    let is = ap end_view c.in-Each.is ∙ view-Each c.in-Each.inner ∙ ap (λ e. T.each (expr_view e)) (sym c.deref.ensures) in
+    let b = c.in_ok-new-in-Each.field-0 in
+    let one = c.in_ok-shape-in-Each.ensures.shape scopes around in (
+      record { same = of-Each ns b ∙ ap cue.each (ap (expression_of ns) c.in_ok-new-in-Each.ensures.ok ∙ one.0.same) ∙ ap resolved_end (sym is); known = known-Each (length ns) b ∙ ap (is_known (length ns)) c.in_ok-new-in-Each.ensures.ok ∙ one.0.known },
+      ap (λ u. faults_in c.args.file ns (places_end scopes u)) is ∙ one.1,
+    )
+
+-- ---- expressions
+
+pub shapes_of-loop-expr-init : goal.shapes_of-loop-expr-init
+shapes_of-loop-expr-init t c = record {
+  kept = refl;
+  made = λ scopes around. none-made (of_exprs c.args.file (names_of c.args.names.now.entries) scopes) _ _ c.in_ok-shapes.ensures.items;
+}
+
+pub shapes_of-returns-in_err-shape-clause-shapes :
+    goal.shapes_of-returns-in_err-shape-clause-shapes
+shapes_of-returns-in_err-shape-clause-shapes t c scopes around =
+    let of = of_exprs c.args.file (names_of c.args.names.now.entries) scopes in
+    let l = c.loop-expr in
     let p = err_from_is_err_and c.from_residual-in_err-shape.result c.from_residual-in_err-shape.ensures.1 in
-    let F = found c.args.file names in
-    let whole = refusal-at F (found_at c.args.file names) (parts c.args.file names) taken (λ x. IsTaken (expr_view x)) (λ x xs g. g) c.in_err-shape.field-0.0 es l.operand-index e c.loop-operand-test.true c.operand-item.is (l.invariant.faults names) l.invariant.taken (c.in_err-shape.ensures names) in
-    let same = c.deref-operand-items.ensures.value in
-    rw (p.1, p.2) (refusal-same c.in_err-shape.field-0.0 (taken es) (taken c.args.operands.now.items) (F es) (F c.args.operands.now.items) (ap F same) (λ g. subst taken (sym same) g) whole)
+    let still = subst (λ sets. HoldAround sets scopes) (sym l.invariant.kept) around in
+    rw (p.1, p.2) (refused-at of c.in_err-shape.field-0.0 l.shapes.items _ _ l.expr-index c.expr-item.result c.loop-expr-test.true c.expr-item.is c.deref-expr-items.ensures.value (l.invariant.made scopes around) (c.in_err-shape.ensures.shape scopes still))
 
-pub shapes_of-loop-operand-preserved : goal.shapes_of-loop-operand-preserved
-shapes_of-loop-operand-preserved t c =
-    let es = c.deref-operand-items.result.now in
-    let e = c.operand-item.result in
-    let l = c.loop-operand in
-    let i = l.operand-index in
-    let within = c.loop-operand-test.true in
-    let one = c.in_ok-shape.ensures [] in
-    record {
-      shapes =
-          ap (map expression_of) c.in_ok-push.ensures.items
-          ∙ map-append expression_of l.shapes.items (c.in_ok-shape.shape ∷ [])
-          ∙ ap₂ (λ xs x. xs ++ x ∷ []) l.invariant.shapes one.0
-          ∙ sym (map_more (λ o. resolved (expr_view o)) es i e within c.operand-item.is);
-      faults = λ names. none_more (found c.args.file names) (found_at c.args.file names) (parts c.args.file names) es i e within c.operand-item.is (l.invariant.faults names) (c.in_ok-shape.ensures names).1;
-      taken = taken-more (found c.args.file []) (found_at c.args.file []) (parts c.args.file []) taken (λ x. IsTaken (expr_view x)) (λ x xs g. g) es i e within c.operand-item.is l.invariant.taken;
-      given = λ g. l.invariant.given (subst taken (sym (at_place es i e within c.operand-item.is)) (one.2, g));
+pub shapes_of-loop-expr-preserved : goal.shapes_of-loop-expr-preserved
+shapes_of-loop-expr-preserved t c =
+    let l = c.loop-expr in record {
+      kept = c.in_ok-shape.ensures.kept ∙ l.invariant.kept;
+      made = λ scopes around.
+          let of = of_exprs c.args.file (names_of c.args.names.now.entries) scopes in
+          let one = c.in_ok-shape.ensures.shape scopes (subst (λ sets. HoldAround sets scopes) (sym l.invariant.kept) around) in
+          one-made of l.shapes.items _ c.in_ok-shape.shape _ l.expr-index c.expr-item.result c.loop-expr-test.true c.expr-item.is c.in_ok-push.ensures.items (l.invariant.made scopes around) one.0.same one.0.known one.1;
     }
 
-pub shapes_of-returns : goal.shapes_of-returns
-shapes_of-returns t c names =
-    let es = c.deref-operand-items.result.now in
-    let l = c.loop-operand in
-    let same = c.deref-operand-items.ensures.value in
-    let all = c.loop-operand-test.false in
-    (l.invariant.shapes ∙ ap (map (λ o. resolved (expr_view o))) (take_all l.operand-index es all ∙ same), ap (found c.args.file names) (sym same) ∙ l.invariant.faults names ∙ ap (found c.args.file names) (drop_all l.operand-index es all), subst taken same (l.invariant.given (subst taken (sym (drop_all l.operand-index es all)) tt)))
+pub shapes_of-returns-clause-kept : goal.shapes_of-returns-clause-kept
+shapes_of-returns-clause-kept t c = c.loop-expr.invariant.kept
+
+pub shapes_of-returns-clause-shapes : goal.shapes_of-returns-clause-shapes
+shapes_of-returns-clause-shapes t c scopes around =
+    let of = of_exprs c.args.file (names_of c.args.names.now.entries) scopes in
+    let all = all-made of c.loop-expr.shapes.items _ _ c.loop-expr.expr-index c.loop-expr-test.false c.deref-expr-items.ensures.value (c.loop-expr.invariant.made scopes around) in
+    (record { same = ap expressions_of all.0 ∙ all_resolved c.args.exprs.now.items; known = all.1 }, all.2)
+
+-- ---- the declarations of a literal
+
+pub parts_of-loop-field-init : goal.parts_of-loop-field-init
+parts_of-loop-field-init t c = record {
+  kept = refl;
+  made = λ scopes around. none-made (of_fields c.args.file (names_of c.args.names.now.entries) scopes) _ _ c.in_ok-parts.ensures.items;
+}
+
+pub parts_of-returns-in_err-value-clause-parts : goal.parts_of-returns-in_err-value-clause-parts
+parts_of-returns-in_err-value-clause-parts t c scopes around =
+    let ns = names_of c.args.names.now.entries in
+    let x = c.field-item.result in
+    let l = c.loop-field in
+    let own = labels (fields_view c.args.fields.now.items) in
+    let inner = own ∷ scopes in
+    let within = entered _ _ _ own scopes c.in_ok-push.ensures.items c.in_ok-own.ensures.found around in
+    let p = err_from_is_err_and c.from_residual-in_err-value.result c.from_residual-in_err-value.ensures.1 in
+    let e = c.in_err-value.field-0.0 in
+    let still = subst (λ sets. HoldAround sets inner) (sym l.invariant.kept) within in
+    let here = refused-same e _ _ (ap (λ u. faults_in c.args.file ns (places inner u)) (sym (view-value x))) (c.in_err-value.ensures.shape inner still) in
+    rw (p.1, p.2) (refused-at (of_fields c.args.file ns inner) e l.parts.items _ _ l.field-index x c.loop-field-test.true c.field-item.is c.deref-field-items.ensures.value (l.invariant.made inner within) here)
+
+pub parts_of-loop-field-preserved : goal.parts_of-loop-field-preserved
+parts_of-loop-field-preserved t c =
+    let ns = names_of c.args.names.now.entries in
+    let x = c.field-item.result in
+    let l = c.loop-field in
+    let label : string_bytes c.in_ok-label.label ≡ string_bytes x.label = search rules
+    in
+    record {
+      kept = c.in_ok-value.ensures.kept ∙ l.invariant.kept;
+      made = λ scopes around.
+          let one = c.in_ok-value.ensures.shape scopes (subst (λ sets. HoldAround sets scopes) (sym l.invariant.kept) around) in
+          let same = of-Part ns _ ∙ same_declaration _ (declared x) (label ∙ sym (view-text x)) (ap mark_of (sym (view-mark x))) (one.0.same ∙ ap resolved (sym (view-value x))) in
+          let none = ap (λ u. faults_in c.args.file ns (places scopes u)) (view-value x) ∙ one.1 in
+          one-made (of_fields c.args.file ns scopes) l.parts.items _ _ _ l.field-index x c.loop-field-test.true c.field-item.is c.in_ok-push-2.ensures.items (l.invariant.made scopes around) same (known-Part (length ns) _ ∙ one.0.known) none;
+    }
+
+pub parts_of-returns-clause-kept : goal.parts_of-returns-clause-kept
+parts_of-returns-clause-kept t c = left _ _ _ c.in_ok-own.own (vec_len c.loop-field.around) (c.loop-field.invariant.kept ∙ c.in_ok-push.ensures.items) (omega arith) c.pop.ensures.rest
+
+pub parts_of-returns-clause-parts : goal.parts_of-returns-clause-parts
+parts_of-returns-clause-parts t c scopes around =
+    let own = labels (fields_view c.args.fields.now.items) in
+    let within = entered _ _ _ own scopes c.in_ok-push.ensures.items c.in_ok-own.ensures.found around in
+    let of = of_fields c.args.file (names_of c.args.names.now.entries) (own ∷ scopes) in
+    let all = all-made of c.loop-field.parts.items _ _ c.loop-field.field-index c.loop-field-test.false c.deref-field-items.ensures.value (c.loop-field.invariant.made (own ∷ scopes) within) in
+    (record { same = ap declarations_of all.0 ∙ all_declared c.args.fields.now.items; known = all.1 }, all.2)

@@ -1,15 +1,18 @@
-use Rattle.std.proofs.Common.{◌≡◌, ℕ, List, [], map, take, drop}
-use Rattle.cs_syntax.specs.View.{expr_view, exprs_view}
-use Rattle.cs_resolve.specs.Resolved.{resolved, IsEachTaken}
-use Rattle.cs_resolve.specs.Scopes.{places_all}
-use Rattle.cs_resolve.specs.Steps.{faults_in}
-use Rattle.cs_resolve.specs.View.{expression_of}
+use Rattle.std.proofs.Common.{◌≡◌, List}
+use Rattle.cs_syntax.specs.Tree.{Label}
+use Rattle.cs_resolve.specs.Around.{HoldAround}
+use Rattle.cs_resolve.specs.View.{names_of}
+use Rattle.cs_resolve.proofs.Made.{AreMade, of_exprs, of_fields}
 use Rattle.cs_resolve.proofs.shapes.+shapes.Given as goal
 
-abbrev pub invariant-shapes_of-loop-operand : goal.invariant-shapes_of-loop-operand
-invariant-shapes_of-loop-operand l = record {
-  shapes : map expression_of l.shapes.items ≡ map (λ o. resolved (expr_view o)) (take l.operand-index l.operand-items);
-  faults : (names : List (List ℕ)) → faults_in l.file names (places_all [] (exprs_view l.operand-items)) ≡ faults_in l.file names (places_all [] (exprs_view (drop l.operand-index l.operand-items)));
-  taken : IsEachTaken (exprs_view l.operand-items) → IsEachTaken (exprs_view (drop l.operand-index l.operand-items));
-  given : IsEachTaken (exprs_view (drop l.operand-index l.operand-items)) → IsEachTaken (exprs_view l.operand-items);
+abbrev pub invariant-parts_of-loop-field : goal.invariant-parts_of-loop-field
+invariant-parts_of-loop-field l = record {
+  kept : l.around.items ≡ l.initial.around.items;
+  made : (scopes : List (List Label)) → HoldAround l.initial.around.items scopes → AreMade (of_fields l.file (names_of l.names.entries) scopes) l.parts.items l.field-items l.field-index;
+}
+
+abbrev pub invariant-shapes_of-loop-expr : goal.invariant-shapes_of-loop-expr
+invariant-shapes_of-loop-expr l = record {
+  kept : l.around.items ≡ l.initial.around.items;
+  made : (scopes : List (List Label)) → HoldAround l.initial.around.items scopes → AreMade (of_exprs l.file (names_of l.names.entries) scopes) l.shapes.items l.expr-items l.expr-index;
 }

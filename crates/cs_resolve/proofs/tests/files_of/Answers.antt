@@ -1,4 +1,4 @@
-use Rattle.std.proofs.Common.{map, sym, ap, subst}
+use Rattle.std.proofs.Common.{map, sym, subst}
 use Rattle.cs_syntax.specs.View.{file_view}
 use Rattle.cs_resolve.specs.Resolved.{AreSpelled}
 use Rattle.cs_resolve.proofs.Spellings.{spelled-push}

@@ -1,41 +1,58 @@
-use Rattle.std.proofs.Common.{◌≡◌, ℕ, ◌≤◌, List, [], ◌∷◌, length, sym, ap, subst, ◌∙◌, arith}
-use Rattle.cs_syntax.specs.Tree.{FileTree}
+use Rattle.std.proofs.Common.{◌≡◌, ℕ, ◌≤◌, List, Err, Bor, map, refl, sym, ap, subst, ◌∙◌, arith}
+use Rattle.std.proofs.lemmas.Result.{err_from_is_err_and}
 use Rattle.cs_doc.specs.Document.{Document, depth}
 use Rattle.cs_doc.specs.Texts.{Reads, text_of}
 use Rattle.cs_doc.specs.View.{doc_view}
-use Rattle.cs_resolve.specs.Environment.{Environment}
+use Rattle.cs_resolve.specs.Environment.{Environment, Names}
 use Rattle.cs_resolve.specs.Height.{IsLow}
-use Rattle.cs_resolve.specs.Resolved.{environment_of_files}
-use Rattle.cs_schema.specs.SchemaDocument.{document_of}
-use Rattle.cs_tool.specs.Accepted.{AreFiles, IsAccepted}
-use Rattle.cs_tool.proofs.Taken.{low_file}
+use Rattle.cs_schema.specs.SchemaDocument.{document_of, with_definitions, definitions_view, unless_no_map}
+use Rattle.cs_schema.specs.Trim.{with_dialect}
+use Rattle.cs_compile.specs.declared.fault.CompileFault.{CompileFault}
+use Rattle.cs_compile.specs.declared.fault.CompileFault.TheVariants as compile
+use Rattle.cs_tool.specs.Accepted.{IsAccepted}
+use Rattle.cs_tool.specs.Conversions.{of_compile, of_document}
+use Rattle.cs_tool.specs.Headline.{IsReady}
+use Rattle.cs_tool.specs.declared.fault.Fault.TheVariants.{OutOfMemory}
+use Rattle.cs_tool.proofs.Low.{low_files}
 use Rattle.cs_tool.proofs.calls.export.Goals as goal
 
--- what one spelled file declares is low
-low_files : (sources : List (List ℕ)) (files : List FileTree) → length sources ≡ 1 → AreFiles sources files → IsLow (environment_of_files files)
-low_files [] files alone spelled = absurd (omega arith)
-low_files (s ∷ ss) [] alone spelled = absurd spelled
-low_files (s ∷ []) (f ∷ []) alone spelled = low_file f spelled.0.low
-low_files (s ∷ []) (f ∷ g ∷ files) alone spelled = absurd spelled.1
-low_files (s ∷ t ∷ ss) (f ∷ files) alone spelled = absurd (omega arith)
-
 low : (sources : List (List ℕ)) (E : Environment) → IsAccepted sources E → IsLow E
-low sources E a = subst IsLow (sym a.declares) (low_files sources a.files a.alone a.spelled)
+low sources E a = subst IsLow (sym a.declares) (low_files sources a.files a.spelled)
 
 -- a text is read as its document, if it is read as a document that is the same
 read_as : (text : List ℕ) (d s : Document) → d ≡ s → (depth d ≤ 127 → Reads text d) → depth s ≤ 114 → Reads text s
 read_as text d s same read nested = subst (Reads text) same (read (subst (λ x. depth x ≤ 127) (sym same) (omega (arith, nested))))
+
+-- a root that is declared isn't told as unknown
+declared : (sources : List (List ℕ)) (root : List ℕ) (E : Environment) → ((F : Environment) → IsAccepted sources F → E ≡ F) → (e : CompileFault)
+    → (e ≡ compile.UnknownRoot → (n : List ℕ) → Names E root n → ⊥) → IsReady sources root → of_compile e ≡ OutOfMemory
+declared sources root E one compile.OutOfMemory unknown ready = refl
+declared sources root E one compile.UnknownRoot unknown ready = absurd (unknown refl ready.name (subst (λ F. Names F root ready.name) (sym (one ready.environment ready.accepted)) ready.named))
+
+pub returns-in_err-schema-clause-only : goal.returns-in_err-schema-clause-only
+returns-in_err-schema-clause-only c = λ ready.
+    let e = c.in_err-schema.field-0.0 in
+    let now : Bor (List ℕ) → List ℕ = λ s. s.now in
+    let p = err_from_is_err_and c.from_residual-in_err-schema.result c.from_residual-in_err-schema.ensures.1 in
+    rw (p.1, p.2) (declared (map now c.args.sources.now) c.args.root.now c.in_ok-package.package c.in_ok-package.ensures.one e (λ is. c.in_err-schema.ensures.unknown (ap Err is)) ready)
+
+pub returns-in_err-write_doc-clause-only : goal.returns-in_err-write_doc-clause-only
+returns-in_err-write_doc-clause-only c = λ ready.
+    let p = err_from_is_err_and c.from_residual-in_err-write_doc.result c.from_residual-in_err-write_doc.ensures.1 in
+    rw (p.1, p.2) (ap of_document c.in_err-write_doc.ensures.memory)
 
 pub returns-clause-found : goal.returns-clause-found
 returns-clause-found c =
     let accepted = c.in_ok-package.ensures.accepted in
     let made = c.in_ok-schema.ensures.found in
     let schema = document_of c.in_ok-schema.schema in
+    let ds = unless_no_map (definitions_view c.in_ok-schema.schema.definitions) in
     let same = c.in_ok-doc.ensures.found in
     let written = c.in_ok-write_doc.ensures in
     let nested = made.2.nested (low _ _ accepted) in record {
       environment = c.in_ok-package.package;
       accepted = accepted;
+      taken = c.in_ok-package.ensures.taken;
       name = made.0;
       named = made.1;
       schema = schema;
@@ -44,6 +61,7 @@ returns-clause-found c =
       read = read_as _ (doc_view c.in_ok-doc.doc) schema same written.reads nested;
       profile = c.in_ok-doc.ensures.profile;
       trimmed = c.in_ok-doc.ensures.trimmed;
+      refers = (ds, ap (λ root. with_dialect (with_definitions ds root)) made.2.root);
       definitions = made.2.definitions;
       one_instance = c.one_meaning.ensures;
       one_validity = c.one_meaning-2.ensures;

@@ -1,94 +1,83 @@
-use Rattle.std.proofs.Common.{◌≡◌, ℕ, ◌<◌, ◌≤◌, List, [], ◌∷◌, Bor, length, get_or, map, inl, inr, refl, sym, ap, subst, ◌∙◌, arith}
-use Rattle.std.specs.Prelude.{IsUtf8}
+use Rattle.std.proofs.Common.{◌≡◌, ℕ, List, [], ◌∷◌, Bor, map, inr, refl, sym, ap, subst, ◌∙◌}
+use Rattle.std.proofs.lemmas.Bool.{false≢true}
+use Rattle.std.proofs.lemmas.List.Elements.{All-from_recursion}
+use Rattle.std.proofs.lemmas.Result.{err_from_is_err_and}
 use Rattle.std.specs.List.{AllByRecursion}
-use Rattle.std.proofs.lemmas.Result.{IfOk-weaker, IfErr-weaker}
 use Rattle.cs_syntax.specs.Tree.{FileTree}
-use Rattle.cs_syntax.specs.Answer.{IsSpelled, IsFileRefusal}
-use Rattle.cs_syntax.specs.declared.fault.SyntaxFault.{SyntaxFault}
-use Rattle.cs_syntax.specs.declared.fault.SyntaxFault.TheVariants as syntax
+use Rattle.cs_syntax.specs.View.{file_view}
+use Rattle.cs_syntax.specs.Answer.{IsSpelled}
 use Rattle.cs_resolve.specs.Environment.{Environment}
-use Rattle.cs_resolve.specs.Resolved.{AreTaken, IsResolved}
-use Rattle.cs_tool.specs.Accepted.{most_bytes, bytes_of, AreFiles, IsAccepted, IsMisspelled, IsPackageOf, IsNoPackage, IsSpelledSo, SourceRefusal, SourcesRefusal}
-use Rattle.cs_tool.specs.Conversions.{of_syntax}
+use Rattle.cs_resolve.specs.Resolved.{environment_of_files, IsPackage}
+use Rattle.cs_guard.specs.Cycles.{IsRefusal}
+use Rattle.cs_guard.specs.Guarded.{IsGuarded}
+use Rattle.cs_guard.specs.declared.fault.GuardFault.{GuardFault}
+use Rattle.cs_guard.specs.declared.fault.GuardFault.TheVariants as guard
+use Rattle.cs_instance.specs.Taken.{IsTakenPackage}
+use Rattle.cs_tool.specs.Accepted.{AreTexts, AreFiles, IsAccepted, IsUnguarded, SourcesRefusal}
+use Rattle.cs_tool.specs.Conversions.{of_guard}
 use Rattle.cs_tool.specs.declared.fault.Fault.{Fault}
-use Rattle.cs_tool.specs.declared.fault.Fault.TheVariants.{NoToken, Syntax, LeftOut, IntegerRange, TooHigh, OutOfMemory}
-use Rattle.cs_tool.proofs.Taken.{opened_taken}
 use Rattle.cs_tool.proofs.packages.package_of.Goals as goal
 
--- the one source's file isn't taken or isn't resolved
-other_files : (source : List ℕ) (t : FileTree) (fs : List FileTree) → ((f : FileTree) → IsSpelled source f → t ≡ f) → (AreTaken (t ∷ []) → ¬ (IsResolved (t ∷ []))) → AreFiles (source ∷ []) fs → AreTaken fs → ¬ (IsResolved fs)
-other_files source t [] only other spelled taken resolved = absurd spelled
-other_files source t (f ∷ []) only other spelled taken resolved =
-    let same : t ≡ f = only f spelled.0 in
-    other (subst (λ x. AreTaken (x ∷ [])) (sym same) taken) (subst (λ x. IsResolved (x ∷ [])) (sym same) resolved)
-other_files source t (f ∷ g ∷ fs) only other spelled taken resolved = absurd spelled.1
+each_spelled : (ss : List (List ℕ)) (fs : List FileTree) → AreFiles ss fs → AllByRecursion (λ f. (t : List ℕ) × IsSpelled t f) fs
+each_spelled [] [] h = tt
+each_spelled [] (f ∷ fs) h = absurd h
+each_spelled (s ∷ ss) [] h = absurd h
+each_spelled (s ∷ ss) (f ∷ fs) h = ((s, h.0), each_spelled ss fs h.1)
 
-module _ (sources : List (List ℕ)) (source : List ℕ) (within : bytes_of sources ≤ most_bytes) (utf8 : AllByRecursion IsUtf8 sources) (alone : sources ≡ source ∷ []) where
-  accepted : (E : Environment) → IsSpelledSo source (λ file. IsPackageOf file E) → IsAccepted sources E
-  accepted E p = record {
-    within = within;
-    utf8 = utf8;
-    alone = ap length alone;
-    files = p.file ∷ [];
-    spelled = subst (λ ss. AreFiles ss (p.file ∷ [])) (sym alone) (p.spelled, tt);
-    taken = p.so.taken;
-    resolved = p.so.resolved;
-    opened = opened_taken (p.file ∷ []) p.so.taken;
-    declares = p.so.declares;
-    guarded = p.so.guarded;
+module _ (sources : List (List ℕ)) (texts : AreTexts sources) (files : List FileTree) (spelled : AreFiles sources files) (one_package : IsPackage files) where
+  accepted : (E P : Environment) → E ≡ P → P ≡ environment_of_files files → IsGuarded P → IsAccepted sources E
+  accepted E P same declares guarded = record {
+    texts = texts;
+    files = files;
+    spelled = spelled;
+    one_package = one_package;
+    declares = same ∙ declares;
+    guarded = subst IsGuarded (sym same) guarded;
   }
 
-  misspelled : (e : Fault) (f : SyntaxFault) → e ≡ of_syntax 0 f → IsFileRefusal source f → IsMisspelled sources e
-  misspelled e f told h = record { within = within; utf8 = utf8; source = source; alone = alone; fault = f; told = told; refused = h }
+  unguarded : (e : Fault) (fault : GuardFault) → e ≡ of_guard fault → IsRefusal fault (environment_of_files files) → IsUnguarded sources e
+  unguarded e fault told refused = record { texts = texts; files = files; spelled = spelled; one_package = one_package; fault = fault; refused = refused; told = told }
 
-  of_fault : (f : SyntaxFault) → IsFileRefusal source f → SourcesRefusal sources (of_syntax 0 f)
-  of_fault syntax.OutOfMemory h = tt
-  of_fault (syntax.NoToken o) h = misspelled (NoToken 0 o) (syntax.NoToken o) refl h
-  of_fault (syntax.Syntax o) h = misspelled (Syntax 0 o) (syntax.Syntax o) refl h
-  of_fault (syntax.LeftOut o) h = inl (misspelled (LeftOut 0 o) (syntax.LeftOut o) refl h)
-  of_fault (syntax.IntegerRange o) h = misspelled (IntegerRange 0 o) (syntax.IntegerRange o) refl h
-  of_fault syntax.TooHigh h = misspelled (TooHigh 0) syntax.TooHigh refl h
+  by_guard : (fault : GuardFault) → IsRefusal fault (environment_of_files files) → SourcesRefusal sources (of_guard fault)
+  by_guard guard.OutOfMemory h = tt
+  by_guard (guard.Cycle names) h = unguarded _ (guard.Cycle names) refl h
+  by_guard guard.ChainTooLong h = unguarded _ guard.ChainTooLong refl h
 
-  of_file : (e : Fault) → IsSpelledSo source (λ file. IsNoPackage file e) → SourcesRefusal sources e
-  of_file OutOfMemory h = tt
-  of_file (LeftOut file offset) h = inr (
-    h.so.0,
-    h.so.1,
-    record {
-      within = within;
-      utf8 = utf8;
-      spelled = λ s same. (h.file, subst (λ t. IsSpelled t h.file) (one_same same) h.spelled);
-      refused = λ E a. other_files source h.file a.files h.only h.so.2 (subst (λ ss. AreFiles ss a.files) alone a.spelled) a.taken a.resolved;
-    },
-  )
-    where
-      one_same : {s : List ℕ} → sources ≡ s ∷ [] → source ≡ s
-      one_same {s} same = let both : source ∷ [] ≡ s ∷ [] = sym alone ∙ same in cc
-  of_file _ h = absurd h.so
+pub resolve-requires : goal.resolve-requires
+resolve-requires c = All-from_recursion _ _ (each_spelled _ (map file_view c.in_ok-files.files.items) c.in_ok-files.ensures.spelled)
 
-  refused : (e : Fault) → SourceRefusal source e → SourcesRefusal sources e
-  refused e (inl h) = subst (SourcesRefusal sources) (sym h.1) (of_fault h.0 h.2)
-  refused e (inr h) = of_file e h
+pub returns-in_err-package-clause-refused : goal.returns-in_err-package-clause-refused
+returns-in_err-package-clause-refused c =
+    let now : Bor (List ℕ) → List ℕ = λ s. s.now in
+    let sources = map now c.args.sources.now in
+    let texts : AreTexts sources = record { within = c.if-not-fits.ensures.0 refl; utf8 = c.in_ok-texts.ensures.utf8 } in
+    let files = map file_view c.in_ok-files.files.items in
+    let same = ap (map now) c.deref.ensures.value ∙ c.in_ok-texts.ensures.texts in
+    let spelled = subst (λ ss. AreFiles ss files) same c.in_ok-files.ensures.spelled in
+    let e = c.in_err-package.field-0.0 in
+    let refused = subst (IsRefusal e) c.in_ok-resolve.ensures.found c.in_err-package.ensures.refused in
+    let p = err_from_is_err_and c.from_residual-in_err-package.result c.from_residual-in_err-package.ensures.1 in
+    rw (p.1, p.2) (by_guard sources texts files spelled c.in_ok-resolve.ensures.accepted e refused)
 
-one_of : {X : Type 0} (xs : List X) (d : X) → 1 ≤ length xs → length xs < 2 → xs ≡ get_or xs 0 d ∷ []
-one_of [] d some few = absurd (omega arith)
-one_of (x ∷ []) d some few = refl
-one_of (x ∷ y ∷ xs) d some few = absurd (omega arith)
-
--- the sources are those of the texts, of which there is one
-the_source : {X Y : Type 0} (f : X → List ℕ) (g : Y → List ℕ) (xs : List X) (ys zs : List Y) (d : Y) → map g ys ≡ map f xs → zs ≡ ys → 1 ≤ length zs → length zs < 2 → map f xs ≡ g (get_or zs 0 d) ∷ []
-the_source f g xs ys zs d texts same some few = sym texts ∙ ap (map g) (sym same) ∙ ap (map g) (one_of zs d some few)
+pub returns-then-not-is_taken-clause-refused : goal.returns-then-not-is_taken-clause-refused
+returns-then-not-is_taken-clause-refused c =
+    let now : Bor (List ℕ) → List ℕ = λ s. s.now in
+    let sources = map now c.args.sources.now in
+    let texts : AreTexts sources = record { within = c.if-not-fits.ensures.0 refl; utf8 = c.in_ok-texts.ensures.utf8 } in
+    let files = map file_view c.in_ok-files.files.items in
+    let same = ap (map now) c.deref.ensures.value ∙ c.in_ok-texts.ensures.texts in
+    let spelled = subst (λ ss. AreFiles ss files) same c.in_ok-files.ensures.spelled in
+    let found = c.in_ok-package.ensures.found in
+    let is = accepted sources texts files spelled c.in_ok-resolve.ensures.accepted _ _ found c.in_ok-resolve.ensures.found c.in_ok-package.ensures.guarded in
+    let other : IsTakenPackage c.in_ok-package.package → ⊥ = λ h. false≢true (c.if-not-is_taken.ensures.1 (subst IsTakenPackage (sym c.package-2.ensures.kept) h)) in
+    subst (SourcesRefusal sources) (sym c.not_taken.ensures) (inr (refl, refl, record { environment = c.in_ok-package.package; accepted = is; other = other }))
 
 pub returns-clause-accepted : goal.returns-clause-accepted
 returns-clause-accepted c =
     let now : Bor (List ℕ) → List ℕ = λ s. s.now in
-    let none : Bor (List ℕ) = record { ref_ptr = (0, 0); now = [] } in
-    let alone = the_source now now c.args.sources.now c.in_ok-texts.texts.items c.as_slice.result.now none c.in_ok-texts.ensures.texts c.as_slice.ensures.value c.in-len1.len_at_least c.in-len1.len_below in
-    IfOk-weaker c.package_of_text.result _ _ (accepted (map now c.args.sources.now) _ (c.if-not-fits.ensures.0 refl) c.in_ok-texts.ensures.utf8 alone) c.package_of_text.ensures.found
-
-pub returns-clause-refused : goal.returns-clause-refused
-returns-clause-refused c =
-    let now : Bor (List ℕ) → List ℕ = λ s. s.now in
-    let none : Bor (List ℕ) = record { ref_ptr = (0, 0); now = [] } in
-    let alone = the_source now now c.args.sources.now c.in_ok-texts.texts.items c.as_slice.result.now none c.in_ok-texts.ensures.texts c.as_slice.ensures.value c.in-len1.len_at_least c.in-len1.len_below in
-    IfErr-weaker c.package_of_text.result _ _ (refused (map now c.args.sources.now) _ (c.if-not-fits.ensures.0 refl) c.in_ok-texts.ensures.utf8 alone) c.package_of_text.ensures.refused
+    let sources = map now c.args.sources.now in
+    let texts : AreTexts sources = record { within = c.if-not-fits.ensures.0 refl; utf8 = c.in_ok-texts.ensures.utf8 } in
+    let files = map file_view c.in_ok-files.files.items in
+    let same = ap (map now) c.deref.ensures.value ∙ c.in_ok-texts.ensures.texts in
+    let spelled = subst (λ ss. AreFiles ss files) same c.in_ok-files.ensures.spelled in
+    accepted sources texts files spelled c.in_ok-resolve.ensures.accepted _ _ c.in_ok-package.ensures.found c.in_ok-resolve.ensures.found c.in_ok-package.ensures.guarded

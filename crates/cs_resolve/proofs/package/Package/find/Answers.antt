@@ -1,5 +1,6 @@
 use Rattle.std.proofs.Common.{◌≡◌, ℕ, List, IfSome, IfNone, Some, sym, ap, ◌∙◌, subst, ◌∷◌}
 use Rattle.cs_resolve.specs.Environment.{Environment, Names, name_at}
+use Rattle.cs_resolve.specs.View.{names_of}
 use Rattle.cs_resolve.proofs.Environments.{found_at, found_nowhere}
 use Rattle.cs_resolve.proofs.package.Package.find.Goals as goal
 
@@ -9,7 +10,7 @@ returns-clause-found c =
     let cut = c.in_ok-strip_prefix.ensures.cases in
     let text = cut.1.1 ∙ ap (λ s. 35 ∷ s) (sym cut.2) in
     subst P c.self.view_is
-    (found_at _ c.self.inside.names.entries c.self.inside.bodies.items c.self.invariant.long c.get_index_of.result c.get_index_of.ensures.index c.get_index_of.ensures.found c.args.name.now text)
+    (found_at (names_of c.self.inside.names.entries) _ c.self.inside.names.entries c.self.inside.bodies.items c.self.invariant.long c.get_index_of.result c.get_index_of.ensures.index c.get_index_of.ensures.found c.args.name.now text)
 
 pub returns-clause-unknown : goal.returns-clause-unknown
 returns-clause-unknown c =
@@ -17,4 +18,4 @@ returns-clause-unknown c =
     let cut = c.in_ok-strip_prefix.ensures.cases in
     let text = cut.1.1 ∙ ap (λ s. 35 ∷ s) (sym cut.2) in
     subst P c.self.view_is
-    (found_nowhere _ c.self.inside.names.entries c.self.inside.bodies.items c.self.invariant.long c.get_index_of.result c.get_index_of.ensures.found c.args.name.now text)
+    (found_nowhere (names_of c.self.inside.names.entries) _ c.self.inside.names.entries c.self.inside.bodies.items c.self.invariant.long c.get_index_of.result c.get_index_of.ensures.found c.args.name.now text)

@@ -1,6 +1,7 @@
 use Rattle.std.proofs.lemmas.Result.{err_from_is_err_and}
 use Rattle.cs_syntax.specs.View.{file_view}
 use Rattle.cs_syntax.proofs.Places.{stuck_refused}
+use Rattle.cs_syntax.proofs.QuotedTexts.{cut_quoted}
 use Rattle.cs_syntax.proofs.Whole.{spelled_found, spelled_only, stuck_only, file_refused}
 use Rattle.cs_syntax.proofs.parser.file.parse_file.Goals as goal
 
@@ -22,3 +23,6 @@ returns-in_err-tokens-clause-refused c =
 
 pub returns-clause-refused : goal.returns-clause-refused
 returns-clause-refused c = file_refused file_view c.args.source.now c.file_within.result _ c.in_ok-tokens.ensures.found (rw c.deref.ensures.value at c.file_within.ensures)
+
+pub file_within-requires : goal.file_within-requires
+file_within-requires c = rw c.deref.ensures.value (cut_quoted c.in_ok-tokens.ensures.found)

@@ -10,5 +10,5 @@ use Rattle.cs_syntax.proofs.parser.nesting.is_too_nested.Goals as goal
 pub loop-token-init : goal.loop-token-init
 loop-token-init c = ap (λ ns. nat_lt 28 (nesting_from before.Other (record { nested = 0; level = 0; outer = reverse ns }) (words (lexemes_view c.args.tokens.now)))) c.new.ensures.items
 
-pub returns-then-levels-gt28 : goal.returns-then-levels-gt28
-returns-then-levels-gt28 c = sym (high_stops c.loop-token.before (levels_of c.loop-token.levels) _ c.if-levels-gt28.true) ∙ c.loop-token.invariant
+pub returns-then-levels-gt-MOST_NESTED : goal.returns-then-levels-gt-MOST_NESTED
+returns-then-levels-gt-MOST_NESTED c = sym (high_stops c.loop-token.before (levels_of c.loop-token.levels) _ c.if-levels-gt-MOST_NESTED.true) ∙ c.loop-token.invariant

@@ -1,0 +1,87 @@
+-- Numbers pushed one after another, and the shapes that they are read from.
+use Rattle.std.proofs.Common.{◌≡◌, ℕ, ◌+◌, ◌<◌, Bool, true, false, ◌&&◌, List, [], ◌∷◌, ◌++◌, map, length, take, get_or, Vec, Global, Result, Ok, Err, OnOk, refl, sym, ap, ◌∙◌, append_assoc}
+use Rattle.std.specs.List.{list_all}
+use Rattle.std.proofs.lemmas.List.{take_more}
+use Rattle.std.proofs.lemmas.List.{map-append, append-nil}
+use Rattle.std.proofs.lemmas.List.Folds.{list_all_more}
+use Rattle.cs_resolve.specs.Expression.{Expression, Declaration}
+use Rattle.cs_resolve.specs.View.{expression_of, part_of, expressions_of, declarations_of, is_known, is_known_end, is_known_part}
+use Rattle.cs_resolve.proofs.Views.{of-And, of-Or, of-Struct, of-List, known-And, known-Or, known-Struct, known-List}
+use Rattle.cs_resolve.specs.declared.shape.Shape as Shapes
+use Rattle.cs_resolve.specs.declared.shape.Shape.{Shape}
+use Rattle.cs_resolve.specs.declared.shape.ShapeEnd.{ShapeEnd}
+use Rattle.cs_resolve.specs.declared.shape.Part.{Part}
+use Rattle.cs_guard.specs.References.{strong, strong_all, strong_under, if_asked}
+use Rattle.cs_guard.specs.Pushed.{Pushed, named}
+
+both : (a b : Bool) → (a && b) ≡ true → (a ≡ true) × (b ≡ true)
+both true b e = (refl, e)
+both false b e = cc
+
+-- ---- what was pushed
+
+pub pushed_more : (a b c : List ℕ) (f g : List (List ℕ) → List (List ℕ)) (k l : ℕ → Bool) → Pushed a b f k → Pushed b c g l → Pushed a c (λ ns. f ns ++ g ns) (λ n. k n && l n)
+pushed_more a b c f g k l p q = record {
+  behind = λ ns. q.behind ns ∙ ap (λ xs. xs ++ g ns) (p.behind ns) ∙ append_assoc (named ns a) (f ns) (g ns);
+  within = λ n e old. let h = both (k n) (l n) e in q.within n h.1 (p.within n h.0 old);
+}
+
+-- the same names, and no less is known
+pub pushed_as : (a b : List ℕ) (f g : List (List ℕ) → List (List ℕ)) (k l : ℕ → Bool) → ((ns : List (List ℕ)) → f ns ≡ g ns) → ((n : ℕ) → l n ≡ true → k n ≡ true) → Pushed a b f k → Pushed a b g l
+pushed_as a b f g k l same known p = record {
+  behind = λ ns. p.behind ns ∙ ap (λ xs. named ns a ++ xs) (same ns);
+  within = λ n e. p.within n (known n e);
+}
+
+pub on_ok : {X E : Type 0} {P Q : Type 0} (r : Result X E) → (P → Q) → OnOk r P → OnOk r Q
+on_ok (Ok x) f p = f p
+on_ok (Err e) f p = tt
+
+-- ---- one more element of a list
+
+module _ {X : Type 0} (names : List (List ℕ) → List X → List (List ℕ)) (here : List (List ℕ) → X → List (List ℕ)) (known : ℕ → X → Bool) (joins : (ns : List (List ℕ)) (xs : List X) (x : X) → names ns (xs ++ x ∷ []) ≡ names ns xs ++ here ns x) where
+  pub pushed_next : (a b c : List ℕ) (xs : List X) (i : ℕ) (x : X) → i < length xs → x ≡ get_or xs i x → Pushed a b (λ ns. names ns (take i xs)) (λ n. list_all (known n) (take i xs)) → Pushed b c (λ ns. here ns x) (λ n. known n x)
+      → Pushed a c (λ ns. names ns (take (i + 1) xs)) (λ n. list_all (known n) (take (i + 1) xs))
+  pushed_next a b c xs i x l is p q =
+      pushed_as a c (λ ns. names ns (take i xs) ++ here ns x) (λ ns. names ns (take (i + 1) xs)) (λ n. list_all (known n) (take i xs) && known n x) (λ n. list_all (known n) (take (i + 1) xs))
+      (λ ns. sym (ap (names ns) (take_more xs i x l ∙ ap (λ y. take i xs ++ y ∷ []) (sym is)) ∙ joins ns (take i xs) x))
+      (λ n e. ap (λ y. list_all (known n) (take i xs) && known n y) is ∙ sym (list_all_more (known n) xs i x l) ∙ e)
+      (pushed_more a b c (λ ns. names ns (take i xs)) (λ ns. here ns x) (λ n. list_all (known n) (take i xs)) (λ n. known n x) p q)
+
+all_join : (es : List Expression) (e : Expression) → strong_all (expressions_of (es ++ e ∷ [])) ≡ strong_all (expressions_of es) ++ strong e
+all_join [] e = append-nil (strong e)
+all_join (d ∷ es) e = ap (λ ns. strong d ++ ns) (all_join es e) ∙ sym (append_assoc (strong d) (strong_all (expressions_of es)) (strong e))
+
+pub strong_join : {X : Type 0} (f : X → Expression) (xs : List X) (x : X) → strong_all (expressions_of (map f (xs ++ x ∷ []))) ≡ strong_all (expressions_of (map f xs)) ++ strong (f x)
+strong_join f xs x = ap (λ es. strong_all (expressions_of es)) (map-append f xs (x ∷ [])) ∙ all_join (map f xs) (f x)
+
+under_join : (ds : List (Declaration Expression)) (d : Declaration Expression) → strong_under (declarations_of (ds ++ d ∷ [])) ≡ strong_under (declarations_of ds) ++ if_asked d.mark (strong d.value)
+under_join [] d = append-nil (if_asked d.mark (strong d.value))
+under_join (c ∷ ds) d = ap (λ ns. if_asked c.mark (strong c.value) ++ ns) (under_join ds d) ∙ sym (append_assoc (if_asked c.mark (strong c.value)) (strong_under (declarations_of ds)) (if_asked d.mark (strong d.value)))
+
+pub parts_join : {X : Type 0} (f : X → Declaration Expression) (xs : List X) (x : X) → strong_under (declarations_of (map f (xs ++ x ∷ []))) ≡ strong_under (declarations_of (map f xs)) ++ if_asked (f x).mark (strong (f x).value)
+parts_join f xs x = ap (λ ds. strong_under (declarations_of ds)) (map-append f xs (x ∷ [])) ∙ under_join (map f xs) (f x)
+
+-- ---- each form of shape
+
+-- the numbers of operands, as those of the shape that has them
+abbrev pub PushedAll : List ℕ → List ℕ → List Shape → Type 0
+PushedAll a b xs = Pushed a b (λ ns. strong_all (expressions_of (map (expression_of ns) xs))) (λ n. list_all (is_known n) xs)
+
+abbrev pub PushedOf : List ℕ → List ℕ → Shape → Type 0
+PushedOf a b s = Pushed a b (λ ns. strong (expression_of ns s)) (λ n. is_known n s)
+
+pushed_operands : (a b : List ℕ) (xs : List Shape) (s : Shape) → ((ns : List (List ℕ)) → strong (expression_of ns s) ≡ strong_all (expressions_of (map (expression_of ns) xs))) → ((n : ℕ) → is_known n s ≡ true → list_all (is_known n) xs ≡ true) → PushedAll a b xs → PushedOf a b s
+pushed_operands a b xs s same known p = pushed_as a b _ _ _ _ (λ ns. sym (same ns)) known p
+
+pub pushed_And : (a b : List ℕ) (s : Shape) (v : Vec Shape Global) → s ≡ Shapes.And v → PushedAll a b v.items → PushedOf a b s
+pushed_And a b s v is p = pushed_operands a b v.items s (λ ns. ap strong (ap (expression_of ns) is ∙ of-And ns v)) (λ n e. sym (ap (is_known n) is ∙ known-And n v) ∙ e) p
+
+pub pushed_Or : (a b : List ℕ) (s : Shape) (v : Vec Shape Global) → s ≡ Shapes.Or v → PushedAll a b v.items → PushedOf a b s
+pushed_Or a b s v is p = pushed_operands a b v.items s (λ ns. ap strong (ap (expression_of ns) is ∙ of-Or ns v)) (λ n e. sym (ap (is_known n) is ∙ known-Or n v) ∙ e) p
+
+pub pushed_List : (a b : List ℕ) (s : Shape) (v : Vec Shape Global) (end : ShapeEnd) → s ≡ Shapes.List v end → PushedAll a b v.items → PushedOf a b s
+pushed_List a b s v end is p = pushed_operands a b v.items s (λ ns. ap strong (ap (expression_of ns) is ∙ of-List ns v end)) (λ n e. (both (list_all (is_known n) v.items) (is_known_end n end) (sym (ap (is_known n) is ∙ known-List n v end) ∙ e)).0) p
+
+pub pushed_Struct : (a b : List ℕ) (s : Shape) (v : Vec Part Global) (opened : Bool) → s ≡ Shapes.Struct v opened → Pushed a b (λ ns. strong_under (declarations_of (map (part_of ns) v.items))) (λ n. list_all (is_known_part n) v.items) → PushedOf a b s
+pushed_Struct a b s v opened is p = pushed_as a b _ _ _ _ (λ ns. sym (ap strong (ap (expression_of ns) is ∙ of-Struct ns v opened))) (λ n e. sym (ap (is_known n) is ∙ known-Struct n v opened) ∙ e) p

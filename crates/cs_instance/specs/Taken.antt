@@ -1,0 +1,27 @@
+-- The forms of expression that are taken so far: kinds and ranges, integers, bounds, and these joined by `&`.
+use Rattle.std.specs.Prelude.{List, [], ◌∷◌}
+use Rattle.cs_resolve.specs.Expression as cue
+use Rattle.cs_resolve.specs.Expression.{Expression, Expressions}
+use Rattle.cs_resolve.specs.Environment.{Environment}
+
+abbrev mutual
+  pub IsTaken : Expression → Type 0
+  IsTaken (cue.integer n) = Unit {0}
+  IsTaken (cue.kind k) = Unit {0}
+  IsTaken (cue.range least greatest) = Unit {0}
+  IsTaken (cue.bound r n) = Unit {0}
+  IsTaken (cue.conjunction es) = AreTaken es
+  IsTaken _ = ⊥
+
+  pub AreTaken : Expressions → Type 0
+  AreTaken cue.no_expressions = Unit {0}
+  AreTaken (cue.expression e es) = IsTaken e × AreTaken es
+
+abbrev pub AllTaken : List Expression → Type 0
+AllTaken [] = Unit {0}
+AllTaken (e ∷ es) = IsTaken e × AllTaken es
+
+-- each body of each definition is
+abbrev pub IsTakenPackage : Environment → Type 0
+IsTakenPackage [] = Unit {0}
+IsTakenPackage (d ∷ E) = AllTaken d.1 × IsTakenPackage E

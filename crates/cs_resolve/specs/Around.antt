@@ -1,0 +1,38 @@
+-- What the parts of an expression resolve to, where sets hold the labels of the struct literals around it.
+use Rattle.std.specs.Prelude.{◌≡◌, ℕ, Bool, true, List, map, length}
+use Rattle.std.specs.Borrow.{Bor}
+use Rattle.std.specs.HashSet.{HashSet, contains_by}
+use Rattle.std.specs.List.{list_any, list_all}
+use Rattle.std.specs.Str.{bytes_eq}
+use Rattle.cs_syntax.specs.Tree.{Label, Trees, Fields, End}
+use Rattle.cs_resolve.specs.Resolved.{resolved_all, resolved_under, resolved_end}
+use Rattle.cs_resolve.specs.Scopes.{has_label, names_field}
+use Rattle.cs_resolve.specs.View.{expression_of, expressions_of, part_of, declarations_of, rest_of, is_known, is_known_part, is_known_end}
+use Rattle.cs_resolve.specs.declared.shape.Shape.{Shape}
+use Rattle.cs_resolve.specs.declared.shape.ShapeEnd.{ShapeEnd}
+use Rattle.cs_resolve.specs.declared.shape.Part.{Part}
+
+abbrev pub has_text : {S : Type 0} → List ℕ → HashSet (Bor (List ℕ)) S → Bool
+has_text t s = contains_by (λ k. bytes_eq t k.now) s
+
+-- the set holds the identifier labels among these
+abbrev pub HoldsLabels : {S : Type 0} → HashSet (Bor (List ℕ)) S → List Label → Type 0
+HoldsLabels s ls = (t : List ℕ) → has_text t s ≡ has_label t ls
+
+-- the sets together hold what can be referred to in these literals
+abbrev pub HoldAround : {S : Type 0} → List (HashSet (Bor (List ℕ)) S) → List (List Label) → Type 0
+HoldAround sets scopes = (t : List ℕ) → list_any (has_text t) sets ≡ names_field t scopes
+
+-- the shapes stand for the resolved expressions, as one does (IsShapeOf); likewise the declarations of a struct
+-- literal, and the end of a list
+pub record AreShapesOf (ns : List (List ℕ)) (ss : List Shape) (ts : Trees) : Type 0 where
+  pub same : expressions_of (map (expression_of ns) ss) ≡ resolved_all ts
+  pub known : list_all (is_known (length ns)) ss ≡ true
+
+pub record ArePartsOf (ns : List (List ℕ)) (ps : List Part) (fs : Fields) : Type 0 where
+  pub same : declarations_of (map (part_of ns) ps) ≡ resolved_under fs
+  pub known : list_all (is_known_part (length ns)) ps ≡ true
+
+pub record IsEndOf (ns : List (List ℕ)) (s : ShapeEnd) (e : End) : Type 0 where
+  pub same : rest_of ns s ≡ resolved_end e
+  pub known : is_known_end (length ns) s ≡ true
