@@ -1,27 +1,41 @@
 # make            builds the proved program as bin/cue2schema
 # make run        builds it and runs it on examples/port.cue
-# make test       the gate: every proof from nothing, the must-fail edits, the tests, the program's stored run
-# make memory     runs the program with each of its first 40 allocations refused in turn, half an hour; JOBS=4 for four at once
+# make test       the gate: every proof from nothing, the must-fail edits, the tests, the program's stored run and its cases
+# make cases      the cases of the program alone
+# make edits      the edits that the gate doesn't try; CRATES="cs_x cs_y" for those of some crates
+# make memory     runs the program with each of its first 40 allocations refused in turn, half an hour
 # make bench      times the lexer and the parser on 1 MiB of source in four shapes each, and packages at their limits
 # make install    copies the program to $(PREFIX)/bin
+# JOBS=4 works on four crates or runs at once; there are as many as processors where it isn't given
 PREFIX ?= /usr/local
-JOBS ?= 1
+JOBS ?= $(shell nproc)
 SOURCES := crates.txt $(shell find crates -name out -prune -o \( -name '*.rt' -o -name '*.antt' \) -print)
+BUILT := crates/cue2schema/out/cue2schema
 
-.PHONY: all run test memory bench install clean toolchain
+.PHONY: all run test cases edits memory bench install clean toolchain
 
 all: bin/cue2schema
 
+# The libraries side by side first: `rt run` proves them in turn.
 bin/cue2schema: $(SOURCES) | toolchain
+	cd crates/cue2schema && { rt all check --jobs $(JOBS) > ../../proved.log 2>&1 || { tail -n 40 ../../proved.log; exit 1; }; }
 	cd crates/cue2schema && rt run -- export --root '#P' < ../../examples/port.cue > /dev/null
 	mkdir -p bin
-	cp crates/cue2schema/out/cue2schema $@
+	cp $(BUILT) $@
 
 run: bin/cue2schema
 	bin/cue2schema export --root '#P' < examples/port.cue
 
+# The gate leaves the program that it built; the cases never run on one that is older than a source.
 test: | toolchain
-	rt ci
+	RT_JOBS=$(JOBS) rt ci
+	@if [ -x $(BUILT) ] && [ -z "$$(find $(SOURCES) -newer $(BUILT))" ]; then tools/cases.sh $(BUILT); else $(MAKE) -s cases; fi
+
+cases: bin/cue2schema
+	tools/cases.sh bin/cue2schema
+
+edits: | toolchain
+	JOBS=$(JOBS) tools/edits.sh $(CRATES)
 
 memory: | toolchain
 	JOBS=$(JOBS) tools/memory.sh
@@ -35,7 +49,7 @@ install: bin/cue2schema
 	install -D -m 755 bin/cue2schema $(DESTDIR)$(PREFIX)/bin/cue2schema
 
 clean:
-	rm -rf bin crates/*/out
+	rm -rf bin proved.log crates/*/out
 
 toolchain:
 	@command -v rt > /dev/null || { echo "cue2schema is built with Rattle: put its command 'rt' on the PATH (its kit has it as bin/rt)" >&2; exit 1; }

@@ -2,11 +2,11 @@
 use Rattle.std.proofs.Common.{◌≡◌, ℕ, ℤ, List, [], ◌∷◌, map, Bool, true, false, ◌&&◌, Option, Some, None, int_le, refl, sym, ap₂, ◌∙◌}
 use Rattle.std.proofs.Math.Bool.{and-true}
 use Rattle.std.specs.List.{list_all}
-use Rattle.cs_doc.specs.Document.{Document, boolean, integer, text, elements}
+use Rattle.cs_document.specs.Document.{Document, boolean, integer, text, elements}
 use Rattle.cs_schema.specs.Validity.{IsValidity}
-use Rattle.cs_resolve.specs.Expression as cue
-use Rattle.cs_resolve.specs.Expression.{Expression, Expressions, operands, Kind, int, number, string, bool, Relation, less, at_most, more, at_least}
-use Rattle.cs_resolve.specs.Environment.{Environment, bodies}
+use Rattle.cs_package.specs.Expression as cue
+use Rattle.cs_package.specs.Expression.{Expression, Expressions, operands, Kind, int, number, string, bool, Relation, less, at_most, more, at_least}
+use Rattle.cs_package.specs.Environment.{Environment, bodies}
 use Rattle.cs_instance.specs.Instance.{IsInstance, Rule, node, definition}
 use Rattle.cs_instance.specs.Taken.{IsTaken, AreTaken, AllTaken}
 use Rattle.cs_compile.specs.Translation.{schema_of, schemas_of, body_schemas, definition_schema}

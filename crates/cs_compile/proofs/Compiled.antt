@@ -1,9 +1,9 @@
 -- A root that refers to one of its definitions, together with the definitions of a package, is the package's schema.
 use Rattle.std.proofs.Common.{◌≡◌, ℕ, List, Bool, Option, Some, None, IsSome, IfSome, refl, sym, ap, ◌∙◌, subst}
 use Rattle.std.specs.Prelude.{option_map, ◌≤◌}
-use Rattle.cs_doc.specs.Document.{Document, entries, under, depth, IsDocument}
-use Rattle.cs_doc.specs.View.{members_of}
-use Rattle.cs_resolve.specs.Environment.{Environment, bodies, written, IsDefinitionName}
+use Rattle.cs_document.specs.Document.{Document, entries, under, depth, IsDocument}
+use Rattle.cs_document.specs.View.{members_of}
+use Rattle.cs_package.specs.Environment.{Environment, bodies, written, IsDefinitionName}
 use Rattle.cs_instance.specs.Instance.{Rule, definition, IsInstance}
 use Rattle.cs_schema.specs.Keywords.{defined}
 use Rattle.cs_schema.specs.Profile.{IsSchema}

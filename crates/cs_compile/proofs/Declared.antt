@@ -4,9 +4,9 @@ use Rattle.std.specs.Ordering.{match_ordering, is_eq}
 use Rattle.std.specs.Cmp.Lexicographic.{slice_cmp}
 use Rattle.std.proofs.lemmas.Map.Text.{is_eq-slice_cmp}
 use Rattle.std.proofs.lemmas.Slice.Eq.{bytes_eq-Decides}
-use Rattle.cs_doc.specs.Document.{Document, Members, no_members, member, entries, under, put}
-use Rattle.cs_resolve.specs.Expression.{Expression}
-use Rattle.cs_resolve.specs.Environment.{Environment, bodies}
+use Rattle.cs_document.specs.Document.{Document, Members, no_members, member, entries, under, put}
+use Rattle.cs_package.specs.Expression.{Expression}
+use Rattle.cs_package.specs.Environment.{Environment, bodies}
 use Rattle.cs_instance.specs.Taken.{AllTaken}
 use Rattle.cs_compile.specs.Translation.{definition_schema}
 use Rattle.cs_compile.specs.Whole.{IsDefinition, AreDefinitions}

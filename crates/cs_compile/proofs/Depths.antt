@@ -2,13 +2,13 @@
 use Rattle.std.proofs.Common.{ℕ, suc, ◌+◌, ◌*◌, ◌≤◌, List, [], ◌∷◌, Some, None, sym, subst, arith}
 use Rattle.std.specs.Prelude.{max}
 use Rattle.std.proofs.Math.Nat.{le-max_left, le-max_right, max-le}
-use Rattle.cs_doc.specs.Document.{depth, documents_depth, members_depth, Members, no_members, member}
-use Rattle.cs_resolve.specs.Expression as cue
-use Rattle.cs_resolve.specs.Expression.{Expression, Expressions, less, at_most, more, at_least}
-use Rattle.cs_resolve.specs.Environment.{Environment}
+use Rattle.cs_document.specs.Document.{depth, documents_depth, members_depth, Members, no_members, member}
+use Rattle.cs_package.specs.Expression as cue
+use Rattle.cs_package.specs.Expression.{Expression, Expressions, less, at_most, more, at_least}
+use Rattle.cs_package.specs.Environment.{Environment}
 use Rattle.cs_compile.specs.Translation.{schema_of, schemas_of, body_schemas, definition_schema}
 use Rattle.cs_compile.specs.Whole.{AreDefinitions}
-use Rattle.cs_resolve.specs.Height.{height, height_all, heights, IsLow}
+use Rattle.cs_package.specs.Height.{height, height_all, heights, IsLow}
 use Rattle.cs_compile.proofs.Root.{root_of}
 
 max-times : (a b c d : ℕ) → a ≤ 4 * c → b ≤ 4 * d → max a b ≤ 4 * max c d

@@ -2,8 +2,8 @@
 use Rattle.std.proofs.Common.{◌≡◌, ℕ, List, [], ◌∷◌, Bool, true, false, ◌&&◌, refl, ap₂, arith}
 use Rattle.std.specs.List.{list_all}
 use Rattle.std.proofs.lemmas.Bool.Decides.{nat_tests}
-use Rattle.cs_syntax.specs.Spelling.{is_name_byte, begins_definition}
-use Rattle.cs_resolve.specs.Environment.{IsDefinitionName}
+use Rattle.cs_grammar.specs.Spelling.{is_name_byte, begins_definition}
+use Rattle.cs_package.specs.Environment.{IsDefinitionName}
 use Rattle.cs_schema.specs.Shapes.{is_name, is_name_code}
 
 both : (a b : Bool) → (a && b) ≡ true → (a ≡ true) × (b ≡ true)

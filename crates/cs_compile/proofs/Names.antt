@@ -9,10 +9,10 @@ use Rattle.std.specs.Cmp.Lexicographic.{slice_cmp}
 use Rattle.std.specs.BTreeMap.{insert_entry}
 use Rattle.std.proofs.lemmas.Map.Text.{is_eq-slice_cmp}
 use Rattle.std.proofs.lemmas.Slice.Eq.{bytes_eq-Decides}
-use Rattle.cs_doc.specs.Document.{Document, Members, no_members, member, entries, under, put}
-use Rattle.cs_doc.specs.View.{members_of}
-use Rattle.cs_resolve.specs.Expression.{Expression}
-use Rattle.cs_resolve.specs.Environment.{Environment, bodies, name_at}
+use Rattle.cs_document.specs.Document.{Document, Members, no_members, member, entries, under, put}
+use Rattle.cs_document.specs.View.{members_of}
+use Rattle.cs_package.specs.Expression.{Expression}
+use Rattle.cs_package.specs.Environment.{Environment, bodies, name_at}
 use Rattle.cs_schema.specs.SchemaDocument.{schema_view, definitions_view}
 use Rattle.cs_schema.specs.declared.schema.Schema.{Schema}
 use Rattle.cs_compile.specs.Translation.{definition_schema, bare_name}

@@ -2,8 +2,8 @@
 use Rattle.std.proofs.Common.{◌≡◌, ℕ, List, [], ◌∷◌, ◌++◌, Bool, Some, IsSome, codes, String, Global, refl, ap, ap₂, ◌∙◌}
 use Rattle.std.proofs.Math.Bool.{and-true}
 use Rattle.std.proofs.lemmas.List.{append-nil}
-use Rattle.cs_doc.specs.Document.{Document, text, object, Members, no_members, member, entries, under}
-use Rattle.cs_doc.specs.View.{members_of}
+use Rattle.cs_document.specs.Document.{Document, text, object, Members, no_members, member, entries, under}
+use Rattle.cs_document.specs.View.{members_of}
 use Rattle.cs_schema.specs.Keywords.{reference_start, defined}
 use Rattle.cs_schema.specs.Shapes.{dialect}
 use Rattle.cs_schema.specs.Trim.{with_dialect}

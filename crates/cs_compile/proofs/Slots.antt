@@ -2,10 +2,10 @@
 use Rattle.std.proofs.Common.{◌≡◌, ℕ, List, [], ◌∷◌, map, Option, Some, None, codes, Result, refl, ap, ap₂, ◌∙◌, rules}
 use Rattle.std.proofs.lemmas.Result.{IfOk-weaker}
 use Rattle.std.specs.Result.{IfOk}
-use Rattle.cs_doc.specs.Document.{Document, text, object, document, Members, no_members}
-use Rattle.cs_doc.specs.View.{documents_of}
-use Rattle.cs_resolve.specs.Expression.{Expression}
-use Rattle.cs_resolve.specs.View.{expressions_of}
+use Rattle.cs_document.specs.Document.{Document, text, object, document, Members, no_members}
+use Rattle.cs_document.specs.View.{documents_of}
+use Rattle.cs_package.specs.Expression.{Expression}
+use Rattle.cs_package.specs.View.{expressions_of}
 use Rattle.cs_schema.specs.SchemaDocument.{Slot, present, slots_of, schema_view, unless_no_list}
 use Rattle.cs_schema.specs.Reading.{set_slot}
 use Rattle.cs_schema.specs.declared.schema.Keywords.{Keywords, the_lemmas}

@@ -3,10 +3,10 @@ use Rattle.std.proofs.Common.{◌≡◌, ℕ, suc, List, [], ◌∷◌, ◌++◌
 use Rattle.std.specs.List.{list_any}
 use Rattle.std.specs.Prelude.{is_some, IsSome}
 use Rattle.std.specs.Option.{option_map_or}
-use Rattle.cs_doc.specs.Document.{Document, text, object, Documents, no_documents, document, Members, no_members, member, entries, under}
-use Rattle.cs_resolve.specs.Expression as cue
-use Rattle.cs_resolve.specs.Expression.{Expression, Expressions, less, at_most, more, at_least, int, number, string, bool}
-use Rattle.cs_resolve.specs.Environment.{Environment}
+use Rattle.cs_document.specs.Document.{Document, text, object, Documents, no_documents, document, Members, no_members, member, entries, under}
+use Rattle.cs_package.specs.Expression as cue
+use Rattle.cs_package.specs.Expression.{Expression, Expressions, less, at_most, more, at_least, int, number, string, bool}
+use Rattle.cs_package.specs.Environment.{Environment}
 use Rattle.cs_schema.specs.Keywords.{defined, reference_start}
 use Rattle.cs_schema.specs.Loops.{direct_names, each_names, RefersDirectly, IsLoop}
 use Rattle.cs_schema.specs.Places.{at_key, at_index}

@@ -1,9 +1,9 @@
 -- The schema of each form of expression that is taken so far, a row for each form (own rule; the keywords are those of
 -- JSON Schema Validation 2020-12, section 6, and Core, section 10). Keys stand in byte order.
 use Rattle.std.specs.Prelude.{ℕ, ℤ, List, [], ◌∷◌, Option, Some, None, false, codes, ◌==◌, if◌then◌else◌}
-use Rattle.cs_doc.specs.Document.{Document, boolean, integer, text, list, object, Documents, no_documents, document, Members, no_members, member}
-use Rattle.cs_resolve.specs.Expression as cue
-use Rattle.cs_resolve.specs.Expression.{Expression, Expressions, Kind, int, number, string, bool, Relation, less, at_most, more, at_least}
+use Rattle.cs_document.specs.Document.{Document, boolean, integer, text, list, object, Documents, no_documents, document, Members, no_members, member}
+use Rattle.cs_package.specs.Expression as cue
+use Rattle.cs_package.specs.Expression.{Expression, Expressions, Kind, int, number, string, bool, Relation, less, at_most, more, at_least}
 
 -- `int`, `number`, `string`, `bool`
 abbrev pub type_name : Kind → List ℕ

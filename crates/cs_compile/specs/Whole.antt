@@ -1,11 +1,11 @@
 -- The schema of a package at a root definition, and what it says.
 use Rattle.std.specs.Prelude.{◌≡◌, ℕ, ◌≤◌, List, ◌++◌, Bool, Some, option_map, codes, String}
 use Rattle.std.specs.declared.alloc.Global.{Global}
-use Rattle.cs_doc.specs.Document.{Document, text, object, Members, no_members, member, Entry, entries, IsDocument, depth}
-use Rattle.cs_doc.specs.View.{members_of}
-use Rattle.cs_resolve.specs.Expression.{Expression}
-use Rattle.cs_resolve.specs.Environment.{Environment, bodies}
-use Rattle.cs_resolve.specs.Height.{IsLow}
+use Rattle.cs_document.specs.Document.{Document, text, object, Members, no_members, member, Entry, entries, IsDocument, depth}
+use Rattle.cs_document.specs.View.{members_of}
+use Rattle.cs_package.specs.Expression.{Expression}
+use Rattle.cs_package.specs.Environment.{Environment, bodies}
+use Rattle.cs_package.specs.Height.{IsLow}
 use Rattle.cs_instance.specs.Instance.{Rule, definition, IsInstance}
 use Rattle.cs_schema.specs.Keywords.{reference_start, defined}
 use Rattle.cs_schema.specs.SchemaDocument.{SchemaValue, document_of, schema_view, definitions_view}

@@ -1,13 +1,13 @@
 // Schema objects, a keyword at a time.
 ghost use Rattle.std.specs.Prelude.{◌≡◌, [], ◌∷◌, Some, IfOk, IsOkUnless, codes};
-ghost use Rattle.cs_doc.specs.Document.{text, integer, list, object};
-ghost use Rattle.cs_doc.specs.View.{doc_view, documents_of};
+ghost use Rattle.cs_document.specs.Document.{text, integer, list, object};
+ghost use Rattle.cs_document.specs.View.{doc_view, documents_of};
 ghost use Rattle.cs_schema.specs.SchemaDocument.{schema_view, schemas_view, kind_name, reference_document, slots_of, present, unless_no_list};
 ghost use Rattle.cs_schema.specs.Reading.{set_slot};
 ghost use Rattle.cs_compile.specs.Translation.{all_of};
 
 use crate::CompileFault;
-use cs_doc::Doc;
+use cs_document::Doc;
 use cs_schema::{JsonKind, Keywords, Schema};
 use std::alloc::Global;
 

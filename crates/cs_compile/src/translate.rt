@@ -1,7 +1,7 @@
 // The schema of each form of expression.
 ghost use Rattle.std.specs.Prelude.{◌≡◌, ℕ, List, IfOk, IsOkUnless, codes, map};
-ghost use Rattle.cs_doc.specs.Document.{object, member, integer};
-ghost use Rattle.cs_resolve.specs.View.{expression_of, kind_of, relation_of};
+ghost use Rattle.cs_document.specs.Document.{object, member, integer};
+ghost use Rattle.cs_package.specs.View.{expression_of, kind_of, relation_of};
 ghost use Rattle.cs_instance.specs.Taken.{IsTaken, AllTaken};
 ghost use Rattle.cs_schema.specs.SchemaDocument.{schema_view, kind_name};
 ghost use Rattle.cs_compile.specs.Translation.{schema_of, definition_schema, all_of, body_schemas, of_type, type_name, range_keywords, limit_name};
@@ -11,8 +11,8 @@ use crate::keywords::{
     object, with_above, with_all_of, with_below, with_constant, with_maximum, with_minimum,
     with_type,
 };
-use cs_doc::Doc;
-use cs_resolve::{Kind, Relation, Shape};
+use cs_document::Doc;
+use cs_package::{Kind, Relation, Shape};
 use cs_schema::{JsonKind, Keywords, Schema};
 use std::alloc::Global;
 

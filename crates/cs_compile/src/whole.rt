@@ -1,8 +1,8 @@
 // The schema of a package.
 ghost use Rattle.std.specs.Prelude.{◌≡◌, ℕ, List, IfOk, IsErrOf, IsOkUnless, option_map};
-ghost use Rattle.cs_doc.specs.Document.{under};
-ghost use Rattle.cs_doc.specs.View.{members_of};
-ghost use Rattle.cs_resolve.specs.Environment.{bodies, Names};
+ghost use Rattle.cs_document.specs.Document.{under};
+ghost use Rattle.cs_document.specs.View.{members_of};
+ghost use Rattle.cs_package.specs.Environment.{bodies, Names};
 ghost use Rattle.cs_instance.specs.Taken.{IsTakenPackage};
 ghost use Rattle.cs_schema.specs.SchemaDocument.{schema_view, definitions_view};
 ghost use Rattle.cs_compile.specs.Translation.{definition_schema, bare_name};
@@ -12,7 +12,7 @@ use crate::CompileFault;
 use crate::keywords::{object, with_reference};
 use crate::translate::definition_schema;
 use cs_guard::Guarded;
-use cs_resolve::Package;
+use cs_package::Package;
 use cs_schema::{Keywords, Schema, SchemaDoc};
 use std::alloc::Global;
 use std::collections::BTreeMap;

@@ -9,13 +9,11 @@ use Rattle.serde_json.specs.Find.{as_i64, of_integer}
 use Rattle.serde_json.specs.Written.{has_float, items_have_float, members_have_float}
 use Rattle.serde_json.specs.View.{view, items_view, members_view}
 use Rattle.serde_json.specs.declared.value.Value.{Value}
-use Rattle.cs_doc.specs.Document.{Document, null, boolean, integer, text, list, object, Documents, no_documents, document, Members, no_members, member, depth, documents_depth, members_depth, KeysAbove, IsDocument, AreDocuments, AreMembers}
+use Rattle.cs_document.specs.Document.{Document, null, boolean, integer, text, list, object, Documents, no_documents, document, Members, no_members, member, depth, documents_depth, members_depth, KeysAbove, IsDocument, AreDocuments, AreMembers}
 use Rattle.cs_doc.specs.Texts.{data_of, items_of, values_of, document_of, documents_of, members_of}
-use Rattle.cs_doc.specs.View.{doc_view, list_view, object_view}
-use Rattle.cs_doc.specs.declared.doc.Doc.{Doc}
-
-abbrev pub Entry : Type 0
-Entry = String Global × Doc
+use Rattle.cs_document.specs.View.{doc_view, list_view, object_view}
+use Rattle.cs_document.specs.declared.doc.Doc.{Doc}
+use Rattle.cs_document.proofs.Entries.{Entry}
 
 -- ---- parts that were made, before the rest
 
@@ -173,15 +171,3 @@ members_view-push (f ∷ found) (d ∷ done) name v e is named seen =
     let first : view f.1 ≡ data_of (doc_view d.1) = cc in
     let rest : members_view found ≡ values_of (object_view done) = cc in
     rw (key, first) (ap (value.member (string_bytes d.0) (data_of (doc_view d.1))) (members_view-push found done name v e rest named seen))
-
-pub object_view-push : (found done : List Entry) (name : String Global) (v : Doc) (e : Entry)
-    → object_view found ≡ object_view done → string_bytes name ≡ string_bytes e.0 → doc_view v ≡ doc_view e.1
-    → object_view (found ++ (name, v) ∷ []) ≡ object_view (done ++ e ∷ [])
-object_view-push [] [] name v e is named seen = rw (named, seen)
-object_view-push [] (d ∷ done) name v e is named seen = cc
-object_view-push (f ∷ found) [] name v e is named seen = cc
-object_view-push (f ∷ found) (d ∷ done) name v e is named seen =
-    let key : string_bytes f.0 ≡ string_bytes d.0 = cc in
-    let first : doc_view f.1 ≡ doc_view d.1 = cc in
-    let rest : object_view found ≡ object_view done = cc in
-    rw (key, first) (ap (member (string_bytes d.0) (doc_view d.1)) (object_view-push found done name v e rest named seen))

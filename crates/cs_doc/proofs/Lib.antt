@@ -1,4 +1,2 @@
 pub mod Documents
-pub mod Maps
 pub mod OnLiterals
-pub mod Views

@@ -1,5 +1,5 @@
-pub mod Document
-pub mod Equality
-pub mod Opened
-pub mod View
+pub use Rattle.cs_document.specs.Document
+pub use Rattle.cs_document.specs.Equality
+pub use Rattle.cs_document.specs.Opened
+pub use Rattle.cs_document.specs.View
 pub mod Texts

@@ -1,17 +1,9 @@
-// Documents: the values of JSON whose numbers are signed integers of 64 bits.
+// The texts of documents, as `serde_json` reads and writes them. The documents themselves are those of `cs_document`.
 #![tactic(auto)]
 
-mod copy;
-mod doc;
-mod equal;
-mod fault;
 mod read;
 mod write;
 
-pub use doc::Doc;
-pub use fault::DocFault;
+pub use cs_document::{Doc, DocFault};
 pub use read::read_doc;
 pub use write::write_doc;
-
-#[cfg(test)]
-mod tests;

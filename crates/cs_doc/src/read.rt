@@ -1,8 +1,8 @@
 ghost use Rattle.std.specs.Prelude.{◌≡◌, Some, None, IfOk, IsErrOf};
 ghost use Rattle.serde_json.specs.View.{view, items_view, members_view};
 ghost use Rattle.cs_doc.specs.Texts.{document_of, documents_of, members_of, Reads, IsJson, HasOtherNumber};
-ghost use Rattle.cs_doc.specs.Document.{IsDocument, AreDocuments, AreMembers};
-ghost use Rattle.cs_doc.specs.View.{doc_view, list_view, object_view};
+ghost use Rattle.cs_document.specs.Document.{IsDocument, AreDocuments, AreMembers};
+ghost use Rattle.cs_document.specs.View.{doc_view, list_view, object_view};
 
 use crate::{Doc, DocFault};
 use serde_json::{Map, Value};

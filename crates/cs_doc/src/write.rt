@@ -1,9 +1,9 @@
 ghost use Rattle.std.specs.Prelude.{◌≡◌, ◌≤◌, IfOk, OnOk, IsOkUnless};
 ghost use Rattle.serde_json.specs.Read.{max_depth};
 ghost use Rattle.serde_json.specs.View.{view, items_view, members_view};
-ghost use Rattle.cs_doc.specs.Document.{depth, IsDocument, AreDocuments, AreMembers};
+ghost use Rattle.cs_document.specs.Document.{depth, IsDocument, AreDocuments, AreMembers};
 ghost use Rattle.cs_doc.specs.Texts.{data_of, items_of, values_of, Reads, text_of};
-ghost use Rattle.cs_doc.specs.View.{doc_view, list_view, object_view};
+ghost use Rattle.cs_document.specs.View.{doc_view, list_view, object_view};
 
 use crate::{Doc, DocFault};
 use serde_json::{Map, Value};

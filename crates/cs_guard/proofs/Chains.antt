@@ -5,7 +5,7 @@ use Rattle.std.specs.Option.{unwrap_or}
 use Rattle.std.specs.Str.{bytes_eq}
 use Rattle.std.proofs.lemmas.List.{get_or_read_under}
 use Rattle.std.proofs.lemmas.Option.{IfSome_then}
-use Rattle.cs_resolve.specs.Environment.{Environment, bodies, name_at, bodies_at}
+use Rattle.cs_package.specs.Environment.{Environment, bodies, name_at, bodies_at}
 use Rattle.cs_guard.specs.References.{strong, strong_of, RefersStrongly}
 use Rattle.cs_guard.specs.Chains.{NoCycle, most_references}
 use Rattle.cs_guard.specs.Guarded.{Chain, IsGuarded, IsHeight}

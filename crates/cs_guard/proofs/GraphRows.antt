@@ -6,10 +6,10 @@ use Rattle.std.specs.Option.{unwrap_or}
 use Rattle.std.proofs.lemmas.List.{map-append}
 use Rattle.std.proofs.lemmas.List.Elements.{All-nil}
 use Rattle.std.proofs.lemmas.Option.{same_Some}
-use Rattle.cs_resolve.specs.Expression.{Expression}
-use Rattle.cs_resolve.specs.Environment.{Environment, declared_names, bodies, bodies_at, name_at}
-use Rattle.cs_resolve.specs.View.{expression_of, expressions_of, is_known}
-use Rattle.cs_resolve.specs.declared.shape.Shape.{Shape}
+use Rattle.cs_package.specs.Expression.{Expression}
+use Rattle.cs_package.specs.Environment.{Environment, declared_names, bodies, bodies_at, name_at}
+use Rattle.cs_package.specs.View.{expression_of, expressions_of, is_known}
+use Rattle.cs_package.specs.declared.shape.Shape.{Shape}
 use Rattle.cs_guard.specs.References.{strong, strong_all, strong_of}
 use Rattle.cs_guard.specs.Chains.{On}
 use Rattle.cs_guard.specs.Graph.{Graph, graph_of}

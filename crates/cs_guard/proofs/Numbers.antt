@@ -8,8 +8,8 @@ use Rattle.std.proofs.lemmas.Option.{slice_get-get_or, same_Some}
 use Rattle.std.proofs.lemmas.Slice.Eq.{bytes_eq-Decides}
 use Rattle.std.proofs.Math.ListN.{length-map}
 use Rattle.std.proofs.lemmas.List.{map-append}
-use Rattle.cs_resolve.specs.Expression.{Expression}
-use Rattle.cs_resolve.specs.Environment.{Environment, declared_names, bodies, name_at}
+use Rattle.cs_package.specs.Expression.{Expression}
+use Rattle.cs_package.specs.Environment.{Environment, declared_names, bodies, name_at}
 use Rattle.cs_guard.specs.References.{strong, strong_of, RefersStrongly}
 use Rattle.cs_guard.specs.Ranks.{AreRanks}
 use Rattle.cs_guard.specs.Cycles as refused

@@ -4,13 +4,13 @@ use Rattle.std.specs.List.{list_all}
 use Rattle.std.proofs.lemmas.List.{take_more}
 use Rattle.std.proofs.lemmas.List.{map-append, append-nil}
 use Rattle.std.proofs.lemmas.List.Folds.{list_all_more}
-use Rattle.cs_resolve.specs.Expression.{Expression, Declaration}
-use Rattle.cs_resolve.specs.View.{expression_of, part_of, expressions_of, declarations_of, is_known, is_known_end, is_known_part}
-use Rattle.cs_resolve.proofs.Views.{of-And, of-Or, of-Struct, of-List, known-And, known-Or, known-Struct, known-List}
-use Rattle.cs_resolve.specs.declared.shape.Shape as Shapes
-use Rattle.cs_resolve.specs.declared.shape.Shape.{Shape}
-use Rattle.cs_resolve.specs.declared.shape.ShapeEnd.{ShapeEnd}
-use Rattle.cs_resolve.specs.declared.shape.Part.{Part}
+use Rattle.cs_package.specs.Expression.{Expression, Declaration}
+use Rattle.cs_package.specs.View.{expression_of, part_of, expressions_of, declarations_of, is_known, is_known_end, is_known_part}
+use Rattle.cs_package.proofs.Views.{of-And, of-Or, of-Struct, of-List, known-And, known-Or, known-Struct, known-List}
+use Rattle.cs_package.specs.declared.shape.Shape as Shapes
+use Rattle.cs_package.specs.declared.shape.Shape.{Shape}
+use Rattle.cs_package.specs.declared.shape.ShapeEnd.{ShapeEnd}
+use Rattle.cs_package.specs.declared.shape.Part.{Part}
 use Rattle.cs_guard.specs.References.{strong, strong_all, strong_under, if_asked}
 use Rattle.cs_guard.specs.Pushed.{Pushed, named}
 

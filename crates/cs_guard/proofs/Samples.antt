@@ -1,8 +1,8 @@
 -- Definitions, each with the names that it refers to strongly, in order. A wrong expectation stops the check here.
 use Rattle.std.proofs.Common.{◌≡◌, ℕ, false, List, [], ◌∷◌, codes, refl}
-use Rattle.cs_resolve.specs.Expression as cue
-use Rattle.cs_resolve.specs.Expression.{Expression, Declarations, no_declarations}
-use Rattle.cs_resolve.specs.View.{expressions_of}
+use Rattle.cs_package.specs.Expression as cue
+use Rattle.cs_package.specs.Expression.{Expression, Declarations, no_declarations}
+use Rattle.cs_package.specs.View.{expressions_of}
 use Rattle.cs_guard.specs.References.{strong_of}
 
 -- ---- short forms

@@ -3,7 +3,7 @@
 use Rattle.std.specs.Prelude.{◌≡◌, ℕ, ◌≤◌, List, [], ◌∷◌, Some, map, Contains, string_bytes}
 use Rattle.std.specs.List.{IsDistinct}
 use Rattle.std.specs.Str.{bytes_eq}
-use Rattle.cs_resolve.specs.Environment.{Environment, name_at, written}
+use Rattle.cs_package.specs.Environment.{Environment, name_at, written}
 use Rattle.cs_guard.specs.Chains as general
 use Rattle.cs_guard.specs.References.{RefersStrongly}
 use Rattle.cs_guard.specs.declared.fault.GuardFault.{GuardFault}

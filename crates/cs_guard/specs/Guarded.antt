@@ -1,6 +1,6 @@
 -- Environments whose recursion is guarded (CUE language specification, "Structural cycles"; the bound is an own rule).
 use Rattle.std.specs.Prelude.{ℕ, List}
-use Rattle.cs_resolve.specs.Environment.{Environment}
+use Rattle.cs_package.specs.Environment.{Environment}
 use Rattle.cs_guard.specs.Chains as general
 use Rattle.cs_guard.specs.References.{RefersStrongly}
 

@@ -1,7 +1,7 @@
 -- Definitions by their numbers, which are their places in the environment.
 use Rattle.std.specs.Prelude.{◌≡◌, ℕ, List, [], Some, map, length, slice_get}
 use Rattle.std.specs.Option.{unwrap_or}
-use Rattle.cs_resolve.specs.Environment.{Environment, name_at}
+use Rattle.cs_package.specs.Environment.{Environment, name_at}
 use Rattle.cs_guard.specs.Graph.{Graph, Within}
 use Rattle.cs_guard.specs.References.{strong_of}
 

@@ -1,6 +1,6 @@
 -- What a guarded package keeps.
 use Rattle.std.specs.Prelude.{◌≡◌, ℕ, List, length, get_or, Some}
-use Rattle.cs_resolve.specs.Environment.{Environment, name_at}
+use Rattle.cs_package.specs.Environment.{Environment, name_at}
 use Rattle.cs_guard.specs.Guarded.{IsGuarded, IsHeight}
 
 -- it is guarded, and the number at a definition's place is its height

@@ -1,7 +1,7 @@
 -- What a definition refers to (CUE language specification, "Structural cycles"; which references are strong is an own rule).
 use Rattle.std.specs.Prelude.{ℕ, List, [], ◌∷◌, ◌++◌, flat_map, unwrap_or, Contains}
-use Rattle.cs_resolve.specs.Expression.{Expression, reference, conjunction, disjunction, struct, list, Expressions, no_expressions, expression, Declarations, no_declarations, declaration, Mark, regular, optional, required}
-use Rattle.cs_resolve.specs.Environment.{Environment, bodies}
+use Rattle.cs_package.specs.Expression.{Expression, reference, conjunction, disjunction, struct, list, Expressions, no_expressions, expression, Declarations, no_declarations, declaration, Mark, regular, optional, required}
+use Rattle.cs_package.specs.Environment.{Environment, bodies}
 
 -- the names of the references that are reached through `&` and `|` alone
 abbrev mutual

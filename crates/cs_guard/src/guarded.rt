@@ -1,6 +1,6 @@
 // A guarded package.
 ghost use Rattle.std.specs.Prelude.{◌≡◌, ◌<◌, ℕ, List, map, length, string_bytes, All, Contains, IfOk, IfErr, OnOk, IfSome, IsOkUnless};
-ghost use Rattle.cs_resolve.specs.Environment.{name_at, written};
+ghost use Rattle.cs_package.specs.Environment.{name_at, written};
 ghost use Rattle.cs_guard.specs.Numbered.{name_of};
 ghost use Rattle.cs_guard.specs.Cycles.{IsRefusal};
 ghost use Rattle.cs_guard.specs.References.{strong_of};
@@ -9,7 +9,7 @@ ghost use Rattle.cs_guard.specs.Guarded.{IsGuarded, IsHeight};
 use crate::GuardFault;
 use crate::references::graph_of_package;
 use crate::walk::{WalkFault, heights};
-use cs_resolve::Package;
+use cs_package::Package;
 use std::alloc::{AllocError, Global};
 use std::marker::Model;
 
@@ -21,8 +21,8 @@ pub struct Guarded {
 }
 
 impl Model for Guarded {
-    ghost use Rattle.cs_resolve.specs.Environment.{Environment};
-    ghost use Rattle.cs_resolve.specs.Code.{coded_environment};
+    ghost use Rattle.cs_package.specs.Environment.{Environment};
+    ghost use Rattle.cs_package.specs.Code.{coded_environment};
     ghost use Rattle.cs_guard.specs.Ranks.{AreRanks};
 
     ghost Value = { Environment };

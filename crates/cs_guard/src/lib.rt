@@ -9,6 +9,3 @@ mod walk;
 
 pub use fault::GuardFault;
 pub use guarded::{Guarded, guard};
-
-#[cfg(test)]
-mod tests;

@@ -3,14 +3,14 @@
 ghost use Rattle.std.specs.Prelude.{OnOk, IfOk, map, []};
 ghost use Rattle.std.specs.List.{list_all, IsDistinct};
 ghost use Rattle.std.specs.Str.{bytes_eq};
-ghost use Rattle.cs_resolve.specs.Environment.{declared_names};
-ghost use Rattle.cs_resolve.specs.View.{expression_of, part_of, expressions_of, declarations_of, is_known, is_known_part};
+ghost use Rattle.cs_package.specs.Environment.{declared_names};
+ghost use Rattle.cs_package.specs.View.{expression_of, part_of, expressions_of, declarations_of, is_known, is_known_part};
 ghost use Rattle.cs_guard.specs.References.{strong, strong_all, strong_under, if_asked};
 ghost use Rattle.cs_guard.specs.Graph.{graph_of};
 ghost use Rattle.cs_guard.specs.Numbered.{IsGraphOf};
 ghost use Rattle.cs_guard.specs.Pushed.{Pushed};
 
-use cs_resolve::{FieldMark, Package, Part, Shape};
+use cs_package::{FieldMark, Package, Part, Shape};
 use std::alloc::{AllocError, Global};
 
 /// Pushes the numbers that a shape refers to strongly: through `&`, `|`, regular and required fields and fixed list

@@ -110,6 +110,3 @@ pub(crate) fn heights(alloc: Global, graph: &[Vec<usize>]) -> Result<Vec<usize>,
     }
     Ok(heights)
 }
-
-#[cfg(test)]
-mod tests;

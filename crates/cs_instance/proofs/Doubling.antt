@@ -7,11 +7,11 @@ use Rattle.std.specs.Str.{bytes_eq}
 use Rattle.std.proofs.lemmas.Bool.Decides.{nat_tests}
 use Rattle.std.proofs.lemmas.List.Elements.{Contains-append_cases}
 use Rattle.std.proofs.lemmas.Slice.Eq.{bytes_eq-Decides}
-use Rattle.cs_doc.specs.Document.{Document, integer}
-use Rattle.cs_doc.specs.Opened.{opened}
-use Rattle.cs_resolve.specs.Expression as cue
-use Rattle.cs_resolve.specs.Expression.{Expression}
-use Rattle.cs_resolve.specs.Environment.{Environment, bodies}
+use Rattle.cs_document.specs.Document.{Document, integer}
+use Rattle.cs_document.specs.Opened.{opened}
+use Rattle.cs_package.specs.Expression as cue
+use Rattle.cs_package.specs.Expression.{Expression}
+use Rattle.cs_package.specs.Environment.{Environment, bodies}
 use Rattle.cs_guard.specs.References.{strong, strong_of}
 use Rattle.cs_guard.specs.Guarded.{Chain, IsGuarded}
 use Rattle.cs_instance.specs.Asked.{held}

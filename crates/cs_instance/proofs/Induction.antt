@@ -4,10 +4,10 @@ use Rattle.std.specs.List.{flat_map}
 use Rattle.std.specs.Option.{unwrap_or}
 use Rattle.std.proofs.lemmas.List.Elements.{Contains-append_left, Contains-append_right, Contains-append_cases}
 use Rattle.std.proofs.Common.{inl, inr}
-use Rattle.cs_doc.specs.Document.{Document, null, boolean, integer, text, list, object, Documents, no_documents, document, Members, no_members, member, elements, entries}
-use Rattle.cs_resolve.specs.Expression as cue
-use Rattle.cs_resolve.specs.Expression.{Expression, Expressions, no_expressions, expression, operands}
-use Rattle.cs_resolve.specs.Environment.{Environment, bodies}
+use Rattle.cs_document.specs.Document.{Document, null, boolean, integer, text, list, object, Documents, no_documents, document, Members, no_members, member, elements, entries}
+use Rattle.cs_package.specs.Expression as cue
+use Rattle.cs_package.specs.Expression.{Expression, Expressions, no_expressions, expression, operands}
+use Rattle.cs_package.specs.Environment.{Environment, bodies}
 use Rattle.cs_guard.specs.References.{direct, direct_all, strong, strong_all, strong_of}
 use Rattle.cs_guard.specs.Guarded.{Chain, IsGuarded}
 use Rattle.cs_instance.specs.Instance.{Rule, definition, node, asked, all_bodies}

@@ -1,8 +1,8 @@
 -- A guarded environment has one instance relation.
 use Rattle.std.proofs.Common.{◌≡◌, ℕ, Bool, true, List, map}
-use Rattle.cs_doc.specs.Document.{Document}
-use Rattle.cs_doc.specs.Opened.{opened}
-use Rattle.cs_resolve.specs.Environment.{Environment}
+use Rattle.cs_document.specs.Document.{Document}
+use Rattle.cs_document.specs.Opened.{opened}
+use Rattle.cs_package.specs.Environment.{Environment}
 use Rattle.cs_guard.specs.Guarded.{IsGuarded}
 use Rattle.cs_instance.specs.Asked.{held}
 use Rattle.cs_instance.specs.Instance.{Rule, node, asked, IsInstance, OneMeaning}

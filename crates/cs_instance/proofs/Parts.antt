@@ -2,9 +2,9 @@
 use Rattle.std.proofs.Common.{◌≡◌, ℕ, Bool, true, false, ◌&&◌, ◌||◌, List, [], ◌∷◌, cond, Some, refl, ap, ap₂}
 use Rattle.std.specs.List.{list_all, list_any}
 use Rattle.std.specs.Str.{bytes_eq}
-use Rattle.cs_doc.specs.Document.{Document, null, boolean, integer, text, list, object, Entry, elements, entries, under}
-use Rattle.cs_doc.specs.Opened.{Opened, a_null, a_boolean, an_integer, a_text, a_list, an_object, opened}
-use Rattle.cs_resolve.specs.Expression.{Declaration}
+use Rattle.cs_document.specs.Document.{Document, null, boolean, integer, text, list, object, Entry, elements, entries, under}
+use Rattle.cs_document.specs.Opened.{Opened, a_null, a_boolean, an_integer, a_text, a_list, an_object, opened}
+use Rattle.cs_package.specs.Expression.{Declaration}
 use Rattle.cs_instance.specs.Asked.{Rest, nothing, anything, each, Asked, always, never, the_null, the_boolean, the_integer, the_text, of_kind, in_range, bounded, another_integer, another_text, not_the_null, all_of, one_of, object_of, list_of, held, declaration_holds, rest_holds, elements_hold}
 use Rattle.cs_instance.proofs.Each.{Each, each_map, all_same, any_same}
 

@@ -6,14 +6,14 @@ use Rattle.std.specs.List.{list_all, flat_map}
 use Rattle.std.specs.Option.{unwrap_or}
 use Rattle.std.specs.Str.{bytes_eq}
 use Rattle.std.proofs.lemmas.Int.{ints}
-use Rattle.cs_doc.specs.Document as json
-use Rattle.cs_doc.specs.Document.{Document, Documents, Members, IsDocument, Entry}
-use Rattle.cs_doc.specs.Opened.{opened as json_opened}
-use Rattle.cs_doc.specs.View.{documents_of}
-use Rattle.cs_resolve.specs.Expression as cue
-use Rattle.cs_resolve.specs.Expression.{Expression, Expressions, Declarations}
-use Rattle.cs_resolve.specs.Environment.{Environment}
-use Rattle.cs_resolve.specs.View.{expressions_of}
+use Rattle.cs_document.specs.Document as json
+use Rattle.cs_document.specs.Document.{Document, Documents, Members, IsDocument, Entry}
+use Rattle.cs_document.specs.Opened.{opened as json_opened}
+use Rattle.cs_document.specs.View.{documents_of}
+use Rattle.cs_package.specs.Expression as cue
+use Rattle.cs_package.specs.Expression.{Expression, Expressions, Declarations}
+use Rattle.cs_package.specs.Environment.{Environment}
+use Rattle.cs_package.specs.View.{expressions_of}
 use Rattle.cs_guard.specs.References.{strong, strong_of}
 use Rattle.cs_guard.proofs.Chains.{alone-guarded}
 use Rattle.cs_instance.specs.Asked.{is_integer}

@@ -2,15 +2,15 @@
 use Rattle.std.proofs.Common.{◌≡◌, ℕ, suc, ◌<◌, ◌≤◌, ◌+◌, Bool, true, false, ◌&&◌, List, [], ◌∷◌, map, drop, length, get_or, Some, IfSome, Vec, Global, refl, sym, ap, ◌∙◌, subst, add-one}
 use Rattle.std.specs.List.{list_all}
 use Rattle.std.proofs.Math.Seq.{drop-cons}
-use Rattle.cs_doc.proofs.Maps.{drop_past}
-use Rattle.cs_doc.specs.Document.{Document}
-use Rattle.cs_doc.specs.Opened.{opened}
-use Rattle.cs_resolve.specs.Expression as cue
-use Rattle.cs_resolve.specs.Expression.{operands}
-use Rattle.cs_resolve.specs.Environment.{Environment, bodies, name_at, bodies_at}
-use Rattle.cs_resolve.specs.View.{expression_of, expressions_of}
-use Rattle.cs_resolve.specs.declared.shape.Shape.{Shape, And}
-use Rattle.cs_resolve.proofs.Views.{of-And}
+use Rattle.cs_document.proofs.Maps.{drop_past}
+use Rattle.cs_document.specs.Document.{Document}
+use Rattle.cs_document.specs.Opened.{opened}
+use Rattle.cs_package.specs.Expression as cue
+use Rattle.cs_package.specs.Expression.{operands}
+use Rattle.cs_package.specs.Environment.{Environment, bodies, name_at, bodies_at}
+use Rattle.cs_package.specs.View.{expression_of, expressions_of}
+use Rattle.cs_package.specs.declared.shape.Shape.{Shape, And}
+use Rattle.cs_package.proofs.Views.{of-And}
 use Rattle.cs_instance.specs.Asked.{held}
 use Rattle.cs_instance.specs.Instance.{Rule, definition, node, all_bodies, IsInstance}
 

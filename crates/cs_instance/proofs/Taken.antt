@@ -1,10 +1,10 @@
 -- Parts of what is taken are taken.
 use Rattle.std.proofs.Common.{◌≡◌, ℕ, zero, suc, ◌<◌, List, [], ◌∷◌, map, length, get_or, Some, Vec, Global, sym, ap, ◌∙◌, subst, arith}
-use Rattle.cs_resolve.specs.Expression.{Expression}
-use Rattle.cs_resolve.specs.Environment.{Environment, bodies_at}
-use Rattle.cs_resolve.specs.View.{expression_of, expressions_of}
-use Rattle.cs_resolve.specs.declared.shape.Shape.{Shape, And}
-use Rattle.cs_resolve.proofs.Views.{of-And}
+use Rattle.cs_package.specs.Expression.{Expression}
+use Rattle.cs_package.specs.Environment.{Environment, bodies_at}
+use Rattle.cs_package.specs.View.{expression_of, expressions_of}
+use Rattle.cs_package.specs.declared.shape.Shape.{Shape, And}
+use Rattle.cs_package.proofs.Views.{of-And}
 use Rattle.cs_instance.specs.Taken.{IsTaken, AreTaken, AllTaken, IsTakenPackage}
 
 operands-taken : (es : List Expression) → AreTaken (expressions_of es) → AllTaken es

@@ -2,7 +2,7 @@
 -- solution, where the parts are well founded.
 use Rattle.std.proofs.Common.{◌≡◌, ℕ, zero, suc, ◌≤◌, Bool, true, false, ◌&&◌, List, sym, ◌∙◌, arith}
 use Rattle.std.specs.List.{list_all}
-use Rattle.cs_doc.specs.Document.{Document}
+use Rattle.cs_document.specs.Document.{Document}
 use Rattle.cs_instance.proofs.Each.{Each, each_map, each_of, both_true, all_true, From, collect, both_from}
 
 module _ (Rule : Type 0) (step : (Rule → Document → Bool) → Rule → Document → Bool) (direct inner : Rule → List Rule) (children : Document → List Document) where

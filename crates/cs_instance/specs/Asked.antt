@@ -5,9 +5,9 @@ use Rattle.std.specs.Bool.{beq}
 use Rattle.std.specs.List.{list_all, list_any}
 use Rattle.std.specs.Ordering.{int_eq}
 use Rattle.std.specs.Str.{bytes_eq}
-use Rattle.cs_doc.specs.Document.{Entry, under}
-use Rattle.cs_doc.specs.Opened.{Opened, a_null, a_boolean, an_integer, a_text, a_list, an_object}
-use Rattle.cs_resolve.specs.Expression.{Kind, int, number, string, bool, Relation, less, at_most, more, at_least, Mark, regular, optional, required, Declaration}
+use Rattle.cs_document.specs.Document.{Entry, under}
+use Rattle.cs_document.specs.Opened.{Opened, a_null, a_boolean, an_integer, a_text, a_list, an_object}
+use Rattle.cs_package.specs.Expression.{Kind, int, number, string, bool, Relation, less, at_most, more, at_least, Mark, regular, optional, required, Declaration}
 
 -- what stands behind the fixed elements of a list
 pub data Rest (N : Type 0) : Type 0 where

@@ -1,11 +1,11 @@
 -- When a document is an instance of a definition (CUE language specification, "Values" and "Definitions and hidden
 -- fields": the order of the lattice, read for concrete documents).
 use Rattle.std.specs.Prelude.{◌≡◌, ℕ, Bool, List, [], ◌∷◌, Option, Some, None, map}
-use Rattle.cs_doc.specs.Document.{Document}
-use Rattle.cs_doc.specs.Opened.{opened}
-use Rattle.cs_resolve.specs.Expression as cue
-use Rattle.cs_resolve.specs.Expression.{Expression, Expressions, operands, declarations}
-use Rattle.cs_resolve.specs.Environment.{Environment, bodies}
+use Rattle.cs_document.specs.Document.{Document}
+use Rattle.cs_document.specs.Opened.{opened}
+use Rattle.cs_package.specs.Expression as cue
+use Rattle.cs_package.specs.Expression.{Expression, Expressions, operands, declarations}
+use Rattle.cs_package.specs.Environment.{Environment, bodies}
 use Rattle.cs_instance.specs.Asked.{Rest, nothing, anything, each, Asked, always, never, the_null, the_boolean, the_integer, the_text, of_kind, in_range, bounded, another_integer, another_text, not_the_null, all_of, one_of, object_of, list_of, held}
 
 -- what a document may be an instance of: a definition, by its name without `#`, or an expression

@@ -1,8 +1,8 @@
 -- The forms of expression that are taken so far: kinds and ranges, integers, bounds, and these joined by `&`.
 use Rattle.std.specs.Prelude.{List, [], ◌∷◌}
-use Rattle.cs_resolve.specs.Expression as cue
-use Rattle.cs_resolve.specs.Expression.{Expression, Expressions}
-use Rattle.cs_resolve.specs.Environment.{Environment}
+use Rattle.cs_package.specs.Expression as cue
+use Rattle.cs_package.specs.Expression.{Expression, Expressions}
+use Rattle.cs_package.specs.Environment.{Environment}
 
 abbrev mutual
   pub IsTaken : Expression → Type 0

@@ -1,13 +1,13 @@
 // What a shape without parts asks of a document.
 ghost use Rattle.std.specs.Prelude.{◌≡◌};
 ghost use Rattle.std.specs.Ordering.{int_eq};
-ghost use Rattle.cs_doc.specs.Opened.{opened};
-ghost use Rattle.cs_doc.specs.View.{doc_view};
-ghost use Rattle.cs_resolve.specs.View.{kind_of, relation_of};
+ghost use Rattle.cs_document.specs.Opened.{opened};
+ghost use Rattle.cs_document.specs.View.{doc_view};
+ghost use Rattle.cs_package.specs.View.{kind_of, relation_of};
 ghost use Rattle.cs_instance.specs.Asked as asked;
 
-use cs_doc::Doc;
-use cs_resolve::{Kind, Relation};
+use cs_document::Doc;
+use cs_package::{Kind, Relation};
 
 pub(crate) fn is_of_kind(kind: Kind, doc: &Doc) -> bool
     ensures { result ≡ asked.is_of_kind (kind_of kind) (opened (doc_view doc.now)) }

@@ -1,18 +1,18 @@
 // Whether a document is an instance.
 ghost use Rattle.std.specs.Prelude.{◌≡◌, ℕ, Bool, List, map, IfOk, IsErrOf};
 ghost use Rattle.std.specs.List.{list_all};
-ghost use Rattle.cs_doc.specs.Document.{Document};
-ghost use Rattle.cs_doc.specs.View.{doc_view};
-ghost use Rattle.cs_resolve.specs.Environment.{Environment, Names};
-ghost use Rattle.cs_resolve.specs.View.{expression_of};
+ghost use Rattle.cs_document.specs.Document.{Document};
+ghost use Rattle.cs_document.specs.View.{doc_view};
+ghost use Rattle.cs_package.specs.Environment.{Environment, Names};
+ghost use Rattle.cs_package.specs.View.{expression_of};
 ghost use Rattle.cs_instance.specs.Instance.{Rule, definition, node, IsInstance, OneMeaning};
 ghost use Rattle.cs_instance.specs.Taken.{IsTaken, AllTaken, IsTakenPackage};
 
 use crate::InstanceFault;
 use crate::atoms::{is_bounded, is_in_range, is_integer, is_of_kind};
-use cs_doc::Doc;
+use cs_document::Doc;
 use cs_guard::Guarded;
-use cs_resolve::Shape;
+use cs_package::Shape;
 use std::alloc::Global;
 
 /// Whether the document is an instance of the root, a definition of the package named with its `#`.

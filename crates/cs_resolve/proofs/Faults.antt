@@ -3,9 +3,9 @@ use Rattle.std.proofs.Common.{◌≡◌, ℕ, ◌+◌, ◌<◌, List, [], ◌∷
 use Rattle.std.proofs.lemmas.Grind.{flat_map-append}
 use Rattle.std.proofs.lemmas.List.{map-append}
 use Rattle.std.proofs.lemmas.Option.{same_Some}
-use Rattle.cs_syntax.specs.Tree.{FileTree}
-use Rattle.cs_syntax.specs.View.{definition_view, file_view}
-use Rattle.cs_syntax.specs.declared.ast.File.{File}
+use Rattle.cs_grammar.specs.Tree.{FileTree}
+use Rattle.cs_grammar.specs.View.{definition_view, file_view}
+use Rattle.cs_grammar.specs.declared.ast.File.{File}
 use Rattle.cs_resolve.specs.Checks.{Refuses}
 use Rattle.cs_resolve.specs.Declarations.{faults_from, faults_of_files, places_of}
 use Rattle.cs_resolve.specs.Opening.{unopened_files}

@@ -8,14 +8,14 @@ use Rattle.std.proofs.lemmas.List.Folds.{list_all-append}
 use Rattle.std.proofs.lemmas.List.Elements.{filter-append}
 use Rattle.std.proofs.lemmas.Map.Keys.{IsDistinct-head, IsDistinct-tail}
 use Rattle.std.proofs.lemmas.Option.{same_Some, slice_get-map}
-use Rattle.cs_syntax.specs.Tree.{Tree, DefinitionTree, definition, defined_name, body, FileTree, definitions}
+use Rattle.cs_grammar.specs.Tree.{Tree, DefinitionTree, definition, defined_name, body, FileTree, definitions}
 use Rattle.cs_resolve.specs.Declarations as Declared
-use Rattle.cs_resolve.specs.Expression.{Expression}
+use Rattle.cs_package.specs.Expression.{Expression}
 use Rattle.cs_resolve.specs.Resolved.{resolved, environment_of_files}
 use Rattle.cs_resolve.specs.Steps.{gathered, AreBodiesOf, IsShapeOf}
-use Rattle.cs_resolve.specs.View.{bodies_of, expression_of, is_known, names_of}
-use Rattle.cs_resolve.specs.declared.shape.Shape.{Shape}
-use Rattle.cs_resolve.proofs.Environments.{all-at, bytes_eq-refl, bytes_eq-flip, apart}
+use Rattle.cs_package.specs.View.{bodies_of, expression_of, is_known, names_of}
+use Rattle.cs_package.specs.declared.shape.Shape.{Shape}
+use Rattle.cs_package.proofs.Environments.{all-at, bytes_eq-refl, bytes_eq-flip, apart}
 
 abbrev seen : List (List ℕ) → Vec Shape Global → List Expression
 seen ns v = map (expression_of ns) v.items

@@ -3,15 +3,15 @@ use Rattle.std.proofs.Common.{ℕ, Bool, true, false, cond, List, [], ◌∷◌,
 use Rattle.std.specs.List.{AllByRecursion, flat_map}
 use Rattle.std.specs.Str.{bytes_eq}
 use Rattle.std.proofs.lemmas.List.Elements.{All-head, All-tail}
-use Rattle.cs_syntax.specs.Answer.{IsSpelled}
-use Rattle.cs_syntax.specs.Tree as T
-use Rattle.cs_syntax.specs.Tree.{Label, Tree, Trees, Fields, End, DefinitionTree, defined_name, body, FileTree, definitions}
-use Rattle.cs_syntax.specs.Words.{Words}
-use Rattle.cs_syntax.specs.Spells.{is_null, literal_of, SpellsBound, limit_is, other_number, other_text, other_null, SpellsValue, long, short, SpellsField, labelled, SpellsExpr, one_conj, joined, SpellsBars, no_bar, a_bar, SpellsConj, one_operand, met, SpellsAmps, no_amp, an_amp, SpellsOperand, top_is, bottom_is, reference_is, name_is, number_is, text_is, bound_is, paren_is, struct_is, list_is, SpellsStruct, no_fields, dots_alone, fields, SpellsFields, no_more_fields, next_field, SpellsList, no_elements, rest_alone, elements, SpellsElements, no_more_elements, next_element, SpellsEnd, closed_is, rest_is, SpellsRest, any_is, each_is, SpellsDefinition, defined, SpellsDefinitions, no_definition, next_definition, SpellsFile, spelled}
-use Rattle.cs_syntax.specs.declared.ast.FieldMark.{FieldMark}
-use Rattle.cs_resolve.specs.Expression as cue
-use Rattle.cs_resolve.specs.Expression.{Expression}
-use Rattle.cs_resolve.specs.Joined.{IsJoined, AreJoined, AreJoinedUnder, IsJoinedRest}
+use Rattle.cs_grammar.specs.Source.{IsSpelledBy}
+use Rattle.cs_grammar.specs.Tree as T
+use Rattle.cs_grammar.specs.Tree.{Label, Tree, Trees, Fields, End, DefinitionTree, defined_name, body, FileTree, definitions}
+use Rattle.cs_grammar.specs.Words.{Words}
+use Rattle.cs_grammar.specs.Spells.{is_null, literal_of, SpellsBound, limit_is, other_number, other_text, other_null, SpellsValue, long, short, SpellsField, labelled, SpellsExpr, one_conj, joined, SpellsBars, no_bar, a_bar, SpellsConj, one_operand, met, SpellsAmps, no_amp, an_amp, SpellsOperand, top_is, bottom_is, reference_is, name_is, number_is, text_is, bound_is, paren_is, struct_is, list_is, SpellsStruct, no_fields, dots_alone, fields, SpellsFields, no_more_fields, next_field, SpellsList, no_elements, rest_alone, elements, SpellsElements, no_more_elements, next_element, SpellsEnd, closed_is, rest_is, SpellsRest, any_is, each_is, SpellsDefinition, defined, SpellsDefinitions, no_definition, next_definition, SpellsFile, spelled}
+use Rattle.cs_grammar.specs.declared.ast.FieldMark.{FieldMark}
+use Rattle.cs_package.specs.Expression as cue
+use Rattle.cs_package.specs.Expression.{Expression}
+use Rattle.cs_package.specs.Joined.{IsJoined, AreJoined, AreJoinedUnder, IsJoinedRest}
 use Rattle.cs_resolve.specs.Predeclared as Predeclared
 use Rattle.cs_resolve.specs.Resolved.{resolved, resolved_all, resolved_under, resolved_end, AreSpelled}
 use Rattle.cs_resolve.specs.Steps.{gathered}
@@ -138,7 +138,7 @@ joined-append (d ∷ ds) es h k = (h.0, joined-append ds es h.1 k)
 of_files : (fs : List FileTree) → AreSpelled fs → AreBodiesJoined (flat_map definitions fs)
 of_files [] h = tt
 of_files (f ∷ fs) h =
-    let P : FileTree → Type 0 = λ g. (t : List ℕ) × IsSpelled t g in
+    let P : FileTree → Type 0 = λ g. (t : List ℕ) × IsSpelledBy t g in
     let one = All-head P f fs h in
     joined-append (definitions f) (flat_map definitions fs) (of_file one.1.spelled) (of_files fs (All-tail P f fs h))
 

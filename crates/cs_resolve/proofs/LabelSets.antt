@@ -10,9 +10,9 @@ use Rattle.std.proofs.lemmas.List.Folds.{list_any-append}
 use Rattle.std.proofs.lemmas.List.Sorted.{list_any-IsPermutation}
 use Rattle.std.proofs.lemmas.Slice.Eq.{bytes_eq-Decides}
 use Rattle.std.proofs.lemmas.Cmp.{nat_list_eq_equiv}
-use Rattle.cs_syntax.specs.Tree.{Label}
-use Rattle.cs_syntax.specs.View.{fields_view, field_view}
-use Rattle.cs_syntax.specs.declared.ast.Field.{Field}
+use Rattle.cs_grammar.specs.Tree.{Label}
+use Rattle.cs_grammar.specs.View.{fields_view, field_view}
+use Rattle.cs_grammar.specs.declared.ast.Field.{Field}
 use Rattle.cs_resolve.specs.Around.{has_text, HoldsLabels, HoldAround}
 use Rattle.cs_resolve.specs.Scopes.{labels, is_label, has_label, innermost, names_field}
 use Rattle.cs_resolve.proofs.Trees.{take_at, view-label}

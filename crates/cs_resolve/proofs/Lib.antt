@@ -1,5 +1,3 @@
-pub mod Environments
-pub mod Views
 pub mod Samples
 pub mod Trees
 pub mod Refusals

@@ -3,19 +3,19 @@ use Rattle.std.proofs.Common.{◌≡◌, ℕ, ◌+◌, ◌<◌, ◌≤◌, Bool,
 use Rattle.std.specs.List.{list_all}
 use Rattle.std.proofs.lemmas.List.{map-append, take_all, drop_all}
 use Rattle.std.proofs.lemmas.List.Folds.{list_all-append}
-use Rattle.cs_syntax.specs.Tree.{Label}
-use Rattle.cs_syntax.specs.View.{expr_view, exprs_view, field_view, fields_view}
-use Rattle.cs_syntax.specs.declared.ast.Expr.{Expr}
-use Rattle.cs_syntax.specs.declared.ast.Field.{Field}
-use Rattle.cs_resolve.specs.Expression as cue
-use Rattle.cs_resolve.specs.Expression.{Expression, Declaration}
+use Rattle.cs_grammar.specs.Tree.{Label}
+use Rattle.cs_grammar.specs.View.{expr_view, exprs_view, field_view, fields_view}
+use Rattle.cs_grammar.specs.declared.ast.Expr.{Expr}
+use Rattle.cs_grammar.specs.declared.ast.Field.{Field}
+use Rattle.cs_package.specs.Expression as cue
+use Rattle.cs_package.specs.Expression.{Expression, Declaration}
 use Rattle.cs_resolve.specs.Resolved.{resolved, resolved_all, resolved_under}
 use Rattle.cs_resolve.specs.Scopes.{places, places_all, places_in}
 use Rattle.cs_resolve.specs.Steps.{faults_in, IsNameRefusal}
-use Rattle.cs_resolve.specs.View.{mark_of, expression_of, expressions_of, part_of, declarations_of, is_known, is_known_part}
+use Rattle.cs_package.specs.View.{mark_of, expression_of, expressions_of, part_of, declarations_of, is_known, is_known_part}
 use Rattle.cs_resolve.specs.declared.fault.ResolveFault.{ResolveFault}
-use Rattle.cs_resolve.specs.declared.shape.Shape.{Shape}
-use Rattle.cs_resolve.specs.declared.shape.Part.{Part}
+use Rattle.cs_package.specs.declared.shape.Shape.{Shape}
+use Rattle.cs_package.specs.declared.shape.Part.{Part}
 use Rattle.cs_resolve.proofs.NameFaults.{Found, faults_in-append, refused-same, refused-left}
 use Rattle.cs_resolve.proofs.Refusals.{cut, none_more}
 use Rattle.cs_resolve.proofs.Trees.{map_more}

@@ -6,9 +6,9 @@ use Rattle.std.specs.Str.{bytes_eq}
 use Rattle.std.proofs.lemmas.Iterator.Adapters.{position_from-zero}
 use Rattle.std.proofs.lemmas.Option.{same_Some}
 use Rattle.std.proofs.lemmas.Slice.Eq.{bytes_eq-Decides}
-use Rattle.cs_syntax.specs.Tree.{FileTree, package_name}
+use Rattle.cs_grammar.specs.Tree.{FileTree, package_name}
 use Rattle.cs_resolve.specs.PackageName.{first_named, names_other, differing_file, IsOnePackage}
-use Rattle.cs_resolve.proofs.Environments.{all-at}
+use Rattle.cs_package.proofs.Environments.{all-at}
 
 -- ---- lists
 

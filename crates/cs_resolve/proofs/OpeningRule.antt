@@ -3,7 +3,7 @@ use Rattle.std.proofs.Common.{◌≡◌, ℕ, zero, suc, ◌+◌, ◌<◌, ◌�
 use Rattle.std.specs.List.{AllByRecursion, flat_map}
 use Rattle.std.proofs.lemmas.Bool.{cases_lt, lt-ltb, ltb-true, false≢true}
 use Rattle.std.proofs.lemmas.Grind.{flat_map-append}
-use Rattle.cs_syntax.specs.Tree.{Tree, DefinitionTree, defined_name, body, FileTree, definitions}
+use Rattle.cs_grammar.specs.Tree.{Tree, DefinitionTree, defined_name, body, FileTree, definitions}
 use Rattle.cs_resolve.specs.Opening.{holds, Literal, literals, Named, named_bodies, values, conjunctions, all_conjunctions, KeepsRule, IsOpened, IsAsked, IsAskedFor, asks, unopened, unopened_definitions, unopened_from, unopened_files}
 use Rattle.cs_resolve.proofs.Refusals.{nil_left, nil_right}
 use Rattle.cs_resolve.proofs.Elements.{Has, has_left, has_right, has_cases, has_element, element_of}

@@ -10,7 +10,7 @@ use Rattle.std.proofs.lemmas.List.{map-append}
 use Rattle.std.proofs.lemmas.List.Elements.{filter-append}
 use Rattle.std.proofs.lemmas.List.Sums.{sum_by-append}
 use Rattle.std.proofs.lemmas.Slice.Eq.{bytes_eq-Decides}
-use Rattle.cs_syntax.specs.Tree.{Tree}
+use Rattle.cs_grammar.specs.Tree.{Tree}
 use Rattle.cs_resolve.specs.Opening.{holds, Named, values}
 use Rattle.cs_resolve.specs.Checks.{Repeats}
 

@@ -2,10 +2,10 @@
 use Rattle.std.proofs.Common.{ℕ, Bool, List, Option}
 use Rattle.std.specs.List.{All, AllByRecursion}
 use Rattle.std.proofs.lemmas.List.Elements.{All-cons, All-nil}
-use Rattle.cs_syntax.specs.Tree.{Label, Tree, Trees, Fields, End, DefinitionTree, defined_name, FileTree, definitions}
-use Rattle.cs_syntax.specs.Words.{Word, Words, definition_name}
-use Rattle.cs_syntax.specs.Spells.{Comma, explicit, inserted, ClosesParen, paren_here, paren_after, ClosesList, list_here, list_after, ClosesStruct, struct_here, struct_after, SpellsNumber, positive, negative, SpellsBound, limit_is, other_number, other_text, other_null, SpellsLabel, bare_label, quoted_label, SpellsMark, regular, optional, required, SpellsOpening, unopened, opened, SpellsValue, long, short, SpellsField, labelled, SpellsExpr, one_conj, joined, SpellsBars, no_bar, a_bar, SpellsConj, one_operand, met, SpellsAmps, no_amp, an_amp, SpellsOperand, top_is, bottom_is, reference_is, name_is, number_is, text_is, bound_is, paren_is, struct_is, list_is, SpellsStruct, no_fields, dots_alone, fields, SpellsFields, no_more_fields, next_field, SpellsList, no_elements, rest_alone, elements, SpellsElements, no_more_elements, next_element, SpellsEnd, closed_is, rest_is, SpellsRest, any_is, each_is, SpellsDefinition, defined, SpellsDefinitions, no_definition, next_definition, SpellsPackage, no_clause, clause, SpellsFile, spelled}
-use Rattle.cs_syntax.specs.declared.ast.FieldMark.{FieldMark}
+use Rattle.cs_grammar.specs.Tree.{Label, Tree, Trees, Fields, End, DefinitionTree, defined_name, FileTree, definitions}
+use Rattle.cs_grammar.specs.Words.{Word, Words, definition_name}
+use Rattle.cs_grammar.specs.Spells.{Comma, explicit, inserted, ClosesParen, paren_here, paren_after, ClosesList, list_here, list_after, ClosesStruct, struct_here, struct_after, SpellsNumber, positive, negative, SpellsBound, limit_is, other_number, other_text, other_null, SpellsLabel, bare_label, quoted_label, SpellsMark, regular, optional, required, SpellsOpening, unopened, opened, SpellsValue, long, short, SpellsField, labelled, SpellsExpr, one_conj, joined, SpellsBars, no_bar, a_bar, SpellsConj, one_operand, met, SpellsAmps, no_amp, an_amp, SpellsOperand, top_is, bottom_is, reference_is, name_is, number_is, text_is, bound_is, paren_is, struct_is, list_is, SpellsStruct, no_fields, dots_alone, fields, SpellsFields, no_more_fields, next_field, SpellsList, no_elements, rest_alone, elements, SpellsElements, no_more_elements, next_element, SpellsEnd, closed_is, rest_is, SpellsRest, any_is, each_is, SpellsDefinition, defined, SpellsDefinitions, no_definition, next_definition, SpellsPackage, no_clause, clause, SpellsFile, spelled}
+use Rattle.cs_grammar.specs.declared.ast.FieldMark.{FieldMark}
 
 module _ (P : Word → Type 0) where
   abbrev Each : Words → Type 0

@@ -1,10 +1,10 @@
 -- Samples, worked by the definitions.
 use Rattle.std.proofs.Common.{◌≡◌, ℕ, true, false, List, [], ◌∷◌, pos, codes, refl}
-use Rattle.cs_syntax.specs.Tree.{Label, top, bottom, integer, named, bound, reference, meet, paren, struct, list, none, more, Fields, no_field, field, any, each, definition, file}
-use Rattle.cs_syntax.specs.declared.ast.Relation.TheVariants.{More}
-use Rattle.cs_syntax.specs.declared.ast.FieldMark.TheVariants.{Regular, Optional}
-use Rattle.cs_resolve.specs.Expression as cue
-use Rattle.cs_resolve.specs.Height.{height, heights}
+use Rattle.cs_grammar.specs.Tree.{Label, top, bottom, integer, named, bound, reference, meet, paren, struct, list, none, more, Fields, no_field, field, any, each, definition, file}
+use Rattle.cs_grammar.specs.declared.ast.Relation.TheVariants.{More}
+use Rattle.cs_grammar.specs.declared.ast.FieldMark.TheVariants.{Regular, Optional}
+use Rattle.cs_package.specs.Expression as cue
+use Rattle.cs_package.specs.Height.{height, heights}
 use Rattle.cs_resolve.specs.Resolved.{environment_of_files}
 use Rattle.cs_resolve.specs.Opening.{unopened, unopened_files}
 use Rattle.cs_resolve.specs.Size.{nodes}

@@ -5,17 +5,17 @@ use Rattle.std.specs.Str.{bytes_eq}
 use Rattle.std.proofs.lemmas.List.{map-append}
 use Rattle.std.proofs.lemmas.List.Elements.{All-push}
 use Rattle.std.specs.Prelude.{◌==◌}
-use Rattle.cs_syntax.specs.Answer.{IsSpelled}
-use Rattle.cs_syntax.specs.Cut.{Lexeme, lexeme, Cut, blank, new_line, comment, token, finish, comma_if, line_after, line_after_mark, line_ended}
-use Rattle.cs_syntax.specs.Spelling.{is_letter, is_digit, is_name_byte, is_integer, is_definition_rest, underscore_sort, mark_sort, sort_if, sort_of, used_marks, left_out_marks}
-use Rattle.cs_syntax.specs.Tree.{FileTree, defined_name, definitions}
-use Rattle.cs_syntax.specs.View.{bare_name, file_view, mark_kind, word_of, word, words}
-use Rattle.cs_syntax.specs.Words as W
-use Rattle.cs_syntax.specs.Words.{Word, Words}
-use Rattle.cs_syntax.specs.declared.ast.File.{File}
-use Rattle.cs_syntax.specs.declared.token.Sort.{Sort}
-use Rattle.cs_syntax.specs.declared.token.Sort.TheVariants as sorts
-use Rattle.cs_resolve.specs.Environment.{IsDefinitionName}
+use Rattle.cs_grammar.specs.Source.{IsSpelledBy}
+use Rattle.cs_grammar.specs.Cut.{Lexeme, lexeme, Cut, blank, new_line, comment, token, finish, comma_if, line_after, line_after_mark, line_ended}
+use Rattle.cs_grammar.specs.Spelling.{is_letter, is_digit, is_name_byte, is_integer, is_definition_rest, underscore_sort, mark_sort, sort_if, sort_of, used_marks, left_out_marks}
+use Rattle.cs_grammar.specs.Tree.{FileTree, defined_name, definitions}
+use Rattle.cs_grammar.specs.View.{bare_name, file_view, mark_kind, word_of, word, words}
+use Rattle.cs_grammar.specs.Words as W
+use Rattle.cs_grammar.specs.Words.{Word, Words}
+use Rattle.cs_grammar.specs.declared.ast.File.{File}
+use Rattle.cs_grammar.specs.declared.token.Sort.{Sort}
+use Rattle.cs_grammar.specs.declared.token.Sort.TheVariants as sorts
+use Rattle.cs_package.specs.Environment.{IsDefinitionName}
 use Rattle.cs_resolve.specs.Resolved.{AreSpelled}
 use Rattle.cs_resolve.proofs.Rests.{of_file}
 
@@ -130,9 +130,9 @@ of_cut p (finish {o}) = p.now o (lexeme sorts.End [] o ∷ []) (refl, tt)
 -- ---- files
 
 -- each definition of a file that a source spells has the name of one
-pub names-spelled : (t : List ℕ) (f : FileTree) → IsSpelled t f → All (λ d. IsDefinitionName (defined_name d)) (definitions f)
+pub names-spelled : (t : List ℕ) (f : FileTree) → IsSpelledBy t f → All (λ d. IsDefinitionName (defined_name d)) (definitions f)
 names-spelled t f h = of_file (λ w. is_named w ≡ true) IsDefinitionName (λ n o named. named) h.spelled (of_cut plain h.cut)
 
 -- one file more
-pub spelled-push : (fs : List File) (f : File) (t : List ℕ) → AreSpelled (map file_view fs) → IsSpelled t (file_view f) → AreSpelled (map file_view (fs ++ f ∷ []))
-spelled-push fs f t all one = subst AreSpelled (sym (map-append file_view fs (f ∷ []))) (All-push (λ (g : FileTree). (s : List ℕ) × IsSpelled s g) (map file_view fs) (file_view f) all (t, one))
+pub spelled-push : (fs : List File) (f : File) (t : List ℕ) → AreSpelled (map file_view fs) → IsSpelledBy t (file_view f) → AreSpelled (map file_view (fs ++ f ∷ []))
+spelled-push fs f t all one = subst AreSpelled (sym (map-append file_view fs (f ∷ []))) (All-push (λ (g : FileTree). (s : List ℕ) × IsSpelledBy s g) (map file_view fs) (file_view f) all (t, one))

@@ -4,7 +4,7 @@ use Rattle.std.specs.List.{flat_map}
 use Rattle.std.specs.Str.{bytes_eq}
 use Rattle.std.proofs.lemmas.Bool.{false≢true, or_cases, or_left, or_right}
 use Rattle.std.proofs.lemmas.Slice.Eq.{bytes_eq-Decides}
-use Rattle.cs_syntax.specs.Tree.{Tree, meet, join, paren, struct, list, Trees, none, more, Fields, no_field, field, End, closed, any, each, DefinitionTree, defined_name, body}
+use Rattle.cs_grammar.specs.Tree.{Tree, meet, join, paren, struct, list, Trees, none, more, Fields, no_field, field, End, closed, any, each, DefinitionTree, defined_name, body}
 use Rattle.cs_resolve.specs.Opening.{Literal, literals, literals_all, literals_in, literals_end, operands, Named, named_fields, named_bodies, values, values_of_each, conjunctions, conjunctions_all, conjunctions_in, conjunctions_end, all_conjunctions, asks, at_fault, unopened, unopened_all, unopened_in, unopened_end, unopened_definitions}
 use Rattle.cs_resolve.proofs.Elements.{or_map, Has, has_left, has_right, has_cases}
 

@@ -1,19 +1,19 @@
 -- Expressions and their trees, level by level.
 use Rattle.std.proofs.Common.{◌≡◌, ℕ, ◌+◌, ◌<◌, Bool, List, [], ◌∷◌, ◌++◌, map, length, take, get_or, Vec, Box, Global, rules, string_bytes, String, refl, sym, ap, ◌∙◌, subst, arith}
 use Rattle.std.proofs.lemmas.List.{take_more}
-use Rattle.cs_syntax.specs.declared.ast.Definition.{Definition}
-use Rattle.cs_syntax.specs.declared.ast.File.{File}
+use Rattle.cs_grammar.specs.declared.ast.Definition.{Definition}
+use Rattle.cs_grammar.specs.declared.ast.File.{File}
 use Rattle.std.specs.List.{All, flat_map}
 use Rattle.std.proofs.lemmas.List.{map-append, append_assoc, append-nil, get_or-map, length-map}
 use Rattle.std.proofs.lemmas.Grind.{flat_map-append}
 use Rattle.cs_resolve.specs.Opening.{Named, named_fields, named_bodies, operands}
-use Rattle.cs_syntax.specs.Tree as T
-use Rattle.cs_syntax.specs.View.{trees_of, definition_view, file_view, expr_view, exprs_view, fields_view, end_view, field_view}
-use Rattle.cs_syntax.specs.declared.ast.Expr as Exprs
-use Rattle.cs_syntax.specs.declared.ast.Expr.{Expr}
-use Rattle.cs_syntax.specs.declared.ast.ListEnd as Ends
-use Rattle.cs_syntax.specs.declared.ast.ListEnd.{ListEnd}
-use Rattle.cs_syntax.specs.declared.ast.Field.{Field}
+use Rattle.cs_grammar.specs.Tree as T
+use Rattle.cs_grammar.specs.View.{trees_of, definition_view, file_view, expr_view, exprs_view, fields_view, end_view, field_view}
+use Rattle.cs_grammar.specs.declared.ast.Expr as Exprs
+use Rattle.cs_grammar.specs.declared.ast.Expr.{Expr}
+use Rattle.cs_grammar.specs.declared.ast.ListEnd as Ends
+use Rattle.cs_grammar.specs.declared.ast.ListEnd.{ListEnd}
+use Rattle.cs_grammar.specs.declared.ast.Field.{Field}
 
 pub view-Struct : (at : ℕ) (v : Vec Field Global) (o : Bool) → expr_view (Exprs.Struct at v o) ≡ T.struct at (fields_view v.items) o
 view-Struct at v o = search (rules, Exprs.the_lemmas)

@@ -4,13 +4,13 @@ use Rattle.std.specs.Borrow.{Bor}
 use Rattle.std.specs.HashSet.{HashSet, contains_by}
 use Rattle.std.specs.List.{list_any, list_all}
 use Rattle.std.specs.Str.{bytes_eq}
-use Rattle.cs_syntax.specs.Tree.{Label, Trees, Fields, End}
+use Rattle.cs_grammar.specs.Tree.{Label, Trees, Fields, End}
 use Rattle.cs_resolve.specs.Resolved.{resolved_all, resolved_under, resolved_end}
 use Rattle.cs_resolve.specs.Scopes.{has_label, names_field}
-use Rattle.cs_resolve.specs.View.{expression_of, expressions_of, part_of, declarations_of, rest_of, is_known, is_known_part, is_known_end}
-use Rattle.cs_resolve.specs.declared.shape.Shape.{Shape}
-use Rattle.cs_resolve.specs.declared.shape.ShapeEnd.{ShapeEnd}
-use Rattle.cs_resolve.specs.declared.shape.Part.{Part}
+use Rattle.cs_package.specs.View.{expression_of, expressions_of, part_of, declarations_of, rest_of, is_known, is_known_part, is_known_end}
+use Rattle.cs_package.specs.declared.shape.Shape.{Shape}
+use Rattle.cs_package.specs.declared.shape.ShapeEnd.{ShapeEnd}
+use Rattle.cs_package.specs.declared.shape.Part.{Part}
 
 abbrev pub has_text : {S : Type 0} → List ℕ → HashSet (Bor (List ℕ)) S → Bool
 has_text t s = contains_by (λ k. bytes_eq t k.now) s

@@ -3,7 +3,7 @@
 use Rattle.std.specs.Prelude.{ℕ, suc, not, List, [], ◌∷◌, ◌++◌, map, filter}
 use Rattle.std.specs.List.{flat_map}
 use Rattle.std.specs.Str.{bytes_eq}
-use Rattle.cs_syntax.specs.Tree.{Tree, DefinitionTree, defined_name, body, FileTree, definitions}
+use Rattle.cs_grammar.specs.Tree.{Tree, DefinitionTree, defined_name, body, FileTree, definitions}
 use Rattle.cs_resolve.specs.Scopes.{Place, places, NameFault, faults}
 
 -- each once, where it stands first

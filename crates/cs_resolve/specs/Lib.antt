@@ -1,10 +1,10 @@
-pub mod Expression
+pub use Rattle.cs_package.specs.Expression
+pub use Rattle.cs_package.specs.Environment
+pub use Rattle.cs_package.specs.Height
+pub use Rattle.cs_package.specs.Joined
+pub use Rattle.cs_package.specs.View
+pub use Rattle.cs_package.specs.Code
 pub mod Predeclared
-pub mod Environment
-pub mod Height
-pub mod Joined
-pub mod View
-pub mod Code
 pub mod Opening
 pub mod Size
 pub mod Scopes

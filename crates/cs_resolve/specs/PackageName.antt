@@ -4,7 +4,7 @@ use Rattle.std.specs.Prelude.{◌≡◌, ℕ, Bool, false, not, List, Option, So
 use Rattle.std.specs.List.{filter_map}
 use Rattle.std.specs.Option.{option_and_then, option_map_or}
 use Rattle.std.specs.Str.{bytes_eq}
-use Rattle.cs_syntax.specs.Tree.{FileTree, package_name}
+use Rattle.cs_grammar.specs.Tree.{FileTree, package_name}
 
 -- the first package name that a file gives
 abbrev pub first_named : List FileTree → Option (List ℕ)

@@ -1,7 +1,7 @@
 -- The predeclared names (CUE language specification, "Predeclared identifiers"; this profile has these alone).
 use Rattle.std.specs.Prelude.{ℕ, pos, neg_ℤ, List, [], ◌∷◌, Option, Some, None, codes, if◌then◌else◌}
 use Rattle.std.specs.Str.{bytes_eq}
-use Rattle.cs_resolve.specs.Expression.{Expression, kind, range, int, number, string, bool}
+use Rattle.cs_package.specs.Expression.{Expression, kind, range, int, number, string, bool}
 
 -- the kinds; and the ranges, each from its least to its greatest integer
 abbrev pub names : List (List ℕ × Expression)

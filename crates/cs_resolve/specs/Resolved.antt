@@ -1,19 +1,19 @@
 -- What files resolve to (CUE language specification, "Definitions and hidden fields" and "Declarations and scopes").
 use Rattle.std.specs.Prelude.{◌≡◌, ℕ, ◌≤◌, List, [], map, length, slice_get, Some, unwrap_or}
 use Rattle.std.specs.List.{All, flat_map}
-use Rattle.cs_syntax.specs.Answer.{IsSpelled}
-use Rattle.cs_syntax.specs.Tree as T
-use Rattle.cs_syntax.specs.Tree.{Tree, Trees, Fields, End, FileTree, definitions}
-use Rattle.cs_resolve.specs.Expression as cue
-use Rattle.cs_resolve.specs.Expression.{Expression, Expressions, Declarations, Rest}
-use Rattle.cs_resolve.specs.Environment.{Environment}
+use Rattle.cs_grammar.specs.Source.{IsSpelledBy}
+use Rattle.cs_grammar.specs.Tree as T
+use Rattle.cs_grammar.specs.Tree.{Tree, Trees, Fields, End, FileTree, definitions}
+use Rattle.cs_package.specs.Expression as cue
+use Rattle.cs_package.specs.Expression.{Expression, Expressions, Declarations, Rest}
+use Rattle.cs_package.specs.Environment.{Environment}
 use Rattle.cs_resolve.specs.Predeclared.{predeclared}
 use Rattle.cs_resolve.specs.Scopes.{unknown, of_field}
 use Rattle.cs_resolve.specs.Declarations.{names, declared, faults_of_files}
 use Rattle.cs_resolve.specs.Opening.{IsOpened, unopened_files}
 use Rattle.cs_resolve.specs.PackageName.{IsOnePackage, differing_file}
 use Rattle.cs_resolve.specs.Size.{nodes_of_files}
-use Rattle.cs_resolve.specs.View.{relation_of, mark_of}
+use Rattle.cs_package.specs.View.{relation_of, mark_of}
 use Rattle.cs_resolve.specs.declared.fault.ResolveFault.{ResolveFault}
 use Rattle.cs_resolve.specs.declared.fault.ResolveFault.TheVariants.{OutOfMemory, PackageName, TooLarge, UnknownName, FieldReference, NotOpened}
 
@@ -61,7 +61,7 @@ IsResolved fs = faults_of_files fs ≡ []
 
 -- each file is spelled by the tokens of a text
 abbrev pub AreSpelled : List FileTree → Type 0
-AreSpelled fs = All (λ f. (t : List ℕ) × IsSpelled t f) fs
+AreSpelled fs = All (λ f. (t : List ℕ) × IsSpelledBy t f) fs
 
 -- as many definitions and nodes as a package may have (own rule)
 abbrev pub most_definitions : ℕ

@@ -3,7 +3,7 @@
 use Rattle.std.specs.Prelude.{ℕ, Bool, true, false, ◌&&◌, not, List, [], ◌∷◌, ◌++◌, Option, Some, None, is_some, if◌then◌else◌}
 use Rattle.std.specs.List.{list_any, flat_map}
 use Rattle.std.specs.Str.{bytes_eq}
-use Rattle.cs_syntax.specs.Tree.{Label, Tree, named, reference, meet, join, paren, struct, list, Trees, none, more, Fields, no_field, field, End, closed, any, each}
+use Rattle.cs_grammar.specs.Tree.{Label, Tree, named, reference, meet, join, paren, struct, list, Trees, none, more, Fields, no_field, field, End, closed, any, each}
 use Rattle.cs_resolve.specs.Predeclared.{predeclared}
 
 abbrev pub labels : Fields → List Label

@@ -1,7 +1,7 @@
 -- The nodes of a package (own rule): each expression in its bodies is one.
 use Rattle.std.specs.Prelude.{ℕ, ◌+◌, List, sum_by}
 use Rattle.std.specs.List.{flat_map}
-use Rattle.cs_syntax.specs.Tree.{Tree, meet, join, paren, struct, list, Trees, none, more, Fields, no_field, field, End, closed, any, each, DefinitionTree, body, FileTree, definitions}
+use Rattle.cs_grammar.specs.Tree.{Tree, meet, join, paren, struct, list, Trees, none, more, Fields, no_field, field, End, closed, any, each, DefinitionTree, body, FileTree, definitions}
 
 -- the expressions in an expression, itself among them; a parenthesis is none, and nor is the bare `...` of a list
 abbrev mutual

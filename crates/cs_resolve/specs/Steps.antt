@@ -2,14 +2,14 @@
 use Rattle.std.specs.Prelude.{◌≡◌, ℕ, true, List, [], map, length, slice_get, Some, Result, Ok, Err, Vec}
 use Rattle.std.specs.List.{AllByRecursion, list_all}
 use Rattle.std.specs.declared.alloc.Global.{Global}
-use Rattle.cs_syntax.specs.Tree.{Tree, DefinitionTree}
-use Rattle.cs_resolve.specs.Expression.{Expression}
+use Rattle.cs_grammar.specs.Tree.{Tree, DefinitionTree}
+use Rattle.cs_package.specs.Expression.{Expression}
 use Rattle.cs_resolve.specs.Scopes.{Place, NameFault, unknown, of_field, faults}
 use Rattle.cs_resolve.specs.Declarations.{bodies_of}
 use Rattle.cs_resolve.specs.Resolved.{resolved}
-use Rattle.cs_resolve.specs.View as View
-use Rattle.cs_resolve.specs.View.{expression_of, is_known}
-use Rattle.cs_resolve.specs.declared.shape.Shape.{Shape}
+use Rattle.cs_package.specs.View as View
+use Rattle.cs_package.specs.View.{expression_of, is_known}
+use Rattle.cs_package.specs.declared.shape.Shape.{Shape}
 use Rattle.cs_resolve.specs.declared.fault.ResolveFault.{ResolveFault}
 use Rattle.cs_resolve.specs.declared.fault.ResolveFault.TheVariants.{OutOfMemory, UnknownName, FieldReference}
 

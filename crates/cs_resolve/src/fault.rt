@@ -8,16 +8,16 @@ pub enum ResolveFault {
     #[error("out of memory")]
     OutOfMemory,
     /// The package name differs from the first one named.
-    #[error("file {file} names another package")]
+    #[error("a file names another package")]
     PackageName { file: usize },
     /// A name that names nothing.
-    #[error("unknown name in file {file} at {offset}")]
+    #[error("this name names nothing")]
     UnknownName { file: usize, offset: usize },
     /// A name that names a field.
-    #[error("reference to a field in file {file} at {offset}")]
+    #[error("this name names a field")]
     FieldReference { file: usize, offset: usize },
     /// A struct literal that has to end with `...`.
-    #[error("struct literal not opened in file {file} at {offset}")]
+    #[error("this struct literal has to end with `...`")]
     NotOpened { file: usize, offset: usize },
     /// More than 1,000 definitions, or more than 50,000 nodes of expressions.
     #[error("too many definitions or nodes")]

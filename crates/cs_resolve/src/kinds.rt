@@ -1,9 +1,9 @@
 // The predeclared names: kinds, and ranges of integers.
 ghost use Rattle.std.specs.Prelude.{◌≡◌, ℕ, true, List, IfSome};
 ghost use Rattle.std.specs.Option.{option_map};
-ghost use Rattle.cs_resolve.specs.Expression as cue;
+ghost use Rattle.cs_package.specs.Expression as cue;
 ghost use Rattle.cs_resolve.specs.Predeclared.{predeclared};
-ghost use Rattle.cs_resolve.specs.View.{expression_of, is_known};
+ghost use Rattle.cs_package.specs.View.{expression_of, is_known};
 
 use crate::{Kind, Shape};
 

@@ -2,15 +2,15 @@
 // literal in its operands to end with `...`.
 
 ghost use Rattle.std.specs.Prelude.{◌≡◌, ◌++◌, [], ◌∷◌, List, ℕ, map, IfOk, IfErr, OnOk, ◌||◌, ◌↔◌, Contains};
-ghost use Rattle.cs_syntax.specs.View.{expr_view, exprs_view, end_view, fields_view, definition_view, file_view};
-ghost use Rattle.cs_syntax.specs.Tree.{FileTree, definitions};
+ghost use Rattle.cs_grammar.specs.View.{expr_view, exprs_view, end_view, fields_view, definition_view, file_view};
+ghost use Rattle.cs_grammar.specs.Tree.{FileTree, definitions};
 ghost use Rattle.std.specs.List.{flat_map};
 ghost use Rattle.cs_resolve.specs.Opening as Opening;
 ghost use Rattle.cs_resolve.specs.Opening.{Named, values, named_fields, named_bodies, IsOpened, IsAskedFor, unopened, unopened_all, unopened_in, unopened_end, unopened_definitions, unopened_files};
 ghost use Rattle.cs_resolve.specs.Checks.{Checks, Repeats};
 
 use crate::ResolveFault;
-use cs_syntax::{Definition, Expr, Field, File, ListEnd};
+use cs_grammar::{Definition, Expr, Field, File, ListEnd};
 use indexmap::IndexMap;
 use std::alloc::Global;
 

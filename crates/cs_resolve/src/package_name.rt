@@ -2,10 +2,10 @@
 
 ghost use Rattle.std.specs.Prelude.{◌≡◌, map};
 ghost use Rattle.std.specs.Option.{option_map};
-ghost use Rattle.cs_syntax.specs.View.{file_view};
+ghost use Rattle.cs_grammar.specs.View.{file_view};
 ghost use Rattle.cs_resolve.specs.PackageName as Name;
 
-use cs_syntax::File;
+use cs_grammar::File;
 
 /// The first package name that a file gives.
 fn first_named(files: &Vec<File>) -> Option<&str>

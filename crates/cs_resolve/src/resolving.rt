@@ -1,21 +1,21 @@
 // From files to a package.
 ghost use Rattle.std.specs.Prelude.{◌≡◌, ℕ, List, [], ◌∷◌, ◌++◌, map, length, string_bytes, OnOk, IfOk, IfErr, IsOkUnless};
 ghost use Rattle.std.specs.List.{All, AllByRecursion, flat_map};
-ghost use Rattle.cs_syntax.specs.Tree.{Tree, DefinitionTree, definition, defined_name, definitions};
-ghost use Rattle.cs_syntax.specs.View.{definition_view, file_view};
+ghost use Rattle.cs_grammar.specs.Tree.{Tree, DefinitionTree, definition, defined_name, definitions};
+ghost use Rattle.cs_grammar.specs.View.{definition_view, file_view};
 ghost use Rattle.cs_resolve.specs.Declarations.{distinct, names, places_of, faults_from};
-ghost use Rattle.cs_resolve.specs.Environment.{written, IsDefinitionName};
+ghost use Rattle.cs_package.specs.Environment.{written, IsDefinitionName};
 ghost use Rattle.cs_resolve.specs.Resolved.{environment_of_files, AreSpelled, IsPackage, IsRefusal};
 ghost use Rattle.cs_resolve.specs.Steps.{faults_in, AreBodiesOf, IsShapeOf, Resolves};
-ghost use Rattle.cs_resolve.specs.View.{names_of, IsTable};
+ghost use Rattle.cs_package.specs.View.{names_of, IsTable};
 
 use crate::opening::check_opened;
-use crate::package::NameTable;
 use crate::package_name::differing_file;
 use crate::shapes::body_shape;
 use crate::size::{MOST_DEFINITIONS, has_few_nodes};
 use crate::{Package, ResolveFault, Shape};
-use cs_syntax::{Definition, File};
+use cs_grammar::{Definition, File};
+use cs_package::{NameTable, package_of};
 use indexmap::IndexMap;
 use std::alloc::Global;
 
@@ -42,7 +42,7 @@ pub fn resolve(alloc: Global, files: Vec<File>) -> Result<Package, ResolveFault>
     }
     let bodies = declared_bodies(alloc, &names, &files)?;
     check_opened(alloc, &files)?;
-    Ok(Package::new(names, bodies))
+    Ok(package_of(names, bodies))
 }
 
 /// The names that files declare.

@@ -1,17 +1,17 @@
 // From an expression to its shape: names are replaced by what they name.
 ghost use Rattle.std.specs.Prelude.{◌≡◌, ◌++◌, ℕ, List, [], ◌∷◌, IfOk, IfErr, OnOk};
 ghost use Rattle.std.specs.List.{list_any};
-ghost use Rattle.cs_syntax.specs.Tree.{Label, named, reference};
-ghost use Rattle.cs_syntax.specs.View.{expr_view, exprs_view, field_view, fields_view, end_view};
+ghost use Rattle.cs_grammar.specs.Tree.{Label, named, reference};
+ghost use Rattle.cs_grammar.specs.View.{expr_view, exprs_view, field_view, fields_view, end_view};
 ghost use Rattle.cs_resolve.specs.Around.{has_text, HoldsLabels, HoldAround, AreShapesOf, ArePartsOf, IsEndOf};
 ghost use Rattle.cs_resolve.specs.Scopes.{places, places_all, places_in, places_end, labels};
 ghost use Rattle.cs_resolve.specs.Steps.{faults_in, IsShapeOf, Resolves};
-ghost use Rattle.cs_resolve.specs.View.{names_of, IsTable};
+ghost use Rattle.cs_package.specs.View.{names_of, IsTable};
 
 use crate::kinds::predeclared_shape;
-use crate::package::NameTable;
 use crate::{Part, ResolveFault, Shape, ShapeEnd};
-use cs_syntax::{Expr, Field, ListEnd};
+use cs_grammar::{Expr, Field, ListEnd};
+use cs_package::NameTable;
 use std::alloc::Global;
 use std::collections::HashSet;
 

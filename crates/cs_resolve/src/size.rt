@@ -1,10 +1,10 @@
 // The size of a package.
 
 ghost use Rattle.std.specs.Prelude.{◌≡◌, ◌+◌, ◌<◌, ◌≤◌, ◌↔◌, IsTrue, MatchOption, map};
-ghost use Rattle.cs_syntax.specs.View.{expr_view, exprs_view, fields_view, end_view, definition_view, file_view};
+ghost use Rattle.cs_grammar.specs.View.{expr_view, exprs_view, fields_view, end_view, definition_view, file_view};
 ghost use Rattle.cs_resolve.specs.Size.{nodes, nodes_all, nodes_in, nodes_end, nodes_of_definitions, nodes_of_files};
 
-use cs_syntax::{Definition, Expr, Field, File, ListEnd};
+use cs_grammar::{Definition, Expr, Field, File, ListEnd};
 
 /// How many definitions a package may have.
 pub(crate) const MOST_DEFINITIONS: usize = 1_000;

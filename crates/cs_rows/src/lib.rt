@@ -1,12 +1,8 @@
-// Worked examples, through the public calls of all crates.
+// Worked examples, through the calls of `cs_tool`.
 #![tactic(auto)]
 
 #[cfg(test)]
 mod examples;
-#[cfg(test)]
-mod layers;
-#[cfg(test)]
-mod packages;
 #[cfg(test)]
 mod refusals;
 #[cfg(test)]

@@ -1,6 +1,6 @@
 // `run` and `write_fault`, over readers and writers that fail.
 use cs_tool::{Fault, Request, run, write_fault};
-use std::alloc::Global;
+use std::alloc::{AllocError, Global};
 use std::io;
 use std::io::{Error, Read, Write};
 use std::test::Fail;
@@ -71,149 +71,140 @@ fn with_room(alloc: Global, left: usize, a_call: usize) -> Room {
     }
 }
 
-fn from_input(alloc: Global) -> Result<Request, Fail> {
-    Ok(Request::Export {
-        files: Vec::new(alloc),
-        root: String::from_str(alloc, "#P")?,
-    })
-}
-
-fn from_file(alloc: Global, source: &[u8]) -> Result<Request, Fail> {
-    let mut files = Vec::new(alloc);
-    files.push(Vec::from_slice(alloc, source)?)?;
-    Ok(Request::Export {
-        files,
-        root: String::from_str(alloc, "#P")?,
-    })
-}
-
 const SOURCE: &[u8] = b"#P: int & >=1 & <=65535";
 
 const LINE: &[u8] =
     b"{\"$defs\":{\"P\":{\"allOf\":[{\"type\":\"integer\"},{\"minimum\":1,\"type\":\"number\"},{\"maximum\":65535,\"type\":\"number\"}]}},\"$ref\":\"#/$defs/P\",\"$schema\":\"https://json-schema.org/draft/2020-12/schema\"}\n";
 
+/// A request for the schema of `#P`, with that file or with none.
+fn request(alloc: Global, file: Option<&[u8]>) -> Result<Request, AllocError> {
+    let mut files = Vec::new(alloc);
+    if let Some(source) = file {
+        files.push(Vec::from_slice(alloc, source)?)?;
+    }
+    let root = String::from_str(alloc, "#P")?;
+    Ok(Request::Export { files, root })
+}
+
+/// The number of the refusal of a run over that input, which fails at its last call and gives a byte at each other; 0 for
+/// an answer.
+fn outcome(
+    alloc: Global,
+    file: Option<&[u8]>,
+    input: &[u8],
+    calls: usize,
+    output: &mut Room,
+) -> Result<u32, Fail> {
+    let mut input = Trickle {
+        rest: input,
+        calls_left: calls,
+    };
+    let request = request(alloc, file)?;
+    match run(alloc, request, &mut input, output) {
+        Ok(answer) => Ok(if answer { 0 } else { 99 }),
+        Err(fault) => Ok(fault.number()),
+    }
+}
+
 #[test]
 fn answers_a_byte_at_a_time(rt: HostRuntime) -> Result<(), Fail> {
-    let alloc = rt.alloc();
-    let mut input = Trickle {
-        rest: SOURCE,
-        calls_left: 1000,
-    };
-    let mut output = with_room(alloc, 1000, 1);
-    assert!(rt; run(alloc, from_input(alloc)?, &mut input, &mut output)?);
-    assert_eq!(rt; output.taken.as_slice(), LINE);
-    assert_eq!(rt; output.flushes, 1);
+    let mut output = with_room(rt.alloc(), 1000, 1);
+    assert!(rt; outcome(rt.alloc(), None, SOURCE, 1000, &mut output)? == 0);
+    assert!(rt; output.taken.as_slice() == LINE && output.flushes == 1);
     Ok(())
 }
 
 #[test]
 fn reads_no_input_where_there_are_files(rt: HostRuntime) -> Result<(), Fail> {
-    let alloc = rt.alloc();
-    let mut input = Trickle {
-        rest: b"",
-        calls_left: 0,
-    };
-    let mut output = with_room(alloc, 1000, 1000);
-    assert!(rt; run(alloc, from_file(alloc, SOURCE)?, &mut input, &mut output)?);
-    assert_eq!(rt; output.taken.as_slice(), LINE);
+    let mut output = with_room(rt.alloc(), 1000, 1000);
+    assert!(rt; outcome(rt.alloc(), Some(SOURCE), b"", 0, &mut output)? == 0);
+    assert!(rt; output.taken.as_slice() == LINE);
     Ok(())
 }
 
 #[test]
-fn a_read_fails(rt: HostRuntime) -> Result<(), Fail> {
-    let alloc = rt.alloc();
-    let mut input = Trickle {
-        rest: SOURCE,
-        calls_left: 1,
-    };
-    let mut output = with_room(alloc, 1000, 1000);
-    let answer = run(alloc, from_input(alloc)?, &mut input, &mut output);
-    assert!(rt; matches!(&answer, Err(Fault::ReadFailed)));
-    assert_eq!(rt; output.taken.len(), 0);
-    Ok(())
-}
-
-#[test]
-fn a_write_fails_or_takes_nothing(rt: HostRuntime) -> Result<(), Fail> {
-    let alloc = rt.alloc();
-    let mut input: &[u8] = b"";
-    for fails in [true, false] {
-        let mut output = Room {
-            fails,
-            ..with_room(alloc, 3, 1000)
-        };
-        let answer = run(alloc, from_file(alloc, SOURCE)?, &mut input, &mut output);
-        assert!(rt; matches!(&answer, Err(Fault::WriteFailed)));
-        assert_eq!(rt; output.taken.as_slice(), b"{\"$".as_slice());
+fn writes_nothing_after_a_refusal(rt: HostRuntime) -> Result<(), Fail> {
+    let blanks = " ".repeat(rt.alloc(), 1_048_577)?;
+    let blanks = blanks.as_bytes();
+    for (input, calls, wanted) in [
+        (SOURCE, 1, 30),
+        (b"#Q: int", 1000, 13),
+        (blanks, 2_000_000, 1),
+        (&blanks[1..], 2_000_000, 13),
+    ] {
+        let mut output = with_room(rt.alloc(), 1000, 1000);
+        assert!(rt;
+            outcome(rt.alloc(), None, input, calls, &mut output)? == wanted,
+            "{wanted}"
+        );
+        assert!(rt; output.taken.is_empty(), "{wanted}");
     }
     Ok(())
 }
 
 #[test]
-fn a_flush_fails(rt: HostRuntime) -> Result<(), Fail> {
-    let alloc = rt.alloc();
-    let mut input: &[u8] = SOURCE;
-    let mut output = Room {
-        can_flush: false,
-        ..with_room(alloc, 1000, 1000)
-    };
-    let answer = run(alloc, from_input(alloc)?, &mut input, &mut output);
-    assert!(rt; matches!(&answer, Err(Fault::WriteFailed)));
-    assert_eq!(rt; output.taken.as_slice(), LINE);
+fn a_write_or_a_flush_fails(rt: HostRuntime) -> Result<(), Fail> {
+    for (left, fails, can_flush) in [
+        (3, true, true),
+        (3, false, true),
+        (0, false, true),
+        (1000, true, false),
+    ] {
+        let mut output = Room {
+            fails,
+            can_flush,
+            ..with_room(rt.alloc(), left, 1000)
+        };
+        assert!(rt;
+            outcome(rt.alloc(), Some(SOURCE), b"", 0, &mut output)? == 31,
+            "{left}"
+        );
+        assert!(rt;
+            output.taken.as_slice() == LINE.get(..left).unwrap_or(LINE),
+            "{left}"
+        );
+    }
+    Ok(())
+}
+
+/// The line that reports a refusal.
+fn line_of(alloc: Global, fault: &Fault) -> Result<Vec<u8>, Fault> {
+    let mut output = Vec::new(alloc);
+    write_fault(fault, &mut output)?;
+    Ok(output)
+}
+
+#[test]
+fn refusals_have_a_line(rt: HostRuntime) -> Result<(), Fail> {
+    for (fault, line) in [
+        (
+            Fault::FieldReference {
+                file: 0,
+                offset: 21,
+            },
+            "error 10 at 21\n",
+        ),
+        (Fault::UnknownRoot, "error 13\n"),
+        (Fault::ChainTooLong, "error 16\n"),
+        (Fault::OutOfMemory, "error 15\n"),
+        (Fault::TooHigh { file: 3 }, "error 7\n"),
+    ] {
+        assert!(rt;
+            line_of(rt.alloc(), &fault)?.as_slice() == line.as_bytes(),
+            "{line}"
+        );
+    }
     Ok(())
 }
 
 #[test]
-fn a_refusal_writes_nothing(rt: HostRuntime) -> Result<(), Fail> {
-    let alloc = rt.alloc();
-    let mut input: &[u8] = b"#Q: int";
-    let mut output = with_room(alloc, 1000, 1000);
-    let answer = run(alloc, from_input(alloc)?, &mut input, &mut output);
-    assert!(rt; matches!(&answer, Err(Fault::UnknownRoot)));
-    assert_eq!(rt; output.taken.len(), 0);
-    Ok(())
-}
-
-#[test]
-fn an_input_at_its_limit(rt: HostRuntime) -> Result<(), Fail> {
-    let alloc = rt.alloc();
-    let blanks = vec![in alloc; b' '; 1_048_577]?;
-    let mut output = with_room(alloc, 1000, 1000);
-    let mut input: &[u8] = &blanks;
-    let answer = run(alloc, from_input(alloc)?, &mut input, &mut output);
-    assert!(rt; matches!(&answer, Err(Fault::SourcesTooLong)));
-    let mut input: &[u8] = &blanks[1..];
-    let answer = run(alloc, from_input(alloc)?, &mut input, &mut output);
-    assert!(rt; matches!(&answer, Err(Fault::UnknownRoot)));
-    assert_eq!(rt; output.taken.len(), 0);
-    Ok(())
-}
-
-#[test]
-fn writes_a_refusal(rt: HostRuntime) -> Result<(), Fail> {
-    let alloc = rt.alloc();
-    let field = Fault::FieldReference {
+fn a_line_is_cut_short(rt: HostRuntime) {
+    let fault = Fault::FieldReference {
         file: 0,
         offset: 21,
     };
-    let cycle = Fault::Cycle {
-        names: Vec::new(alloc),
-    };
-    for (fault, line) in [
-        (&field, "error 10 at 21\n"),
-        (&cycle, "error 12\n"),
-        (&Fault::UnknownRoot, "error 13\n"),
-        (&Fault::ChainTooLong, "error 16\n"),
-        (&Fault::OutOfMemory, "error 15\n"),
-        (&Fault::TooHigh { file: 3 }, "error 7\n"),
-    ] {
-        let mut output = Vec::new(alloc);
-        write_fault(fault, &mut output)?;
-        assert_eq!(rt; output.as_slice(), line.as_bytes());
-    }
-    let mut output = with_room(alloc, 5, 1000);
-    let answer = write_fault(&field, &mut output);
+    let mut output = with_room(rt.alloc(), 5, 1000);
+    let answer = write_fault(&fault, &mut output);
     assert!(rt; matches!(&answer, Err(Fault::WriteFailed)));
-    assert_eq!(rt; output.taken.as_slice(), b"error".as_slice());
-    Ok(())
+    assert!(rt; output.taken.as_slice() == b"error".as_slice());
 }

@@ -5,7 +5,7 @@ use Rattle.std.specs.Option.{option_map_or}
 use Rattle.std.specs.Str.{bytes_eq}
 use Rattle.std.specs.List.{list_any}
 use Rattle.std.proofs.lemmas.Slice.Eq.{bytes_eq-Decides}
-use Rattle.cs_doc.specs.Document.{Document, Entry, under}
+use Rattle.cs_document.specs.Document.{Document, Entry, under}
 use Rattle.cs_schema.specs.Keywords.{defined, listed_under, entries_of}
 use Rattle.cs_schema.specs.Loops.{direct_names, RefersDirectly, IsChain, NoLoop}
 use Rattle.cs_schema.proofs.Each.{Each}

@@ -6,8 +6,8 @@ use Rattle.std.specs.Cmp.Lexicographic.{slice_cmp}
 use Rattle.std.specs.Map.{lookup}
 use Rattle.std.specs.Ordering.{match_ordering}
 use Rattle.std.specs.BTreeMap.{is_at}
-use Rattle.cs_doc.specs.Document.{Document, boolean, object, text, Members, no_members, member, entries, under, put, Entry}
-use Rattle.cs_doc.specs.View.{members_of}
+use Rattle.cs_document.specs.Document.{Document, boolean, object, text, Members, no_members, member, entries, under, put, Entry}
+use Rattle.cs_document.specs.View.{members_of}
 use Rattle.cs_schema.specs.Keywords.{listed_under, entries_of, defined}
 use Rattle.cs_schema.specs.Shapes.{dialect}
 use Rattle.cs_schema.specs.Trim.{with_dialect, with_member}

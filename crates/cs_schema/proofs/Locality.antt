@@ -4,8 +4,8 @@ use Rattle.std.specs.Prelude.{option_to_list}
 use Rattle.std.specs.Option.{option_map_or}
 use Rattle.std.specs.Str.{bytes_eq}
 use Rattle.std.specs.List.{list_all, flat_map}
-use Rattle.cs_doc.specs.Document.{Document, null, boolean, integer, text, list, object, elements, entries, Entry, under}
-use Rattle.cs_doc.specs.Opened.{Opened, a_list, an_object, opened}
+use Rattle.cs_document.specs.Document.{Document, null, boolean, integer, text, list, object, elements, entries, Entry, under}
+use Rattle.cs_document.specs.Opened.{Opened, a_list, an_object, opened}
 use Rattle.cs_schema.specs.Asked.{Assertion, valid_by, at_keys, at_other_keys, in_front, behind, valid_by_all, valid_by_any, not_valid_by, Asked, always, never, conjunction}
 use Rattle.cs_schema.specs.Validity.{if_array, if_object, if_there, front_holds, holds, held}
 use Rattle.cs_schema.proofs.Each.{Each, each_map, each_drop, each_front, each_back, all_same, any_same}

@@ -4,8 +4,8 @@ use Rattle.std.proofs.Common.{◌≡◌, ℕ, zero, suc, Bool, true, false, List
 use Rattle.std.specs.Prelude.{option_to_list, option_and_then}
 use Rattle.std.specs.Option.{option_map_or}
 use Rattle.std.specs.List.{flat_map}
-use Rattle.cs_doc.specs.Document.{Document, null, boolean, integer, text, list, object, Documents, no_documents, document, Members, no_members, member, elements, entries, Entry, under}
-use Rattle.cs_doc.specs.Opened.{opened}
+use Rattle.cs_document.specs.Document.{Document, null, boolean, integer, text, list, object, Documents, no_documents, document, Members, no_members, member, elements, entries, Entry, under}
+use Rattle.cs_document.specs.Opened.{opened}
 use Rattle.cs_schema.specs.Keywords.{Keyword, Refers, HasType, OneOf, Minimum, Maximum, Above, Below, Requires, Properties, Prefix, MinItems, AllOf, AnyOf, Not, keywords, Kind, kinds, reference_start, text_after, elements_of, defined}
 use Rattle.cs_schema.specs.Asked.{nothing, has_kind, assertion, assertion_at, asked}
 use Rattle.cs_schema.specs.Validity.{held, OneMeaning}

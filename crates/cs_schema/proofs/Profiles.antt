@@ -7,7 +7,7 @@ use Rattle.std.specs.Cmp.Lexicographic.{slice_cmp}
 use Rattle.std.specs.List.{list_any}
 use Rattle.std.specs.Option.{option_map_or}
 use Rattle.std.specs.Ordering.{match_ordering}
-use Rattle.cs_doc.specs.Document.{Document, null, boolean, integer, text, list, object, no_documents, document, Members, no_members, member, Entry, entries, under, put}
+use Rattle.cs_document.specs.Document.{Document, null, boolean, integer, text, list, object, no_documents, document, Members, no_members, member, Entry, entries, under, put}
 use Rattle.cs_schema.specs.Keywords.{listed_under, entries_of, defined, text_after, reference_start}
 use Rattle.cs_schema.specs.Loops.{direct_names, RefersDirectly, NoLoop}
 use Rattle.cs_schema.specs.Shapes.{Form, the_dialect, a_reference, a_kind, anything, an_array, an_integer, a_count, distinct_texts, a_text, a_schema, some_schemas, named_schemas, Row, row, has_form, dialect}

@@ -3,7 +3,7 @@ use Rattle.std.proofs.Common.{◌≡◌, ℕ, Bool, true, false, List, [], ◌�
 use Rattle.std.specs.BTreeMap.{is_at}
 use Rattle.std.specs.Cmp.Lexicographic.{slice_cmp}
 use Rattle.std.specs.Map.{lookup}
-use Rattle.cs_doc.specs.Document.{Document, boolean, object, text, Members, entries, under, put}
+use Rattle.cs_document.specs.Document.{Document, boolean, object, text, Members, entries, under, put}
 use Rattle.cs_schema.specs.Keywords.{listed_under, defined}
 use Rattle.cs_schema.specs.Shapes.{dialect}
 use Rattle.cs_schema.specs.Profile.{Fault, undefined, Visit, value_at, keyword_at, first, fault_of, or_else, shape_fault, row_fault, is_truth, visits, member_visits, walk_fault, name_fault, IsSchema}

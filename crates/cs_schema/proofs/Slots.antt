@@ -4,7 +4,7 @@ use Rattle.std.proofs.lemmas.Cmp.{nat_list_cmp_total}
 use Rattle.std.proofs.lemmas.Slice.Eq.{bytes_eq-Decides}
 use Rattle.std.specs.Cmp.Lexicographic.{slice_cmp}
 use Rattle.std.specs.Ordering.{nat_cmp, ordering_reverse}
-use Rattle.cs_doc.specs.Document.{Document, no_members, member}
+use Rattle.cs_document.specs.Document.{Document, no_members, member}
 use Rattle.cs_schema.specs.Trim.{with_member}
 use Rattle.cs_schema.specs.SchemaDocument.{Slot, present}
 use Rattle.cs_schema.specs.Reading.{set_slot, set_found, found_value, IsFoundAt, slots}

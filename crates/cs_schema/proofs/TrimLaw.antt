@@ -7,8 +7,8 @@ use Rattle.std.specs.Cmp.Lexicographic.{slice_cmp}
 use Rattle.std.specs.List.{list_all}
 use Rattle.std.specs.Option.{option_map, option_and_then, option_map_or}
 use Rattle.std.specs.Ordering.{match_ordering}
-use Rattle.cs_doc.specs.Document.{Document, null, boolean, integer, text, list, object, Documents, no_documents, document, Members, no_members, member, Entry, entries, under, put}
-use Rattle.cs_doc.specs.Opened.{opened}
+use Rattle.cs_document.specs.Document.{Document, null, boolean, integer, text, list, object, Documents, no_documents, document, Members, no_members, member, Entry, entries, under, put}
+use Rattle.cs_document.specs.Opened.{opened}
 use Rattle.cs_schema.specs.Keywords.{Keyword, Dialect, Definitions, Refers, HasType, Equals, OneOf, Minimum, Maximum, Above, Below, Requires, Properties, Additional, Prefix, Items, MinItems, AllOf, AnyOf, Not, Note, keywords, elements_of, entries_of, listed_under, defined, text_after, reference_start}
 use Rattle.cs_schema.specs.Asked.{Assertion, nothing, valid_by, places_taken, assertion, assertion_at, at_other_keys, behind, conjunction, asked}
 use Rattle.cs_schema.specs.Validity.{holds, held, IsValidity}

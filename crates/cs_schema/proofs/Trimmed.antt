@@ -5,8 +5,8 @@ use Rattle.std.proofs.lemmas.Slice.Eq.{bytes_eq-Decides}
 use Rattle.std.specs.Cmp.Lexicographic.{slice_cmp}
 use Rattle.std.specs.Option.{IfSome}
 use Rattle.std.specs.Ordering.{match_ordering}
-use Rattle.cs_doc.specs.Document.{Document, object, text, list, document, Members, no_members, member, put}
-use Rattle.cs_doc.specs.View.{documents_of, members_of}
+use Rattle.cs_document.specs.Document.{Document, object, text, list, document, Members, no_members, member, put}
+use Rattle.cs_document.specs.View.{documents_of, members_of}
 use Rattle.cs_schema.specs.Shapes.{dialect}
 use Rattle.cs_schema.specs.Trim.{trim, trimmed, trimmed_members, trimmed_elements, trimmed_named, trimmed_value, with_dialect, with_member}
 use Rattle.cs_schema.specs.SchemaDocument.{Slot, present, slots_of, schema_view, schema_step, keyword_slots, SchemaValue, document_of, definitions_view, with_definitions, unless_no_map, unless_no_list}

@@ -1,8 +1,8 @@
 -- Validity by so many steps.
 use Rattle.std.proofs.Common.{◌≡◌, ℕ, zero, suc, Bool, true, false, List, refl, ◌∙◌}
 use Rattle.std.specs.List.{list_all, list_any}
-use Rattle.cs_doc.specs.Document.{Document}
-use Rattle.cs_doc.specs.Opened.{opened}
+use Rattle.cs_document.specs.Document.{Document}
+use Rattle.cs_document.specs.Opened.{opened}
 use Rattle.cs_schema.specs.Asked.{asked}
 use Rattle.cs_schema.specs.Validity.{held, IsValidity}
 

@@ -1,7 +1,7 @@
 -- A step that asks only finitely much of a rule's parts and of what is inside a document has one
 -- solution, where the parts are well founded.
 use Rattle.std.proofs.Common.{◌≡◌, ℕ, zero, suc, ◌≤◌, Bool, false, List, sym, ◌∙◌, arith}
-use Rattle.cs_doc.specs.Document.{Document}
+use Rattle.cs_document.specs.Document.{Document}
 use Rattle.cs_schema.proofs.Each.{Each, each_map, each_of, From, from_each, from_both}
 
 module _ (Rule : Type 0) (step : (Rule → Document → Bool) → Rule → Document → Bool) (direct inner : Rule → List Rule) (children : Document → List Document) where

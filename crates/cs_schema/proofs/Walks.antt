@@ -5,10 +5,10 @@ use Rattle.std.specs.List.Sorted.{IsStrictlySortedBy}
 use Rattle.std.specs.Map.{keys_of}
 use Rattle.std.specs.Cmp.Lexicographic.{slice_cmp}
 use Rattle.std.specs.Ordering.{nat_cmp}
-use Rattle.cs_doc.specs.Document.{Document, document, Members, no_members, member, list}
-use Rattle.cs_doc.specs.View.{doc_view, list_view, object_view, documents_of, members_of}
-use Rattle.cs_doc.specs.declared.doc.Doc.{Doc}
-use Rattle.cs_doc.proofs.Documents.{Entry}
+use Rattle.cs_document.specs.Document.{Document, document, Members, no_members, member, list}
+use Rattle.cs_document.specs.View.{doc_view, list_view, object_view, documents_of, members_of}
+use Rattle.cs_document.specs.declared.doc.Doc.{Doc}
+use Rattle.cs_document.proofs.Entries.{Entry}
 use Rattle.cs_schema.specs.Profile.{Fault, Visit, first, or_else, fault_of, element_visits, value_fault, list_visits}
 use Rattle.cs_schema.specs.Shapes.{some_schemas}
 use Rattle.cs_schema.specs.Trim.{trimmed, trimmed_members, trimmed_elements, trimmed_named, trimmed_value, with_member, trimmed_list}

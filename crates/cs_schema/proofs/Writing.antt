@@ -1,13 +1,14 @@
 -- Keywords that are put in their order stand in that order.
 use Rattle.std.proofs.Common.{◌≡◌, ◌↔◌, IsTrue, length, ℕ, zero, suc, Bool, false, List, [], ◌∷◌, ◌++◌, map, take, drop, Option, Some, None, option_map, String, Global, Box, Less, Greater, nat_cmp, string_bytes, codes, refl, sym, ap, ap₂, ◌∙◌, rules}
 use Rattle.std.proofs.lemmas.Cmp.{nat_list_cmp_total}
+use Rattle.std.proofs.lemmas.List.{map-append}
 use Rattle.std.proofs.Math.Seq.{drop-nil}
 use Rattle.std.specs.Cmp.Lexicographic.{slice_cmp}
 use Rattle.std.specs.Ordering.{ordering_reverse}
-use Rattle.cs_doc.specs.Document.{Document, Members, no_members, member, integer, text, list, object, put}
-use Rattle.cs_doc.specs.View.{doc_view, object_view, documents_of, members_of}
-use Rattle.cs_doc.specs.declared.doc.Doc.{Doc}
-use Rattle.cs_doc.proofs.Documents.{Entry}
+use Rattle.cs_document.specs.Document.{Document, Members, no_members, member, integer, text, list, object, put}
+use Rattle.cs_document.specs.View.{doc_view, object_view, documents_of, members_of}
+use Rattle.cs_document.specs.declared.doc.Doc.{Doc}
+use Rattle.cs_document.proofs.Entries.{Entry}
 use Rattle.cs_schema.specs.Shapes.{dialect}
 use Rattle.cs_schema.specs.Trim.{with_member, with_dialect}
 use Rattle.cs_schema.specs.SchemaDocument.{Slot, present, slots_of, schema_view, schemas_view, text_document, kind_name, definitions_view, unless_no_list, unless_no_map, SchemaValue, with_definitions, document_of}
@@ -98,6 +99,11 @@ pub definitions_put : (k : Keywords) (o : Option Document) → put_some (codes "
 definitions_put k o = put_some-first (codes "$defs") o (slots_of k) (below_keywords k)
 
 -- ---- lists and maps of schemas
+
+-- one more element on both sides
+pub mapped_more : {X Y Z : Type 0} (f : X → Z) (g : Y → Z) (xs : List X) (ys : List Y) (x : X) (y : Y) → map f xs ≡ map g ys → f x ≡ g y → map f (xs ++ x ∷ []) ≡ map g (ys ++ y ∷ [])
+mapped_more f g xs ys x y all one =
+    map-append f xs (x ∷ []) ∙ ap₂ (λ zs z. zs ++ z ∷ []) all one ∙ sym (map-append g ys (y ∷ []))
 
 pub some_listed : {X : Type 0} (f : X → Document) (xs : List X) → is_nil xs ≡ false → unless_no_list (map f xs) ≡ Some (list (documents_of (map f xs)))
 some_listed f [] h = cc

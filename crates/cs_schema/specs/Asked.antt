@@ -3,7 +3,7 @@
 use Rattle.std.specs.Prelude.{ℕ, ℤ, pos, max, List, [], ◌∷◌, map, length, true, false, if◌then◌else◌, Option, option_and_then, codes}
 use Rattle.std.specs.Option.{option_map_or}
 use Rattle.std.specs.Str.{bytes_eq}
-use Rattle.cs_doc.specs.Document.{Document, boolean, integer, text, list, object, Entry, elements, entries, under}
+use Rattle.cs_document.specs.Document.{Document, boolean, integer, text, list, object, Entry, elements, entries, under}
 use Rattle.cs_schema.specs.Keywords.{Keyword, Refers, HasType, Equals, OneOf, Minimum, Maximum, Above, Below, Requires, Properties, Additional, Prefix, Items, MinItems, AllOf, AnyOf, Not, keywords, Kind, kinds, reference_start, text_after, elements_of, listed_under, defined}
 
 -- what a keyword asserts, with an H for each schema that it asks of the document itself, and an I for each

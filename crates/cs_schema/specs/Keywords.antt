@@ -2,7 +2,7 @@
 use Rattle.std.specs.Prelude.{ℕ, List, [], ◌∷◌, if◌then◌else◌, ◌==◌, Option, Some, None, codes}
 use Rattle.std.specs.Str.{bytes_eq}
 use Rattle.std.specs.List.{flat_map}
-use Rattle.cs_doc.specs.Document.{Document, list, object, Entry, elements, entries, under}
+use Rattle.cs_document.specs.Document.{Document, list, object, Entry, elements, entries, under}
 
 pub data Keyword : Type 0 where
   Dialect Definitions Refers HasType Equals OneOf Minimum Maximum Above Below Requires Properties Additional Prefix Items MinItems AllOf AnyOf Not Note : Keyword

@@ -3,7 +3,7 @@ use Rattle.std.specs.Prelude.{ℕ, List, [], ◌∷◌, ◌++◌, Option, Some, 
 use Rattle.std.specs.Option.{option_map_or}
 use Rattle.std.specs.Str.{bytes_eq}
 use Rattle.std.specs.List.{list_any}
-use Rattle.cs_doc.specs.Document.{Document, text, list, object, Documents, no_documents, document, Members, no_members, member, under}
+use Rattle.cs_document.specs.Document.{Document, text, list, object, Documents, no_documents, document, Members, no_members, member, under}
 use Rattle.cs_schema.specs.Keywords.{Keyword, Refers, AllOf, AnyOf, Not, keywords, reference_start, text_after, defined}
 
 -- the name in the value of a `$ref`

@@ -1,7 +1,7 @@
 -- Which documents are schemas of the profile, and the first fault of one that is none (own rule).
 use Rattle.std.specs.Prelude.{◌≡◌, ℕ, suc, Bool, true, false, List, [], ◌∷◌, ◌++◌, Option, Some, None, is_some, codes, if◌then◌else◌}
 use Rattle.std.specs.Str.{bytes_eq}
-use Rattle.cs_doc.specs.Document.{Document, null, boolean, integer, text, list, object, Documents, no_documents, document, Members, no_members, member}
+use Rattle.cs_document.specs.Document.{Document, null, boolean, integer, text, list, object, Documents, no_documents, document, Members, no_members, member}
 use Rattle.cs_schema.specs.Keywords.{reference_start, text_after, defined}
 use Rattle.cs_schema.specs.Shapes.{Form, Row, row, has_form, by_form}
 use Rattle.cs_schema.specs.Places.{at_key, at_index}

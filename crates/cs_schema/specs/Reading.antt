@@ -1,8 +1,8 @@
 -- What the reader makes of a keyword, and where it puts it.
 use Rattle.std.specs.Prelude.{◌≡◌, ℕ, List, [], ◌∷◌, Option, Some, None, codes, map, String, string_bytes, is_some, if◌then◌else◌}
 use Rattle.std.specs.Str.{bytes_eq}
-use Rattle.cs_doc.specs.Document.{Document, integer, text, under}
-use Rattle.cs_doc.specs.View.{doc_view}
+use Rattle.cs_document.specs.Document.{Document, integer, text, under}
+use Rattle.cs_document.specs.View.{doc_view}
 use Rattle.cs_schema.specs.Shapes.{Row, the_dialect, a_reference, a_kind, anything, an_integer, some_schemas, named_schemas, kept, left_out, left_out_if_empty}
 use Rattle.cs_schema.specs.Profile.{Fault, unknown, misshapen, undefined}
 use Rattle.cs_schema.specs.SchemaDocument.{Slot, slots_of, kind_name, unless_no_list, unless_no_map, reference_document, schema_view, schemas_view, definitions_view}

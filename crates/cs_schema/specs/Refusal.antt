@@ -5,7 +5,7 @@ use Rattle.std.specs.Ordering.{nat_cmp}
 use Rattle.std.specs.declared.cmp.Ordering.TheVariants.{Less}
 use Rattle.std.specs.List.{AllByRecursion, IsDistinct}
 use Rattle.std.specs.Str.{bytes_eq}
-use Rattle.cs_doc.specs.Document.{Document}
+use Rattle.cs_document.specs.Document.{Document}
 use Rattle.cs_schema.specs.Loops.{IsLoop}
 use Rattle.cs_schema.specs.Profile.{unknown, misshapen, undefined, walk_fault, name_fault}
 use Rattle.cs_schema.specs.declared.fault.SchemaFault.{SchemaFault}

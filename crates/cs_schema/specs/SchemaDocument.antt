@@ -1,8 +1,8 @@
 -- The document that a schema with its definitions stands for.
 use Rattle.std.specs.Prelude.{◌≡◌, ℕ, Bool, List, [], ◌∷◌, ◌++◌, Option, Some, None, codes, map, option_map, String, string_bytes}
 use Rattle.std.specs.declared.alloc.Global.{Global}
-use Rattle.cs_doc.specs.Document.{Document, boolean, integer, text, list, object, Members, no_members, Entry, under}
-use Rattle.cs_doc.specs.View.{doc_view, list_view, documents_of, members_of}
+use Rattle.cs_document.specs.Document.{Document, boolean, integer, text, list, object, Members, no_members, Entry, under}
+use Rattle.cs_document.specs.View.{doc_view, list_view, documents_of, members_of}
 use Rattle.cs_schema.specs.Keywords.{reference_start}
 use Rattle.cs_schema.specs.Trim.{with_member, with_dialect}
 use Rattle.cs_schema.specs.Profile.{IsSchema}

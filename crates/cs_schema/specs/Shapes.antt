@@ -2,7 +2,7 @@
 use Rattle.std.specs.Prelude.{ℕ, pos, List, [], ◌∷◌, ◌++◌, Bool, true, false, not, ◌&&◌, ◌||◌, nat_eq, leb, Option, Some, None, is_some, option_and_then, codes}
 use Rattle.std.specs.Str.{bytes_eq}
 use Rattle.std.specs.List.{list_any, list_all}
-use Rattle.cs_doc.specs.Document.{Document, integer, text, list, object, Documents, no_documents, document, no_members, under}
+use Rattle.cs_document.specs.Document.{Document, integer, text, list, object, Documents, no_documents, document, no_members, under}
 use Rattle.cs_schema.specs.Keywords.{Keyword, Dialect, Definitions, Refers, HasType, Equals, Minimum, Maximum, Above, Below, AllOf, keywords, kinds, reference_start, text_after}
 
 pub data Form : Type 0 where

@@ -1,6 +1,6 @@
 -- A schema without the keywords that say nothing of validity (own rule).
 use Rattle.std.specs.Prelude.{◌≡◌, ℕ, Bool, true, false, List, Option, Some, None, codes, if◌then◌else◌}
-use Rattle.cs_doc.specs.Document.{Document, null, boolean, integer, text, list, object, Documents, no_documents, document, Members, no_members, member, put}
+use Rattle.cs_document.specs.Document.{Document, null, boolean, integer, text, list, object, Documents, no_documents, document, Members, no_members, member, put}
 use Rattle.cs_schema.specs.Shapes.{Row, row, is_kept, by_form, dialect}
 use Rattle.cs_schema.specs.Validity.{IsValidity}
 

@@ -4,8 +4,8 @@ use Rattle.std.specs.Prelude.{◌≡◌, ℤ, List, ◌∷◌, drop, length, Boo
 use Rattle.std.specs.Option.{option_map_or}
 use Rattle.std.specs.Str.{bytes_eq}
 use Rattle.std.specs.List.{list_all, list_any}
-use Rattle.cs_doc.specs.Document.{Document, Entry, under, document_eq}
-use Rattle.cs_doc.specs.Opened.{Opened, a_null, a_boolean, an_integer, a_text, a_list, an_object, opened}
+use Rattle.cs_document.specs.Document.{Document, Entry, under, document_eq}
+use Rattle.cs_document.specs.Opened.{Opened, a_null, a_boolean, an_integer, a_text, a_list, an_object, opened}
 use Rattle.cs_schema.specs.Keywords.{Kind, Null, Boolean, Object, Array, Number, String, Integer}
 use Rattle.cs_schema.specs.Asked.{Assertion, nothing, valid_by, has_kind, equals, is_among, at_least, at_most, above, below, has_keys, at_keys, at_other_keys, in_front, behind, at_least_long, valid_by_all, valid_by_any, not_valid_by, Asked, always, never, conjunction, asked}
 

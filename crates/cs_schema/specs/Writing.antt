@@ -1,6 +1,6 @@
 -- Keywords put to the members of an object one after the other.
 use Rattle.std.specs.Prelude.{ℕ, List, [], ◌∷◌, Option, Some, None}
-use Rattle.cs_doc.specs.Document.{Document, Members, put}
+use Rattle.cs_document.specs.Document.{Document, Members, put}
 use Rattle.cs_schema.specs.SchemaDocument.{Slot}
 
 -- a keyword with a value is put to the others

@@ -1,13 +1,13 @@
 // Values of keywords that hold no schema.
 ghost use Rattle.std.specs.Prelude.{◌≡◌, Some, None, false, true, IfSome, IfOk, string_bytes, IsOkUnless};
 ghost use Rattle.std.specs.List.{list_all};
-ghost use Rattle.cs_doc.specs.Document.{text, integer};
-ghost use Rattle.cs_doc.specs.View.{doc_view};
+ghost use Rattle.cs_document.specs.Document.{text, integer};
+ghost use Rattle.cs_document.specs.View.{doc_view};
 ghost use Rattle.cs_schema.specs.Shapes.{has_form, a_reference, a_kind, an_integer, the_dialect, is_name as text_is_name, is_name_code as code_is_name};
 ghost use Rattle.cs_schema.specs.SchemaDocument.{kind_name, reference_document};
 
 use crate::{JsonKind, SchemaFault};
-use cs_doc::Doc;
+use cs_document::Doc;
 use std::alloc::Global;
 
 /// The kind that a value names.

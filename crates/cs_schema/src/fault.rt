@@ -8,13 +8,13 @@ pub enum SchemaFault {
     #[error("out of memory")]
     OutOfMemory,
     /// A keyword that is none of the profile.
-    #[error("unknown keyword {name} at {place}")]
+    #[error("a keyword outside the profile")]
     Keyword { place: String, name: String },
     /// A keyword whose value has not its shape; with the empty name, a value that is no schema.
-    #[error("keyword {name} at {place} has a wrong value")]
+    #[error("the value of a keyword has a wrong shape")]
     Shape { place: String, name: String },
     /// A reference to a name that is not defined.
-    #[error("reference to {name} at {place}, which is not defined")]
+    #[error("a reference to a definition that the schema does not have")]
     Reference { place: String, name: String },
     /// Definitions that reach themselves: each refers directly to the next, and the last to the first.
     #[error("a definition reaches itself")]

@@ -18,6 +18,3 @@ pub use read::read_schema;
 pub use schema::{JsonKind, Keywords, Schema};
 pub use schema_doc::SchemaDoc;
 pub use write::to_doc;
-
-#[cfg(test)]
-mod tests;

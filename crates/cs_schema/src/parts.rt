@@ -1,5 +1,5 @@
 use crate::{JsonKind, Keywords, Schema};
-use cs_doc::Doc;
+use cs_document::Doc;
 use std::alloc::Global;
 use std::collections::BTreeMap;
 
@@ -27,7 +27,7 @@ pub(crate) enum Found {
 
 impl Parts {
     ghost use Rattle.std.specs.Prelude.{◌≡◌, []};
-    ghost use Rattle.cs_doc.specs.Document.{no_members};
+    ghost use Rattle.cs_document.specs.Document.{no_members};
     ghost use Rattle.cs_schema.specs.SchemaDocument.{present};
     ghost use Rattle.cs_schema.specs.Reading.{slots, set_found, IsNoDefinitions};
 

@@ -1,7 +1,7 @@
 // The reader: one walk over the document, key by key.
 ghost use Rattle.std.specs.Prelude.{◌≡◌, None, Some, IfOk, OnOk, IfErr, [], false};
-ghost use Rattle.cs_doc.specs.Document.{object};
-ghost use Rattle.cs_doc.specs.View.{doc_view, list_view, object_view, documents_of, members_of};
+ghost use Rattle.cs_document.specs.Document.{object};
+ghost use Rattle.cs_document.specs.View.{doc_view, list_view, object_view, documents_of, members_of};
 ghost use Rattle.cs_schema.specs.Shapes.{some_schemas, named_schemas};
 ghost use Rattle.cs_schema.specs.Profile.{first, fault_of, value_fault, visits, list_visits, map_visits, member_visits, keyword_visits, element_visits, named_visits, IsSchema};
 ghost use Rattle.cs_schema.specs.Refusal.{IsRefusal};
@@ -16,7 +16,7 @@ use crate::parts::{Found, Parts};
 use crate::places::{at_index, at_key, misshapen, undefined, unknown};
 use crate::words::{Word, word_of};
 use crate::{Keywords, Schema, SchemaDoc, SchemaFault};
-use cs_doc::Doc;
+use cs_document::Doc;
 use std::alloc::Global;
 use std::collections::BTreeMap;
 
@@ -104,7 +104,8 @@ fn read_members(
 {
     let mut parts = Parts::new(alloc);
     for (key, value) in members {
-        parts = parts.with(read_keyword(alloc, root, place, key, value)?);
+        let found = read_keyword(alloc, root, place, key, value)?;
+        parts = parts.with(found);
     }
     Ok(parts)
 }

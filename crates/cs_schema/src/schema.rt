@@ -1,4 +1,4 @@
-use cs_doc::Doc;
+use cs_document::Doc;
 use std::alloc::Global;
 use std::collections::BTreeMap;
 
@@ -65,7 +65,7 @@ pub struct Keywords {
 
 impl Keywords {
     ghost use Rattle.std.specs.Prelude.{◌≡◌};
-    ghost use Rattle.cs_doc.specs.Document.{no_members};
+    ghost use Rattle.cs_document.specs.Document.{no_members};
     ghost use Rattle.cs_schema.specs.SchemaDocument.{slots_of, present};
 
     /// The schema object without a keyword, which validates every document.

@@ -1,7 +1,7 @@
 // The writer: the keywords of each object, in the byte order of their names.
 ghost use Rattle.std.specs.Prelude.{◌≡◌, IfOk, OnOk, IsOkUnless, Some, None, map, option_map, take, drop};
-ghost use Rattle.cs_doc.specs.Document.{text as a_text, integer, list};
-ghost use Rattle.cs_doc.specs.View.{doc_view, list_view, object_view};
+ghost use Rattle.cs_document.specs.Document.{text as a_text, integer, list};
+ghost use Rattle.cs_document.specs.View.{doc_view, list_view, object_view};
 ghost use Rattle.cs_schema.specs.Profile.{IsSchema};
 ghost use Rattle.cs_schema.specs.Trim.{trim};
 ghost use Rattle.cs_schema.specs.SchemaDocument.{kind_name, schema_view, schemas_view, definitions_view, slots_of, present, unless_no_list, unless_no_map, reference_document, text_document, document_of};
@@ -9,7 +9,7 @@ ghost use Rattle.cs_schema.specs.Writing.{put_some, put_all};
 
 use crate::atoms::{copied, name_of};
 use crate::{JsonKind, Keywords, Schema, SchemaDoc, SchemaFault};
-use cs_doc::Doc;
+use cs_document::Doc;
 use std::alloc::Global;
 use std::collections::BTreeMap;
 

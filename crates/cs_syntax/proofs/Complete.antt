@@ -4,14 +4,14 @@ use Rattle.std.proofs.lemmas.Bool.Decides.{nat_tests}
 use Rattle.std.specs.Prelude.{FitsSigned, neg_ℤ, ◌||◌}
 use Rattle.std.specs.Int.{w64}
 use Rattle.std.specs.Option.{unwrap_or}
-use Rattle.cs_syntax.specs.declared.parser.kind.Kind.TheVariants as kinds
-use Rattle.cs_syntax.specs.declared.ast.Relation.{Relation}
-use Rattle.cs_syntax.specs.declared.ast.Relation.TheVariants as relations
-use Rattle.cs_syntax.specs.declared.ast.FieldMark.{FieldMark}
-use Rattle.cs_syntax.specs.Words.{Words, relation, comma, name, quoted, top_mark, bottom_mark, definition_name, unequal, close_struct, close_list, dots, finish}
-use Rattle.cs_syntax.specs.Tree.{Label, Tree, top, bottom, reference, text, closed, integer, not_integer, not_text, not_null, named, Trees, none, more, Fields, no_field, field, End, DefinitionTree, FileTree}
-use Rattle.cs_syntax.specs.View.{trees_of, fields_of, Seen}
-use Rattle.cs_syntax.specs.Spells.{is_keyword, is_null, literal_of, Comma, explicit, inserted, ClosesParen, paren_here, paren_after, ClosesList, list_here, list_after, ClosesStruct, struct_here, struct_after, SpellsNumber, positive, negative, SpellsBound, limit_is, other_number, other_text, other_null, SpellsLabel, bare_label, quoted_label, SpellsMark, regular, optional, required, SpellsOpening, unopened, opened, SpellsValue, long, short, SpellsField, labelled, SpellsExpr, one_conj, joined, SpellsBars, no_bar, a_bar, SpellsConj, one_operand, met, SpellsAmps, no_amp, an_amp, SpellsOperand, top_is, bottom_is, reference_is, name_is, number_is, text_is, bound_is, paren_is, struct_is, list_is, SpellsStruct, no_fields, dots_alone, fields, SpellsFields, no_more_fields, next_field, SpellsList, no_elements, rest_alone, elements, SpellsElements, no_more_elements, next_element, SpellsEnd, closed_is, rest_is, SpellsRest, any_is, each_is, SpellsDefinition, defined, SpellsDefinitions, no_definition, next_definition, SpellsPackage, no_clause, clause, SpellsFile, spelled}
+use Rattle.cs_grammar.specs.declared.kind.Kind.TheVariants as kinds
+use Rattle.cs_grammar.specs.declared.ast.Relation.{Relation}
+use Rattle.cs_grammar.specs.declared.ast.Relation.TheVariants as relations
+use Rattle.cs_grammar.specs.declared.ast.FieldMark.{FieldMark}
+use Rattle.cs_grammar.specs.Words.{Words, relation, comma, name, quoted, top_mark, bottom_mark, definition_name, unequal, close_struct, close_list, dots, finish}
+use Rattle.cs_grammar.specs.Tree.{Label, Tree, top, bottom, reference, text, closed, integer, not_integer, not_text, not_null, named, Trees, none, more, Fields, no_field, field, End, DefinitionTree, FileTree}
+use Rattle.cs_grammar.specs.View.{trees_of, fields_of, Seen}
+use Rattle.cs_grammar.specs.Spells.{is_keyword, is_null, literal_of, Comma, explicit, inserted, ClosesParen, paren_here, paren_after, ClosesList, list_here, list_after, ClosesStruct, struct_here, struct_after, SpellsNumber, positive, negative, SpellsBound, limit_is, other_number, other_text, other_null, SpellsLabel, bare_label, quoted_label, SpellsMark, regular, optional, required, SpellsOpening, unopened, opened, SpellsValue, long, short, SpellsField, labelled, SpellsExpr, one_conj, joined, SpellsBars, no_bar, a_bar, SpellsConj, one_operand, met, SpellsAmps, no_amp, an_amp, SpellsOperand, top_is, bottom_is, reference_is, name_is, number_is, text_is, bound_is, paren_is, struct_is, list_is, SpellsStruct, no_fields, dots_alone, fields, SpellsFields, no_more_fields, next_field, SpellsList, no_elements, rest_alone, elements, SpellsElements, no_more_elements, next_element, SpellsEnd, closed_is, rest_is, SpellsRest, any_is, each_is, SpellsDefinition, defined, SpellsDefinitions, no_definition, next_definition, SpellsPackage, no_clause, clause, SpellsFile, spelled}
 use Rattle.cs_syntax.specs.Reading.{◌>>=◌, Read, after, begins_with, begins_comma, comma_at, close_at, paren_end, goes_on_label, begins_field, another_field, another_element, opening_at, may_end, many, signed, number_at, bound_at, unequal_at, integer_at, plain_at, label_at, mark_at, expected, field_with, fields_with, struct_with, rest_with, end_with, elements_with, list_with, operand_with, amps_with, conj_with, bars_with, expr_with, inner, definition_at, line_at, before_end, definitions_at, clause_at, package_at, file_with, file_at}
 
 -- ---- a spelling takes words

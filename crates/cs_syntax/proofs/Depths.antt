@@ -4,7 +4,7 @@ use Rattle.std.proofs.lemmas.Bool.Decides.{nat_tests}
 use Rattle.std.proofs.lemmas.List.{reverse-append}
 use Rattle.std.specs.Prelude.{max, nat_lt}
 use Rattle.cs_syntax.specs.declared.parser.nesting.Before.{Before}
-use Rattle.cs_syntax.specs.Words.{Word, Words}
+use Rattle.cs_grammar.specs.Words.{Word, Words}
 use Rattle.cs_syntax.specs.Reading.{word_kind}
 use Rattle.cs_syntax.specs.Nesting.{Levels, before_next, levels_next, nesting_from}
 

@@ -1,12 +1,12 @@
 -- Worked samples: what some words spell, and how deep they nest.
 use Rattle.std.proofs.Common.{◌≡◌, pos, true, false, [], ◌∷◌, None, Ok, refl, codes}
-use Rattle.cs_syntax.specs.declared.ast.FieldMark.TheVariants.{Regular, Optional}
-use Rattle.cs_syntax.specs.Words as W
-use Rattle.cs_syntax.specs.Words.{Words}
-use Rattle.cs_syntax.specs.Tree as T
-use Rattle.cs_syntax.specs.Tree.{Tree, FileTree, file, definition}
+use Rattle.cs_grammar.specs.declared.ast.FieldMark.TheVariants.{Regular, Optional}
+use Rattle.cs_grammar.specs.Words as W
+use Rattle.cs_grammar.specs.Words.{Words}
+use Rattle.cs_grammar.specs.Tree as T
+use Rattle.cs_grammar.specs.Tree.{Tree, FileTree, file, definition}
 use Rattle.cs_syntax.specs.Nesting.{nesting}
-use Rattle.cs_syntax.specs.Spells.{SpellsFile}
+use Rattle.cs_grammar.specs.Spells.{SpellsFile}
 use Rattle.cs_syntax.specs.Reading.{number_at, integer_at, plain_at, many, label_at, field_with, struct_with, rest_with, end_with, list_with, operand_with, conj_with, expr_with, inner, definition_at, line_at, package_at, file_with, file_at}
 use Rattle.cs_syntax.proofs.Sound.{file_found}
 

@@ -4,13 +4,13 @@ use Rattle.std.proofs.Math.Numerals.{add-one}
 use Rattle.std.proofs.lemmas.List.{drop_all}
 use Rattle.std.proofs.lemmas.Bool.Decides.{nat_tests}
 use Rattle.std.specs.Prelude.{max, nat_le, ◌&&◌}
-use Rattle.cs_syntax.specs.declared.ast.Expr as Exprs
-use Rattle.cs_syntax.specs.declared.ast.Expr.{Expr}
-use Rattle.cs_syntax.specs.declared.ast.Field.{Field}
-use Rattle.cs_syntax.specs.declared.ast.ListEnd.{ListEnd, Closed, Any, Each}
-use Rattle.cs_syntax.specs.Tree as T
-use Rattle.cs_syntax.specs.Tree.{Tree}
-use Rattle.cs_syntax.specs.View.{expr_view, exprs_view, field_view, fields_view, end_view}
+use Rattle.cs_grammar.specs.declared.ast.Expr as Exprs
+use Rattle.cs_grammar.specs.declared.ast.Expr.{Expr}
+use Rattle.cs_grammar.specs.declared.ast.Field.{Field}
+use Rattle.cs_grammar.specs.declared.ast.ListEnd.{ListEnd, Closed, Any, Each}
+use Rattle.cs_grammar.specs.Tree as T
+use Rattle.cs_grammar.specs.Tree.{Tree}
+use Rattle.cs_grammar.specs.View.{expr_view, exprs_view, field_view, fields_view, end_view}
 use Rattle.cs_syntax.specs.Height.{height, heights, field_heights, end_height}
 
 max_within : (m n k : ℕ) → nat_le m k ≡ true → nat_le (max m n) k ≡ nat_le n k

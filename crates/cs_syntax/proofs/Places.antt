@@ -1,24 +1,25 @@
 -- A fault stands at a word: what is left is an end of the words, and a fault is that of the first word of such an end.
 use Rattle.std.proofs.Common.{◌≡◌, ℕ, zero, suc, ℤ, Bool, true, false, [], ◌∷◌, List, length, drop, Option, Some, None, Result, Ok, Err, refl, ap, ◌∙◌}
-use Rattle.cs_syntax.specs.declared.fault.SyntaxFault.{SyntaxFault}
-use Rattle.cs_syntax.specs.declared.fault.SyntaxFault.TheVariants as faults
+use Rattle.cs_grammar.specs.declared.fault.SyntaxFault.{SyntaxFault}
+use Rattle.cs_grammar.specs.declared.fault.SyntaxFault.TheVariants as faults
 use denote.Enum.Bare.{sameb}
-use Rattle.cs_syntax.specs.contracts.parser.kind.Kind.{the_type}
-use Rattle.cs_syntax.specs.declared.parser.kind.Kind.{Kind}
-use Rattle.cs_syntax.specs.declared.parser.kind.Kind.TheVariants as kinds
-use Rattle.cs_syntax.specs.declared.ast.Relation.TheVariants as relations
-use Rattle.cs_syntax.specs.declared.lexer.line.Line.{Line}
-use Rattle.cs_syntax.specs.declared.lexer.line.Line.TheVariants.{Plain, WantsComma, Minus}
-use Rattle.cs_syntax.specs.Cut.{Lexeme, comma_if, Cut, blank, new_line, comment, token, finish, Stuck, no_token, too_large, past_blank, past_line, past_comment, past_token}
-use Rattle.cs_syntax.specs.Words as W
+use Rattle.cs_grammar.specs.contracts.kind.Kind.{the_type}
+use Rattle.cs_grammar.specs.declared.kind.Kind.{Kind}
+use Rattle.cs_grammar.specs.declared.kind.Kind.TheVariants as kinds
+use Rattle.cs_grammar.specs.declared.ast.Relation.TheVariants as relations
+use Rattle.cs_grammar.specs.declared.line.Line.{Line}
+use Rattle.cs_grammar.specs.declared.line.Line.TheVariants.{Plain, WantsComma, Minus}
+use Rattle.cs_grammar.specs.Cut.{Lexeme, comma_if, Cut, blank, new_line, comment, token, finish, Stuck, no_token, too_large, past_blank, past_line, past_comment, past_token}
+use Rattle.cs_grammar.specs.Words as W
 use Rattle.std.specs.Prelude.{◌&&◌, ◌||◌, not, cond}
-use Rattle.cs_syntax.specs.Words.{Word, Words, start, name, quoted, definition_name, numeral, top_mark, bottom_mark, open_paren, open_struct, open_list, close_paren, close_struct, close_list, comma, nl, colon, question, bang, dots, relation, unequal, minus}
-use Rattle.cs_syntax.specs.Tree.{Tree, not_integer, DefinitionTree, FileTree, file}
-use Rattle.cs_syntax.specs.Spells.{is_keyword, is_null, literal_of}
-use Rattle.cs_syntax.specs.View.{words}
+use Rattle.cs_grammar.specs.Words.{Word, Words, start, name, quoted, definition_name, numeral, top_mark, bottom_mark, open_paren, open_struct, open_list, close_paren, close_struct, close_list, comma, nl, colon, question, bang, dots, relation, unequal, minus}
+use Rattle.cs_grammar.specs.Tree.{Tree, not_integer, DefinitionTree, FileTree, file}
+use Rattle.cs_grammar.specs.Spells.{is_keyword, is_null, literal_of}
+use Rattle.cs_grammar.specs.View.{words}
 use Rattle.cs_syntax.specs.Reading.{◌>>=◌, Read, word_kind, begins_with, begins_comma, is_left_out, fault_if, fault_at, behind_if, after, after_comma, or_fault, beyond, comma_at, close_at, paren_end, expected, signed, number_or, number_at, name_or, null_or, bound_at, unequal_at, integer_at, plain_at, or_more, many, another_field, another_element, opening, opening_if, opening_at, rest_behind, may_end, label_at, mark_if, mark_at, field_with, fields_with, struct_if, struct_with, rest_if, rest_with, end_if, end_with, elements_with, list_if, list_with, operand_with, amps_with, conj_with, bars_with, expr_with, value_if, begins_field, inner, definition_at, line_at, before_end, definitions_at, is_clause, clause_at, package_if, package_at, whole, file_with, file_at}
 use Rattle.cs_syntax.specs.Place.{Ends, same, past, IsFaultIn}
-use Rattle.cs_syntax.specs.Answer.{IsRefusal, IsFileRefusal}
+use Rattle.cs_lexer.specs.Lexed.{IsRefusal}
+use Rattle.cs_syntax.specs.Answer.{IsFileRefusal}
 
 -- ---- the words of a source end with the end
 

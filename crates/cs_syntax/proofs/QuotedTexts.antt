@@ -3,17 +3,17 @@ use Rattle.std.proofs.Common.{◌≡◌, ℕ, zero, suc, List, [], ◌∷◌, dr
 use Rattle.std.specs.Prelude.{◌==◌, codes}
 use Rattle.std.specs.List.{list_all, list_any}
 use Rattle.std.specs.Str.{bytes_eq}
-use Rattle.cs_syntax.specs.declared.token.Token.{Token}
-use Rattle.cs_syntax.specs.declared.token.Sort.{Sort}
-use Rattle.cs_syntax.specs.declared.token.Sort.TheVariants as sorts
-use Rattle.cs_syntax.specs.declared.lexer.line.Line.{Line}
-use Rattle.cs_syntax.specs.declared.lexer.line.Line.TheVariants.{Plain, WantsComma, Minus}
-use Rattle.cs_syntax.specs.declared.parser.kind.Kind.{Kind}
-use Rattle.cs_syntax.specs.declared.parser.kind.Kind.TheVariants as kinds
-use Rattle.cs_syntax.specs.Spelling.{is_letter, is_digit, is_name_byte, is_integer, is_definition_rest, used_marks, left_out_marks, mark_sort, sort_if, underscore_sort, sort_of}
-use Rattle.cs_syntax.specs.Cut.{Lexeme, comma_if, Cut, blank, new_line, comment, token, finish}
-use Rattle.cs_syntax.specs.View.{mark_kind, kind_of, lexemes_view}
-use Rattle.cs_syntax.specs.Quoted.{begins_quote, is_quoted, are_quoted}
+use Rattle.cs_grammar.specs.declared.token.Token.{Token}
+use Rattle.cs_grammar.specs.declared.token.Sort.{Sort}
+use Rattle.cs_grammar.specs.declared.token.Sort.TheVariants as sorts
+use Rattle.cs_grammar.specs.declared.line.Line.{Line}
+use Rattle.cs_grammar.specs.declared.line.Line.TheVariants.{Plain, WantsComma, Minus}
+use Rattle.cs_grammar.specs.declared.kind.Kind.{Kind}
+use Rattle.cs_grammar.specs.declared.kind.Kind.TheVariants as kinds
+use Rattle.cs_grammar.specs.Spelling.{is_letter, is_digit, is_name_byte, is_integer, is_definition_rest, used_marks, left_out_marks, mark_sort, sort_if, underscore_sort, sort_of}
+use Rattle.cs_grammar.specs.Cut.{Lexeme, comma_if, Cut, blank, new_line, comment, token, finish}
+use Rattle.cs_grammar.specs.View.{mark_kind, kind_of, lexemes_view}
+use Rattle.cs_lexer.specs.Quoted.{begins_quote, is_quoted, are_quoted}
 
 -- ---- what is a text
 

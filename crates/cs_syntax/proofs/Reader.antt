@@ -1,11 +1,11 @@
 -- Reading one after the other, as a loop does.
 use Rattle.std.proofs.Common.{◌≡◌, ℕ, zero, suc, ◌<◌, List, [], ◌∷◌, ◌++◌, map, Option, Some, None, Result, Ok, Err, refl, ap, subst, length, rules, arith, Vec, Global}
-use Rattle.cs_syntax.specs.declared.fault.SyntaxFault.{SyntaxFault}
-use Rattle.cs_syntax.specs.declared.fault.SyntaxFault.TheVariants as faults
-use Rattle.cs_syntax.specs.declared.ast.Expr.{Expr, And, Or, the_lemmas}
-use Rattle.cs_syntax.specs.Words.{Words}
-use Rattle.cs_syntax.specs.Tree.{Tree, meet, join, more}
-use Rattle.cs_syntax.specs.View.{expr_view, exprs_view}
+use Rattle.cs_grammar.specs.declared.fault.SyntaxFault.{SyntaxFault}
+use Rattle.cs_grammar.specs.declared.fault.SyntaxFault.TheVariants as faults
+use Rattle.cs_grammar.specs.declared.ast.Expr.{Expr, And, Or, the_lemmas}
+use Rattle.cs_grammar.specs.Words.{Words}
+use Rattle.cs_grammar.specs.Tree.{Tree, meet, join, more}
+use Rattle.cs_grammar.specs.View.{expr_view, exprs_view}
 use Rattle.cs_syntax.specs.Reading.{◌>>=◌, Fails, Read, many, meet_of, join_of}
 
 -- ---- faults

@@ -3,13 +3,13 @@ use Rattle.std.proofs.Common.{◌≡◌, ℕ, zero, suc, ◌≤◌, ◌^◌, ℤ
 use Rattle.std.proofs.lemmas.Bool.Decides.{nat_tests}
 use Rattle.std.specs.Prelude.{FitsSigned, neg_ℤ, nat_lt, nat_le, ◌&&◌, ◌||◌, not}
 use Rattle.std.specs.Int.{w64}
-use Rattle.cs_syntax.specs.declared.fault.SyntaxFault.{SyntaxFault}
-use Rattle.cs_syntax.specs.declared.parser.kind.Kind.TheVariants as kinds
-use Rattle.cs_syntax.specs.declared.ast.Relation.TheVariants as relations
-use Rattle.cs_syntax.specs.Words.{Words, name, quoted, definition_name, top_mark, bottom_mark, numeral, open_paren, open_struct, open_list, close_paren, close_struct, close_list, comma, nl, colon, question, bang, amp, bar, dots, relation, unequal, minus, finish}
-use Rattle.cs_syntax.specs.Tree.{Tree, not_integer, End, DefinitionTree, FileTree, file}
-use Rattle.cs_syntax.specs.View.{trees_of, fields_of, Seen}
-use Rattle.cs_syntax.specs.Spells.{is_keyword, is_null, is_package, literal_of, Comma, explicit, inserted, ClosesParen, paren_here, paren_after, ClosesList, list_here, list_after, ClosesStruct, struct_here, struct_after, SpellsNumber, positive, negative, SpellsBound, limit_is, other_number, other_text, other_null, SpellsLabel, bare_label, quoted_label, SpellsMark, regular, optional, required, SpellsOpening, unopened, opened, SpellsValue, long, short, SpellsField, labelled, SpellsExpr, one_conj, joined, SpellsBars, no_bar, a_bar, SpellsConj, one_operand, met, SpellsAmps, no_amp, an_amp, SpellsOperand, top_is, bottom_is, reference_is, name_is, number_is, text_is, bound_is, paren_is, struct_is, list_is, SpellsStruct, no_fields, dots_alone, fields, SpellsFields, no_more_fields, next_field, SpellsList, no_elements, rest_alone, elements, SpellsElements, no_more_elements, next_element, SpellsEnd, closed_is, rest_is, SpellsRest, any_is, each_is, SpellsDefinition, defined, SpellsDefinitions, no_definition, next_definition, SpellsPackage, no_clause, clause, SpellsFile, spelled}
+use Rattle.cs_grammar.specs.declared.fault.SyntaxFault.{SyntaxFault}
+use Rattle.cs_grammar.specs.declared.kind.Kind.TheVariants as kinds
+use Rattle.cs_grammar.specs.declared.ast.Relation.TheVariants as relations
+use Rattle.cs_grammar.specs.Words.{Words, name, quoted, definition_name, top_mark, bottom_mark, numeral, open_paren, open_struct, open_list, close_paren, close_struct, close_list, comma, nl, colon, question, bang, amp, bar, dots, relation, unequal, minus, finish}
+use Rattle.cs_grammar.specs.Tree.{Tree, not_integer, End, DefinitionTree, FileTree, file}
+use Rattle.cs_grammar.specs.View.{trees_of, fields_of, Seen}
+use Rattle.cs_grammar.specs.Spells.{is_keyword, is_null, is_package, literal_of, Comma, explicit, inserted, ClosesParen, paren_here, paren_after, ClosesList, list_here, list_after, ClosesStruct, struct_here, struct_after, SpellsNumber, positive, negative, SpellsBound, limit_is, other_number, other_text, other_null, SpellsLabel, bare_label, quoted_label, SpellsMark, regular, optional, required, SpellsOpening, unopened, opened, SpellsValue, long, short, SpellsField, labelled, SpellsExpr, one_conj, joined, SpellsBars, no_bar, a_bar, SpellsConj, one_operand, met, SpellsAmps, no_amp, an_amp, SpellsOperand, top_is, bottom_is, reference_is, name_is, number_is, text_is, bound_is, paren_is, struct_is, list_is, SpellsStruct, no_fields, dots_alone, fields, SpellsFields, no_more_fields, next_field, SpellsList, no_elements, rest_alone, elements, SpellsElements, no_more_elements, next_element, SpellsEnd, closed_is, rest_is, SpellsRest, any_is, each_is, SpellsDefinition, defined, SpellsDefinitions, no_definition, next_definition, SpellsPackage, no_clause, clause, SpellsFile, spelled}
 use Rattle.cs_syntax.specs.Reading.{◌>>=◌, Read, expected, begins_with, behind_if, begins_comma, comma_at, close_at, paren_end, another_field, another_element, opening, opening_if, opening_at, rest_behind, may_end, signed, number_or, number_at, name_or, null_or, bound_at, unequal_at, integer_at, plain_at, or_more, many, label_at, mark_at, field_with, fields_with, struct_with, rest_if, rest_with, end_if, end_with, elements_with, list_with, operand_with, amps_with, meet_of, conj_with, bars_with, join_of, expr_with, value_if, begins_field, inner, definition_at, line_at, before_end, definitions_at, clause_at, package_if, package_at, whole, file_with, file_at}
 
 -- P of what was read and of what is left

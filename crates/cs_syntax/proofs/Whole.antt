@@ -2,19 +2,20 @@
 use Rattle.std.proofs.Common.{◌≡◌, ◌<◌, ◌≤◌, List, ℕ, Result, Ok, Err, true, false, refl, ap, subst, sym, ◌∙◌, arith, inl, inr}
 use Rattle.std.proofs.lemmas.Bool.Decides.{nat_tests}
 use Rattle.std.specs.Prelude.{◌⊎◌, Bool, IfOk, IfErr, nat_lt, nat_le}
-use Rattle.cs_syntax.specs.declared.fault.SyntaxFault.{SyntaxFault}
-use Rattle.cs_syntax.specs.declared.fault.SyntaxFault.TheVariants as faults
-use Rattle.cs_syntax.specs.Cut.{Lexeme, IsCut}
-use Rattle.cs_syntax.specs.Words.{Words}
-use Rattle.cs_syntax.specs.Tree.{FileTree}
+use Rattle.cs_grammar.specs.declared.fault.SyntaxFault.{SyntaxFault}
+use Rattle.cs_grammar.specs.declared.fault.SyntaxFault.TheVariants as faults
+use Rattle.cs_grammar.specs.Cut.{Lexeme, IsCut}
+use Rattle.cs_grammar.specs.Words.{Words}
+use Rattle.cs_grammar.specs.Tree.{FileTree}
 use Rattle.cs_syntax.specs.Height.{file_height}
 use Rattle.cs_syntax.specs.Nesting.{nesting}
-use Rattle.cs_syntax.specs.Spells.{SpellsFile}
-use Rattle.cs_syntax.specs.View.{words}
+use Rattle.cs_grammar.specs.Spells.{SpellsFile}
+use Rattle.cs_grammar.specs.View.{words}
 use Rattle.cs_syntax.specs.Reading.{◌>>=◌, Gives, file_at}
 use Rattle.cs_syntax.specs.Within.{if_low, if_deep, file_within}
-use Rattle.cs_syntax.specs.Answer.{Answers, IsRefusal, IsFileRefusal, IsSpelled}
-use Rattle.cs_syntax.proofs.Once.{cut_once, cut_not_stuck}
+use Rattle.cs_lexer.specs.Lexed.{Answers, IsRefusal}
+use Rattle.cs_syntax.specs.Answer.{IsFileRefusal, IsSpelled}
+use Rattle.cs_lexer.proofs.Once.{cut_once, cut_not_stuck}
 use Rattle.cs_syntax.proofs.Sound.{file_found}
 use Rattle.cs_syntax.proofs.Complete.{read_file}
 use Rattle.cs_syntax.proofs.Places.{is_of_word, fault_of_word, file_fault, cut_ended}

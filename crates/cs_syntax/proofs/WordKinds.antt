@@ -1,12 +1,12 @@
 -- Words and what they are marks of.
 use Rattle.std.proofs.Common.{◌≡◌, ℕ, Bool, true, false, List, [], ◌∷◌, Some, None, Result, Err, refl}
-use Rattle.cs_syntax.specs.declared.fault.SyntaxFault.{SyntaxFault}
-use Rattle.cs_syntax.specs.declared.token.Token.{Token}
-use Rattle.cs_syntax.specs.declared.parser.kind.Kind.{Kind}
-use Rattle.cs_syntax.specs.declared.parser.kind.Kind.TheVariants as kinds
-use Rattle.cs_syntax.specs.Words.{Words, start}
-use Rattle.cs_syntax.specs.Tree.{Tree}
-use Rattle.cs_syntax.specs.View.{word_of, words, lexemes_view}
+use Rattle.cs_grammar.specs.declared.fault.SyntaxFault.{SyntaxFault}
+use Rattle.cs_grammar.specs.declared.token.Token.{Token}
+use Rattle.cs_grammar.specs.declared.kind.Kind.{Kind}
+use Rattle.cs_grammar.specs.declared.kind.Kind.TheVariants as kinds
+use Rattle.cs_grammar.specs.Words.{Words, start}
+use Rattle.cs_grammar.specs.Tree.{Tree}
+use Rattle.cs_grammar.specs.View.{word_of, words, lexemes_view}
 use Rattle.cs_syntax.specs.Reading.{Fails, Read, word_kind, fault_of, fault_at, unsigned_at, unequal_at, plain_at, operand_with, number_at, begins_with, before_end}
 
 pub word_kind-word_of : (k : Kind) (t : List ℕ) (o : ℕ) → word_kind (word_of k t o) ≡ k

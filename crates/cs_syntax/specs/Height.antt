@@ -1,6 +1,6 @@
 -- How high a tree is (own rule): 1 for an expression without parts, and else one more than the greatest height of its parts.
 use Rattle.std.specs.Prelude.{ℕ, suc, max, List, [], ◌∷◌}
-use Rattle.cs_syntax.specs.Tree.{Tree, meet, join, paren, struct, list, Trees, none, more, Fields, no_field, field, End, closed, any, each, DefinitionTree, body, FileTree, definitions}
+use Rattle.cs_grammar.specs.Tree.{Tree, meet, join, paren, struct, list, Trees, none, more, Fields, no_field, field, End, closed, any, each, DefinitionTree, body, FileTree, definitions}
 
 abbrev mutual
   pub height : Tree → ℕ

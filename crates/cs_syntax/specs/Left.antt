@@ -1,13 +1,13 @@
 -- What the parser's calls answer and leave.
 use Rattle.std.specs.Prelude.{◌≡◌, ◌+◌, Bool, true, false, List, [], ◌∷◌, drop, reverse, Option, Some, None, Result, Ok, Err}
-use Rattle.cs_syntax.specs.declared.fault.SyntaxFault.{SyntaxFault}
+use Rattle.cs_grammar.specs.declared.fault.SyntaxFault.{SyntaxFault}
 use Rattle.cs_syntax.specs.declared.parser.place.Parser.{Parser}
-use Rattle.cs_syntax.specs.declared.fault.SyntaxFault.TheVariants as faults
-use Rattle.cs_syntax.specs.declared.token.Token.{Token}
+use Rattle.cs_grammar.specs.declared.fault.SyntaxFault.TheVariants as faults
+use Rattle.cs_grammar.specs.declared.token.Token.{Token}
 use Rattle.cs_syntax.specs.declared.parser.nesting.Levels as rust
 use Rattle.cs_syntax.specs.Nesting.{Levels}
-use Rattle.cs_syntax.specs.Words.{Words}
-use Rattle.cs_syntax.specs.View.{lexemes_view, words}
+use Rattle.cs_grammar.specs.Words.{Words}
+use Rattle.cs_grammar.specs.View.{lexemes_view, words}
 use Rattle.cs_syntax.specs.Reading.{Fails}
 
 -- the tokens that are left, and their words

@@ -1,10 +1,10 @@
 -- How deep words nest, whatever they spell (own rule): at a word, the brackets that are open, and on each open level the short colons since that level's last comma. A short colon is one whose label, with its mark, stands directly behind another colon.
 use Rattle.std.specs.Prelude.{ℕ, ◌+◌, ◌-◌, max, List, [], ◌∷◌}
-use Rattle.cs_syntax.specs.declared.parser.kind.Kind.{Kind}
-use Rattle.cs_syntax.specs.declared.parser.kind.Kind.TheVariants as kinds
+use Rattle.cs_grammar.specs.declared.kind.Kind.{Kind}
+use Rattle.cs_grammar.specs.declared.kind.Kind.TheVariants as kinds
 use Rattle.cs_syntax.specs.declared.parser.nesting.Before.{Before}
 use Rattle.cs_syntax.specs.declared.parser.nesting.Before.TheVariants as before
-use Rattle.cs_syntax.specs.Words.{Words}
+use Rattle.cs_grammar.specs.Words.{Words}
 use Rattle.cs_syntax.specs.Reading.{word_kind}
 
 -- what stands before the next word: a colon, a label behind a colon, or such a label's mark

@@ -1,7 +1,7 @@
 -- Where a fault of the parser stands.
 use Rattle.std.specs.Prelude.{◌≡◌, ◌∷◌}
-use Rattle.cs_syntax.specs.declared.fault.SyntaxFault.{SyntaxFault}
-use Rattle.cs_syntax.specs.Words.{Word, Words}
+use Rattle.cs_grammar.specs.declared.fault.SyntaxFault.{SyntaxFault}
+use Rattle.cs_grammar.specs.Words.{Word, Words}
 use Rattle.cs_syntax.specs.Reading.{fault_of}
 
 -- us is an end of ts

@@ -4,19 +4,19 @@ use Rattle.std.specs.List.{list_any}
 use Rattle.std.specs.Option.{unwrap_or}
 use Rattle.std.specs.Str.{bytes_eq}
 use denote.Enum.Bare.{sameb}
-use Rattle.cs_syntax.specs.contracts.parser.kind.Kind.{the_type}
-use Rattle.cs_syntax.specs.declared.parser.kind.Kind.{Kind}
-use Rattle.cs_syntax.specs.declared.parser.kind.Kind.TheVariants as kinds
-use Rattle.cs_syntax.specs.declared.ast.Relation.{Relation}
-use Rattle.cs_syntax.specs.declared.ast.Relation.TheVariants as relations
-use Rattle.cs_syntax.specs.declared.fault.SyntaxFault.{SyntaxFault}
-use Rattle.cs_syntax.specs.declared.fault.SyntaxFault.TheVariants as faults
-use Rattle.cs_syntax.specs.Words.{Word, Words, start, name, definition_name, hidden, top_mark, bottom_mark, numeral, quoted, open_struct, close_struct, open_list, close_list, open_paren, close_paren, comma, nl, colon, question, bang, amp, bar, dots, relation, unequal, minus, left_out, finish}
-use Rattle.cs_syntax.specs.declared.ast.FieldMark.{FieldMark}
-use Rattle.cs_syntax.specs.declared.ast.FieldMark.TheVariants.{Regular, Optional, Required}
-use Rattle.cs_syntax.specs.Tree.{Label, Tree, top, bottom, integer, text, named, reference, bound, not_integer, not_text, not_null, meet, join, paren, struct, list, End, closed, any, each, DefinitionTree, definition, FileTree, file}
-use Rattle.cs_syntax.specs.View.{trees_of, fields_of, Seen}
-use Rattle.cs_syntax.specs.Spells.{is_keyword, is_null, is_package, literal_of, start_at}
+use Rattle.cs_grammar.specs.contracts.kind.Kind.{the_type}
+use Rattle.cs_grammar.specs.declared.kind.Kind.{Kind}
+use Rattle.cs_grammar.specs.declared.kind.Kind.TheVariants as kinds
+use Rattle.cs_grammar.specs.declared.ast.Relation.{Relation}
+use Rattle.cs_grammar.specs.declared.ast.Relation.TheVariants as relations
+use Rattle.cs_grammar.specs.declared.fault.SyntaxFault.{SyntaxFault}
+use Rattle.cs_grammar.specs.declared.fault.SyntaxFault.TheVariants as faults
+use Rattle.cs_grammar.specs.Words.{Word, Words, start, name, definition_name, hidden, top_mark, bottom_mark, numeral, quoted, open_struct, close_struct, open_list, close_list, open_paren, close_paren, comma, nl, colon, question, bang, amp, bar, dots, relation, unequal, minus, left_out, finish}
+use Rattle.cs_grammar.specs.declared.ast.FieldMark.{FieldMark}
+use Rattle.cs_grammar.specs.declared.ast.FieldMark.TheVariants.{Regular, Optional, Required}
+use Rattle.cs_grammar.specs.Tree.{Label, Tree, top, bottom, integer, text, named, reference, bound, not_integer, not_text, not_null, meet, join, paren, struct, list, End, closed, any, each, DefinitionTree, definition, FileTree, file}
+use Rattle.cs_grammar.specs.View.{trees_of, fields_of, Seen}
+use Rattle.cs_grammar.specs.Spells.{is_keyword, is_null, is_package, literal_of, start_at}
 
 infixl 10 ◌>>=◌
 abbrev pub ◌>>=◌ : {A B : Type 0} → Result A SyntaxFault → (A → Result B SyntaxFault) → Result B SyntaxFault

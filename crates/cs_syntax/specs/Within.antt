@@ -1,9 +1,9 @@
 -- Reading a file within the limits.
 use Rattle.std.specs.Prelude.{Bool, true, false, nat_lt, nat_le, Result, Ok, Err}
-use Rattle.cs_syntax.specs.declared.fault.SyntaxFault.{SyntaxFault}
-use Rattle.cs_syntax.specs.declared.fault.SyntaxFault.TheVariants.{TooHigh}
-use Rattle.cs_syntax.specs.Words.{Words}
-use Rattle.cs_syntax.specs.Tree.{FileTree}
+use Rattle.cs_grammar.specs.declared.fault.SyntaxFault.{SyntaxFault}
+use Rattle.cs_grammar.specs.declared.fault.SyntaxFault.TheVariants.{TooHigh}
+use Rattle.cs_grammar.specs.Words.{Words}
+use Rattle.cs_grammar.specs.Tree.{FileTree}
 use Rattle.cs_syntax.specs.Height.{file_height}
 use Rattle.cs_syntax.specs.Nesting.{nesting}
 use Rattle.cs_syntax.specs.Reading.{◌>>=◌, file_at}

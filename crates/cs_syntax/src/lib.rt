@@ -1,20 +1,10 @@
-// From a source to its tokens and the tree that they spell.
+// From a source to the tree that it spells. The tokens are those of `cs_lexer`, the tree and the grammar those of `cs_grammar`.
 #![tactic(auto)]
 
-mod ast;
-mod fault;
-mod lexer;
 mod parser;
-mod token;
 
-pub use ast::{Definition, Expr, Field, FieldMark, File, ListEnd, Relation};
-pub use fault::SyntaxFault;
-pub use lexer::cut::{lex, one_cut};
-pub use lexer::text::text_parts;
+pub use cs_grammar::{
+    Definition, Expr, Field, FieldMark, File, ListEnd, Relation, Sort, SyntaxFault, Token,
+};
+pub use cs_lexer::{lex, one_cut, text_parts};
 pub use parser::file::{one_file, parse_file};
-pub use token::{Sort, Token};
-
-#[cfg(test)]
-mod parser_tests;
-#[cfg(test)]
-mod tests;

@@ -11,4 +11,3 @@ mod nesting;
 mod number;
 mod operand;
 mod place;
-mod text;

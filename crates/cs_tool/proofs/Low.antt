@@ -4,12 +4,12 @@ use Rattle.std.specs.List.{AllByRecursion, flat_map}
 use Rattle.std.specs.Prelude.{filter}
 use Rattle.std.specs.Str.{bytes_eq}
 use Rattle.cs_syntax.specs.Height as tree
-use Rattle.cs_syntax.specs.Tree as T
-use Rattle.cs_syntax.specs.Tree.{Tree, Trees, Fields, End, DefinitionTree, body, defined_name, FileTree, definitions}
+use Rattle.cs_grammar.specs.Tree as T
+use Rattle.cs_grammar.specs.Tree.{Tree, Trees, Fields, End, DefinitionTree, body, defined_name, FileTree, definitions}
 use Rattle.cs_resolve.specs.Declarations as declared
-use Rattle.cs_resolve.specs.Environment.{bodies}
-use Rattle.cs_resolve.specs.Expression.{Expression, bottom}
-use Rattle.cs_resolve.specs.Height.{height, height_all, height_under, height_rest, heights, IsLow}
+use Rattle.cs_package.specs.Environment.{bodies}
+use Rattle.cs_package.specs.Expression.{Expression, bottom}
+use Rattle.cs_package.specs.Height.{height, height_all, height_under, height_rest, heights, IsLow}
 use Rattle.cs_resolve.specs.Predeclared.{names, among, predeclared}
 use Rattle.cs_resolve.specs.Resolved.{resolved, resolved_all, resolved_under, resolved_end, environment_of_files}
 use Rattle.cs_tool.specs.Accepted.{AreFiles}

@@ -2,10 +2,10 @@
 -- the CUE language specification, "Source file organization").
 use Rattle.std.specs.Prelude.{◌≡◌, ◌⊎◌, ℕ, ◌<◌, ◌≤◌, List, [], ◌∷◌, length, take, sum_by, Some, slice_get, IsUtf8}
 use Rattle.std.specs.List.{AllByRecursion}
-use Rattle.cs_syntax.specs.Tree.{FileTree}
+use Rattle.cs_grammar.specs.Tree.{FileTree}
 use Rattle.cs_syntax.specs.Answer.{IsSpelled, IsFileRefusal}
-use Rattle.cs_syntax.specs.declared.fault.SyntaxFault.{SyntaxFault}
-use Rattle.cs_resolve.specs.Environment.{Environment, Names}
+use Rattle.cs_grammar.specs.declared.fault.SyntaxFault.{SyntaxFault}
+use Rattle.cs_package.specs.Environment.{Environment, Names}
 use Rattle.cs_resolve.specs.Resolved as resolve
 use Rattle.cs_resolve.specs.Resolved.{environment_of_files, IsPackage}
 use Rattle.cs_resolve.specs.declared.fault.ResolveFault.{ResolveFault}

@@ -2,8 +2,8 @@
 use Rattle.std.specs.Prelude.{ℕ}
 use Rattle.cs_tool.specs.declared.fault.Fault.{Fault}
 use Rattle.cs_tool.specs.declared.fault.Fault.TheVariants.{NoToken, Syntax, LeftOut, IntegerRange, TooHigh, PackageName, UnknownName, FieldReference, NotOpened, Cycle, UnknownRoot, TooLarge, OutOfMemory, ChainTooLong, Keyword, Shape, Reference, Loop, NotJson, NotInteger}
-use Rattle.cs_syntax.specs.declared.fault.SyntaxFault.{SyntaxFault}
-use Rattle.cs_syntax.specs.declared.fault.SyntaxFault.TheVariants as syntax
+use Rattle.cs_grammar.specs.declared.fault.SyntaxFault.{SyntaxFault}
+use Rattle.cs_grammar.specs.declared.fault.SyntaxFault.TheVariants as syntax
 use Rattle.cs_resolve.specs.declared.fault.ResolveFault.{ResolveFault}
 use Rattle.cs_resolve.specs.declared.fault.ResolveFault.TheVariants as resolve
 use Rattle.cs_guard.specs.declared.fault.GuardFault.{GuardFault}
@@ -16,8 +16,8 @@ use Rattle.cs_schema.specs.declared.fault.SchemaFault.{SchemaFault}
 use Rattle.cs_schema.specs.declared.fault.SchemaFault.TheVariants as schema
 use Rattle.cs_validate.specs.declared.fault.ValidateFault.{ValidateFault}
 use Rattle.cs_validate.specs.declared.fault.ValidateFault.TheVariants as validate
-use Rattle.cs_doc.specs.declared.fault.DocFault.{DocFault}
-use Rattle.cs_doc.specs.declared.fault.DocFault.TheVariants as doc
+use Rattle.cs_document.specs.declared.fault.DocFault.{DocFault}
+use Rattle.cs_document.specs.declared.fault.DocFault.TheVariants as doc
 
 -- the fault of the source in that file
 abbrev pub of_syntax : ℕ → SyntaxFault → Fault

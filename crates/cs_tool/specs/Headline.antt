@@ -1,8 +1,8 @@
 -- What the calls answer. A schema admits just the documents that are instances of the root definition.
 use Rattle.std.specs.Prelude.{◌≡◌, ℕ, ◌≤◌, ◌⊎◌, List, Bool, Option, option_map}
-use Rattle.cs_doc.specs.Document.{Document, IsDocument, depth}
+use Rattle.cs_document.specs.Document.{Document, IsDocument, depth}
 use Rattle.cs_doc.specs.Texts.{Reads, IsJson, HasOtherNumber, text_of}
-use Rattle.cs_resolve.specs.Environment.{Environment, Names, bodies}
+use Rattle.cs_package.specs.Environment.{Environment, Names, bodies}
 use Rattle.cs_instance.specs.Taken.{IsTakenPackage}
 use Rattle.cs_instance.specs.Instance.{Rule, definition, IsInstance}
 use Rattle.cs_instance.specs.Instance as instance

@@ -1,16 +1,23 @@
 // The calls over bytes.
-ghost use Rattle.std.specs.Prelude.{IfOk, IfErr, IsOkUnless, map};
-ghost use Rattle.cs_doc.specs.Document.{Document};
-ghost use Rattle.cs_doc.specs.Texts.{Reads};
-ghost use Rattle.cs_doc.specs.View.{doc_view};
+ghost use Rattle.std.specs.Prelude.{◌≡◌, ℕ, ◌≤◌, List, IfOk, IfErr, IsOkUnless, map};
+ghost use Rattle.cs_document.specs.Document.{Document, depth};
+ghost use Rattle.cs_doc.specs.Texts.{Reads, text_of};
+ghost use Rattle.cs_document.specs.View.{doc_view};
+ghost use Rattle.cs_package.specs.Environment.{Environment, Names};
+ghost use Rattle.cs_instance.specs.Taken.{IsTakenPackage};
+ghost use Rattle.cs_schema.specs.Profile.{IsSchema};
+ghost use Rattle.cs_schema.specs.SchemaDocument.{document_of};
+ghost use Rattle.cs_schema.specs.Trim.{trim};
+ghost use Rattle.cs_tool.specs.Accepted.{IsAccepted};
 ghost use Rattle.cs_tool.specs.Headline.{IsExport, IsVerdict, IsValidated, IsReady, ExportRefusal, VetRefusal, ValidateRefusal, SchemaTextRefusal};
 
 use crate::Fault;
 use crate::packages::package_of;
 use cs_compile::compile;
 use cs_doc::{Doc, DocFault, read_doc, write_doc};
+use cs_guard::Guarded;
 use cs_instance::is_instance;
-use cs_schema::{read_schema, to_doc};
+use cs_schema::{SchemaDoc, read_schema, to_doc};
 use cs_validate::is_valid;
 use std::alloc::Global;
 
@@ -31,7 +38,18 @@ pub fn export(alloc: Global, sources: &[&[u8]], root: &str) -> Result<Vec<u8>, F
     let schema = compile(alloc, &package, root)?;
     cs_instance::one_meaning(&package);
     cs_schema::one_meaning(&schema);
-    let doc = to_doc(alloc, &schema)?;
+    text_of_schema(alloc, &schema)
+}
+
+/// The text of the schema, without a newline.
+fn text_of_schema(alloc: Global, schema: &SchemaDoc) -> Result<Vec<u8>, Fault>
+    ensures found { IfOk result (λ text. (text.items ≡ text_of (document_of schema.now))
+        × (depth (document_of schema.now) ≤ 127 → Reads text.items (document_of schema.now))) }
+    ensures profile { IsSchema (document_of schema.now) }
+    ensures trimmed { trim (document_of schema.now) ≡ document_of schema.now }
+    ensures memory { IsOkUnless result Fault.OutOfMemory }
+{
+    let doc = to_doc(alloc, schema)?;
     Ok(write_doc(alloc, &doc)?)
 }
 
@@ -51,6 +69,20 @@ pub fn vet(alloc: Global, sources: &[&[u8]], root: &str, doc: &[u8]) -> Result<b
     if guarded.package().find(root).is_none() {
         return Err(Fault::UnknownRoot);
     }
+    verdict(alloc, guarded, root, doc)
+}
+
+/// Whether the document is an instance of the root definition, which the package declares.
+fn verdict(alloc: Global, guarded: Guarded, root: &str, doc: &[u8]) -> Result<bool, Fault>
+    requires { IsTakenPackage guarded }
+    ensures found { (sources : List (List ℕ)) → IsAccepted sources guarded
+        → IfOk result (λ b. IsVerdict sources root.now doc.now b) }
+    ensures refused { (sources : List (List ℕ)) → IsReady sources root.now
+        → ((E : Environment) → IsAccepted sources E → guarded ≡ E)
+        → IfErr result (λ e. VetRefusal sources root.now doc.now e) }
+    ensures only { (n : List ℕ) (d : Document) → Names guarded root.now n → Reads doc.now d
+        → IsOkUnless result Fault.OutOfMemory }
+{
     let doc = read_doc(alloc, doc)?;
     Ok(is_instance(alloc, &guarded, root, &doc)?)
 }

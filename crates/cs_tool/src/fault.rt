@@ -7,38 +7,38 @@ use thiserror::Error;
 #[derive(Debug, Drop, Error)]
 pub enum Fault {
     /// 1: the sources have more than 1,048,576 bytes together.
-    #[error("the sources are too long")]
+    #[error("the sources have more than 1,048,576 bytes together")]
     SourcesTooLong,
     /// 2: the source is the first that is no UTF-8.
-    #[error("file {file} is not UTF-8")]
+    #[error("a source is not UTF-8")]
     NotUtf8 { file: usize },
     /// 3: no token of the profile begins at the offset.
-    #[error("no token begins in file {file} at {offset}")]
+    #[error("no token begins here")]
     NoToken { file: usize, offset: usize },
     /// 4: no file of the grammar begins with the tokens up to and with the one at the offset.
-    #[error("syntax fault in file {file} at {offset}")]
+    #[error("this token is out of place")]
     Syntax { file: usize, offset: usize },
     /// 5: the same, at a token of a form of CUE that the profile leaves out. At the first byte of the first source
     /// also where a package has a form of expression that is not taken yet.
-    #[error("left-out form in file {file} at {offset}")]
+    #[error("a form of CUE that is left out")]
     LeftOut { file: usize, offset: usize },
     /// 6: an integer at the offset that has not 64 signed bits.
-    #[error("integer out of range in file {file} at {offset}")]
+    #[error("an integer does not fit 64 signed bits")]
     IntegerRange { file: usize, offset: usize },
     /// 7: the tokens of the source nest deeper than 28, or a body in it is higher than that.
-    #[error("an expression of file {file} is too high")]
+    #[error("an expression is higher than 28")]
     TooHigh { file: usize },
     /// 8: the source is the first whose package name differs from the first one named.
-    #[error("file {file} names another package")]
+    #[error("a file names another package")]
     PackageName { file: usize },
     /// 9: the name at the offset names nothing, and is the first at fault.
-    #[error("unknown name in file {file} at {offset}")]
+    #[error("this name names nothing")]
     UnknownName { file: usize, offset: usize },
     /// 10: the name at the offset names a field, and is the first at fault.
-    #[error("reference to a field in file {file} at {offset}")]
+    #[error("this name names a field")]
     FieldReference { file: usize, offset: usize },
     /// 11: the struct literal at the offset has to end with `...`, and is the first that does not.
-    #[error("struct literal not opened in file {file} at {offset}")]
+    #[error("this struct literal has to end with `...`")]
     NotOpened { file: usize, offset: usize },
     /// 12: a cycle of definitions, by their names with `#`: each refers strongly to the next, and the last to the
     /// first. The one that is declared first stands first, and no name stands twice.
@@ -60,14 +60,14 @@ pub enum Fault {
     #[error("the schema is not JSON")]
     SchemaNotJson,
     /// 21: the keyword of that name is none of the profile.
-    #[error("unknown keyword {name} at {place}")]
+    #[error("a keyword outside the profile")]
     Keyword { place: String, name: String },
     /// 22: the value of the keyword of that name has not its shape; with the empty name, the value at the place is no
     /// schema.
-    #[error("keyword {name} at {place} has a wrong value")]
+    #[error("the value of a keyword has a wrong shape")]
     Shape { place: String, name: String },
     /// 23: a `$ref` to a definition of that name, which the schema does not have.
-    #[error("reference to {name} at {place}, which is not defined")]
+    #[error("a reference to a definition that the schema does not have")]
     Reference { place: String, name: String },
     /// 24: definitions of a schema that reach themselves: each refers directly to the next, and the last to the first.
     #[error("a definition reaches itself")]

@@ -1,9 +1,9 @@
 // From the bytes of sources to their package.
 ghost use Rattle.std.specs.Prelude.{◌≡◌, ◌≤◌, ◌↔◌, List, map, IsTrue, IfOk, IfErr, OnOk, IsOkUnless, IsUtf8};
 ghost use Rattle.std.specs.List.{AllByRecursion};
-ghost use Rattle.cs_syntax.specs.Tree.{FileTree};
-ghost use Rattle.cs_syntax.specs.View.{file_view};
-ghost use Rattle.cs_resolve.specs.Environment.{Environment};
+ghost use Rattle.cs_grammar.specs.Tree.{FileTree};
+ghost use Rattle.cs_grammar.specs.View.{file_view};
+ghost use Rattle.cs_package.specs.Environment.{Environment};
 ghost use Rattle.cs_instance.specs.Taken.{IsTakenPackage};
 ghost use Rattle.cs_tool.specs.Accepted.{most_bytes, bytes_of, AreFiles, IsAccepted, SourcesRefusal, TextsRefusal, FilesRefusal};
 

@@ -1,6 +1,6 @@
 // The forms of expression that are taken so far.
 ghost use Rattle.std.specs.Prelude.{◌↔◌, ℕ, List, map, IsTrue};
-ghost use Rattle.cs_resolve.specs.View.{expression_of};
+ghost use Rattle.cs_package.specs.View.{expression_of};
 ghost use Rattle.cs_instance.specs.Taken.{IsTaken, AllTaken, IsTakenPackage};
 
 use cs_resolve::{Package, Shape};

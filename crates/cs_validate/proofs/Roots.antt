@@ -3,8 +3,8 @@ use Rattle.std.proofs.Common.{◌≡◌, ℕ, Bool, true, false, ◌&&◌, List,
 use Rattle.std.specs.List.{list_all}
 use Rattle.std.specs.Cmp.Lexicographic.{slice_cmp}
 use Rattle.std.specs.Ordering.{nat_cmp}
-use Rattle.cs_doc.specs.Document.{Document, text, object, Members, member, Entry, entries, under, put}
-use Rattle.cs_doc.specs.View.{members_of}
+use Rattle.cs_document.specs.Document.{Document, text, object, Members, member, Entry, entries, under, put}
+use Rattle.cs_document.specs.View.{members_of}
 use Rattle.cs_schema.specs.Shapes.{dialect}
 use Rattle.cs_schema.specs.Profile.{first, fault_of, visits, named_visits, walk_fault}
 use Rattle.cs_schema.specs.Places.{at_key}

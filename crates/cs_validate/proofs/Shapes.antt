@@ -2,8 +2,8 @@
 use Rattle.std.proofs.Common.{◌≡◌, ℕ, suc, Bool, true, false, List, [], ◌∷◌, ◌++◌, Option, Some, None, codes, Box, Global, refl, sym, ap, ◌∙◌, rules}
 use Rattle.std.specs.List.{All}
 use Rattle.std.proofs.lemmas.List.Elements.{All-nil, All-cons}
-use Rattle.cs_doc.specs.Document.{Document, object}
-use Rattle.cs_doc.specs.View.{documents_of}
+use Rattle.cs_document.specs.Document.{Document, object}
+use Rattle.cs_document.specs.View.{documents_of}
 use Rattle.cs_schema.specs.Profile.{or_else, first, fault_of, visits, member_visits, keyword_visits, element_visits}
 use Rattle.cs_schema.specs.Places.{at_key, at_index}
 use Rattle.cs_schema.specs.SchemaDocument.{Slot, present, slots_of, schema_view, schemas_view, unless_no_list}

@@ -3,9 +3,9 @@ use Rattle.std.proofs.Common.{◌≡◌, ℕ, ℤ, Bool, true, false, ◌&&◌, 
 use Rattle.std.specs.Prelude.{int_le, int_lt}
 use Rattle.std.specs.List.{All, list_all}
 use Rattle.std.proofs.lemmas.List.Folds.{list_all-map}
-use Rattle.cs_doc.specs.Document.{Document, integer, text, list, object, Entry, elements, entries, document_eq}
-use Rattle.cs_doc.specs.Opened.{Opened, a_null, a_boolean, an_integer, a_text, a_list, an_object, opened}
-use Rattle.cs_doc.specs.View.{doc_view, list_view, documents_of}
+use Rattle.cs_document.specs.Document.{Document, integer, text, list, object, Entry, elements, entries, document_eq}
+use Rattle.cs_document.specs.Opened.{Opened, a_null, a_boolean, an_integer, a_text, a_list, an_object, opened}
+use Rattle.cs_document.specs.View.{doc_view, list_view, documents_of}
 use Rattle.cs_schema.specs.Shapes.{Row, row}
 use Rattle.cs_schema.specs.Asked.{assertion_at}
 use Rattle.cs_schema.specs.Validity.{is_of_kind, if_number, holds, IsValidity}

@@ -1,10 +1,10 @@
 -- What the keywords of an object assert, one by one.
 use Rattle.std.specs.Prelude.{ℕ, ℤ, int_le, int_lt, Bool, true, false, ◌&&◌, List, [], ◌∷◌, Option}
 use Rattle.std.specs.Option.{option_map_or}
-use Rattle.cs_doc.specs.Document.{Document, Entry, document_eq}
-use Rattle.cs_doc.specs.Opened.{opened}
-use Rattle.cs_doc.specs.View.{doc_view}
-use Rattle.cs_doc.specs.declared.doc.Doc.{Doc}
+use Rattle.cs_document.specs.Document.{Document, Entry, document_eq}
+use Rattle.cs_document.specs.Opened.{opened}
+use Rattle.cs_document.specs.View.{doc_view}
+use Rattle.cs_document.specs.declared.doc.Doc.{Doc}
 use Rattle.cs_schema.specs.Keywords as keyword
 use Rattle.cs_schema.specs.Keywords.{Kind, defined}
 use Rattle.cs_schema.specs.Asked.{assertion_at}

@@ -1,6 +1,6 @@
 -- Schemas without a fault of shape, wherever they stand.
 use Rattle.std.specs.Prelude.{◌≡◌, ℕ, Bool, false, List, [], ◌∷◌, None, IfSome}
-use Rattle.cs_doc.specs.Document.{Document}
+use Rattle.cs_document.specs.Document.{Document}
 use Rattle.cs_schema.specs.Profile.{first, fault_of, visits, keyword_visits}
 use Rattle.cs_schema.specs.SchemaDocument.{Slot}
 

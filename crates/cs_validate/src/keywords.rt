@@ -1,11 +1,11 @@
 // What the keywords without schemas assert of a document.
 ghost use Rattle.std.specs.Prelude.{◌≡◌, ◌&&◌};
-ghost use Rattle.cs_doc.specs.Opened.{opened};
-ghost use Rattle.cs_doc.specs.View.{doc_view};
+ghost use Rattle.cs_document.specs.Opened.{opened};
+ghost use Rattle.cs_document.specs.View.{doc_view};
 ghost use Rattle.cs_schema.specs.Validity as validity;
 ghost use Rattle.cs_validate.specs.Asserted.{kind_of, is_kind, is_const, at_least, at_most, is_limited};
 
-use cs_doc::Doc;
+use cs_document::Doc;
 use cs_schema::{JsonKind, Keywords};
 
 /// Whether what the keywords without schemas assert holds of a document.

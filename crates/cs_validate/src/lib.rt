@@ -7,6 +7,3 @@ mod validity;
 
 pub use fault::ValidateFault;
 pub use validity::is_valid;
-
-#[cfg(test)]
-mod tests;

@@ -1,8 +1,8 @@
 // Validity by the keywords of a schema.
 ghost use Rattle.std.specs.Prelude.{◌≡◌, Bool, List, IfOk, string_bytes};
 ghost use Rattle.std.specs.List.{All, list_all};
-ghost use Rattle.cs_doc.specs.Document.{Document, Entry};
-ghost use Rattle.cs_doc.specs.View.{doc_view};
+ghost use Rattle.cs_document.specs.Document.{Document, Entry};
+ghost use Rattle.cs_document.specs.View.{doc_view};
 ghost use Rattle.cs_schema.specs.Validity.{IsValidity, OneMeaning};
 ghost use Rattle.cs_schema.specs.SchemaDocument.{schema_view, slots_of, document_of, IsWhole};
 ghost use Rattle.cs_validate.specs.Shaped.{IsShaped, AreShaped};
@@ -10,7 +10,7 @@ ghost use Rattle.cs_validate.specs.Asserted.{unless_absent, slot_holds, but_refe
 
 use crate::ValidateFault;
 use crate::keywords::are_kept;
-use cs_doc::Doc;
+use cs_document::Doc;
 use cs_schema::{Keywords, Schema, SchemaDoc, one_meaning};
 use std::alloc::Global;
 

@@ -2,14 +2,13 @@
 // still stand inside one another.
 
 ghost use Rattle.std.specs.Prelude.{◌≡◌, map, length, true, false};
-ghost use Rattle.cs_syntax.specs.View.{expr_view, field_view, end_view};
+ghost use Rattle.cs_grammar.specs.View.{expr_view, field_view, end_view};
 ghost use Rattle.cs_syntax.specs.Left.{left, Reads};
 ghost use Rattle.cs_syntax.specs.Reading.{inner, field_with, fields_with, struct_with, rest_with, end_with, elements_with, list_with, operand_with, amps_with, conj_with, bars_with, expr_with};
 
-use crate::ast::{Expr, Field, ListEnd};
-use crate::fault::SyntaxFault;
-use crate::parser::kind::{Kind, kind_of};
+use crate::parser::kind::kind_of;
 use crate::parser::place::Parser;
+use cs_grammar::{Expr, Field, Kind, ListEnd, SyntaxFault};
 
 impl Parser<'_, '_> {
     // A value, which may be a field alone, or an expression, where no such short form may stand.

@@ -2,15 +2,14 @@
 
 ghost use Rattle.std.specs.Prelude.{◌≡◌, string_bytes};
 ghost use Rattle.cs_syntax.specs.Left.{left, Reads, Skips};
-ghost use Rattle.cs_syntax.specs.View.{label_of};
+ghost use Rattle.cs_grammar.specs.View.{label_of};
 ghost use Rattle.cs_syntax.specs.Reading.{begins_field, goes_on_label, another_field, another_element, opening, rest_behind, may_end, label_at, mark_at, opening_at};
 
-use crate::ast::FieldMark;
-use crate::fault::SyntaxFault;
-use crate::parser::kind::{Kind, kind_of};
+use crate::parser::kind::kind_of;
 use crate::parser::name::is_keyword;
 use crate::parser::place::{Parser, fault_of};
-use crate::parser::text::unescape;
+use cs_grammar::{FieldMark, Kind, SyntaxFault};
+use cs_lexer::unescape;
 
 impl Parser<'_, '_> {
     // Whether the next token is a label: one with a mark or a colon behind it, or a name that is

@@ -2,25 +2,24 @@
 
 ghost use Rattle.std.specs.Prelude.{◌≡◌, map, length, string_bytes, true, IfOk, IfErr, Ok};
 ghost use Rattle.std.specs.Option.{option_map};
-ghost use Rattle.cs_syntax.specs.Words.{Words};
-ghost use Rattle.cs_syntax.specs.Tree.{FileTree};
-ghost use Rattle.cs_syntax.specs.Spells.{SpellsFile};
-ghost use Rattle.cs_syntax.specs.View.{definition_view, file_view, lexemes_view, words};
+ghost use Rattle.cs_grammar.specs.Words.{Words};
+ghost use Rattle.cs_grammar.specs.Tree.{FileTree};
+ghost use Rattle.cs_grammar.specs.Spells.{SpellsFile};
+ghost use Rattle.cs_grammar.specs.View.{definition_view, file_view, lexemes_view, words};
 ghost use Rattle.cs_syntax.specs.Left.{left, Reads};
-ghost use Rattle.cs_syntax.specs.Quoted.{are_quoted};
+ghost use Rattle.cs_lexer.specs.Quoted.{are_quoted};
 ghost use Rattle.cs_syntax.specs.Reading.{Gives, definition_at, line_at, definitions_at, is_clause, clause_at, package_at, file_with, file_at};
 ghost use Rattle.cs_syntax.specs.Within.{file_within};
-ghost use Rattle.cs_syntax.specs.Answer.{Answers, IsFileRefusal, IsSpelled};
+ghost use Rattle.cs_lexer.specs.Lexed.{Answers};
+ghost use Rattle.cs_syntax.specs.Answer.{IsFileRefusal, IsSpelled};
 
-use crate::ast::{Definition, File};
-use crate::fault::SyntaxFault;
-use crate::lexer::cut::lex;
 use crate::parser::height::are_low_bodies;
-use crate::parser::kind::{Kind, kind_of};
+use crate::parser::kind::kind_of;
 use crate::parser::name::{bare_name, is_package};
 use crate::parser::nesting::{MOST_NESTED, is_too_nested};
 use crate::parser::place::{Parser, fault_of};
-use crate::token::Token;
+use cs_grammar::{Definition, File, Kind, SyntaxFault, Token};
+use cs_lexer::lex;
 use std::alloc::Global;
 
 impl Parser<'_, '_> {

@@ -1,10 +1,10 @@
 // How high expressions are.
 
 ghost use Rattle.std.specs.Prelude.{◌≡◌, map, nat_le};
-ghost use Rattle.cs_syntax.specs.View.{expr_view, exprs_view, fields_view, end_view, definition_view};
+ghost use Rattle.cs_grammar.specs.View.{expr_view, exprs_view, fields_view, end_view, definition_view};
 ghost use Rattle.cs_syntax.specs.Height.{height, heights, field_heights, end_height, definition_heights};
 
-use crate::ast::{Definition, Expr, Field, ListEnd};
+use cs_grammar::{Definition, Expr, Field, ListEnd};
 
 // Whether an expression is at most so high.
 #[cycle(height)]

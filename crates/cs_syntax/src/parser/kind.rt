@@ -1,43 +1,9 @@
 // The tokens as the grammar sees them.
 
 ghost use Rattle.std.specs.Prelude.{◌≡◌};
-ghost use Rattle.cs_syntax.specs.View.{mark_kind, kind_of};
+ghost use Rattle.cs_grammar.specs.View.{mark_kind, kind_of};
 
-use crate::token::{Sort, Token};
-
-/// What a token is for the grammar.
-#[derive(Clone, Copy, PartialEq, Eq)]
-pub(crate) enum Kind {
-    Name,
-    Definition,
-    Hidden,
-    Top,
-    Bottom,
-    Integer,
-    Text,
-    OpenStruct,
-    CloseStruct,
-    OpenList,
-    CloseList,
-    OpenParen,
-    CloseParen,
-    Comma,
-    Colon,
-    Question,
-    Bang,
-    Amp,
-    Bar,
-    Dots,
-    Less,
-    AtMost,
-    More,
-    AtLeast,
-    Unequal,
-    Minus,
-    LeftOut,
-    Inserted,
-    End,
-}
+use cs_grammar::{Kind, Sort, Token};
 
 // What a mark is for the grammar.
 fn mark_kind(text: &str) -> Kind

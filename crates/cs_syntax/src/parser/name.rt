@@ -1,8 +1,8 @@
 // Names.
 
 ghost use Rattle.std.specs.Prelude.{◌≡◌};
-ghost use Rattle.cs_syntax.specs.View.{bare_name};
-ghost use Rattle.cs_syntax.specs.Spells.{is_keyword, is_package};
+ghost use Rattle.cs_grammar.specs.View.{bare_name};
+ghost use Rattle.cs_grammar.specs.Spells.{is_keyword, is_package};
 
 // Whether a name is no operand.
 pub(crate) fn is_keyword(text: &str) -> bool

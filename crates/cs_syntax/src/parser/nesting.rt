@@ -2,12 +2,11 @@
 
 ghost use Rattle.std.specs.Prelude.{◌≡◌, ◌≤◌, nat_lt};
 ghost use Rattle.cs_syntax.specs.Nesting.{before_next, levels_next, opened, closed_by, short_colon, nesting};
-ghost use Rattle.cs_syntax.specs.View.{lexemes_view, words};
+ghost use Rattle.cs_grammar.specs.View.{lexemes_view, words};
 ghost use Rattle.cs_syntax.specs.Left.{levels_of, Steps, Tells};
 
-use crate::fault::SyntaxFault;
-use crate::parser::kind::{Kind, kind_of};
-use crate::token::Token;
+use crate::parser::kind::kind_of;
+use cs_grammar::{Kind, SyntaxFault, Token};
 use std::alloc::Global;
 
 /// How deep tokens may nest, and how high a body may be.

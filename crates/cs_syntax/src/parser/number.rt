@@ -1,14 +1,14 @@
 // Integers with their signs.
 
 ghost use Rattle.std.specs.Prelude.{◌≡◌};
-ghost use Rattle.cs_syntax.specs.Values.{integer_value};
+ghost use Rattle.cs_grammar.specs.Values.{integer_value};
 ghost use Rattle.cs_syntax.specs.Left.{left, Reads};
 ghost use Rattle.cs_syntax.specs.Reading.{number_at, signed};
 
-use crate::fault::SyntaxFault;
-use crate::lexer::numeral::integer_value;
-use crate::parser::kind::{Kind, kind_of};
+use crate::parser::kind::kind_of;
 use crate::parser::place::{Parser, fault_of};
+use cs_grammar::{Kind, SyntaxFault};
+use cs_lexer::integer_value;
 
 // The integer of that sign and size, if it has 64 signed bits.
 fn signed(minus: bool, size: u64) -> Option<i64>

@@ -2,17 +2,16 @@
 
 ghost use Rattle.std.specs.Prelude.{◌≡◌};
 ghost use Rattle.std.specs.Option.{option_map};
-ghost use Rattle.cs_syntax.specs.View.{expr_view};
-ghost use Rattle.cs_syntax.specs.Spells.{literal_of};
+ghost use Rattle.cs_grammar.specs.View.{expr_view};
+ghost use Rattle.cs_grammar.specs.Spells.{literal_of};
 ghost use Rattle.cs_syntax.specs.Left.{left, Reads};
 ghost use Rattle.cs_syntax.specs.Reading.{relation_of, bound_at, unequal_at, integer_at, plain_at};
 
-use crate::ast::{Expr, Relation};
-use crate::fault::SyntaxFault;
-use crate::parser::kind::{Kind, kind_of};
+use crate::parser::kind::kind_of;
 use crate::parser::name::{bare_name, is_keyword};
 use crate::parser::place::{Parser, fault_of};
-use crate::parser::text::unescape;
+use cs_grammar::{Expr, Kind, Relation, SyntaxFault};
+use cs_lexer::unescape;
 
 // The literal that a name is.
 fn literal_of(text: &str) -> Option<Expr>

@@ -1,14 +1,13 @@
 // A place in the tokens.
 
 ghost use Rattle.std.specs.Prelude.{◌≡◌, drop, true};
-ghost use Rattle.cs_syntax.specs.View.{lexeme_view, lexemes_view, word};
-ghost use Rattle.cs_syntax.specs.Quoted.{are_quoted};
-ghost use Rattle.cs_syntax.specs.Spells.{start_at};
+ghost use Rattle.cs_grammar.specs.View.{lexeme_view, lexemes_view, word};
+ghost use Rattle.cs_lexer.specs.Quoted.{are_quoted};
+ghost use Rattle.cs_grammar.specs.Spells.{start_at};
 ghost use Rattle.cs_syntax.specs.Reading.{is_left_out_name, fault_of, fault_at, after, expected, begins_with, behind_if, after_comma, comma_at, close_at, paren_end};
 
-use crate::fault::SyntaxFault;
-use crate::parser::kind::{Kind, kind_of};
-use crate::token::Token;
+use crate::parser::kind::kind_of;
+use cs_grammar::{Kind, SyntaxFault, Token};
 use std::alloc::Global;
 
 /// A place in the tokens.
@@ -130,12 +129,8 @@ impl<'t, 'a> Parser<'t, 'a> {
         if self.peek().is_none() {
             return false;
         }
-        let behind = Parser {
-            alloc: self.alloc,
-            tokens: self.tokens,
-            next: self.next + 1,
-        };
-        behind.is_at(wanted)
+        let behind = self.next + 1;
+        behind < self.tokens.len() && kind_of(&self.tokens[behind]) == wanted
     }
 
     // Passes over a token, where one stands and is wanted.

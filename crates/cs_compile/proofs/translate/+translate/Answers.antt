@@ -4,12 +4,12 @@ use Rattle.std.proofs.lemmas.Grind.{common_steps}
 use Rattle.std.proofs.lemmas.List.{take_all}
 use Rattle.std.specs.Result.{IfOk}
 use mir.Val.{to_z, of_z}
-use Rattle.cs_doc.specs.Document.{integer, text, object, member, no_members}
-use Rattle.cs_doc.specs.View.{documents_of}
-use Rattle.cs_doc.proofs.Views.{view-Int}
-use Rattle.cs_resolve.specs.Expression as cue
-use Rattle.cs_resolve.specs.View.{expression_of, expressions_of, kind_of}
-use Rattle.cs_resolve.specs.declared.shape.Shape.{the_lemmas}
+use Rattle.cs_document.specs.Document.{integer, text, object, member, no_members}
+use Rattle.cs_document.specs.View.{documents_of}
+use Rattle.cs_document.proofs.Views.{view-Int}
+use Rattle.cs_package.specs.Expression as cue
+use Rattle.cs_package.specs.View.{expression_of, expressions_of, kind_of}
+use Rattle.cs_package.specs.declared.shape.Shape.{the_lemmas}
 use Rattle.cs_instance.specs.Taken.{AllTaken}
 use Rattle.cs_instance.proofs.Taken.{and-taken, taken-at}
 use Rattle.cs_schema.specs.SchemaDocument.{schema_view, schemas_view, kind_name, unless_no_list}

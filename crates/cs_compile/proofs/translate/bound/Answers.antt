@@ -1,7 +1,7 @@
 use Rattle.std.specs.Prelude.{codes}
 use Rattle.std.proofs.Common.{◌≡◌, w64, ap, rules}
 use mir.Val.{to_z, of_z}
-use Rattle.cs_doc.specs.Document.{integer, member}
+use Rattle.cs_document.specs.Document.{integer, member}
 use Rattle.cs_compile.specs.Translation.{of_type}
 use Rattle.cs_compile.proofs.Slots.{made_of_two}
 use Rattle.cs_compile.proofs.translate.bound.Goals as goal

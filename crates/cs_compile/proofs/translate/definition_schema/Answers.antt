@@ -1,8 +1,8 @@
 use Rattle.std.proofs.Common.{◌≡◌, ℕ, ◌<◌, ◌≤◌, List, [], ◌∷◌, map, length, get_or, refl, sym, ap, arith}
 use Rattle.std.specs.Prelude.{◌≢◌}
-use Rattle.cs_doc.specs.Document.{object}
-use Rattle.cs_resolve.specs.View.{expression_of}
-use Rattle.cs_resolve.specs.declared.shape.Shape.{Shape}
+use Rattle.cs_document.specs.Document.{object}
+use Rattle.cs_package.specs.View.{expression_of}
+use Rattle.cs_package.specs.declared.shape.Shape.{Shape}
 use Rattle.cs_compile.specs.Translation.{schema_of, definition_schema, all_of, body_schemas}
 use Rattle.cs_compile.proofs.translate.definition_schema.Goals as goal
 

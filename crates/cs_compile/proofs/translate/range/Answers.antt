@@ -1,7 +1,7 @@
 use Rattle.std.specs.Prelude.{codes}
 use Rattle.std.proofs.Common.{◌≡◌, w64, ap, ap₂, rules}
 use mir.Val.{to_z, of_z}
-use Rattle.cs_doc.specs.Document.{integer, member}
+use Rattle.cs_document.specs.Document.{integer, member}
 use Rattle.cs_compile.specs.Translation.{from_least}
 use Rattle.cs_compile.proofs.Slots.{made_of_two, made_of_three}
 use Rattle.cs_compile.proofs.translate.range.Goals as goal

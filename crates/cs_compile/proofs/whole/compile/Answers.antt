@@ -1,5 +1,5 @@
 use Rattle.std.proofs.Common.{◌≡◌, IfSome, sym, subst}
-use Rattle.cs_resolve.specs.Environment.{Names, IsDefinitionName}
+use Rattle.cs_package.specs.Environment.{Names, IsDefinitionName}
 use Rattle.cs_instance.specs.Taken.{IsTakenPackage}
 use Rattle.cs_schema.specs.SchemaDocument.{schema_view}
 use Rattle.cs_compile.specs.Whole.{Compiles, reference_to}

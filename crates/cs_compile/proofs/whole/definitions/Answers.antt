@@ -1,8 +1,8 @@
 use Rattle.std.proofs.Common.{◌≡◌, ◌<◌, length, map, Some, IfSome, string_bytes, sym, ap, ap₂, ◌∙◌, subst, arith}
-use Rattle.cs_doc.specs.Document.{entries, under, put}
-use Rattle.cs_doc.specs.View.{members_of}
-use Rattle.cs_resolve.specs.Environment.{bodies, declared_names, bodies_at, written}
-use Rattle.cs_resolve.specs.View.{expression_of}
+use Rattle.cs_document.specs.Document.{entries, under, put}
+use Rattle.cs_document.specs.View.{members_of}
+use Rattle.cs_package.specs.Environment.{bodies, declared_names, bodies_at, written}
+use Rattle.cs_package.specs.View.{expression_of}
 use Rattle.cs_instance.proofs.Taken.{bodies-taken}
 use Rattle.cs_schema.specs.SchemaDocument.{definitions_view}
 use Rattle.cs_compile.specs.Translation.{definition_schema, bare_name}

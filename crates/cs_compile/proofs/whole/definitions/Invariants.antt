@@ -1,6 +1,6 @@
 use Rattle.std.proofs.Common.{◌≡◌, ℕ, List}
-use Rattle.cs_doc.specs.Document.{under}
-use Rattle.cs_doc.specs.View.{members_of}
+use Rattle.cs_document.specs.Document.{under}
+use Rattle.cs_document.specs.View.{members_of}
 use Rattle.cs_schema.specs.SchemaDocument.{definitions_view}
 use Rattle.cs_compile.specs.Whole.{definition_entries, AreDefinitions}
 use Rattle.cs_compile.proofs.Names.{first_schemas}

@@ -3,10 +3,10 @@ use Rattle.std.specs.BTreeMap.{IsOrdered}
 use Rattle.std.specs.String.{string_cmp}
 use Rattle.serde_json.specs.View.{items_view, members_view}
 use Rattle.serde_json.specs.declared.value.Value.{Value}
-use Rattle.cs_doc.specs.Document.{AreDocuments}
+use Rattle.cs_document.specs.Document.{AreDocuments}
 use Rattle.cs_doc.specs.Texts.{documents_of, members_of}
-use Rattle.cs_doc.specs.View.{list_view}
-use Rattle.cs_doc.proofs.Maps.{texts}
+use Rattle.cs_document.specs.View.{list_view}
+use Rattle.cs_document.proofs.Maps.{texts}
 use Rattle.cs_doc.proofs.Documents.{documents_before, members_before, ValuesFit}
 use Rattle.cs_doc.proofs.read.+read.Given as goal
 

@@ -3,11 +3,12 @@ use Rattle.std.proofs.lemmas.List.{take_all}
 use Rattle.std.specs.List.Sorted.{IsStrictlySortedBy}
 use Rattle.std.specs.Map.{keys_of}
 use Rattle.serde_json.specs.View.{view, members_view}
-use Rattle.cs_doc.specs.Document.{AreDocuments}
+use Rattle.cs_document.specs.Document.{AreDocuments}
 use Rattle.cs_doc.specs.Texts.{data_of}
-use Rattle.cs_doc.specs.View.{doc_view, list_view}
-use Rattle.cs_doc.proofs.Maps.{texts, insert_last, texts_more, take_at, map_more}
-use Rattle.cs_doc.proofs.Documents.{Entry, ValuesFit, ValuesFit-push, AreDocuments-push, AreMembers-of_sorted, items_view-list, members_view-push}
+use Rattle.cs_document.specs.View.{doc_view, list_view}
+use Rattle.cs_document.proofs.Maps.{texts, insert_last, texts_more, take_at, map_more}
+use Rattle.cs_document.proofs.Entries.{Entry}
+use Rattle.cs_doc.proofs.Documents.{ValuesFit, ValuesFit-push, AreDocuments-push, AreMembers-of_sorted, items_view-list, members_view-push}
 use Rattle.cs_doc.proofs.write.+write.Goals as goal
 
 pub map_of-loop-key-preserved : goal.map_of-loop-key-preserved

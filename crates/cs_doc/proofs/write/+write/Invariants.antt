@@ -1,10 +1,11 @@
 use Rattle.std.proofs.Common.{◌≡◌, List, ◌++◌, take, map}
 use Rattle.serde_json.specs.View.{view, members_view}
-use Rattle.cs_doc.specs.Document.{AreDocuments}
+use Rattle.cs_document.specs.Document.{AreDocuments}
 use Rattle.cs_doc.specs.Texts.{data_of, values_of}
-use Rattle.cs_doc.specs.View.{doc_view, list_view, object_view}
-use Rattle.cs_doc.proofs.Maps.{texts}
-use Rattle.cs_doc.proofs.Documents.{Entry, ValuesFit}
+use Rattle.cs_document.specs.View.{doc_view, list_view, object_view}
+use Rattle.cs_document.proofs.Maps.{texts}
+use Rattle.cs_document.proofs.Entries.{Entry}
+use Rattle.cs_doc.proofs.Documents.{ValuesFit}
 use Rattle.cs_doc.proofs.write.+write.Given as goal
 
 abbrev pub invariant-values_of-loop-item : goal.invariant-values_of-loop-item

@@ -4,7 +4,7 @@ use Rattle.serde_json.specs.Data as value
 use Rattle.serde_json.specs.Read.{max_depth}
 use Rattle.serde_json.specs.Written.{compact_text, has_float}
 use Rattle.cs_doc.specs.Texts.{document_of}
-use Rattle.cs_doc.specs.View.{doc_view}
+use Rattle.cs_document.specs.View.{doc_view}
 use Rattle.cs_doc.proofs.Documents.{has_float-data_of, depth-data_of, document_of-data_of}
 use Rattle.cs_doc.proofs.write.write_doc.Goals as goal
 

@@ -1,6 +1,6 @@
 use Rattle.std.proofs.Common.{Err, map, get_or, sym, ◌∙◌, subst}
 use Rattle.std.proofs.lemmas.Simd.{map-map}
-use Rattle.cs_resolve.specs.Environment.{written}
+use Rattle.cs_package.specs.Environment.{written}
 use Rattle.cs_guard.specs.Graph.{graph_of, IsLowestCycle}
 use Rattle.cs_guard.specs.Numbered.{IsGraphOf, name_of}
 use Rattle.cs_guard.specs.Walk.{Answers}

@@ -1,6 +1,6 @@
 use Rattle.std.proofs.Common.{◌≡◌, ℕ, ◌+◌, ◌<◌, List, ◌++◌, [], ◌∷◌, map, length, take, get_or, string_bytes, String, Global, Option, IfSome, sym, ap, ap₂, ◌∙◌, subst}
 use Rattle.std.proofs.lemmas.List.{map-append, take_more}
-use Rattle.cs_resolve.specs.Environment.{Environment, written}
+use Rattle.cs_package.specs.Environment.{Environment, written}
 use Rattle.cs_guard.specs.Numbered.{name_of}
 use Rattle.cs_guard.proofs.Numbers.{name_within}
 use Rattle.cs_guard.proofs.guarded.names_of.Goals as goal

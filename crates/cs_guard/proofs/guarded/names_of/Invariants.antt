@@ -1,5 +1,5 @@
 use Rattle.std.proofs.Common.{◌≡◌, map, take, string_bytes}
-use Rattle.cs_resolve.specs.Environment.{written}
+use Rattle.cs_package.specs.Environment.{written}
 use Rattle.cs_guard.specs.Numbered.{name_of}
 use Rattle.cs_guard.proofs.guarded.names_of.Given as goal
 

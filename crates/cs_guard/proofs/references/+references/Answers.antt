@@ -1,8 +1,8 @@
 use Rattle.std.proofs.Common.{ℕ, List, inl, inr, map, subst, arith}
 use Rattle.std.specs.List.{list_all}
 use Rattle.std.proofs.lemmas.List.{take_all}
-use Rattle.cs_resolve.specs.View.{expression_of, part_of, expressions_of, declarations_of, is_known, is_known_part}
-use Rattle.cs_resolve.specs.declared.shape.Part.{Part}
+use Rattle.cs_package.specs.View.{expression_of, part_of, expressions_of, declarations_of, is_known, is_known_part}
+use Rattle.cs_package.specs.declared.shape.Part.{Part}
 use Rattle.cs_guard.specs.References.{strong, strong_all, strong_under, if_asked}
 use Rattle.cs_guard.specs.Pushed.{Pushed}
 use Rattle.cs_guard.proofs.Pushes.{PushedAll, on_ok, pushed_next, strong_join, parts_join, pushed_And, pushed_Or, pushed_List, pushed_Struct}

@@ -1,6 +1,6 @@
 use Rattle.std.proofs.Common.{map, take}
 use Rattle.std.specs.List.{list_all}
-use Rattle.cs_resolve.specs.View.{expression_of, part_of, expressions_of, declarations_of, is_known, is_known_part}
+use Rattle.cs_package.specs.View.{expression_of, part_of, expressions_of, declarations_of, is_known, is_known_part}
 use Rattle.cs_guard.specs.References.{strong_all, strong_under}
 use Rattle.cs_guard.specs.Pushed.{Pushed}
 use Rattle.cs_guard.proofs.references.+references.Given as goal

@@ -1,8 +1,8 @@
 use Rattle.std.proofs.Common.{map, sym, ap, ◌∙◌, subst, rules}
 use Rattle.std.specs.List.{list_all}
-use Rattle.cs_doc.specs.View.{doc_view}
-use Rattle.cs_resolve.specs.View.{expression_of}
-use Rattle.cs_resolve.specs.declared.shape.Shape.{the_lemmas}
+use Rattle.cs_document.specs.View.{doc_view}
+use Rattle.cs_package.specs.View.{expression_of}
+use Rattle.cs_package.specs.declared.shape.Shape.{the_lemmas}
 use Rattle.cs_instance.specs.Taken.{AllTaken}
 use Rattle.cs_instance.proofs.Shapes.{and-admits, admitted, all-next, all-stops, all-past}
 use Rattle.cs_instance.proofs.Taken.{and-taken, taken-at}

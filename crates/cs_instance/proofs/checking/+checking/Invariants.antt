@@ -1,9 +1,9 @@
 use Rattle.std.proofs.Common.{◌≡◌, ℕ, Bool, List, drop}
 use Rattle.std.specs.List.{list_all}
-use Rattle.cs_doc.specs.Document.{Document}
-use Rattle.cs_doc.specs.View.{doc_view}
-use Rattle.cs_resolve.specs.Environment.{Environment}
-use Rattle.cs_resolve.specs.View.{expression_of}
+use Rattle.cs_document.specs.Document.{Document}
+use Rattle.cs_document.specs.View.{doc_view}
+use Rattle.cs_package.specs.Environment.{Environment}
+use Rattle.cs_package.specs.View.{expression_of}
 use Rattle.cs_instance.specs.Instance.{Rule, node, IsInstance}
 use Rattle.cs_instance.proofs.checking.+checking.Given as goal
 

@@ -1,7 +1,7 @@
 use Rattle.std.proofs.Common.{◌≡◌, ℕ, Bool, List, sym, ◌∙◌, subst}
-use Rattle.cs_doc.specs.Document.{Document}
-use Rattle.cs_doc.specs.View.{doc_view}
-use Rattle.cs_resolve.specs.Environment.{Environment, declared_names, Names}
+use Rattle.cs_document.specs.Document.{Document}
+use Rattle.cs_document.specs.View.{doc_view}
+use Rattle.cs_package.specs.Environment.{Environment, declared_names, Names}
 use Rattle.cs_instance.specs.Instance.{Rule, definition, IsInstance}
 use Rattle.cs_instance.specs.Taken.{IsTakenPackage}
 use Rattle.cs_instance.proofs.Meaning as meaning

@@ -1,6 +1,6 @@
 use Rattle.std.proofs.Common.{◌≡◌, drop}
 use Rattle.cs_resolve.specs.Opening as Opening
-use Rattle.cs_syntax.specs.View.{exprs_view}
+use Rattle.cs_grammar.specs.View.{exprs_view}
 use Rattle.cs_resolve.proofs.opening.+holds.Given as goal
 
 abbrev pub invariant-holds_some-loop-operand : goal.invariant-holds_some-loop-operand

@@ -1,8 +1,8 @@
 use Rattle.std.proofs.Common.{◌≡◌, ℕ, Bool, ◌||◌, List, [], ◌∷◌, ◌++◌, map, refl, sym, ap, ap₂, ◌∙◌, subst, string_bytes}
 use Rattle.std.proofs.lemmas.Result.{err_from_is_err_and}
-use Rattle.cs_syntax.specs.View.{expr_view, exprs_view, fields_view, field_view, end_view}
-use Rattle.cs_syntax.specs.declared.ast.Expr.{Expr}
-use Rattle.cs_syntax.specs.declared.ast.Field.{Field}
+use Rattle.cs_grammar.specs.View.{expr_view, exprs_view, fields_view, field_view, end_view}
+use Rattle.cs_grammar.specs.declared.ast.Expr.{Expr}
+use Rattle.cs_grammar.specs.declared.ast.Field.{Field}
 use Rattle.cs_resolve.specs.Opening.{Named, asks, values, named_fields, at_fault, unopened, unopened_all, unopened_in, unopened_end}
 use Rattle.cs_resolve.specs.Checks.{Checks, Repeats}
 use Rattle.cs_resolve.specs.declared.fault.ResolveFault.TheVariants.{NotOpened}

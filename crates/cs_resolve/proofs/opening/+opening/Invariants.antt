@@ -1,6 +1,6 @@
 use Rattle.std.proofs.Common.{◌≡◌, drop}
 use Rattle.cs_resolve.specs.Opening.{unopened_all, unopened_in, named_fields}
-use Rattle.cs_syntax.specs.View.{exprs_view, fields_view}
+use Rattle.cs_grammar.specs.View.{exprs_view, fields_view}
 use Rattle.cs_resolve.proofs.opening.+opening.Given as goal
 
 abbrev pub invariant-check_all-loop-operand : goal.invariant-check_all-loop-operand

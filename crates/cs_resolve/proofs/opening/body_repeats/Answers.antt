@@ -1,7 +1,7 @@
 use Rattle.std.proofs.Common.{take, map, sym, subst}
 use Rattle.std.specs.List.{flat_map}
-use Rattle.cs_syntax.specs.Tree.{definitions}
-use Rattle.cs_syntax.specs.View.{file_view}
+use Rattle.cs_grammar.specs.Tree.{definitions}
+use Rattle.cs_grammar.specs.View.{file_view}
 use Rattle.cs_resolve.specs.Opening.{named_bodies}
 use Rattle.cs_resolve.specs.Checks.{Repeats}
 use Rattle.cs_resolve.proofs.Trees.{files_more}

@@ -2,8 +2,8 @@ use Rattle.std.proofs.Common.{take, map}
 use Rattle.std.specs.List.{flat_map}
 use Rattle.cs_resolve.specs.Opening.{named_bodies}
 use Rattle.cs_resolve.specs.Checks.{Repeats}
-use Rattle.cs_syntax.specs.Tree.{definitions}
-use Rattle.cs_syntax.specs.View.{file_view}
+use Rattle.cs_grammar.specs.Tree.{definitions}
+use Rattle.cs_grammar.specs.View.{file_view}
 use Rattle.cs_resolve.proofs.opening.body_repeats.Given as goal
 
 abbrev pub invariant-loop-file : goal.invariant-loop-file

@@ -1,7 +1,7 @@
 use Rattle.std.proofs.Common.{◌≡◌, ℕ, List, ◌∷◌, ◌++◌, map, refl, ap, ◌∙◌}
 use Rattle.std.proofs.lemmas.Result.{err_from_is_err_and}
-use Rattle.cs_syntax.specs.View.{expr_view, definition_view}
-use Rattle.cs_syntax.specs.declared.ast.Definition.{Definition}
+use Rattle.cs_grammar.specs.View.{expr_view, definition_view}
+use Rattle.cs_grammar.specs.declared.ast.Definition.{Definition}
 use Rattle.cs_resolve.specs.Opening.{Named, asks, values, unopened, unopened_definitions}
 use Rattle.cs_resolve.specs.declared.fault.ResolveFault.TheVariants.{NotOpened}
 use Rattle.cs_resolve.proofs.Refusals.{same_first, first_here}

@@ -1,7 +1,7 @@
 use Rattle.std.proofs.Common.{◌≡◌, List, drop, map}
 use Rattle.cs_resolve.specs.Opening.{Named, unopened_definitions}
 use Rattle.cs_resolve.specs.Checks.{Repeats}
-use Rattle.cs_syntax.specs.View.{definition_view}
+use Rattle.cs_grammar.specs.View.{definition_view}
 use Rattle.cs_resolve.proofs.opening.check_definitions.Given as goal
 
 abbrev pub invariant-loop-definition : goal.invariant-loop-definition

@@ -1,9 +1,9 @@
 use Rattle.std.proofs.Common.{◌≡◌, ℕ, ◌+◌, ◌<◌, List, ◌++◌, map, drop, length, get_or, sym, ap, ◌∙◌, subst, add-one}
 use Rattle.std.proofs.lemmas.Result.{err_from_is_err_and}
 use Rattle.std.specs.List.{flat_map}
-use Rattle.cs_syntax.specs.Tree.{definitions}
-use Rattle.cs_syntax.specs.View.{definition_view, file_view}
-use Rattle.cs_syntax.specs.declared.ast.File.{File}
+use Rattle.cs_grammar.specs.Tree.{definitions}
+use Rattle.cs_grammar.specs.View.{definition_view, file_view}
+use Rattle.cs_grammar.specs.declared.ast.File.{File}
 use Rattle.cs_resolve.specs.Opening.{Named, named_bodies, unopened_definitions, unopened_from}
 use Rattle.cs_resolve.specs.Checks.{Repeats}
 use Rattle.cs_resolve.specs.declared.fault.ResolveFault.TheVariants.{NotOpened}

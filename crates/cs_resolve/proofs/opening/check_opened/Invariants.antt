@@ -1,8 +1,8 @@
 use Rattle.std.proofs.Common.{◌≡◌, drop, map}
 use Rattle.std.specs.List.{flat_map}
 use Rattle.cs_resolve.specs.Opening.{named_bodies, unopened_from}
-use Rattle.cs_syntax.specs.Tree.{definitions}
-use Rattle.cs_syntax.specs.View.{file_view}
+use Rattle.cs_grammar.specs.Tree.{definitions}
+use Rattle.cs_grammar.specs.View.{file_view}
 use Rattle.cs_resolve.proofs.opening.check_opened.Given as goal
 
 abbrev pub invariant-loop-number : goal.invariant-loop-number

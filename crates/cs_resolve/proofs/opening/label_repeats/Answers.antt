@@ -1,5 +1,5 @@
 use Rattle.std.proofs.Common.{take, sym, subst}
-use Rattle.cs_syntax.specs.View.{fields_view}
+use Rattle.cs_grammar.specs.View.{fields_view}
 use Rattle.cs_resolve.specs.Opening.{named_fields}
 use Rattle.cs_resolve.specs.Checks.{Repeats}
 use Rattle.cs_resolve.proofs.Trees.{named_more}

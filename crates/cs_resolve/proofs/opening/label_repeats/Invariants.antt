@@ -1,7 +1,7 @@
 use Rattle.std.proofs.Common.{take}
 use Rattle.cs_resolve.specs.Opening.{named_fields}
 use Rattle.cs_resolve.specs.Checks.{Repeats}
-use Rattle.cs_syntax.specs.View.{fields_view}
+use Rattle.cs_grammar.specs.View.{fields_view}
 use Rattle.cs_resolve.proofs.opening.label_repeats.Given as goal
 
 abbrev pub invariant-loop-field : goal.invariant-loop-field

@@ -3,7 +3,7 @@ use Rattle.std.proofs.lemmas.Map.Text.{hash_map_updates_str}
 use Rattle.std.specs.Map.{update}
 use Rattle.std.specs.Str.{bytes_eq}
 use Rattle.std.specs.HashMap.{get_by}
-use Rattle.cs_syntax.specs.View.{expr_view}
+use Rattle.cs_grammar.specs.View.{expr_view}
 use Rattle.cs_resolve.proofs.RepeatTables.{noted}
 use Rattle.cs_resolve.proofs.opening.note.Goals as goal
 

@@ -1,5 +1,5 @@
 use Rattle.std.proofs.Common.{◌++◌, take, map, sym, subst}
-use Rattle.cs_syntax.specs.View.{definition_view}
+use Rattle.cs_grammar.specs.View.{definition_view}
 use Rattle.cs_resolve.specs.Opening.{named_bodies}
 use Rattle.cs_resolve.specs.Checks.{Repeats}
 use Rattle.cs_resolve.proofs.Trees.{bodies_more}

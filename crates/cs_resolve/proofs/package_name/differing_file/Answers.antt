@@ -4,7 +4,7 @@ use Rattle.std.specs.Option.{option_and_then}
 use Rattle.std.proofs.lemmas.Iterator.{YieldsList-from_slice}
 use Rattle.std.proofs.lemmas.Iterator.Search.{position_from_yields_List}
 use Rattle.std.proofs.lemmas.List.{length-map}
-use Rattle.cs_syntax.specs.View.{file_view}
+use Rattle.cs_grammar.specs.View.{file_view}
 use Rattle.cs_resolve.specs.PackageName.{names_other}
 use Rattle.cs_resolve.proofs.package_name.differing_file.Goals as goal
 

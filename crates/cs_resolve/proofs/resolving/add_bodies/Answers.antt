@@ -1,13 +1,13 @@
 use Rattle.std.proofs.Common.{◌≡◌, ℕ, List, [], ◌∷◌, ◌++◌, map, take, refl, sym, ap, ◌∙◌, subst}
 use Rattle.std.proofs.lemmas.List.{append_assoc, append-nil, drop_all, take_all}
 use Rattle.std.proofs.lemmas.Result.{err_from_is_err_and}
-use Rattle.cs_syntax.specs.Tree.{definition}
-use Rattle.cs_syntax.specs.View.{definition_view, expr_view}
-use Rattle.cs_syntax.specs.declared.ast.Definition.{Definition}
+use Rattle.cs_grammar.specs.Tree.{definition}
+use Rattle.cs_grammar.specs.View.{definition_view, expr_view}
+use Rattle.cs_grammar.specs.declared.ast.Definition.{Definition}
 use Rattle.cs_resolve.specs.Declarations.{places_of}
 use Rattle.cs_resolve.specs.Scopes.{places, NameFault}
 use Rattle.cs_resolve.specs.Steps.{faults_in, AreBodiesOf}
-use Rattle.cs_resolve.specs.View.{names_of}
+use Rattle.cs_package.specs.View.{names_of}
 use Rattle.cs_resolve.proofs.Faults.{faults_in-append, refusal-at, refusal-same}
 use Rattle.cs_resolve.proofs.Refusals.{none_more}
 use Rattle.cs_resolve.proofs.Trees.{map_more}

@@ -1,9 +1,9 @@
 use Rattle.std.proofs.Common.{◌≡◌, List, ◌++◌, map, take, drop, length}
-use Rattle.cs_syntax.specs.Tree.{DefinitionTree}
-use Rattle.cs_syntax.specs.View.{definition_view}
+use Rattle.cs_grammar.specs.Tree.{DefinitionTree}
+use Rattle.cs_grammar.specs.View.{definition_view}
 use Rattle.cs_resolve.specs.Declarations.{places_of}
 use Rattle.cs_resolve.specs.Steps.{faults_in, AreBodiesOf}
-use Rattle.cs_resolve.specs.View.{names_of}
+use Rattle.cs_package.specs.View.{names_of}
 use Rattle.cs_resolve.proofs.resolving.add_bodies.Given as goal
 
 abbrev pub invariant-loop-definition : goal.invariant-loop-definition

@@ -1,7 +1,7 @@
 use Rattle.std.proofs.Common.{length, is_some, refl, sym, ap, ◌∙◌, arith}
 use Rattle.std.proofs.lemmas.Option.{slice_get_read}
-use Rattle.cs_resolve.specs.View.{names_of}
-use Rattle.cs_resolve.proofs.Environments.{place}
+use Rattle.cs_package.specs.View.{names_of}
+use Rattle.cs_package.proofs.Environments.{place}
 use Rattle.cs_resolve.proofs.Gathered.{bodies-added, bodies-kept, other_names}
 use Rattle.cs_resolve.proofs.resolving.add_body.Goals as goal
 

@@ -1,13 +1,13 @@
 use Rattle.std.proofs.Common.{◌≡◌, ℕ, ◌+◌, ◌<◌, List, [], ◌∷◌, ◌++◌, map, length, take, get_or, string_bytes, sym, ap, ap₂, ◌∙◌, subst}
 use Rattle.std.specs.List.{All}
 use Rattle.std.proofs.lemmas.List.{append_assoc, map-append}
-use Rattle.cs_syntax.specs.Tree.{DefinitionTree, defined_name}
-use Rattle.cs_syntax.specs.View.{definition_view}
-use Rattle.cs_syntax.specs.declared.ast.Definition.{Definition}
+use Rattle.cs_grammar.specs.Tree.{DefinitionTree, defined_name}
+use Rattle.cs_grammar.specs.View.{definition_view}
+use Rattle.cs_grammar.specs.declared.ast.Definition.{Definition}
 use Rattle.cs_resolve.specs.Declarations.{distinct}
-use Rattle.cs_resolve.specs.Environment.{IsDefinitionName}
-use Rattle.cs_resolve.specs.View.{names_of}
-use Rattle.cs_resolve.proofs.Environments.{table-insert}
+use Rattle.cs_package.specs.Environment.{IsDefinitionName}
+use Rattle.cs_package.specs.View.{names_of}
+use Rattle.cs_package.proofs.Environments.{table-insert}
 use Rattle.cs_resolve.proofs.Order.{put, put_there, names_insert, distinct_push}
 use Rattle.cs_resolve.proofs.Trees.{map_more, mapped_at}
 use Rattle.cs_resolve.proofs.resolving.add_names.Goals as goal

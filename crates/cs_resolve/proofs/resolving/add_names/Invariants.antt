@@ -1,8 +1,8 @@
 use Rattle.std.proofs.Common.{◌≡◌, ℕ, List, ◌++◌, map, take}
-use Rattle.cs_syntax.specs.Tree.{defined_name}
-use Rattle.cs_syntax.specs.View.{definition_view}
+use Rattle.cs_grammar.specs.Tree.{defined_name}
+use Rattle.cs_grammar.specs.View.{definition_view}
 use Rattle.cs_resolve.specs.Declarations.{distinct}
-use Rattle.cs_resolve.specs.View.{names_of, IsTable}
+use Rattle.cs_package.specs.View.{names_of, IsTable}
 use Rattle.cs_resolve.proofs.resolving.add_names.Given as goal
 
 abbrev pub invariant-loop-definition : goal.invariant-loop-definition

@@ -2,11 +2,11 @@ use Rattle.std.proofs.Common.{◌≡◌, ◌+◌, ◌++◌, map, take, drop, len
 use Rattle.std.specs.List.{flat_map}
 use Rattle.std.proofs.lemmas.List.{drop_all, take_all}
 use Rattle.std.proofs.lemmas.Result.{err_from_is_err_and}
-use Rattle.cs_syntax.specs.Tree.{definitions}
-use Rattle.cs_syntax.specs.View.{definition_view, file_view}
+use Rattle.cs_grammar.specs.Tree.{definitions}
+use Rattle.cs_grammar.specs.View.{definition_view, file_view}
 use Rattle.cs_resolve.specs.Declarations.{faults_from, places_of}
 use Rattle.cs_resolve.specs.Steps.{faults_in, AreBodiesOf}
-use Rattle.cs_resolve.specs.View.{names_of}
+use Rattle.cs_package.specs.View.{names_of}
 use Rattle.cs_resolve.proofs.Faults.{faults-cut, refusal-first, refusal-same}
 use Rattle.cs_resolve.proofs.Gathered.{bodies-none, length-names}
 use Rattle.cs_resolve.proofs.Trees.{definitions_more}

@@ -1,10 +1,10 @@
 use Rattle.std.proofs.Common.{◌≡◌, map, take, drop, length}
 use Rattle.std.specs.List.{flat_map}
-use Rattle.cs_syntax.specs.Tree.{definitions}
-use Rattle.cs_syntax.specs.View.{file_view}
+use Rattle.cs_grammar.specs.Tree.{definitions}
+use Rattle.cs_grammar.specs.View.{file_view}
 use Rattle.cs_resolve.specs.Declarations.{faults_from}
 use Rattle.cs_resolve.specs.Steps.{AreBodiesOf}
-use Rattle.cs_resolve.specs.View.{names_of}
+use Rattle.cs_package.specs.View.{names_of}
 use Rattle.cs_resolve.proofs.resolving.declared_bodies.Given as goal
 
 abbrev pub invariant-loop-number : goal.invariant-loop-number

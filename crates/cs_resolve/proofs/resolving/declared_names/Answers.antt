@@ -1,13 +1,13 @@
 use Rattle.std.proofs.Common.{ℕ, List, map, take, sym, ap, ◌∙◌, subst}
 use Rattle.std.specs.List.{flat_map}
 use Rattle.std.proofs.lemmas.List.{map-append}
-use Rattle.cs_syntax.specs.Answer.{IsSpelled}
-use Rattle.cs_syntax.specs.Tree.{FileTree, defined_name, definitions}
-use Rattle.cs_syntax.specs.View.{definition_view, file_view}
+use Rattle.cs_grammar.specs.Source.{IsSpelledBy}
+use Rattle.cs_grammar.specs.Tree.{FileTree, defined_name, definitions}
+use Rattle.cs_grammar.specs.View.{definition_view, file_view}
 use Rattle.cs_resolve.specs.Declarations.{distinct}
 use Rattle.cs_resolve.specs.Resolved.{AreSpelled}
-use Rattle.cs_resolve.specs.View.{names_of}
-use Rattle.cs_resolve.proofs.Environments.{table-empty}
+use Rattle.cs_package.specs.View.{names_of}
+use Rattle.cs_package.proofs.Environments.{table-empty}
 use Rattle.cs_resolve.proofs.Spellings.{names-spelled}
 use Rattle.cs_resolve.proofs.Trees.{definitions_more, mapped_at}
 use Rattle.cs_resolve.proofs.resolving.declared_names.Goals as goal
@@ -23,7 +23,7 @@ add_names-requires-clause-spelled c =
     let fs = c.deref-file-items.result.now in
     let f = c.file-item.result in
     let all = subst (λ gs. AreSpelled (map file_view gs)) (sym c.deref-file-items.ensures.value) c.requires in
-    let one = mapped_at (λ (g : FileTree). (t : List ℕ) × IsSpelled t g) file_view fs c.loop-file.file-index f c.loop-file-test.true c.file-item.is all in
+    let one = mapped_at (λ (g : FileTree). (t : List ℕ) × IsSpelledBy t g) file_view fs c.loop-file.file-index f c.loop-file-test.true c.file-item.is all in
     names-spelled one.0 (file_view f) one.1
 
 pub loop-file-preserved : goal.loop-file-preserved

@@ -1,9 +1,9 @@
 use Rattle.std.proofs.Common.{◌≡◌, map, take}
 use Rattle.std.specs.List.{flat_map}
-use Rattle.cs_syntax.specs.Tree.{definitions}
-use Rattle.cs_syntax.specs.View.{file_view}
+use Rattle.cs_grammar.specs.Tree.{definitions}
+use Rattle.cs_grammar.specs.View.{file_view}
 use Rattle.cs_resolve.specs.Declarations.{names}
-use Rattle.cs_resolve.specs.View.{names_of, IsTable}
+use Rattle.cs_package.specs.View.{names_of, IsTable}
 use Rattle.cs_resolve.proofs.resolving.declared_names.Given as goal
 
 abbrev pub invariant-loop-file : goal.invariant-loop-file

@@ -1,14 +1,14 @@
 use Rattle.std.proofs.Common.{◌≡◌, ◌<◌, ◌≤◌, ◌↔◌, Bool, true, false, List, map, length, Some, None, IsTrue, String, Global, sym, ap, ◌∙◌, subst, arith}
 use Rattle.std.specs.List.{AllByRecursion, flat_map, list_all}
 use Rattle.std.proofs.lemmas.Result.{err_from_is_err_and}
-use Rattle.cs_syntax.specs.Tree.{FileTree, definitions}
-use Rattle.cs_syntax.specs.View.{file_view}
+use Rattle.cs_grammar.specs.Tree.{FileTree, definitions}
+use Rattle.cs_grammar.specs.View.{file_view}
 use Rattle.cs_resolve.specs.Declarations.{names, faults_from}
-use Rattle.cs_resolve.specs.Joined.{IsJoined}
+use Rattle.cs_package.specs.Joined.{IsJoined}
 use Rattle.cs_resolve.specs.Opening.{unopened_files}
 use Rattle.cs_resolve.specs.Resolved.{IsSmall}
 use Rattle.cs_resolve.specs.Size.{nodes_of_files}
-use Rattle.cs_resolve.specs.View.{bodies_of, is_known, names_of}
+use Rattle.cs_package.specs.View.{bodies_of, is_known, names_of}
 use Rattle.cs_resolve.proofs.Faults.{name-refusal, opening-refusal, opening-none, refusal-none, refusal-same}
 use Rattle.cs_resolve.proofs.Gathered.{environment-gathered, length-bodies, length-names}
 use Rattle.cs_resolve.proofs.JoinedTrees.{joined-gathered}
@@ -83,8 +83,8 @@ returns-in_err-check_opened-clause-only c h =
     let p = err_from_is_err_and c.from_residual-in_err-check_opened.result c.from_residual-in_err-check_opened.ensures.1 in
     rw (p.1, p.2) (opening-none c.in_err-check_opened.field-0.0 (unopened_files fs) ((opened_law fs).1 h.opened) c.in_err-check_opened.ensures)
 
-pub new-requires : goal.new-requires
-new-requires c =
+pub package_of-requires : goal.package_of-requires
+package_of-requires c =
     let es = c.in_ok-names.names.entries in
     let vs = c.in_ok-bodies.bodies.items in
     let there = c.in_ok-bodies.ensures.0 in
@@ -98,7 +98,7 @@ new-requires c =
 pub returns-clause-found : goal.returns-clause-found
 returns-clause-found c =
     let ns = names_of c.in_ok-names.names.entries in
-    c.new.ensures ∙ environment-gathered (map file_view c.args.files.items) ns (bodies_of ns c.in_ok-bodies.bodies.items) c.in_ok-names.ensures.found c.in_ok-bodies.ensures.0.same
+    c.package_of.ensures ∙ environment-gathered (map file_view c.args.files.items) ns (bodies_of ns c.in_ok-bodies.bodies.items) c.in_ok-names.ensures.found c.in_ok-bodies.ensures.0.same
 
 pub returns-clause-accepted : goal.returns-clause-accepted
 returns-clause-accepted c =

@@ -1,21 +1,21 @@
 use Rattle.std.proofs.Common.{◌≡◌, ℕ, List, Vec, Global, ◌&&◌, ◌∷◌, ◌++◌, length, rules, string_bytes, refl, sym, ap, ap₂, ◌∙◌, subst, vec_len, arith}
 use Rattle.std.proofs.lemmas.Result.{err_from_is_err_and}
-use Rattle.cs_syntax.specs.Tree as T
-use Rattle.cs_syntax.specs.View.{expr_view, exprs_view, fields_view, end_view}
-use Rattle.cs_syntax.specs.declared.ast.Expr as Exprs
-use Rattle.cs_syntax.specs.declared.ast.Expr.{Expr}
-use Rattle.cs_syntax.specs.declared.ast.ListEnd.{ListEnd}
+use Rattle.cs_grammar.specs.Tree as T
+use Rattle.cs_grammar.specs.View.{expr_view, exprs_view, fields_view, end_view}
+use Rattle.cs_grammar.specs.declared.ast.Expr as Exprs
+use Rattle.cs_grammar.specs.declared.ast.Expr.{Expr}
+use Rattle.cs_grammar.specs.declared.ast.ListEnd.{ListEnd}
 use Rattle.cs_resolve.specs.Around.{HoldAround}
-use Rattle.cs_resolve.specs.Expression as cue
+use Rattle.cs_package.specs.Expression as cue
 use Rattle.cs_resolve.specs.Resolved.{resolved, resolved_end}
 use Rattle.cs_resolve.specs.Scopes.{labels, places, places_all, places_end}
 use Rattle.cs_resolve.specs.Steps.{faults_in, IsShapeOf, Resolves}
-use Rattle.cs_resolve.specs.View.{names_of, mark_of, expression_of, expressions_of, declarations_of, is_known}
+use Rattle.cs_package.specs.View.{names_of, mark_of, expression_of, expressions_of, declarations_of, is_known}
 use Rattle.cs_resolve.proofs.LabelSets.{entered, left}
 use Rattle.cs_resolve.proofs.Made.{of_exprs, of_fields, none-made, one-made, all-made, refused-at, all_resolved, declared, all_declared, same_declaration}
 use Rattle.cs_resolve.proofs.NameFaults.{faults_in-append, refused-same, refused-left, refused-right}
 use Rattle.cs_resolve.proofs.Trees.{view-Name, view-Reference, view-And, view-Or, view-Struct, view-List, view-Each, view-value, view-mark, view-text}
-use Rattle.cs_resolve.proofs.Views.{of-And, of-Or, of-Struct, of-List, of-Each, of-Part, known-And, known-Or, known-Struct, known-List, known-Each, known-Part}
+use Rattle.cs_package.proofs.Views.{of-And, of-Or, of-Struct, of-List, of-Each, of-Part, known-And, known-Or, known-Struct, known-List, known-Each, known-Part}
 use Rattle.cs_resolve.proofs.shapes.+shapes.Goals as goal
 
 -- ---- one expression

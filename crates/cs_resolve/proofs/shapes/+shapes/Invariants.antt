@@ -1,7 +1,7 @@
 use Rattle.std.proofs.Common.{◌≡◌, List}
-use Rattle.cs_syntax.specs.Tree.{Label}
+use Rattle.cs_grammar.specs.Tree.{Label}
 use Rattle.cs_resolve.specs.Around.{HoldAround}
-use Rattle.cs_resolve.specs.View.{names_of}
+use Rattle.cs_package.specs.View.{names_of}
 use Rattle.cs_resolve.proofs.Made.{AreMade, of_exprs, of_fields}
 use Rattle.cs_resolve.proofs.shapes.+shapes.Given as goal
 

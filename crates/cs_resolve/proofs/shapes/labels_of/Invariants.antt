@@ -1,5 +1,5 @@
 use Rattle.std.proofs.Common.{take}
-use Rattle.cs_syntax.specs.View.{fields_view}
+use Rattle.cs_grammar.specs.View.{fields_view}
 use Rattle.cs_resolve.specs.Around.{HoldsLabels}
 use Rattle.cs_resolve.specs.Scopes.{labels}
 use Rattle.cs_resolve.proofs.shapes.labels_of.Given as goal

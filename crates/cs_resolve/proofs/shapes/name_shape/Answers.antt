@@ -1,13 +1,13 @@
 use Rattle.std.proofs.Common.{◌≡◌, ℕ, true, false, List, [], ◌∷◌, ◌++◌, map, length, Option, Some, None, option_map, IfSome, is_some, slice_get, unwrap_or, sym, ap, ap₂, ◌∙◌, subst}
 use Rattle.std.specs.Option.{ok_or}
-use Rattle.cs_syntax.specs.Tree.{Label, named}
-use Rattle.cs_resolve.specs.Expression as cue
+use Rattle.cs_grammar.specs.Tree.{Label, named}
+use Rattle.cs_package.specs.Expression as cue
 use Rattle.cs_resolve.specs.Predeclared.{predeclared}
 use Rattle.cs_resolve.specs.Scopes.{a_name, name_faults, names_field}
 use Rattle.cs_resolve.specs.Steps.{faults_in, IsShapeOf, Resolves}
-use Rattle.cs_resolve.specs.View.{expression_of, is_known}
+use Rattle.cs_package.specs.View.{expression_of, is_known}
 use Rattle.cs_resolve.specs.declared.fault.ResolveFault.TheVariants.{UnknownName}
-use Rattle.cs_resolve.specs.declared.shape.Shape.{Shape}
+use Rattle.cs_package.specs.declared.shape.Shape.{Shape}
 use Rattle.cs_resolve.proofs.shapes.name_shape.Goals as goal
 
 pub returns-then-names_field : goal.returns-then-names_field

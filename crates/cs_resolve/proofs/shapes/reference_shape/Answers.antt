@@ -1,10 +1,10 @@
 use Rattle.std.proofs.Common.{◌++◌, [], map, length, slice_get, sym, ap, ◌∙◌}
-use Rattle.cs_resolve.specs.Expression as cue
+use Rattle.cs_package.specs.Expression as cue
 use Rattle.cs_resolve.specs.Scopes.{reference_faults}
-use Rattle.cs_resolve.specs.View.{names_of}
-use Rattle.cs_resolve.proofs.Environments.{place}
+use Rattle.cs_package.specs.View.{names_of}
+use Rattle.cs_package.proofs.Environments.{place}
 use Rattle.cs_resolve.proofs.NameTables.{declared-is, name-there, number-known}
-use Rattle.cs_resolve.proofs.Views.{of-Definition, known-Definition}
+use Rattle.cs_package.proofs.Views.{of-Definition, known-Definition}
 use Rattle.cs_resolve.proofs.shapes.reference_shape.Goals as goal
 
 pub returns-in-Some : goal.returns-in-Some

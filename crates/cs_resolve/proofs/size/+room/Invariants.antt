@@ -1,6 +1,6 @@
 use Rattle.std.proofs.Common.{◌≡◌, ◌+◌, drop}
 use Rattle.cs_resolve.specs.Size.{nodes_all, nodes_in}
-use Rattle.cs_syntax.specs.View.{exprs_view, fields_view}
+use Rattle.cs_grammar.specs.View.{exprs_view, fields_view}
 use Rattle.cs_resolve.proofs.size.+room.Given as goal
 
 abbrev pub invariant-room_after_all-loop-operand : goal.invariant-room_after_all-loop-operand

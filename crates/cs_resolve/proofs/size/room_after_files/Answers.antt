@@ -3,9 +3,9 @@ use Rattle.std.specs.List.{flat_map}
 use Rattle.std.proofs.lemmas.Grind.{flat_map-append}
 use Rattle.std.proofs.lemmas.List.{map-append, append-nil}
 use Rattle.std.proofs.lemmas.List.Sums.{sum_by-append}
-use Rattle.cs_syntax.specs.Tree.{DefinitionTree, body, definitions}
-use Rattle.cs_syntax.specs.View.{file_view, definition_view}
-use Rattle.cs_syntax.specs.declared.ast.File.{File}
+use Rattle.cs_grammar.specs.Tree.{DefinitionTree, body, definitions}
+use Rattle.cs_grammar.specs.View.{file_view, definition_view}
+use Rattle.cs_grammar.specs.declared.ast.File.{File}
 use Rattle.cs_resolve.specs.Size.{nodes, nodes_of_definitions, nodes_of_files}
 use Rattle.cs_resolve.proofs.Sums.{within}
 use Rattle.cs_resolve.proofs.size.room_after_files.Goals as goal

@@ -1,6 +1,6 @@
 use Rattle.std.proofs.Common.{◌≡◌, ◌+◌, take, map}
 use Rattle.cs_resolve.specs.Size.{nodes_of_files}
-use Rattle.cs_syntax.specs.View.{file_view}
+use Rattle.cs_grammar.specs.View.{file_view}
 use Rattle.cs_resolve.proofs.size.room_after_files.Given as goal
 
 abbrev pub invariant-loop-file : goal.invariant-loop-file

@@ -2,12 +2,12 @@ use Rattle.std.proofs.Common.{◌≡◌, suc, add-one, ◌+◌, false, [], ◌�
 use Rattle.std.proofs.lemmas.List.{take_all}
 use Rattle.std.specs.List.Sorted.{IsStrictlySortedBy}
 use Rattle.std.specs.Map.{keys_of}
-use Rattle.cs_doc.specs.View.{doc_view, list_view, object_view, documents_of, members_of}
-use Rattle.cs_doc.specs.Document.{no_members, list}
-use Rattle.cs_doc.proofs.Views.{view-List}
+use Rattle.cs_document.specs.View.{doc_view, list_view, object_view, documents_of, members_of}
+use Rattle.cs_document.specs.Document.{no_members, list}
+use Rattle.cs_document.proofs.Views.{view-List}
 use Rattle.std.proofs.lemmas.Result.{IfOk-weaker}
-use Rattle.cs_doc.proofs.Documents.{Entry}
-use Rattle.cs_doc.proofs.Maps.{texts, insert_last, texts_more, drop_at, drop_past, take_at}
+use Rattle.cs_document.proofs.Entries.{Entry}
+use Rattle.cs_document.proofs.Maps.{texts, insert_last, texts_more, drop_at, drop_past, take_at}
 use Rattle.cs_schema.specs.Profile.{first, fault_of, visits, member_visits, keyword_visits, element_visits, named_visits}
 use Rattle.cs_schema.specs.Places.{at_key as key_place, at_index as index_place}
 use Rattle.cs_schema.specs.Trim.{trimmed_elements, trimmed_value, with_member}
@@ -17,8 +17,8 @@ use Rattle.cs_schema.proofs.Walks.{first_past, refuses_at, trimmed_members-push,
 use Rattle.cs_schema.proofs.Slots.{set_found-last}
 use Rattle.cs_schema.proofs.read.+read.Goals as goal
 
-pub read_members-returns-in_err-read_keyword-clause-fault : goal.read_members-returns-in_err-read_keyword-clause-fault
-read_members-returns-in_err-read_keyword-clause-fault t c =
+pub read_members-returns-in_err-found-clause-fault : goal.read_members-returns-in_err-found-clause-fault
+read_members-returns-in_err-found-clause-fault t c =
     let l = c.loop-key in
     let root = c.args.root in
     let place = c.args.place.now in
@@ -26,8 +26,8 @@ read_members-returns-in_err-read_keyword-clause-fault t c =
     let d = doc_view c.in-Some.value.now in
     let seen = l.invariant.seen ∙ ap (λ es. first fault_of (member_visits root place (object_view es))) c.in-Some.ensures.steps in
     let named : c.deref.result.now ≡ k = c.deref.ensures in
-    let mine = subst (λ n. Refuses c.in_err-read_keyword.field-0.0 (first fault_of (keyword_visits root place n d))) named c.in_err-read_keyword.ensures.fault in
-    let whole = refuses_at c.in_err-read_keyword.field-0.0 (keyword_visits root place k d) (member_visits root place (object_view c.next.new.self)) _ seen mine in
+    let mine = subst (λ n. Refuses c.in_err-found.field-0.0 (first fault_of (keyword_visits root place n d))) named c.in_err-found.ensures.fault in
+    let whole = refuses_at c.in_err-found.field-0.0 (keyword_visits root place k d) (member_visits root place (object_view c.next.new.self)) _ seen mine in
     search rules
 
 pub read_members-loop-key-preserved : goal.read_members-loop-key-preserved
@@ -40,13 +40,13 @@ read_members-loop-key-preserved t c =
     let d = doc_view e.1 in
     let root = c.args.root in
     let place = c.args.place.now in
-    let f = c.in_ok-read_keyword.field-0 in
+    let f = c.in_ok-found.found in
     let named : c.deref.result.now ≡ k = c.deref.ensures in
     let all : c.args.members.now.entries ≡ done ++ e ∷ left = l.invariant.all ∙ ap (λ es. done ++ es) c.in-Some.ensures.steps in
     let sorted = subst (λ es. IsStrictlySortedBy string_cmp (keys_of es)) all c.into_iter-key-iterator.ensures.into_iter_gives.5 in
-    let right : first fault_of (keyword_visits root place k d) ≡ None = ap (λ n. first fault_of (keyword_visits root place n d)) (sym named) ∙ c.in_ok-read_keyword.ensures.right in
-    let value : found_value f ≡ trimmed_value root k d = c.in_ok-read_keyword.ensures.value ∙ ap (λ n. trimmed_value root n d) named in
-    let name : IsFoundAt f k = subst (λ n. IsFoundAt f n) named c.in_ok-read_keyword.ensures.name in
+    let right : first fault_of (keyword_visits root place k d) ≡ None = ap (λ n. first fault_of (keyword_visits root place n d)) (sym named) ∙ c.in_ok-found.ensures.right in
+    let value : found_value f ≡ trimmed_value root k d = c.in_ok-found.ensures.value ∙ ap (λ n. trimmed_value root n d) named in
+    let name : IsFoundAt f k = subst (λ n. IsFoundAt f n) named c.in_ok-found.ensures.name in
     let below : KeysBelow k (present (slots l.parts)) = subst (KeysBelow k) (sym l.invariant.made) (trimmed_below root done e left sorted) in
     record {
       done = done ++ e ∷ [];
@@ -56,7 +56,7 @@ read_members-loop-key-preserved t c =
           ∙ ap (λ o. join (present (slots l.parts)) (with_member o k no_members)) value
           ∙ ap (λ ms. join ms (with_member (trimmed_value root k d) k no_members)) l.invariant.made
           ∙ sym (trimmed_members-push root done e);
-      below = λ h. c.with-parts.ensures.below (c.in_ok-read_keyword.ensures.below h) ∙ l.invariant.below h;
+      below = λ h. c.with-parts.ensures.below (c.in_ok-found.ensures.below h) ∙ l.invariant.below h;
     }
 
 pub read_map-returns-in_err-schema-clause-fault : goal.read_map-returns-in_err-schema-clause-fault

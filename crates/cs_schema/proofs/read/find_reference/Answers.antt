@@ -1,5 +1,5 @@
 use Rattle.std.proofs.Common.{[], Some, is_some, sym, ap, ◌∙◌, subst}
-use Rattle.cs_doc.specs.Document.{under}
+use Rattle.cs_document.specs.Document.{under}
 use Rattle.cs_schema.specs.Profile.{undefined}
 use Rattle.cs_schema.specs.Reading.{Refuses}
 use Rattle.cs_schema.specs.SchemaDocument.{schema_view}

@@ -1,7 +1,7 @@
 use Rattle.std.proofs.Common.{◌≡◌, ◌∙◌, sym, ap, subst, refl, rules}
-use Rattle.cs_doc.specs.Document.{boolean, object}
-use Rattle.cs_doc.specs.View.{doc_view, object_view}
-use Rattle.cs_doc.proofs.Views.{view-Bool, view-Object}
+use Rattle.cs_document.specs.Document.{boolean, object}
+use Rattle.cs_document.specs.View.{doc_view, object_view}
+use Rattle.cs_document.proofs.Views.{view-Bool, view-Object}
 use Rattle.cs_schema.specs.Profile.{walk_fault, IsSchema}
 use Rattle.cs_schema.specs.Reading.{Refuses}
 use Rattle.cs_schema.specs.Refusal.{IsRefusal}

@@ -1,15 +1,17 @@
-use Rattle.std.proofs.Common.{◌≡◌, ap₂, codes, [], ◌∷◌, ◌++◌, Some, String, Global, string_bytes, string_cmp, take, drop, sym, ap, ◌∙◌, subst, append_assoc, append-nil}
+use Rattle.std.proofs.Common.{◌≡◌, ap₂, codes, [], ◌∷◌, ◌++◌, Some, String, Global, string_bytes, string_cmp, map, take, drop, sym, ap, ◌∙◌, subst, append_assoc, append-nil}
 use Rattle.std.proofs.lemmas.Result.{on_ok_weaker}
+use Rattle.std.proofs.lemmas.List.{take_all}
 use Rattle.std.specs.List.Sorted.{IsStrictlySortedBy}
 use Rattle.std.specs.Map.{keys_of}
-use Rattle.cs_doc.specs.Document.{object}
-use Rattle.cs_doc.specs.View.{object_view, members_of}
-use Rattle.cs_doc.proofs.Views.{view-Object}
-use Rattle.cs_doc.proofs.Maps.{texts, insert_last, texts_more}
-use Rattle.cs_schema.specs.SchemaDocument.{definitions_view, slots_of}
+use Rattle.cs_document.specs.Document.{list, object}
+use Rattle.cs_document.specs.View.{doc_view, object_view, documents_of, members_of}
+use Rattle.cs_document.proofs.Views.{view-List, view-Object}
+use Rattle.cs_document.proofs.Maps.{texts, insert_last, texts_more, take_at}
+use Rattle.cs_schema.specs.SchemaDocument.{schema_view, definitions_view, slots_of}
 use Rattle.cs_schema.specs.Writing.{put_some, put_all}
 use Rattle.cs_schema.specs.declared.schema.Schema.{Schema}
-use Rattle.cs_schema.proofs.Writing.{keywords_put, from_items, from_not, members_of-push, some_named, not_empty}
+use Rattle.cs_schema.proofs.Walks.{not_nil}
+use Rattle.cs_schema.proofs.Writing.{keywords_put, from_items, from_not, mapped_more, some_listed, members_of-push, some_named, not_empty}
 use Rattle.cs_schema.proofs.write.+write.Goals as goal
 
 pub keywords_doc-returns-clause-value : goal.keywords_doc-returns-clause-value
@@ -21,6 +23,23 @@ keywords_doc-returns-clause-value t c =
     ∙ ap (put_all (take 4 (drop 4 ss))) (c.in_ok-set_to_any_of.ensures.put
     ∙ ap (λ es. put_all (take 4 ss) (object_view es)) c.new-members.ensures.empty)))
     ∙ keywords_put c.args.keywords.now
+
+pub list_doc-loop-schema-preserved : goal.list_doc-loop-schema-preserved
+list_doc-loop-schema-preserved t c =
+    let l = c.loop-schema in
+    let xs = c.deref-schema-items.result.now in
+    let x = c.schema-item.result in
+    ap (map doc_view) c.in_ok-push.ensures.items
+    ∙ mapped_more doc_view schema_view l.docs.items (take l.schema-index xs) _ x l.invariant c.in_ok-schema_doc.ensures.value
+    ∙ ap (map schema_view) (sym (take_at xs l.schema-index x c.loop-schema-test.true c.schema-item.is))
+
+pub list_doc-returns-clause-value : goal.list_doc-returns-clause-value
+list_doc-returns-clause-value t c =
+    let l = c.loop-schema in
+    let xs = c.args.schemas.now.items in
+    let all = take_all l.schema-index c.deref-schema-items.result.now c.loop-schema-test.false ∙ c.deref-schema-items.ensures.value in
+    ap Some (view-List l.docs ∙ ap (λ ds. list (documents_of ds)) (l.invariant ∙ ap (map schema_view) all))
+    ∙ sym (some_listed schema_view xs (not_nil xs _ c.args.schemas.now.ok.0 (sym c.is_empty.ensures ∙ c.if-is_empty.false)))
 
 pub map_doc-loop-name-preserved : goal.map_doc-loop-name-preserved
 map_doc-loop-name-preserved t c =

@@ -1,7 +1,7 @@
 use Rattle.std.proofs.Common.{◌∙◌, sym, ap, option_map}
-use Rattle.cs_doc.specs.Document.{put}
-use Rattle.cs_doc.specs.View.{doc_view, object_view}
-use Rattle.cs_doc.proofs.Views.{object_view-insert_entry}
+use Rattle.cs_document.specs.Document.{put}
+use Rattle.cs_document.specs.View.{doc_view, object_view}
+use Rattle.cs_document.proofs.Views.{object_view-insert_entry}
 use Rattle.cs_schema.specs.Writing.{put_some}
 use Rattle.cs_schema.proofs.write.set.Goals as goal
 

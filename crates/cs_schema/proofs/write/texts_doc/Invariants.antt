@@ -1,5 +1,5 @@
 use Rattle.std.proofs.Common.{◌≡◌, map, take}
-use Rattle.cs_doc.specs.View.{doc_view}
+use Rattle.cs_document.specs.View.{doc_view}
 use Rattle.cs_schema.specs.SchemaDocument.{text_document}
 use Rattle.cs_schema.proofs.write.texts_doc.Given as goal
 

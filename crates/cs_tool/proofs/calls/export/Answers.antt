@@ -1,27 +1,23 @@
-use Rattle.std.proofs.Common.{◌≡◌, ℕ, ◌≤◌, List, Err, Bor, map, refl, sym, ap, subst, ◌∙◌, arith}
-use Rattle.std.proofs.lemmas.Result.{err_from_is_err_and}
-use Rattle.cs_doc.specs.Document.{Document, depth}
+use Rattle.std.proofs.Common.{◌≡◌, ℕ, ◌≤◌, List, Vec, Err, Bor, map, refl, sym, ap, subst, arith}
+use Rattle.std.proofs.lemmas.Result.{IfErr-weaker, IfOk-weaker, err_from_is_err_and}
+use Rattle.std.specs.declared.alloc.Global.{Global}
+use Rattle.cs_document.specs.Document.{depth}
 use Rattle.cs_doc.specs.Texts.{Reads, text_of}
-use Rattle.cs_doc.specs.View.{doc_view}
-use Rattle.cs_resolve.specs.Environment.{Environment, Names}
-use Rattle.cs_resolve.specs.Height.{IsLow}
+use Rattle.cs_package.specs.Environment.{Environment, Names}
+use Rattle.cs_package.specs.Height.{IsLow}
 use Rattle.cs_schema.specs.SchemaDocument.{document_of, with_definitions, definitions_view, unless_no_map}
 use Rattle.cs_schema.specs.Trim.{with_dialect}
 use Rattle.cs_compile.specs.declared.fault.CompileFault.{CompileFault}
 use Rattle.cs_compile.specs.declared.fault.CompileFault.TheVariants as compile
 use Rattle.cs_tool.specs.Accepted.{IsAccepted}
-use Rattle.cs_tool.specs.Conversions.{of_compile, of_document}
-use Rattle.cs_tool.specs.Headline.{IsReady}
+use Rattle.cs_tool.specs.Conversions.{of_compile}
+use Rattle.cs_tool.specs.Headline.{IsExport, IsReady, ExportRefusal}
 use Rattle.cs_tool.specs.declared.fault.Fault.TheVariants.{OutOfMemory}
 use Rattle.cs_tool.proofs.Low.{low_files}
 use Rattle.cs_tool.proofs.calls.export.Goals as goal
 
 low : (sources : List (List ℕ)) (E : Environment) → IsAccepted sources E → IsLow E
 low sources E a = subst IsLow (sym a.declares) (low_files sources a.files a.spelled)
-
--- a text is read as its document, if it is read as a document that is the same
-read_as : (text : List ℕ) (d s : Document) → d ≡ s → (depth d ≤ 127 → Reads text d) → depth s ≤ 114 → Reads text s
-read_as text d s same read nested = subst (Reads text) same (read (subst (λ x. depth x ≤ 127) (sym same) (omega (arith, nested))))
 
 -- a root that is declared isn't told as unknown
 declared : (sources : List (List ℕ)) (root : List ℕ) (E : Environment) → ((F : Environment) → IsAccepted sources F → E ≡ F) → (e : CompileFault)
@@ -36,34 +32,40 @@ returns-in_err-schema-clause-only c = λ ready.
     let p = err_from_is_err_and c.from_residual-in_err-schema.result c.from_residual-in_err-schema.ensures.1 in
     rw (p.1, p.2) (declared (map now c.args.sources.now) c.args.root.now c.in_ok-package.package c.in_ok-package.ensures.one e (λ is. c.in_err-schema.ensures.unknown (ap Err is)) ready)
 
-pub returns-in_err-write_doc-clause-only : goal.returns-in_err-write_doc-clause-only
-returns-in_err-write_doc-clause-only c = λ ready.
-    let p = err_from_is_err_and c.from_residual-in_err-write_doc.result c.from_residual-in_err-write_doc.ensures.1 in
-    rw (p.1, p.2) (ap of_document c.in_err-write_doc.ensures.memory)
+pub returns-clause-refused : goal.returns-clause-refused
+returns-clause-refused c =
+    let now : Bor (List ℕ) → List ℕ = λ s. s.now in
+    let Refused = ExportRefusal (map now c.args.sources.now) c.args.root.now in
+    IfErr-weaker _ (λ e. e ≡ OutOfMemory) Refused (λ e is. subst Refused (sym is) tt) c.text_of_schema.ensures.memory
+
+pub returns-clause-only : goal.returns-clause-only
+returns-clause-only c = λ ready. c.text_of_schema.ensures.memory
 
 pub returns-clause-found : goal.returns-clause-found
 returns-clause-found c =
+    let now : Bor (List ℕ) → List ℕ = λ s. s.now in
     let accepted = c.in_ok-package.ensures.accepted in
     let made = c.in_ok-schema.ensures.found in
     let schema = document_of c.in_ok-schema.schema in
     let ds = unless_no_map (definitions_view c.in_ok-schema.schema.definitions) in
-    let same = c.in_ok-doc.ensures.found in
-    let written = c.in_ok-write_doc.ensures in
-    let nested = made.2.nested (low _ _ accepted) in record {
+    let nested = made.2.nested (low _ _ accepted) in
+    IfOk-weaker _ (λ (v : Vec ℕ Global). (v.items ≡ text_of schema) × (depth schema ≤ 127 → Reads v.items schema))
+    (λ (v : Vec ℕ Global). IsExport (map now c.args.sources.now) c.args.root.now v.items)
+    (λ v h. record {
       environment = c.in_ok-package.package;
       accepted = accepted;
       taken = c.in_ok-package.ensures.taken;
       name = made.0;
       named = made.1;
       schema = schema;
-      written = written.text ∙ ap text_of same;
+      written = h.0;
       nested = nested;
-      read = read_as _ (doc_view c.in_ok-doc.doc) schema same written.reads nested;
-      profile = c.in_ok-doc.ensures.profile;
-      trimmed = c.in_ok-doc.ensures.trimmed;
+      read = h.1 (omega (arith, nested));
+      profile = c.text_of_schema.ensures.profile;
+      trimmed = c.text_of_schema.ensures.trimmed;
       refers = (ds, ap (λ root. with_dialect (with_definitions ds root)) made.2.root);
       definitions = made.2.definitions;
       one_instance = c.one_meaning.ensures;
       one_validity = c.one_meaning-2.ensures;
       admits = made.2.meaning;
-    }
+    }) c.text_of_schema.ensures.found

@@ -1,10 +1,11 @@
 use Rattle.std.proofs.Common.{◌≡◌, ℕ, zero, suc, ◌+◌, ◌<◌, List, [], ◌∷◌, ◌++◌, Err, Bor, length, get_or, map, take, refl, sym, ap, subst, ◌∙◌, arith}
 use Rattle.std.proofs.lemmas.List.{map-append}
-use Rattle.cs_syntax.specs.Tree.{FileTree}
-use Rattle.cs_syntax.specs.View.{file_view}
-use Rattle.cs_syntax.specs.Answer.{IsSpelled, IsFileRefusal, Answers}
-use Rattle.cs_syntax.specs.declared.fault.SyntaxFault.{SyntaxFault}
-use Rattle.cs_syntax.specs.declared.fault.SyntaxFault.TheVariants as syntax
+use Rattle.cs_grammar.specs.Tree.{FileTree}
+use Rattle.cs_grammar.specs.View.{file_view}
+use Rattle.cs_lexer.specs.Lexed.{Answers}
+use Rattle.cs_syntax.specs.Answer.{IsSpelled, IsFileRefusal}
+use Rattle.cs_grammar.specs.declared.fault.SyntaxFault.{SyntaxFault}
+use Rattle.cs_grammar.specs.declared.fault.SyntaxFault.TheVariants as syntax
 use Rattle.cs_tool.specs.Accepted.{AreFiles, IsFirstMisspelled, FilesRefusal}
 use Rattle.cs_tool.specs.Conversions.{of_syntax}
 use Rattle.cs_tool.specs.declared.fault.Fault.{Fault}

@@ -1,6 +1,6 @@
 use Rattle.std.proofs.Common.{◌≡◌, List, map, take}
-use Rattle.cs_syntax.specs.Tree.{FileTree}
-use Rattle.cs_syntax.specs.View.{file_view}
+use Rattle.cs_grammar.specs.Tree.{FileTree}
+use Rattle.cs_grammar.specs.View.{file_view}
 use Rattle.cs_tool.specs.Accepted.{AreFiles}
 use Rattle.cs_tool.proofs.packages.files_of.Given as goal
 

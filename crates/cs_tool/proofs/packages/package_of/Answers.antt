@@ -3,10 +3,10 @@ use Rattle.std.proofs.lemmas.Bool.{false≢true}
 use Rattle.std.proofs.lemmas.List.Elements.{All-from_recursion}
 use Rattle.std.proofs.lemmas.Result.{err_from_is_err_and}
 use Rattle.std.specs.List.{AllByRecursion}
-use Rattle.cs_syntax.specs.Tree.{FileTree}
-use Rattle.cs_syntax.specs.View.{file_view}
-use Rattle.cs_syntax.specs.Answer.{IsSpelled}
-use Rattle.cs_resolve.specs.Environment.{Environment}
+use Rattle.cs_grammar.specs.Tree.{FileTree}
+use Rattle.cs_grammar.specs.View.{file_view}
+use Rattle.cs_grammar.specs.Source.{IsSpelledBy}
+use Rattle.cs_package.specs.Environment.{Environment}
 use Rattle.cs_resolve.specs.Resolved.{environment_of_files, IsPackage}
 use Rattle.cs_guard.specs.Cycles.{IsRefusal}
 use Rattle.cs_guard.specs.Guarded.{IsGuarded}
@@ -18,11 +18,11 @@ use Rattle.cs_tool.specs.Conversions.{of_guard}
 use Rattle.cs_tool.specs.declared.fault.Fault.{Fault}
 use Rattle.cs_tool.proofs.packages.package_of.Goals as goal
 
-each_spelled : (ss : List (List ℕ)) (fs : List FileTree) → AreFiles ss fs → AllByRecursion (λ f. (t : List ℕ) × IsSpelled t f) fs
+each_spelled : (ss : List (List ℕ)) (fs : List FileTree) → AreFiles ss fs → AllByRecursion (λ f. (t : List ℕ) × IsSpelledBy t f) fs
 each_spelled [] [] h = tt
 each_spelled [] (f ∷ fs) h = absurd h
 each_spelled (s ∷ ss) [] h = absurd h
-each_spelled (s ∷ ss) (f ∷ fs) h = ((s, h.0), each_spelled ss fs h.1)
+each_spelled (s ∷ ss) (f ∷ fs) h = ((s, record { tokens = h.0.tokens; cut = h.0.cut; spelled = h.0.spelled }), each_spelled ss fs h.1)
 
 module _ (sources : List (List ℕ)) (texts : AreTexts sources) (files : List FileTree) (spelled : AreFiles sources files) (one_package : IsPackage files) where
   accepted : (E P : Environment) → E ≡ P → P ≡ environment_of_files files → IsGuarded P → IsAccepted sources E

@@ -1,10 +1,10 @@
 use Rattle.std.proofs.Common.{◌≡◌, ℕ, zero, suc, ◌+◌, ◌<◌, List, [], ◌∷◌, ◌++◌, map, take, length, get_or, Vec, Global, sym, ap, ◌∙◌, subst, arith, rules}
 use Rattle.std.proofs.lemmas.Bool.{false≢true}
 use Rattle.std.proofs.lemmas.List.{map-append, take_more, take_all}
-use Rattle.cs_resolve.specs.Expression as cue
-use Rattle.cs_resolve.specs.Expression.{Expression}
-use Rattle.cs_resolve.specs.View.{expression_of, expressions_of}
-use Rattle.cs_resolve.specs.declared.shape.Shape.{Shape, And, the_lemmas}
+use Rattle.cs_package.specs.Expression as cue
+use Rattle.cs_package.specs.Expression.{Expression}
+use Rattle.cs_package.specs.View.{expression_of, expressions_of}
+use Rattle.cs_package.specs.declared.shape.Shape.{Shape, And, the_lemmas}
 use Rattle.cs_instance.specs.Taken.{IsTaken, AreTaken, AllTaken}
 use Rattle.cs_tool.proofs.taken.+taken.Goals as goal
 

@@ -1,5 +1,5 @@
 use Rattle.std.proofs.Common.{ℕ, List, map, take}
-use Rattle.cs_resolve.specs.View.{expression_of}
+use Rattle.cs_package.specs.View.{expression_of}
 use Rattle.cs_instance.specs.Taken.{AllTaken}
 use Rattle.cs_tool.proofs.taken.+taken.Given as goal
 

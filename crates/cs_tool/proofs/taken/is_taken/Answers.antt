@@ -1,7 +1,7 @@
 use Rattle.std.proofs.Common.{◌≡◌, ℕ, zero, suc, List, [], ◌∷◌, take, Some, sym, ◌∙◌, subst, add-one}
 use Rattle.std.proofs.lemmas.Bool.{false≢true}
-use Rattle.cs_resolve.specs.Expression.{Expression}
-use Rattle.cs_resolve.specs.Environment.{Environment, declared_names, bodies_at}
+use Rattle.cs_package.specs.Expression.{Expression}
+use Rattle.cs_package.specs.Environment.{Environment, declared_names, bodies_at}
 use Rattle.cs_instance.specs.Taken.{AllTaken, IsTakenPackage}
 use Rattle.cs_tool.proofs.taken.is_taken.Goals as goal
 

@@ -1,7 +1,7 @@
 use Rattle.std.proofs.Common.{◌≡◌, Bool, true, take}
 use Rattle.std.specs.List.{list_all}
-use Rattle.cs_doc.specs.Document.{Document}
-use Rattle.cs_doc.specs.View.{doc_view}
+use Rattle.cs_document.specs.Document.{Document}
+use Rattle.cs_document.specs.View.{doc_view}
 use Rattle.cs_schema.specs.Validity.{IsValidity}
 use Rattle.cs_schema.specs.SchemaDocument.{schema_view}
 use Rattle.cs_validate.proofs.validity.+holds.Given as goal

@@ -1,7 +1,7 @@
 use Rattle.std.proofs.Common.{◌≡◌, ◌&&◌, true, sym, ap, ◌∙◌, subst, string_bytes}
 use Rattle.std.specs.List.{list_all}
-use Rattle.cs_doc.specs.Document.{object, entries}
-use Rattle.cs_doc.specs.View.{doc_view}
+use Rattle.cs_document.specs.Document.{object, entries}
+use Rattle.cs_document.specs.View.{doc_view}
 use Rattle.cs_schema.specs.SchemaDocument.{schema_view, slots_of, present, document_of}
 use Rattle.cs_validate.specs.Shaped.{AreShaped}
 use Rattle.cs_validate.specs.Asserted.{unless_absent, slot_holds, but_reference, defined_holds}

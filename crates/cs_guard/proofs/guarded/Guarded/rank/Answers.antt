@@ -1,5 +1,5 @@
 use Rattle.std.proofs.Common.{subst}
-use Rattle.cs_resolve.specs.Environment.{Environment}
+use Rattle.cs_package.specs.Environment.{Environment}
 use Rattle.cs_guard.specs.Ranks.{AreRanks}
 use Rattle.cs_guard.proofs.Chains.{has-height, height-above}
 use Rattle.cs_guard.proofs.guarded.Guarded.rank.Goals as goal

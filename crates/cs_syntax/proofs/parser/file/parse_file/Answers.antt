@@ -1,5 +1,5 @@
 use Rattle.std.proofs.lemmas.Result.{err_from_is_err_and}
-use Rattle.cs_syntax.specs.View.{file_view}
+use Rattle.cs_grammar.specs.View.{file_view}
 use Rattle.cs_syntax.proofs.Places.{stuck_refused}
 use Rattle.cs_syntax.proofs.QuotedTexts.{cut_quoted}
 use Rattle.cs_syntax.proofs.Whole.{spelled_found, spelled_only, stuck_only, file_refused}

@@ -1,6 +1,6 @@
 use Rattle.std.proofs.Common.{refl, sym, ap, ◌∙◌}
 use Rattle.std.specs.Prelude.{nat_le, max, ◌&&◌, ◌-◌}
-use Rattle.cs_syntax.specs.View.{expr_view, exprs_view, fields_view, end_view}
+use Rattle.cs_grammar.specs.View.{expr_view, exprs_view, fields_view, end_view}
 use Rattle.cs_syntax.specs.Height.{height, heights, field_heights, end_height}
 use Rattle.cs_syntax.proofs.Reader.{view-And, view-Or}
 use Rattle.cs_syntax.proofs.Heights.{low_one, high_one, low_all, field_parts, no_height, one_more, positive, nothing_high, within_both, view-Struct, view-Paren, view-List, view-Closed, view-Any, view-Each}

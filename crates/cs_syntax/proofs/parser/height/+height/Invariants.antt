@@ -1,6 +1,6 @@
 use Rattle.std.proofs.Common.{◌≡◌, ◌+◌, ◌*◌, drop}
 use Rattle.std.specs.Prelude.{nat_le}
-use Rattle.cs_syntax.specs.View.{exprs_view, fields_view}
+use Rattle.cs_grammar.specs.View.{exprs_view, fields_view}
 use Rattle.cs_syntax.specs.Height.{heights, field_heights}
 use Rattle.cs_syntax.proofs.parser.height.+height.Given as goal
 

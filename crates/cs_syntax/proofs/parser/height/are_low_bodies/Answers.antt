@@ -1,6 +1,6 @@
 use Rattle.std.proofs.Common.{map, refl, sym, ap, ◌∙◌}
 use Rattle.std.specs.Prelude.{nat_le}
-use Rattle.cs_syntax.specs.View.{expr_view, definition_view}
+use Rattle.cs_grammar.specs.View.{expr_view, definition_view}
 use Rattle.cs_syntax.specs.Height.{height, definition_heights}
 use Rattle.cs_syntax.proofs.Heights.{low_one, high_one, low_all}
 use Rattle.cs_syntax.proofs.parser.height.are_low_bodies.Goals as goal

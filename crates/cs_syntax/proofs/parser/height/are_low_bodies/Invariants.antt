@@ -1,6 +1,6 @@
 use Rattle.std.proofs.Common.{◌≡◌, map, drop}
 use Rattle.std.specs.Prelude.{nat_le}
-use Rattle.cs_syntax.specs.View.{definition_view}
+use Rattle.cs_grammar.specs.View.{definition_view}
 use Rattle.cs_syntax.specs.Height.{definition_heights}
 use Rattle.cs_syntax.proofs.parser.height.are_low_bodies.Given as goal
 

@@ -1,7 +1,7 @@
 use Rattle.std.proofs.Common.{reverse, sym, ap, ◌∙◌}
 use Rattle.std.specs.Prelude.{nat_lt}
 use Rattle.cs_syntax.specs.declared.parser.nesting.Before.TheVariants as before
-use Rattle.cs_syntax.specs.View.{lexemes_view, words}
+use Rattle.cs_grammar.specs.View.{lexemes_view, words}
 use Rattle.cs_syntax.specs.Nesting.{nesting_from}
 use Rattle.cs_syntax.specs.Left.{levels_of}
 use Rattle.cs_syntax.proofs.Depths.{high_stops}

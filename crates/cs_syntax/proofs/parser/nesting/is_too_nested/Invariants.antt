@@ -1,6 +1,6 @@
 use Rattle.std.proofs.Common.{◌≡◌, drop}
 use Rattle.std.specs.Prelude.{nat_lt}
-use Rattle.cs_syntax.specs.View.{lexemes_view, words}
+use Rattle.cs_grammar.specs.View.{lexemes_view, words}
 use Rattle.cs_syntax.specs.Nesting.{nesting_from, nesting}
 use Rattle.cs_syntax.specs.Left.{levels_of}
 use Rattle.cs_syntax.proofs.parser.nesting.is_too_nested.Given as goal

@@ -1,7 +1,7 @@
 use Rattle.std.proofs.Common.{◌≡◌, ◌+◌, ◌-◌, ◌<◌, suc, Ok, refl, map, sym, ap, ◌∙◌, arith, length, false}
 use Rattle.std.proofs.lemmas.Result.{err_from_is_err_and}
-use Rattle.cs_syntax.specs.declared.parser.kind.Kind.TheVariants as kinds
-use Rattle.cs_syntax.specs.View.{expr_view, field_view}
+use Rattle.cs_grammar.specs.declared.kind.Kind.TheVariants as kinds
+use Rattle.cs_grammar.specs.View.{expr_view, field_view}
 use Rattle.cs_syntax.specs.Left.{left}
 use Rattle.cs_syntax.specs.Reading.{inner, field_with, operand_with, conj_with, expr_with, after, another_field, another_element}
 use Rattle.cs_syntax.proofs.WordKinds.{at_end, operand_end}

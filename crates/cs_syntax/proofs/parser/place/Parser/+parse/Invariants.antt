@@ -1,5 +1,5 @@
 use Rattle.std.proofs.Common.{◌≡◌, length, ◌+◌, ◌-◌, ◌*◌}
-use Rattle.cs_syntax.specs.View.{expr_view, field_view}
+use Rattle.cs_grammar.specs.View.{expr_view, field_view}
 use Rattle.cs_syntax.specs.Left.{left}
 use Rattle.cs_syntax.specs.Reading.{inner, fields_with, elements_with, amps_with, bars_with}
 use Rattle.cs_syntax.proofs.Reader.{with_front}

@@ -1,6 +1,6 @@
 use Rattle.std.proofs.Common.{◌≡◌, ◌+◌, ◌-◌, suc, sym, ◌∙◌, arith, length}
 use Rattle.std.proofs.lemmas.Result.{err_from_is_err_and}
-use Rattle.cs_syntax.specs.View.{definition_view}
+use Rattle.cs_grammar.specs.View.{definition_view}
 use Rattle.cs_syntax.specs.Left.{left}
 use Rattle.cs_syntax.specs.Reading.{line_at, before_end}
 use Rattle.cs_syntax.proofs.WordKinds.{stops, proceeds}

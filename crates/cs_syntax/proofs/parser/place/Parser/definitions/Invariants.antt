@@ -1,5 +1,5 @@
 use Rattle.std.proofs.Common.{◌≡◌, length, ◌-◌}
-use Rattle.cs_syntax.specs.View.{definition_view}
+use Rattle.cs_grammar.specs.View.{definition_view}
 use Rattle.cs_syntax.specs.Left.{left}
 use Rattle.cs_syntax.specs.Reading.{definitions_at}
 use Rattle.cs_syntax.proofs.Reader.{with_front}

@@ -1,0 +1,3 @@
+pub mod Entries
+pub mod Maps
+pub mod Views

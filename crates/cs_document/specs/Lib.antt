@@ -1,0 +1,4 @@
+pub mod Document
+pub mod Equality
+pub mod Opened
+pub mod View

@@ -1,0 +1,10 @@
+// Documents: the values of JSON whose numbers are signed integers of 64 bits.
+#![tactic(auto)]
+
+mod copy;
+mod doc;
+mod equal;
+mod fault;
+
+pub use doc::Doc;
+pub use fault::DocFault;

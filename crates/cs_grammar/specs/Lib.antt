@@ -1,0 +1,9 @@
+pub mod Spelling
+pub mod Literal
+pub mod Values
+pub mod Cut
+pub mod Words
+pub mod Tree
+pub mod Spells
+pub mod View
+pub mod Source

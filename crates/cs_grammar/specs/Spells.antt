@@ -1,0 +1,184 @@
+-- The grammar: which words spell a tree (CUE, source file organization, operands and expressions). `SpellsX t ts r`: the words ts begin with a spelling of t as an X, and r is what follows it.
+use Rattle.std.specs.Prelude.{◌≡◌, ℕ, ℤ, pos, neg_ℤ, List, [], ◌∷◌, Option, Some, None, Bool, true, false, if◌then◌else◌, codes, FitsSigned}
+use Rattle.std.specs.Int.{w64}
+use Rattle.std.specs.Option.{unwrap_or}
+use Rattle.std.specs.Str.{bytes_eq}
+use Rattle.std.specs.List.{list_any}
+use Rattle.cs_grammar.specs.declared.ast.Relation.{Relation}
+use Rattle.cs_grammar.specs.declared.ast.FieldMark.{FieldMark}
+use Rattle.cs_grammar.specs.declared.ast.FieldMark.TheVariants.{Regular, Optional, Required}
+use Rattle.cs_grammar.specs.Words.{Words, start, name, definition_name, top_mark, bottom_mark, numeral, quoted, open_struct, close_struct, open_list, close_list, open_paren, close_paren, comma, nl, colon, question, bang, amp, bar, dots, relation, unequal, minus, finish}
+use Rattle.cs_grammar.specs.Tree.{Label, Tree, top, bottom, null, boolean, integer, text, named, reference, bound, not_integer, not_text, not_null, meet, join, paren, struct, list, Trees, none, more, Fields, no_field, field, End, closed, any, each, DefinitionTree, definition, FileTree, file}
+
+-- the names that are no operands
+abbrev pub keywords : List (List ℕ)
+keywords = codes "for" ∷ codes "if" ∷ codes "let" ∷ []
+
+abbrev pub is_keyword : List ℕ → Bool
+is_keyword s = list_any (bytes_eq s) keywords
+
+abbrev pub is_null : List ℕ → Bool
+is_null s = bytes_eq s (codes "null")
+
+abbrev pub is_package : List ℕ → Bool
+is_package s = bytes_eq s (codes "package")
+
+-- the literals that are names
+abbrev pub literal_of : List ℕ → Option Tree
+literal_of s =
+    if is_null s then Some null else (
+    if bytes_eq s (codes "true") then Some (boolean true) else (
+    if bytes_eq s (codes "false") then Some (boolean false) else
+    None))
+
+-- where the first word stands
+abbrev pub start_at : Words → ℕ
+start_at [] = 0
+start_at (w ∷ ts) = start w
+
+-- ---- marks and numbers
+
+-- comma: an explicit or an inserted one
+pub data Comma : Words → Words → Type 0 where
+  explicit : {p : ℕ} {r : Words} → Comma (comma p ∷ r) r
+  inserted : {p : ℕ} {r : Words} → Comma (nl p ∷ r) r
+
+-- [ nl ] `)`
+pub data ClosesParen : Words → Words → Type 0 where
+  paren_here : {p : ℕ} {r : Words} → ClosesParen (close_paren p ∷ r) r
+  paren_after : {p q : ℕ} {r : Words} → ClosesParen (nl p ∷ close_paren q ∷ r) r
+
+-- [ comma ] `]`
+pub data ClosesList : Words → Words → Type 0 where
+  list_here : {p : ℕ} {r : Words} → ClosesList (close_list p ∷ r) r
+  list_after : {p : ℕ} {ts r : Words} → Comma ts (close_list p ∷ r) → ClosesList ts r
+
+-- [ comma ] `}`
+pub data ClosesStruct : Words → Words → Type 0 where
+  struct_here : {p : ℕ} {r : Words} → ClosesStruct (close_struct p ∷ r) r
+  struct_after : {p : ℕ} {ts r : Words} → Comma ts (close_struct p ∷ r) → ClosesStruct ts r
+
+-- Number = [ `-` ] integer, of 64 signed bits
+pub data SpellsNumber : ℤ → Words → Words → Type 0 where
+  positive : {n p : ℕ} {r : Words} → FitsSigned w64 (pos n) → SpellsNumber (pos n) (numeral n p ∷ r) r
+  negative : {z : ℤ} {n p q : ℕ} {r : Words} → z ≡ neg_ℤ (pos n) → FitsSigned w64 z → SpellsNumber z (minus q ∷ numeral n p ∷ r) r
+
+-- Bound = `<` or `<=` or `>` or `>=`, then Number; or `!=`, then Number or text or `null`
+pub data SpellsBound : Tree → Words → Words → Type 0 where
+  limit_is : {b : Relation} {z : ℤ} {p : ℕ} {ts r : Words} → SpellsNumber z ts r → SpellsBound (bound b z) (relation b p ∷ ts) r
+  other_number : {z : ℤ} {p : ℕ} {ts r : Words} → SpellsNumber z ts r → SpellsBound (not_integer z) (unequal p ∷ ts) r
+  other_text : {s : List ℕ} {p q : ℕ} {r : Words} → SpellsBound (not_text s) (unequal p ∷ quoted s q ∷ r) r
+  other_null : {s : List ℕ} {p q : ℕ} {r : Words} → is_null s ≡ true → SpellsBound not_null (unequal p ∷ name s q ∷ r) r
+
+-- Label = name or text
+pub data SpellsLabel : Label → Words → Words → Type 0 where
+  bare_label : {s : List ℕ} {p : ℕ} {r : Words} → SpellsLabel (record { text = s; quotes = false }) (name s p ∷ r) r
+  quoted_label : {s : List ℕ} {p : ℕ} {r : Words} → SpellsLabel (record { text = s; quotes = true }) (quoted s p ∷ r) r
+
+-- [ `?` or `!` ] `:`
+pub data SpellsMark : FieldMark → Words → Words → Type 0 where
+  regular : {p : ℕ} {r : Words} → SpellsMark Regular (colon p ∷ r) r
+  optional : {p q : ℕ} {r : Words} → SpellsMark Optional (question p ∷ colon q ∷ r) r
+  required : {p q : ℕ} {r : Words} → SpellsMark Required (bang p ∷ colon q ∷ r) r
+
+-- what stands behind the last field of a struct: [ comma `...` ] [ comma ] `}`
+pub data SpellsOpening : Bool → Words → Words → Type 0 where
+  unopened : {ts r : Words} → ClosesStruct ts r → SpellsOpening false ts r
+  opened : {p : ℕ} {ts us r : Words} → Comma ts (dots p ∷ us) → ClosesStruct us r → SpellsOpening true ts r
+
+-- ---- values
+
+mutual
+  -- Value = Expr, or Field: the short form of a struct of that one field
+  pub data SpellsValue : Tree → Words → Words → Type 0 where
+    long : {e : Tree} {ts r : Words} → SpellsExpr e ts r → SpellsValue e ts r
+    short : {l : Label} {m : FieldMark} {e : Tree} {o : ℕ} {ts r : Words} → o ≡ start_at ts → SpellsField l m e ts r → SpellsValue (struct o (field l m e no_field) false) ts r
+
+  -- Field = Label [ `?` or `!` ] `:` Value
+  pub data SpellsField : Label → FieldMark → Tree → Words → Words → Type 0 where
+    labelled : {l : Label} {m : FieldMark} {e : Tree} {ts us vs r : Words} → SpellsLabel l ts us → SpellsMark m us vs → SpellsValue e vs r → SpellsField l m e ts r
+
+  -- Expr = Conj { `|` Conj }; one alone makes no join
+  pub data SpellsExpr : Tree → Words → Words → Type 0 where
+    one_conj : {e : Tree} {ts r : Words} → SpellsConj e ts r → SpellsExpr e ts r
+    joined : {e f : Tree} {fs : Trees} {ts us r : Words} → SpellsConj e ts us → SpellsBars (more f fs) us r → SpellsExpr (join (more e (more f fs))) ts r
+
+  -- { `|` Conj }
+  pub data SpellsBars : Trees → Words → Words → Type 0 where
+    no_bar : {r : Words} → SpellsBars none r r
+    a_bar : {p : ℕ} {e : Tree} {es : Trees} {ts us r : Words} → SpellsConj e ts us → SpellsBars es us r → SpellsBars (more e es) (bar p ∷ ts) r
+
+  -- Conj = Operand { `&` Operand }; one alone makes no meet
+  pub data SpellsConj : Tree → Words → Words → Type 0 where
+    one_operand : {e : Tree} {ts r : Words} → SpellsOperand e ts r → SpellsConj e ts r
+    met : {e f : Tree} {fs : Trees} {ts us r : Words} → SpellsOperand e ts us → SpellsAmps (more f fs) us r → SpellsConj (meet (more e (more f fs))) ts r
+
+  -- { `&` Operand }
+  pub data SpellsAmps : Trees → Words → Words → Type 0 where
+    no_amp : {r : Words} → SpellsAmps none r r
+    an_amp : {p : ℕ} {e : Tree} {es : Trees} {ts us r : Words} → SpellsOperand e ts us → SpellsAmps es us r → SpellsAmps (more e es) (amp p ∷ ts) r
+
+  -- Operand = `_`, `_|_`, definition-name, name other than `for`, `if`, `let`, Number, text, Bound, `(` Expr [ nl ] `)`, Struct, List; the names `null`, `true`, `false` are literals
+  pub data SpellsOperand : Tree → Words → Words → Type 0 where
+    top_is : {p : ℕ} {r : Words} → SpellsOperand top (top_mark p ∷ r) r
+    bottom_is : {p : ℕ} {r : Words} → SpellsOperand bottom (bottom_mark p ∷ r) r
+    reference_is : {s : List ℕ} {p : ℕ} {r : Words} → SpellsOperand (reference s p) (definition_name s p ∷ r) r
+    name_is : {s : List ℕ} {e : Tree} {p : ℕ} {r : Words} → is_keyword s ≡ false → e ≡ unwrap_or (literal_of s) (named s p) → SpellsOperand e (name s p ∷ r) r
+    number_is : {z : ℤ} {ts r : Words} → SpellsNumber z ts r → SpellsOperand (integer z) ts r
+    text_is : {s : List ℕ} {p : ℕ} {r : Words} → SpellsOperand (text s) (quoted s p ∷ r) r
+    bound_is : {e : Tree} {ts r : Words} → SpellsBound e ts r → SpellsOperand e ts r
+    paren_is : {p : ℕ} {e : Tree} {ts us r : Words} → SpellsExpr e ts us → ClosesParen us r → SpellsOperand (paren e) (open_paren p ∷ ts) r
+    struct_is : {p : ℕ} {fs : Fields} {b : Bool} {ts r : Words} → SpellsStruct fs b ts r → SpellsOperand (struct p fs b) (open_struct p ∷ ts) r
+    list_is : {p : ℕ} {es : Trees} {end : End} {ts r : Words} → SpellsList es end ts r → SpellsOperand (list es end) (open_list p ∷ ts) r
+
+  -- what stands behind `{`: `}`; `...` [ comma ] `}`; or Field { comma Field } [ comma `...` ] [ comma ] `}`
+  pub data SpellsStruct : Fields → Bool → Words → Words → Type 0 where
+    no_fields : {p : ℕ} {r : Words} → SpellsStruct no_field false (close_struct p ∷ r) r
+    dots_alone : {p : ℕ} {ts r : Words} → ClosesStruct ts r → SpellsStruct no_field true (dots p ∷ ts) r
+    fields : {l : Label} {m : FieldMark} {e : Tree} {fs : Fields} {b : Bool} {ts us vs r : Words} → SpellsField l m e ts us → SpellsFields fs us vs → SpellsOpening b vs r → SpellsStruct (field l m e fs) b ts r
+
+  -- { comma Field }
+  pub data SpellsFields : Fields → Words → Words → Type 0 where
+    no_more_fields : {r : Words} → SpellsFields no_field r r
+    next_field : {l : Label} {m : FieldMark} {e : Tree} {fs : Fields} {ts us vs r : Words} → Comma ts us → SpellsField l m e us vs → SpellsFields fs vs r → SpellsFields (field l m e fs) ts r
+
+  -- what stands behind `[`: `]`; `...` [ Expr ] [ comma ] `]`; or Expr { `,` Expr } [ `,` `...` [ Expr ] ] [ comma ] `]`
+  pub data SpellsList : Trees → End → Words → Words → Type 0 where
+    no_elements : {p : ℕ} {r : Words} → SpellsList none closed (close_list p ∷ r) r
+    rest_alone : {p : ℕ} {end : End} {ts r : Words} → SpellsRest end ts r → SpellsList none end (dots p ∷ ts) r
+    elements : {e : Tree} {es : Trees} {end : End} {ts us vs r : Words} → SpellsExpr e ts us → SpellsElements es us vs → SpellsEnd end vs r → SpellsList (more e es) end ts r
+
+  -- { `,` Expr }
+  pub data SpellsElements : Trees → Words → Words → Type 0 where
+    no_more_elements : {r : Words} → SpellsElements none r r
+    next_element : {p : ℕ} {e : Tree} {es : Trees} {ts us r : Words} → SpellsExpr e ts us → SpellsElements es us r → SpellsElements (more e es) (comma p ∷ ts) r
+
+  -- what stands behind the last element: [ `,` `...` [ Expr ] ] [ comma ] `]`
+  pub data SpellsEnd : End → Words → Words → Type 0 where
+    closed_is : {ts r : Words} → ClosesList ts r → SpellsEnd closed ts r
+    rest_is : {p q : ℕ} {end : End} {ts r : Words} → SpellsRest end ts r → SpellsEnd end (comma p ∷ dots q ∷ ts) r
+
+  -- what stands behind the `...` of a list: [ Expr ] [ comma ] `]`
+  pub data SpellsRest : End → Words → Words → Type 0 where
+    any_is : {ts r : Words} → ClosesList ts r → SpellsRest any ts r
+    each_is : {e : Tree} {ts us r : Words} → SpellsExpr e ts us → ClosesList us r → SpellsRest (each e) ts r
+
+-- ---- files
+
+-- Definition = definition-name `:` Value
+pub data SpellsDefinition : DefinitionTree → Words → Words → Type 0 where
+  defined : {s : List ℕ} {p q : ℕ} {e : Tree} {ts r : Words} → SpellsValue e ts r → SpellsDefinition (definition s p e) (definition_name s p ∷ colon q ∷ ts) r
+
+-- { Definition comma }
+pub data SpellsDefinitions : List DefinitionTree → Words → Words → Type 0 where
+  no_definition : {r : Words} → SpellsDefinitions [] r r
+  next_definition : {d : DefinitionTree} {ds : List DefinitionTree} {ts us vs r : Words} → SpellsDefinition d ts us → Comma us vs → SpellsDefinitions ds vs r → SpellsDefinitions (d ∷ ds) ts r
+
+-- [ `package` name comma ]
+pub data SpellsPackage : Option (List ℕ) → Words → Words → Type 0 where
+  no_clause : {r : Words} → SpellsPackage None r r
+  clause : {t s : List ℕ} {p q : ℕ} {ts r : Words} → is_package t ≡ true → Comma ts r → SpellsPackage (Some s) (name t p ∷ name s q ∷ ts) r
+
+-- File = [ `package` name comma ] { Definition comma } end
+pub data SpellsFile : FileTree → Words → Type 0 where
+  spelled : {c : Option (List ℕ)} {ds : List DefinitionTree} {p : ℕ} {ts us : Words} → SpellsPackage c ts us → SpellsDefinitions ds us (finish p ∷ []) → SpellsFile (file c ds) ts

@@ -1,0 +1,67 @@
+-- The tree of a file, apart from where it lies in memory. Offsets are kept where a fault may stand.
+use Rattle.std.specs.Prelude.{ℕ, ℤ, Bool, List, Option}
+use Rattle.cs_grammar.specs.declared.ast.Relation.{Relation}
+use Rattle.cs_grammar.specs.declared.ast.FieldMark.{FieldMark}
+
+-- a label of a struct literal, and whether it stands in quotes
+pub record Label : Type 0 where
+  pub text : List ℕ
+  pub quotes : Bool
+
+mutual
+  -- an expression; a reference is named without its `#`
+  pub data Tree : Type 0 where
+    top : Tree
+    bottom : Tree
+    null : Tree
+    boolean : Bool → Tree
+    integer : ℤ → Tree
+    text : List ℕ → Tree
+    named : List ℕ → ℕ → Tree
+    reference : List ℕ → ℕ → Tree
+    bound : Relation → ℤ → Tree
+    not_integer : ℤ → Tree
+    not_text : List ℕ → Tree
+    not_null : Tree
+    meet : Trees → Tree
+    join : Trees → Tree
+    paren : Tree → Tree
+    struct : ℕ → Fields → Bool → Tree
+    list : Trees → End → Tree
+
+  pub data Trees : Type 0 where
+    none : Trees
+    more : Tree → Trees → Trees
+
+  pub data Fields : Type 0 where
+    no_field : Fields
+    field : Label → FieldMark → Tree → Fields → Fields
+
+  -- what stands behind the last element of a list: nothing, `...`, or `...` and an expression
+  pub data End : Type 0 where
+    closed : End
+    any : End
+    each : Tree → End
+
+-- a definition: its name without its `#`, where it stands, and its body
+pub data DefinitionTree : Type 0 where
+  definition : List ℕ → ℕ → Tree → DefinitionTree
+
+-- a file: the name of its package clause, if it has one, and its definitions
+pub data FileTree : Type 0 where
+  file : Option (List ℕ) → List DefinitionTree → FileTree
+
+abbrev pub defined_name : DefinitionTree → List ℕ
+defined_name (definition s o e) = s
+
+abbrev pub defined_at : DefinitionTree → ℕ
+defined_at (definition s o e) = o
+
+abbrev pub body : DefinitionTree → Tree
+body (definition s o e) = e
+
+abbrev pub package_name : FileTree → Option (List ℕ)
+package_name (file p ds) = p
+
+abbrev pub definitions : FileTree → List DefinitionTree
+definitions (file p ds) = ds

@@ -1,0 +1,35 @@
+// The tokens as the grammar sees them.
+
+/// What a token is for the grammar.
+#[derive(Clone, Copy, PartialEq, Eq)]
+pub enum Kind {
+    Name,
+    Definition,
+    Hidden,
+    Top,
+    Bottom,
+    Integer,
+    Text,
+    OpenStruct,
+    CloseStruct,
+    OpenList,
+    CloseList,
+    OpenParen,
+    CloseParen,
+    Comma,
+    Colon,
+    Question,
+    Bang,
+    Amp,
+    Bar,
+    Dots,
+    Less,
+    AtMost,
+    More,
+    AtLeast,
+    Unequal,
+    Minus,
+    LeftOut,
+    Inserted,
+    End,
+}

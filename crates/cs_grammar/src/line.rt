@@ -1,0 +1,12 @@
+// What a line is behind a token, for the comma that its end inserts.
+
+/// What the token before a place means for what follows it.
+#[derive(Clone, Copy, PartialEq, Eq)]
+pub enum Line {
+    /// Nothing.
+    Plain,
+    /// The end of the line inserts a comma.
+    WantsComma,
+    /// It is `-`, so that the least integer may follow.
+    Minus,
+}

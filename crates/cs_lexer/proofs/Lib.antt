@@ -1,0 +1,14 @@
+pub mod Runs
+pub mod ByteClasses
+pub mod Names
+pub mod Numbers
+pub mod Texts
+pub mod CharacterSteps
+pub mod Marks
+pub mod Fronts
+pub mod Once
+pub mod Cutting
+pub mod Always
+pub mod Slices
+pub mod Literals
+pub mod Numerals

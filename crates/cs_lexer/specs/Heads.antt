@@ -1,0 +1,63 @@
+-- What the lexer says of the front of a text.
+use Rattle.std.specs.Prelude.{◌≡◌, ℕ, ◌-◌, ◌<◌, ◌≤◌, suc, List, [], ◌∷◌, length, take, Bool, true, false, ◌==◌, ◌&&◌, nat_le, slice_index, if◌then◌else◌, Option, Some, None}
+use Rattle.std.specs.Option.{option_map}
+use Rattle.cs_grammar.specs.declared.token.Sort.{Sort}
+use Rattle.cs_grammar.specs.declared.line.Line.{Line}
+use Rattle.cs_lexer.specs.declared.head.Head.{Head}
+use Rattle.cs_lexer.specs.declared.head.Head.TheVariants as heads
+use Rattle.cs_grammar.specs.declared.text.Spot.{Spot}
+use Rattle.cs_grammar.specs.declared.text.Step.{Step}
+use Rattle.cs_grammar.specs.declared.text.Step.TheVariants.{More, Ends, Fails}
+use Rattle.cs_grammar.specs.Spelling.{is_name_byte, begins_definition, mark_sort, text_step}
+use Rattle.cs_grammar.specs.Cut.{Begins, NoneBegins, TooLarge, is_space, begins_comment, line_len}
+
+-- the bytes at both ends of a token are ASCII
+pub record Edges (bs : List ℕ) (n : ℕ) : Type 0 where
+  pub some : 0 < n
+  pub within : n ≤ length bs
+  pub first : slice_index bs 0 < 128
+  pub last : slice_index bs (n - 1) < 128
+
+abbrev pub IsHead : Line → List ℕ → Head → Type 0
+IsHead l bs heads.Space = is_space (slice_index bs 0) ≡ true
+IsHead l bs heads.NewLine = (slice_index bs 0 == 10) ≡ true
+IsHead l bs (heads.Comment n) = (begins_comment bs ≡ true) × (n ≡ line_len bs)
+IsHead l bs (heads.Token s n) = Begins l bs n s × Edges bs n
+IsHead l bs heads.NoToken = NoneBegins bs
+IsHead l bs heads.TooLarge = (n : ℕ) × TooLarge l bs n
+
+-- a byte of a name
+abbrev pub begins_name : List ℕ → Bool
+begins_name [] = false
+begins_name (x ∷ xs) = is_name_byte x
+
+-- `#` (35), and what the name of a definition begins with
+abbrev pub begins_definition_name : List ℕ → Bool
+begins_definition_name (x ∷ y ∷ xs) = x == 35 && begins_definition y
+begins_definition_name _ = false
+
+-- `|_`
+abbrev pub begins_bottom_rest : List ℕ → Bool
+begins_bottom_rest (x ∷ y ∷ xs) = x == 124 && y == 95
+begins_bottom_rest _ = false
+
+-- the longest of three, two and one bytes that are a mark
+abbrev pub mark_of : ℕ → List ℕ → Option (Sort × ℕ)
+mark_of n bs = if nat_le n (length bs) then option_map (λ s. (s, n)) (mark_sort (take n bs)) else None
+
+abbrev pub or_else : {A : Type 0} → Option A → Option A → Option A
+or_else None o = o
+or_else (Some x) o = Some x
+
+abbrev pub longest_mark : List ℕ → Option (Sort × ℕ)
+longest_mark bs = or_else (mark_of 3 bs) (or_else (mark_of 2 bs) (or_else (mark_of 1 bs) None))
+
+abbrev pub len_by : Step → (Spot → Option ℕ) → Option ℕ
+len_by (More s) again = option_map suc (again s)
+len_by Ends again = Some 1
+len_by Fails again = None
+
+-- how many bytes there are up to the last quote of a text and with it
+unfoldable pub text_len : Spot → List ℕ → Option ℕ
+text_len s [] = None
+text_len s (x ∷ xs) = len_by (text_step s x) (λ t. text_len t xs)

@@ -1,0 +1,3 @@
+pub mod Lexed
+pub mod Heads
+pub mod Quoted

@@ -1,0 +1,16 @@
+// From a source to its tokens, and what the texts of tokens stand for.
+#![tactic(auto)]
+
+mod bytes;
+mod characters;
+mod cut;
+mod head;
+mod line;
+mod mark;
+mod numeral;
+mod text;
+
+pub use characters::unescape;
+pub use cut::{lex, one_cut};
+pub use numeral::integer_value;
+pub use text::text_parts;

@@ -1,0 +1,129 @@
+// Text literals.
+
+ghost use Rattle.std.specs.Prelude.{◌≡◌, List, ℕ, ◌∷◌, Some};
+ghost use Rattle.cs_grammar.specs.Spelling.{is_character, escape_value, number_step, text_step, sort_of};
+ghost use Rattle.cs_grammar.specs.Values.{unescaped};
+ghost use Rattle.cs_grammar.specs.Literal.{Literal};
+ghost use Rattle.cs_grammar.specs.Cut.{begins_quotes};
+ghost use Rattle.cs_lexer.specs.Heads.{text_len};
+
+use crate::bytes::{digit_value, is_hex_digit};
+use cs_grammar::{Sort, Spot, Step};
+
+// Whether the bytes begin with three quotes.
+pub(crate) fn begins_quotes(bytes: &[u8]) -> bool
+    ensures { result ≡ begins_quotes bytes.now }
+{
+    match bytes {
+        [x, y, z, ..] => *x == b'"' && *y == b'"' && *z == b'"',
+        _ => false,
+    }
+}
+
+// The character that a letter behind a backslash stands for.
+pub(crate) fn escape_value(x: u8) -> Option<u8>
+    ensures { result ≡ escape_value x }
+{
+    match x {
+        b'a' => Some(7),
+        b'b' => Some(8),
+        b'f' => Some(12),
+        b'n' => Some(b'\n'),
+        b'r' => Some(b'\r'),
+        b't' => Some(b'\t'),
+        b'v' => Some(11),
+        b'/' => Some(b'/'),
+        b'\\' => Some(b'\\'),
+        b'"' => Some(b'"'),
+        _ => None,
+    }
+}
+
+// Whether a number is that of a character, and of no surrogate.
+fn is_character(number: u64) -> bool
+    ensures { result ≡ is_character number }
+{
+    number < 0xD800 || (number >= 0xE000 && number <= 0x10FFFF)
+}
+
+// What a digit does within an escape by number.
+fn number_step(left: u8, number: u64) -> Step
+    ensures { result ≡ number_step left number }
+{
+    if left > 1 {
+        if number > 0x10FFFF {
+            return Step::Fails;
+        }
+        let left = left - 1;
+        let number = number as u32;
+        return Step::More(Spot::Digits { left, number });
+    }
+    if is_character(number) {
+        Step::More(Spot::Inside)
+    } else {
+        Step::Fails
+    }
+}
+
+// What a byte does behind a backslash.
+fn escape_step(x: u8) -> Step
+    ensures { result ≡ text_step Spot.Escaped x }
+{
+    match x {
+        b'u' => Step::More(Spot::Digits { left: 4, number: 0 }),
+        b'U' => Step::More(Spot::Digits { left: 8, number: 0 }),
+        _ => {
+            if escape_value(x).is_some() {
+                Step::More(Spot::Inside)
+            } else {
+                Step::Fails
+            }
+        }
+    }
+}
+
+// What a byte does in a text.
+pub(crate) fn text_step(spot: Spot, x: u8) -> Step
+    ensures { result ≡ text_step spot x }
+{
+    match spot {
+        Spot::Inside => match x {
+            b'"' => Step::Ends,
+            b'\\' => Step::More(Spot::Escaped),
+            b'\n' => Step::Fails,
+            _ => Step::More(Spot::Inside),
+        },
+        Spot::Escaped => escape_step(x),
+        Spot::Digits { left, number } => {
+            if is_hex_digit(x) {
+                number_step(left, number as u64 * 16 + digit_value(x) as u64)
+            } else {
+                Step::Fails
+            }
+        }
+    }
+}
+
+// The length of a text behind its first quote, with its last one.
+pub(crate) fn text_len(bytes: &[u8]) -> Option<usize>
+    ensures { result ≡ text_len Spot.Inside bytes.now }
+{
+    let mut spot = Spot::Inside;
+    'text: for (i, x) in bytes.iter().enumerate() {
+        match text_step(spot, *x) {
+            Step::Ends => return Some(i + 1),
+            Step::Fails => return None,
+            Step::More(next) => spot = next,
+        }
+    }
+    None
+}
+
+/// Behind its first quote a text is its parts, as they stand in the source: characters, escapes and
+/// the last quote. What it stands for is their characters.
+pub fn text_parts()
+    ensures parts { (xs : List ℕ)
+        → sort_of (34 ∷ xs) ≡ Some Sort.Text → Literal xs (unescaped (34 ∷ xs)) }
+    ensures text { (xs cs : List ℕ)
+        → Literal xs cs → (sort_of (34 ∷ xs) ≡ Some Sort.Text) × (unescaped (34 ∷ xs) ≡ cs) }
+{}

@@ -1,0 +1,142 @@
+-- A code for environments, by which a proof tells two of them apart. It says nothing of CUE.
+use Rattle.std.specs.Prelude.{◌≡◌, ℕ, ℤ, Option, List, refl}
+use Rattle.std.proofs.Common.{ap, ap₂, arith}
+use Rattle.std.specs.Coded.{Coded, coded×, coded_ℕ, coded_ℤ, coded_bool, coded_list, coded_option}
+use base.Stored.{Gv, gnil, gnum, gcons}
+use Rattle.cs_package.specs.Expression.{Kind, int, number, string, bool, Relation, less, at_most, more, at_least, Mark, regular, optional, required, Expression, top, bottom, null, boolean, integer, text, kind, range, reference, bound, not_integer, not_text, not_null, conjunction, disjunction, struct, list, Expressions, no_expressions, expression, Declarations, no_declarations, declaration, Rest, closed, any, each}
+use Rattle.cs_package.specs.Environment.{Environment}
+
+abbrev of_kind : Kind → Gv
+of_kind int = gnum 0
+of_kind number = gnum 1
+of_kind string = gnum 2
+of_kind bool = gnum 3
+
+abbrev of_relation : Relation → Gv
+of_relation less = gnum 0
+of_relation at_most = gnum 1
+of_relation more = gnum 2
+of_relation at_least = gnum 3
+
+abbrev of_mark : Mark → Gv
+of_mark regular = gnum 0
+of_mark optional = gnum 1
+of_mark required = gnum 2
+
+abbrev coded_text : Coded (List ℕ)
+coded_text = coded_list coded_ℕ
+
+abbrev mutual
+  of_expression : Expression → Gv
+  of_expression top = gcons (gnum 0) gnil
+  of_expression bottom = gcons (gnum 1) gnil
+  of_expression null = gcons (gnum 2) gnil
+  of_expression (boolean b) = gcons (gnum 3) (coded_bool.code b)
+  of_expression (integer z) = gcons (gnum 4) (coded_ℤ.code z)
+  of_expression (text s) = gcons (gnum 5) (coded_text.code s)
+  of_expression (kind k) = gcons (gnum 6) (of_kind k)
+  of_expression (range l g) = gcons (gnum 7) ((coded× coded_ℤ (coded_option coded_ℤ)).code (l, g))
+  of_expression (reference n) = gcons (gnum 8) (coded_text.code n)
+  of_expression (bound r z) = gcons (gnum 9) (gcons (of_relation r) (coded_ℤ.code z))
+  of_expression (not_integer z) = gcons (gnum 10) (coded_ℤ.code z)
+  of_expression (not_text s) = gcons (gnum 11) (coded_text.code s)
+  of_expression not_null = gcons (gnum 12) gnil
+  of_expression (conjunction es) = gcons (gnum 13) (of_expressions es)
+  of_expression (disjunction es) = gcons (gnum 14) (of_expressions es)
+  of_expression (struct ds b) = gcons (gnum 15) (gcons (of_declarations ds) (coded_bool.code b))
+  of_expression (list es r) = gcons (gnum 16) (gcons (of_expressions es) (of_rest r))
+
+  of_expressions : Expressions → Gv
+  of_expressions no_expressions = gnil
+  of_expressions (expression e es) = gcons (of_expression e) (of_expressions es)
+
+  of_declarations : Declarations → Gv
+  of_declarations no_declarations = gnil
+  of_declarations (declaration l m e ds) = gcons (gcons (coded_text.code l) (gcons (of_mark m) (of_expression e))) (of_declarations ds)
+
+  of_rest : Rest → Gv
+  of_rest closed = gnum 0
+  of_rest any = gnum 1
+  of_rest (each e) = gcons gnil (of_expression e)
+
+-- ---- two with one code are one
+
+kind-same : (a b : Kind) → of_kind a ≡ of_kind b → a ≡ b
+kind-same int int p = refl
+kind-same number number p = refl
+kind-same string string p = refl
+kind-same bool bool p = refl
+kind-same _ _ p = cc
+
+relation-same : (a b : Relation) → of_relation a ≡ of_relation b → a ≡ b
+relation-same less less p = refl
+relation-same at_most at_most p = refl
+relation-same more more p = refl
+relation-same at_least at_least p = refl
+relation-same _ _ p = cc
+
+mark-same : (a b : Mark) → of_mark a ≡ of_mark b → a ≡ b
+mark-same regular regular p = refl
+mark-same optional optional p = refl
+mark-same required required p = refl
+mark-same _ _ p = cc
+
+abbrev first : Gv → Gv
+first (gcons a b) = a
+first _ = gnil
+
+abbrev second : Gv → Gv
+second (gcons a b) = b
+second _ = gnil
+
+abbrev number_of : Gv → ℕ
+number_of (gnum n) = n
+number_of _ = 0
+
+mutual
+  pub expression-same : (a b : Expression) → of_expression a ≡ of_expression b → a ≡ b
+  expression-same top top p = refl
+  expression-same bottom bottom p = refl
+  expression-same null null p = refl
+  expression-same (boolean a) (boolean b) p = ap boolean (coded_bool.inj a b (ap second p))
+  expression-same (integer a) (integer b) p = ap integer (coded_ℤ.inj a b (ap second p))
+  expression-same (text a) (text b) p = ap text (coded_text.inj a b (ap second p))
+  expression-same (kind a) (kind b) p = ap kind (kind-same a b (ap second p))
+  expression-same (range l g) (range k h) p = ap (λ (q : ℤ × Option ℤ). range q.0 q.1) ((coded× coded_ℤ (coded_option coded_ℤ)).inj (l, g) (k, h) (ap second p))
+  expression-same (reference a) (reference b) p = ap reference (coded_text.inj a b (ap second p))
+  expression-same (bound r a) (bound s b) p = ap₂ bound (relation-same r s (ap (λ g. first (second g)) p)) (coded_ℤ.inj a b (ap (λ g. second (second g)) p))
+  expression-same (not_integer a) (not_integer b) p = ap not_integer (coded_ℤ.inj a b (ap second p))
+  expression-same (not_text a) (not_text b) p = ap not_text (coded_text.inj a b (ap second p))
+  expression-same not_null not_null p = refl
+  expression-same (conjunction a) (conjunction b) p = ap conjunction (expressions-same a b (ap second p))
+  expression-same (disjunction a) (disjunction b) p = ap disjunction (expressions-same a b (ap second p))
+  expression-same (struct ds a) (struct cs b) p = ap₂ struct (declarations-same ds cs (ap (λ g. first (second g)) p)) (coded_bool.inj a b (ap (λ g. second (second g)) p))
+  expression-same (list a r) (list b s) p = ap₂ list (expressions-same a b (ap (λ g. first (second g)) p)) (rest-same r s (ap (λ g. second (second g)) p))
+  expression-same a b p = (let h = ap (λ g. number_of (first g)) p in absurd (omega (arith, h)))
+
+  expressions-same : (a b : Expressions) → of_expressions a ≡ of_expressions b → a ≡ b
+  expressions-same no_expressions no_expressions p = refl
+  expressions-same (expression a as') (expression b bs) p = ap₂ expression (expression-same a b (ap first p)) (expressions-same as' bs (ap second p))
+  expressions-same _ _ p = cc
+
+  declarations-same : (a b : Declarations) → of_declarations a ≡ of_declarations b → a ≡ b
+  declarations-same no_declarations no_declarations p = refl
+  declarations-same (declaration l m a ds) (declaration k n b es) p =
+      let label = coded_text.inj l k (ap (λ g. first (first g)) p) in
+      let mark = mark-same m n (ap (λ g. first (second (first g))) p) in
+      let value = expression-same a b (ap (λ g. second (second (first g))) p) in
+      let rest = declarations-same ds es (ap second p) in
+      λ i. declaration (label i) (mark i) (value i) (rest i)
+  declarations-same _ _ p = cc
+
+  rest-same : (a b : Rest) → of_rest a ≡ of_rest b → a ≡ b
+  rest-same closed closed p = refl
+  rest-same any any p = refl
+  rest-same (each a) (each b) p = ap each (expression-same a b (ap second p))
+  rest-same _ _ p = cc
+
+abbrev coded_expression : Coded Expression
+coded_expression = record { code = of_expression; inj = expression-same }
+
+abbrev pub coded_environment : Coded Environment
+coded_environment = coded_list (coded× coded_text (coded_list coded_expression))

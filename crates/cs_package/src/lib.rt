@@ -1,0 +1,9 @@
+// Packages: definitions with their bodies, whose names are resolved.
+#![tactic(auto)]
+
+mod package;
+mod shape;
+
+pub use cs_grammar::{FieldMark, Relation};
+pub use package::{NameTable, Package, package_of};
+pub use shape::{Kind, Part, Shape, ShapeEnd};

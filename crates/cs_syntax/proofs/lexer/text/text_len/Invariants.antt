@@ -1,8 +1,0 @@
-use Rattle.std.proofs.Common.{◌≡◌}
-use Rattle.cs_syntax.specs.declared.lexer.text.Spot.TheVariants.{Inside}
-use Rattle.cs_syntax.specs.Heads.{text_len}
-use Rattle.cs_syntax.proofs.Texts.{text_from}
-use Rattle.cs_syntax.proofs.lexer.text.text_len.Given as goal
-
-abbrev pub invariant-text : goal.invariant-text
-invariant-text l = text_from l.bytes l.i l.spot ≡ text_len Inside l.bytes

@@ -1,8 +1,0 @@
-use Rattle.std.proofs.Common.{◌≡◌, ◌++◌, string_bytes}
-use Rattle.std.specs.Str.Iter.{chars_rest}
-use Rattle.cs_syntax.specs.declared.lexer.text.Spot.TheVariants.{Inside}
-use Rattle.cs_syntax.specs.Values.{characters}
-use Rattle.cs_syntax.proofs.parser.text.characters.Given as goal
-
-abbrev pub invariant-text : goal.invariant-text
-invariant-text l = characters Inside l.text ≡ string_bytes l.found ++ characters l.spot (chars_rest l.character-iterator)
