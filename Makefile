@@ -16,9 +16,10 @@ BUILT := crates/cue2schema/out/cue2schema
 
 all: bin/cue2schema
 
-# The libraries side by side first: `rt run` proves them in turn.
+# The libraries side by side first: `rt run` proves them in turn. A crate that waits for another holds a place, so there
+# are twice as many places as processors.
 bin/cue2schema: $(SOURCES) | toolchain
-	cd crates/cue2schema && { rt all check --jobs $(JOBS) > ../../proved.log 2>&1 || { tail -n 40 ../../proved.log; exit 1; }; }
+	cd crates/cue2schema && { rt all check --jobs $$((2 * $(JOBS))) > ../../proved.log 2>&1 || { tail -n 40 ../../proved.log; exit 1; }; }
 	cd crates/cue2schema && rt run -- export --root '#P' < ../../examples/port.cue > /dev/null
 	mkdir -p bin
 	cp $(BUILT) $@
