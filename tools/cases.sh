@@ -9,6 +9,8 @@ shift
 cases=$(cd "$(dirname "$0")/../cases" && pwd)
 room=$(mktemp -d)
 trap 'rm -rf "$room"' EXIT
+# The stack that a process has by default, so that deep sources are tried with no more.
+ulimit -s 8192
 passed=0
 failed=0
 dialect='"$schema":"https://json-schema.org/draft/2020-12/schema"'
@@ -74,6 +76,16 @@ table() { # folder
     done < "$cases/$1/table"
 }
 
+# The rows of `repeated`: what a source begins with, how many times a text follows, that text, and what is wanted.
+repeated() { # folder
+    while IFS= read -r line || [ -n "$line" ]; do
+        source=${line%% => *}
+        many=${source#* + }
+        { printf '%s' "${source%% + *}"; yes "${many#* \* }" | head -n "${many%% \* *}" | tr -d '\n'; } > "$room/in"
+        row "$1: $source" "${line#* => }"
+    done < "$cases/$1/repeated"
+}
+
 # Each front of a source, byte by byte: how many bytes, or from how many to how many, and what is wanted of them.
 fronts() { # folder
     next=0
@@ -121,6 +133,8 @@ for name in "$@"; do
     root=$(sed -n 's/^#//p' "$words" | tail -n 1)
     if [ -e "$cases/$name/table" ]; then
         table "$name"
+    elif [ -e "$cases/$name/repeated" ]; then
+        repeated "$name"
     elif [ -e "$cases/$name/fronts" ]; then
         fronts "$name"
     else

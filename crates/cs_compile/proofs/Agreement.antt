@@ -3,7 +3,7 @@ use Rattle.std.proofs.Common.{◌≡◌, ℕ, ℤ, List, [], ◌∷◌, map, Boo
 use Rattle.std.proofs.Math.Bool.{and-true}
 use Rattle.std.specs.List.{list_all}
 use Rattle.cs_document.specs.Document.{Document, boolean, integer, text, elements}
-use Rattle.cs_schema.specs.Validity.{IsValidity}
+use Rattle.cs_profile.specs.Validity.{IsValidity}
 use Rattle.cs_package.specs.Expression as cue
 use Rattle.cs_package.specs.Expression.{Expression, Expressions, operands, Kind, int, number, string, bool, Relation, less, at_most, more, at_least}
 use Rattle.cs_package.specs.Environment.{Environment, bodies}

@@ -1,16 +1,18 @@
 -- A root that refers to one of its definitions, together with the definitions of a package, is the package's schema.
 use Rattle.std.proofs.Common.{◌≡◌, ℕ, List, Bool, Option, Some, None, IsSome, IfSome, refl, sym, ap, ◌∙◌, subst}
-use Rattle.std.specs.Prelude.{option_map, ◌≤◌}
+use Rattle.std.specs.Prelude.{◌↔◌, option_map, ◌≤◌}
 use Rattle.cs_document.specs.Document.{Document, entries, under, depth, IsDocument}
 use Rattle.cs_document.specs.View.{members_of}
+use Rattle.cs_grammar.specs.View.{bare_name}
 use Rattle.cs_package.specs.Environment.{Environment, bodies, written, IsDefinitionName}
 use Rattle.cs_instance.specs.Instance.{Rule, definition, IsInstance}
-use Rattle.cs_schema.specs.Keywords.{defined}
-use Rattle.cs_schema.specs.Profile.{IsSchema}
-use Rattle.cs_schema.specs.SchemaDocument.{SchemaValue, document_of, schema_view, definitions_view, IsWhole}
-use Rattle.cs_schema.specs.Validity.{IsValidity}
-use Rattle.cs_compile.specs.Translation.{definition_schema, bare_name}
-use Rattle.cs_compile.specs.Whole.{Compiles, reference_to, definition_entries, AreDefinitions}
+use Rattle.cs_profile.specs.Keywords.{defined}
+use Rattle.cs_profile.specs.Profile.{IsSchema}
+use Rattle.cs_profile.specs.SchemaDocument.{SchemaValue, document_of, schema_view, definitions_view, IsWhole}
+use Rattle.cs_profile.specs.Validity.{IsValidity}
+use Rattle.cs_compile.specs.Translation.{definition_schema, IsTranslation}
+use Rattle.cs_compile.specs.Definitions.{definition_entries, AreDefinitions}
+use Rattle.cs_compile.specs.Whole.{Compiles, reference_to}
 use Rattle.cs_compile.proofs.Agreement.{definition_agrees}
 use Rattle.cs_compile.proofs.Declared.{definition_under}
 use Rattle.cs_compile.proofs.Depths.{root_of-depth}
@@ -18,9 +20,9 @@ use Rattle.cs_compile.proofs.NameCodes.{definition_name}
 use Rattle.cs_compile.proofs.Root.{root_of, document_of-root, defined-root_of, valid-root_of}
 use Rattle.cs_compile.proofs.Visited.{is_schema-root_of}
 
-some_map : {A B : Type 0} (f : A → B) (o : Option A) → IsSome o → IsSome (option_map f o)
-some_map f None h = cc
-some_map f (Some x) h = refl
+some_map : {A B : Type 0} (f : A → B) (o : Option A) → IsSome (option_map f o) ↔ IsSome o
+some_map f None = (λ h. h, λ h. h)
+some_map f (Some x) = (λ h. refl, λ h. refl)
 
 some_value : {A : Type 0} (o : Option A) → IsSome o → (x : A) × (o ≡ Some x)
 some_value None h = cc
@@ -36,7 +38,7 @@ module _ (E : Environment) (n : List ℕ) (s : SchemaValue) (root : schema_view 
     (each : (m : List ℕ) → under m (definition_entries s.definitions) ≡ option_map definition_schema (bodies E m))
     (are : AreDefinitions E (members_of (definitions_view s.definitions))) (declared : IsSome (bodies E n)) where
   there : IsSome (under n (definition_entries s.definitions))
-  there = subst (λ (o : Option Document). IsSome o) (sym (each n)) (some_map definition_schema (bodies E n) declared)
+  there = subst (λ (o : Option Document). IsSome o) (sym (each n)) ((some_map definition_schema (bodies E n)).1 declared)
 
   is_root : document_of s ≡ root_of (members_of (definitions_view s.definitions)) n
   is_root = document_of-root s n root there
@@ -57,10 +59,13 @@ module _ (E : Environment) (n : List ℕ) (s : SchemaValue) (root : schema_view 
       ∙ ap (λ d. V d x) own.schema
       ∙ definition_agrees E (root_of ms n) I V h g n own.operands own.declared own.taken x
 
+  pub translates : IsTranslation E (document_of s)
+  translates = λ m. ap (λ d. defined d m) is_root ∙ defined-root_of (members_of (definitions_view s.definitions)) n m ∙ each m
+
   pub compiles : Compiles E n s
   compiles = record {
     root = root;
-    definitions = λ m. ap (λ d. defined d m) is_root ∙ defined-root_of (members_of (definitions_view s.definitions)) n m ∙ each m;
+    definitions = λ m. subst (λ (o : Option Document). IsSome o ↔ IsSome (bodies E m)) (sym (translates m)) (some_map definition_schema (bodies E m));
     meaning = λ V I. subst (λ d. IsValidity d V → IsInstance E I → (x : Document) → IsDocument x → V d x ≡ I (definition n) x) (sym is_root) (λ g h x is. valid V I g h x);
     nested = λ low. subst (λ d. depth d ≤ 114) (sym is_root) (root_of-depth E (members_of (definitions_view s.definitions)) n low are);
   }

@@ -9,7 +9,7 @@ use Rattle.cs_package.specs.Expression.{Expression}
 use Rattle.cs_package.specs.Environment.{Environment, bodies}
 use Rattle.cs_instance.specs.Taken.{AllTaken}
 use Rattle.cs_compile.specs.Translation.{definition_schema}
-use Rattle.cs_compile.specs.Whole.{IsDefinition, AreDefinitions}
+use Rattle.cs_compile.specs.Definitions.{IsDefinition, AreDefinitions}
 
 module _ (E : Environment) (k : List ℕ) (bs : List Expression) (has : bodies E k ≡ Some bs) (taken : AllTaken bs) where
   put_at : (l : List ℕ) → k ≡ l → IsDefinition E l (definition_schema bs)

@@ -7,7 +7,7 @@ use Rattle.cs_package.specs.Expression as cue
 use Rattle.cs_package.specs.Expression.{Expression, Expressions, less, at_most, more, at_least}
 use Rattle.cs_package.specs.Environment.{Environment}
 use Rattle.cs_compile.specs.Translation.{schema_of, schemas_of, body_schemas, definition_schema}
-use Rattle.cs_compile.specs.Whole.{AreDefinitions}
+use Rattle.cs_compile.specs.Definitions.{AreDefinitions}
 use Rattle.cs_package.specs.Height.{height, height_all, heights, IsLow}
 use Rattle.cs_compile.proofs.Root.{root_of}
 

@@ -5,5 +5,6 @@ pub mod Depths
 pub mod NameCodes
 pub mod Names
 pub mod Root
+pub mod Samples
 pub mod Slots
 pub mod Visited

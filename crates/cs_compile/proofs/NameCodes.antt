@@ -4,7 +4,7 @@ use Rattle.std.specs.List.{list_all}
 use Rattle.std.proofs.lemmas.Bool.Decides.{nat_tests}
 use Rattle.cs_grammar.specs.Spelling.{is_name_byte, begins_definition}
 use Rattle.cs_package.specs.Environment.{IsDefinitionName}
-use Rattle.cs_schema.specs.Shapes.{is_name, is_name_code}
+use Rattle.cs_profile.specs.Shapes.{is_name, is_name_code}
 
 both : (a b : Bool) → (a && b) ≡ true → (a ≡ true) × (b ≡ true)
 both true b e = (refl, e)

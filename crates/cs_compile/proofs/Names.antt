@@ -11,11 +11,12 @@ use Rattle.std.proofs.lemmas.Map.Text.{is_eq-slice_cmp}
 use Rattle.std.proofs.lemmas.Slice.Eq.{bytes_eq-Decides}
 use Rattle.cs_document.specs.Document.{Document, Members, no_members, member, entries, under, put}
 use Rattle.cs_document.specs.View.{members_of}
+use Rattle.cs_grammar.specs.View.{bare_name}
 use Rattle.cs_package.specs.Expression.{Expression}
 use Rattle.cs_package.specs.Environment.{Environment, bodies, name_at}
-use Rattle.cs_schema.specs.SchemaDocument.{schema_view, definitions_view}
-use Rattle.cs_schema.specs.declared.schema.Schema.{Schema}
-use Rattle.cs_compile.specs.Translation.{definition_schema, bare_name}
+use Rattle.cs_profile.specs.SchemaDocument.{schema_view, definitions_view}
+use Rattle.cs_profile.specs.declared.schema.Schema.{Schema}
+use Rattle.cs_compile.specs.Translation.{definition_schema}
 
 bare_already : (bs : List ℕ) → ((rest : List ℕ) → bs ≢ 35 ∷ rest) → bs ≡ bare_name bs
 bare_already [] h = refl

@@ -6,10 +6,10 @@ use Rattle.cs_document.specs.Document.{Document, text, object, document, Members
 use Rattle.cs_document.specs.View.{documents_of}
 use Rattle.cs_package.specs.Expression.{Expression}
 use Rattle.cs_package.specs.View.{expressions_of}
-use Rattle.cs_schema.specs.SchemaDocument.{Slot, present, slots_of, schema_view, unless_no_list}
-use Rattle.cs_schema.specs.Reading.{set_slot}
-use Rattle.cs_schema.specs.declared.schema.Keywords.{Keywords, the_lemmas}
-use Rattle.cs_schema.specs.declared.schema.Schema.{Schema}
+use Rattle.cs_profile.specs.SchemaDocument.{Slot, present, slots_of, schema_view, unless_no_list}
+use Rattle.cs_profile.specs.SchemaDocument.{set_slot}
+use Rattle.cs_profile.specs.declared.schema.Keywords.{Keywords, the_lemmas}
+use Rattle.cs_profile.specs.declared.schema.Schema.{Schema}
 use Rattle.cs_compile.specs.declared.fault.CompileFault.{CompileFault}
 use Rattle.cs_compile.specs.Translation.{schema_of, schemas_of, body_schemas, all_of}
 

@@ -7,14 +7,14 @@ use Rattle.cs_document.specs.Document.{Document, text, object, Documents, no_doc
 use Rattle.cs_package.specs.Expression as cue
 use Rattle.cs_package.specs.Expression.{Expression, Expressions, less, at_most, more, at_least, int, number, string, bool}
 use Rattle.cs_package.specs.Environment.{Environment}
-use Rattle.cs_schema.specs.Keywords.{defined, reference_start}
-use Rattle.cs_schema.specs.Loops.{direct_names, each_names, RefersDirectly, IsLoop}
-use Rattle.cs_schema.specs.Places.{at_key, at_index}
-use Rattle.cs_schema.specs.Profile.{Visit, keyword_at, first, fault_of, undefined_at, visits, element_visits, named_visits, IsSchema}
-use Rattle.cs_schema.specs.Shapes.{is_name, dialect}
-use Rattle.cs_schema.proofs.Walks.{first_past}
+use Rattle.cs_profile.specs.Keywords.{defined, reference_start}
+use Rattle.cs_profile.specs.Loops.{direct_names, each_names, RefersDirectly, IsLoop}
+use Rattle.cs_profile.specs.Places.{at_key, at_index}
+use Rattle.cs_profile.specs.Profile.{Visit, keyword_at, first, fault_of, undefined_at, visits, element_visits, named_visits, IsSchema}
+use Rattle.cs_profile.specs.Shapes.{is_name, dialect}
+use Rattle.cs_profile.proofs.Walks.{first_past}
 use Rattle.cs_compile.specs.Translation.{schema_of, schemas_of, body_schemas, definition_schema, all_of}
-use Rattle.cs_compile.specs.Whole.{AreDefinitions}
+use Rattle.cs_compile.specs.Definitions.{AreDefinitions}
 use Rattle.cs_compile.proofs.Declared.{definition_under}
 use Rattle.cs_compile.proofs.Root.{root_of, defined-root_of}
 

@@ -1,2 +1,3 @@
+pub mod Definitions
 pub mod Translation
 pub mod Whole

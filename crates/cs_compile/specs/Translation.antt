@@ -1,9 +1,11 @@
 -- The schema of each form of expression that is taken so far, a row for each form (own rule; the keywords are those of
 -- JSON Schema Validation 2020-12, section 6, and Core, section 10). Keys stand in byte order.
-use Rattle.std.specs.Prelude.{ℕ, ℤ, List, [], ◌∷◌, Option, Some, None, false, codes, ◌==◌, if◌then◌else◌}
+use Rattle.std.specs.Prelude.{◌≡◌, ℕ, ℤ, List, [], ◌∷◌, Option, Some, None, option_map, false, codes}
 use Rattle.cs_document.specs.Document.{Document, boolean, integer, text, list, object, Documents, no_documents, document, Members, no_members, member}
 use Rattle.cs_package.specs.Expression as cue
 use Rattle.cs_package.specs.Expression.{Expression, Expressions, Kind, int, number, string, bool, Relation, less, at_most, more, at_least}
+use Rattle.cs_package.specs.Environment.{Environment, bodies}
+use Rattle.cs_profile.specs.Keywords.{defined}
 
 -- `int`, `number`, `string`, `bool`
 abbrev pub type_name : Kind → List ℕ
@@ -43,7 +45,19 @@ abbrev mutual
   schema_of (cue.range least greatest) = object (range_keywords least greatest)
   schema_of (cue.bound r n) = object (member (limit_name r) (integer n) (of_type (codes "number")))
   schema_of (cue.conjunction es) = object (all_of (schemas_of es))
-  schema_of _ = boolean false
+  -- the forms that are not taken yet: no call writes these rows
+  schema_of cue.top = boolean false
+  schema_of cue.bottom = boolean false
+  schema_of cue.null = boolean false
+  schema_of (cue.boolean b) = boolean false
+  schema_of (cue.text s) = boolean false
+  schema_of (cue.reference n) = boolean false
+  schema_of (cue.not_integer n) = boolean false
+  schema_of (cue.not_text s) = boolean false
+  schema_of cue.not_null = boolean false
+  schema_of (cue.disjunction es) = boolean false
+  schema_of (cue.struct ds opened) = boolean false
+  schema_of (cue.list es rest) = boolean false
 
   pub schemas_of : Expressions → Documents
   schemas_of cue.no_expressions = no_documents
@@ -58,7 +72,6 @@ abbrev pub definition_schema : List Expression → Document
 definition_schema (e ∷ []) = schema_of e
 definition_schema es = object (all_of (body_schemas es))
 
--- a name without the `#` that CUE writes before it
-abbrev pub bare_name : List ℕ → List ℕ
-bare_name [] = []
-bare_name (c ∷ cs) = if c == 35 then cs else c ∷ cs
+-- the document defines each declared name, by the schema of its bodies, and no other name
+abbrev pub IsTranslation : Environment → Document → Type 0
+IsTranslation E d = (n : List ℕ) → defined d n ≡ option_map definition_schema (bodies E n)

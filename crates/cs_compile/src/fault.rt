@@ -4,7 +4,7 @@ use thiserror::Error;
 /// Why there is no schema.
 #[derive(Debug, Drop, Error)]
 pub enum CompileFault {
-    /// A growth was refused for want of memory.
+    /// Memory ran out, at any time.
     #[error("out of memory")]
     OutOfMemory,
     /// The root is no definition of the package.

@@ -2,13 +2,13 @@
 ghost use Rattle.std.specs.Prelude.{◌≡◌, [], ◌∷◌, Some, IfOk, IsOkUnless, codes};
 ghost use Rattle.cs_document.specs.Document.{text, integer, list, object};
 ghost use Rattle.cs_document.specs.View.{doc_view, documents_of};
-ghost use Rattle.cs_schema.specs.SchemaDocument.{schema_view, schemas_view, kind_name, reference_document, slots_of, present, unless_no_list};
-ghost use Rattle.cs_schema.specs.Reading.{set_slot};
+ghost use Rattle.cs_profile.specs.SchemaDocument.{schema_view, schemas_view, kind_name, reference_document, slots_of, present, unless_no_list};
+ghost use Rattle.cs_profile.specs.SchemaDocument.{set_slot};
 ghost use Rattle.cs_compile.specs.Translation.{all_of};
 
 use crate::CompileFault;
 use cs_document::Doc;
-use cs_schema::{JsonKind, Keywords, Schema};
+use cs_profile::{JsonKind, Keywords, Schema};
 use std::alloc::Global;
 
 /// The schema of some keywords.

@@ -3,7 +3,7 @@ ghost use Rattle.std.specs.Prelude.{◌≡◌, ℕ, List, IfOk, IsOkUnless, code
 ghost use Rattle.cs_document.specs.Document.{object, member, integer};
 ghost use Rattle.cs_package.specs.View.{expression_of, kind_of, relation_of};
 ghost use Rattle.cs_instance.specs.Taken.{IsTaken, AllTaken};
-ghost use Rattle.cs_schema.specs.SchemaDocument.{schema_view, kind_name};
+ghost use Rattle.cs_profile.specs.SchemaDocument.{schema_view, kind_name};
 ghost use Rattle.cs_compile.specs.Translation.{schema_of, definition_schema, all_of, body_schemas, of_type, type_name, range_keywords, limit_name};
 
 use crate::CompileFault;
@@ -13,7 +13,7 @@ use crate::keywords::{
 };
 use cs_document::Doc;
 use cs_package::{Kind, Relation, Shape};
-use cs_schema::{JsonKind, Keywords, Schema};
+use cs_profile::{JsonKind, Keywords, Schema};
 use std::alloc::Global;
 
 /// The schema of a definition: that of its one body, or `allOf` of those of its bodies in order.
@@ -29,7 +29,7 @@ pub(crate) fn definition_schema(alloc: Global, bodies: &[Shape]) -> Result<Schem
     }
 }
 
-/// The schema that admits the documents that the expression admits.
+/// The expression's schema by the table.
 #[cycle(translate)]
 fn schema_of(alloc: Global, shape: &Shape) -> Result<Schema, CompileFault>
     requires { (ns : List (List ℕ)) × IsTaken (expression_of ns shape.now) }
@@ -46,7 +46,7 @@ fn schema_of(alloc: Global, shape: &Shape) -> Result<Schema, CompileFault>
     }
 }
 
-/// What all of the operands ask.
+/// The schema of the operands that `&` joins.
 #[cycle(translate)]
 fn all_of(alloc: Global, operands: &[Shape]) -> Result<Schema, CompileFault>
     requires { (ns : List (List ℕ)) × AllTaken (map (expression_of ns) operands.now) }

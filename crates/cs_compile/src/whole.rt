@@ -2,28 +2,32 @@
 ghost use Rattle.std.specs.Prelude.{◌≡◌, ℕ, List, IfOk, IsErrOf, IsOkUnless, option_map};
 ghost use Rattle.cs_document.specs.Document.{under};
 ghost use Rattle.cs_document.specs.View.{members_of};
+ghost use Rattle.cs_grammar.specs.View.{bare_name};
 ghost use Rattle.cs_package.specs.Environment.{bodies, Names};
 ghost use Rattle.cs_instance.specs.Taken.{IsTakenPackage};
-ghost use Rattle.cs_schema.specs.SchemaDocument.{schema_view, definitions_view};
-ghost use Rattle.cs_compile.specs.Translation.{definition_schema, bare_name};
-ghost use Rattle.cs_compile.specs.Whole.{Compiles, reference_to, definition_entries, AreDefinitions};
+ghost use Rattle.cs_profile.specs.SchemaDocument.{schema_view, document_of, definitions_view};
+ghost use Rattle.cs_compile.specs.Definitions.{definition_entries, AreDefinitions};
+ghost use Rattle.cs_compile.specs.Translation.{definition_schema, IsTranslation};
+ghost use Rattle.cs_compile.specs.Whole.{Compiles, reference_to};
 
 use crate::CompileFault;
 use crate::keywords::{object, with_reference};
 use crate::translate::definition_schema;
 use cs_guard::Guarded;
 use cs_package::Package;
-use cs_schema::{Keywords, Schema, SchemaDoc};
+use cs_profile::{Keywords, Schema, SchemaDoc};
 use std::alloc::Global;
 use std::collections::BTreeMap;
 
 /// The schema of a root definition, named with its `#`: the root is a `$ref` to its schema, and `$defs`
-/// has the schemas of all definitions of the package. It validates just the instances of the root.
+/// has just the definitions of the package. It validates just the instances of the root. Each definition is written
+/// by the table of the translation.
 ///
 /// `UnknownRoot` where the package has no such definition.
 pub fn compile(alloc: Global, package: &Guarded, root: &str) -> Result<SchemaDoc, CompileFault>
     requires { IsTakenPackage «package».now }
     ensures found { IfOk result (λ s. (n : List ℕ) × Names «package».now root.now n × Compiles «package».now n s) }
+    ensures translated { IfOk result (λ s. IsTranslation «package».now (document_of s)) }
     ensures unknown { IsErrOf result CompileFault.UnknownRoot → (n : List ℕ) → ¬ Names «package».now root.now n }
 {
     let package = package.package();

@@ -1,3 +1,4 @@
 pub mod Entries
 pub mod Maps
 pub mod Views
+mod Samples

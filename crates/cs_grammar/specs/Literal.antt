@@ -1,12 +1,7 @@
--- Texts by their parts (CUE, string literals).
-use Rattle.std.specs.Prelude.{◌≡◌, ℕ, ◌+◌, ◌*◌, List, [], ◌∷◌, ◌++◌, true, false, ◌==◌, ◌||◌, Some, encode_utf8}
+-- Texts by their parts, as a relation (CUE, string and byte sequence literals). The law `text_parts` says that it is `sort_of` and `unescaped` on texts.
+use Rattle.std.specs.Prelude.{◌≡◌, ℕ, List, [], ◌∷◌, ◌++◌, true, false, ◌==◌, ◌||◌, Some, encode_utf8}
 use Rattle.std.specs.List.{list_all}
-use Rattle.cs_grammar.specs.Spelling.{is_hex_digit, digit_value, escape_value, is_character}
-
--- the number of hexadecimal digits behind those of the number n
-abbrev pub hex_number : ℕ → List ℕ → ℕ
-hex_number n [] = n
-hex_number n (x ∷ xs) = hex_number (n * 16 + digit_value x) xs
+use Rattle.cs_grammar.specs.Spelling.{is_hex_digit, escape_value, is_character, hex_number}
 
 -- hexadecimal digits that are the number of a character
 pub record IsNumber (ds : List ℕ) : Type 0 where

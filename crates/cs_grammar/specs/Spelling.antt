@@ -1,15 +1,12 @@
 -- Which texts are tokens, and of which sort (CUE, lexical elements). Nothing here goes over a source: a text is a token or isn't one.
-use Rattle.std.specs.Prelude.{ℕ, ◌+◌, ◌-◌, ◌*◌, List, [], ◌∷◌, Bool, true, false, ◌==◌, ◌&&◌, ◌||◌, nat_le, nat_lt, if◌then◌else◌, Option, Some, None, is_some, codes}
+use Rattle.std.specs.Prelude.{ℕ, ◌+◌, ◌-◌, ◌*◌, List, [], ◌∷◌, ◌++◌, Bool, true, false, ◌==◌, ◌&&◌, ◌||◌, nat_le, nat_lt, if◌then◌else◌, Option, Some, None, is_some, codes, encode_utf8}
 use Rattle.std.specs.List.{list_all, list_any}
+use Rattle.std.specs.Option.{option_map}
 use Rattle.std.specs.Str.{bytes_eq}
 use Rattle.cs_grammar.specs.declared.token.Sort.{Sort}
 use Rattle.cs_grammar.specs.declared.token.Sort.TheVariants as sorts
-use Rattle.cs_grammar.specs.declared.text.Spot.{Spot}
-use Rattle.cs_grammar.specs.declared.text.Spot.TheVariants.{Inside, Escaped, Digits}
-use Rattle.cs_grammar.specs.declared.text.Step.{Step}
-use Rattle.cs_grammar.specs.declared.text.Step.TheVariants.{More, Ends, Fails}
 
--- ---- classes of bytes
+-- ---- classes of bytes (CUE, letters and digits)
 
 abbrev pub between : ℕ → ℕ → ℕ → Bool
 between low high x = nat_le low x && nat_le x high
@@ -45,7 +42,7 @@ abbrev pub is_nothing : List ℕ → Bool
 is_nothing [] = true
 is_nothing (x ∷ xs) = false
 
--- ---- integers
+-- ---- integers (CUE, numeric literals)
 
 abbrev pub begins_digit : List ℕ → Bool
 begins_digit [] = false
@@ -72,7 +69,7 @@ unfoldable pub is_integer : List ℕ → Bool
 is_integer [] = false
 is_integer (x ∷ xs) = if x == 48 then is_nothing xs || is_hex_rest xs else is_digit x && is_separated xs
 
--- ---- texts
+-- ---- texts (CUE, string and byte sequence literals)
 
 -- the character that a letter behind a backslash stands for: `\a`, `\b`, `\f`, `\n`, `\r`, `\t`, `\v`, `\/`, `\\` and `\"`
 abbrev pub escape_value : ℕ → Option ℕ
@@ -93,29 +90,48 @@ escape_value x =
 abbrev pub is_character : ℕ → Bool
 is_character v = nat_lt v 55296 || between 57344 1114111 v
 
--- what a digit does within an escape by number: n is the number with it
-abbrev pub number_step : ℕ → ℕ → Step
-number_step left n =
-    if nat_lt 1 left then (if nat_le n 1114111 then More (Digits (left - 1) n) else Fails) else
-    (if is_character n then More Inside else Fails)
+-- the number of hexadecimal digits behind those of the number n
+abbrev pub hex_number : ℕ → List ℕ → ℕ
+hex_number n [] = n
+hex_number n (x ∷ xs) = hex_number (n * 16 + digit_value x) xs
 
--- What a byte does in a text: the text goes on, ends or is none. It stands behind whole characters (`Inside`), behind a backslash (`Escaped`), or behind `\u` or `\U` and some digits (`Digits`: how many are still to come, and their number so far).
-abbrev pub text_step : Spot → ℕ → Step
-text_step Inside x = if x == 34 then Ends else (if x == 92 then More Escaped else (if x == 10 then Fails else More Inside))
-text_step Escaped x = if x == 117 then More (Digits 4 0) else (if x == 85 then More (Digits 8 0) else (if is_some (escape_value x) then More Inside else Fails))
-text_step (Digits left n) x = if is_hex_digit x then number_step left (n * 16 + digit_value x) else Fails
+-- the UTF-8 of the character whose number these are, if they are hexadecimal digits and it is one
+abbrev pub numbered : List ℕ → Option (List ℕ)
+numbered ds = if list_all is_hex_digit ds && is_character (hex_number 0 ds) then Some (encode_utf8 (hex_number 0 ds)) else None
 
-abbrev pub closes_by : Step → List ℕ → (Spot → Bool) → Bool
-closes_by (More s) xs again = again s
-closes_by Ends xs again = is_nothing xs
-closes_by Fails xs again = false
+-- a character and those that follow it, if both are there
+abbrev pub followed : Option (List ℕ) → Option (List ℕ) → Option (List ℕ)
+followed None rest = None
+followed (Some c) None = None
+followed (Some c) (Some cs) = Some (c ++ cs)
 
--- what stands behind the first quote of a text: characters other than newline, `"` and `\`, or escapes, and then a quote; the law `text_parts` says it by these parts
-abbrev pub closes : Spot → List ℕ → Bool
-closes s [] = false
-closes s (x ∷ xs) = closes_by (text_step s x) xs (λ t. closes t xs)
+unfoldable mutual
+  -- The characters of what stands behind the first quote of a text, by their UTF-8: characters other than newline (10), `"` (34) and `\` (92), or escapes, and then the last quote. There are none where anything else stands.
+  pub text_value : List ℕ → Option (List ℕ)
+  text_value [] = None
+  text_value (x ∷ xs) =
+      if x == 34 then (if is_nothing xs then Some [] else None) else (
+      if x == 92 then escaped_value xs else (
+      if x == 10 then None else
+      followed (Some (x ∷ [])) (text_value xs)))
 
--- ---- names and marks
+  -- the same from behind a backslash: a letter, or `u` (117) and four hexadecimal digits, or `U` (85) and eight
+  pub escaped_value : List ℕ → Option (List ℕ)
+  escaped_value [] = None
+  escaped_value (x ∷ xs) =
+      if x == 117 then four_digits_value xs else (
+      if x == 85 then eight_digits_value xs else
+      followed (option_map (λ c. c ∷ []) (escape_value x)) (text_value xs))
+
+  pub four_digits_value : List ℕ → Option (List ℕ)
+  four_digits_value (a ∷ b ∷ c ∷ d ∷ xs) = followed (numbered (a ∷ b ∷ c ∷ d ∷ [])) (text_value xs)
+  four_digits_value _ = None
+
+  pub eight_digits_value : List ℕ → Option (List ℕ)
+  eight_digits_value (a ∷ b ∷ c ∷ d ∷ e ∷ f ∷ g ∷ h ∷ xs) = followed (numbered (a ∷ b ∷ c ∷ d ∷ e ∷ f ∷ g ∷ h ∷ [])) (text_value xs)
+  eight_digits_value _ = None
+
+-- ---- names and marks (CUE, identifiers, operators and punctuation)
 
 -- what stands behind the `#` of a definition's name: a letter or `_`, then letters, digits and `_`
 abbrev pub is_definition_rest : List ℕ → Bool
@@ -155,5 +171,5 @@ sort_of (x ∷ xs) =
     if x == 35 then sort_if (is_definition_rest xs) sorts.Definition else (
     if x == 95 then underscore_sort xs else (
     if is_digit x then sort_if (is_integer (x ∷ xs)) sorts.Integer else (
-    if x == 34 then sort_if (closes Inside xs) sorts.Text else
+    if x == 34 then sort_if (is_some (text_value xs)) sorts.Text else
     mark_sort (x ∷ xs)))))

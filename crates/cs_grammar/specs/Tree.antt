@@ -54,9 +54,6 @@ pub data FileTree : Type 0 where
 abbrev pub defined_name : DefinitionTree → List ℕ
 defined_name (definition s o e) = s
 
-abbrev pub defined_at : DefinitionTree → ℕ
-defined_at (definition s o e) = o
-
 abbrev pub body : DefinitionTree → Tree
 body (definition s o e) = e
 

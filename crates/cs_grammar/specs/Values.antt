@@ -1,13 +1,9 @@
 -- What the texts of tokens stand for (CUE, lexical elements).
-use Rattle.std.specs.Prelude.{ℕ, ◌+◌, ◌*◌, List, [], ◌∷◌, ◌++◌, drop, Bool, false, ◌==◌, nat_lt, if◌then◌else◌, encode_utf8}
+use Rattle.std.specs.Prelude.{ℕ, ◌+◌, ◌*◌, List, [], ◌∷◌, drop, Bool, false, ◌==◌, if◌then◌else◌}
 use Rattle.std.specs.Option.{unwrap_or}
-use Rattle.cs_grammar.specs.declared.text.Spot.{Spot}
-use Rattle.cs_grammar.specs.declared.text.Spot.TheVariants.{Inside, Escaped, Digits}
-use Rattle.cs_grammar.specs.declared.text.Step.{Step}
-use Rattle.cs_grammar.specs.declared.text.Step.TheVariants.{More, Ends, Fails}
-use Rattle.cs_grammar.specs.Spelling.{digit_value, escape_value, text_step}
+use Rattle.cs_grammar.specs.Spelling.{digit_value, text_value}
 
--- ---- integers
+-- ---- integers (CUE, numeric literals)
 
 -- the digits of xs in that base behind those of the number n; underscores count nothing
 abbrev pub digits_after : ℕ → ℕ → List ℕ → ℕ
@@ -23,24 +19,8 @@ is_hexadecimal xs = false
 unfoldable pub integer_value : List ℕ → ℕ
 integer_value xs = if is_hexadecimal xs then digits_after 16 0 (drop 2 xs) else digits_after 10 0 xs
 
--- ---- texts
-
--- the UTF-8 of the character that a byte of a text ends, if it ends one
-abbrev pub character_at : Spot → ℕ → List ℕ
-character_at Inside x = if x == 92 then [] else x ∷ []
-character_at Escaped x = if x == 117 then [] else (if x == 85 then [] else unwrap_or (escape_value x) 0 ∷ [])
-character_at (Digits left n) x = if nat_lt 1 left then [] else encode_utf8 (n * 16 + digit_value x)
-
-abbrev pub behind_step : Step → (Spot → List ℕ) → List ℕ → List ℕ
-behind_step (More s) rest bs = bs ++ rest s
-behind_step Ends rest bs = []
-behind_step Fails rest bs = []
-
--- the characters of what stands behind the first quote of a text, up to its end
-abbrev pub characters : Spot → List ℕ → List ℕ
-characters s [] = []
-characters s (x ∷ xs) = behind_step (text_step s x) (λ t. characters t xs) (character_at s x)
+-- ---- texts (CUE, string and byte sequence literals)
 
 -- the characters of a text, by their UTF-8
 unfoldable pub unescaped : List ℕ → List ℕ
-unescaped xs = characters Inside (drop 1 xs)
+unescaped xs = unwrap_or (text_value (drop 1 xs)) []

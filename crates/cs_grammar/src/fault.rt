@@ -10,10 +10,10 @@ pub enum SyntaxFault {
     /// No token of the profile begins at the offset.
     #[error("no token begins here")]
     NoToken { offset: usize },
-    /// No file begins with the tokens up to and with the one at the offset.
+    /// The tokens spell no file, and one of them is at the offset.
     #[error("this token is out of place")]
     Syntax { offset: usize },
-    /// The same, at a token of a form that this profile of CUE leaves out.
+    /// The same, where that token is of a form that this profile of CUE leaves out.
     #[error("a form of CUE that is left out")]
     LeftOut { offset: usize },
     /// An integer at the offset that has not 64 signed bits.

@@ -5,12 +5,10 @@ mod ast;
 mod fault;
 mod kind;
 mod line;
-mod text;
 mod token;
 
 pub use ast::{Definition, Expr, Field, FieldMark, File, ListEnd, Relation};
 pub use fault::SyntaxFault;
 pub use kind::Kind;
 pub use line::Line;
-pub use text::{Spot, Step};
 pub use token::{Sort, Token};

@@ -1,9 +1,19 @@
 -- Definitions, each with the names that it refers to strongly, in order. A wrong expectation stops the check here.
-use Rattle.std.proofs.Common.{◌≡◌, ℕ, false, List, [], ◌∷◌, codes, refl}
+use Rattle.std.proofs.Common.{◌≡◌, ℕ, zero, suc, ◌+◌, ◌≤◌, ◌<◌, pos, true, false, List, [], ◌∷◌, ◌++◌, length, map, codes, cond, Some, None, Contains, get_or, refl, ap, arith, String, Vec, Global, string_bytes, sym, ◌∙◌, subst}
+use Rattle.std.specs.List.{flat_map, IsDistinct}
+use Rattle.std.specs.Option.{unwrap_or}
+use Rattle.std.specs.Str.{bytes_eq}
 use Rattle.cs_package.specs.Expression as cue
 use Rattle.cs_package.specs.Expression.{Expression, Declarations, no_declarations}
 use Rattle.cs_package.specs.View.{expressions_of}
-use Rattle.cs_guard.specs.References.{strong_of}
+use Rattle.cs_package.specs.Environment.{Environment, name_at, written}
+use Rattle.cs_guard.specs.References.{direct, strong, strong_of, RefersStrongly}
+use Rattle.cs_guard.specs.Chains as general
+use Rattle.cs_guard.specs.Chains.{Chain, NoCycle, IsTooDeep, most_references}
+use Rattle.cs_guard.specs.Guarded.{IsGuarded, IsHeight}
+use Rattle.cs_guard.specs.Cycles.{IsCycle, IsRefusal}
+use Rattle.cs_guard.specs.declared.fault.GuardFault.TheVariants.{Cycle, ChainTooLong}
+use Rattle.cs_guard.proofs.Chains.{alone-guarded}
 
 -- ---- short forms
 
@@ -75,3 +85,180 @@ twice = refl
 -- a name without a definition
 undeclared : strong_of ((T, cue.reference A ∷ []) ∷ []) A ≡ []
 undeclared = refl
+
+-- ---- each form with references to #A and #B inside, and those without
+
+abbrev refer : Expression
+refer = cue.reference A
+
+abbrev two : List Expression
+two = refer ∷ cue.reference B ∷ []
+
+abbrev forms : List Expression
+forms = refer ∷ cue.conjunction (expressions_of two) ∷ cue.disjunction (expressions_of two)
+    ∷ literal (regular A refer (optional A (cue.reference T) (required B (cue.reference B) no_declarations))) ∷ cue.struct (regular A refer no_declarations) true
+    ∷ cue.list (expressions_of two) cue.closed ∷ cue.list (expressions_of two) cue.any ∷ cue.list (expressions_of two) (cue.each (cue.reference T)) ∷ cue.list cue.no_expressions (cue.each refer)
+    ∷ cue.conjunction (expressions_of (refer ∷ cue.disjunction (expressions_of (int ∷ cue.reference B ∷ [])) ∷ [])) ∷ cue.disjunction (expressions_of (literal (required B refer no_declarations) ∷ cue.reference B ∷ [])) ∷ []
+
+direct_names : map direct forms ≡ (A ∷ []) ∷ (A ∷ B ∷ []) ∷ (A ∷ B ∷ []) ∷ [] ∷ [] ∷ [] ∷ [] ∷ [] ∷ [] ∷ (A ∷ B ∷ []) ∷ (B ∷ []) ∷ []
+direct_names = refl
+
+strong_names : map strong forms ≡ (A ∷ []) ∷ (A ∷ B ∷ []) ∷ (A ∷ B ∷ []) ∷ (A ∷ B ∷ []) ∷ (A ∷ []) ∷ (A ∷ B ∷ []) ∷ (A ∷ B ∷ []) ∷ (A ∷ B ∷ []) ∷ [] ∷ (A ∷ B ∷ []) ∷ (A ∷ B ∷ []) ∷ []
+strong_names = refl
+
+abbrev atoms : List Expression
+atoms = cue.top ∷ cue.bottom ∷ cue.null ∷ cue.boolean true ∷ cue.integer (pos 1) ∷ cue.text A ∷ int ∷ cue.range (pos 0) None ∷ cue.bound cue.less (pos 1) ∷ cue.not_integer (pos 1) ∷ cue.not_text A ∷ cue.not_null ∷ []
+
+without_names : map direct atoms ≡ [] ∷ [] ∷ [] ∷ [] ∷ [] ∷ [] ∷ [] ∷ [] ∷ [] ∷ [] ∷ [] ∷ [] ∷ []
+without_names = refl
+
+without_strong : map strong atoms ≡ [] ∷ [] ∷ [] ∷ [] ∷ [] ∷ [] ∷ [] ∷ [] ∷ [] ∷ [] ∷ [] ∷ [] ∷ []
+without_strong = refl
+
+-- ---- chains
+
+-- each number refers to the next, up to k
+abbrev ToNext : ℕ → ℕ → ℕ → Type 0
+ToNext k x y = (y ≡ suc x) × (y ≤ k)
+
+climbs : (k x : ℕ) (xs : List ℕ) → x ≤ k → Chain (ToNext k) x xs → length xs + x ≤ k
+climbs k x [] l c = omega (arith, l)
+climbs k x (y ∷ ys) l c = let h = climbs k y ys c.0.1 c.1 in omega (arith, h, c.0.0)
+
+abbrev up_from : ℕ → ℕ → List ℕ
+up_from x zero = []
+up_from x (suc n) = suc x ∷ up_from (suc x) n
+
+climbing : (k x n : ℕ) → x + n ≤ k → Chain (ToNext k) x (up_from x n)
+climbing k x zero l = tt
+climbing k x (suc n) l = ((refl, omega (arith, l)), climbing k (suc x) n (omega (arith, l)))
+
+limit : most_references ≡ 64
+limit = refl
+
+ends_above : (k x z : ℕ) (xs : List ℕ) → Chain (ToNext k) x (xs ++ z ∷ []) → suc x ≤ z
+ends_above k x z [] c = omega (arith, c.0.0)
+ends_above k x z (y ∷ ys) c = let h = ends_above k y z ys c.1 in omega (arith, h, c.0.0)
+
+no_cycle_up_to : (k : ℕ) → NoCycle (ToNext k)
+no_cycle_up_to k x xs c = let h = ends_above k x x xs c in omega (arith, h)
+
+-- up to 64 the longest chain has 64 references, which may be
+chain_of_64 : general.IsGuarded (ToNext 64)
+chain_of_64 = record { no_cycle = no_cycle_up_to 64; short = short }
+  where
+    short : (x : ℕ) (xs : List ℕ) → Chain (ToNext 64) x xs → length xs ≤ 64
+    short x [] c = omega arith
+    short x (y ∷ ys) c = let h = climbs 64 x (y ∷ ys) (omega (arith, c.0.0, c.0.1)) c in omega (arith, h)
+
+-- up to 65 there is a chain of 65, which is too long
+chain_of_65 : general.IsGuarded (ToNext 65) → ⊥
+chain_of_65 h = let l = h.short 0 (up_from 0 65) (climbing 65 0 65 (omega arith)) in omega (arith, l)
+
+too_deep_at_65 : IsTooDeep (ToNext 65)
+too_deep_at_65 = (no_cycle_up_to 65, record { start = 0; steps = up_from 0 65; chain = climbing 65 0 65 (omega arith); long = omega arith })
+
+not_too_deep_at_64 : IsTooDeep (ToNext 64) → ⊥
+not_too_deep_at_64 h = let c = h.1 in let l = chain_of_64.short c.start c.steps c.chain in omega (arith, l, c.long)
+
+-- ---- cycles
+
+-- #A: {next: #A}
+abbrev itself : Environment
+itself = (A, literal (regular (codes "next") (cue.reference A) no_declarations) ∷ []) ∷ []
+
+first_of : (n : List ℕ) (ns : List (List ℕ)) → Contains (n ∷ ns) n
+first_of n ns = (0, omega arith, refl)
+
+itself_refused : IsGuarded itself → ⊥
+itself_refused h = h.no_cycle A [] (first_of A [], tt)
+
+-- #A: {next?: #A}
+abbrev itself_perhaps : Environment
+itself_perhaps = (A, literal (optional (codes "next") (cue.reference A) no_declarations) ∷ []) ∷ []
+
+itself_perhaps_guarded : IsGuarded itself_perhaps
+itself_perhaps_guarded = alone-guarded itself_perhaps alone
+  where
+    alone : (n : List ℕ) → strong_of itself_perhaps n ≡ []
+    alone n = elim (bytes_eq n A) as (λ b. flat_map strong (unwrap_or (cond b (Some (literal (optional (codes "next") (cue.reference A) no_declarations) ∷ [])) None) []) ≡ []) [ true ↦ refl | false ↦ refl ]
+
+-- the first byte
+abbrev first_byte : List ℕ → ℕ
+first_byte n = get_or n 0 0
+
+-- #A: #B, and #B: #A
+abbrev each_other : Environment
+each_other = (A, cue.reference B ∷ []) ∷ (B, cue.reference A ∷ []) ∷ []
+
+each_other_refused : IsGuarded each_other → ⊥
+each_other_refused h = h.no_cycle A (B ∷ []) (first_of B [], (first_of A [], tt))
+
+-- told from the name that is declared first, and once around
+told : IsCycle each_other (A ∷ B ∷ [])
+unfolding IsDistinct
+told = record { closed = (first_of B [], (first_of A [], tt)); distinct = ((refl, tt), (tt, tt)); earliest = earliest }
+  where
+    earliest : (i j : ℕ) (m : List ℕ) → Contains (B ∷ []) m → name_at each_other i ≡ Some A → name_at each_other j ≡ Some m → i ≤ j
+    earliest zero j m c e f = omega arith
+    earliest (suc zero) j m c e f = absurd (omega (arith, ap (λ o. first_byte (unwrap_or o [])) e))
+    earliest (suc (suc i)) j m c e f = absurd (omega (arith, ap (λ o. first_byte (unwrap_or o [])) e))
+
+told_from_the_second : IsCycle each_other (B ∷ A ∷ []) → ⊥
+told_from_the_second h = let l = h.earliest 1 0 A (first_of A []) refl refl in omega (arith, l)
+
+told_twice : IsCycle each_other (A ∷ B ∷ A ∷ B ∷ []) → ⊥
+unfolding IsDistinct
+told_twice h = let e = h.distinct.0.1.0 in cc
+
+told_without_its_end : IsCycle each_other (A ∷ []) → ⊥
+told_without_its_end h = by h.closed.0.0 h.closed.0.1 h.closed.0.2
+  where
+    by : (k : ℕ) → k < 1 → get_or (B ∷ []) k A ≡ A → ⊥
+    by zero l e = omega (arith, ap first_byte e)
+    by (suc k) l e = omega (arith, l)
+
+-- the names of a refusal have their `#`
+refused : (texts : Vec (String Global) Global) → map string_bytes texts.items ≡ codes "#A" ∷ codes "#B" ∷ [] → IsRefusal (Cycle texts) each_other
+refused texts e = (A ∷ B ∷ [], e, told)
+
+bare_names : (texts : Vec (String Global) Global) → map string_bytes texts.items ≡ A ∷ B ∷ [] → IsRefusal (Cycle texts) each_other → ⊥
+bare_names texts is h = by h.0 (sym is ∙ h.1)
+  where
+    by : (ns : List (List ℕ)) → A ∷ B ∷ [] ≡ map written ns → ⊥
+    by [] e = cc
+    by (n ∷ ns) e = omega (arith, ap (λ ts. first_byte (get_or ts 0 [])) e)
+
+-- where there is a cycle, no chain is told to be too long
+cycle_comes_first : IsRefusal ChainTooLong itself → ⊥
+cycle_comes_first h = h.0 A [] (first_of A [], tt)
+
+-- ---- heights
+
+-- #A: {x: #B}, and #B: int
+abbrev one_step : Environment
+one_step = (A, literal (regular (codes "x") (cue.reference B) no_declarations) ∷ []) ∷ (B, int ∷ []) ∷ []
+
+only_b : (m : List ℕ) → RefersStrongly one_step A m → m ≡ B
+only_b m c = by c.0 c.1 c.2
+  where
+    by : (k : ℕ) → k < 1 → get_or (B ∷ []) k m ≡ m → m ≡ B
+    by zero l e = sym e
+    by (suc k) l e = absurd (omega (arith, l))
+
+height_is_one : IsHeight one_step A 1
+height_is_one = record { steps = B ∷ []; chain = (first_of B [], tt); long = refl; longest = longest }
+  where
+    b_refers_to_none : (n : List ℕ) → RefersStrongly one_step B n → ⊥
+    b_refers_to_none n c = omega (arith, c.1)
+
+    longest : (ns : List (List ℕ)) → general.Chain (RefersStrongly one_step) A ns → length ns ≤ 1
+    longest [] c = omega arith
+    longest (m ∷ []) c = omega arith
+    longest (m ∷ n ∷ ns) c = absurd (b_refers_to_none n (subst (λ k. RefersStrongly one_step k n) (only_b m c.0) c.1.0))
+
+not_zero : IsHeight one_step A 0 → ⊥
+not_zero h = let l = h.longest (B ∷ []) (first_of B [], tt) in omega (arith, l)
+
+not_two : IsHeight one_step A 2 → ⊥
+not_two h = let l = height_is_one.longest h.steps h.chain in omega (arith, l, h.long)

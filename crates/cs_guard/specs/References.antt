@@ -1,15 +1,28 @@
 -- What a definition refers to (CUE language specification, "Structural cycles"; which references are strong is an own rule).
 use Rattle.std.specs.Prelude.{ℕ, List, [], ◌∷◌, ◌++◌, flat_map, unwrap_or, Contains}
-use Rattle.cs_package.specs.Expression.{Expression, reference, conjunction, disjunction, struct, list, Expressions, no_expressions, expression, Declarations, no_declarations, declaration, Mark, regular, optional, required}
+use Rattle.cs_package.specs.Expression.{Expression, top, bottom, null, boolean, integer, text, kind, range, reference, bound, not_integer, not_text, not_null, conjunction, disjunction, struct, list, Expressions, no_expressions, expression, Declarations, no_declarations, declaration, Mark, regular, optional, required}
 use Rattle.cs_package.specs.Environment.{Environment, bodies}
 
 -- the names of the references that are reached through `&` and `|` alone
 abbrev mutual
   pub direct : Expression → List (List ℕ)
+  direct top = []
+  direct bottom = []
+  direct null = []
+  direct (boolean b) = []
+  direct (integer n) = []
+  direct (text s) = []
+  direct (kind k) = []
+  direct (range least greatest) = []
   direct (reference n) = n ∷ []
+  direct (bound r n) = []
+  direct (not_integer n) = []
+  direct (not_text s) = []
+  direct not_null = []
   direct (conjunction es) = direct_all es
   direct (disjunction es) = direct_all es
-  direct _ = []
+  direct (struct ds opened) = []
+  direct (list es rest) = []
 
   pub direct_all : Expressions → List (List ℕ)
   direct_all no_expressions = []
@@ -24,12 +37,23 @@ if_asked required ns = ns
 -- the names of those that are reached also through regular and required fields and fixed list elements
 abbrev mutual
   pub strong : Expression → List (List ℕ)
+  strong top = []
+  strong bottom = []
+  strong null = []
+  strong (boolean b) = []
+  strong (integer n) = []
+  strong (text s) = []
+  strong (kind k) = []
+  strong (range least greatest) = []
   strong (reference n) = n ∷ []
+  strong (bound r n) = []
+  strong (not_integer n) = []
+  strong (not_text s) = []
+  strong not_null = []
   strong (conjunction es) = strong_all es
   strong (disjunction es) = strong_all es
   strong (struct ds opened) = strong_under ds
   strong (list es rest) = strong_all es
-  strong _ = []
 
   pub strong_all : Expressions → List (List ℕ)
   strong_all no_expressions = []

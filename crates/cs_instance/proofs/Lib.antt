@@ -6,4 +6,5 @@ pub mod Meaning
 pub mod Shapes
 pub mod Taken
 mod Rows
+mod Samples
 mod Doubling

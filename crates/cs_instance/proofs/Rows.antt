@@ -47,65 +47,65 @@ by_steps {E} {n} {rows} e = record { verdicts = settled_rows E n rows e }
 
 -- ---- short forms
 
-abbrev all_of : List Expression → Expression
+abbrev pub all_of : List Expression → Expression
 all_of es = cue.conjunction (expressions_of es)
 
-abbrev one_of : List Expression → Expression
+abbrev pub one_of : List Expression → Expression
 one_of es = cue.disjunction (expressions_of es)
 
-abbrev int : Expression
+abbrev pub int : Expression
 int = cue.kind cue.int
 
-abbrev string : Expression
+abbrev pub string : Expression
 string = cue.kind cue.string
 
-abbrev more_than : ℤ → Expression
+abbrev pub more_than : ℤ → Expression
 more_than n = cue.bound cue.more n
 
-abbrev refers_to : List ℕ → Expression
+abbrev pub refers_to : List ℕ → Expression
 refers_to n = cue.reference n
 
 -- a list with this front and this rest
-abbrev list_of : List Expression → cue.Rest → Expression
+abbrev pub list_of : List Expression → cue.Rest → Expression
 list_of es rest = cue.list (expressions_of es) rest
 
 -- declarations in front of others
-abbrev regular : List ℕ → Expression → Declarations → Declarations
+abbrev pub regular : List ℕ → Expression → Declarations → Declarations
 regular l e ds = cue.declaration l cue.regular e ds
 
-abbrev optional : List ℕ → Expression → Declarations → Declarations
+abbrev pub optional : List ℕ → Expression → Declarations → Declarations
 optional l e ds = cue.declaration l cue.optional e ds
 
-abbrev required : List ℕ → Expression → Declarations → Declarations
+abbrev pub required : List ℕ → Expression → Declarations → Declarations
 required l e ds = cue.declaration l cue.required e ds
 
-abbrev end : Declarations
+abbrev pub end : Declarations
 end = cue.no_declarations
 
-abbrev closed : Declarations → Expression
+abbrev pub closed : Declarations → Expression
 closed ds = cue.struct ds false
 
-abbrev opened : Declarations → Expression
+abbrev pub opened : Declarations → Expression
 opened ds = cue.struct ds true
 
 -- one definition with one body
-abbrev only : List ℕ → Expression → Environment
+abbrev pub only : List ℕ → Expression → Environment
 only n e = (n, e ∷ []) ∷ []
 
-abbrev number : ℕ → Document
+abbrev pub number : ℕ → Document
 number n = json.integer (pos n)
 
-abbrev word : List ℕ → Document
+abbrev pub word : List ℕ → Document
 word s = json.text s
 
-abbrev array : List Document → Document
+abbrev pub array : List Document → Document
 array ds = json.list (documents_of ds)
 
-abbrev members : List (Entry Document) → Members
+abbrev pub members : List (Entry Document) → Members
 members [] = json.no_members
 members (e ∷ es) = json.member e.0 e.1 (members es)
 
-abbrev object : List (Entry Document) → Document
+abbrev pub object : List (Entry Document) → Document
 object es = json.object (members es)
 
 -- ---- atoms

@@ -42,19 +42,35 @@ pub data Asked (D N : Type 0) : Type 0 where
 module _ {A : Type 0} where
   abbrev pub is_null : Opened A → Bool
   is_null a_null = true
-  is_null _ = false
+  is_null (a_boolean b) = false
+  is_null (an_integer z) = false
+  is_null (a_text s) = false
+  is_null (a_list ys) = false
+  is_null (an_object ms) = false
 
   abbrev pub is_boolean : (Bool → Bool) → Opened A → Bool
+  is_boolean p a_null = false
   is_boolean p (a_boolean b) = p b
-  is_boolean p _ = false
+  is_boolean p (an_integer z) = false
+  is_boolean p (a_text s) = false
+  is_boolean p (a_list ys) = false
+  is_boolean p (an_object ms) = false
 
   abbrev pub is_integer : (ℤ → Bool) → Opened A → Bool
+  is_integer p a_null = false
+  is_integer p (a_boolean b) = false
   is_integer p (an_integer z) = p z
-  is_integer p _ = false
+  is_integer p (a_text s) = false
+  is_integer p (a_list ys) = false
+  is_integer p (an_object ms) = false
 
   abbrev pub is_text : (List ℕ → Bool) → Opened A → Bool
+  is_text p a_null = false
+  is_text p (a_boolean b) = false
+  is_text p (an_integer z) = false
   is_text p (a_text s) = p s
-  is_text p _ = false
+  is_text p (a_list ys) = false
+  is_text p (an_object ms) = false
 
   -- every number of a document is an integer
   abbrev pub is_of_kind : Kind → Opened A → Bool
@@ -110,12 +126,20 @@ module _ {A N : Type 0} (inside : A → N → Bool) where
   elements_hold (e ∷ es) rest (y ∷ ys) = inside y e && elements_hold es rest ys
 
   abbrev pub is_object : List (Declaration N) → Bool → Opened A → Bool
+  is_object ds opened a_null = false
+  is_object ds opened (a_boolean b) = false
+  is_object ds opened (an_integer z) = false
+  is_object ds opened (a_text s) = false
+  is_object ds opened (a_list ys) = false
   is_object ds opened (an_object ms) = fields_hold ds opened ms
-  is_object ds opened _ = false
 
   abbrev pub is_list : List N → Rest N → Opened A → Bool
+  is_list es rest a_null = false
+  is_list es rest (a_boolean b) = false
+  is_list es rest (an_integer z) = false
+  is_list es rest (a_text s) = false
   is_list es rest (a_list ys) = elements_hold es rest ys
-  is_list es rest _ = false
+  is_list es rest (an_object ms) = false
 
 -- ---- all forms
 

@@ -6,12 +6,23 @@ use Rattle.cs_package.specs.Environment.{Environment}
 
 abbrev mutual
   pub IsTaken : Expression → Type 0
+  IsTaken cue.top = ⊥
+  IsTaken cue.bottom = ⊥
+  IsTaken cue.null = ⊥
+  IsTaken (cue.boolean b) = ⊥
   IsTaken (cue.integer n) = Unit {0}
+  IsTaken (cue.text s) = ⊥
   IsTaken (cue.kind k) = Unit {0}
   IsTaken (cue.range least greatest) = Unit {0}
+  IsTaken (cue.reference n) = ⊥
   IsTaken (cue.bound r n) = Unit {0}
+  IsTaken (cue.not_integer n) = ⊥
+  IsTaken (cue.not_text s) = ⊥
+  IsTaken cue.not_null = ⊥
   IsTaken (cue.conjunction es) = AreTaken es
-  IsTaken _ = ⊥
+  IsTaken (cue.disjunction es) = ⊥
+  IsTaken (cue.struct ds opened) = ⊥
+  IsTaken (cue.list es rest) = ⊥
 
   pub AreTaken : Expressions → Type 0
   AreTaken cue.no_expressions = Unit {0}

@@ -6,12 +6,12 @@ use Rattle.std.proofs.lemmas.Bool.Decides.{nat_tests}
 use Rattle.std.proofs.lemmas.Str.{encode_ascii, inside_one, len_utf8_bounds, length-encode}
 use Rattle.std.specs.Char.{is_ascii}
 use Rattle.std.specs.Prelude.{◌==◌}
-use Rattle.cs_grammar.specs.declared.text.Spot.{Spot}
-use Rattle.cs_grammar.specs.declared.text.Spot.TheVariants.{Inside, Escaped, Digits}
-use Rattle.cs_grammar.specs.declared.text.Step.{Step}
-use Rattle.cs_grammar.specs.declared.text.Step.TheVariants.{More, Ends, Fails}
-use Rattle.cs_grammar.specs.Spelling.{is_hex_digit, text_step}
-use Rattle.cs_grammar.specs.Values.{character_at, characters}
+use Rattle.cs_lexer.specs.declared.text.Spot.{Spot}
+use Rattle.cs_lexer.specs.declared.text.Spot.TheVariants.{Inside, Escaped, Digits}
+use Rattle.cs_lexer.specs.declared.text.Step.{Step}
+use Rattle.cs_lexer.specs.declared.text.Step.TheVariants.{More, Ends, Fails}
+use Rattle.cs_grammar.specs.Spelling.{is_hex_digit}
+use Rattle.cs_lexer.specs.Automaton.{text_step, character_at, characters}
 use Rattle.cs_lexer.specs.Quoted.{begins_quote}
 
 -- ---- past ASCII

@@ -11,4 +11,5 @@ pub mod Cutting
 pub mod Always
 pub mod Slices
 pub mod Literals
+pub mod TextValues
 pub mod Numerals

@@ -3,12 +3,11 @@ use Rattle.std.proofs.Common.{◌≡◌, ℕ, zero, suc, ◌+◌, ◌-◌, ◌*�
 use Rattle.std.proofs.lemmas.Bool.Decides.{nat_tests}
 use Rattle.std.specs.Prelude.{◌==◌, ◌&&◌, ◌||◌, nat_lt, nat_le, encode_utf8}
 use Rattle.std.specs.List.{list_all}
-use Rattle.cs_grammar.specs.declared.text.Spot.{Spot}
-use Rattle.cs_grammar.specs.declared.text.Spot.TheVariants.{Inside, Escaped, Digits}
-use Rattle.cs_grammar.specs.declared.token.Sort.TheVariants as sorts
-use Rattle.cs_grammar.specs.Spelling.{is_hex_digit, digit_value, escape_value, is_character, is_nothing, closes, sort_if, sort_of}
-use Rattle.cs_grammar.specs.Values.{characters, unescaped}
-use Rattle.cs_grammar.specs.Literal.{hex_number, Literal, ends, plain, escape, four, eight}
+use Rattle.cs_lexer.specs.declared.text.Spot.{Spot}
+use Rattle.cs_lexer.specs.declared.text.Spot.TheVariants.{Inside, Escaped, Digits}
+use Rattle.cs_grammar.specs.Spelling.{is_hex_digit, digit_value, escape_value, is_character, is_nothing, hex_number}
+use Rattle.cs_grammar.specs.Literal.{Literal, ends, plain, escape, four, eight}
+use Rattle.cs_lexer.specs.Automaton.{closes, characters}
 
 and_both : (a b : Bool) → (a && b) ≡ true → (a ≡ true) × (b ≡ true)
 and_both true b h = (refl, h)
@@ -50,10 +49,10 @@ digits_pass (suc left) n (x ∷ y ∷ ds) xs len hex good =
     let rest = digits_pass left (n * 16 + digit_value x) (y ∷ ds) xs (omega arith) h.1 good in
     (first.0 ∙ rest.0, first.1 ∙ rest.1)
 
-plain_step : (x : ℕ) → (x == 34 || x == 92 || x == 10) ≡ false → ((x == 34) ≡ false) × ((x == 92) ≡ false) × ((x == 10) ≡ false)
+pub plain_step : (x : ℕ) → (x == 34 || x == 92 || x == 10) ≡ false → ((x == 34) ≡ false) × ((x == 92) ≡ false) × ((x == 10) ≡ false)
 plain_step x h = (grind (arith, nat_tests), grind (arith, nat_tests), grind (arith, nat_tests))
 
-escape_letter : (x c : ℕ) → escape_value x ≡ Some c → ((x == 117) ≡ false) × ((x == 85) ≡ false)
+pub escape_letter : (x c : ℕ) → escape_value x ≡ Some c → ((x == 117) ≡ false) × ((x == 85) ≡ false)
 escape_letter x c h = (by_u (x == 117) refl, by_U (x == 85) refl)
   where
     by_u : (b : Bool) → (x == 117) ≡ b → b ≡ false
@@ -64,7 +63,7 @@ escape_letter x c h = (by_u (x == 117) refl, by_U (x == 85) refl)
     by_U true e = let is : x ≡ 85 = grind (arith, nat_tests) in let k : None ≡ Some c = subst (λ y. escape_value y ≡ Some c) is h in absurd cc
     by_U false e = refl
 
-parts_close : {xs cs : List ℕ} → Literal xs cs → (closes Inside xs ≡ true) × (characters Inside xs ≡ cs)
+pub parts_close : {xs cs : List ℕ} → Literal xs cs → (closes Inside xs ≡ true) × (characters Inside xs ≡ cs)
 parts_close ends = (refl, refl)
 parts_close (plain {x} {xs} {cs} h k) = let p = plain_step x h in let r = parts_close k in (rw (p.0, p.1, p.2) r.0, rw (p.0, p.1, p.2) (ap (λ us. x ∷ us) r.1))
 parts_close (escape {x} {c} {xs} {cs} h k) = let p = escape_letter x c h in let r = parts_close k in (rw (p.0, p.1, h) r.0, rw (p.0, p.1, h) (ap (λ us. c ∷ us) r.1))
@@ -135,7 +134,7 @@ eight_of {xs} {cs} n = made n.digits n.count n.hex n.character n.is n.made
     made (a ∷ b ∷ c ∷ d ∷ e ∷ f ∷ g ∷ h ∷ []) len hex good p q = rw (p, q) (eight (record { digits = hex; character = good }) n.literal)
     made (a ∷ b ∷ c ∷ d ∷ e ∷ f ∷ g ∷ h ∷ x ∷ ds) len hex good p q = let never : ⊥ = omega arith in absurd never
 
-nothing_is : (xs : List ℕ) → is_nothing xs ≡ true → xs ≡ []
+pub nothing_is : (xs : List ℕ) → is_nothing xs ≡ true → xs ≡ []
 nothing_is [] h = refl
 nothing_is (x ∷ xs) h = absurd cc
 
@@ -201,16 +200,5 @@ has_parts : (xs : List ℕ) (s : Spot) → closes s xs ≡ true → Behind s xs 
 has_parts [] s h = absurd cc
 has_parts (x ∷ xs) s h = step x xs (has_parts xs) s h
 
--- ---- the law
-
-closed_of : (b : Bool) → sort_if b sorts.Text ≡ Some sorts.Text → b ≡ true
-closed_of true h = refl
-closed_of false h = absurd cc
-
-pub text_parts : (xs : List ℕ) → sort_of (34 ∷ xs) ≡ Some sorts.Text → Literal xs (unescaped (34 ∷ xs))
-unfolding unescaped
-text_parts xs h = has_parts xs Inside (closed_of (closes Inside xs) h)
-
-pub parts_text : (xs cs : List ℕ) → Literal xs cs → (sort_of (34 ∷ xs) ≡ Some sorts.Text) × (unescaped (34 ∷ xs) ≡ cs)
-unfolding unescaped
-parts_text xs cs h = let p = parts_close h in (ap (λ b. sort_if b sorts.Text) p.0, p.1)
+pub parts_of : (xs : List ℕ) → closes Inside xs ≡ true → Literal xs (characters Inside xs)
+parts_of xs h = has_parts xs Inside h

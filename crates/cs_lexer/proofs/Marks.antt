@@ -1,15 +1,15 @@
 -- The marks are one to three bytes long, and ASCII.
-use Rattle.std.proofs.Common.{◌≡◌, ℕ, suc, ◌<◌, ◌≤◌, List, [], ◌∷◌, length, take, Bool, true, false, cond, Option, Some, None, refl, ap, ◌∙◌, arith}
+use Rattle.std.proofs.Common.{◌≡◌, ℕ, suc, ◌<◌, ◌≤◌, List, [], ◌∷◌, length, take, Bool, true, false, cond, Option, Some, None, refl, ap, subst, ◌∙◌, arith}
 use Rattle.std.proofs.lemmas.List.{length-take-le}
 use Rattle.std.proofs.lemmas.Bool.Decides.{nat_tests}
 use Rattle.std.specs.Prelude.{nat_le, nat_lt, nat_eq, ◌&&◌, ◌||◌}
 use Rattle.std.specs.List.{list_all, list_any}
-use Rattle.std.specs.Option.{option_map}
+use Rattle.std.specs.Option.{option_map, option_or}
 use Rattle.std.specs.Str.{bytes_eq}
 use Rattle.cs_grammar.specs.declared.token.Sort.{Sort}
 use Rattle.cs_grammar.specs.declared.token.Sort.TheVariants as sorts
 use Rattle.cs_grammar.specs.Spelling.{used_marks, left_out_marks, mark_sort}
-use Rattle.cs_lexer.specs.Heads.{mark_of, or_else, longest_mark}
+use Rattle.cs_lexer.specs.Heads.{mark_of, longest_mark}
 
 -- ---- equal texts
 
@@ -87,16 +87,20 @@ lower bs n above here m lt le = lowered (nat_le m (suc n)) refl
     lowered true e = let is : m ≡ suc n = grind (arith, nat_tests) in rw is (here (omega arith))
     lowered false e = above m (grind (arith, nat_tests)) le
 
-step : (bs : List ℕ) (n : ℕ) (rest : Option (Sort × ℕ)) → NoneAbove bs (suc n) → (NoneAbove bs n → IsLongestMark bs rest) → IsLongestMark bs (or_else (mark_of (suc n) bs) rest)
+step : (bs : List ℕ) (n : ℕ) (rest : Option (Sort × ℕ)) → NoneAbove bs (suc n) → (NoneAbove bs n → IsLongestMark bs rest) → IsLongestMark bs (option_or (mark_of (suc n) bs) rest)
 step bs n rest above again = stepped (nat_le (suc n) (length bs)) (mark_sort (take (suc n) bs)) refl refl
   where
-    stepped : (b : Bool) (o : Option Sort) → nat_le (suc n) (length bs) ≡ b → mark_sort (take (suc n) bs) ≡ o → IsLongestMark bs (or_else (cond b (option_map (λ s. (s, suc n)) o) None) rest)
+    stepped : (b : Bool) (o : Option Sort) → nat_le (suc n) (length bs) ≡ b → mark_sort (take (suc n) bs) ≡ o → IsLongestMark bs (option_or (cond b (option_map (λ s. (s, suc n)) o) None) rest)
     stepped true (Some s) eb eo = (omega arith, grind (arith, nat_tests), eo, above)
     stepped true None eb eo = again (lower bs n above (λ le. eo))
     stepped false o eb eo = again (lower bs n above (λ le. let never : ⊥ = grind (arith, nat_tests) in absurd never))
 
+or_none : (o : Option (Sort × ℕ)) → option_or o None ≡ o
+or_none None = refl
+or_none (Some x) = refl
+
 pub longest_mark_is : (bs : List ℕ) → IsLongestMark bs (longest_mark bs)
-longest_mark_is bs = step bs 2 _ (none_above_3 bs) (λ above2. step bs 1 _ above2 (λ above1. step bs 0 None above1 (λ above0. above0)))
+longest_mark_is bs = step bs 2 _ (none_above_3 bs) (λ above2. step bs 1 _ above2 (λ above1. subst (IsLongestMark bs) (or_none (mark_of 1 bs)) (step bs 0 None above1 (λ above0. above0))))
 
 -- ---- one length after another
 
@@ -110,14 +114,10 @@ pub short : (n : ℕ) (bs : List ℕ) → length bs < n → mark_of n bs ≡ Non
 short n bs lt = ap (λ (b : Bool). cond b (option_map (λ s. (s, n)) (mark_sort (take n bs))) None) ((tests n (length bs)).1 lt)
 
 pub longest_3 : (bs : List ℕ) (x : Sort × ℕ) → mark_of 3 bs ≡ Some x → longest_mark bs ≡ Some x
-longest_3 bs x e = ap (λ (o : Option (Sort × ℕ)). or_else o (or_else (mark_of 2 bs) (or_else (mark_of 1 bs) None))) e
+longest_3 bs x e = ap (λ (o : Option (Sort × ℕ)). option_or o (option_or (mark_of 2 bs) (mark_of 1 bs))) e
 
 pub longest_2 : (bs : List ℕ) (x : Sort × ℕ) → mark_of 3 bs ≡ None → mark_of 2 bs ≡ Some x → longest_mark bs ≡ Some x
-longest_2 bs x no3 e = ap (λ (o : Option (Sort × ℕ)). or_else o (or_else (mark_of 2 bs) (or_else (mark_of 1 bs) None))) no3 ∙ ap (λ (o : Option (Sort × ℕ)). or_else o (or_else (mark_of 1 bs) None)) e
-
-or_none : (o : Option (Sort × ℕ)) → or_else o None ≡ o
-or_none None = refl
-or_none (Some x) = refl
+longest_2 bs x no3 e = ap (λ (o : Option (Sort × ℕ)). option_or o (option_or (mark_of 2 bs) (mark_of 1 bs))) no3 ∙ ap (λ (o : Option (Sort × ℕ)). option_or o (mark_of 1 bs)) e
 
 pub longest_1 : (bs : List ℕ) (o : Option (Sort × ℕ)) → mark_of 3 bs ≡ None → mark_of 2 bs ≡ None → mark_of 1 bs ≡ o → longest_mark bs ≡ o
-longest_1 bs o no3 no2 e = ap (λ (p : Option (Sort × ℕ)). or_else p (or_else (mark_of 2 bs) (or_else (mark_of 1 bs) None))) no3 ∙ ap (λ (p : Option (Sort × ℕ)). or_else p (or_else (mark_of 1 bs) None)) no2 ∙ or_none (mark_of 1 bs) ∙ e
+longest_1 bs o no3 no2 e = ap (λ (p : Option (Sort × ℕ)). option_or p (option_or (mark_of 2 bs) (mark_of 1 bs))) no3 ∙ ap (λ (p : Option (Sort × ℕ)). option_or p (mark_of 1 bs)) no2 ∙ e

@@ -1,19 +1,22 @@
 -- A text at the front of a text.
-use Rattle.std.proofs.Common.{◌≡◌, ℕ, zero, suc, ◌+◌, ◌-◌, ◌*◌, ◌<◌, ◌≤◌, List, [], ◌∷◌, length, take, drop, get_or, drop-cons, Bool, true, false, cond, Option, Some, None, option_map, refl, ap, arith}
+use Rattle.std.proofs.Common.{◌≡◌, ℕ, zero, suc, ◌+◌, ◌-◌, ◌*◌, ◌<◌, ◌≤◌, List, [], ◌∷◌, length, take, drop, get_or, drop-cons, Bool, true, false, cond, Option, Some, None, option_map, refl, ap, ◌∙◌, arith}
 use Rattle.std.proofs.Math.Numerals.{add-one}
 use Rattle.std.proofs.Math.ListN.{drop_of_length-le}
+use Rattle.std.proofs.Math.Seq.{take-length}
 use Rattle.std.proofs.lemmas.Bool.Decides.{nat_tests}
 use Rattle.std.specs.Prelude.{◌==◌, nat_lt, nat_le, is_some}
 use Rattle.cs_grammar.specs.declared.line.Line.{Line}
-use Rattle.cs_grammar.specs.declared.text.Spot.{Spot}
-use Rattle.cs_grammar.specs.declared.text.Spot.TheVariants.{Inside, Escaped, Digits}
-use Rattle.cs_grammar.specs.declared.text.Step.{Step}
-use Rattle.cs_grammar.specs.declared.text.Step.TheVariants.{More, Ends, Fails}
+use Rattle.cs_lexer.specs.declared.text.Spot.{Spot}
+use Rattle.cs_lexer.specs.declared.text.Spot.TheVariants.{Inside, Escaped, Digits}
+use Rattle.cs_lexer.specs.declared.text.Step.{Step}
+use Rattle.cs_lexer.specs.declared.text.Step.TheVariants.{More, Ends, Fails}
 use Rattle.cs_grammar.specs.declared.token.Sort.TheVariants as sorts
-use Rattle.cs_grammar.specs.Spelling.{is_hex_digit, digit_value, escape_value, is_character, number_step, text_step, closes, sort_if, sort_of}
+use Rattle.cs_grammar.specs.Spelling.{is_hex_digit, digit_value, escape_value, is_character, text_value, sort_if, sort_of}
 use Rattle.cs_grammar.specs.Cut.{BeginsNone, Begins, begins_quotes, NoneBegins, nothing}
-use Rattle.cs_lexer.specs.Heads.{Edges, len_by, text_len}
+use Rattle.cs_lexer.specs.Heads.{Edges}
+use Rattle.cs_lexer.specs.Automaton.{number_step, text_step, closes, len_by, text_len}
 use Rattle.cs_lexer.proofs.ByteClasses.{no_comment_at}
+use Rattle.cs_lexer.proofs.TextValues.{closes_is}
 
 -- ---- where a text closes
 
@@ -139,12 +142,27 @@ pub text_out : (bs : List ℕ) (i : ℕ) (s : Spot) → length bs ≤ i → text
 unfolding text_len
 text_out bs i s le = rw (drop_of_length-le bs le) refl
 
+-- ---- a whole text
+
+closed_whole : (xs : List ℕ) → is_some (text_value xs) ≡ closes Inside (take (length xs) xs)
+closed_whole xs = rw (take-length xs) (closes_is xs)
+
+pub whole_is : (xs : List ℕ) (n : ℕ) → text_len Inside xs ≡ Some n → is_some (text_value xs) ≡ (n == length xs)
+whole_is xs n e = by (n == length xs) refl (rw e at (text_len_is xs Inside))
+  where
+    by : (b : Bool) → (n == length xs) ≡ b → Closes Inside xs n → is_some (text_value xs) ≡ b
+    by true eb h = let is : n ≡ length xs = grind (arith, nat_tests) in closed_whole xs ∙ (rw is at h.closed)
+    by false eb h = closed_whole xs ∙ h.only (length xs) (grind (arith, nat_tests, h.within)) (omega arith)
+
+pub whole_none : (xs : List ℕ) → text_len Inside xs ≡ None → is_some (text_value xs) ≡ false
+whole_none xs e = let h : (m : ℕ) → closes Inside (take m xs) ≡ false = rw e at (text_len_is xs Inside) in closed_whole xs ∙ h (length xs)
+
 -- ---- the token
 
 module _ (xs : List ℕ) where
   text_longer : (n : ℕ) → Closes Inside xs n → (m : ℕ) → suc n < m → m ≤ length (34 ∷ xs) → sort_of (take m (34 ∷ xs)) ≡ None
   text_longer n h zero lt le = let never : ⊥ = omega arith in absurd never
-  text_longer n h (suc m) lt le = ap (λ b. sort_if b sorts.Text) (h.only m (omega arith) (omega arith))
+  text_longer n h (suc m) lt le = ap (λ b. sort_if b sorts.Text) (closes_is (take m xs) ∙ h.only m (omega arith) (omega arith))
 
   text_begins : (l : Line) (n : ℕ) → Closes Inside xs n → begins_quotes (34 ∷ xs) ≡ false → Begins l (34 ∷ xs) (suc n) sorts.Text
   text_begins l n h single = record {
@@ -152,7 +170,7 @@ module _ (xs : List ℕ) where
     no_quotes = single;
     no_comment = no_comment_at 34 xs refl;
     in_range = refl;
-    token = record { within = omega (arith, h.within); spelled = ap (λ b. sort_if b sorts.Text) h.closed; longest = text_longer n h };
+    token = record { within = omega (arith, h.within); spelled = ap (λ b. sort_if b sorts.Text) (closes_is (take n xs) ∙ h.closed); longest = text_longer n h };
   }
 
   text_edges : (n : ℕ) → Closes Inside xs n → Edges (34 ∷ xs) (suc n)
@@ -165,7 +183,7 @@ module _ (xs : List ℕ) where
 
   text_none : ((m : ℕ) → closes Inside (take m xs) ≡ false) → BeginsNone (34 ∷ xs)
   text_none h zero le = refl
-  text_none h (suc m) le = ap (λ b. sort_if b sorts.Text) (h m)
+  text_none h (suc m) le = ap (λ b. sort_if b sorts.Text) (closes_is (take m xs) ∙ h m)
 
   pub text_case : (l : Line) (n : ℕ) → begins_quotes (34 ∷ xs) ≡ false → text_len Inside xs ≡ Some n → Begins l (34 ∷ xs) (n + 1) sorts.Text × Edges (34 ∷ xs) (n + 1)
   text_case l n single e =

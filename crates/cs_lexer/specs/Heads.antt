@@ -1,14 +1,11 @@
 -- What the lexer says of the front of a text.
-use Rattle.std.specs.Prelude.{◌≡◌, ℕ, ◌-◌, ◌<◌, ◌≤◌, suc, List, [], ◌∷◌, length, take, Bool, true, false, ◌==◌, ◌&&◌, nat_le, slice_index, if◌then◌else◌, Option, Some, None}
-use Rattle.std.specs.Option.{option_map}
+use Rattle.std.specs.Prelude.{◌≡◌, ℕ, ◌-◌, ◌<◌, ◌≤◌, List, [], ◌∷◌, length, take, Bool, true, false, ◌==◌, ◌&&◌, nat_le, slice_index, if◌then◌else◌, Option, None}
+use Rattle.std.specs.Option.{option_map, option_or}
 use Rattle.cs_grammar.specs.declared.token.Sort.{Sort}
 use Rattle.cs_grammar.specs.declared.line.Line.{Line}
 use Rattle.cs_lexer.specs.declared.head.Head.{Head}
 use Rattle.cs_lexer.specs.declared.head.Head.TheVariants as heads
-use Rattle.cs_grammar.specs.declared.text.Spot.{Spot}
-use Rattle.cs_grammar.specs.declared.text.Step.{Step}
-use Rattle.cs_grammar.specs.declared.text.Step.TheVariants.{More, Ends, Fails}
-use Rattle.cs_grammar.specs.Spelling.{is_name_byte, begins_definition, mark_sort, text_step}
+use Rattle.cs_grammar.specs.Spelling.{is_name_byte, begins_definition, mark_sort}
 use Rattle.cs_grammar.specs.Cut.{Begins, NoneBegins, TooLarge, is_space, begins_comment, line_len}
 
 -- the bytes at both ends of a token are ASCII
@@ -45,19 +42,5 @@ begins_bottom_rest _ = false
 abbrev pub mark_of : ℕ → List ℕ → Option (Sort × ℕ)
 mark_of n bs = if nat_le n (length bs) then option_map (λ s. (s, n)) (mark_sort (take n bs)) else None
 
-abbrev pub or_else : {A : Type 0} → Option A → Option A → Option A
-or_else None o = o
-or_else (Some x) o = Some x
-
 abbrev pub longest_mark : List ℕ → Option (Sort × ℕ)
-longest_mark bs = or_else (mark_of 3 bs) (or_else (mark_of 2 bs) (or_else (mark_of 1 bs) None))
-
-abbrev pub len_by : Step → (Spot → Option ℕ) → Option ℕ
-len_by (More s) again = option_map suc (again s)
-len_by Ends again = Some 1
-len_by Fails again = None
-
--- how many bytes there are up to the last quote of a text and with it
-unfoldable pub text_len : Spot → List ℕ → Option ℕ
-text_len s [] = None
-text_len s (x ∷ xs) = len_by (text_step s x) (λ t. text_len t xs)
+longest_mark bs = option_or (mark_of 3 bs) (option_or (mark_of 2 bs) (mark_of 1 bs))

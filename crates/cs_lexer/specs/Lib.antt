@@ -1,3 +1,4 @@
 pub mod Lexed
 pub mod Heads
 pub mod Quoted
+pub mod Automaton

@@ -1,26 +1,31 @@
 // The characters of texts.
 
 ghost use Rattle.std.specs.Prelude.{◌≡◌, ◌<◌, ◌++◌, true, OnOk, IsOkUnless, encode_utf8, string_bytes};
-ghost use Rattle.cs_grammar.specs.Spelling.{is_character, text_step};
-ghost use Rattle.cs_grammar.specs.Values.{character_at, characters, unescaped};
+ghost use Rattle.cs_grammar.specs.Spelling.{is_character};
+ghost use Rattle.cs_grammar.specs.Values.{unescaped};
+ghost use Rattle.cs_lexer.specs.Automaton.{character_at, characters, text_step};
 ghost use Rattle.cs_lexer.specs.Quoted.{begins_quote};
 ghost use Rattle.cs_lexer.specs.Lexed.{IsOf};
 
 use crate::bytes::digit_value;
-use crate::text::{escape_value, text_step};
-use cs_grammar::{Spot, Step, SyntaxFault};
+use crate::text::{Spot, Step, ends_text, escape_value, text_step};
+use cs_grammar::SyntaxFault;
 use std::alloc::Global;
 
-/// The characters that a text stands for, whose token it is (CUE, string literals).
+/// The characters that a text stands for, whose token it is (CUE, string and byte sequence literals).
+/// If it begins with a quote but isn't a text, the answer is empty.
 ///
 /// # Errors
 /// `OutOfMemory` alone.
-#[tactic(auto, unfolding(cs_grammar::specs::Values::unescaped))]
 pub fn unescape(alloc: Global, text: &str) -> Result<String, SyntaxFault>
     requires { begins_quote text.now ≡ true }
     ensures { IsOf result (unescaped text.now) }
 {
-    characters(alloc, &text[1..])
+    let rest = &text[1..];
+    if !ends_text(rest.as_bytes()) {
+        return Ok(String::new(alloc));
+    }
+    characters(alloc, rest)
 }
 
 // The characters behind the first quote of a text, up to its end.

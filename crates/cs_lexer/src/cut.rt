@@ -30,8 +30,7 @@ fn end_line(tokens: &mut Vec<Token<'_>>, line: Line, start: usize) -> Result<(),
 }
 
 /// The tokens of a source, with the commas that the ends of lines insert, and the end
-/// (CUE, lexical elements). A comment counts as the end of its line. The work is linear in the
-/// length of the source, and no text is copied.
+/// (CUE, lexical elements). A comment counts as the end of its line. No text is copied.
 ///
 /// # Errors
 /// `NoToken` where no token of the profile begins, as at a number of another form, at a text without

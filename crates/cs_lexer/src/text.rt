@@ -1,14 +1,36 @@
 // Text literals.
 
-ghost use Rattle.std.specs.Prelude.{◌≡◌, List, ℕ, ◌∷◌, Some};
-ghost use Rattle.cs_grammar.specs.Spelling.{is_character, escape_value, number_step, text_step, sort_of};
+ghost use Rattle.std.specs.Prelude.{◌≡◌, List, ℕ, ◌∷◌, Some, is_some};
+ghost use Rattle.cs_grammar.specs.Spelling.{is_character, escape_value, sort_of, text_value};
 ghost use Rattle.cs_grammar.specs.Values.{unescaped};
 ghost use Rattle.cs_grammar.specs.Literal.{Literal};
 ghost use Rattle.cs_grammar.specs.Cut.{begins_quotes};
-ghost use Rattle.cs_lexer.specs.Heads.{text_len};
+ghost use Rattle.cs_lexer.specs.Automaton.{number_step, text_step, text_len};
 
 use crate::bytes::{digit_value, is_hex_digit};
-use cs_grammar::{Sort, Spot, Step};
+use cs_grammar::Sort;
+
+// What stands before a place in a text.
+#[derive(Clone, Copy)]
+pub(crate) enum Spot {
+    // Whole characters.
+    Inside,
+    // A backslash.
+    Escaped,
+    // `\u` or `\U` and some digits: how many are still to come, and their number so far.
+    Digits { left: u8, number: u32 },
+}
+
+// What a byte does in a text.
+#[derive(Clone, Copy)]
+pub(crate) enum Step {
+    // The text goes on.
+    More(Spot),
+    // It ends.
+    Ends,
+    // It is none.
+    Fails,
+}
 
 // Whether the bytes begin with three quotes.
 pub(crate) fn begins_quotes(bytes: &[u8]) -> bool
@@ -117,6 +139,16 @@ pub(crate) fn text_len(bytes: &[u8]) -> Option<usize>
         }
     }
     None
+}
+
+// Whether the bytes are what stands behind the first quote of a text.
+pub(crate) fn ends_text(bytes: &[u8]) -> bool
+    ensures { result ≡ is_some (text_value bytes.now) }
+{
+    match text_len(bytes) {
+        Some(len) => len == bytes.len(),
+        None => false,
+    }
 }
 
 /// Behind its first quote a text is its parts, as they stand in the source: characters, escapes and

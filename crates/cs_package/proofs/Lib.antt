@@ -1,2 +1,3 @@
 pub mod Environments
 pub mod Views
+mod Samples

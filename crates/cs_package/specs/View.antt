@@ -85,16 +85,28 @@ part_of ns = fold-Part Expression Rest (Declaration Expression) (shape_step ns) 
 -- ---- references to numbers below a count
 
 abbrev pub known_step : ℕ → Shape-F Bool Bool Bool → Bool
+known_step count Shape-F.Top = true
+known_step count Shape-F.Bottom = true
+known_step count Shape-F.Null = true
+known_step count (Shape-F.Bool b) = true
+known_step count (Shape-F.Int n) = true
+known_step count (Shape-F.Text s) = true
+known_step count (Shape-F.Kind k) = true
+known_step count (Shape-F.Range least greatest) = true
 known_step count (Shape-F.Definition i) = nat_lt i count
+known_step count (Shape-F.Bound r n) = true
+known_step count (Shape-F.NotInt n) = true
+known_step count (Shape-F.NotText s) = true
+known_step count Shape-F.NotNull = true
 known_step count (Shape-F.And v) = list_all (λ b. b) v.items
 known_step count (Shape-F.Or v) = list_all (λ b. b) v.items
 known_step count (Shape-F.Struct v opened) = list_all (λ b. b) v.items
 known_step count (Shape-F.List v end) = list_all (λ b. b) v.items && end
-known_step count _ = true
 
 abbrev pub known_end : ShapeEnd-F Bool Bool Bool → Bool
+known_end ShapeEnd-F.Closed = true
+known_end ShapeEnd-F.Any = true
 known_end (ShapeEnd-F.Each b) = b.value
-known_end _ = true
 
 abbrev pub known_part : Part-F Bool Bool Bool → Bool
 known_part p = p.value

@@ -1,4 +1,6 @@
 pub mod Samples
+pub mod Forms
+pub mod Limits
 pub mod Trees
 pub mod Refusals
 pub mod RepeatTables
@@ -17,3 +19,7 @@ pub mod NameFaults
 pub mod LabelSets
 pub mod Made
 pub mod NameTables
+pub mod WordOrder
+pub mod MarkOrder
+pub mod PickedOffsets
+pub mod ToldOffsets

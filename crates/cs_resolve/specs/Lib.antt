@@ -6,6 +6,7 @@ pub use Rattle.cs_package.specs.View
 pub use Rattle.cs_package.specs.Code
 pub mod Predeclared
 pub mod Opening
+pub mod Offsets
 pub mod Size
 pub mod Scopes
 pub mod Declarations

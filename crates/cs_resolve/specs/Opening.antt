@@ -3,20 +3,30 @@
 use Rattle.std.specs.Prelude.{◌≡◌, ℕ, suc, ◌≤◌, Bool, true, false, ◌||◌, ◌⊎◌, List, [], ◌∷◌, ◌++◌, map, filter, count_by, nat_lt, Some, slice_get, Any, Contains}
 use Rattle.std.specs.List.{AllByRecursion, flat_map}
 use Rattle.std.specs.Str.{bytes_eq}
-use Rattle.cs_grammar.specs.Tree.{Tree, reference, meet, join, paren, struct, list, Trees, none, more, Fields, no_field, field, End, closed, any, each, DefinitionTree, defined_name, body, FileTree, definitions}
+use Rattle.cs_grammar.specs.Tree.{Tree, top, bottom, null, boolean, integer, text, named, reference, bound, not_integer, not_text, not_null, meet, join, paren, struct, list, Trees, none, more, Fields, no_field, field, End, closed, any, each, DefinitionTree, defined_name, body, FileTree, definitions}
 
 -- ---- operands, literals and conjunctions
 
 -- whether it holds a struct literal or a reference, so that it isn't plain
 abbrev mutual
   pub holds : Tree → Bool
+  holds top = false
+  holds bottom = false
+  holds null = false
+  holds (boolean b) = false
+  holds (integer z) = false
+  holds (text s) = false
+  holds (named n o) = false
   holds (reference n o) = true
+  holds (bound r z) = false
+  holds (not_integer z) = false
+  holds (not_text s) = false
+  holds not_null = false
   holds (meet es) = holds_some es
   holds (join es) = holds_some es
   holds (paren e) = holds e
   holds (struct o fs opened) = true
   holds (list es end) = holds_some es || holds_end end
-  holds _ = false
 
   pub holds_some : Trees → Bool
   holds_some none = false
@@ -35,12 +45,23 @@ pub record Literal : Type 0 where
 -- the struct literals in an expression, at any depth, in order of the text; references aren't followed
 abbrev mutual
   pub literals : Tree → List Literal
+  literals top = []
+  literals bottom = []
+  literals null = []
+  literals (boolean b) = []
+  literals (integer z) = []
+  literals (text s) = []
+  literals (named n o) = []
+  literals (reference n o) = []
+  literals (bound r z) = []
+  literals (not_integer z) = []
+  literals (not_text s) = []
+  literals not_null = []
   literals (meet es) = literals_all es
   literals (join es) = literals_all es
   literals (paren e) = literals e
   literals (struct o fs opened) = record { at = o; opened = opened } ∷ literals_in fs
   literals (list es end) = literals_all es ++ literals_end end
-  literals _ = []
 
   pub literals_all : Trees → List Literal
   literals_all none = []
@@ -84,12 +105,23 @@ values_of_each ns = map (λ n. values n.name ns) ns
 -- one operand, and the values of each label of one literal
 abbrev mutual
   pub conjunctions : Tree → List (List Tree)
+  conjunctions top = []
+  conjunctions bottom = []
+  conjunctions null = []
+  conjunctions (boolean b) = []
+  conjunctions (integer z) = []
+  conjunctions (text s) = []
+  conjunctions (named n o) = []
+  conjunctions (reference n o) = []
+  conjunctions (bound r z) = []
+  conjunctions (not_integer z) = []
+  conjunctions (not_text s) = []
+  conjunctions not_null = []
   conjunctions (meet es) = operands es ∷ conjunctions_all es
   conjunctions (join es) = conjunctions_all es
   conjunctions (paren e) = conjunctions e
   conjunctions (struct o fs opened) = values_of_each (named_fields fs) ++ conjunctions_in fs
   conjunctions (list es end) = conjunctions_all es ++ conjunctions_end end
-  conjunctions _ = []
 
   pub conjunctions_all : Trees → List (List Tree)
   conjunctions_all none = []
@@ -132,12 +164,23 @@ at_fault false opened o = []
 -- expression does
 abbrev mutual
   pub unopened : Bool → Tree → List ℕ
+  unopened asked top = []
+  unopened asked bottom = []
+  unopened asked null = []
+  unopened asked (boolean b) = []
+  unopened asked (integer z) = []
+  unopened asked (text s) = []
+  unopened asked (named n o) = []
+  unopened asked (reference n o) = []
+  unopened asked (bound r z) = []
+  unopened asked (not_integer z) = []
+  unopened asked (not_text s) = []
+  unopened asked not_null = []
   unopened asked (meet es) = unopened_all (asked || asks (operands es)) es
   unopened asked (join es) = unopened_all asked es
   unopened asked (paren e) = unopened asked e
   unopened asked (struct o fs opened) = at_fault asked opened o ++ unopened_in asked (named_fields fs) fs
   unopened asked (list es end) = unopened_all asked es ++ unopened_end asked end
-  unopened asked _ = []
 
   pub unopened_all : Bool → Trees → List ℕ
   unopened_all asked none = []

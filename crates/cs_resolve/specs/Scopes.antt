@@ -3,7 +3,7 @@
 use Rattle.std.specs.Prelude.{ℕ, Bool, true, false, ◌&&◌, not, List, [], ◌∷◌, ◌++◌, Option, Some, None, is_some, if◌then◌else◌}
 use Rattle.std.specs.List.{list_any, flat_map}
 use Rattle.std.specs.Str.{bytes_eq}
-use Rattle.cs_grammar.specs.Tree.{Label, Tree, named, reference, meet, join, paren, struct, list, Trees, none, more, Fields, no_field, field, End, closed, any, each}
+use Rattle.cs_grammar.specs.Tree.{Label, Tree, top, bottom, null, boolean, integer, text, named, reference, bound, not_integer, not_text, not_null, meet, join, paren, struct, list, Trees, none, more, Fields, no_field, field, End, closed, any, each}
 use Rattle.cs_resolve.specs.Predeclared.{predeclared}
 
 abbrev pub labels : Fields → List Label
@@ -34,14 +34,23 @@ pub data Place : Type 0 where
 -- the places of an expression, in order of the text; a field's own literal is around its value
 abbrev mutual
   pub places : List (List Label) → Tree → List Place
+  places around top = []
+  places around bottom = []
+  places around null = []
+  places around (boolean b) = []
+  places around (integer z) = []
+  places around (text s) = []
   places around (named t o) = a_name around t o ∷ []
   places around (reference t o) = a_reference t o ∷ []
+  places around (bound r z) = []
+  places around (not_integer z) = []
+  places around (not_text s) = []
+  places around not_null = []
   places around (meet es) = places_all around es
   places around (join es) = places_all around es
   places around (paren e) = places around e
   places around (struct o fs opened) = places_in (labels fs ∷ around) fs
   places around (list es end) = places_all around es ++ places_end around end
-  places around _ = []
 
   pub places_all : List (List Label) → Trees → List Place
   places_all around none = []

@@ -1,17 +1,28 @@
 -- The nodes of a package (own rule): each expression in its bodies is one.
 use Rattle.std.specs.Prelude.{ℕ, ◌+◌, List, sum_by}
 use Rattle.std.specs.List.{flat_map}
-use Rattle.cs_grammar.specs.Tree.{Tree, meet, join, paren, struct, list, Trees, none, more, Fields, no_field, field, End, closed, any, each, DefinitionTree, body, FileTree, definitions}
+use Rattle.cs_grammar.specs.Tree.{Tree, top, bottom, null, boolean, integer, text, named, reference, bound, not_integer, not_text, not_null, meet, join, paren, struct, list, Trees, none, more, Fields, no_field, field, End, closed, any, each, DefinitionTree, body, FileTree, definitions}
 
 -- the expressions in an expression, itself among them; a parenthesis is none, and nor is the bare `...` of a list
 abbrev mutual
   pub nodes : Tree → ℕ
+  nodes top = 1
+  nodes bottom = 1
+  nodes null = 1
+  nodes (boolean b) = 1
+  nodes (integer z) = 1
+  nodes (text s) = 1
+  nodes (named n o) = 1
+  nodes (reference n o) = 1
+  nodes (bound r z) = 1
+  nodes (not_integer z) = 1
+  nodes (not_text s) = 1
+  nodes not_null = 1
   nodes (meet es) = 1 + nodes_all es
   nodes (join es) = 1 + nodes_all es
   nodes (paren e) = nodes e
   nodes (struct o fs opened) = 1 + nodes_in fs
   nodes (list es end) = 1 + (nodes_all es + nodes_end end)
-  nodes _ = 1
 
   pub nodes_all : Trees → ℕ
   nodes_all none = 0

@@ -11,7 +11,7 @@ use Rattle.cs_package.specs.View as View
 use Rattle.cs_package.specs.View.{expression_of, is_known}
 use Rattle.cs_package.specs.declared.shape.Shape.{Shape}
 use Rattle.cs_resolve.specs.declared.fault.ResolveFault.{ResolveFault}
-use Rattle.cs_resolve.specs.declared.fault.ResolveFault.TheVariants.{OutOfMemory, UnknownName, FieldReference}
+use Rattle.cs_resolve.specs.declared.fault.ResolveFault.TheVariants.{OutOfMemory, PackageName, TooLarge, UnknownName, FieldReference, NotOpened}
 
 -- the faults at places in the file of that number
 abbrev pub faults_in : ℕ → List (List ℕ) → List Place → List (ℕ × NameFault)
@@ -26,7 +26,9 @@ abbrev pub IsNameRefusal : ResolveFault → List (ℕ × NameFault) → Type 0
 IsNameRefusal OutOfMemory faults = Unit {0}
 IsNameRefusal (UnknownName f o) faults = slice_get faults 0 ≡ Some (f, unknown o)
 IsNameRefusal (FieldReference f o) faults = slice_get faults 0 ≡ Some (f, of_field o)
-IsNameRefusal _ faults = ⊥
+IsNameRefusal (PackageName f) faults = ⊥
+IsNameRefusal TooLarge faults = ⊥
+IsNameRefusal (NotOpened f o) faults = ⊥
 
 -- what is answered is so, and no name is at fault; or it is refused for the first that is
 abbrev pub Resolves : {X : Type 0} → Result X ResolveFault → (X → Type 0) → List (ℕ × NameFault) → Type 0

@@ -3,6 +3,7 @@
 
 mod fault;
 mod kinds;
+mod offsets;
 mod opening;
 mod package_name;
 mod resolving;
@@ -11,5 +12,6 @@ mod size;
 
 pub use cs_package::{FieldMark, Kind, Package, Part, Relation, Shape, ShapeEnd};
 pub use fault::ResolveFault;
+pub use offsets::offsets_law;
 pub use opening::opening_law;
 pub use resolving::resolve;

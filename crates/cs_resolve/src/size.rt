@@ -2,6 +2,7 @@
 
 ghost use Rattle.std.specs.Prelude.{◌≡◌, ◌+◌, ◌<◌, ◌≤◌, ◌↔◌, IsTrue, MatchOption, map};
 ghost use Rattle.cs_grammar.specs.View.{expr_view, exprs_view, fields_view, end_view, definition_view, file_view};
+ghost use Rattle.cs_resolve.specs.Resolved.{most_nodes};
 ghost use Rattle.cs_resolve.specs.Size.{nodes, nodes_all, nodes_in, nodes_end, nodes_of_definitions, nodes_of_files};
 
 use cs_grammar::{Definition, Expr, Field, File, ListEnd};
@@ -94,7 +95,7 @@ fn room_after_files(room: usize, files: &Vec<File>) -> Option<usize>
 
 /// Whether files have so few nodes as a package may have.
 pub(crate) fn has_few_nodes(files: &Vec<File>) -> bool
-    ensures { IsTrue result ↔ (nodes_of_files (map file_view files.now.items) ≤ 50000) }
+    ensures { IsTrue result ↔ (nodes_of_files (map file_view files.now.items) ≤ most_nodes) }
 {
     room_after_files(MOST_NODES, files).is_some()
 }

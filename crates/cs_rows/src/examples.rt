@@ -1,5 +1,5 @@
 // Packages with their schemas, and documents with their verdicts on both sides.
-use crate::tables::{cell, sources_of};
+use crate::tables::{Row, cell, check, sources_of};
 use cs_tool::{Fault, export, validate, vet};
 use std::alloc::Global;
 use std::test::Fail;
@@ -64,28 +64,34 @@ fn all_are(
     Ok(true)
 }
 
-/// Whether the sources have that schema, and the documents their verdicts.
-fn holds(alloc: Global, text: &str, wanted: &str, docs: &str) -> Result<bool, Fail> {
-    let sources = sources_of(alloc, text)?;
-    let schema = export(alloc, &sources, "#P")?;
+/// Whether the documents, the valid ones and then the others, have their verdicts.
+fn are_judged(alloc: Global, sources: &[&[u8]], schema: &[u8], docs: &str) -> Result<bool, Fault> {
     let (valid, invalid) = cell(docs);
     Ok(
-        schema.as_slice() == wanted.as_bytes()
-            && all_are(alloc, &sources, &schema, valid, true)?
-            && all_are(alloc, &sources, &schema, invalid, false)?,
+        all_are(alloc, sources, schema, valid, true)?
+            && all_are(alloc, sources, schema, invalid, false)?,
     )
+}
+
+/// Whether the sources have that schema, and the documents their verdicts.
+fn holds(alloc: Global, text: &str, wanted: &str, docs: &str) -> Result<bool, Fault> {
+    let sources = sources_of(alloc, text)?;
+    let schema = export(alloc, &sources, "#P")?;
+    Ok(schema.as_slice() == wanted.as_bytes() && are_judged(alloc, &sources, &schema, docs)?)
+}
+
+/// Whether the row holds.
+pub(crate) fn is_held(alloc: Global, row: &str) -> Result<bool, Fault> {
+    let (text, rest) = cell(row);
+    let (definitions, docs) = cell(rest);
+    let text = text.replace(alloc, ';', "\n")?;
+    let wanted = format!(in alloc;
+        "{{\"$defs\":{{{definitions}}},\"$ref\":\"#/$defs/P\",\"$schema\":\"https://json-schema.org/draft/2020-12/schema\"}}"
+    )?;
+    holds(alloc, &text, &wanted, docs)
 }
 
 #[test]
 fn packages_have_schemas_and_documents(rt: HostRuntime) -> Result<(), Fail> {
-    for row in PACKAGES.lines() {
-        let (text, rest) = cell(row);
-        let (definitions, docs) = cell(rest);
-        let text = text.replace(rt.alloc(), ';', "\n")?;
-        let wanted = format!(in rt.alloc();
-            "{{\"$defs\":{{{definitions}}},\"$ref\":\"#/$defs/P\",\"$schema\":\"https://json-schema.org/draft/2020-12/schema\"}}"
-        )?;
-        assert!(rt; holds(rt.alloc(), &text, &wanted, docs)?, "{row}");
-    }
-    Ok(())
+    check(rt.alloc(), PACKAGES, Row::Example)
 }

@@ -1,10 +1,14 @@
-// Worked examples, through the calls of `cs_tool`.
+// Worked examples: documents and schemas of texts, and the calls of `cs_tool`.
 #![tactic(auto)]
 
+#[cfg(test)]
+mod documents;
 #[cfg(test)]
 mod examples;
 #[cfg(test)]
 mod refusals;
+#[cfg(test)]
+mod schemas;
 #[cfg(test)]
 mod streams;
 #[cfg(test)]

@@ -1,25 +1,52 @@
 // Refusals by their numbers, and what they carry.
-use crate::tables::{cell, sources_of};
+use crate::tables::{Row, cell, check, sources_of};
 use cs_tool::{Fault, export, validate, vet};
-use std::alloc::Global;
+use std::alloc::{AllocError, Global};
 use std::test::Fail;
 
-/// The number of a refusal with its file and offset, 0 where it has none; all of them 0 for no refusal.
-fn told(alloc: Global, refusal: &Option<Fault>) -> Result<String, Fail> {
+/// Whether that is the number of a refusal with its file and offset, 0 where it has none; all of them 0 for no refusal.
+fn is_told(alloc: Global, refusal: &Option<Fault>, wanted: &str) -> Result<bool, AllocError> {
     let (number, file, offset) = match refusal {
         None => (0, None, None),
         Some(fault) => (fault.number(), fault.file(), fault.offset()),
     };
     let (file, offset) = (file.unwrap_or(0), offset.unwrap_or(0));
-    Ok(format!(in alloc; "{number} in {file} at {offset}")?)
+    let told = format!(in alloc; "{number} in {file} at {offset}")?;
+    Ok(told.as_str() == wanted)
 }
 
-/// Whether `export` and `vet` answer so.
-fn are_told(alloc: Global, text: &str, root: &str, wanted: &str) -> Result<bool, Fail> {
-    let sources = sources_of(alloc, text)?;
-    let exported = export(alloc, &sources, root).err();
-    let vetted = vet(alloc, &sources, root, b"1").err();
-    Ok(told(alloc, &exported)?.as_str() == wanted && told(alloc, &vetted)?.as_str() == wanted)
+/// Whether `export` answers so.
+fn is_exported(
+    alloc: Global,
+    sources: &[&[u8]],
+    root: &str,
+    wanted: &str,
+) -> Result<bool, AllocError> {
+    is_told(alloc, &export(alloc, sources, root).err(), wanted)
+}
+
+/// Whether `vet` answers so.
+fn is_vetted(
+    alloc: Global,
+    sources: &[&[u8]],
+    root: &str,
+    doc: &str,
+    wanted: &str,
+) -> Result<bool, AllocError> {
+    is_told(
+        alloc,
+        &vet(alloc, sources, root, doc.as_bytes()).err(),
+        wanted,
+    )
+}
+
+/// Whether `validate` answers so.
+fn is_validated(alloc: Global, schema: &str, doc: &str, wanted: &str) -> Result<bool, AllocError> {
+    is_told(
+        alloc,
+        &validate(alloc, schema.as_bytes(), doc.as_bytes()).err(),
+        wanted,
+    )
 }
 
 /// Sources, which `%` parts and whose `;` are newlines, a root, and what `export` answers. A package that is accepted and
@@ -60,15 +87,26 @@ package p;#A: {x: #B} => #A => 9 in 0 at 18
 #A: #B % #B: #A => #A => 12 in 0 at 0
 #T: {v: int, kids?: [...#T]} => #Q => 5 in 0 at 0"##;
 
+/// Whether `export` and `vet` answer so.
+fn are_answered(alloc: Global, text: &str, root: &str, wanted: &str) -> Result<bool, AllocError> {
+    let sources = sources_of(alloc, text)?;
+    Ok(
+        is_exported(alloc, &sources, root, wanted)?
+            && is_vetted(alloc, &sources, root, "1", wanted)?,
+    )
+}
+
+/// Whether the row's package is answered as it says.
+pub(crate) fn is_answered(alloc: Global, row: &str) -> Result<bool, AllocError> {
+    let (text, rest) = cell(row);
+    let (root, wanted) = cell(rest);
+    let text = text.replace(alloc, ';', "\n")?;
+    are_answered(alloc, &text, root, wanted.trim())
+}
+
 #[test]
 fn packages_are_answered_or_refused(rt: HostRuntime) -> Result<(), Fail> {
-    for row in PACKAGES.lines() {
-        let (text, rest) = cell(row);
-        let (root, wanted) = cell(rest);
-        let text = text.replace(rt.alloc(), ';', "\n")?;
-        assert!(rt; are_told(rt.alloc(), &text, root, wanted.trim())?, "{row}");
-    }
-    Ok(())
+    check(rt.alloc(), PACKAGES, Row::Package)
 }
 
 /// Schemas, documents, and what `validate` answers. Where the schema is `true`, `vet` answers the same for `#P: int`.
@@ -84,112 +122,102 @@ true => 1 => 0 in 0 at 0
 {"minimum":"x"} => 1 => 22 in 0 at 0
 {"$ref":"#/$defs/A"} => 1 => 23 in 0 at 0"##;
 
-/// What `validate` answers.
-fn validated(alloc: Global, schema: &str, doc: &str) -> Result<String, Fail> {
-    told(
-        alloc,
-        &validate(alloc, schema.as_bytes(), doc.as_bytes()).err(),
-    )
-}
-
-/// What `vet` answers for `#P: int`.
-fn vetted(alloc: Global, root: &str, doc: &str) -> Result<String, Fail> {
-    told(
-        alloc,
-        &vet(alloc, &[b"#P: int"], root, doc.as_bytes()).err(),
+/// Whether `validate` answers the row as it says, and `vet`.
+pub(crate) fn is_judged(alloc: Global, row: &str) -> Result<bool, AllocError> {
+    let (schema, rest) = cell(row);
+    let (doc, wanted) = cell(rest);
+    let wanted = wanted.trim();
+    Ok(
+        is_validated(alloc, schema, doc, wanted)?
+            && (schema != "true" || is_vetted(alloc, &[b"#P: int"], "#P", doc, wanted)?),
     )
 }
 
 #[test]
 fn documents_and_schemas_are_answered_or_refused(rt: HostRuntime) -> Result<(), Fail> {
-    for row in DOCUMENTS.lines() {
-        let (schema, rest) = cell(row);
-        let (doc, wanted) = cell(rest);
-        let found = validated(rt.alloc(), schema, doc)?;
-        assert!(rt; found.as_str() == wanted.trim(), "{row}");
-        if schema == "true" {
-            let found = vetted(rt.alloc(), "#P", doc)?;
-            assert!(rt; found.as_str() == wanted.trim(), "{row}");
-        }
-    }
-    let found = vetted(rt.alloc(), "#Q", "[1")?;
-    assert!(rt; found.as_str() == "13 in 0 at 0");
+    check(rt.alloc(), DOCUMENTS, Row::Document)?;
+    assert!(rt; is_vetted(rt.alloc(), &[b"#P: int"], "#Q", "[1", "13 in 0 at 0")?);
     Ok(())
 }
 
-/// What `export` answers for two sources and the root `#A`.
-fn exported<'a>(alloc: Global, first: &'a [u8], second: &'a [u8]) -> Result<String, Fail> {
-    told(alloc, &export(alloc, &[first, second], "#A").err())
+/// Whether `export` answers so for two sources and the root `#A`.
+fn are_exported(
+    alloc: Global,
+    first: &[u8],
+    second: &[u8],
+    wanted: &str,
+) -> Result<bool, AllocError> {
+    is_exported(alloc, &[first, second], "#A", wanted)
+}
+
+/// Whether no source is taken behind so many blanks, be it a blank or a definition.
+fn are_full(alloc: Global, blanks: &[u8]) -> Result<bool, AllocError> {
+    Ok(
+        are_exported(alloc, blanks, b"", "13 in 0 at 0")?
+            && are_exported(alloc, blanks, b" ", "1 in 0 at 0")?
+            && are_exported(alloc, blanks, b"#A: int", "1 in 0 at 0")?,
+    )
 }
 
 #[test]
 fn sources_have_a_length(rt: HostRuntime) -> Result<(), Fail> {
     let blanks = " ".repeat(rt.alloc(), 1_048_576)?;
-    for (source, wanted) in [
-        ("", "13 in 0 at 0"),
-        (" ", "1 in 0 at 0"),
-        ("#A: int", "1 in 0 at 0"),
-    ] {
-        let found = exported(rt.alloc(), blanks.as_bytes(), source.as_bytes())?;
-        assert!(rt; found.as_str() == wanted, "{source}");
-    }
-    let found = told(rt.alloc(), &export(rt.alloc(), &[], "#A").err())?;
-    assert!(rt; found.as_str() == "13 in 0 at 0");
+    assert!(rt; are_full(rt.alloc(), blanks.as_bytes())?);
+    assert!(rt; is_exported(rt.alloc(), &[], "#A", "13 in 0 at 0")?);
     Ok(())
 }
 
 #[test]
 fn sources_are_texts(rt: HostRuntime) -> Result<(), Fail> {
-    for (source, wanted) in [("", "2 in 1 at 0"), ("#A: {", "2 in 1 at 0")] {
-        let found = exported(rt.alloc(), source.as_bytes(), b"\xff")?;
-        assert!(rt; found.as_str() == wanted, "{source}");
-    }
-    assert!(rt; exported(rt.alloc(), b"\xff", b"\xff")?.as_str() == "2 in 0 at 0");
+    assert!(rt; are_exported(rt.alloc(), b"", b"\xff", "2 in 1 at 0")?);
+    assert!(rt; are_exported(rt.alloc(), b"#A: {", b"\xff", "2 in 1 at 0")?);
+    assert!(rt; are_exported(rt.alloc(), b"\xff", b"\xff", "2 in 0 at 0")?);
     Ok(())
+}
+
+/// Whether `export` answers so for a source, and this source again with a last line.
+fn is_doubled(alloc: Global, source: &str, last: &str, wanted: &str) -> Result<bool, AllocError> {
+    let second = format!(in alloc; "{source}\n{last}")?;
+    are_exported(alloc, source.as_bytes(), second.as_bytes(), wanted)
+}
+
+/// Whether a package has so many nodes twice, and none more.
+fn are_half(alloc: Global, source: &str) -> Result<bool, AllocError> {
+    Ok(
+        is_doubled(alloc, source, "", "5 in 0 at 0")?
+            && is_doubled(alloc, source, "#B: _", "14 in 0 at 0")?
+            && is_doubled(alloc, source, "#B: zzz", "14 in 0 at 0")?,
+    )
 }
 
 #[test]
 fn packages_have_a_size(rt: HostRuntime) -> Result<(), Fail> {
-    let half = "_ & ".repeat(rt.alloc(), 24_998)?;
-    let half = format!(in rt.alloc(); "#A: {half}_")?;
-    for (last, wanted) in [
-        ("", "5 in 0 at 0"),
-        ("#B: _", "14 in 0 at 0"),
-        ("#B: zzz", "14 in 0 at 0"),
-    ] {
-        let second = format!(in rt.alloc(); "{half}\n{last}")?;
-        let found = exported(rt.alloc(), half.as_bytes(), second.as_bytes())?;
-        assert!(rt; found.as_str() == wanted, "{last}");
-    }
+    let operands = "_ & ".repeat(rt.alloc(), 24_998)?;
+    let source = format!(in rt.alloc(); "#A: {operands}_")?;
+    assert!(rt; are_half(rt.alloc(), &source)?);
     Ok(())
 }
 
-/// The names of the cycle that refuses a source.
-fn cycle(alloc: Global, source: &str) -> Result<String, Fail> {
-    match export(alloc, &[source.as_bytes()], "#A") {
-        Err(Fault::Cycle { names }) => Ok(names.join(alloc, " ")?),
-        _ => Ok(String::new(alloc)),
+/// Whether the source is refused for a cycle of these names.
+fn is_cycle(alloc: Global, source: &[u8], wanted: &str) -> Result<bool, AllocError> {
+    match export(alloc, &[source], "#A") {
+        Err(Fault::Cycle { names }) => Ok(names.join(alloc, " ")?.as_str() == wanted),
+        _ => Ok(false),
     }
 }
 
 #[test]
 fn a_cycle_is_told_by_its_names(rt: HostRuntime) -> Result<(), Fail> {
-    for (source, wanted) in [("#A: {next: #A}", "#A"), ("#A: #B\n#B: #A", "#A #B")] {
-        let names = cycle(rt.alloc(), source)?;
-        assert!(rt; names.as_str() == wanted, "{source}");
-    }
+    assert!(rt; is_cycle(rt.alloc(), b"#A: {next: #A}", "#A")?);
+    assert!(rt; is_cycle(rt.alloc(), b"#A: #B\n#B: #A", "#A #B")?);
     Ok(())
 }
 
 #[test]
 fn faults_have_a_status(rt: HostRuntime) {
-    for (fault, status) in [
-        (Fault::OutOfMemory, 5),
-        (Fault::ReadFailed, 4),
-        (Fault::WriteFailed, 4),
-        (Fault::UnknownRoot, 2),
-        (Fault::LeftOut { file: 2, offset: 7 }, 2),
-    ] {
-        assert!(rt; fault.status() == status);
-    }
+    assert!(rt; Fault::OutOfMemory.status() == 5);
+    assert!(rt; Fault::ReadFailed.status() == 4);
+    assert!(rt; Fault::WriteFailed.status() == 4);
+    assert!(rt; Fault::UnknownRoot.status() == 2);
+    assert!(rt; Fault::LeftOut { file: 2, offset: 7 }.status() == 2);
 }

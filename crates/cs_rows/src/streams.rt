@@ -5,7 +5,7 @@ use std::io;
 use std::io::{Error, Read, Write};
 use std::test::Fail;
 
-/// Gives one byte a call, and fails when so many calls were made.
+/// Gives one byte a call, but fails once, when so many calls were made.
 #[derive(Drop)]
 struct Trickle<'a> {
     rest: &'a [u8],
@@ -15,7 +15,8 @@ struct Trickle<'a> {
 impl Read for Trickle<'_> {
     fn read(&mut self, buf: &mut [u8]) -> io::Result<usize> {
         if self.calls_left == 0 {
-            return Err(Error::other("worn out"));
+            self.calls_left = usize::MAX;
+            return Err(Error::other("out of step"));
         }
         self.calls_left -= 1;
         if buf.is_empty() || self.rest.is_empty() {
@@ -28,7 +29,7 @@ impl Read for Trickle<'_> {
     }
 }
 
-/// Takes so many bytes a call, and so many in all. With no room left it fails, or takes none.
+/// Takes so many bytes a call, and so many in all. With no room left it fails, or takes none; after that it has room again.
 #[derive(Drop)]
 struct Room {
     taken: Vec<u8>,
@@ -42,8 +43,12 @@ struct Room {
 impl Write for Room {
     fn write(&mut self, buf: &[u8]) -> io::Result<usize> {
         let count = buf.len().min(self.left).min(self.a_call);
-        if count == 0 && self.fails {
-            return Err(Error::other("full"));
+        if count == 0 {
+            self.left = 1000;
+            if self.fails {
+                return Err(Error::other("full"));
+            }
+            return Ok(0);
         }
         self.taken.extend_from_slice(&buf[..count])?;
         self.left -= count;
@@ -86,15 +91,15 @@ fn request(alloc: Global, file: Option<&[u8]>) -> Result<Request, AllocError> {
     Ok(Request::Export { files, root })
 }
 
-/// The number of the refusal of a run over that input, which fails at its last call and gives a byte at each other; 0 for
-/// an answer.
+/// The number of the refusal of a run over that input, which fails once, after so many calls, and gives a byte at each
+/// other; 0 for an answer.
 fn outcome(
     alloc: Global,
     file: Option<&[u8]>,
     input: &[u8],
     calls: usize,
     output: &mut Room,
-) -> Result<u32, Fail> {
+) -> Result<u32, AllocError> {
     let mut input = Trickle {
         rest: input,
         calls_left: calls,
@@ -106,94 +111,133 @@ fn outcome(
     }
 }
 
+/// Whether a run writes the line whole, so many bytes a call, and flushes once.
+fn line_comes_out(
+    alloc: Global,
+    file: Option<&[u8]>,
+    input: &[u8],
+    calls: usize,
+    a_call: usize,
+) -> Result<bool, AllocError> {
+    let mut output = with_room(alloc, 1000, a_call);
+    let number = outcome(alloc, file, input, calls, &mut output)?;
+    Ok(number == 0 && output.taken.as_slice() == LINE && output.flushes == 1)
+}
+
 #[test]
 fn answers_a_byte_at_a_time(rt: HostRuntime) -> Result<(), Fail> {
-    let mut output = with_room(rt.alloc(), 1000, 1);
-    assert!(rt; outcome(rt.alloc(), None, SOURCE, 1000, &mut output)? == 0);
-    assert!(rt; output.taken.as_slice() == LINE && output.flushes == 1);
+    assert!(rt; line_comes_out(rt.alloc(), None, SOURCE, 1000, 1)?);
     Ok(())
 }
 
 #[test]
 fn reads_no_input_where_there_are_files(rt: HostRuntime) -> Result<(), Fail> {
-    let mut output = with_room(rt.alloc(), 1000, 1000);
-    assert!(rt; outcome(rt.alloc(), Some(SOURCE), b"", 0, &mut output)? == 0);
-    assert!(rt; output.taken.as_slice() == LINE);
+    assert!(rt; line_comes_out(rt.alloc(), Some(SOURCE), b"", 0, 1000)?);
     Ok(())
+}
+
+/// Whether a run over that input is refused by the number, and the writer has nothing.
+fn is_refused(alloc: Global, input: &[u8], calls: usize, number: u32) -> Result<bool, AllocError> {
+    let mut output = with_room(alloc, 1000, 1000);
+    let told = outcome(alloc, None, input, calls, &mut output)?;
+    Ok(told == number && output.taken.is_empty())
+}
+
+/// The same, of an input of so many blanks.
+fn are_blanks_refused(alloc: Global, count: usize, number: u32) -> Result<bool, AllocError> {
+    let blanks = " ".repeat(alloc, count)?;
+    is_refused(alloc, blanks.as_bytes(), 2_000_000, number)
 }
 
 #[test]
 fn writes_nothing_after_a_refusal(rt: HostRuntime) -> Result<(), Fail> {
-    let blanks = " ".repeat(rt.alloc(), 1_048_577)?;
-    let blanks = blanks.as_bytes();
-    for (input, calls, wanted) in [
-        (SOURCE, 1, 30),
-        (b"#Q: int", 1000, 13),
-        (blanks, 2_000_000, 1),
-        (&blanks[1..], 2_000_000, 13),
-    ] {
-        let mut output = with_room(rt.alloc(), 1000, 1000);
-        assert!(rt;
-            outcome(rt.alloc(), None, input, calls, &mut output)? == wanted,
-            "{wanted}"
-        );
-        assert!(rt; output.taken.is_empty(), "{wanted}");
-    }
+    assert!(rt; is_refused(rt.alloc(), SOURCE, 1, 30)?);
+    assert!(rt; is_refused(rt.alloc(), b"#Q: int", 1000, 13)?);
+    assert!(rt; are_blanks_refused(rt.alloc(), 1_048_577, 1)?);
+    assert!(rt; are_blanks_refused(rt.alloc(), 1_048_576, 13)?);
     Ok(())
+}
+
+/// Whether a run is refused by 31 where the writer takes so many bytes, or doesn't flush, and the writer has just these.
+fn is_cut(alloc: Global, left: usize, fails: bool, can_flush: bool) -> Result<bool, AllocError> {
+    let mut output = Room {
+        fails,
+        can_flush,
+        ..with_room(alloc, left, 1000)
+    };
+    let number = outcome(alloc, Some(SOURCE), b"", 0, &mut output)?;
+    Ok(number == 31 && output.taken.as_slice() == LINE.get(..left).unwrap_or(LINE))
 }
 
 #[test]
 fn a_write_or_a_flush_fails(rt: HostRuntime) -> Result<(), Fail> {
-    for (left, fails, can_flush) in [
-        (3, true, true),
-        (3, false, true),
-        (0, false, true),
-        (1000, true, false),
-    ] {
-        let mut output = Room {
-            fails,
-            can_flush,
-            ..with_room(rt.alloc(), left, 1000)
-        };
-        assert!(rt;
-            outcome(rt.alloc(), Some(SOURCE), b"", 0, &mut output)? == 31,
-            "{left}"
-        );
-        assert!(rt;
-            output.taken.as_slice() == LINE.get(..left).unwrap_or(LINE),
-            "{left}"
-        );
-    }
+    assert!(rt; is_cut(rt.alloc(), 3, true, true)?);
+    assert!(rt; is_cut(rt.alloc(), 3, false, true)?);
+    assert!(rt; is_cut(rt.alloc(), 0, true, true)?);
+    assert!(rt; is_cut(rt.alloc(), 0, false, true)?);
+    assert!(rt; is_cut(rt.alloc(), 1000, true, false)?);
     Ok(())
 }
 
-/// The line that reports a refusal.
-fn line_of(alloc: Global, fault: &Fault) -> Result<Vec<u8>, Fault> {
+/// Appends a text, then another so many times, then a last one.
+fn push_all(
+    text: &mut String,
+    first: &str,
+    again: &str,
+    count: usize,
+    last: &str,
+) -> Result<(), AllocError> {
+    text.push_str(first)?;
+    for _ in 0..count {
+        text.push_str(again)?;
+    }
+    text.push_str(last)
+}
+
+/// Whether a definition of 4,000 operands comes out whole.
+fn long_answer_comes_out_whole(alloc: Global) -> Result<bool, AllocError> {
+    let mut source = String::new(alloc);
+    push_all(&mut source, "#P: ", "int & ", 3_999, "int")?;
+    let mut line = String::new(alloc);
+    push_all(
+        &mut line,
+        "{\"$defs\":{\"P\":{\"allOf\":[",
+        "{\"type\":\"integer\"},",
+        3_999,
+        "{\"type\":\"integer\"}]}},\"$ref\":\"#/$defs/P\",\"$schema\":\"https://json-schema.org/draft/2020-12/schema\"}\n",
+    )?;
+    let mut output = with_room(alloc, 100_000, 1000);
+    let number = outcome(alloc, None, source.as_bytes(), 100_000, &mut output)?;
+    Ok(number == 0 && output.taken.as_slice() == line.as_bytes())
+}
+
+#[test]
+fn a_long_answer_comes_out_whole(rt: HostRuntime) -> Result<(), Fail> {
+    assert!(rt; long_answer_comes_out_whole(rt.alloc())?);
+    Ok(())
+}
+
+/// Whether that is the line that reports a refusal.
+fn has_line(alloc: Global, fault: &Fault, line: &str) -> Result<bool, Fault> {
     let mut output = Vec::new(alloc);
     write_fault(fault, &mut output)?;
-    Ok(output)
+    Ok(output.as_slice() == line.as_bytes())
 }
 
 #[test]
 fn refusals_have_a_line(rt: HostRuntime) -> Result<(), Fail> {
-    for (fault, line) in [
-        (
-            Fault::FieldReference {
-                file: 0,
-                offset: 21,
-            },
-            "error 10 at 21\n",
-        ),
-        (Fault::UnknownRoot, "error 13\n"),
-        (Fault::ChainTooLong, "error 16\n"),
-        (Fault::OutOfMemory, "error 15\n"),
-        (Fault::TooHigh { file: 3 }, "error 7\n"),
-    ] {
-        assert!(rt;
-            line_of(rt.alloc(), &fault)?.as_slice() == line.as_bytes(),
-            "{line}"
-        );
-    }
+    let (file, offset) = (0, 21);
+    assert!(rt;
+        has_line(
+            rt.alloc(),
+            &Fault::FieldReference { file, offset },
+            "error 10 at 21\n"
+        )?
+    );
+    assert!(rt; has_line(rt.alloc(), &Fault::UnknownRoot, "error 13\n")?);
+    assert!(rt; has_line(rt.alloc(), &Fault::ChainTooLong, "error 16\n")?);
+    assert!(rt; has_line(rt.alloc(), &Fault::OutOfMemory, "error 15\n")?);
+    assert!(rt; has_line(rt.alloc(), &Fault::TooHigh { file: 3 }, "error 7\n")?);
     Ok(())
 }
 

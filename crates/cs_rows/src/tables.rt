@@ -1,6 +1,45 @@
 // Tables of examples: a row a line, its cells parted by `=>`.
-use std::alloc::Global;
+use crate::{documents, examples, refusals, schemas};
+use std::alloc::{AllocError, Global};
 use std::test::Fail;
+
+/// What a row says.
+#[derive(Clone, Copy)]
+pub(crate) enum Row {
+    /// A text, and what it is once it was read and written again.
+    Text,
+    /// A schema, and what it is once it was read and written again.
+    Schema,
+    /// A schema, documents that are valid and documents that aren't.
+    Verdicts,
+    /// Sources, the schemas of their definitions, documents that are valid and documents that aren't.
+    Example,
+    /// Sources, a root and what `export` and `vet` answer.
+    Package,
+    /// A schema, a document and what `validate` answers.
+    Document,
+}
+
+/// Fails with the first row that doesn't hold.
+pub(crate) fn check(alloc: Global, table: &str, rows: Row) -> Result<(), Fail> {
+    for row in table.lines() {
+        if !holds(alloc, row, rows)? {
+            return Err(Fail::new(row));
+        }
+    }
+    Ok(())
+}
+
+fn holds(alloc: Global, row: &str, rows: Row) -> Result<bool, Fail> {
+    match rows {
+        Row::Text => Ok(documents::is_read(alloc, row)?),
+        Row::Schema => schemas::is_read(alloc, row),
+        Row::Verdicts => schemas::are_judged(alloc, row),
+        Row::Example => Ok(examples::is_held(alloc, row)?),
+        Row::Package => Ok(refusals::is_answered(alloc, row)?),
+        Row::Document => Ok(refusals::is_judged(alloc, row)?),
+    }
+}
 
 /// The row's first cell, without the blanks around it, and the cells after it.
 pub(crate) fn cell(row: &str) -> (&str, &str) {
@@ -11,7 +50,7 @@ pub(crate) fn cell(row: &str) -> (&str, &str) {
 }
 
 /// The sources of a cell, which `%` parts.
-pub(crate) fn sources_of(alloc: Global, text: &str) -> Result<Vec<&[u8]>, Fail> {
+pub(crate) fn sources_of(alloc: Global, text: &str) -> Result<Vec<&[u8]>, AllocError> {
     let mut sources = Vec::new(alloc);
     for source in text.split('%') {
         sources.push(source.trim().as_bytes())?;

@@ -1,17 +1,5 @@
-pub mod Each
-pub mod Unfolding
-pub mod Locality
-pub mod Chains
-pub mod Meanings
-pub mod Unfolded
-pub mod Rows
 pub mod Escapes
 pub mod Walks
 pub mod Slots
-pub mod Definitions
-pub mod Trimmed
 pub mod Writing
-pub mod Faultless
-pub mod Profiles
 pub mod Reader
-pub mod TrimLaw

@@ -4,23 +4,23 @@ use Rattle.std.specs.BTreeMap.{is_at}
 use Rattle.std.specs.Cmp.Lexicographic.{slice_cmp}
 use Rattle.std.specs.Map.{lookup}
 use Rattle.cs_document.specs.Document.{Document, boolean, object, text, Members, entries, under, put}
-use Rattle.cs_schema.specs.Keywords.{listed_under, defined}
-use Rattle.cs_schema.specs.Shapes.{dialect}
-use Rattle.cs_schema.specs.Profile.{Fault, undefined, Visit, value_at, keyword_at, first, fault_of, or_else, shape_fault, row_fault, is_truth, visits, member_visits, walk_fault, name_fault, IsSchema}
-use Rattle.cs_schema.specs.Shapes.{Row, row, has_form}
-use Rattle.cs_schema.specs.Trim.{trim, trimmed, trimmed_members, with_member, with_dialect}
-use Rattle.cs_schema.specs.SchemaDocument.{Slot, present, slots_of, schema_view, definitions_view, unless_no_map, reference_document, document_of, with_definitions, IsWhole}
+use Rattle.cs_profile.specs.Keywords.{listed_under, defined}
+use Rattle.cs_profile.specs.Shapes.{dialect}
+use Rattle.cs_profile.specs.Profile.{Fault, undefined, Visit, value_at, keyword_at, first, fault_of, or_else, shape_fault, row_fault, is_truth, visits, member_visits, walk_fault, name_fault, IsSchema}
+use Rattle.cs_profile.specs.Shapes.{Row, row, has_form}
+use Rattle.cs_profile.specs.Trim.{trim, trimmed, trimmed_members, with_member, with_dialect}
+use Rattle.cs_profile.specs.SchemaDocument.{Slot, present, slots_of, schema_view, definitions_view, unless_no_map, reference_document, document_of, with_definitions, IsWhole}
 use Rattle.cs_schema.specs.Reading.{Refuses, undefined_name, slots}
-use Rattle.cs_schema.specs.Refusal.{IsRefusal}
-use Rattle.cs_schema.specs.declared.fault.SchemaFault.{SchemaFault}
-use Rattle.cs_schema.specs.declared.fault.SchemaFault.TheVariants as fault
+use Rattle.cs_profile.specs.Refusal.{IsRefusal}
+use Rattle.cs_profile.specs.declared.fault.SchemaFault.{SchemaFault}
+use Rattle.cs_profile.specs.declared.fault.SchemaFault.TheVariants as fault
 use Rattle.cs_schema.specs.declared.parts.Parts.{Parts}
-use Rattle.cs_schema.specs.declared.schema.Schema.{Schema, Always, Object, the_lemmas}
-use Rattle.cs_schema.specs.declared.schema.Keywords.{Keywords, out-Keywords}
-use Rattle.cs_schema.proofs.Slots.{has_slot}
-use Rattle.cs_schema.proofs.Definitions.{named, found, with_defs, viewed, not_present, no_definitions}
-use Rattle.cs_schema.proofs.Faultless.{Faultless}
-use Rattle.cs_schema.proofs.Profiles.{root_references, roots_alone, other_keyword, references_trimmed, references_alike, no_reference_slot, defined_in_trimmed, is_some-map, trimmed_schema}
+use Rattle.cs_profile.specs.declared.schema.Schema.{Schema, Always, Object, the_lemmas}
+use Rattle.cs_profile.specs.declared.schema.Keywords.{Keywords, out-Keywords}
+use Rattle.cs_profile.proofs.Slots.{has_slot}
+use Rattle.cs_profile.proofs.Definitions.{named, found, with_defs, viewed, not_present, no_definitions}
+use Rattle.cs_profile.proofs.Faultless.{Faultless}
+use Rattle.cs_profile.proofs.Profiles.{root_references, roots_alone, other_keyword, references_trimmed, references_alike, no_reference_slot, defined_in_trimmed, is_some-map, trimmed_schema}
 use Rattle.cs_schema.proofs.Writing.{view-Object}
 
 -- ---- which names are defined

@@ -1,31 +1,19 @@
 -- A keyword set in its slot goes last, where the keywords that are present come before it.
-use Rattle.std.proofs.Common.{◌≡◌, ℕ, Bool, true, false, ◌||◌, List, [], ◌∷◌, Option, Some, None, Less, Greater, bytes_eq, refl, sym, ap, ◌∙◌, subst, rules}
+use Rattle.std.proofs.Common.{◌≡◌, ℕ, Bool, true, false, List, [], ◌∷◌, Option, Some, None, Less, Greater, bytes_eq, refl, sym, ap, ◌∙◌, subst, rules}
 use Rattle.std.proofs.lemmas.Cmp.{nat_list_cmp_total}
 use Rattle.std.proofs.lemmas.Slice.Eq.{bytes_eq-Decides}
 use Rattle.std.specs.Cmp.Lexicographic.{slice_cmp}
 use Rattle.std.specs.Ordering.{nat_cmp, ordering_reverse}
 use Rattle.cs_document.specs.Document.{Document, no_members, member}
-use Rattle.cs_schema.specs.Trim.{with_member}
-use Rattle.cs_schema.specs.SchemaDocument.{Slot, present}
-use Rattle.cs_schema.specs.Reading.{set_slot, set_found, found_value, IsFoundAt, slots}
+use Rattle.cs_profile.specs.Trim.{with_member}
+use Rattle.cs_profile.specs.SchemaDocument.{Slot, present, set_slot}
+use Rattle.cs_schema.specs.Reading.{set_found, found_value, IsFoundAt, slots}
 use Rattle.cs_schema.specs.declared.parts.Parts.{Parts}
-use Rattle.cs_schema.specs.declared.schema.Schema.{the_lemmas}
+use Rattle.cs_profile.specs.declared.schema.Schema.{the_lemmas}
 use Rattle.cs_schema.specs.declared.parts.Found.{Found}
 use Rattle.cs_schema.specs.declared.parts.Found.TheVariants as found
+use Rattle.cs_profile.proofs.Slots.{Above, Ordered, has_slot}
 use Rattle.cs_schema.proofs.Walks.{join, join-nil, KeysBelow}
-
--- the names are above k
-abbrev pub Above : List ℕ → List Slot → Type 0
-Above k [] = Unit {0}
-Above k (s ∷ ss) = (slice_cmp nat_cmp k s.0 ≡ Less) × Above k ss
-
-abbrev pub Ordered : List Slot → Type 0
-Ordered [] = Unit {0}
-Ordered (s ∷ ss) = Above s.0 ss × Ordered ss
-
-abbrev pub has_slot : List ℕ → List Slot → Bool
-has_slot k [] = false
-has_slot k (s ∷ ss) = bytes_eq k s.0 || has_slot k ss
 
 not_both : (k l : List ℕ) → slice_cmp nat_cmp k l ≡ Less → slice_cmp nat_cmp l k ≡ Less → ⊥
 not_both k l a b =

@@ -9,29 +9,15 @@ use Rattle.cs_document.specs.Document.{Document, document, Members, no_members, 
 use Rattle.cs_document.specs.View.{doc_view, list_view, object_view, documents_of, members_of}
 use Rattle.cs_document.specs.declared.doc.Doc.{Doc}
 use Rattle.cs_document.proofs.Entries.{Entry}
-use Rattle.cs_schema.specs.Profile.{Fault, Visit, first, or_else, fault_of, element_visits, value_fault, list_visits}
-use Rattle.cs_schema.specs.Shapes.{some_schemas}
-use Rattle.cs_schema.specs.Trim.{trimmed, trimmed_members, trimmed_elements, trimmed_named, trimmed_value, with_member, trimmed_list}
-use Rattle.cs_schema.specs.SchemaDocument.{schema_view, schemas_view, definitions_view, unless_no_list, text_document}
+use Rattle.cs_profile.specs.Profile.{Fault, Visit, first, fault_of, element_visits, value_fault, list_visits}
+use Rattle.cs_profile.specs.Shapes.{some_schemas}
+use Rattle.cs_profile.specs.Trim.{trimmed, trimmed_members, trimmed_elements, trimmed_named, trimmed_value, with_member, trimmed_list}
+use Rattle.cs_profile.specs.SchemaDocument.{schema_view, schemas_view, definitions_view, unless_no_list, text_document}
 use Rattle.cs_schema.specs.Reading.{Refuses}
-use Rattle.cs_schema.specs.declared.fault.SchemaFault.{SchemaFault}
-use Rattle.cs_schema.specs.declared.fault.SchemaFault.TheVariants as fault
-use Rattle.cs_schema.specs.declared.schema.Schema.{Schema}
-
-or_else-assoc : {A : Type 0} (a b c : Option A) → or_else a (or_else b c) ≡ or_else (or_else a b) c
-or_else-assoc None b c = refl
-or_else-assoc (Some x) b c = refl
-
-pub first-append : {A B : Type 0} (f : A → Option B) (xs ys : List A) → first f (xs ++ ys) ≡ or_else (first f xs) (first f ys)
-first-append f [] ys = refl
-first-append f (x ∷ xs) ys = ap (or_else (f x)) (first-append f xs ys) ∙ or_else-assoc (f x) (first f xs) (first f ys)
-
--- past a part without fault, and at a part with one
-pub first_past : {A B : Type 0} (f : A → Option B) (xs ys : List A) → first f xs ≡ None → first f (xs ++ ys) ≡ first f ys
-first_past f xs ys h = first-append f xs ys ∙ ap (λ o. or_else o (first f ys)) h
-
-pub first_at : {A B : Type 0} (f : A → Option B) (xs ys : List A) (b : B) → first f xs ≡ Some b → first f (xs ++ ys) ≡ Some b
-first_at f xs ys b h = first-append f xs ys ∙ ap (λ o. or_else o (first f ys)) h
+use Rattle.cs_profile.specs.declared.fault.SchemaFault.{SchemaFault}
+use Rattle.cs_profile.specs.declared.fault.SchemaFault.TheVariants as fault
+use Rattle.cs_profile.specs.declared.schema.Schema.{Schema}
+use Rattle.cs_profile.proofs.Walks.{first_at}
 
 -- ---- trimming
 

@@ -9,13 +9,13 @@ use Rattle.cs_document.specs.Document.{Document, Members, no_members, member, in
 use Rattle.cs_document.specs.View.{doc_view, object_view, documents_of, members_of}
 use Rattle.cs_document.specs.declared.doc.Doc.{Doc}
 use Rattle.cs_document.proofs.Entries.{Entry}
-use Rattle.cs_schema.specs.Shapes.{dialect}
-use Rattle.cs_schema.specs.Trim.{with_member, with_dialect}
-use Rattle.cs_schema.specs.SchemaDocument.{Slot, present, slots_of, schema_view, schemas_view, text_document, kind_name, definitions_view, unless_no_list, unless_no_map, SchemaValue, with_definitions, document_of}
+use Rattle.cs_profile.specs.Shapes.{dialect}
+use Rattle.cs_profile.specs.Trim.{with_member, with_dialect}
+use Rattle.cs_profile.specs.SchemaDocument.{Slot, present, slots_of, schema_view, schemas_view, text_document, kind_name, definitions_view, unless_no_list, unless_no_map, SchemaValue, with_definitions, document_of}
 use Rattle.cs_schema.specs.Writing.{put_some, put_all}
-use Rattle.cs_schema.specs.declared.schema.Schema.{Schema, Object, the_lemmas}
-use Rattle.cs_schema.specs.declared.schema.Keywords.{Keywords, out-Keywords}
-use Rattle.cs_schema.proofs.Slots.{Above, Ordered}
+use Rattle.cs_profile.specs.declared.schema.Schema.{Schema, Object, the_lemmas}
+use Rattle.cs_profile.specs.declared.schema.Keywords.{Keywords, out-Keywords}
+use Rattle.cs_profile.proofs.Slots.{Above, Ordered}
 use Rattle.cs_schema.proofs.Walks.{join, join-nil, KeysBelow, is_nil}
 
 -- a key above the others goes last

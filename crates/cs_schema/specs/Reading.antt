@@ -1,15 +1,14 @@
 -- What the reader makes of a keyword, and where it puts it.
 use Rattle.std.specs.Prelude.{◌≡◌, ℕ, List, [], ◌∷◌, Option, Some, None, codes, map, String, string_bytes, is_some, if◌then◌else◌}
-use Rattle.std.specs.Str.{bytes_eq}
 use Rattle.cs_document.specs.Document.{Document, integer, text, under}
 use Rattle.cs_document.specs.View.{doc_view}
-use Rattle.cs_schema.specs.Shapes.{Row, the_dialect, a_reference, a_kind, anything, an_integer, some_schemas, named_schemas, kept, left_out, left_out_if_empty}
-use Rattle.cs_schema.specs.Profile.{Fault, unknown, misshapen, undefined}
-use Rattle.cs_schema.specs.SchemaDocument.{Slot, slots_of, kind_name, unless_no_list, unless_no_map, reference_document, schema_view, schemas_view, definitions_view}
-use Rattle.cs_schema.specs.declared.schema.Schema.{Schema}
+use Rattle.cs_profile.specs.Shapes.{Row, the_dialect, a_reference, a_kind, anything, an_integer, some_schemas, named_schemas, kept, left_out, left_out_if_empty}
+use Rattle.cs_profile.specs.Profile.{Fault, unknown, misshapen, undefined}
+use Rattle.cs_profile.specs.SchemaDocument.{Slot, set_slot, slots_of, kind_name, unless_no_list, unless_no_map, reference_document, schema_view, schemas_view, definitions_view}
+use Rattle.cs_profile.specs.declared.schema.Schema.{Schema}
 use Rattle.std.specs.declared.alloc.Global.{Global}
-use Rattle.cs_schema.specs.declared.fault.SchemaFault.{SchemaFault}
-use Rattle.cs_schema.specs.declared.fault.SchemaFault.TheVariants as fault
+use Rattle.cs_profile.specs.declared.fault.SchemaFault.{SchemaFault}
+use Rattle.cs_profile.specs.declared.fault.SchemaFault.TheVariants as fault
 use Rattle.cs_schema.specs.declared.words.Word.{Word}
 use Rattle.cs_schema.specs.declared.words.Word.TheVariants.{Dialect, Definitions, Reference, Kind, Equal, Minimum, Maximum, Above, Below, AllOf}
 use Rattle.cs_schema.specs.declared.parts.Parts.{Parts}
@@ -45,11 +44,6 @@ Names AllOf k = k ≡ codes "allOf"
 -- the keywords of an object with its definitions
 abbrev pub slots : Parts → List Slot
 slots p = (codes "$defs", unless_no_map (definitions_view p.definitions.entries)) ∷ slots_of p.keywords
-
--- a keyword's value is set
-abbrev pub set_slot : List ℕ → Option Document → List Slot → List Slot
-set_slot k o [] = []
-set_slot k o (s ∷ ss) = if bytes_eq k s.0 then (s.0, o) ∷ ss else s ∷ set_slot k o ss
 
 -- what a keyword says, as its value
 abbrev pub found_value : Found → Option Document

@@ -1,7 +1,7 @@
 -- Keywords put to the members of an object one after the other.
 use Rattle.std.specs.Prelude.{ℕ, List, [], ◌∷◌, Option, Some, None}
 use Rattle.cs_document.specs.Document.{Document, Members, put}
-use Rattle.cs_schema.specs.SchemaDocument.{Slot}
+use Rattle.cs_profile.specs.SchemaDocument.{Slot}
 
 -- a keyword with a value is put to the others
 abbrev pub put_some : List ℕ → Option Document → Members → Members

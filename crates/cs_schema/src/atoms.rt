@@ -3,8 +3,8 @@ ghost use Rattle.std.specs.Prelude.{◌≡◌, Some, None, false, true, IfSome, 
 ghost use Rattle.std.specs.List.{list_all};
 ghost use Rattle.cs_document.specs.Document.{text, integer};
 ghost use Rattle.cs_document.specs.View.{doc_view};
-ghost use Rattle.cs_schema.specs.Shapes.{has_form, a_reference, a_kind, an_integer, the_dialect, is_name as text_is_name, is_name_code as code_is_name};
-ghost use Rattle.cs_schema.specs.SchemaDocument.{kind_name, reference_document};
+ghost use Rattle.cs_profile.specs.Shapes.{has_form, a_reference, a_kind, an_integer, the_dialect, is_name as text_is_name, is_name_code as code_is_name};
+ghost use Rattle.cs_profile.specs.SchemaDocument.{kind_name, reference_document};
 
 use crate::{JsonKind, SchemaFault};
 use cs_document::Doc;

@@ -1,20 +1,13 @@
-// Schemas: documents that say which documents are valid.
+// From a document to the schema document that it is, and back. The schemas themselves are those of `cs_profile`.
 #![tactic(auto)]
 
 mod atoms;
-mod fault;
-mod laws;
 mod parts;
 mod places;
 mod read;
-mod schema;
-mod schema_doc;
 mod words;
 mod write;
 
-pub use fault::SchemaFault;
-pub use laws::one_meaning;
+pub use cs_profile::{JsonKind, Keywords, Schema, SchemaDoc, SchemaFault, one_meaning};
 pub use read::read_schema;
-pub use schema::{JsonKind, Keywords, Schema};
-pub use schema_doc::SchemaDoc;
 pub use write::to_doc;

@@ -2,6 +2,7 @@ use crate::{JsonKind, Keywords, Schema};
 use cs_document::Doc;
 use std::alloc::Global;
 use std::collections::BTreeMap;
+use std::mem::replace;
 
 /// The keywords of an object, with its definitions where it is the root.
 #[derive(Drop)]
@@ -28,7 +29,7 @@ pub(crate) enum Found {
 impl Parts {
     ghost use Rattle.std.specs.Prelude.{◌≡◌, []};
     ghost use Rattle.cs_document.specs.Document.{no_members};
-    ghost use Rattle.cs_schema.specs.SchemaDocument.{present};
+    ghost use Rattle.cs_profile.specs.SchemaDocument.{present};
     ghost use Rattle.cs_schema.specs.Reading.{slots, set_found, IsNoDefinitions};
 
     /// No keywords and no definitions.
@@ -59,72 +60,20 @@ impl Parts {
         ensures slots { slots result ≡ set_found found (slots self) }
         ensures below { IsNoDefinitions found → result.definitions.entries ≡ self.definitions.entries }
     {
-        let Parts {
-            keywords,
-            definitions,
-        } = self;
+        // `replace` and no assignment: the prover does not take one of a part of an owned value here.
+        let mut parts = self;
         match found {
-            Found::Nothing => Parts {
-                keywords,
-                definitions,
-            },
-            Found::Definitions(found) => Parts {
-                keywords,
-                definitions: found,
-            },
-            Found::Reference(name) => Parts {
-                keywords: Keywords {
-                    reference: Some(name),
-                    ..keywords
-                },
-                definitions,
-            },
-            Found::Kind(kind) => Parts {
-                keywords: Keywords {
-                    kind: Some(kind),
-                    ..keywords
-                },
-                definitions,
-            },
-            Found::Equal(doc) => Parts {
-                keywords: Keywords {
-                    equal: Some(doc),
-                    ..keywords
-                },
-                definitions,
-            },
-            Found::Minimum(n) => Parts {
-                keywords: Keywords {
-                    minimum: Some(n),
-                    ..keywords
-                },
-                definitions,
-            },
-            Found::Maximum(n) => Parts {
-                keywords: Keywords {
-                    maximum: Some(n),
-                    ..keywords
-                },
-                definitions,
-            },
-            Found::Above(n) => Parts {
-                keywords: Keywords {
-                    above: Some(n),
-                    ..keywords
-                },
-                definitions,
-            },
-            Found::Below(n) => Parts {
-                keywords: Keywords {
-                    below: Some(n),
-                    ..keywords
-                },
-                definitions,
-            },
-            Found::AllOf(all_of) => Parts {
-                keywords: Keywords { all_of, ..keywords },
-                definitions,
-            },
+            Found::Nothing => (),
+            Found::Definitions(definitions) => drop(replace(&mut parts.definitions, definitions)),
+            Found::Reference(name) => drop(parts.keywords.reference.replace(name)),
+            Found::Kind(kind) => drop(parts.keywords.kind.replace(kind)),
+            Found::Equal(doc) => drop(parts.keywords.equal.replace(doc)),
+            Found::Minimum(n) => drop(parts.keywords.minimum.replace(n)),
+            Found::Maximum(n) => drop(parts.keywords.maximum.replace(n)),
+            Found::Above(n) => drop(parts.keywords.above.replace(n)),
+            Found::Below(n) => drop(parts.keywords.below.replace(n)),
+            Found::AllOf(all_of) => drop(replace(&mut parts.keywords.all_of, all_of)),
         }
+        parts
     }
 }

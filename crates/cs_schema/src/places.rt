@@ -1,14 +1,14 @@
 // Places in a document, as JSON pointers, and the faults that carry them.
 ghost use Rattle.std.specs.Prelude.{◌≡◌, Some, IfOk, string_bytes, IsOkUnless};
-ghost use Rattle.cs_schema.specs.Places.{at_key, at_index};
-ghost use Rattle.cs_schema.specs.Profile.{unknown, misshapen, undefined};
+ghost use Rattle.cs_profile.specs.Places.{at_key, at_index};
+ghost use Rattle.cs_profile.specs.Profile.{unknown, misshapen, undefined};
 ghost use Rattle.cs_schema.specs.Reading.{Refuses};
 
 use crate::SchemaFault;
 use std::alloc::Global;
 
 /// The place of what stands at an index.
-#[tactic(auto, unfolding(crate::specs::Places::at_index))]
+#[tactic(auto, unfolding(cs_profile::specs::Places::at_index))]
 pub(crate) fn at_index(alloc: Global, place: &str, i: usize) -> Result<String, SchemaFault>
     ensures text { IfOk result (λ s. string_bytes s ≡ at_index place.now i) }
     ensures memory { IsOkUnless result SchemaFault.OutOfMemory }
@@ -17,7 +17,7 @@ pub(crate) fn at_index(alloc: Global, place: &str, i: usize) -> Result<String, S
 }
 
 /// The place of what stands under a key.
-#[tactic(auto, unfolding(crate::specs::Places::at_key))]
+#[tactic(auto, unfolding(cs_profile::specs::Places::at_key))]
 pub(crate) fn at_key(alloc: Global, place: &str, key: &str) -> Result<String, SchemaFault>
     ensures text { IfOk result (λ s. string_bytes s ≡ at_key place.now key.now) }
     ensures memory { IsOkUnless result SchemaFault.OutOfMemory }

@@ -2,13 +2,13 @@
 ghost use Rattle.std.specs.Prelude.{◌≡◌, None, Some, IfOk, OnOk, IfErr, [], false};
 ghost use Rattle.cs_document.specs.Document.{object};
 ghost use Rattle.cs_document.specs.View.{doc_view, list_view, object_view, documents_of, members_of};
-ghost use Rattle.cs_schema.specs.Shapes.{some_schemas, named_schemas};
-ghost use Rattle.cs_schema.specs.Profile.{first, fault_of, value_fault, visits, list_visits, map_visits, member_visits, keyword_visits, element_visits, named_visits, IsSchema};
-ghost use Rattle.cs_schema.specs.Refusal.{IsRefusal};
-ghost use Rattle.cs_schema.specs.Places.{at_key as key_place};
-ghost use Rattle.cs_schema.specs.Trim.{trim, KeepsValidity, trimmed, trimmed_members, trimmed_elements, trimmed_named, trimmed_value, trimmed_list, trimmed_map};
-ghost use Rattle.cs_schema.specs.Validity.{OneMeaning};
-ghost use Rattle.cs_schema.specs.SchemaDocument.{schema_view, schemas_view, definitions_view, unless_no_list, present, document_of};
+ghost use Rattle.cs_profile.specs.Shapes.{some_schemas, named_schemas};
+ghost use Rattle.cs_profile.specs.Profile.{first, fault_of, value_fault, visits, list_visits, map_visits, member_visits, keyword_visits, element_visits, named_visits, IsSchema};
+ghost use Rattle.cs_profile.specs.Refusal.{IsRefusal};
+ghost use Rattle.cs_profile.specs.Places.{at_key as key_place};
+ghost use Rattle.cs_profile.specs.Trim.{trim, KeepsValidity, trimmed, trimmed_members, trimmed_elements, trimmed_named, trimmed_value, trimmed_list, trimmed_map};
+ghost use Rattle.cs_profile.specs.Validity.{OneMeaning};
+ghost use Rattle.cs_profile.specs.SchemaDocument.{schema_view, schemas_view, definitions_view, unless_no_list, present, document_of};
 ghost use Rattle.cs_schema.specs.Reading.{Refuses, undefined_name, slots, found_value, IsFoundAt, IsNoDefinitions};
 
 use crate::atoms::{copied, integer_of, is_dialect, kind_of, reference_of};

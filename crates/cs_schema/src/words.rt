@@ -1,5 +1,5 @@
 ghost use Rattle.std.specs.Prelude.{◌≡◌, Some, None, IfSome, true, false};
-ghost use Rattle.cs_schema.specs.Shapes.{row};
+ghost use Rattle.cs_profile.specs.Shapes.{row};
 ghost use Rattle.cs_schema.specs.Reading.{word_row, Names};
 
 /// The keywords that the reader tells apart.

@@ -2,9 +2,9 @@
 ghost use Rattle.std.specs.Prelude.{◌≡◌, IfOk, OnOk, IsOkUnless, Some, None, map, option_map, take, drop};
 ghost use Rattle.cs_document.specs.Document.{text as a_text, integer, list};
 ghost use Rattle.cs_document.specs.View.{doc_view, list_view, object_view};
-ghost use Rattle.cs_schema.specs.Profile.{IsSchema};
-ghost use Rattle.cs_schema.specs.Trim.{trim};
-ghost use Rattle.cs_schema.specs.SchemaDocument.{kind_name, schema_view, schemas_view, definitions_view, slots_of, present, unless_no_list, unless_no_map, reference_document, text_document, document_of};
+ghost use Rattle.cs_profile.specs.Profile.{IsSchema};
+ghost use Rattle.cs_profile.specs.Trim.{trim};
+ghost use Rattle.cs_profile.specs.SchemaDocument.{kind_name, schema_view, schemas_view, definitions_view, slots_of, present, unless_no_list, unless_no_map, reference_document, text_document, document_of};
 ghost use Rattle.cs_schema.specs.Writing.{put_some, put_all};
 
 use crate::atoms::{copied, name_of};

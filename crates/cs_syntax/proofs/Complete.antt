@@ -1,7 +1,7 @@
 -- What is spelled so is read.
 use Rattle.std.proofs.Common.{◌≡◌, ℕ, zero, suc, ◌<◌, ◌≤◌, ℤ, pos, Bool, true, false, List, [], ◌∷◌, length, Option, Some, None, Ok, refl, ap, arith}
 use Rattle.std.proofs.lemmas.Bool.Decides.{nat_tests}
-use Rattle.std.specs.Prelude.{FitsSigned, neg_ℤ, ◌||◌}
+use Rattle.std.specs.Prelude.{FitsSigned, neg_ℤ, ◌||◌, max}
 use Rattle.std.specs.Int.{w64}
 use Rattle.std.specs.Option.{unwrap_or}
 use Rattle.cs_grammar.specs.declared.kind.Kind.TheVariants as kinds
@@ -9,10 +9,12 @@ use Rattle.cs_grammar.specs.declared.ast.Relation.{Relation}
 use Rattle.cs_grammar.specs.declared.ast.Relation.TheVariants as relations
 use Rattle.cs_grammar.specs.declared.ast.FieldMark.{FieldMark}
 use Rattle.cs_grammar.specs.Words.{Words, relation, comma, name, quoted, top_mark, bottom_mark, definition_name, unequal, close_struct, close_list, dots, finish}
-use Rattle.cs_grammar.specs.Tree.{Label, Tree, top, bottom, reference, text, closed, integer, not_integer, not_text, not_null, named, Trees, none, more, Fields, no_field, field, End, DefinitionTree, FileTree}
+use Rattle.cs_grammar.specs.Tree.{Label, Tree, top, bottom, reference, text, closed, integer, not_integer, not_text, not_null, named, Trees, none, more, Fields, no_field, field, End, DefinitionTree, body, FileTree}
 use Rattle.cs_grammar.specs.View.{trees_of, fields_of, Seen}
 use Rattle.cs_grammar.specs.Spells.{is_keyword, is_null, literal_of, Comma, explicit, inserted, ClosesParen, paren_here, paren_after, ClosesList, list_here, list_after, ClosesStruct, struct_here, struct_after, SpellsNumber, positive, negative, SpellsBound, limit_is, other_number, other_text, other_null, SpellsLabel, bare_label, quoted_label, SpellsMark, regular, optional, required, SpellsOpening, unopened, opened, SpellsValue, long, short, SpellsField, labelled, SpellsExpr, one_conj, joined, SpellsBars, no_bar, a_bar, SpellsConj, one_operand, met, SpellsAmps, no_amp, an_amp, SpellsOperand, top_is, bottom_is, reference_is, name_is, number_is, text_is, bound_is, paren_is, struct_is, list_is, SpellsStruct, no_fields, dots_alone, fields, SpellsFields, no_more_fields, next_field, SpellsList, no_elements, rest_alone, elements, SpellsElements, no_more_elements, next_element, SpellsEnd, closed_is, rest_is, SpellsRest, any_is, each_is, SpellsDefinition, defined, SpellsDefinitions, no_definition, next_definition, SpellsPackage, no_clause, clause, SpellsFile, spelled}
 use Rattle.cs_syntax.specs.Reading.{◌>>=◌, Read, after, begins_with, begins_comma, comma_at, close_at, paren_end, goes_on_label, begins_field, another_field, another_element, opening_at, may_end, many, signed, number_at, bound_at, unequal_at, integer_at, plain_at, label_at, mark_at, expected, field_with, fields_with, struct_with, rest_with, end_with, elements_with, list_with, operand_with, amps_with, conj_with, bars_with, expr_with, inner, definition_at, line_at, before_end, definitions_at, clause_at, package_at, file_with, file_at}
+use Rattle.cs_syntax.specs.Nesting.{nesting}
+use Rattle.cs_syntax.proofs.Inside.{inside, inside_all, inside_elements, inside_fields, inside_end, inside_definitions, inside_file, inside_low, max_left, max_right}
 
 -- ---- a spelling takes words
 
@@ -467,33 +469,33 @@ inside_expr d ts = refl
 mutual
   unfolding operand_with conj_with expr_with inner field_with rest_with
 
-  read_value : {e : Tree} {ts r : Words} → SpellsValue e ts r → (d : ℕ) → length ts ≤ d → Quiet r → inner (suc d) true ts ≡ Ok (e, r)
+  read_value : {e : Tree} {ts r : Words} → SpellsValue e ts r → (d : ℕ) → inside e ≤ d → Quiet r → inner (suc d) true ts ≡ Ok (e, r)
   read_value (long s) d h q = rw (expr_no_field s q.no_label) (read_expr s d h q)
-  read_value (short o (labelled l m v)) d h q = rw (begins_label l m, read_field (labelled l m v) d h q, o) refl
+  read_value (short {e = e} o (labelled l m v)) d h q = rw (begins_label l m, read_field (labelled l m v) d (max_left (suc (inside e)) 0 h) q, o) refl
 
-  read_field : {l : Label} {m : FieldMark} {e : Tree} {ts r : Words} → SpellsField l m e ts r → (d : ℕ) → length ts ≤ d → Quiet r → field_with (inner d) ts ≡ Ok (record { label = l; mark = m; value = e }, r)
-  read_field (labelled l m v) zero h q = let never : ⊥ = omega (arith, shorter_label l) in absurd never
-  read_field (labelled l m v) (suc d) h q = rw (label_is l, colon_is m, mark_is m, read_value v d (omega (arith, shorter_label l, shorter_mark m)) q) refl
+  read_field : {l : Label} {m : FieldMark} {e : Tree} {ts r : Words} → SpellsField l m e ts r → (d : ℕ) → suc (inside e) ≤ d → Quiet r → field_with (inner d) ts ≡ Ok (record { label = l; mark = m; value = e }, r)
+  read_field (labelled l m v) zero h q = let never : ⊥ = omega (arith, h) in absurd never
+  read_field (labelled l m v) (suc d) h q = rw (label_is l, colon_is m, mark_is m, read_value v d (omega (arith, h)) q) refl
 
-  read_expr : {e : Tree} {ts r : Words} → SpellsExpr e ts r → (d : ℕ) → length ts ≤ d → Quiet r → expr_with (inner d) ts ≡ Ok (e, r)
+  read_expr : {e : Tree} {ts r : Words} → SpellsExpr e ts r → (d : ℕ) → inside e ≤ d → Quiet r → expr_with (inner d) ts ≡ Ok (e, r)
   read_expr (one_conj {e} {ts} {r} c) d h q = rw (read_conj c d h q.no_amp_here, many_end (after kinds.Bar) (conj_with (inner d)) (length r) r q.no_bar_here) refl
-  read_expr (joined {fs = fs} {us = us} c b) d h q = rw (read_conj c d h (no_amp-bars b q.no_amp_here), read_bars b d (length us) (omega (arith, shorter_conj c)) (omega arith) q, trees_back fs) refl
+  read_expr (joined {fs = fs} {us = us} c b) d h q = rw (read_conj c d (max_left _ _ h) (no_amp-bars b q.no_amp_here), read_bars b d (length us) (max_right _ _ h) (omega arith) q, trees_back fs) refl
 
-  read_bars : {es : Trees} {ts r : Words} → SpellsBars es ts r → (d n : ℕ) → length ts ≤ d → length ts ≤ n → Quiet r → bars_with (inner d) n ts ≡ Ok (trees_in es, r)
+  read_bars : {es : Trees} {ts r : Words} → SpellsBars es ts r → (d n : ℕ) → inside_all es ≤ d → length ts ≤ n → Quiet r → bars_with (inner d) n ts ≡ Ok (trees_in es, r)
   read_bars (no_bar {r}) d n h k q = many_end (after kinds.Bar) (conj_with (inner d)) n r q.no_bar_here
   read_bars (a_bar c b) d zero h k q = let never : ⊥ = omega arith in absurd never
-  read_bars (a_bar c b) d (suc n) h k q = many_next (after kinds.Bar) (conj_with (inner d)) n refl (read_conj c d (omega arith) (no_amp-bars b q.no_amp_here)) (read_bars b d n (omega (arith, shorter_conj c)) (omega (arith, shorter_conj c)) q)
+  read_bars (a_bar c b) d (suc n) h k q = many_next (after kinds.Bar) (conj_with (inner d)) n refl (read_conj c d (max_left _ _ h) (no_amp-bars b q.no_amp_here)) (read_bars b d n (max_right _ _ h) (omega (arith, shorter_conj c)) q)
 
-  read_conj : {e : Tree} {ts r : Words} → SpellsConj e ts r → (d : ℕ) → length ts ≤ d → after kinds.Amp r ≡ None → conj_with (inner d) ts ≡ Ok (e, r)
+  read_conj : {e : Tree} {ts r : Words} → SpellsConj e ts r → (d : ℕ) → inside e ≤ d → after kinds.Amp r ≡ None → conj_with (inner d) ts ≡ Ok (e, r)
   read_conj (one_operand {e} {ts} {r} o) d h q = rw (read_operand o d h, many_end (after kinds.Amp) (operand_with (inner d)) (length r) r q) refl
-  read_conj (met {fs = fs} {us = us} o a) d h q = rw (read_operand o d h, read_amps a d (length us) (omega (arith, shorter_operand o)) (omega arith) q, trees_back fs) refl
+  read_conj (met {fs = fs} {us = us} o a) d h q = rw (read_operand o d (max_left _ _ h), read_amps a d (length us) (max_right _ _ h) (omega arith) q, trees_back fs) refl
 
-  read_amps : {es : Trees} {ts r : Words} → SpellsAmps es ts r → (d n : ℕ) → length ts ≤ d → length ts ≤ n → after kinds.Amp r ≡ None → amps_with (inner d) n ts ≡ Ok (trees_in es, r)
+  read_amps : {es : Trees} {ts r : Words} → SpellsAmps es ts r → (d n : ℕ) → inside_all es ≤ d → length ts ≤ n → after kinds.Amp r ≡ None → amps_with (inner d) n ts ≡ Ok (trees_in es, r)
   read_amps (no_amp {r}) d n h k q = many_end (after kinds.Amp) (operand_with (inner d)) n r q
   read_amps (an_amp o a) d zero h k q = let never : ⊥ = omega arith in absurd never
-  read_amps (an_amp o a) d (suc n) h k q = many_next (after kinds.Amp) (operand_with (inner d)) n refl (read_operand o d (omega arith)) (read_amps a d n (omega (arith, shorter_operand o)) (omega (arith, shorter_operand o)) q)
+  read_amps (an_amp o a) d (suc n) h k q = many_next (after kinds.Amp) (operand_with (inner d)) n refl (read_operand o d (max_left _ _ h)) (read_amps a d n (max_right _ _ h) (omega (arith, shorter_operand o)) q)
 
-  read_operand : {e : Tree} {ts r : Words} → SpellsOperand e ts r → (d : ℕ) → length ts ≤ d → operand_with (inner d) ts ≡ Ok (e, r)
+  read_operand : {e : Tree} {ts r : Words} → SpellsOperand e ts r → (d : ℕ) → inside e ≤ d → operand_with (inner d) ts ≡ Ok (e, r)
   read_operand (top_is {p} {r}) d h = read_top p r
   read_operand (bottom_is {p} {r}) d h = read_bottom p r
   read_operand (reference_is {s} {p} {r}) d h = read_reference s p r
@@ -501,58 +503,65 @@ mutual
   read_operand (number_is n) d h = rw (plain_number n (inner d), read_number n) refl
   read_operand (text_is {s} {p} {r}) d h = read_text s p r
   read_operand (bound_is b) d h = rw (plain_bound b (inner d)) (read_bound b)
-  read_operand (paren_is e c) zero h = let never : ⊥ = omega arith in absurd never
-  read_operand (paren_is e c) (suc d) h = rw (read_expr e d (omega arith) (quiet_closes_paren c), paren_end_is c) refl
-  read_operand (struct_is {fs = fs} s) d h = rw (read_struct s d (omega arith), fields_back fs) refl
-  read_operand (list_is s) zero h = let never : ⊥ = omega arith in absurd never
-  read_operand (list_is {es = es} s) (suc d) h = rw (read_list s d (omega arith), trees_back es) refl
+  read_operand (paren_is e c) zero h = let never : ⊥ = omega (arith, h) in absurd never
+  read_operand (paren_is e c) (suc d) h = rw (read_expr e d (omega (arith, h)) (quiet_closes_paren c), paren_end_is c) refl
+  read_operand (struct_is {fs = fs} s) d h = rw (read_struct s d h, fields_back fs) refl
+  read_operand (list_is {es = es} s) d h = rw (read_list s d h, trees_back es) refl
 
-  read_struct : {fs : Fields} {b : Bool} {ts r : Words} → SpellsStruct fs b ts r → (d : ℕ) → length ts ≤ d → struct_with (inner d) ts ≡ Ok ((fields_in fs, b), r)
+  read_struct : {fs : Fields} {b : Bool} {ts r : Words} → SpellsStruct fs b ts r → (d : ℕ) → inside_fields fs ≤ d → struct_with (inner d) ts ≡ Ok ((fields_in fs, b), r)
   read_struct (no_fields {p} {r}) d h = empty_struct (inner d) p r
   read_struct (dots_alone {p} c) d h = open_alone (inner d) p c
-  read_struct (fields {us = us} (labelled l m v) fs o) d h = rw (struct_first (inner d) l, read_field (labelled l m v) d h (quiet_fields fs (quiet_opening o)), read_fields fs d (length us) (omega (arith, shorter_field (labelled l m v))) (omega arith) (quiet_opening o) (no_other_field o), opening_is o) refl
+  read_struct (fields {us = us} (labelled l m v) fs o) d h = rw (struct_first (inner d) l, read_field (labelled l m v) d (max_left _ _ h) (quiet_fields fs (quiet_opening o)), read_fields fs d (length us) (max_right _ _ h) (omega arith) (quiet_opening o) (no_other_field o), opening_is o) refl
 
-  read_fields : {fs : Fields} {ts r : Words} → SpellsFields fs ts r → (d n : ℕ) → length ts ≤ d → length ts ≤ n → Quiet r → another_field r ≡ None → fields_with (inner d) n ts ≡ Ok (fields_in fs, r)
+  read_fields : {fs : Fields} {ts r : Words} → SpellsFields fs ts r → (d n : ℕ) → inside_fields fs ≤ d → length ts ≤ n → Quiet r → another_field r ≡ None → fields_with (inner d) n ts ≡ Ok (fields_in fs, r)
   read_fields (no_more_fields {r}) d n h k q e = many_end another_field (field_with (inner d)) n r e
   read_fields (next_field c f fs) d zero h k q e = let never : ⊥ = omega (arith, shorter_comma c) in absurd never
-  read_fields (next_field c (labelled l m v) fs) d (suc n) h k q e = many_next another_field (field_with (inner d)) n (another_is c l) (read_field (labelled l m v) d (omega (arith, shorter_comma c)) (quiet_fields fs q)) (read_fields fs d n (omega (arith, shorter_comma c, shorter_field (labelled l m v))) (omega (arith, shorter_comma c, shorter_field (labelled l m v))) q e)
+  read_fields (next_field c (labelled l m v) fs) d (suc n) h k q e = many_next another_field (field_with (inner d)) n (another_is c l) (read_field (labelled l m v) d (max_left _ _ h) (quiet_fields fs q)) (read_fields fs d n (max_right _ _ h) (omega (arith, shorter_comma c, shorter_field (labelled l m v))) q e)
 
-  read_list : {es : Trees} {end : End} {ts r : Words} → SpellsList es end ts r → (d : ℕ) → length ts ≤ d → list_with (inner (suc d)) ts ≡ Ok ((trees_in es, end), r)
-  read_list (no_elements {p} {r}) d h = empty_list (inner (suc d)) p r
-  read_list (rest_alone {ts = ts} s) d h = list_rest_alone (inner (suc d)) ts _ _ _ (read_rest s d (omega arith))
-  read_list (elements {ts = ts} {us = us} e es s) d h = rw (list_first (inner (suc d)) ts (expr_open e), read_expr e d h (quiet_elements es (quiet_end s)), read_elements es d (length us) (omega (arith, shorter_expr e)) (omega arith) (quiet_end s) (no_other_element s), read_end s d (omega (arith, shorter_expr e, shorter_elements es))) refl
+  read_list : {es : Trees} {end : End} {ts r : Words} → SpellsList es end ts r → (d : ℕ) → max (inside_elements es) (inside_end end) ≤ d → list_with (inner d) ts ≡ Ok ((trees_in es, end), r)
+  read_list (no_elements {p} {r}) d h = empty_list (inner d) p r
+  read_list (rest_alone {ts = ts} s) d h = list_rest_alone (inner d) ts _ _ _ (read_rest s d (max_right 0 _ h))
+  read_list (elements e es s) zero h = let none_in = max_left _ _ (max_left _ _ h) in let never : ⊥ = omega (arith, none_in) in absurd never
+  read_list (elements {e = x} {ts = ts} {us = us} e es s) (suc d) h =
+      let front = max_left _ _ h in
+      let first : suc (inside x) ≤ suc d = max_left _ _ front in
+      rw (list_first (inner (suc d)) ts (expr_open e), read_expr e d (omega (arith, first)) (quiet_elements es (quiet_end s)), read_elements es (suc d) (length us) (max_right _ _ front) (omega arith) (quiet_end s) (no_other_element s), read_end s (suc d) (max_right _ _ h)) refl
 
-  read_elements : {es : Trees} {ts r : Words} → SpellsElements es ts r → (d n : ℕ) → length ts ≤ d → length ts ≤ n → Quiet r → another_element r ≡ None → elements_with (inner (suc d)) n ts ≡ Ok (trees_in es, r)
-  read_elements (no_more_elements {r}) d n h k q e = many_end another_element (inner (suc d) false) n r e
+  read_elements : {es : Trees} {ts r : Words} → SpellsElements es ts r → (d n : ℕ) → inside_elements es ≤ d → length ts ≤ n → Quiet r → another_element r ≡ None → elements_with (inner d) n ts ≡ Ok (trees_in es, r)
+  read_elements (no_more_elements {r}) d n h k q e = many_end another_element (inner d false) n r e
   read_elements (next_element s es) d zero h k q e = let never : ⊥ = omega arith in absurd never
-  read_elements (next_element {p = p} {ts = ts} s es) d (suc n) h k q e = many_next another_element (inner (suc d) false) n (another_element_is p ts (expr_open s)) (read_expr s d (omega arith) (quiet_elements es q)) (read_elements es d n (omega (arith, shorter_expr s)) (omega (arith, shorter_expr s)) q e)
+  read_elements (next_element s es) zero (suc n) h k q e = let none_in = max_left _ _ h in let never : ⊥ = omega (arith, none_in) in absurd never
+  read_elements (next_element {p = p} {e = x} {ts = ts} s es) (suc d) (suc n) h k q e =
+      let first : suc (inside x) ≤ suc d = max_left _ _ h in
+      many_next another_element (inner (suc d) false) n (another_element_is p ts (expr_open s)) (read_expr s d (omega (arith, first)) (quiet_elements es q)) (read_elements es (suc d) n (max_right _ _ h) (omega (arith, shorter_expr s)) q e)
 
-  read_end : {end : End} {ts r : Words} → SpellsEnd end ts r → (d : ℕ) → length ts ≤ d → end_with (inner (suc d)) ts ≡ Ok (end, r)
-  read_end (closed_is c) d h = closed_end (inner (suc d)) c
-  read_end (rest_is {ts = ts} s) d h = end_rest (inner (suc d)) ts _ _ _ _ (read_rest s d (omega arith))
+  read_end : {end : End} {ts r : Words} → SpellsEnd end ts r → (d : ℕ) → inside_end end ≤ d → end_with (inner d) ts ≡ Ok (end, r)
+  read_end (closed_is c) d h = closed_end (inner d) c
+  read_end (rest_is {ts = ts} s) d h = end_rest (inner d) ts _ _ _ _ (read_rest s d h)
 
-  read_rest : {end : End} {ts r : Words} → SpellsRest end ts r → (d : ℕ) → length ts ≤ d → rest_with (inner (suc d)) ts ≡ Ok (end, r)
+  read_rest : {end : End} {ts r : Words} → SpellsRest end ts r → (d : ℕ) → inside_end end ≤ d → rest_with (inner d) ts ≡ Ok (end, r)
   read_rest (any_is c) d h = rw (may_end_is c, list_end_is c) refl
-  read_rest (each_is {ts = ts} e c) d h = let o = expr_open e in rw (o.not_list_end, o.no_comma, read_expr e d h (quiet_closes_list c), list_end_is c) refl
+  read_rest (each_is e c) zero h = let never : ⊥ = omega (arith, h) in absurd never
+  read_rest (each_is {ts = ts} e c) (suc d) h = let o = expr_open e in rw (o.not_list_end, o.no_comma, read_expr e d (omega (arith, h)) (quiet_closes_list c), list_end_is c) refl
 
 -- ---- definitions and files
 
-read_definition : {d : DefinitionTree} {ts r : Words} → SpellsDefinition d ts r → (n : ℕ) → length ts ≤ n → Quiet r → definition_at n ts ≡ Ok (d, r)
+read_definition : {d : DefinitionTree} {ts r : Words} → SpellsDefinition d ts r → (n : ℕ) → suc (inside (body d)) ≤ n → Quiet r → definition_at n ts ≡ Ok (d, r)
 unfolding definition_at
-read_definition (defined v) zero h q = let never : ⊥ = omega arith in absurd never
-read_definition (defined v) (suc n) h q = rw (read_value v n (omega arith) q) refl
+read_definition (defined v) zero h q = let never : ⊥ = omega (arith, h) in absurd never
+read_definition (defined v) (suc n) h q = rw (read_value v n (omega (arith, h)) q) refl
 
-read_line : {d : DefinitionTree} {ts us r : Words} → SpellsDefinition d ts us → Comma us r → (n : ℕ) → length ts ≤ n → line_at n ts ≡ Ok (d, r)
+read_line : {d : DefinitionTree} {ts us r : Words} → SpellsDefinition d ts us → Comma us r → (n : ℕ) → suc (inside (body d)) ≤ n → line_at n ts ≡ Ok (d, r)
 unfolding line_at
 read_line d c n h = rw (read_definition d n h (quiet_comma c), comma_is c) refl
 
 definition_stands : {d : DefinitionTree} {ts r : Words} → SpellsDefinition d ts r → before_end ts ≡ Some ts
 definition_stands (defined v) = refl
 
-read_definitions : {ds : List DefinitionTree} {ts r : Words} → SpellsDefinitions ds ts r → (d n : ℕ) → length ts ≤ d → length ts ≤ n → before_end r ≡ None → definitions_at d n ts ≡ Ok (ds, r)
+read_definitions : {ds : List DefinitionTree} {ts r : Words} → SpellsDefinitions ds ts r → (d n : ℕ) → inside_definitions ds ≤ d → length ts ≤ n → before_end r ≡ None → definitions_at d n ts ≡ Ok (ds, r)
 read_definitions (no_definition {r}) d n h k e = many_end before_end (line_at d) n r e
 read_definitions (next_definition s c ds) d zero h k e = let never : ⊥ = omega (arith, shorter_definition s) in absurd never
-read_definitions (next_definition s c ds) d (suc n) h k e = many_next before_end (line_at d) n (definition_stands s) (read_line s c d h) (read_definitions ds d n (omega (arith, shorter_definition s, shorter_comma c)) (omega (arith, shorter_definition s, shorter_comma c)) e)
+read_definitions (next_definition s c ds) d (suc n) h k e = many_next before_end (line_at d) n (definition_stands s) (read_line s c d (max_left _ _ h)) (read_definitions ds d n (max_right _ _ h) (omega (arith, shorter_definition s, shorter_comma c)) e)
 
 no_package : {ds : List DefinitionTree} {ts : Words} {p : ℕ} → SpellsDefinitions ds ts (finish p ∷ []) → package_at ts ≡ Ok (None, ts)
 unfolding package_at
@@ -564,10 +573,10 @@ unfolding package_at clause_at
 read_package no_clause ds = no_package ds
 read_package (clause h c) ds = rw (h, comma_is c) refl
 
-shorter_package : {c : Option (List ℕ)} {ts us : Words} → SpellsPackage c ts us → length us ≤ length ts
-shorter_package no_clause = omega arith
-shorter_package (clause h c) = omega (arith, shorter_comma c)
-
-pub read_file : {f : FileTree} {ts : Words} → SpellsFile f ts → file_at ts ≡ Ok f
+-- with so many values inside one another at most
+pub read_within : {f : FileTree} {ts : Words} (d : ℕ) → SpellsFile f ts → inside_file f ≤ d → file_with d ts ≡ Ok f
 unfolding file_with
-read_file (spelled {ts = ts} {us = us} c ds) = rw (read_package c ds, read_definitions ds (length ts) (length us) (shorter_package c) (omega arith) refl) refl
+read_within d (spelled {us = us} c ds) h = rw (read_package c ds, read_definitions ds d (length us) h (omega arith) refl) refl
+
+pub read_file : {f : FileTree} {ts : Words} → nesting ts ≤ 28 → SpellsFile f ts → file_at ts ≡ Ok f
+read_file n s = read_within 29 s (inside_low s n)

@@ -6,6 +6,9 @@ pub mod Complete
 pub mod Sound
 pub mod Places
 pub mod Whole
+pub mod Levels
+pub mod Inside
 pub mod Depths
 pub mod Heights
 pub mod GrammarSamples
+pub mod Samples

@@ -16,8 +16,8 @@ use Rattle.cs_grammar.specs.Words.{Word, Words, start, name, quoted, definition_
 use Rattle.cs_grammar.specs.Tree.{Tree, not_integer, DefinitionTree, FileTree, file}
 use Rattle.cs_grammar.specs.Spells.{is_keyword, is_null, literal_of}
 use Rattle.cs_grammar.specs.View.{words}
-use Rattle.cs_syntax.specs.Reading.{◌>>=◌, Read, word_kind, begins_with, begins_comma, is_left_out, fault_if, fault_at, behind_if, after, after_comma, or_fault, beyond, comma_at, close_at, paren_end, expected, signed, number_or, number_at, name_or, null_or, bound_at, unequal_at, integer_at, plain_at, or_more, many, another_field, another_element, opening, opening_if, opening_at, rest_behind, may_end, label_at, mark_if, mark_at, field_with, fields_with, struct_if, struct_with, rest_if, rest_with, end_if, end_with, elements_with, list_if, list_with, operand_with, amps_with, conj_with, bars_with, expr_with, value_if, begins_field, inner, definition_at, line_at, before_end, definitions_at, is_clause, clause_at, package_if, package_at, whole, file_with, file_at}
-use Rattle.cs_syntax.specs.Place.{Ends, same, past, IsFaultIn}
+use Rattle.cs_syntax.specs.Reading.{◌>>=◌, Read, word_kind, begins_with, begins_comma, fault_at, behind_if, after, after_comma, or_fault, beyond, comma_at, close_at, paren_end, expected, signed, number_or, number_at, name_or, null_or, bound_at, unequal_at, integer_at, plain_at, or_more, many, another_field, another_element, opening, opening_if, opening_at, rest_behind, may_end, label_at, mark_if, mark_at, field_with, fields_with, struct_if, struct_with, rest_if, rest_with, end_if, end_with, elements_with, list_if, list_with, operand_with, amps_with, conj_with, bars_with, expr_with, value_if, begins_field, inner, definition_at, line_at, before_end, definitions_at, is_clause, clause_at, package_if, package_at, whole, file_with, file_at}
+use Rattle.cs_syntax.specs.Place.{is_left_out, fault_if, Ends, same, past, IsFaultIn}
 use Rattle.cs_lexer.specs.Lexed.{IsRefusal}
 use Rattle.cs_syntax.specs.Answer.{IsFileRefusal}
 
@@ -326,8 +326,8 @@ pub file_fault : (ts : Words) → WellEnded ts → (f : SyntaxFault) → file_at
 unfolding file_with
 file_fault ts e f is = packaged (package_at ts) (package_goes ts e) is
   where
-    packaged : (m : Result (Option (List ℕ) × Words) SyntaxFault) → Goes ts m → (m >>= λ c. definitions_at (length ts) (length c.1) c.1 >>= λ ds. expected kinds.End ds.1 >>= λ us. whole (file c.0 ds.0) us) ≡ Err f → IsFaultIn f ts
-    packaged (Ok x) g k = fault_moved ts x.1 f g.0 (lined (definitions_at (length ts) (length x.1) x.1) (many_goes before_end line_skips (line_at (length ts)) (line_goes (length ts)) (length x.1) x.1 g.1) k)
+    packaged : (m : Result (Option (List ℕ) × Words) SyntaxFault) → Goes ts m → (m >>= λ c. definitions_at 29 (length c.1) c.1 >>= λ ds. expected kinds.End ds.1 >>= λ us. whole (file c.0 ds.0) us) ≡ Err f → IsFaultIn f ts
+    packaged (Ok x) g k = fault_moved ts x.1 f g.0 (lined (definitions_at 29 (length x.1) x.1) (many_goes before_end line_skips (line_at 29) (line_goes 29) (length x.1) x.1 g.1) k)
       where
         lined : (m : Result (List DefinitionTree × Words) SyntaxFault) → Goes x.1 m → (m >>= λ ds. expected kinds.End ds.1 >>= λ us. whole (file x.0 ds.0) us) ≡ Err f → IsFaultIn f x.1
         lined (Ok y) g k = fault_moved x.1 y.1 f g.0 (rest_fault y.1 g.1 (file x.0 y.0) f k)

@@ -423,8 +423,8 @@ pub file_found : (ts : Words) (f : FileTree) → file_at ts ≡ Ok f → SpellsF
 unfolding file_with
 file_found ts f is = packaged (package_at ts) (package_of ts) is
   where
-    packaged : (m : Result (Option (List ℕ) × Words) SyntaxFault) → IfRead (λ c r. SpellsPackage c ts r) m → (m >>= λ c. definitions_at (length ts) (length c.1) c.1 >>= λ ds. expected kinds.End ds.1 >>= λ us. whole (file c.0 ds.0) us) ≡ Ok f → SpellsFile f ts
-    packaged (Ok x) s is = lined (definitions_at (length ts) (length x.1) x.1) (definitions_of (length ts) (length x.1) x.1) is
+    packaged : (m : Result (Option (List ℕ) × Words) SyntaxFault) → IfRead (λ c r. SpellsPackage c ts r) m → (m >>= λ c. definitions_at 29 (length c.1) c.1 >>= λ ds. expected kinds.End ds.1 >>= λ us. whole (file c.0 ds.0) us) ≡ Ok f → SpellsFile f ts
+    packaged (Ok x) s is = lined (definitions_at 29 (length x.1) x.1) (definitions_of 29 (length x.1) x.1) is
       where
         lined : (m : Result (List DefinitionTree × Words) SyntaxFault) → IfRead (λ ds r. SpellsDefinitions ds x.1 r) m → (m >>= λ ds. expected kinds.End ds.1 >>= λ us. whole (file x.0 ds.0) us) ≡ Ok f → SpellsFile f ts
         lined (Ok y) t is = end_file ts x.1 y.1 x.0 y.0 f s t is

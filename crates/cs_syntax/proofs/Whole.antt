@@ -1,7 +1,7 @@
 -- What the parser answers is what the tokens of the source spell.
 use Rattle.std.proofs.Common.{◌≡◌, ◌<◌, ◌≤◌, List, ℕ, Result, Ok, Err, true, false, refl, ap, subst, sym, ◌∙◌, arith, inl, inr}
 use Rattle.std.proofs.lemmas.Bool.Decides.{nat_tests}
-use Rattle.std.specs.Prelude.{◌⊎◌, Bool, IfOk, IfErr, nat_lt, nat_le}
+use Rattle.std.specs.Prelude.{◌⊎◌, Bool, IfOk, IfErr, nat_lt, nat_le, max}
 use Rattle.cs_grammar.specs.declared.fault.SyntaxFault.{SyntaxFault}
 use Rattle.cs_grammar.specs.declared.fault.SyntaxFault.TheVariants as faults
 use Rattle.cs_grammar.specs.Cut.{Lexeme, IsCut}
@@ -17,12 +17,13 @@ use Rattle.cs_lexer.specs.Lexed.{Answers, IsRefusal}
 use Rattle.cs_syntax.specs.Answer.{IsFileRefusal, IsSpelled}
 use Rattle.cs_lexer.proofs.Once.{cut_once, cut_not_stuck}
 use Rattle.cs_syntax.proofs.Sound.{file_found}
-use Rattle.cs_syntax.proofs.Complete.{read_file}
+use Rattle.cs_syntax.proofs.Complete.{read_within, read_file}
+use Rattle.cs_syntax.proofs.Inside.{inside_file, max_left, max_right}
 use Rattle.cs_syntax.proofs.Places.{is_of_word, fault_of_word, file_fault, cut_ended}
 
 -- words spell one file
 pub file_once : (f g : FileTree) (ts : Words) → SpellsFile f ts → SpellsFile g ts → f ≡ g
-file_once f g ts s t = ok_is (sym (read_file s) ∙ read_file t)
+file_once f g ts s t = let d = max (inside_file f) (inside_file g) in ok_is (sym (read_within d s (max_left (inside_file f) (inside_file g) (omega arith))) ∙ read_within d t (max_right (inside_file f) (inside_file g) (omega arith)))
   where
     ok_is : ◌≡◌ {A = Result FileTree SyntaxFault} (Ok f) (Ok g) → f ≡ g
     ok_is e = cc
@@ -68,7 +69,7 @@ within_sound ts f is = by (nat_lt 28 (nesting ts)) refl is
 
 within_complete : (ts : Words) (f : FileTree) → nesting ts ≤ 28 → SpellsFile f ts → file_height f ≤ 28 → file_within ts ≡ Ok f
 unfolding file_within
-within_complete ts f n s l = rw (not_above (nesting ts) n, read_file s, low_enough (file_height f) l) refl
+within_complete ts f n s l = rw (not_above (nesting ts) n, read_file n s, low_enough (file_height f) l) refl
 
 -- why words are refused: they nest too deep or spell a file that is too high, or reading fails
 abbrev IsHigh : Words → Type 0
@@ -122,8 +123,8 @@ module _ {X : Type 0} (view : X → FileTree) (source : List ℕ) where
       answered r f (subst (λ m. Gives view r m) read g)
 
 module _ (source : List ℕ) (ks : List Lexeme) (cut : IsCut source ks) where
-  fault_read : (e : SyntaxFault) (f : FileTree) → file_at (words ks) ≡ Err e → SpellsFile f (words ks) → ⊥
-  fault_read e f h s = apart (sym h ∙ read_file s)
+  fault_read : (e : SyntaxFault) (f : FileTree) → nesting (words ks) ≤ 28 → file_at (words ks) ≡ Err e → SpellsFile f (words ks) → ⊥
+  fault_read e f n h s = apart (sym h ∙ read_file n s)
     where
       apart : ◌≡◌ {A = Result FileTree SyntaxFault} (Err e) (Ok f) → ⊥
       apart k = cc
@@ -139,9 +140,9 @@ module _ (source : List ℕ) (ks : List Lexeme) (cut : IsCut source ks) where
   refusal (faults.IntegerRange o) (inl h) = let e = h.0 in absurd cc
   refusal (faults.IntegerRange o) (inr h) = absurd (never (faults.IntegerRange o) refl h.1)
   refusal (faults.Syntax o) (inl h) = let e = h.0 in absurd cc
-  refusal (faults.Syntax o) (inr h) = record { tokens = ks; cut = cut; nested = h.0; no_file = λ t s. fault_read (faults.Syntax o) t h.1 s; place = file_fault (words ks) (cut_ended cut) (faults.Syntax o) h.1 }
+  refusal (faults.Syntax o) (inr h) = record { tokens = ks; cut = cut; nested = h.0; no_file = λ t s. fault_read (faults.Syntax o) t h.0 h.1 s; place = file_fault (words ks) (cut_ended cut) (faults.Syntax o) h.1 }
   refusal (faults.LeftOut o) (inl h) = let e = h.0 in absurd cc
-  refusal (faults.LeftOut o) (inr h) = record { tokens = ks; cut = cut; nested = h.0; no_file = λ t s. fault_read (faults.LeftOut o) t h.1 s; place = file_fault (words ks) (cut_ended cut) (faults.LeftOut o) h.1 }
+  refusal (faults.LeftOut o) (inr h) = record { tokens = ks; cut = cut; nested = h.0; no_file = λ t s. fault_read (faults.LeftOut o) t h.0 h.1 s; place = file_fault (words ks) (cut_ended cut) (faults.LeftOut o) h.1 }
   refusal faults.TooHigh (inl h) = record { tokens = ks; cut = cut; high = h.1 }
   refusal faults.TooHigh (inr h) = absurd (never faults.TooHigh refl h.1)
 

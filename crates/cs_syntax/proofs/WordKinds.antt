@@ -7,7 +7,8 @@ use Rattle.cs_grammar.specs.declared.kind.Kind.TheVariants as kinds
 use Rattle.cs_grammar.specs.Words.{Words, start}
 use Rattle.cs_grammar.specs.Tree.{Tree}
 use Rattle.cs_grammar.specs.View.{word_of, words, lexemes_view}
-use Rattle.cs_syntax.specs.Reading.{Fails, Read, word_kind, fault_of, fault_at, unsigned_at, unequal_at, plain_at, operand_with, number_at, begins_with, before_end}
+use Rattle.cs_syntax.specs.Place.{fault_of}
+use Rattle.cs_syntax.specs.Reading.{Fails, Read, word_kind, fault_at, unsigned_at, unequal_at, plain_at, operand_with, number_at, begins_with, before_end}
 
 pub word_kind-word_of : (k : Kind) (t : List ℕ) (o : ℕ) → word_kind (word_of k t o) ≡ k
 word_kind-word_of kinds.Name t o = refl

@@ -10,7 +10,7 @@ use Rattle.cs_syntax.specs.Height.{file_height}
 use Rattle.cs_syntax.specs.Nesting.{nesting}
 use Rattle.cs_syntax.specs.Place.{IsFaultIn}
 
--- a word of the source is out of place: its tokens don't nest too deep, and spell no file of any height
+-- the tokens of a source nest at most 28 deep and spell no file, of whatever height; the fault is that of one of them
 pub record IsMisplaced (source : List ℕ) (f : SyntaxFault) : Type 0 where
   pub tokens : List Lexeme
   pub cut : IsCut source tokens
@@ -24,7 +24,7 @@ pub record IsTooHigh (source : List ℕ) : Type 0 where
   pub cut : IsCut source tokens
   pub high : (28 < nesting (words tokens)) ⊎ ((t : FileTree) × SpellsFile t (words tokens) × (28 < file_height t))
 
--- a source is no file so: it is stuck there, a word is out of place, or it is too high, unless memory ran out
+-- why a source is no file: it is stuck there, its tokens spell none, or it is too high, unless memory ran out
 abbrev pub IsFileRefusal : List ℕ → SyntaxFault → Type 0
 IsFileRefusal source faults.OutOfMemory = Unit {0}
 IsFileRefusal source (faults.NoToken o) = IsStuck source (faults.NoToken o)

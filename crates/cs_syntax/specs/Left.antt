@@ -5,7 +5,7 @@ use Rattle.cs_syntax.specs.declared.parser.place.Parser.{Parser}
 use Rattle.cs_grammar.specs.declared.fault.SyntaxFault.TheVariants as faults
 use Rattle.cs_grammar.specs.declared.token.Token.{Token}
 use Rattle.cs_syntax.specs.declared.parser.nesting.Levels as rust
-use Rattle.cs_syntax.specs.Nesting.{Levels}
+use Rattle.cs_syntax.specs.Counting.{Levels}
 use Rattle.cs_grammar.specs.Words.{Words}
 use Rattle.cs_grammar.specs.View.{lexemes_view, words}
 use Rattle.cs_syntax.specs.Reading.{Fails}

@@ -11,6 +11,7 @@ pub use Rattle.cs_lexer.specs.Lexed
 pub mod Reading
 pub mod Height
 pub mod Nesting
+pub mod Counting
 pub mod Within
 pub mod Answer
 pub mod Left

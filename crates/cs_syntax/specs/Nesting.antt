@@ -1,58 +1,78 @@
--- How deep words nest, whatever they spell (own rule): at a word, the brackets that are open, and on each open level the short colons since that level's last comma. A short colon is one whose label, with its mark, stands directly behind another colon.
-use Rattle.std.specs.Prelude.{ℕ, ◌+◌, ◌-◌, max, List, [], ◌∷◌}
-use Rattle.cs_grammar.specs.declared.kind.Kind.{Kind}
-use Rattle.cs_grammar.specs.declared.kind.Kind.TheVariants as kinds
-use Rattle.cs_syntax.specs.declared.parser.nesting.Before.{Before}
-use Rattle.cs_syntax.specs.declared.parser.nesting.Before.TheVariants as before
-use Rattle.cs_grammar.specs.Words.{Words}
-use Rattle.cs_syntax.specs.Reading.{word_kind}
+-- How deep words nest, whatever they spell (own rule): at a word, the brackets that are open, and on each open level the short colons since that level's last comma.
+use Rattle.std.specs.Prelude.{ℕ, suc, ◌+◌, ◌-◌, max, Bool, true, false, List, [], ◌∷◌, length}
+use Rattle.std.specs.List.{sum}
+use Rattle.cs_grammar.specs.Words.{Word, Words, name, definition_name, hidden, top_mark, bottom_mark, numeral, quoted, open_struct, close_struct, open_list, close_list, open_paren, close_paren, comma, nl, colon, question, bang, amp, bar, dots, relation, unequal, minus, left_out, finish}
 
--- what stands before the next word: a colon, a label behind a colon, or such a label's mark
-abbrev pub before_next : Before → Kind → Before
-before_next b kinds.Colon = before.Colon
-before_next before.Colon kinds.Name = before.Label
-before_next before.Colon kinds.Text = before.Label
-before_next before.Label kinds.Question = before.Mark
-before_next before.Label kinds.Bang = before.Mark
-before_next b k = before.Other
+-- The words before a place, the newest first, are a label that stands directly behind a colon.
+abbrev pub is_chained_label : Words → Bool
+is_chained_label (name s o ∷ colon p ∷ before) = true
+is_chained_label (quoted s o ∷ colon p ∷ before) = true
+is_chained_label _ = false
 
--- the short colon that a colon is then
-abbrev pub short_colon : Before → ℕ
-short_colon before.Label = 1
-short_colon before.Mark = 1
-short_colon _ = 0
+-- A colon behind these words, the newest first, is short: its label, with its mark, stands directly behind another colon.
+abbrev pub is_short : Words → Bool
+is_short (question o ∷ before) = is_chained_label before
+is_short (bang o ∷ before) = is_chained_label before
+is_short before = is_chained_label before
 
--- The nesting at a word; what it is on the word's level without short colons; the same of the levels around that one, the innermost first.
-pub record Levels : Type 0 where
-  pub nested : ℕ
-  pub level : ℕ
-  pub outer : List ℕ
+-- Each open level is the count of its short colons since its last comma: the innermost comes first, and the bottom level is last.
+abbrev pub Levels : Type 0
+Levels = List ℕ
 
-abbrev pub opened : Levels → Levels
-opened l = record { nested = l.nested + 1; level = l.nested + 1; outer = l.level ∷ l.outer }
+-- a closing bracket drops its level with that level's short colons; one on the bottom level changes nothing
+abbrev pub closed : Levels → Levels
+closed [] = []
+closed (n ∷ []) = n ∷ []
+closed (n ∷ m ∷ ns) = m ∷ ns
 
--- a bracket drops its level with that level's short colons; one on the bottom level changes nothing
-abbrev pub closed_by : Levels → List ℕ → Levels
-closed_by l [] = l
-closed_by l (n ∷ ns) = record { nested = l.level - 1; level = n; outer = ns }
+-- a comma ends the short colons of its level
+abbrev pub parted : Levels → Levels
+parted [] = []
+parted (n ∷ ns) = 0 ∷ ns
 
--- the levels at the next word
-abbrev pub levels_next : Before → Kind → Levels → Levels
-levels_next b kinds.OpenStruct l = opened l
-levels_next b kinds.OpenList l = opened l
-levels_next b kinds.OpenParen l = opened l
-levels_next b kinds.CloseStruct l = closed_by l l.outer
-levels_next b kinds.CloseList l = closed_by l l.outer
-levels_next b kinds.CloseParen l = closed_by l l.outer
-levels_next b kinds.Comma l = record { nested = l.level; level = l.level; outer = l.outer }
-levels_next b kinds.Inserted l = record { nested = l.level; level = l.level; outer = l.outer }
-levels_next b kinds.Colon l = record { nested = l.nested + short_colon b; level = l.level; outer = l.outer }
-levels_next b k l = l
+-- a colon counts where it is short
+abbrev pub counted_if : Bool → Levels → Levels
+counted_if true [] = []
+counted_if true (n ∷ ns) = suc n ∷ ns
+counted_if false ns = ns
 
--- the greatest nesting at a word
-abbrev pub nesting_from : Before → Levels → Words → ℕ
-nesting_from b l [] = l.nested
-nesting_from b l (w ∷ ts) = max l.nested (nesting_from (before_next b (word_kind w)) (levels_next b (word_kind w) l) ts)
+-- the levels behind a word; the words before it come newest first
+abbrev pub behind : Words → Word → Levels → Levels
+behind before (open_struct o) ns = 0 ∷ ns
+behind before (open_list o) ns = 0 ∷ ns
+behind before (open_paren o) ns = 0 ∷ ns
+behind before (close_struct o) ns = closed ns
+behind before (close_list o) ns = closed ns
+behind before (close_paren o) ns = closed ns
+behind before (comma o) ns = parted ns
+behind before (nl o) ns = parted ns
+behind before (colon o) ns = counted_if (is_short before) ns
+behind before (name s o) ns = ns
+behind before (definition_name s o) ns = ns
+behind before (hidden o) ns = ns
+behind before (top_mark o) ns = ns
+behind before (bottom_mark o) ns = ns
+behind before (numeral n o) ns = ns
+behind before (quoted s o) ns = ns
+behind before (question o) ns = ns
+behind before (bang o) ns = ns
+behind before (amp o) ns = ns
+behind before (bar o) ns = ns
+behind before (dots o) ns = ns
+behind before (relation r o) ns = ns
+behind before (unequal o) ns = ns
+behind before (minus o) ns = ns
+behind before (left_out o) ns = ns
+behind before (finish o) ns = ns
+
+-- the levels above the bottom one, and all their short colons
+abbrev pub nesting_at : Levels → ℕ
+nesting_at ns = length ns - 1 + sum ns
+
+-- the greatest nesting at a word; the words passed come newest first
+abbrev pub nesting_from : Words → Levels → Words → ℕ
+nesting_from before ns [] = nesting_at ns
+nesting_from before ns (w ∷ ts) = max (nesting_at ns) (nesting_from (w ∷ before) (behind before w ns) ts)
 
 abbrev pub nesting : Words → ℕ
-nesting ts = nesting_from before.Other (record { nested = 0; level = 0; outer = [] }) ts
+nesting ts = nesting_from [] (0 ∷ []) ts

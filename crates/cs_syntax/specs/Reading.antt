@@ -1,8 +1,6 @@
 -- Reading from left to right with one word of look-ahead.
-use Rattle.std.specs.Prelude.{◌≡◌, ℕ, ℤ, pos, neg_ℤ, zero, suc, ◌^◌, [], ◌∷◌, List, length, drop, Bool, true, false, ◌&&◌, ◌||◌, not, nat_lt, nat_le, if◌then◌else◌, Option, Some, None, Result, Ok, Err, codes}
-use Rattle.std.specs.List.{list_any}
+use Rattle.std.specs.Prelude.{◌≡◌, ℕ, ℤ, pos, neg_ℤ, zero, suc, ◌^◌, [], ◌∷◌, List, length, drop, Bool, true, false, ◌&&◌, ◌||◌, not, nat_lt, nat_le, if◌then◌else◌, Option, Some, None, Result, Ok, Err}
 use Rattle.std.specs.Option.{unwrap_or}
-use Rattle.std.specs.Str.{bytes_eq}
 use denote.Enum.Bare.{sameb}
 use Rattle.cs_grammar.specs.contracts.kind.Kind.{the_type}
 use Rattle.cs_grammar.specs.declared.kind.Kind.{Kind}
@@ -11,12 +9,13 @@ use Rattle.cs_grammar.specs.declared.ast.Relation.{Relation}
 use Rattle.cs_grammar.specs.declared.ast.Relation.TheVariants as relations
 use Rattle.cs_grammar.specs.declared.fault.SyntaxFault.{SyntaxFault}
 use Rattle.cs_grammar.specs.declared.fault.SyntaxFault.TheVariants as faults
-use Rattle.cs_grammar.specs.Words.{Word, Words, start, name, definition_name, hidden, top_mark, bottom_mark, numeral, quoted, open_struct, close_struct, open_list, close_list, open_paren, close_paren, comma, nl, colon, question, bang, amp, bar, dots, relation, unequal, minus, left_out, finish}
+use Rattle.cs_grammar.specs.Words.{Word, Words, name, definition_name, hidden, top_mark, bottom_mark, numeral, quoted, open_struct, close_struct, open_list, close_list, open_paren, close_paren, comma, nl, colon, question, bang, amp, bar, dots, relation, unequal, minus, left_out, finish}
 use Rattle.cs_grammar.specs.declared.ast.FieldMark.{FieldMark}
 use Rattle.cs_grammar.specs.declared.ast.FieldMark.TheVariants.{Regular, Optional, Required}
 use Rattle.cs_grammar.specs.Tree.{Label, Tree, top, bottom, integer, text, named, reference, bound, not_integer, not_text, not_null, meet, join, paren, struct, list, End, closed, any, each, DefinitionTree, definition, FileTree, file}
 use Rattle.cs_grammar.specs.View.{trees_of, fields_of, Seen}
 use Rattle.cs_grammar.specs.Spells.{is_keyword, is_null, is_package, literal_of, start_at}
+use Rattle.cs_syntax.specs.Place.{fault_of}
 
 infixl 10 ◌>>=◌
 abbrev pub ◌>>=◌ : {A B : Type 0} → Result A SyntaxFault → (A → Result B SyntaxFault) → Result B SyntaxFault
@@ -33,30 +32,7 @@ abbrev pub Gives : {X Y : Type 0} → (X → Y) → Result X SyntaxFault → Res
 Gives view (Ok x) read = read ≡ Ok (view x)
 Gives view (Err e) read = Fails e read
 
--- ---- faults
-
--- the names that begin a form which the profile leaves out
-abbrev pub left_out_names : List (List ℕ)
-left_out_names = codes "import" ∷ codes "let" ∷ codes "for" ∷ codes "if" ∷ []
-
-abbrev pub is_left_out_name : List ℕ → Bool
-is_left_out_name s = list_any (bytes_eq s) left_out_names
-
-abbrev pub fault_if : Bool → ℕ → SyntaxFault
-fault_if true o = faults.LeftOut o
-fault_if false o = faults.Syntax o
-
--- whether a word is of a form that the profile leaves out
-abbrev pub is_left_out : Word → Bool
-is_left_out (name s o) = is_left_out_name s
-is_left_out (hidden o) = true
-is_left_out (left_out o) = true
-is_left_out _ = false
-
--- the fault at a word that is out of place
-abbrev pub fault_of : Word → SyntaxFault
-fault_of w = fault_if (is_left_out w) (start w)
-
+-- the fault at the first of the words that are left
 abbrev pub fault_at : Words → SyntaxFault
 fault_at [] = faults.Syntax 0
 fault_at (w ∷ ts) = fault_of w
@@ -473,6 +449,6 @@ file_with d ts = do
   us ← expected kinds.End ds.1
   whole (file c.0 ds.0) us
 
--- a file: no value has more others around it than there are words
+-- a file whose words nest at most 28 deep: so many values stand inside a body, and the body is one itself
 abbrev pub file_at : Words → Result FileTree SyntaxFault
-file_at ts = file_with (length ts) ts
+file_at ts = file_with 29 ts

@@ -45,6 +45,16 @@ pub record IsAccepted (sources : List (List ℕ)) (E : Environment) : Type 0 whe
   pub declares : E ≡ environment_of_files files
   pub guarded : IsGuarded E
 
+-- the sources are accepted and declare the environment E, whose forms are taken, and the root is its definition n
+pub record DeclaresRoot (sources : List (List ℕ)) (root : List ℕ) (E : Environment) (n : List ℕ) : Type 0 where
+  pub accepted : IsAccepted sources E
+  pub taken : IsTakenPackage E
+  pub named : Names E root n
+
+-- the sources declare the root
+abbrev pub IsReady : List (List ℕ) → List ℕ → Type 0
+IsReady sources root = (E : Environment) × (n : List ℕ) × DeclaresRoot sources root E n
+
 -- ---- each condition, where it is the first that fails
 
 -- the source of that number is no UTF-8, and those before it are
@@ -102,25 +112,28 @@ pub record IsUnknownRoot (sources : List (List ℕ)) (root : List ℕ) : Type 0 
   pub taken : IsTakenPackage environment
   pub unknown : (n : List ℕ) → ¬ (Names environment root n)
 
--- the refusal tells the first condition that the sources and the root fail; a form of expression that isn't taken yet is
--- told as one that is left out, at the first byte of the first source, after all else but the root
+-- the fault tells the first condition that the sources fail, whatever the root is; a form of expression that isn't taken
+-- yet is told as one that is left out, at the first byte of the first source, after all else
+abbrev pub SourcesFault : List (List ℕ) → Fault → Type 0
+SourcesFault sources SourcesTooLong = most_bytes < bytes_of sources
+SourcesFault sources (NotUtf8 number) = (bytes_of sources ≤ most_bytes) × IsFirstOther sources number
+SourcesFault sources (NoToken number offset) = IsMisspelled sources (NoToken number offset)
+SourcesFault sources (Syntax number offset) = IsMisspelled sources (Syntax number offset)
+SourcesFault sources (IntegerRange number offset) = IsMisspelled sources (IntegerRange number offset)
+SourcesFault sources (TooHigh number) = IsMisspelled sources (TooHigh number)
+SourcesFault sources (LeftOut number offset) = IsMisspelled sources (LeftOut number offset) ⊎ ((number ≡ 0) × (offset ≡ 0) × IsNotTaken sources)
+SourcesFault sources (PackageName number) = IsNoPackage sources (PackageName number)
+SourcesFault sources TooLarge = IsNoPackage sources TooLarge
+SourcesFault sources (UnknownName number offset) = IsNoPackage sources (UnknownName number offset)
+SourcesFault sources (FieldReference number offset) = IsNoPackage sources (FieldReference number offset)
+SourcesFault sources (NotOpened number offset) = IsNoPackage sources (NotOpened number offset)
+SourcesFault sources (Cycle names) = IsUnguarded sources (Cycle names)
+SourcesFault sources ChainTooLong = IsUnguarded sources ChainTooLong
+SourcesFault sources _ = ⊥
+
+-- the fault tells the first condition that the sources and the root fail: the root comes after the sources
 abbrev pub First : List (List ℕ) → List ℕ → Fault → Type 0
-First sources root SourcesTooLong = most_bytes < bytes_of sources
-First sources root (NotUtf8 number) = (bytes_of sources ≤ most_bytes) × IsFirstOther sources number
-First sources root (NoToken number offset) = IsMisspelled sources (NoToken number offset)
-First sources root (Syntax number offset) = IsMisspelled sources (Syntax number offset)
-First sources root (IntegerRange number offset) = IsMisspelled sources (IntegerRange number offset)
-First sources root (TooHigh number) = IsMisspelled sources (TooHigh number)
-First sources root (LeftOut number offset) = IsMisspelled sources (LeftOut number offset) ⊎ ((number ≡ 0) × (offset ≡ 0) × IsNotTaken sources)
-First sources root (PackageName number) = IsNoPackage sources (PackageName number)
-First sources root TooLarge = IsNoPackage sources TooLarge
-First sources root (UnknownName number offset) = IsNoPackage sources (UnknownName number offset)
-First sources root (FieldReference number offset) = IsNoPackage sources (FieldReference number offset)
-First sources root (NotOpened number offset) = IsNoPackage sources (NotOpened number offset)
-First sources root (Cycle names) = IsUnguarded sources (Cycle names)
-First sources root ChainTooLong = IsUnguarded sources ChainTooLong
-First sources root UnknownRoot = IsUnknownRoot sources root
-First sources root _ = ⊥
+First sources root f = SourcesFault sources f ⊎ ((f ≡ UnknownRoot) × IsUnknownRoot sources root)
 
 -- ---- the parts, for the functions below the calls; memory may run out at any time
 
@@ -136,5 +149,4 @@ FilesRefusal sources f = IsFirstMisspelled sources f
 -- the refusals of the sources, whatever the root is
 abbrev pub SourcesRefusal : List (List ℕ) → Fault → Type 0
 SourcesRefusal sources OutOfMemory = Unit {0}
-SourcesRefusal sources UnknownRoot = ⊥
-SourcesRefusal sources f = First sources [] f
+SourcesRefusal sources f = SourcesFault sources f

@@ -12,8 +12,8 @@ use Rattle.cs_instance.specs.declared.fault.InstanceFault.{InstanceFault}
 use Rattle.cs_instance.specs.declared.fault.InstanceFault.TheVariants as instance
 use Rattle.cs_compile.specs.declared.fault.CompileFault.{CompileFault}
 use Rattle.cs_compile.specs.declared.fault.CompileFault.TheVariants as compile
-use Rattle.cs_schema.specs.declared.fault.SchemaFault.{SchemaFault}
-use Rattle.cs_schema.specs.declared.fault.SchemaFault.TheVariants as schema
+use Rattle.cs_profile.specs.declared.fault.SchemaFault.{SchemaFault}
+use Rattle.cs_profile.specs.declared.fault.SchemaFault.TheVariants as schema
 use Rattle.cs_validate.specs.declared.fault.ValidateFault.{ValidateFault}
 use Rattle.cs_validate.specs.declared.fault.ValidateFault.TheVariants as validate
 use Rattle.cs_document.specs.declared.fault.DocFault.{DocFault}

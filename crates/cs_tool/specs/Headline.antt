@@ -1,9 +1,8 @@
 -- What the calls answer. A schema admits just the documents that are instances of the root definition.
-use Rattle.std.specs.Prelude.{◌≡◌, ℕ, ◌≤◌, ◌⊎◌, List, Bool, Option, option_map}
+use Rattle.std.specs.Prelude.{◌≡◌, ◌↔◌, ℕ, ◌≤◌, ◌⊎◌, List, Bool, Option, IsSome}
 use Rattle.cs_document.specs.Document.{Document, IsDocument, depth}
 use Rattle.cs_doc.specs.Texts.{Reads, IsJson, HasOtherNumber, text_of}
-use Rattle.cs_package.specs.Environment.{Environment, Names, bodies}
-use Rattle.cs_instance.specs.Taken.{IsTakenPackage}
+use Rattle.cs_package.specs.Environment.{Environment, bodies}
 use Rattle.cs_instance.specs.Instance.{Rule, definition, IsInstance}
 use Rattle.cs_instance.specs.Instance as instance
 use Rattle.cs_schema.specs.Keywords.{defined}
@@ -13,11 +12,10 @@ use Rattle.cs_schema.specs.Trim.{trim, with_dialect}
 use Rattle.cs_schema.specs.Validity.{IsValidity}
 use Rattle.cs_schema.specs.Validity as validity
 use Rattle.cs_schema.specs.Refusal as schema
-use Rattle.cs_schema.specs.declared.fault.SchemaFault.{SchemaFault}
-use Rattle.cs_schema.specs.declared.fault.SchemaFault.TheVariants as schema_fault
-use Rattle.cs_compile.specs.Translation.{definition_schema}
+use Rattle.cs_profile.specs.declared.fault.SchemaFault.{SchemaFault}
+use Rattle.cs_profile.specs.declared.fault.SchemaFault.TheVariants as schema_fault
 use Rattle.cs_compile.specs.Whole.{reference_to}
-use Rattle.cs_tool.specs.Accepted.{IsAccepted, First}
+use Rattle.cs_tool.specs.Accepted.{DeclaresRoot, IsReady, First}
 use Rattle.cs_tool.specs.declared.fault.Fault.{Fault}
 use Rattle.cs_tool.specs.declared.fault.Fault.TheVariants.{OutOfMemory, SchemaNotJson, Keyword, Shape, Reference, Loop, NotJson, NotInteger}
 
@@ -25,10 +23,8 @@ use Rattle.cs_tool.specs.declared.fault.Fault.TheVariants.{OutOfMemory, SchemaNo
 pub record IsExport (sources : List (List ℕ)) (root text : List ℕ) : Type 0 where
   -- the sources are accepted, their forms taken, and they declare the root
   pub environment : Environment
-  pub accepted : IsAccepted sources environment
-  pub taken : IsTakenPackage environment
   pub name : List ℕ
-  pub named : Names environment root name
+  pub declares : DeclaresRoot sources root environment name
   -- the text is the compact text of a schema of the profile, nests at most 114 deep and is read as that schema
   pub schema : Document
   pub written : text ≡ text_of schema
@@ -36,9 +32,9 @@ pub record IsExport (sources : List (List ℕ)) (root text : List ℕ) : Type 0 
   pub read : Reads text schema
   pub profile : IsSchema schema
   pub trimmed : trim schema ≡ schema
-  -- it refers to the root's definition, and has the schema of each declared definition, and no other
+  -- it refers to the root's definition, and defines just the declared names
   pub refers : (ds : Option Document) × (schema ≡ with_dialect (with_definitions ds (reference_to name)))
-  pub definitions : (n : List ℕ) → defined schema n ≡ option_map definition_schema (bodies environment n)
+  pub definitions : (n : List ℕ) → IsSome (defined schema n) ↔ IsSome (bodies environment n)
   -- there is one instance relation and one validity, and each document is valid just where it is an instance of the root
   pub one_instance : instance.OneMeaning environment
   pub one_validity : validity.OneMeaning schema
@@ -48,10 +44,8 @@ pub record IsExport (sources : List (List ℕ)) (root text : List ℕ) : Type 0 
 -- the answer says whether the document is an instance of the root definition that the sources spell
 pub record IsVerdict (sources : List (List ℕ)) (root text : List ℕ) (answer : Bool) : Type 0 where
   pub environment : Environment
-  pub accepted : IsAccepted sources environment
-  pub taken : IsTakenPackage environment
   pub name : List ℕ
-  pub named : Names environment root name
+  pub declares : DeclaresRoot sources root environment name
   pub document : Document
   pub read : Reads text document
   pub one_instance : instance.OneMeaning environment
@@ -72,14 +66,6 @@ pub record IsValidated (schema_text text : List ℕ) (answer : Bool) : Type 0 wh
 abbrev pub ExportRefusal : List (List ℕ) → List ℕ → Fault → Type 0
 ExportRefusal sources root OutOfMemory = Unit {0}
 ExportRefusal sources root f = First sources root f
-
--- the sources are accepted, their forms taken, and they declare the root
-pub record IsReady (sources : List (List ℕ)) (root : List ℕ) : Type 0 where
-  pub environment : Environment
-  pub accepted : IsAccepted sources environment
-  pub taken : IsTakenPackage environment
-  pub name : List ℕ
-  pub named : Names environment root name
 
 -- the document's text comes after the sources and the root
 abbrev pub VetRefusal : List (List ℕ) → List ℕ → List ℕ → Fault → Type 0

@@ -41,7 +41,26 @@ offset_of (IntegerRange file offset) = Some offset
 offset_of (UnknownName file offset) = Some offset
 offset_of (FieldReference file offset) = Some offset
 offset_of (NotOpened file offset) = Some offset
-offset_of _ = None
+offset_of SourcesTooLong = None
+offset_of (NotUtf8 file) = None
+offset_of (TooHigh file) = None
+offset_of (PackageName file) = None
+offset_of (Cycle names) = None
+offset_of UnknownRoot = None
+offset_of TooLarge = None
+offset_of OutOfMemory = None
+offset_of ChainTooLong = None
+offset_of SchemaNotJson = None
+offset_of (Keyword place name) = None
+offset_of (Shape place name) = None
+offset_of (Reference place name) = None
+offset_of (Loop names) = None
+offset_of NotJson = None
+offset_of NotInteger = None
+offset_of TooManyPairs = None
+offset_of InputTooLong = None
+offset_of ReadFailed = None
+offset_of WriteFailed = None
 
 -- the place of the refused file in the list of sources
 abbrev pub file_of : Fault → Option ℕ
@@ -55,7 +74,23 @@ file_of (PackageName file) = Some file
 file_of (UnknownName file offset) = Some file
 file_of (FieldReference file offset) = Some file
 file_of (NotOpened file offset) = Some file
-file_of _ = None
+file_of SourcesTooLong = None
+file_of (Cycle names) = None
+file_of UnknownRoot = None
+file_of TooLarge = None
+file_of OutOfMemory = None
+file_of ChainTooLong = None
+file_of SchemaNotJson = None
+file_of (Keyword place name) = None
+file_of (Shape place name) = None
+file_of (Reference place name) = None
+file_of (Loop names) = None
+file_of NotJson = None
+file_of NotInteger = None
+file_of TooManyPairs = None
+file_of InputTooLong = None
+file_of ReadFailed = None
+file_of WriteFailed = None
 
 -- the exit status for a refusal of that number
 abbrev pub status_of : ℕ → ℕ

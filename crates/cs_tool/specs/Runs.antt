@@ -6,7 +6,7 @@ use Rattle.cs_tool.specs.declared.fault.Fault.{Fault}
 use Rattle.cs_tool.specs.declared.fault.Fault.TheVariants.{OutOfMemory, SourcesTooLong, ReadFailed, WriteFailed}
 use Rattle.cs_tool.specs.declared.request.Request.{Request}
 use Rattle.cs_tool.specs.declared.request.Request.TheVariants.{Export}
-use Rattle.cs_tool.specs.Accepted.{most_bytes}
+use Rattle.cs_tool.specs.Accepted.{most_bytes, IsReady}
 use Rattle.cs_tool.specs.Headline.{IsExport, ExportRefusal}
 use Rattle.cs_tool.specs.Streams.{IsWholeInput, IsLonger, AppendsFront}
 
@@ -15,9 +15,13 @@ abbrev pub AreSources : List (Vec ℕ Global) → Option (List ℕ) → List (Li
 AreSources [] remaining sources = (input : List ℕ) × IsWholeInput remaining input × (sources ≡ input ∷ [])
 AreSources (file ∷ files) remaining sources = sources ≡ map (λ f. f.items) (file ∷ files)
 
--- the request has files of its own, so that the input is none of its sources
-abbrev pub HasFiles : Request → Type 0
-HasFiles (Export files root) = ¬ (files.items ≡ [])
+-- the request has no files, so that the input is its one source
+abbrev pub ReadsInput : Request → Type 0
+ReadsInput (Export files root) = files.items ≡ []
+
+-- the request has files, and these declare its root
+abbrev pub HasReadyFiles : Request → Type 0
+HasReadyFiles (Export files root) = ¬ (files.items ≡ []) × IsReady (map (λ f. f.items) files.items) (string_bytes root)
 
 -- the truth value and the text are those of the request's call
 abbrev pub IsAnswer : Request → Option (List ℕ) → Bool → List ℕ → Type 0
@@ -28,22 +32,18 @@ IsAnswer (Export files root) remaining truth text =
 abbrev pub IsRefused : Request → Option (List ℕ) → Fault → Type 0
 IsRefused (Export files root) remaining fault = (sources : List (List ℕ)) × AreSources files.items remaining sources × ExportRefusal sources (string_bytes root) fault
 
--- the request has no files, and the input is longer than sources may be
-abbrev pub IsTooLong : Request → Option (List ℕ) → Type 0
-IsTooLong (Export files root) remaining = (files.items ≡ []) × IsLonger most_bytes remaining
-
 -- what refuses the input, where it is read: it is too long, or memory or a read failed
 abbrev pub InputRefusal : List (Vec ℕ Global) → Option (List ℕ) → Fault → Type 0
 InputRefusal files remaining OutOfMemory = Unit {0}
-InputRefusal files remaining ReadFailed = Unit {0}
+InputRefusal files remaining ReadFailed = files ≡ []
 InputRefusal files remaining SourcesTooLong = (files ≡ []) × IsLonger most_bytes remaining
 InputRefusal files remaining _ = ⊥
 
 -- what refuses the line before a byte of it is written
 abbrev pub LineRefusal : Request → Option (List ℕ) → Fault → Type 0
 LineRefusal request remaining OutOfMemory = Unit {0}
-LineRefusal request remaining ReadFailed = Unit {0}
-LineRefusal request remaining SourcesTooLong = IsTooLong request remaining ⊎ IsRefused request remaining SourcesTooLong
+LineRefusal request remaining ReadFailed = ReadsInput request
+LineRefusal request remaining SourcesTooLong = (ReadsInput request × IsLonger most_bytes remaining) ⊎ IsRefused request remaining SourcesTooLong
 LineRefusal request remaining fault = IsRefused request remaining fault
 
 -- a text, and a newline

@@ -8,8 +8,9 @@ ghost use Rattle.cs_instance.specs.Taken.{IsTakenPackage};
 ghost use Rattle.cs_schema.specs.Profile.{IsSchema};
 ghost use Rattle.cs_schema.specs.SchemaDocument.{document_of};
 ghost use Rattle.cs_schema.specs.Trim.{trim};
-ghost use Rattle.cs_tool.specs.Accepted.{IsAccepted};
-ghost use Rattle.cs_tool.specs.Headline.{IsExport, IsVerdict, IsValidated, IsReady, ExportRefusal, VetRefusal, ValidateRefusal, SchemaTextRefusal};
+ghost use Rattle.cs_tool.specs.Accepted.{IsAccepted, IsReady};
+ghost use Rattle.cs_tool.specs.Translated.{IsTranslated};
+ghost use Rattle.cs_tool.specs.Headline.{IsExport, IsVerdict, IsValidated, ExportRefusal, VetRefusal, ValidateRefusal, SchemaTextRefusal};
 
 use crate::Fault;
 use crate::packages::package_of;
@@ -30,6 +31,7 @@ use std::alloc::Global;
 pub fn export(alloc: Global, sources: &[&[u8]], root: &str) -> Result<Vec<u8>, Fault>
     ensures found { IfOk result
         (λ text. IsExport (map (λ s. s.now) sources.now) root.now text.items) }
+    ensures translated { IfOk result (λ text. IsTranslated (map (λ s. s.now) sources.now) text.items) }
     ensures refused { IfErr result
         (λ e. ExportRefusal (map (λ s. s.now) sources.now) root.now e) }
     ensures only { IsReady (map (λ s. s.now) sources.now) root.now → IsOkUnless result Fault.OutOfMemory }

@@ -15,11 +15,12 @@ pub enum Fault {
     /// 3: no token of the profile begins at the offset.
     #[error("no token begins here")]
     NoToken { file: usize, offset: usize },
-    /// 4: no file of the grammar begins with the tokens up to and with the one at the offset.
+    /// 4: the tokens of the source spell no file of the grammar. They nest no deeper than 28, and the one at the offset is
+    /// told; that it is the first one out of place is tested.
     #[error("this token is out of place")]
     Syntax { file: usize, offset: usize },
-    /// 5: the same, at a token of a form of CUE that the profile leaves out. At the first byte of the first source
-    /// also where a package has a form of expression that is not taken yet.
+    /// 5: the same, where the token told is of a form of CUE that the profile leaves out. At the first byte of the first
+    /// source also where a package has a form of expression that is not taken yet.
     #[error("a form of CUE that is left out")]
     LeftOut { file: usize, offset: usize },
     /// 6: an integer at the offset that has not 64 signed bits.
@@ -50,7 +51,7 @@ pub enum Fault {
     /// 14: more than 1,000 names of definitions, or more than 50,000 nodes of expressions, in all sources together.
     #[error("too many definitions or nodes")]
     TooLarge,
-    /// 15: a growth was refused for want of memory.
+    /// 15: memory ran out, at any time.
     #[error("out of memory")]
     OutOfMemory,
     /// 16: a chain of more than 64 strong references, where there is no cycle.
@@ -84,7 +85,7 @@ pub enum Fault {
     /// 28: an input other than sources of more than 67,108,864 bytes.
     #[error("the input is too long")]
     InputTooLong,
-    /// 30: a read failed.
+    /// 30: a read of the input failed, where the input is read.
     #[error("a read failed")]
     ReadFailed,
     /// 31: a write or a flush failed, or a write took no byte.

@@ -1,6 +1,6 @@
 // Reading to the end of an input, up to a limit.
-ghost use Rattle.std.specs.Prelude.{◌≡◌, ◌≤◌, ◌⊎◌, length, IfOk, IfSome, IfNone, IfErr, OnErr, Err};
-ghost use Rattle.cs_tool.specs.Streams.{IsWholeInput, IsLonger};
+ghost use Rattle.std.specs.Prelude.{◌≡◌, ◌+◌, ◌≤◌, ◌⊎◌, length, IfOk, IfSome, IfNone, IfErr, OnErr, Err};
+ghost use Rattle.cs_tool.specs.Streams.{IsWholeInput, IsLonger, LosesAtMost, chunk_bytes};
 
 use crate::Fault;
 use std::alloc::Global;
@@ -8,8 +8,8 @@ use std::io::Read;
 
 const CHUNK: usize = 4096;
 
-/// All bytes up to the input's end, or `None` where more than `limit` come; reading stops there. Each
-/// error of the reader counts, an interruption too.
+/// All bytes up to the input's end, or `None` where more than `limit` come: no more than one chunk is read
+/// past the limit. Each error of the reader counts, an interruption too.
 pub(crate) fn read_up_to<R: Read>(
     alloc: Global,
     input: &mut R,
@@ -19,6 +19,7 @@ pub(crate) fn read_up_to<R: Read>(
         (λ o. IfSome o (λ b. IsWholeInput (R.remaining input.old) b.items)) }
     ensures within { IfOk result (λ o. IfSome o (λ b. length b.items ≤ limit)) }
     ensures longer { IfOk result (λ o. IfNone o (IsLonger limit (R.remaining input.old))) }
+    ensures stops { LosesAtMost (limit + chunk_bytes) (R.remaining input.old) (R.remaining input.new) }
     ensures kind { IfErr result (λ e. (e ≡ Fault.OutOfMemory) ⊎ (e ≡ Fault.ReadFailed)) }
 {
     let mut bytes = Vec::new(alloc);

@@ -1,7 +1,9 @@
 // A command over a reader and a writer.
-ghost use Rattle.std.specs.Prelude.{◌≡◌, ℕ, true, List, [], map, IfOk, IfErr};
+ghost use Rattle.std.specs.Prelude.{◌≡◌, ◌+◌, ◌⊎◌, ℕ, true, List, [], map, Ok, IfOk, IfErr, IsOkUnless};
 ghost use Rattle.std.specs.Io.KnownBytes.{Appends};
-ghost use Rattle.cs_tool.specs.Runs.{AreSources, IsAnswer, HasFiles, InputRefusal, LineRefusal, Leaves, line_of};
+ghost use Rattle.cs_tool.specs.Accepted.{most_bytes};
+ghost use Rattle.cs_tool.specs.Streams.{LosesAtMost, chunk_bytes};
+ghost use Rattle.cs_tool.specs.Runs.{AreSources, IsAnswer, ReadsInput, HasReadyFiles, InputRefusal, LineRefusal, Leaves, line_of};
 
 use crate::Fault;
 use crate::calls::export;
@@ -14,12 +16,16 @@ use std::io::{Read, Write};
 
 /// Answers the request: its call's truth value, and `true` for `Export`. Writes the answer's text and a
 /// newline, then flushes. Where the request has no files, the bytes of the input up to its end are the
-/// one source, read before all else; otherwise the input is not read.
+/// one source; otherwise the input is not read.
 ///
-/// A refusal of the call is handed on, with nothing written. `ReadFailed`: a read failed, nothing was
-/// written. `SourcesTooLong`, also where more bytes came than sources may have; reading stops there.
-/// `WriteFailed`: a write or the flush failed, or a write took no byte; what the writer took is a front
-/// of the text with its newline.
+/// A refusal of the call is handed on, with nothing written. `ReadFailed` comes only where the input is read,
+/// and leaves nothing written. `SourcesTooLong` comes also where the input has more bytes than sources may
+/// have; reading stops there, at most one chunk of 4,096 bytes past the limit. `WriteFailed`: what the writer
+/// took is a front of the text with its newline.
+///
+/// What the clauses say of bytes, they say of a reader and a writer whose bytes are known. That 30 and 31
+/// come only where a read, a write or the flush failed or a write took no byte, and that the flush is
+/// called, is tested.
 pub fn run<R: Read, W: Write>(
     alloc: Global,
     request: Request,
@@ -31,7 +37,10 @@ pub fn run<R: Read, W: Write>(
         × Appends (W.contents output.old) (W.contents output.new) (line_of text)) }
     ensures left { IfErr result (λ e. Leaves request (R.remaining input.old) e
         (W.contents output.old) (W.contents output.new)) }
-    ensures unread { HasFiles request → input.new ≡ input.old }
+    ensures only { HasReadyFiles request
+        → IfErr result (λ e. (e ≡ Fault.OutOfMemory) ⊎ (e ≡ Fault.WriteFailed)) }
+    ensures unread { ¬ (ReadsInput request) → input.new ≡ input.old }
+    ensures stops { LosesAtMost (most_bytes + chunk_bytes) (R.remaining input.old) (R.remaining input.new) }
 {
     let line = answer(alloc, request, input)?;
     write_text(output, &line)?;
@@ -43,7 +52,9 @@ fn answer<R: Read>(alloc: Global, request: Request, input: &mut R) -> Result<Vec
     ensures line { IfOk result (λ b. (text : List ℕ)
         × IsAnswer request (R.remaining input.old) true text × (b.items ≡ line_of text)) }
     ensures refused { IfErr result (LineRefusal request (R.remaining input.old)) }
-    ensures unread { HasFiles request → input.new ≡ input.old }
+    ensures only { HasReadyFiles request → IsOkUnless result Fault.OutOfMemory }
+    ensures unread { ¬ (ReadsInput request) → input.new ≡ input.old }
+    ensures stops { LosesAtMost (most_bytes + chunk_bytes) (R.remaining input.old) (R.remaining input.new) }
 {
     let Request::Export { files, root } = request;
     export_line(alloc, files, root, input)
@@ -60,7 +71,9 @@ fn export_line<R: Read>(
         × IsAnswer (Request.Export files root) (R.remaining input.old) true text
         × (b.items ≡ line_of text)) }
     ensures refused { IfErr result (LineRefusal (Request.Export files root) (R.remaining input.old)) }
-    ensures unread { HasFiles (Request.Export files root) → input.new ≡ input.old }
+    ensures only { HasReadyFiles (Request.Export files root) → IsOkUnless result Fault.OutOfMemory }
+    ensures unread { ¬ (ReadsInput (Request.Export files root)) → input.new ≡ input.old }
+    ensures stops { LosesAtMost (most_bytes + chunk_bytes) (R.remaining input.old) (R.remaining input.new) }
 {
     let files = files_or_input(alloc, files, input)?;
     let sources = slices_of(alloc, &files)?;
@@ -77,7 +90,9 @@ fn files_or_input<R: Read>(
 ) -> Result<Vec<Vec<u8>>, Fault>
     ensures sources { IfOk result (λ v. AreSources files.items (R.remaining input.old) (map (λ f. f.items) v.items)) }
     ensures refused { IfErr result (InputRefusal files.items (R.remaining input.old)) }
+    ensures kept { ¬ (files.items ≡ []) → result ≡ Ok files }
     ensures unread { ¬ (files.items ≡ []) → input.new ≡ input.old }
+    ensures stops { LosesAtMost (most_bytes + chunk_bytes) (R.remaining input.old) (R.remaining input.new) }
 {
     if !files.is_empty() {
         return Ok(files);

@@ -1,3 +1,4 @@
 pub mod Shapes
 pub mod Slots
 pub mod Roots
+mod Samples

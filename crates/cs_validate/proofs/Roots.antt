@@ -5,16 +5,16 @@ use Rattle.std.specs.Cmp.Lexicographic.{slice_cmp}
 use Rattle.std.specs.Ordering.{nat_cmp}
 use Rattle.cs_document.specs.Document.{Document, text, object, Members, member, Entry, entries, under, put}
 use Rattle.cs_document.specs.View.{members_of}
-use Rattle.cs_schema.specs.Shapes.{dialect}
-use Rattle.cs_schema.specs.Profile.{first, fault_of, visits, named_visits, walk_fault}
-use Rattle.cs_schema.specs.Places.{at_key}
-use Rattle.cs_schema.specs.Trim.{with_member, with_dialect}
-use Rattle.cs_schema.specs.Validity.{IsValidity}
-use Rattle.cs_schema.specs.SchemaDocument.{Slot, reference_document, present, slots_of, schema_view, SchemaValue, IsWhole, document_of, definition_of, definitions_view, with_definitions, unless_no_map}
-use Rattle.cs_schema.specs.declared.schema.Schema.{Schema}
-use Rattle.cs_schema.specs.declared.schema.Keywords.{Keywords, the_lemmas}
-use Rattle.cs_schema.proofs.Definitions.{by_case}
-use Rattle.cs_schema.proofs.Slots.{Above}
+use Rattle.cs_profile.specs.Shapes.{dialect}
+use Rattle.cs_profile.specs.Profile.{first, fault_of, visits, named_visits, walk_fault}
+use Rattle.cs_profile.specs.Places.{at_key}
+use Rattle.cs_profile.specs.Trim.{with_member, with_dialect}
+use Rattle.cs_profile.specs.Validity.{IsValidity}
+use Rattle.cs_profile.specs.SchemaDocument.{Slot, reference_document, present, slots_of, schema_view, SchemaValue, IsWhole, document_of, definition_of, definitions_view, with_definitions, unless_no_map}
+use Rattle.cs_profile.specs.declared.schema.Schema.{Schema}
+use Rattle.cs_profile.specs.declared.schema.Keywords.{Keywords, the_lemmas}
+use Rattle.cs_profile.proofs.Definitions.{by_case}
+use Rattle.cs_profile.proofs.Slots.{Above}
 use Rattle.cs_validate.specs.Shaped.{IsShaped, AreShaped}
 use Rattle.cs_validate.specs.Asserted.{unless_absent, slot_holds, but_reference, defined_holds}
 use Rattle.cs_validate.proofs.Shapes.{none_in_both, keywords_shaped}

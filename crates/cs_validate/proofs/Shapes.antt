@@ -4,12 +4,12 @@ use Rattle.std.specs.List.{All}
 use Rattle.std.proofs.lemmas.List.Elements.{All-nil, All-cons}
 use Rattle.cs_document.specs.Document.{Document, object}
 use Rattle.cs_document.specs.View.{documents_of}
-use Rattle.cs_schema.specs.Profile.{or_else, first, fault_of, visits, member_visits, keyword_visits, element_visits}
-use Rattle.cs_schema.specs.Places.{at_key, at_index}
-use Rattle.cs_schema.specs.SchemaDocument.{Slot, present, slots_of, schema_view, schemas_view, unless_no_list}
-use Rattle.cs_schema.specs.declared.schema.Schema.{Schema, Object, the_lemmas}
-use Rattle.cs_schema.specs.declared.schema.Keywords.{Keywords}
-use Rattle.cs_schema.proofs.Walks.{first-append}
+use Rattle.cs_profile.specs.Profile.{or_else, first, fault_of, visits, member_visits, keyword_visits, element_visits}
+use Rattle.cs_profile.specs.Places.{at_key, at_index}
+use Rattle.cs_profile.specs.SchemaDocument.{Slot, present, slots_of, schema_view, schemas_view, unless_no_list}
+use Rattle.cs_profile.specs.declared.schema.Schema.{Schema, Object, the_lemmas}
+use Rattle.cs_profile.specs.declared.schema.Keywords.{Keywords}
+use Rattle.cs_profile.proofs.Walks.{first-append}
 use Rattle.cs_validate.specs.Shaped.{IsShaped, AreShaped}
 use Rattle.cs_validate.specs.Asserted.{but_reference}
 

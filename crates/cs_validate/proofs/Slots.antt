@@ -6,14 +6,14 @@ use Rattle.std.proofs.lemmas.List.Folds.{list_all-map}
 use Rattle.cs_document.specs.Document.{Document, integer, text, list, object, Entry, elements, entries, document_eq}
 use Rattle.cs_document.specs.Opened.{Opened, a_null, a_boolean, an_integer, a_text, a_list, an_object, opened}
 use Rattle.cs_document.specs.View.{doc_view, list_view, documents_of}
-use Rattle.cs_schema.specs.Shapes.{Row, row}
-use Rattle.cs_schema.specs.Asked.{assertion_at}
-use Rattle.cs_schema.specs.Validity.{is_of_kind, if_number, holds, IsValidity}
-use Rattle.cs_schema.specs.SchemaDocument.{Slot, reference_document, text_document, unless_no_map, definitions_view, present, schema_view, schemas_view, slots_of, unless_no_list, kind_name}
-use Rattle.cs_schema.specs.declared.schema.JsonKind.{JsonKind}
-use Rattle.cs_schema.specs.declared.schema.JsonKind.TheVariants as kind
-use Rattle.cs_schema.specs.declared.schema.Keywords.{Keywords, the_lemmas}
-use Rattle.cs_schema.specs.declared.schema.Schema.{Schema}
+use Rattle.cs_profile.specs.Shapes.{Row, row}
+use Rattle.cs_profile.specs.Asked.{assertion_at}
+use Rattle.cs_profile.specs.Validity.{is_of_kind, if_number, holds, IsValidity}
+use Rattle.cs_profile.specs.SchemaDocument.{Slot, reference_document, text_document, unless_no_map, definitions_view, present, schema_view, schemas_view, slots_of, unless_no_list, kind_name}
+use Rattle.cs_profile.specs.declared.schema.JsonKind.{JsonKind}
+use Rattle.cs_profile.specs.declared.schema.JsonKind.TheVariants as kind
+use Rattle.cs_profile.specs.declared.schema.Keywords.{Keywords, the_lemmas}
+use Rattle.cs_profile.specs.declared.schema.Schema.{Schema}
 use Rattle.cs_validate.specs.Shaped.{IsShaped, IsFaultless, AreShaped}
 use Rattle.cs_validate.specs.Asserted.{kind_of, unless_absent, is_kind, is_const, at_least, at_most, is_limited, slot_holds, but_reference, defined_holds}
 use Rattle.cs_validate.proofs.Shapes.{all_of_shaped}

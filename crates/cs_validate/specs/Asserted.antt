@@ -5,14 +5,14 @@ use Rattle.cs_document.specs.Document.{Document, Entry, document_eq}
 use Rattle.cs_document.specs.Opened.{opened}
 use Rattle.cs_document.specs.View.{doc_view}
 use Rattle.cs_document.specs.declared.doc.Doc.{Doc}
-use Rattle.cs_schema.specs.Keywords as keyword
-use Rattle.cs_schema.specs.Keywords.{Kind, defined}
-use Rattle.cs_schema.specs.Asked.{assertion_at}
-use Rattle.cs_schema.specs.Validity.{is_of_kind, if_number, holds}
-use Rattle.cs_schema.specs.SchemaDocument.{Slot}
-use Rattle.cs_schema.specs.declared.schema.Keywords.{Keywords}
-use Rattle.cs_schema.specs.declared.schema.JsonKind.{JsonKind}
-use Rattle.cs_schema.specs.declared.schema.JsonKind.TheVariants as kind
+use Rattle.cs_profile.specs.Keywords as keyword
+use Rattle.cs_profile.specs.Keywords.{Kind, defined}
+use Rattle.cs_profile.specs.Asked.{assertion_at}
+use Rattle.cs_profile.specs.Validity.{is_of_kind, if_number, holds}
+use Rattle.cs_profile.specs.SchemaDocument.{Slot}
+use Rattle.cs_profile.specs.declared.schema.Keywords.{Keywords}
+use Rattle.cs_profile.specs.declared.schema.JsonKind.{JsonKind}
+use Rattle.cs_profile.specs.declared.schema.JsonKind.TheVariants as kind
 
 -- the kind that `type` names
 abbrev pub kind_of : JsonKind → Kind

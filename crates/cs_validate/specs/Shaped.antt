@@ -1,8 +1,8 @@
 -- Schemas without a fault of shape, wherever they stand.
 use Rattle.std.specs.Prelude.{◌≡◌, ℕ, Bool, false, List, [], ◌∷◌, None, IfSome}
 use Rattle.cs_document.specs.Document.{Document}
-use Rattle.cs_schema.specs.Profile.{first, fault_of, visits, keyword_visits}
-use Rattle.cs_schema.specs.SchemaDocument.{Slot}
+use Rattle.cs_profile.specs.Profile.{first, fault_of, visits, keyword_visits}
+use Rattle.cs_profile.specs.SchemaDocument.{Slot}
 
 -- a schema below the root has no fault
 abbrev pub IsShaped : Document → Type 0

@@ -2,11 +2,11 @@
 ghost use Rattle.std.specs.Prelude.{◌≡◌, ◌&&◌};
 ghost use Rattle.cs_document.specs.Opened.{opened};
 ghost use Rattle.cs_document.specs.View.{doc_view};
-ghost use Rattle.cs_schema.specs.Validity as validity;
+ghost use Rattle.cs_profile.specs.Validity as validity;
 ghost use Rattle.cs_validate.specs.Asserted.{kind_of, is_kind, is_const, at_least, at_most, is_limited};
 
 use cs_document::Doc;
-use cs_schema::{JsonKind, Keywords};
+use cs_profile::{JsonKind, Keywords};
 
 /// Whether what the keywords without schemas assert holds of a document.
 pub(crate) fn are_kept(keywords: &Keywords, doc: &Doc) -> bool

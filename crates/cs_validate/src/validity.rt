@@ -3,19 +3,19 @@ ghost use Rattle.std.specs.Prelude.{◌≡◌, Bool, List, IfOk, string_bytes};
 ghost use Rattle.std.specs.List.{All, list_all};
 ghost use Rattle.cs_document.specs.Document.{Document, Entry};
 ghost use Rattle.cs_document.specs.View.{doc_view};
-ghost use Rattle.cs_schema.specs.Validity.{IsValidity, OneMeaning};
-ghost use Rattle.cs_schema.specs.SchemaDocument.{schema_view, slots_of, document_of, IsWhole};
+ghost use Rattle.cs_profile.specs.Validity.{IsValidity, OneMeaning};
+ghost use Rattle.cs_profile.specs.SchemaDocument.{schema_view, slots_of, document_of, IsWhole};
 ghost use Rattle.cs_validate.specs.Shaped.{IsShaped, AreShaped};
 ghost use Rattle.cs_validate.specs.Asserted.{unless_absent, slot_holds, but_reference, defined_holds};
 
 use crate::ValidateFault;
 use crate::keywords::are_kept;
 use cs_document::Doc;
-use cs_schema::{Keywords, Schema, SchemaDoc, one_meaning};
+use cs_profile::{Keywords, Schema, SchemaDoc, one_meaning};
 use std::alloc::Global;
 
 /// Whether a document is valid against a schema document: its root validates it (JSON Schema Core 2020-12,
-/// sections 4.3 and 7). No memory is taken, so nothing is refused.
+/// sections 4.3 and 7). Only memory can run out.
 pub fn is_valid(_alloc: Global, schema: &SchemaDoc, doc: &Doc) -> Result<bool, ValidateFault>
     ensures answer { IfOk result (λ b. (V : Document → Document → Bool) → IsValidity (document_of schema.now) V
         → b ≡ V (document_of schema.now) (doc_view doc.now)) }

@@ -1,7 +1,8 @@
 // Expressions and values. Recursion goes by brackets and fields alone: `depth` says how many may
-// still stand inside one another.
+// still stand inside one another. It begins at 29, a body and 28 values inside it, which is what
+// tokens within the limit of nesting need: however long a source is, the stack bears it.
 
-ghost use Rattle.std.specs.Prelude.{◌≡◌, map, length, true, false};
+ghost use Rattle.std.specs.Prelude.{◌≡◌, ◌≤◌, map, length, true, false};
 ghost use Rattle.cs_grammar.specs.View.{expr_view, field_view, end_view};
 ghost use Rattle.cs_syntax.specs.Left.{left, Reads};
 ghost use Rattle.cs_syntax.specs.Reading.{inner, field_with, fields_with, struct_with, rest_with, end_with, elements_with, list_with, operand_with, amps_with, conj_with, bars_with, expr_with};
@@ -15,6 +16,7 @@ impl Parser<'_, '_> {
     #[cycle(parse)]
     #[tactic(auto, unfolding(crate::specs::Reading::inner))]
     pub(crate) fn inside(&mut self, depth: usize, short: bool) -> Result<Expr, SyntaxFault>
+        requires { depth ≤ 29 }
         ensures { Reads expr_view result self.new (inner depth short (left self.old)) }
     {
         if depth == 0 {
@@ -38,6 +40,7 @@ impl Parser<'_, '_> {
     #[cycle(parse)]
     #[tactic(auto, unfolding(crate::specs::Reading::field_with))]
     fn field(&mut self, depth: usize) -> Result<Field, SyntaxFault>
+        requires { depth ≤ 29 }
         ensures { Reads field_view result self.new (field_with (inner depth) (left self.old)) }
     {
         let (label, quoted) = self.label()?;
@@ -55,6 +58,7 @@ impl Parser<'_, '_> {
     // The fields behind the first.
     #[cycle(parse)]
     fn fields(&mut self, depth: usize) -> Result<Vec<Field>, SyntaxFault>
+        requires { depth ≤ 29 }
         ensures { Reads (λ v. map field_view v.items) result self.new
             (fields_with (inner depth) (length (left self.old)) (left self.old)) }
     {
@@ -72,6 +76,7 @@ impl Parser<'_, '_> {
     #[cycle(parse)]
     #[tactic(auto, unfolding(crate::specs::Reading::struct_with))]
     fn structure(&mut self, depth: usize) -> Result<(Vec<Field>, bool), SyntaxFault>
+        requires { depth ≤ 29 }
         ensures { Reads (λ x. (map field_view x.0.items, x.1)) result self.new
             (struct_with (inner depth) (left self.old)) }
     {
@@ -93,6 +98,7 @@ impl Parser<'_, '_> {
     #[cycle(parse)]
     #[tactic(auto, unfolding(crate::specs::Reading::rest_with))]
     fn list_rest(&mut self, depth: usize) -> Result<ListEnd, SyntaxFault>
+        requires { depth ≤ 29 }
         ensures { Reads end_view result self.new (rest_with (inner depth) (left self.old)) }
     {
         if self.may_end() {
@@ -108,6 +114,7 @@ impl Parser<'_, '_> {
     #[cycle(parse)]
     #[tactic(auto, unfolding(crate::specs::Reading::end_with))]
     fn list_end(&mut self, depth: usize) -> Result<ListEnd, SyntaxFault>
+        requires { depth ≤ 29 }
         ensures { Reads end_view result self.new (end_with (inner depth) (left self.old)) }
     {
         if !self.skip_to_rest() {
@@ -121,6 +128,7 @@ impl Parser<'_, '_> {
     // The elements behind the first.
     #[cycle(parse)]
     fn elements(&mut self, depth: usize) -> Result<Vec<Expr>, SyntaxFault>
+        requires { depth ≤ 29 }
         ensures { Reads (λ v. map expr_view v.items) result self.new
             (elements_with (inner depth) (length (left self.old)) (left self.old)) }
     {
@@ -138,6 +146,7 @@ impl Parser<'_, '_> {
     #[cycle(parse)]
     #[tactic(auto, unfolding(crate::specs::Reading::list_with))]
     fn list(&mut self, depth: usize) -> Result<(Vec<Expr>, ListEnd), SyntaxFault>
+        requires { depth ≤ 29 }
         ensures { Reads (λ x. (map expr_view x.0.items, end_view x.1)) result self.new
             (list_with (inner depth) (left self.old)) }
     {
@@ -159,6 +168,7 @@ impl Parser<'_, '_> {
     #[cycle(parse)]
     #[tactic(auto, unfolding(crate::specs::Reading::operand_with))]
     fn operand(&mut self, depth: usize) -> Result<Expr, SyntaxFault>
+        requires { depth ≤ 29 }
         ensures { Reads expr_view result self.new (operand_with (inner depth) (left self.old)) }
     {
         let Some(token) = self.peek() else {
@@ -189,6 +199,7 @@ impl Parser<'_, '_> {
     // The operands of `&` behind the first.
     #[cycle(parse)]
     fn amps(&mut self, depth: usize) -> Result<Vec<Expr>, SyntaxFault>
+        requires { depth ≤ 29 }
         ensures { Reads (λ v. map expr_view v.items) result self.new
             (amps_with (inner depth) (length (left self.old)) (left self.old)) }
     {
@@ -206,6 +217,7 @@ impl Parser<'_, '_> {
     #[cycle(parse)]
     #[tactic(auto, unfolding(crate::specs::Reading::conj_with))]
     fn conj(&mut self, depth: usize) -> Result<Expr, SyntaxFault>
+        requires { depth ≤ 29 }
         ensures { Reads expr_view result self.new (conj_with (inner depth) (left self.old)) }
     {
         let first = self.operand(depth)?;
@@ -220,6 +232,7 @@ impl Parser<'_, '_> {
     // The operands of `|` behind the first.
     #[cycle(parse)]
     fn bars(&mut self, depth: usize) -> Result<Vec<Expr>, SyntaxFault>
+        requires { depth ≤ 29 }
         ensures { Reads (λ v. map expr_view v.items) result self.new
             (bars_with (inner depth) (length (left self.old)) (left self.old)) }
     {
@@ -237,6 +250,7 @@ impl Parser<'_, '_> {
     #[cycle(parse)]
     #[tactic(auto, unfolding(crate::specs::Reading::expr_with))]
     fn expr(&mut self, depth: usize) -> Result<Expr, SyntaxFault>
+        requires { depth ≤ 29 }
         ensures { Reads expr_view result self.new (expr_with (inner depth) (left self.old)) }
     {
         let first = self.conj(depth)?;

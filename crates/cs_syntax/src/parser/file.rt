@@ -1,6 +1,6 @@
 // Files.
 
-ghost use Rattle.std.specs.Prelude.{◌≡◌, map, length, string_bytes, true, IfOk, IfErr, Ok};
+ghost use Rattle.std.specs.Prelude.{◌≡◌, ◌≤◌, map, length, string_bytes, true, IfOk, IfErr, Ok};
 ghost use Rattle.std.specs.Option.{option_map};
 ghost use Rattle.cs_grammar.specs.Words.{Words};
 ghost use Rattle.cs_grammar.specs.Tree.{FileTree};
@@ -10,6 +10,7 @@ ghost use Rattle.cs_syntax.specs.Left.{left, Reads};
 ghost use Rattle.cs_lexer.specs.Quoted.{are_quoted};
 ghost use Rattle.cs_syntax.specs.Reading.{Gives, definition_at, line_at, definitions_at, is_clause, clause_at, package_at, file_with, file_at};
 ghost use Rattle.cs_syntax.specs.Within.{file_within};
+ghost use Rattle.cs_syntax.specs.Nesting.{nesting};
 ghost use Rattle.cs_lexer.specs.Lexed.{Answers};
 ghost use Rattle.cs_syntax.specs.Answer.{IsFileRefusal, IsSpelled};
 
@@ -26,6 +27,7 @@ impl Parser<'_, '_> {
     // A definition: its name, a colon and its body.
     #[tactic(auto, unfolding(crate::specs::Reading::definition_at))]
     fn definition(&mut self, depth: usize) -> Result<Definition, SyntaxFault>
+        requires { depth ≤ 29 }
         ensures { Reads definition_view result self.new (definition_at depth (left self.old)) }
     {
         let Some(token) = self.take() else {
@@ -44,6 +46,7 @@ impl Parser<'_, '_> {
     // A definition and its comma.
     #[tactic(auto, unfolding(crate::specs::Reading::line_at))]
     fn line(&mut self, depth: usize) -> Result<Definition, SyntaxFault>
+        requires { depth ≤ 29 }
         ensures { Reads definition_view result self.new (line_at depth (left self.old)) }
     {
         let definition = self.definition(depth)?;
@@ -53,6 +56,7 @@ impl Parser<'_, '_> {
 
     // The definitions up to the end.
     fn definitions(&mut self, depth: usize) -> Result<Vec<Definition>, SyntaxFault>
+        requires { depth ≤ 29 }
         ensures { Reads (λ v. map definition_view v.items) result self.new
             (definitions_at depth (length (left self.old)) (left self.old)) }
     {
@@ -106,6 +110,7 @@ impl Parser<'_, '_> {
     // A file, and the end.
     #[tactic(auto, unfolding(crate::specs::Reading::file_with))]
     fn file(&mut self, depth: usize) -> Result<File, SyntaxFault>
+        requires { depth ≤ 29 }
         ensures { Gives file_view result (file_with depth (left self.old)) }
     {
         let package = self.package()?;
@@ -122,7 +127,9 @@ impl Parser<'_, '_> {
 }
 
 fn file_of(alloc: Global, tokens: &[Token<'_>]) -> Result<File, SyntaxFault>
-    requires { are_quoted (lexemes_view tokens.now) ≡ true }
+    requires quoted { are_quoted (lexemes_view tokens.now) ≡ true }
+    // The stack bears the recursion of tokens that nest no deeper.
+    requires nested { nesting (words (lexemes_view tokens.now)) ≤ 28 }
     ensures { Gives file_view result (file_at (words (lexemes_view tokens.now))) }
 {
     let mut parser = Parser {
@@ -130,7 +137,7 @@ fn file_of(alloc: Global, tokens: &[Token<'_>]) -> Result<File, SyntaxFault>
         tokens,
         next: 0,
     };
-    parser.file(tokens.len())
+    parser.file(MOST_NESTED + 1)
 }
 
 // The file that tokens spell within the limits.
@@ -153,14 +160,14 @@ fn file_within(alloc: Global, tokens: &[Token<'_>]) -> Result<File, SyntaxFault>
 ///
 /// # Errors
 /// Those of `lex`. `TooHigh` where the tokens nest deeper than 28, or a body is higher than that.
-/// `Syntax` or `LeftOut` at a token that is out of place.
+/// `Syntax` or `LeftOut` where the tokens nest no deeper and spell no file, at one of them.
 pub fn parse_file(alloc: Global, source: &str) -> Result<File, SyntaxFault>
     // What is answered is spelled by the tokens of the source, within the limits.
     ensures found { IfOk result (λ f. IsSpelled source.now (file_view f)) }
     // A file that the tokens of the source spell so is answered, unless memory runs out.
     ensures only { (f : FileTree) → IsSpelled source.now f → Answers file_view result f }
-    // A fault other than want of memory says where the source is stuck, which word is out of place
-    // where its tokens spell no file, or that it is too high.
+    // A fault other than want of memory says where the source is stuck, that its tokens spell no
+    // file, of whatever height, and the place of one of them, or that it is too high.
     ensures refused { IfErr result (λ f. IsFileRefusal source.now f) }
 {
     let tokens = lex(alloc, source)?;

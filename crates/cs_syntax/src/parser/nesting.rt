@@ -1,7 +1,8 @@
 // How deep tokens nest, before any of them is parsed: this bounds the parser's recursion.
 
 ghost use Rattle.std.specs.Prelude.{◌≡◌, ◌≤◌, nat_lt};
-ghost use Rattle.cs_syntax.specs.Nesting.{before_next, levels_next, opened, closed_by, short_colon, nesting};
+ghost use Rattle.cs_syntax.specs.Nesting.{nesting};
+ghost use Rattle.cs_syntax.specs.Counting.{before_next, levels_next, opened, closed_by, short_colon};
 ghost use Rattle.cs_grammar.specs.View.{lexemes_view, words};
 ghost use Rattle.cs_syntax.specs.Left.{levels_of, Steps, Tells};
 

@@ -4,7 +4,8 @@ ghost use Rattle.std.specs.Prelude.{◌≡◌, drop, true};
 ghost use Rattle.cs_grammar.specs.View.{lexeme_view, lexemes_view, word};
 ghost use Rattle.cs_lexer.specs.Quoted.{are_quoted};
 ghost use Rattle.cs_grammar.specs.Spells.{start_at};
-ghost use Rattle.cs_syntax.specs.Reading.{is_left_out_name, fault_of, fault_at, after, expected, begins_with, behind_if, after_comma, comma_at, close_at, paren_end};
+ghost use Rattle.cs_syntax.specs.Place.{is_left_out_name, fault_of};
+ghost use Rattle.cs_syntax.specs.Reading.{fault_at, after, expected, begins_with, behind_if, after_comma, comma_at, close_at, paren_end};
 
 use crate::parser::kind::kind_of;
 use cs_grammar::{Kind, SyntaxFault, Token};

@@ -12,7 +12,7 @@ use Rattle.cs_package.specs.View.{expression_of, expressions_of, kind_of}
 use Rattle.cs_package.specs.declared.shape.Shape.{the_lemmas}
 use Rattle.cs_instance.specs.Taken.{AllTaken}
 use Rattle.cs_instance.proofs.Taken.{and-taken, taken-at}
-use Rattle.cs_schema.specs.SchemaDocument.{schema_view, schemas_view, kind_name, unless_no_list}
+use Rattle.cs_profile.specs.SchemaDocument.{schema_view, schemas_view, kind_name, unless_no_list}
 use Rattle.cs_compile.specs.Translation.{schema_of, all_of, body_schemas, of_type}
 use Rattle.cs_compile.proofs.Slots.{made_of_one, all_of-slots, documents_of-body_schemas, schemas_of-expressions_of, map_of_map}
 use Rattle.cs_compile.proofs.translate.+translate.Goals as goal

@@ -1,6 +1,6 @@
 use Rattle.std.proofs.Common.{◌≡◌, ℕ, List, map, take}
 use Rattle.cs_package.specs.View.{expression_of}
-use Rattle.cs_schema.specs.SchemaDocument.{schema_view}
+use Rattle.cs_profile.specs.SchemaDocument.{schema_view}
 use Rattle.cs_compile.specs.Translation.{schema_of}
 use Rattle.cs_compile.proofs.translate.+translate.Given as goal
 

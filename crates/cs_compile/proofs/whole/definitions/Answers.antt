@@ -1,12 +1,13 @@
 use Rattle.std.proofs.Common.{◌≡◌, ◌<◌, length, map, Some, IfSome, string_bytes, sym, ap, ap₂, ◌∙◌, subst, arith}
 use Rattle.cs_document.specs.Document.{entries, under, put}
 use Rattle.cs_document.specs.View.{members_of}
+use Rattle.cs_grammar.specs.View.{bare_name}
 use Rattle.cs_package.specs.Environment.{bodies, declared_names, bodies_at, written}
 use Rattle.cs_package.specs.View.{expression_of}
 use Rattle.cs_instance.proofs.Taken.{bodies-taken}
-use Rattle.cs_schema.specs.SchemaDocument.{definitions_view}
-use Rattle.cs_compile.specs.Translation.{definition_schema, bare_name}
-use Rattle.cs_compile.specs.Whole.{definition_entries, AreDefinitions}
+use Rattle.cs_profile.specs.SchemaDocument.{definitions_view}
+use Rattle.cs_compile.specs.Translation.{definition_schema}
+use Rattle.cs_compile.specs.Definitions.{definition_entries, AreDefinitions}
 use Rattle.cs_compile.proofs.Declared.{are_definitions-put}
 use Rattle.cs_compile.proofs.Names.{first_schemas, first_schemas-more, first_schemas-all, made-insert_entry, name_there}
 use Rattle.cs_compile.proofs.whole.definitions.Goals as goal

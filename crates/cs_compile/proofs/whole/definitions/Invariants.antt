@@ -1,8 +1,8 @@
 use Rattle.std.proofs.Common.{◌≡◌, ℕ, List}
 use Rattle.cs_document.specs.Document.{under}
 use Rattle.cs_document.specs.View.{members_of}
-use Rattle.cs_schema.specs.SchemaDocument.{definitions_view}
-use Rattle.cs_compile.specs.Whole.{definition_entries, AreDefinitions}
+use Rattle.cs_profile.specs.SchemaDocument.{definitions_view}
+use Rattle.cs_compile.specs.Definitions.{definition_entries, AreDefinitions}
 use Rattle.cs_compile.proofs.Names.{first_schemas}
 use Rattle.cs_compile.proofs.whole.definitions.Given as goal
 

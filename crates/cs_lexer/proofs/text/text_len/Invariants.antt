@@ -1,6 +1,6 @@
 use Rattle.std.proofs.Common.{◌≡◌}
-use Rattle.cs_grammar.specs.declared.text.Spot.TheVariants.{Inside}
-use Rattle.cs_lexer.specs.Heads.{text_len}
+use Rattle.cs_lexer.specs.declared.text.Spot.TheVariants.{Inside}
+use Rattle.cs_lexer.specs.Automaton.{text_len}
 use Rattle.cs_lexer.proofs.Texts.{text_from}
 use Rattle.cs_lexer.proofs.text.text_len.Given as goal
 

@@ -1,4 +1,4 @@
-use Rattle.cs_lexer.proofs.Literals.{text_parts, parts_text}
+use Rattle.cs_lexer.proofs.TextValues.{text_parts, parts_text}
 use Rattle.cs_lexer.proofs.text.text_parts.Goals as goal
 
 pub returns-clause-parts : goal.returns-clause-parts

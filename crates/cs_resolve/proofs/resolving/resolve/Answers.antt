@@ -6,7 +6,7 @@ use Rattle.cs_grammar.specs.View.{file_view}
 use Rattle.cs_resolve.specs.Declarations.{names, faults_from}
 use Rattle.cs_package.specs.Joined.{IsJoined}
 use Rattle.cs_resolve.specs.Opening.{unopened_files}
-use Rattle.cs_resolve.specs.Resolved.{IsSmall}
+use Rattle.cs_resolve.specs.Resolved.{IsSmall, most_definitions, most_nodes}
 use Rattle.cs_resolve.specs.Size.{nodes_of_files}
 use Rattle.cs_package.specs.View.{bodies_of, is_known, names_of}
 use Rattle.cs_resolve.proofs.Faults.{name-refusal, opening-refusal, opening-none, refusal-none, refusal-same}
@@ -21,13 +21,13 @@ module _ (fs : List FileTree) (es : List (String Global × String Global)) (foun
   count : length (names (flat_map definitions fs)) ≡ length es
   count = sym (ap length found) ∙ length-names es
 
-  is_small : (few : Bool) → length es ≤ 1000 → (IsTrue few ↔ (nodes_of_files fs ≤ 50000)) → few ≡ true → IsSmall fs
+  is_small : (few : Bool) → length es ≤ most_definitions → (IsTrue few ↔ (nodes_of_files fs ≤ most_nodes)) → few ≡ true → IsSmall fs
   is_small few le nodes is = record { definitions = omega (arith, le, count); nodes = nodes.0 is }
 
-  many_names : 1000 < length es → ¬ IsSmall fs
+  many_names : most_definitions < length es → ¬ IsSmall fs
   many_names l h = omega (arith, l, count, h.definitions)
 
-  many_nodes : (few : Bool) → (IsTrue few ↔ (nodes_of_files fs ≤ 50000)) → few ≡ false → ¬ IsSmall fs
+  many_nodes : (few : Bool) → (IsTrue few ↔ (nodes_of_files fs ≤ most_nodes)) → few ≡ false → ¬ IsSmall fs
   many_nodes few nodes is h = let yes : few ≡ true = nodes.1 h.nodes in cc
 
 pub returns-in-Some-clause-only : goal.returns-in-Some-clause-only

@@ -8,12 +8,13 @@ use Rattle.cs_document.proofs.Views.{view-List}
 use Rattle.std.proofs.lemmas.Result.{IfOk-weaker}
 use Rattle.cs_document.proofs.Entries.{Entry}
 use Rattle.cs_document.proofs.Maps.{texts, insert_last, texts_more, drop_at, drop_past, take_at}
-use Rattle.cs_schema.specs.Profile.{first, fault_of, visits, member_visits, keyword_visits, element_visits, named_visits}
-use Rattle.cs_schema.specs.Places.{at_key as key_place, at_index as index_place}
-use Rattle.cs_schema.specs.Trim.{trimmed_elements, trimmed_value, with_member}
-use Rattle.cs_schema.specs.SchemaDocument.{schemas_view, definitions_view, present}
+use Rattle.cs_profile.specs.Profile.{first, fault_of, visits, member_visits, keyword_visits, element_visits, named_visits}
+use Rattle.cs_profile.specs.Places.{at_key as key_place, at_index as index_place}
+use Rattle.cs_profile.specs.Trim.{trimmed_elements, trimmed_value, with_member}
+use Rattle.cs_profile.specs.SchemaDocument.{schemas_view, definitions_view, present}
 use Rattle.cs_schema.specs.Reading.{slots, found_value, IsFoundAt, Refuses}
-use Rattle.cs_schema.proofs.Walks.{first_past, refuses_at, trimmed_members-push, trimmed_below, trimmed_named-push, trimmed_elements-push, join, KeysBelow, is_nil, not_nil, some_right, some_value}
+use Rattle.cs_profile.proofs.Walks.{first_past}
+use Rattle.cs_schema.proofs.Walks.{refuses_at, trimmed_members-push, trimmed_below, trimmed_named-push, trimmed_elements-push, join, KeysBelow, is_nil, not_nil, some_right, some_value}
 use Rattle.cs_schema.proofs.Slots.{set_found-last}
 use Rattle.cs_schema.proofs.read.+read.Goals as goal
 

@@ -2,9 +2,9 @@ use Rattle.std.proofs.Common.{◌≡◌, false, List, [], ◌++◌, take, drop}
 use Rattle.cs_document.specs.View.{list_view, object_view, documents_of, members_of}
 use Rattle.cs_document.proofs.Entries.{Entry}
 use Rattle.cs_document.proofs.Maps.{texts}
-use Rattle.cs_schema.specs.Profile.{first, fault_of, member_visits, element_visits, named_visits}
-use Rattle.cs_schema.specs.Trim.{trimmed_members, trimmed_elements, trimmed_named}
-use Rattle.cs_schema.specs.SchemaDocument.{present, schemas_view, definitions_view}
+use Rattle.cs_profile.specs.Profile.{first, fault_of, member_visits, element_visits, named_visits}
+use Rattle.cs_profile.specs.Trim.{trimmed_members, trimmed_elements, trimmed_named}
+use Rattle.cs_profile.specs.SchemaDocument.{present, schemas_view, definitions_view}
 use Rattle.cs_schema.specs.Reading.{slots}
 use Rattle.cs_schema.proofs.read.+read.Given as goal
 

@@ -1,9 +1,9 @@
 use Rattle.std.proofs.Common.{[], Some, is_some, sym, ap, ◌∙◌, subst}
 use Rattle.cs_document.specs.Document.{under}
-use Rattle.cs_schema.specs.Profile.{undefined}
+use Rattle.cs_profile.specs.Profile.{undefined}
 use Rattle.cs_schema.specs.Reading.{Refuses}
-use Rattle.cs_schema.specs.SchemaDocument.{schema_view}
-use Rattle.cs_schema.proofs.Definitions.{named}
+use Rattle.cs_profile.specs.SchemaDocument.{schema_view}
+use Rattle.cs_profile.proofs.Definitions.{named}
 use Rattle.cs_schema.proofs.Reader.{contained, none_undefined, one_undefined}
 use Rattle.cs_schema.proofs.read.find_reference.Goals as goal
 

@@ -2,15 +2,15 @@ use Rattle.std.proofs.Common.{◌≡◌, ◌∙◌, sym, ap, subst, refl, rules}
 use Rattle.cs_document.specs.Document.{boolean, object}
 use Rattle.cs_document.specs.View.{doc_view, object_view}
 use Rattle.cs_document.proofs.Views.{view-Bool, view-Object}
-use Rattle.cs_schema.specs.Profile.{walk_fault, IsSchema}
+use Rattle.cs_profile.specs.Profile.{walk_fault, IsSchema}
 use Rattle.cs_schema.specs.Reading.{Refuses}
-use Rattle.cs_schema.specs.Refusal.{IsRefusal}
-use Rattle.cs_schema.proofs.Profiles.{no_loop}
+use Rattle.cs_profile.specs.Refusal.{IsRefusal}
+use Rattle.cs_profile.proofs.Profiles.{no_loop}
 use Rattle.cs_schema.proofs.Reader.{name_is, refused_by_walk, refused_by_name, whole, whole_truth}
-use Rattle.cs_schema.specs.Trim.{KeepsValidity}
-use Rattle.cs_schema.specs.Validity.{OneMeaning}
-use Rattle.cs_schema.proofs.Meanings as meanings
-use Rattle.cs_schema.proofs.TrimLaw.{keeps_validity}
+use Rattle.cs_profile.specs.Trim.{KeepsValidity}
+use Rattle.cs_profile.specs.Validity.{OneMeaning}
+use Rattle.cs_profile.proofs.Meanings as meanings
+use Rattle.cs_profile.proofs.TrimLaw.{keeps_validity}
 use Rattle.cs_schema.proofs.read.read_schema.Goals as goal
 
 pub new-requires-in-Bool : goal.new-requires-in-Bool

@@ -7,9 +7,9 @@ use Rattle.cs_document.specs.Document.{list, object}
 use Rattle.cs_document.specs.View.{doc_view, object_view, documents_of, members_of}
 use Rattle.cs_document.proofs.Views.{view-List, view-Object}
 use Rattle.cs_document.proofs.Maps.{texts, insert_last, texts_more, take_at}
-use Rattle.cs_schema.specs.SchemaDocument.{schema_view, definitions_view, slots_of}
+use Rattle.cs_profile.specs.SchemaDocument.{schema_view, definitions_view, slots_of}
 use Rattle.cs_schema.specs.Writing.{put_some, put_all}
-use Rattle.cs_schema.specs.declared.schema.Schema.{Schema}
+use Rattle.cs_profile.specs.declared.schema.Schema.{Schema}
 use Rattle.cs_schema.proofs.Walks.{not_nil}
 use Rattle.cs_schema.proofs.Writing.{keywords_put, from_items, from_not, mapped_more, some_listed, members_of-push, some_named, not_empty}
 use Rattle.cs_schema.proofs.write.+write.Goals as goal

@@ -1,8 +1,8 @@
 use Rattle.std.proofs.Common.{◌≡◌, List, ◌++◌, String, Global, map, take}
 use Rattle.cs_document.specs.View.{doc_view, object_view, members_of}
 use Rattle.cs_document.proofs.Maps.{texts}
-use Rattle.cs_schema.specs.SchemaDocument.{schema_view, definitions_view}
-use Rattle.cs_schema.specs.declared.schema.Schema.{Schema}
+use Rattle.cs_profile.specs.SchemaDocument.{schema_view, definitions_view}
+use Rattle.cs_profile.specs.declared.schema.Schema.{Schema}
 use Rattle.cs_schema.proofs.write.+write.Given as goal
 
 abbrev pub invariant-list_doc-loop-schema : goal.invariant-list_doc-loop-schema

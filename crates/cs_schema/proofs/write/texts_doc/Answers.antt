@@ -1,10 +1,10 @@
-use Rattle.std.proofs.Common.{◌≡◌, ◌+◌, ◌++◌, ◌∷◌, [], map, take, Some, sym, ap, ◌∙◌}
+use Rattle.std.proofs.Common.{map, take, Some, sym, ap, ◌∙◌}
 use Rattle.std.proofs.lemmas.List.{take_all}
 use Rattle.cs_document.specs.Document.{list, text}
 use Rattle.cs_document.specs.View.{doc_view, documents_of}
 use Rattle.cs_document.proofs.Maps.{take_at}
 use Rattle.cs_document.proofs.Views.{view-List, view-Text}
-use Rattle.cs_schema.specs.SchemaDocument.{text_document}
+use Rattle.cs_profile.specs.SchemaDocument.{text_document}
 use Rattle.cs_schema.proofs.Walks.{not_nil}
 use Rattle.cs_schema.proofs.Writing.{mapped_more, some_listed}
 use Rattle.cs_schema.proofs.write.texts_doc.Goals as goal

@@ -1,6 +1,6 @@
 use Rattle.std.proofs.Common.{◌≡◌, map, take}
 use Rattle.cs_document.specs.View.{doc_view}
-use Rattle.cs_schema.specs.SchemaDocument.{text_document}
+use Rattle.cs_profile.specs.SchemaDocument.{text_document}
 use Rattle.cs_schema.proofs.write.texts_doc.Given as goal
 
 abbrev pub invariant-loop-text : goal.invariant-loop-text

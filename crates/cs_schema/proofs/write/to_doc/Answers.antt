@@ -2,7 +2,7 @@ use Rattle.std.proofs.Common.{◌∙◌, sym, ap, ap₂, codes, Some, option_map
 use Rattle.cs_document.specs.Document.{object}
 use Rattle.cs_document.specs.View.{doc_view}
 use Rattle.cs_document.proofs.Views.{view-Object}
-use Rattle.cs_schema.specs.SchemaDocument.{present, slots_of, unless_no_map, definitions_view}
+use Rattle.cs_profile.specs.SchemaDocument.{present, slots_of, unless_no_map, definitions_view}
 use Rattle.cs_schema.specs.Writing.{put_some}
 use Rattle.cs_schema.proofs.Writing.{document_put}
 use Rattle.cs_schema.proofs.write.to_doc.Goals as goal

@@ -1,7 +1,7 @@
 use Rattle.std.proofs.Common.{◌≡◌, ℕ, ◌≤◌, List, Vec, Err, Bor, map, refl, sym, ap, subst, arith}
 use Rattle.std.proofs.lemmas.Result.{IfErr-weaker, IfOk-weaker, err_from_is_err_and}
 use Rattle.std.specs.declared.alloc.Global.{Global}
-use Rattle.cs_document.specs.Document.{depth}
+use Rattle.cs_document.specs.Document.{Document, depth}
 use Rattle.cs_doc.specs.Texts.{Reads, text_of}
 use Rattle.cs_package.specs.Environment.{Environment, Names}
 use Rattle.cs_package.specs.Height.{IsLow}
@@ -9,9 +9,11 @@ use Rattle.cs_schema.specs.SchemaDocument.{document_of, with_definitions, defini
 use Rattle.cs_schema.specs.Trim.{with_dialect}
 use Rattle.cs_compile.specs.declared.fault.CompileFault.{CompileFault}
 use Rattle.cs_compile.specs.declared.fault.CompileFault.TheVariants as compile
-use Rattle.cs_tool.specs.Accepted.{IsAccepted}
+use Rattle.cs_compile.specs.Translation.{IsTranslation}
+use Rattle.cs_tool.specs.Translated.{IsTranslated}
+use Rattle.cs_tool.specs.Accepted.{IsAccepted, IsReady}
 use Rattle.cs_tool.specs.Conversions.{of_compile}
-use Rattle.cs_tool.specs.Headline.{IsExport, IsReady, ExportRefusal}
+use Rattle.cs_tool.specs.Headline.{IsExport, ExportRefusal}
 use Rattle.cs_tool.specs.declared.fault.Fault.TheVariants.{OutOfMemory}
 use Rattle.cs_tool.proofs.Low.{low_files}
 use Rattle.cs_tool.proofs.calls.export.Goals as goal
@@ -23,7 +25,7 @@ low sources E a = subst IsLow (sym a.declares) (low_files sources a.files a.spel
 declared : (sources : List (List ℕ)) (root : List ℕ) (E : Environment) → ((F : Environment) → IsAccepted sources F → E ≡ F) → (e : CompileFault)
     → (e ≡ compile.UnknownRoot → (n : List ℕ) → Names E root n → ⊥) → IsReady sources root → of_compile e ≡ OutOfMemory
 declared sources root E one compile.OutOfMemory unknown ready = refl
-declared sources root E one compile.UnknownRoot unknown ready = absurd (unknown refl ready.name (subst (λ F. Names F root ready.name) (sym (one ready.environment ready.accepted)) ready.named))
+declared sources root E one compile.UnknownRoot unknown ready = absurd (unknown refl ready.1 (subst (λ F. Names F root ready.1) (sym (one ready.0 ready.2.accepted)) ready.2.named))
 
 pub returns-in_err-schema-clause-only : goal.returns-in_err-schema-clause-only
 returns-in_err-schema-clause-only c = λ ready.
@@ -53,10 +55,8 @@ returns-clause-found c =
     (λ (v : Vec ℕ Global). IsExport (map now c.args.sources.now) c.args.root.now v.items)
     (λ v h. record {
       environment = c.in_ok-package.package;
-      accepted = accepted;
-      taken = c.in_ok-package.ensures.taken;
       name = made.0;
-      named = made.1;
+      declares = record { accepted = accepted; taken = c.in_ok-package.ensures.taken; named = made.1 };
       schema = schema;
       written = h.0;
       nested = nested;
@@ -69,3 +69,20 @@ returns-clause-found c =
       one_validity = c.one_meaning-2.ensures;
       admits = made.2.meaning;
     }) c.text_of_schema.ensures.found
+
+-- what the text is read as is the one schema, and the sources declare the one environment
+translation : (sources : List (List ℕ)) (text : List ℕ) (E : Environment) (schema : Document) → ((F : Environment) → IsAccepted sources F → E ≡ F) → Reads text schema → IsTranslation E schema → IsTranslated sources text
+translation sources text E schema one read is F read_as accepted reads =
+    let same : schema ≡ read_as = cc (read.1, reads.1) in
+    subst (λ d. IsTranslation F d) same (subst (λ G. IsTranslation G schema) (one F accepted) is)
+
+pub returns-clause-translated : goal.returns-clause-translated
+returns-clause-translated c =
+    let now : Bor (List ℕ) → List ℕ = λ s. s.now in
+    let sources = map now c.args.sources.now in
+    let schema = document_of c.in_ok-schema.schema in
+    let nested = c.in_ok-schema.ensures.found.2.nested (low _ _ c.in_ok-package.ensures.accepted) in
+    IfOk-weaker _ (λ (v : Vec ℕ Global). (v.items ≡ text_of schema) × (depth schema ≤ 127 → Reads v.items schema))
+    (λ (v : Vec ℕ Global). IsTranslated sources v.items)
+    (λ v h. translation sources v.items c.in_ok-package.package schema c.in_ok-package.ensures.one (h.1 (omega (arith, nested))) c.in_ok-schema.ensures.translated)
+    c.text_of_schema.ensures.found

@@ -8,8 +8,8 @@ use Rattle.cs_document.specs.View.{doc_view}
 use Rattle.cs_schema.specs.Trim.{trim, KeepsValidity}
 use Rattle.cs_schema.specs.Validity.{IsValidity, OneMeaning}
 use Rattle.cs_schema.specs.Refusal.{IsRefusal}
-use Rattle.cs_schema.specs.declared.fault.SchemaFault.{SchemaFault}
-use Rattle.cs_schema.specs.declared.fault.SchemaFault.TheVariants as schema
+use Rattle.cs_profile.specs.declared.fault.SchemaFault.{SchemaFault}
+use Rattle.cs_profile.specs.declared.fault.SchemaFault.TheVariants as schema
 use Rattle.cs_validate.specs.declared.fault.ValidateFault.{ValidateFault}
 use Rattle.cs_validate.specs.declared.fault.ValidateFault.TheVariants as validate
 use Rattle.cs_tool.specs.Conversions.{of_document, of_schema, of_validate}

@@ -8,7 +8,8 @@ use Rattle.cs_package.specs.Environment.{Environment, Names}
 use Rattle.cs_instance.specs.declared.fault.InstanceFault.{InstanceFault}
 use Rattle.cs_instance.specs.declared.fault.InstanceFault.TheVariants as instance
 use Rattle.cs_tool.specs.Conversions.{of_document, of_instance}
-use Rattle.cs_tool.specs.Headline.{IsReady, VetRefusal}
+use Rattle.cs_tool.specs.Accepted.{IsReady}
+use Rattle.cs_tool.specs.Headline.{VetRefusal}
 use Rattle.cs_tool.specs.declared.fault.Fault.TheVariants.{OutOfMemory}
 use Rattle.cs_tool.proofs.calls.verdict.Goals as goal
 
@@ -32,8 +33,8 @@ pub returns-in_err-is_instance-clause-refused : goal.returns-in_err-is_instance-
 returns-in_err-is_instance-clause-refused c = λ sources ready one.
     let root = c.args.root.now in
     let p = err_from_is_err_and c.from_residual-in_err-is_instance.result c.from_residual-in_err-is_instance.ensures.1 in
-    let named = subst (λ F. Names F root ready.name) (sym (one ready.environment ready.accepted)) ready.named in
-    let memory = by_root root c.args.guarded c.in_err-is_instance.field-0.0 (λ is. c.in_err-is_instance.ensures.unknown (ap Err is)) ready.name named in
+    let named = subst (λ F. Names F root ready.1) (sym (one ready.0 ready.2.accepted)) ready.2.named in
+    let memory = by_root root c.args.guarded c.in_err-is_instance.field-0.0 (λ is. c.in_err-is_instance.ensures.unknown (ap Err is)) ready.1 named in
     rw (p.1, p.2) (subst (VetRefusal sources root c.args.doc.now) (sym memory) tt)
 
 pub returns-in_err-is_instance-clause-only : goal.returns-in_err-is_instance-clause-only
@@ -45,10 +46,8 @@ pub returns-clause-found : goal.returns-clause-found
 returns-clause-found c = λ sources accepted.
     let answered = c.in_ok-is_instance.ensures.answer in record {
       environment = c.args.guarded;
-      accepted = accepted;
-      taken = c.requires;
       name = answered.0;
-      named = answered.1;
+      declares = record { accepted = accepted; taken = c.requires; named = answered.1 };
       document = doc_view c.in_ok-doc.doc;
       read = c.in_ok-doc.ensures.found;
       one_instance = c.is_instance.ensures.one_meaning;

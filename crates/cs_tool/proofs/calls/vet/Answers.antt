@@ -2,8 +2,7 @@ use Rattle.std.proofs.Common.{◌≡◌, ℕ, true, false, List, Option, Some, N
 use Rattle.std.specs.Option.{is_some}
 use Rattle.cs_package.specs.Environment.{Environment, Names, name_at}
 use Rattle.cs_instance.specs.Taken.{IsTakenPackage}
-use Rattle.cs_tool.specs.Accepted.{IsAccepted}
-use Rattle.cs_tool.specs.Headline.{IsReady}
+use Rattle.cs_tool.specs.Accepted.{IsAccepted, IsReady}
 use Rattle.cs_tool.proofs.calls.vet.Goals as goal
 
 none_known : {X : Type 0} (o : Option X) (P : Type 0) → is_some o ≡ false → IfNone o P → P
@@ -16,11 +15,11 @@ some_known (Some x) P is h = (x, h)
 
 module _ (sources : List (List ℕ)) (root : List ℕ) (E : Environment) where
   ready : IsAccepted sources E → IsTakenPackage E → (n : List ℕ) → Names E root n → IsReady sources root
-  ready accepted taken n named = record { environment = E; accepted = accepted; taken = taken; name = n; named = named }
+  ready accepted taken n named = (E, n, record { accepted = accepted; taken = taken; named = named })
 
   -- a root that is declared isn't unknown
   declared : ((F : Environment) → IsAccepted sources F → E ≡ F) → ((n : List ℕ) → Names E root n → ⊥) → IsReady sources root → ⊥
-  declared one unknown r = unknown r.name (subst (λ F. Names F root r.name) (sym (one r.environment r.accepted)) r.named)
+  declared one unknown r = unknown r.1 (subst (λ F. Names F root r.1) (sym (one r.0 r.2.accepted)) r.2.named)
 
 pub returns-then-is_none-clause-only : goal.returns-then-is_none-clause-only
 returns-then-is_none-clause-only c = λ d r reads.
@@ -52,5 +51,5 @@ returns-clause-refused c =
 
 pub returns-clause-only : goal.returns-clause-only
 returns-clause-only c = λ d r reads.
-    let same = sym (c.in_ok-guarded.ensures.one r.environment r.accepted) in
-    c.verdict.ensures.only r.name d (subst (λ F. Names F c.args.root.now r.name) same r.named) reads
+    let same = sym (c.in_ok-guarded.ensures.one r.0 r.2.accepted) in
+    c.verdict.ensures.only r.1 d (subst (λ F. Names F c.args.root.now r.1) same r.2.named) reads

@@ -1,7 +1,7 @@
 use Rattle.std.proofs.Common.{◌≡◌, ◌&&◌, ◌<◌, ◌≤◌, true, false, length, get_or, sym, ap, ap₂, ◌∙◌, subst, rules}
 use Rattle.cs_document.specs.View.{doc_view}
-use Rattle.cs_schema.specs.SchemaDocument.{schema_view, slots_of, present}
-use Rattle.cs_schema.specs.declared.schema.Schema.{the_lemmas}
+use Rattle.cs_profile.specs.SchemaDocument.{schema_view, slots_of, present}
+use Rattle.cs_profile.specs.declared.schema.Schema.{the_lemmas}
 use Rattle.cs_document.specs.Document.{entries}
 use Rattle.std.specs.List.{list_all}
 use Rattle.std.proofs.lemmas.List.{take_all}

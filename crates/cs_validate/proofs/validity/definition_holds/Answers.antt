@@ -1,7 +1,7 @@
 use Rattle.std.proofs.Common.{false, sym, ap, ◌∙◌}
 use Rattle.std.specs.Option.{option_map_or}
 use Rattle.cs_document.specs.View.{doc_view}
-use Rattle.cs_schema.specs.SchemaDocument.{schema_view, document_of}
+use Rattle.cs_profile.specs.SchemaDocument.{schema_view, document_of}
 use Rattle.cs_validate.proofs.Roots.{definition_shaped}
 use Rattle.cs_validate.proofs.validity.definition_holds.Goals as goal
 

@@ -2,7 +2,7 @@ use Rattle.std.proofs.Common.{◌≡◌, ◌&&◌, true, sym, ap, ◌∙◌, sub
 use Rattle.std.specs.List.{list_all}
 use Rattle.cs_document.specs.Document.{object, entries}
 use Rattle.cs_document.specs.View.{doc_view}
-use Rattle.cs_schema.specs.SchemaDocument.{schema_view, slots_of, present, document_of}
+use Rattle.cs_profile.specs.SchemaDocument.{schema_view, slots_of, present, document_of}
 use Rattle.cs_validate.specs.Shaped.{AreShaped}
 use Rattle.cs_validate.specs.Asserted.{unless_absent, slot_holds, but_reference, defined_holds}
 use Rattle.cs_validate.proofs.Shapes.{view-Object}

@@ -1,0 +1,111 @@
+-- Documents, worked by the definitions. A wrong expectation stops the check here.
+use Rattle.std.proofs.Common.{◌≡◌, ℕ, pos, neg_ℤ, true, false, if◌then◌else◌, suc, List, [], ◌∷◌, map, codes, Some, None, refl, arith, rules}
+use Rattle.cs_document.specs.Document.{Document, null, boolean, integer, text, list, object, Members, no_members, member, Entry, IsDocument, document_eq, depth, put, under, get_member, entries}
+use Rattle.cs_document.specs.Opened.{opened, a_null, a_boolean, an_integer, a_text, a_list, an_object}
+use Rattle.cs_document.specs.View.{documents_of}
+
+-- ---- short forms
+
+abbrev number : ℕ → Document
+number n = integer (pos n)
+
+abbrev array : List Document → Document
+array ds = list (documents_of ds)
+
+abbrev members : List (Entry Document) → Members
+members [] = no_members
+members (e ∷ es) = member e.0 e.1 (members es)
+
+abbrev map_of : List (Entry Document) → Document
+map_of es = object (members es)
+
+abbrev a : List ℕ
+a = codes "a"
+
+abbrev b : List ℕ
+b = codes "b"
+
+-- ---- integers of 64 signed bits, at every depth
+
+greatest : IsDocument (number 9223372036854775807) × IsDocument (integer (neg_ℤ (pos 9223372036854775808)))
+greatest = (search rules, search rules)
+
+too_great : IsDocument (number 9223372036854775808) → ⊥
+too_great h = omega (arith, h)
+
+too_small : IsDocument (integer (neg_ℤ (pos 9223372036854775809))) → ⊥
+too_small h = omega (arith, h)
+
+too_great_inside : IsDocument (array (map_of ((a, number 9223372036854775808) ∷ []) ∷ [])) → ⊥
+too_great_inside h = too_great h.0.1
+
+-- ---- each key once, in byte order
+
+in_order : IsDocument (map_of ((codes "", null) ∷ (codes "B", null) ∷ (a, null) ∷ (codes "aa", null) ∷ (b, null) ∷ []))
+in_order = search rules
+
+twice : IsDocument (map_of ((a, null) ∷ (a, null) ∷ [])) → ⊥
+twice h = let e = h.0.0 in cc
+
+descending : IsDocument (map_of ((b, null) ∷ (a, null) ∷ [])) → ⊥
+descending h = let e = h.0.0 in cc
+
+-- the third key is the first again
+later : IsDocument (map_of ((a, null) ∷ (b, null) ∷ (a, null) ∷ [])) → ⊥
+later h = let e = h.0.1.0 in cc
+
+-- ---- how deep lists and maps nest
+
+depths : map depth (null ∷ boolean true ∷ number 5 ∷ text a ∷ array [] ∷ map_of [] ∷ array (number 1 ∷ []) ∷ array (null ∷ array [] ∷ array (map_of [] ∷ []) ∷ []) ∷ map_of ((a, array []) ∷ (b, null) ∷ []) ∷ map_of ((a, null) ∷ (b, map_of ((a, array []) ∷ [])) ∷ []) ∷ [])
+    ≡ 0 ∷ 0 ∷ 0 ∷ 0 ∷ 1 ∷ 1 ∷ 1 ∷ 3 ∷ 2 ∷ 3 ∷ []
+depths = refl
+
+-- ---- which documents are the same
+
+-- two different ones of each form
+abbrev forms : List Document
+forms = null ∷ boolean true ∷ boolean false ∷ number 1 ∷ integer (neg_ℤ (pos 1)) ∷ text a ∷ text b
+    ∷ array [] ∷ array (null ∷ []) ∷ array (null ∷ null ∷ []) ∷ array (number 1 ∷ []) ∷ array (null ∷ number 1 ∷ [])
+    ∷ map_of [] ∷ map_of ((a, null) ∷ []) ∷ map_of ((b, null) ∷ []) ∷ map_of ((a, number 1) ∷ []) ∷ map_of ((a, null) ∷ (b, null) ∷ []) ∷ []
+
+-- at which places of the list documents stand that are the same as d
+abbrev places_of : Document → List Document → ℕ → List ℕ
+places_of d [] k = []
+places_of d (e ∷ es) k = if document_eq d e then k ∷ places_of d es (suc k) else places_of d es (suc k)
+
+-- each is the same as itself alone
+each_itself : map (λ d. places_of d forms 0) forms
+    ≡ (0 ∷ []) ∷ (1 ∷ []) ∷ (2 ∷ []) ∷ (3 ∷ []) ∷ (4 ∷ []) ∷ (5 ∷ []) ∷ (6 ∷ []) ∷ (7 ∷ []) ∷ (8 ∷ []) ∷ (9 ∷ []) ∷ (10 ∷ []) ∷ (11 ∷ []) ∷ (12 ∷ []) ∷ (13 ∷ []) ∷ (14 ∷ []) ∷ (15 ∷ []) ∷ (16 ∷ []) ∷ []
+each_itself = refl
+
+-- ---- maps
+
+-- a map with the keys `b` and `d`
+abbrev two : Members
+two = members ((b, number 2) ∷ (codes "d", number 4) ∷ [])
+
+-- a new key goes to its place, and one that is there gets the new value
+with_key : map (λ k. entries (put k null two)) (a ∷ b ∷ codes "c" ∷ codes "d" ∷ codes "e" ∷ [])
+    ≡ ((a, null) ∷ (b, number 2) ∷ (codes "d", number 4) ∷ [])
+    ∷ ((b, null) ∷ (codes "d", number 4) ∷ [])
+    ∷ ((b, number 2) ∷ (codes "c", null) ∷ (codes "d", number 4) ∷ [])
+    ∷ ((b, number 2) ∷ (codes "d", null) ∷ [])
+    ∷ ((b, number 2) ∷ (codes "d", number 4) ∷ (codes "e", null) ∷ []) ∷ []
+with_key = refl
+
+first_key : entries (put a null no_members) ≡ (a, null) ∷ []
+first_key = refl
+
+at_keys : map (λ k. under k (entries two)) (a ∷ b ∷ codes "c" ∷ codes "d" ∷ codes "e" ∷ codes "" ∷ codes "bb" ∷ [])
+    ≡ None ∷ Some (number 2) ∷ None ∷ Some (number 4) ∷ None ∷ None ∷ None ∷ []
+at_keys = refl
+
+by_order : map (λ k. get_member k two) (a ∷ b ∷ codes "c" ∷ codes "d" ∷ codes "e" ∷ codes "" ∷ codes "bb" ∷ [])
+    ≡ None ∷ Some (number 2) ∷ None ∷ Some (number 4) ∷ None ∷ None ∷ None ∷ []
+by_order = refl
+
+-- ---- one level of each form
+
+levels : map opened (null ∷ boolean true ∷ boolean false ∷ number 5 ∷ text a ∷ array (null ∷ array [] ∷ []) ∷ map_of ((a, null) ∷ (b, map_of []) ∷ []) ∷ [])
+    ≡ a_null ∷ a_boolean true ∷ a_boolean false ∷ an_integer (pos 5) ∷ a_text a ∷ a_list (null ∷ array [] ∷ []) ∷ an_object ((a, null) ∷ (b, map_of []) ∷ []) ∷ []
+levels = refl

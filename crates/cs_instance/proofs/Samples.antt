@@ -1,0 +1,241 @@
+-- Each form of expression with those documents of a list that are its instances. A wrong expectation, or a definition
+-- of the meaning that is turned, stops the check here.
+use Rattle.std.proofs.Common.{◌≡◌, ℕ, ℤ, pos, neg_ℤ, Bool, true, false, List, [], ◌∷◌, map, filter, Some, None, codes, if◌then◌else◌, refl, ap₂, ◌∙◌, rules}
+use Rattle.std.specs.List.{list_all}
+use Rattle.cs_document.specs.Document as json
+use Rattle.cs_document.specs.Document.{Document}
+use Rattle.cs_package.specs.Expression as cue
+use Rattle.cs_package.specs.Expression.{Expression}
+use Rattle.cs_package.specs.Environment.{Environment}
+use Rattle.cs_instance.specs.Instance.{Rule, node, IsInstance}
+use Rattle.cs_instance.specs.Taken.{IsTaken, AllTaken, IsTakenPackage}
+use Rattle.cs_instance.proofs.Each.{Each, both_true}
+use Rattle.cs_instance.proofs.Meaning.{is_settled, value_after, computed}
+use Rattle.cs_instance.proofs.Rows.{all_of, one_of, int, string, more_than, refers_to, list_of, regular, optional, required, end, closed, opened, number, word, array, object}
+
+-- of these documents, just those beside an expression are its instances
+pub record Admits (E : Environment) (documents : List Document) (rows : List (Expression × List Document)) : Type 0 where
+  pub instances : (I : Rule → Document → Bool) → IsInstance E I → map (λ r. filter (I (node r.0)) documents) rows ≡ map (λ (r : Expression × List Document). r.1) rows
+
+each_computed : (E : Environment) (I : Rule → Document → Bool) → IsInstance E I → (e : Expression) (xs : List Document)
+    → list_all (is_settled E 10 (node e)) xs ≡ true → filter (I (node e)) xs ≡ filter (value_after E 10 (node e)) xs
+each_computed E I h e [] s = refl
+each_computed E I h e (x ∷ xs) s =
+    let t = both_true (is_settled E 10 (node e) x) _ s in
+    ap₂ (λ b ys. if b then x ∷ ys else ys) (computed E I h 10 (node e) x t.0) (each_computed E I h e xs t.1)
+
+rows_computed : (E : Environment) (I : Rule → Document → Bool) → IsInstance E I → (xs : List Document) (rows : List (Expression × List Document))
+    → list_all (λ r. list_all (is_settled E 10 (node r.0)) xs) rows ≡ true
+    → map (λ r. filter (I (node r.0)) xs) rows ≡ map (λ (r : Expression × List Document). filter (value_after E 10 (node r.0)) xs) rows
+rows_computed E I h xs [] s = refl
+rows_computed E I h xs (r ∷ rows) s =
+    let t = both_true (list_all (is_settled E 10 (node r.0)) xs) _ s in
+    ap₂ (λ ys rest. ys ∷ rest) (each_computed E I h r.0 xs t.0) (rows_computed E I h xs rows t.1)
+
+by_values : {E : Environment} {documents : List Document} {rows : List (Expression × List Document)}
+    → list_all (λ r. list_all (is_settled E 10 (node r.0)) documents) rows ≡ true
+    → map (λ r. filter (value_after E 10 (node r.0)) documents) rows ≡ map (λ (r : Expression × List Document). r.1) rows
+    → Admits E documents rows
+by_values {E} {documents} {rows} s e = record { instances = λ I h. rows_computed E I h documents rows s ∙ e }
+
+-- ---- documents
+
+abbrev below_zero : ℕ → ℤ
+below_zero n = neg_ℤ (pos n)
+
+abbrev minus_one : Document
+minus_one = json.integer (below_zero 1)
+
+abbrev yes : Document
+yes = json.boolean true
+
+abbrev no : Document
+no = json.boolean false
+
+abbrev no_text : Document
+no_text = word []
+
+abbrev a_text : Document
+a_text = word (codes "s")
+
+-- {"a":1}
+abbrev a_one : Document
+a_one = object ((codes "a", number 1) ∷ [])
+
+abbrev A : List ℕ
+A = codes "a"
+
+abbrev B : List ℕ
+B = codes "b"
+
+abbrev a_is : Document → Document
+a_is x = object ((A, x) ∷ [])
+
+abbrev a_four : Document
+a_four = a_is (number 4)
+
+abbrev b_two : Document
+b_two = object ((B, number 2) ∷ [])
+
+abbrev a_and_b : Document
+a_and_b = object ((A, number 1) ∷ (B, number 2) ∷ [])
+
+-- {"a":{"b":2}} and {"a":{"b":2,"c":3}}
+abbrev inner : Document
+inner = a_is b_two
+
+abbrev inner_more : Document
+inner_more = a_is (object ((B, number 2) ∷ (codes "c", number 3) ∷ []))
+
+abbrev least : Document
+least = json.integer (below_zero 9223372036854775808)
+
+abbrev behind_least : Document
+behind_least = json.integer (below_zero 9223372036854775807)
+
+abbrev before_greatest : Document
+before_greatest = number 9223372036854775806
+
+abbrev greatest : Document
+greatest = number 9223372036854775807
+
+abbrev every_kind : List Document
+every_kind = json.null ∷ yes ∷ no ∷ minus_one ∷ number 0 ∷ number 1 ∷ number 2 ∷ no_text ∷ a_text ∷ array [] ∷ array (number 1 ∷ []) ∷ object [] ∷ a_one ∷ []
+
+-- ---- each form, in every environment
+
+module _ (E : Environment) where
+  literals_and_kinds : Admits E every_kind
+      ((cue.top, every_kind)
+      ∷ (cue.bottom, [])
+      ∷ (cue.null, json.null ∷ [])
+      ∷ (cue.boolean true, yes ∷ [])
+      ∷ (cue.boolean false, no ∷ [])
+      ∷ (cue.integer (pos 1), number 1 ∷ [])
+      ∷ (cue.integer (below_zero 1), minus_one ∷ [])
+      ∷ (cue.text [], no_text ∷ [])
+      ∷ (cue.text (codes "s"), a_text ∷ [])
+      ∷ (cue.kind cue.int, minus_one ∷ number 0 ∷ number 1 ∷ number 2 ∷ [])
+      ∷ (cue.kind cue.number, minus_one ∷ number 0 ∷ number 1 ∷ number 2 ∷ [])
+      ∷ (cue.kind cue.string, no_text ∷ a_text ∷ [])
+      ∷ (cue.kind cue.bool, yes ∷ no ∷ [])
+      ∷ [])
+  literals_and_kinds = by_values refl refl
+
+  -- ranges with and without a greatest integer, bounds in each relation, and the three forms of `!=`
+  bounds : Admits E every_kind
+      ((cue.range (pos 0) None, number 0 ∷ number 1 ∷ number 2 ∷ [])
+      ∷ (cue.range (pos 0) (Some (pos 1)), number 0 ∷ number 1 ∷ [])
+      ∷ (cue.range (below_zero 1) (Some (pos 0)), minus_one ∷ number 0 ∷ [])
+      ∷ (cue.bound cue.less (pos 1), minus_one ∷ number 0 ∷ [])
+      ∷ (cue.bound cue.at_most (pos 1), minus_one ∷ number 0 ∷ number 1 ∷ [])
+      ∷ (cue.bound cue.more (pos 0), number 1 ∷ number 2 ∷ [])
+      ∷ (cue.bound cue.at_least (pos 0), number 0 ∷ number 1 ∷ number 2 ∷ [])
+      ∷ (cue.not_integer (pos 1), minus_one ∷ number 0 ∷ number 2 ∷ [])
+      ∷ (cue.not_text (codes "s"), no_text ∷ [])
+      ∷ (cue.not_null, yes ∷ no ∷ minus_one ∷ number 0 ∷ number 1 ∷ number 2 ∷ no_text ∷ a_text ∷ array [] ∷ array (number 1 ∷ []) ∷ object [] ∷ a_one ∷ [])
+      ∷ [])
+  bounds = by_values refl refl
+
+  -- operands, structs with each mark, closed and opened, and lists with each rest
+  parts : Admits E every_kind
+      ((all_of (int ∷ more_than (pos 0) ∷ cue.not_integer (pos 2) ∷ []), number 1 ∷ [])
+      ∷ (one_of (cue.integer (pos 2) ∷ string ∷ closed end ∷ []), number 2 ∷ no_text ∷ a_text ∷ object [] ∷ [])
+      ∷ (closed end, object [] ∷ [])
+      ∷ (opened end, object [] ∷ a_one ∷ [])
+      ∷ (closed (regular (codes "a") int end), a_one ∷ [])
+      ∷ (closed (optional (codes "a") int end), object [] ∷ a_one ∷ [])
+      ∷ (closed (required (codes "a") int end), a_one ∷ [])
+      ∷ (closed (optional (codes "b") int end), object [] ∷ [])
+      ∷ (opened (optional (codes "b") int end), object [] ∷ a_one ∷ [])
+      ∷ (opened (regular (codes "b") int end), [])
+      ∷ (opened (regular (codes "a") string end), [])
+      ∷ (opened (optional (codes "a") string end), object [] ∷ [])
+      ∷ (opened (required (codes "a") string end), [])
+      ∷ (list_of [] cue.closed, array [] ∷ [])
+      ∷ (list_of [] cue.any, array [] ∷ array (number 1 ∷ []) ∷ [])
+      ∷ (list_of [] (cue.each int), array [] ∷ array (number 1 ∷ []) ∷ [])
+      ∷ (list_of [] (cue.each string), array [] ∷ [])
+      ∷ (list_of (int ∷ []) cue.closed, array (number 1 ∷ []) ∷ [])
+      ∷ (list_of (int ∷ []) cue.any, array (number 1 ∷ []) ∷ [])
+      ∷ (list_of (string ∷ []) (cue.each int), [])
+      ∷ (list_of (int ∷ int ∷ []) cue.any, [])
+      ∷ [])
+  parts = by_values refl refl
+
+  -- the ends of 64 signed bits, and the integers beside them
+  at_the_ends : Admits E (least ∷ behind_least ∷ before_greatest ∷ greatest ∷ [])
+      ((cue.range (below_zero 9223372036854775808) (Some (pos 9223372036854775807)), least ∷ behind_least ∷ before_greatest ∷ greatest ∷ [])
+      ∷ (cue.bound cue.more (below_zero 9223372036854775808), behind_least ∷ before_greatest ∷ greatest ∷ [])
+      ∷ (cue.bound cue.at_least (below_zero 9223372036854775808), least ∷ behind_least ∷ before_greatest ∷ greatest ∷ [])
+      ∷ (cue.bound cue.less (below_zero 9223372036854775808), [])
+      ∷ (cue.bound cue.less (pos 9223372036854775807), least ∷ behind_least ∷ before_greatest ∷ [])
+      ∷ (cue.bound cue.at_most (pos 9223372036854775807), least ∷ behind_least ∷ before_greatest ∷ greatest ∷ [])
+      ∷ (cue.integer (pos 9223372036854775807), greatest ∷ [])
+      ∷ (cue.not_integer (below_zero 9223372036854775808), behind_least ∷ before_greatest ∷ greatest ∷ [])
+      ∷ [])
+  at_the_ends = by_values refl refl
+
+  -- several labels, a label that is declared twice, and structs inside
+  structs : Admits E (object [] ∷ a_one ∷ a_four ∷ a_is a_text ∷ b_two ∷ a_and_b ∷ inner ∷ inner_more ∷ [])
+      ((closed (regular A int (regular B int end)), a_and_b ∷ [])
+      ∷ (closed (regular A int (optional B int end)), a_one ∷ a_four ∷ a_and_b ∷ [])
+      ∷ (closed (optional A int (optional B int end)), object [] ∷ a_one ∷ a_four ∷ b_two ∷ a_and_b ∷ [])
+      ∷ (closed (optional A int (required B int end)), b_two ∷ a_and_b ∷ [])
+      ∷ (opened (regular A int end), a_one ∷ a_four ∷ a_and_b ∷ [])
+      ∷ (closed (optional A int (regular A (more_than (pos 3)) end)), a_four ∷ [])
+      ∷ (closed (regular A (more_than (pos 3)) (optional A int end)), a_four ∷ [])
+      ∷ (closed (optional A int (optional A string end)), object [] ∷ [])
+      ∷ (opened (optional A cue.bottom end), object [] ∷ b_two ∷ [])
+      ∷ (closed (regular A (closed (regular B int end)) end), inner ∷ [])
+      ∷ (closed (regular A (opened (regular B int end)) end), inner ∷ inner_more ∷ [])
+      ∷ (opened (regular A (closed end) end), [])
+      ∷ [])
+  structs = by_values refl refl
+
+  -- fronts, rests, and lists inside
+  lists : Admits E (array [] ∷ array (number 1 ∷ []) ∷ array (number 1 ∷ a_text ∷ []) ∷ array (number 1 ∷ a_text ∷ yes ∷ []) ∷ array (a_text ∷ number 1 ∷ []) ∷ array (array (number 1 ∷ []) ∷ []) ∷ array (number 1 ∷ number 2 ∷ number 1 ∷ []) ∷ [])
+      ((list_of (int ∷ string ∷ []) cue.closed, array (number 1 ∷ a_text ∷ []) ∷ [])
+      ∷ (list_of (int ∷ string ∷ []) (cue.each (cue.kind cue.bool)), array (number 1 ∷ a_text ∷ []) ∷ array (number 1 ∷ a_text ∷ yes ∷ []) ∷ [])
+      ∷ (list_of (int ∷ []) (cue.each string), array (number 1 ∷ []) ∷ array (number 1 ∷ a_text ∷ []) ∷ [])
+      ∷ (list_of (int ∷ []) cue.any, array (number 1 ∷ []) ∷ array (number 1 ∷ a_text ∷ []) ∷ array (number 1 ∷ a_text ∷ yes ∷ []) ∷ array (number 1 ∷ number 2 ∷ number 1 ∷ []) ∷ [])
+      ∷ (list_of [] (cue.each int), array [] ∷ array (number 1 ∷ []) ∷ array (number 1 ∷ number 2 ∷ number 1 ∷ []) ∷ [])
+      ∷ (list_of [] (cue.each cue.bottom), array [] ∷ [])
+      ∷ (list_of (list_of (int ∷ []) cue.closed ∷ []) cue.closed, array (array (number 1 ∷ []) ∷ []) ∷ [])
+      ∷ [])
+  lists = by_values refl refl
+
+-- ---- references
+
+-- #A: int and again #A: >2, #B: #A; #C isn't declared
+abbrev named : Environment
+named = (A, int ∷ more_than (pos 2) ∷ []) ∷ (B, refers_to A ∷ []) ∷ []
+
+references : Admits named (number 2 ∷ number 3 ∷ a_text ∷ array (number 2 ∷ []) ∷ array (number 3 ∷ []) ∷ a_one ∷ a_four ∷ object [] ∷ [])
+    ((refers_to A, number 3 ∷ [])
+    ∷ (refers_to B, number 3 ∷ [])
+    ∷ (refers_to (codes "c"), [])
+    ∷ (one_of (refers_to B ∷ string ∷ []), number 3 ∷ a_text ∷ [])
+    ∷ (all_of (refers_to B ∷ cue.not_integer (pos 3) ∷ []), [])
+    ∷ (closed (regular A (refers_to B) end), a_four ∷ [])
+    ∷ (closed (optional A (refers_to A) end), a_four ∷ object [] ∷ [])
+    ∷ (list_of (refers_to A ∷ []) cue.closed, array (number 3 ∷ []) ∷ [])
+    ∷ (list_of [] (cue.each (refers_to B)), array (number 3 ∷ []) ∷ [])
+    ∷ [])
+references = by_values refl refl
+
+-- ---- the forms that are taken so far
+
+taken : AllTaken (int ∷ cue.kind cue.number ∷ string ∷ cue.kind cue.bool ∷ cue.integer (pos 1) ∷ cue.range (pos 0) None ∷ more_than (pos 1) ∷ all_of (int ∷ all_of (int ∷ int ∷ []) ∷ []) ∷ [])
+taken = search rules
+
+-- each of the others, and one of them inside
+not_taken : Each (λ e. IsTaken e → ⊥) (cue.top ∷ cue.bottom ∷ cue.null ∷ cue.boolean true ∷ cue.text A ∷ refers_to A ∷ cue.not_integer (pos 1) ∷ cue.not_text A ∷ cue.not_null ∷ one_of (int ∷ int ∷ []) ∷ closed end ∷ list_of [] cue.any ∷ all_of (int ∷ cue.null ∷ []) ∷ [])
+not_taken = (λ h. h, (λ h. h, (λ h. h, (λ h. h, (λ h. h, (λ h. h, (λ h. h, (λ h. h, (λ h. h, (λ h. h, (λ h. h, (λ h. h, (λ h. h.1.0, tt)))))))))))))
+
+package_taken : IsTakenPackage ((A, int ∷ more_than (pos 1) ∷ []) ∷ (B, int ∷ []) ∷ [])
+package_taken = search rules
+
+-- the second body of the second definition
+package_not_taken : IsTakenPackage ((A, int ∷ []) ∷ (B, int ∷ cue.null ∷ []) ∷ []) → ⊥
+package_not_taken h = h.1.0.1.0

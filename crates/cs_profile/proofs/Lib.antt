@@ -1,0 +1,15 @@
+pub mod Each
+pub mod Unfolding
+pub mod Locality
+pub mod Chains
+pub mod Meanings
+pub mod Unfolded
+pub mod Rows
+pub mod Samples
+pub mod Walks
+pub mod Slots
+pub mod Definitions
+pub mod Trimmed
+pub mod Faultless
+pub mod Profiles
+pub mod TrimLaw

@@ -1,0 +1,121 @@
+-- A schema document in which no definition reaches itself directly has one validity: by induction on the
+-- document, then on chains of direct references, then on the schema.
+use Rattle.std.proofs.Common.{◌≡◌, ℕ, zero, suc, Bool, true, false, List, Option, Some, None, pos, refl, map}
+use Rattle.std.specs.Prelude.{option_to_list, option_and_then}
+use Rattle.std.specs.Option.{option_map_or}
+use Rattle.std.specs.List.{flat_map}
+use Rattle.cs_document.specs.Document.{Document, null, boolean, integer, text, list, object, Documents, no_documents, document, Members, no_members, member, elements, entries, Entry, under}
+use Rattle.cs_document.specs.Opened.{opened}
+use Rattle.cs_profile.specs.Keywords.{Keyword, Refers, HasType, OneOf, Minimum, Maximum, Above, Below, Requires, Properties, Prefix, MinItems, AllOf, AnyOf, Not, keywords, Kind, kinds, reference_start, text_after, elements_of, defined}
+use Rattle.cs_profile.specs.Asked.{nothing, has_kind, assertion, assertion_at, asked}
+use Rattle.cs_profile.specs.Validity.{held, OneMeaning}
+use Rattle.cs_profile.specs.Loops.{by_keyword, value_names, direct_names, keyword_names, list_names, each_names, NoLoop}
+use Rattle.cs_profile.proofs.Each.{Each, each_of, each_append, each_front, each_back}
+use Rattle.cs_profile.proofs.Locality.{values, children, each_within, here_of, here_parts, inside_parts, held_same}
+use Rattle.cs_profile.proofs.Chains.{Short, most_steps, all_short}
+use Rattle.cs_profile.proofs.Unfolding.{unfolds_only, solution}
+
+module _ (R : Document) (P : Document → Document → Type 0) (step : (s x : Document) → Each (λ p. P p x) (here_parts (asked R s)) → Each (λ y. (p : Document) → P p y) (children x) → P s x) where
+  module _ (x : Document) (kids : Each (λ y. (p : Document) → P p y) (children x)) where
+    module _ (Q : List ℕ → Type 0) (by_name : (n : List ℕ) (s : Document) → defined R n ≡ Some s → Q n → P s x) where
+      through_name : (o : Option (List ℕ)) → Each Q (option_to_list o) → Each (λ p. P p x) (option_to_list (option_and_then (defined R) o))
+      through_name None d = tt
+      through_name (Some n) d = go (defined R n) refl
+        where
+          go : (o : Option Document) → defined R n ≡ o → Each (λ p. P p x) (option_to_list o)
+          go None e = tt
+          go (Some s) e = (by_name n s e d.0, tt)
+
+      through_keyword : (beside : List (Entry Document)) (k : Option Keyword) (v : Document) → (Each Q (direct_names v) → P v x) → (Each Q (list_names v) → Each (λ p. P p x) (elements_of v))
+          → Each Q (by_keyword k (value_names v))
+          → Each (λ p. P p x) (here_of (option_map_or (λ k. assertion R beside k v) k nothing))
+      through_keyword beside (Some Refers) (text t) itself listed d = through_name (text_after reference_start t) d
+      through_keyword beside (Some Not) v itself listed d = (itself d, tt)
+      through_keyword beside (Some AllOf) (list ss) itself listed d = listed d
+      through_keyword beside (Some AnyOf) (list ss) itself listed d = listed d
+      through_keyword beside (Some HasType) (text t) itself listed d = no_part (under t kinds)
+        where
+          no_part : (o : Option Kind) → Each (λ p. P p x) (here_of {I = Document} (option_map_or has_kind o nothing))
+          no_part None = tt
+          no_part (Some k) = tt
+      through_keyword beside (Some OneOf) (list vs) itself listed d = tt
+      through_keyword beside (Some Minimum) (integer l) itself listed d = tt
+      through_keyword beside (Some Maximum) (integer l) itself listed d = tt
+      through_keyword beside (Some Above) (integer l) itself listed d = tt
+      through_keyword beside (Some Below) (integer l) itself listed d = tt
+      through_keyword beside (Some Requires) (list ts) itself listed d = tt
+      through_keyword beside (Some Properties) (object ss) itself listed d = tt
+      through_keyword beside (Some Prefix) (list ss) itself listed d = tt
+      through_keyword beside (Some MinItems) (integer (pos n)) itself listed d = tt
+      through_keyword beside _ _ itself listed d = tt
+
+      mutual
+        through : (s : Document) → Each Q (direct_names s) → P s x
+        through (object ks) d = step (object ks) x (through_members (entries ks) ks d) kids
+        through null d = step null x tt kids
+        through (boolean true) d = step (boolean true) x tt kids
+        through (boolean false) d = step (boolean false) x tt kids
+        through (integer n) d = step (integer n) x tt kids
+        through (text t) d = step (text t) x tt kids
+        through (list ds) d = step (list ds) x tt kids
+
+        through_list : (s : Document) → Each Q (list_names s) → Each (λ p. P p x) (elements_of s)
+        through_list (list ss) d = through_each ss d
+        through_list null d = tt
+        through_list (boolean b) d = tt
+        through_list (integer n) d = tt
+        through_list (text t) d = tt
+        through_list (object ks) d = tt
+
+        through_each : (ss : Documents) → Each Q (each_names ss) → Each (λ p. P p x) (elements ss)
+        through_each no_documents d = tt
+        through_each (document s ss) d = (through s (each_front Q (direct_names s) (each_names ss) d), through_each ss (each_back Q (direct_names s) (each_names ss) d))
+
+        through_members : (beside : List (Entry Document)) (ks : Members) → Each Q (keyword_names ks) → Each (λ p. P p x) (flat_map here_of (map (assertion_at R beside) (entries ks)))
+        through_members beside no_members d = tt
+        through_members beside (member k v ks) d =
+            each_append (λ p. P p x) (here_of (assertion_at R beside (k, v))) (flat_map here_of (map (assertion_at R beside) (entries ks)))
+            (through_keyword beside (under k keywords) v (λ e. through v e) (λ e. through_list v e) (each_front Q (by_keyword (under k keywords) (value_names v)) (keyword_names ks) d))
+            (through_members beside ks (each_back Q (by_keyword (under k keywords) (value_names v)) (keyword_names ks) d))
+
+    module _ (k : ℕ) (short : (n : List ℕ) → Short R k n) where
+      by_short : (k : ℕ) (n : List ℕ) (s : Document) → defined R n ≡ Some s → Short R k n → P s x
+      by_short zero n s e h = absurd h
+      by_short (suc k) n s e h = through (Short R k) (by_short k) s (h s e)
+
+      any : (s : Document) → P s x
+      any s = through (λ n. Unit {0}) (λ n t f q. by_short k n t f (short n)) s (each_of _ (λ n. tt) (direct_names s))
+
+  module _ (k : ℕ) (short : (n : List ℕ) → Short R k n) where
+    mutual
+      every : (x : Document) → (s : Document) → P s x
+      every null = any null tt k short
+      every (boolean b) = any (boolean b) tt k short
+      every (integer n) = any (integer n) tt k short
+      every (text s) = any (text s) tt k short
+      every (list ds) = any (list ds) (every_element ds) k short
+      every (object ms) = any (object ms) (every_member ms) k short
+
+      every_element : (ds : Documents) → Each (λ y. (p : Document) → P p y) (elements ds)
+      every_element no_documents = tt
+      every_element (document d ds) = (every d, every_element ds)
+
+      every_member : (ms : Members) → Each (λ y. (p : Document) → P p y) (values (entries ms))
+      every_member no_members = tt
+      every_member (member k d ms) = (every d, every_member ms)
+
+module _ (R : Document) where
+  abbrev ask : (Document → Document → Bool) → Document → Document → Bool
+  ask V s x = held (λ p. V p x) (λ y p. V p y) (asked R s) x (opened x)
+
+  ask_local : (f g : Document → Document → Bool) (s x : Document) → Each (λ p. f p x ≡ g p x) (here_parts (asked R s)) → Each (λ y. Each (λ p. f p y ≡ g p y) (inside_parts (asked R s))) (children x) → ask f s x ≡ ask g s x
+  ask_local f g s x h c = held_same (λ p. f p x) (λ p. g p x) (λ y p. f p y) (λ y p. g p y) (asked R s) x (opened x) h (each_within x _ c)
+
+  pub one_meaning : NoLoop R → OneMeaning R
+  one_meaning h = record {
+    some = solution Document ask (λ s. here_parts (asked R s)) (λ s. inside_parts (asked R s)) children ask_local induct;
+    only = unfolds_only Document ask (λ s. here_parts (asked R s)) (λ s. inside_parts (asked R s)) children ask_local induct;
+  }
+    where
+      induct : (P : Document → Document → Type 0) → ((s x : Document) → Each (λ p. P p x) (here_parts (asked R s)) → Each (λ y. (p : Document) → P p y) (children x) → P s x) → (s x : Document) → P s x
+      induct P step s x = every R P step (most_steps R) (all_short R h) x s

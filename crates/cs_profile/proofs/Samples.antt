@@ -1,0 +1,290 @@
+-- What the definitions say of single keywords, names, values, places, trimmings and loops, by computation.
+use Rattle.std.proofs.Common.{◌≡◌, ℕ, negsuc, Bool, true, false, List, [], ◌∷◌, map, Option, Some, None, option_map, codes, refl}
+use Rattle.std.specs.Fmt.{digits}
+use Rattle.std.specs.List.{list_all, list_any}
+use Rattle.cs_document.specs.Document.{Document, null, boolean, integer, text, list, under}
+use Rattle.cs_document.specs.View.{doc_view, list_view}
+use Rattle.cs_profile.specs.Keywords.{Keyword, keywords, Kind, kinds, reference_start, text_after}
+use Rattle.cs_profile.specs.Keywords as keyword
+use Rattle.cs_profile.specs.Shapes.{Form, the_dialect, a_reference, a_kind, anything, an_array, an_integer, a_count, distinct_texts, a_text, a_schema, some_schemas, named_schemas, kept, left_out, left_out_if_empty, Row, row, is_name_code, is_name, has_form, is_kept, by_form}
+use Rattle.cs_profile.specs.Places.{at_key, at_index}
+use Rattle.cs_profile.specs.Profile.{unknown, misshapen, undefined, walk_fault, name_fault}
+use Rattle.cs_profile.specs.Trim.{trim}
+use Rattle.cs_profile.specs.Loops.{direct_names, IsLoop}
+use Rattle.cs_profile.specs.Refusal.{LeastFirst}
+use Rattle.cs_profile.specs.SchemaDocument.{Slot, kind_name, keyword_slots, reference_document, text_document, unless_no_list, unless_no_map}
+use Rattle.cs_profile.specs.declared.schema.Schema.TheOpen.{Keywords-F}
+use Rattle.cs_profile.specs.declared.schema.JsonKind.TheVariants as kind
+use Rattle.cs_profile.proofs.Rows.{t, n, l, o, says}
+use Prim.Native.String.{String}
+
+-- ---- keywords by their names
+
+abbrev named : List String → List (Option Keyword)
+named ks = map (λ k. under (codes k) keywords) ks
+
+of_core : named ("$schema" ∷ "$defs" ∷ "$ref" ∷ "allOf" ∷ "anyOf" ∷ "not" ∷ "prefixItems" ∷ "items" ∷ "properties" ∷ "additionalProperties" ∷ "$comment" ∷ [])
+    ≡ Some keyword.Dialect ∷ Some keyword.Definitions ∷ Some keyword.Refers ∷ Some keyword.AllOf ∷ Some keyword.AnyOf ∷ Some keyword.Not ∷ Some keyword.Prefix ∷ Some keyword.Items
+    ∷ Some keyword.Properties ∷ Some keyword.Additional ∷ Some keyword.Note ∷ []
+of_core = refl
+
+of_validation : named ("type" ∷ "enum" ∷ "const" ∷ "maximum" ∷ "exclusiveMaximum" ∷ "minimum" ∷ "exclusiveMinimum" ∷ "minItems" ∷ "required" ∷ "title" ∷ "description" ∷ [])
+    ≡ Some keyword.HasType ∷ Some keyword.OneOf ∷ Some keyword.Equals ∷ Some keyword.Maximum ∷ Some keyword.Below ∷ Some keyword.Minimum ∷ Some keyword.Above ∷ Some keyword.MinItems
+    ∷ Some keyword.Requires ∷ Some keyword.Note ∷ Some keyword.Note ∷ []
+of_validation = refl
+
+-- keywords of the standard that are none of the profile, and names that are almost keywords
+left_outside : named ("$id" ∷ "$anchor" ∷ "oneOf" ∷ "maxItems" ∷ "pattern" ∷ "default" ∷ "Type" ∷ "types" ∷ "typ" ∷ "ref" ∷ "" ∷ [])
+    ≡ None ∷ None ∷ None ∷ None ∷ None ∷ None ∷ None ∷ None ∷ None ∷ None ∷ None ∷ []
+left_outside = refl
+
+by_kind : map (λ k. under (codes k) kinds) ("null" ∷ "boolean" ∷ "object" ∷ "array" ∷ "number" ∷ "string" ∷ "integer" ∷ "int" ∷ "Null" ∷ "" ∷ [])
+    ≡ Some keyword.Null ∷ Some keyword.Boolean ∷ Some keyword.Object ∷ Some keyword.Array ∷ Some keyword.Number ∷ Some keyword.String ∷ Some keyword.Integer ∷ None ∷ None ∷ None ∷ []
+by_kind = refl
+
+kind_names : map kind_name (kind.Null ∷ kind.Boolean ∷ kind.Object ∷ kind.Array ∷ kind.Number ∷ kind.String ∷ kind.Integer ∷ [])
+    ≡ map codes ("null" ∷ "boolean" ∷ "object" ∷ "array" ∷ "number" ∷ "string" ∷ "integer" ∷ [])
+kind_names = refl
+
+-- ---- rows
+
+abbrev rows : Bool → List String → List (Option Row)
+rows root ks = map (λ k. row root (codes k)) ks
+
+of_root : rows true ("$schema" ∷ "$defs" ∷ "$ref" ∷ []) ≡ Some (the_dialect, left_out) ∷ Some (named_schemas, left_out_if_empty) ∷ Some (a_reference, kept) ∷ []
+of_root = refl
+
+of_root_alone : rows false ("$schema" ∷ "$defs" ∷ []) ≡ None ∷ None ∷ []
+of_root_alone = refl
+
+of_each : (root : Bool) → rows root ("type" ∷ "const" ∷ "minimum" ∷ "maximum" ∷ "exclusiveMinimum" ∷ "exclusiveMaximum" ∷ "allOf" ∷ [])
+    ≡ Some (a_kind, kept) ∷ Some (anything, kept) ∷ Some (an_integer, kept) ∷ Some (an_integer, kept) ∷ Some (an_integer, kept) ∷ Some (an_integer, kept) ∷ Some (some_schemas, kept) ∷ []
+of_each true = refl
+of_each false = refl
+
+of_none : (root : Bool) → rows root ("$id" ∷ "pattern" ∷ "oneOf" ∷ "" ∷ []) ≡ None ∷ None ∷ None ∷ None ∷ []
+of_none true = refl
+of_none false = refl
+
+-- keywords that the reader does not take yet
+not_yet : (root : Bool) → rows root ("enum" ∷ "required" ∷ "properties" ∷ "additionalProperties" ∷ "prefixItems" ∷ "items" ∷ "minItems" ∷ "anyOf" ∷ "not" ∷ "title" ∷ "description" ∷ "$comment" ∷ [])
+    ≡ None ∷ None ∷ None ∷ None ∷ None ∷ None ∷ None ∷ None ∷ None ∷ None ∷ None ∷ None ∷ []
+not_yet true = refl
+not_yet false = refl
+
+not_yet_below : row false (codes "$ref") ≡ None
+not_yet_below = refl
+
+-- ---- names in a `$ref`
+
+name_codes : list_all is_name_code (codes "AZaz09_$.-") ≡ true
+name_codes = refl
+
+-- the characters beside those of a name, and some beyond
+no_name_codes : list_any is_name_code (codes "@[`{/:^%#, ~!+é") ≡ false
+no_name_codes = refl
+
+names : map (λ s. is_name (codes s)) ("" ∷ "P" ∷ "9" ∷ "-" ∷ "_a.B-$0" ∷ "a/b" ∷ "a~b" ∷ "a " ∷ " a" ∷ "é" ∷ []) ≡ false ∷ true ∷ true ∷ true ∷ true ∷ false ∷ false ∷ false ∷ false ∷ false ∷ []
+names = refl
+
+references : map (λ s. text_after reference_start (codes s)) ("#/$defs/P" ∷ "#/$defs/a/b" ∷ "#/$defs/" ∷ "#/$defs" ∷ "#/definitions/P" ∷ "/$defs/P" ∷ "P" ∷ "" ∷ [])
+    ≡ Some (codes "P") ∷ Some (codes "a/b") ∷ Some [] ∷ None ∷ None ∷ None ∷ None ∷ None ∷ []
+references = refl
+
+-- ---- the shapes of values
+
+abbrev fit : Form → List Document → Bool
+fit form ds = list_all (has_form form) ds
+
+abbrev fits_one : Form → List Document → Bool
+fits_one form ds = list_any (has_form form) ds
+
+-- some values that have a shape, and some that have not
+record Shaped (form : Form) (right wrong : List Document) : Type 0 where
+  each : fit form right ≡ true
+  none : fits_one form wrong ≡ false
+
+-- the dialect's text (Core, section 8.1.1)
+dialect_text : Shaped the_dialect
+    (t "https://json-schema.org/draft/2020-12/schema" ∷ [])
+    (t "https://json-schema.org/draft/2020-12/schema#" ∷ t "http://json-schema.org/draft/2020-12/schema" ∷ t "https://json-schema.org/draft/2019-09/schema" ∷ t "http://json-schema.org/draft-07/schema#" ∷ t "" ∷ null ∷ [])
+dialect_text = record { each = refl; none = refl }
+
+reference_text : Shaped a_reference
+    (t "#/$defs/P" ∷ t "#/$defs/a.b-C_$9" ∷ [])
+    (t "#/$defs/" ∷ t "#/$defs/a/b" ∷ t "#/$defs/a~0b" ∷ t "#/properties/a" ∷ t "#P" ∷ t "#" ∷ t "P" ∷ t "" ∷ n 1 ∷ o [] ∷ [])
+reference_text = record { each = refl; none = refl }
+
+kind_text : Shaped a_kind
+    (t "null" ∷ t "boolean" ∷ t "object" ∷ t "array" ∷ t "number" ∷ t "string" ∷ t "integer" ∷ [])
+    (t "int" ∷ t "" ∷ null ∷ l (t "string" ∷ []) ∷ [])
+kind_text = record { each = refl; none = refl }
+
+any_value : Shaped anything (null ∷ boolean false ∷ n 0 ∷ t "" ∷ l [] ∷ o [] ∷ []) []
+any_value = record { each = refl; none = refl }
+
+array : Shaped an_array (l [] ∷ l (null ∷ []) ∷ []) (o [] ∷ t "" ∷ n 0 ∷ null ∷ boolean true ∷ [])
+array = record { each = refl; none = refl }
+
+whole_number : Shaped an_integer
+    (n 0 ∷ n 9223372036854775807 ∷ integer (negsuc 0) ∷ integer (negsuc 9223372036854775807) ∷ [])
+    (t "0" ∷ null ∷ boolean true ∷ l (n 0 ∷ []) ∷ o [] ∷ [])
+whole_number = record { each = refl; none = refl }
+
+count : Shaped a_count (n 0 ∷ n 1 ∷ n 9223372036854775807 ∷ []) (integer (negsuc 0) ∷ integer (negsuc 9223372036854775807) ∷ t "1" ∷ null ∷ [])
+count = record { each = refl; none = refl }
+
+different_texts : Shaped distinct_texts
+    (l [] ∷ l (t "" ∷ []) ∷ l (t "a" ∷ t "b" ∷ t "A" ∷ []) ∷ [])
+    (l (t "a" ∷ t "a" ∷ []) ∷ l (t "a" ∷ t "b" ∷ t "a" ∷ []) ∷ l (t "" ∷ t "" ∷ []) ∷ l (t "a" ∷ n 1 ∷ []) ∷ l (null ∷ []) ∷ t "a" ∷ o [] ∷ [])
+different_texts = record { each = refl; none = refl }
+
+one_text : Shaped a_text (t "" ∷ t "x" ∷ []) (n 1 ∷ null ∷ l (t "x" ∷ []) ∷ o [] ∷ [])
+one_text = record { each = refl; none = refl }
+
+-- whether a value is a schema is told where it stands
+one_schema : Shaped a_schema (boolean true ∷ o [] ∷ n 1 ∷ null ∷ []) []
+one_schema = record { each = refl; none = refl }
+
+schemas : Shaped some_schemas (l (boolean true ∷ []) ∷ l (n 1 ∷ o [] ∷ []) ∷ []) (l [] ∷ o [] ∷ boolean true ∷ null ∷ [])
+schemas = record { each = refl; none = refl }
+
+schemas_by_name : Shaped named_schemas (o [] ∷ says "a" (boolean true) ∷ says "a" (n 1) ∷ []) (l [] ∷ l (o [] ∷ []) ∷ boolean true ∷ null ∷ [])
+schemas_by_name = record { each = refl; none = refl }
+
+-- which schemas a value of a shape holds: 0 for none, 1 for itself, 2 for its elements, 3 for its members
+holds : map {B = ℕ} (λ form. by_form form (record { none = 0; itself = 1; elements = 2; members = 3 }))
+    (the_dialect ∷ a_reference ∷ a_kind ∷ anything ∷ an_array ∷ an_integer ∷ a_count ∷ distinct_texts ∷ a_text ∷ a_schema ∷ some_schemas ∷ named_schemas ∷ [])
+    ≡ 0 ∷ 0 ∷ 0 ∷ 0 ∷ 0 ∷ 0 ∷ 0 ∷ 0 ∷ 0 ∷ 1 ∷ 2 ∷ 3 ∷ []
+holds = refl
+
+-- ---- places (RFC 6901, section 5)
+
+under_key : map (λ k. at_key [] (codes k)) ("foo" ∷ "" ∷ "a/b" ∷ "c%d" ∷ "e^f" ∷ " " ∷ "m~n" ∷ "~1" ∷ "//~~" ∷ [])
+    ≡ map codes ("/foo" ∷ "/" ∷ "/a~1b" ∷ "/c%d" ∷ "/e^f" ∷ "/ " ∷ "/m~0n" ∷ "/~01" ∷ "/~1~1~0~0" ∷ [])
+unfolding at_key
+under_key = refl
+
+under_both : at_key (at_key [] (codes "$defs")) (codes "x/y") ≡ codes "/$defs/x~1y"
+unfolding at_key
+under_both = refl
+
+at_elements : map (at_index (codes "/allOf")) (0 ∷ 9 ∷ 10 ∷ 105 ∷ []) ≡ map codes ("/allOf/0" ∷ "/allOf/9" ∷ "/allOf/10" ∷ "/allOf/105" ∷ [])
+unfolding at_index digits
+at_elements = refl
+
+-- ---- the first fault of a walk
+
+walks_without : map walk_fault (boolean true ∷ boolean false ∷ o [] ∷ says "allOf" (l (boolean true ∷ says "type" (t "null") ∷ [])) ∷ says "$defs" (o []) ∷ [])
+    ≡ None ∷ None ∷ None ∷ None ∷ None ∷ []
+walks_without = refl
+
+no_schema : map walk_fault (null ∷ n 0 ∷ t "" ∷ l [] ∷ says "allOf" (l (boolean true ∷ n 1 ∷ [])) ∷ says "$defs" (says "a/b" null) ∷ [])
+    ≡ Some (misshapen [] []) ∷ Some (misshapen [] []) ∷ Some (misshapen [] []) ∷ Some (misshapen [] []) ∷ Some (misshapen (codes "/allOf/1") []) ∷ Some (misshapen (codes "/$defs/a~1b") []) ∷ []
+unfolding at_key at_index digits
+no_schema = refl
+
+outside_profile : map walk_fault (says "pattern" (t "") ∷ says "allOf" (l (says "x" null ∷ [])) ∷ says "$defs" (says "A" (says "$defs" (o []))) ∷ says "$defs" (says "A" (says "$schema" (t "https://json-schema.org/draft/2020-12/schema"))) ∷ [])
+    ≡ Some (unknown [] (codes "pattern")) ∷ Some (unknown (codes "/allOf/0") (codes "x")) ∷ Some (unknown (codes "/$defs/A") (codes "$defs")) ∷ Some (unknown (codes "/$defs/A") (codes "$schema")) ∷ []
+unfolding at_key at_index digits
+outside_profile = refl
+
+wrong_shape : map walk_fault (says "minimum" (t "3") ∷ says "allOf" (l []) ∷ says "allOf" (o []) ∷ says "$defs" (l []) ∷ says "$defs" (says "A" (says "type" (t "int"))) ∷ [])
+    ≡ Some (misshapen [] (codes "minimum")) ∷ Some (misshapen [] (codes "allOf")) ∷ Some (misshapen [] (codes "allOf")) ∷ Some (misshapen [] (codes "$defs")) ∷ Some (misshapen (codes "/$defs/A") (codes "type")) ∷ []
+unfolding at_key
+wrong_shape = refl
+
+-- the keys in their order, and the schemas under a key before the next key
+first_of_two : map walk_fault (o (("a", null) ∷ ("minimum", t "") ∷ []) ∷ o (("allOf", l (says "z" null ∷ [])) ∷ ("b", null) ∷ []) ∷ o (("maximum", null) ∷ ("n", null) ∷ []) ∷ [])
+    ≡ Some (unknown [] (codes "a")) ∷ Some (unknown (codes "/allOf/0") (codes "z")) ∷ Some (misshapen [] (codes "maximum")) ∷ []
+unfolding at_key at_index digits
+first_of_two = refl
+
+references_named : map name_fault (says "$ref" (t "#/$defs/A") ∷ o (("$defs", says "B" (boolean true)) ∷ ("$ref", t "#/$defs/A") ∷ []) ∷ o (("$defs", says "A" (boolean true)) ∷ ("$ref", t "#/$defs/A") ∷ []) ∷ boolean true ∷ [])
+    ≡ Some (undefined [] (codes "A")) ∷ Some (undefined [] (codes "A")) ∷ None ∷ None ∷ []
+references_named = refl
+
+-- ---- trimming
+
+keeps : map (λ keeping. map (is_kept keeping) (o [] ∷ l [] ∷ says "a" null ∷ l (null ∷ []) ∷ t "" ∷ null ∷ [])) (kept ∷ left_out ∷ left_out_if_empty ∷ [])
+    ≡ (true ∷ true ∷ true ∷ true ∷ true ∷ true ∷ []) ∷ (false ∷ false ∷ false ∷ false ∷ false ∷ false ∷ []) ∷ (false ∷ false ∷ true ∷ true ∷ true ∷ true ∷ []) ∷ []
+keeps = refl
+
+-- an object as root gets `$schema`, and a truth value does not
+abbrev dialected : List (String × Document) → Document
+dialected es = o (("$schema", t "https://json-schema.org/draft/2020-12/schema") ∷ es)
+
+no_objects : map trim (boolean true ∷ boolean false ∷ null ∷ n 1 ∷ t "a" ∷ l (says "$defs" (o []) ∷ []) ∷ []) ≡ boolean true ∷ boolean false ∷ null ∷ n 1 ∷ t "a" ∷ l (says "$defs" (o []) ∷ []) ∷ []
+no_objects = refl
+
+left : map trim (o [] ∷ dialected [] ∷ says "$defs" (o []) ∷ o (("$defs", o []) ∷ ("type", t "null") ∷ []) ∷ [])
+    ≡ dialected [] ∷ dialected [] ∷ dialected [] ∷ dialected (("type", t "null") ∷ []) ∷ []
+left = refl
+
+-- what stands stays, in its order, the value of `const` as it is
+stays : trim (o (("$defs", says "A" (says "const" (o (("$defs", o []) ∷ ("$schema", null) ∷ [])))) ∷ ("$ref", t "#/$defs/A") ∷ ("maximum", n 1) ∷ []))
+    ≡ o (("$defs", says "A" (says "const" (o (("$defs", o []) ∷ ("$schema", null) ∷ [])))) ∷ ("$ref", t "#/$defs/A") ∷ ("$schema", t "https://json-schema.org/draft/2020-12/schema") ∷ ("maximum", n 1) ∷ [])
+stays = refl
+
+-- below the root there is no dialect to add
+all_stay : trim (says "allOf" (l (o [] ∷ boolean false ∷ says "allOf" (l (says "type" (t "null") ∷ [])) ∷ [])))
+    ≡ dialected (("allOf", l (o [] ∷ boolean false ∷ says "allOf" (l (says "type" (t "null") ∷ [])) ∷ [])) ∷ [])
+all_stay = refl
+
+-- ---- loops
+
+abbrev to : String → Document
+to name = says "$ref" (text (codes name))
+
+-- the names that a schema refers to for the same document
+direct : map direct_names (to "#/$defs/A" ∷ says "not" (to "#/$defs/A") ∷ says "allOf" (l (to "#/$defs/B" ∷ to "#/$defs/A" ∷ [])) ∷ says "anyOf" (l (to "#/$defs/A" ∷ says "not" (to "#/$defs/B") ∷ [])) ∷ [])
+    ≡ (codes "A" ∷ []) ∷ (codes "A" ∷ []) ∷ (codes "B" ∷ codes "A" ∷ []) ∷ (codes "A" ∷ codes "B" ∷ []) ∷ []
+direct = refl
+
+-- what has not its shape has no names
+without : map direct_names (boolean true ∷ null ∷ n 1 ∷ t "#/$defs/A" ∷ l (to "#/$defs/A" ∷ []) ∷ o [] ∷ says "$ref" (to "#/$defs/A") ∷ to "#/definitions/A" ∷ says "allOf" (to "#/$defs/A") ∷ says "anyOf" null ∷ [])
+    ≡ [] ∷ [] ∷ [] ∷ [] ∷ [] ∷ [] ∷ [] ∷ [] ∷ [] ∷ [] ∷ []
+without = refl
+
+-- for documents inside it, or for none
+indirect : map direct_names (
+    says "properties" (says "a" (to "#/$defs/A")) ∷ says "additionalProperties" (to "#/$defs/A") ∷ says "prefixItems" (l (to "#/$defs/A" ∷ [])) ∷ says "items" (to "#/$defs/A")
+    ∷ says "const" (to "#/$defs/A") ∷ says "enum" (l (to "#/$defs/A" ∷ [])) ∷ says "$defs" (says "A" (to "#/$defs/A")) ∷ says "oneOf" (l (to "#/$defs/A" ∷ [])) ∷ [])
+    ≡ [] ∷ [] ∷ [] ∷ [] ∷ [] ∷ [] ∷ [] ∷ [] ∷ []
+indirect = refl
+
+abbrev defining : List (String × Document) → Document
+defining ds = says "$defs" (o ds)
+
+loop_of_one : IsLoop (defining (("A", to "#/$defs/A") ∷ [])) (codes "A" ∷ [])
+loop_of_one = (refl, tt)
+
+loop_of_two : IsLoop (defining (("A", says "anyOf" (l (boolean true ∷ to "#/$defs/B" ∷ []))) ∷ ("B", says "not" (to "#/$defs/A")) ∷ [])) (codes "A" ∷ codes "B" ∷ [])
+loop_of_two = (refl, (refl, tt))
+
+-- a chain that ends
+no_loop_of_one : ¬ (IsLoop (defining (("A", to "#/$defs/B") ∷ ("B", boolean true) ∷ [])) (codes "A" ∷ []))
+no_loop_of_one h = cc
+
+no_loop_of_two : ¬ (IsLoop (defining (("A", to "#/$defs/B") ∷ ("B", boolean true) ∷ [])) (codes "A" ∷ codes "B" ∷ []))
+no_loop_of_two h = let back = h.1 in cc
+
+no_loop_of_none : ¬ (IsLoop (defining (("A", to "#/$defs/A") ∷ [])) [])
+no_loop_of_none h = h
+
+-- the least name first
+least : LeastFirst (codes "A" ∷ codes "C" ∷ codes "B" ∷ [])
+least = (refl, (refl, tt))
+
+not_least : ¬ (LeastFirst (codes "B" ∷ codes "C" ∷ codes "A" ∷ []))
+not_least h = let last = h.1 in cc
+
+-- ---- the keywords of an object, each under its name
+
+slots : (k : Keywords-F Document (List Slot)) → map (λ name. under (codes name) (keyword_slots k))
+    ("type" ∷ "const" ∷ "enum" ∷ "minimum" ∷ "maximum" ∷ "exclusiveMinimum" ∷ "exclusiveMaximum" ∷ "minItems" ∷ "required" ∷ "properties" ∷ "additionalProperties" ∷ "items" ∷ "not" ∷ "prefixItems" ∷ "allOf" ∷ "anyOf" ∷ "$ref" ∷ [])
+    ≡ Some (option_map (λ j. text (kind_name j)) k.kind) ∷ Some (option_map doc_view k.equal) ∷ Some (option_map (λ v. list (list_view v.items)) k.one_of)
+    ∷ Some (option_map integer k.minimum) ∷ Some (option_map integer k.maximum) ∷ Some (option_map integer k.above) ∷ Some (option_map integer k.below) ∷ Some (option_map integer k.min_items)
+    ∷ Some (unless_no_list (map text_document k.required.items)) ∷ Some (unless_no_map k.properties.entries) ∷ Some k.additional ∷ Some k.rest ∷ Some k.negated
+    ∷ Some (unless_no_list k.prefix.items) ∷ Some (unless_no_list k.all_of.items) ∷ Some (unless_no_list k.any_of.items) ∷ Some (option_map reference_document k.reference) ∷ []
+slots k = refl

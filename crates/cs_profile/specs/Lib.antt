@@ -1,0 +1,10 @@
+pub mod Keywords
+pub mod Asked
+pub mod Validity
+pub mod Loops
+pub mod Shapes
+pub mod Places
+pub mod Profile
+pub mod Trim
+pub mod SchemaDocument
+pub mod Refusal

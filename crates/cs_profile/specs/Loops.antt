@@ -1,0 +1,86 @@
+-- Definitions that reach themselves without going into a document (JSON Schema Core 2020-12, section 9.4.1).
+use Rattle.std.specs.Prelude.{ℕ, List, [], ◌∷◌, ◌++◌, Option, Some, None, option_to_list, IsTrue}
+use Rattle.std.specs.Option.{option_map_or}
+use Rattle.std.specs.Str.{bytes_eq}
+use Rattle.std.specs.List.{list_any}
+use Rattle.cs_document.specs.Document.{Document, text, list, object, Documents, no_documents, document, Members, no_members, member, under}
+use Rattle.cs_profile.specs.Keywords.{Keyword, Dialect, Definitions, Refers, HasType, Equals, OneOf, Minimum, Maximum, Above, Below, Requires, Properties, Additional, Prefix, Items, MinItems, AllOf, AnyOf, Not, Note, keywords, reference_start, text_after, defined}
+
+-- the name in the value of a `$ref`
+abbrev pub name_in : Document → List (List ℕ)
+name_in (text t) = option_to_list (text_after reference_start t)
+name_in _ = []
+
+-- the names that a keyword's value contributes, for each way that a keyword may ask schemas of the same document:
+-- the schema of a name, the schema that its value is, or each of the elements
+pub record ByReach : Type 0 where
+  pub name : List (List ℕ)
+  pub itself : List (List ℕ)
+  pub elements : List (List ℕ)
+
+abbrev pub by_keyword : Option Keyword → ByReach → List (List ℕ)
+by_keyword (Some Refers) names = names.name
+by_keyword (Some Not) names = names.itself
+by_keyword (Some AllOf) names = names.elements
+by_keyword (Some AnyOf) names = names.elements
+by_keyword (Some Dialect) names = []
+by_keyword (Some Definitions) names = []
+by_keyword (Some HasType) names = []
+by_keyword (Some Equals) names = []
+by_keyword (Some OneOf) names = []
+by_keyword (Some Minimum) names = []
+by_keyword (Some Maximum) names = []
+by_keyword (Some Above) names = []
+by_keyword (Some Below) names = []
+by_keyword (Some Requires) names = []
+by_keyword (Some Properties) names = []
+by_keyword (Some Additional) names = []
+by_keyword (Some Prefix) names = []
+by_keyword (Some Items) names = []
+by_keyword (Some MinItems) names = []
+by_keyword (Some Note) names = []
+by_keyword None names = []
+
+abbrev mutual
+  -- the names that a schema refers to directly, through `$ref`, `allOf`, `anyOf` and `not` alone
+  pub direct_names : Document → List (List ℕ)
+  direct_names (object ks) = keyword_names ks
+  direct_names _ = []
+
+  pub keyword_names : Members → List (List ℕ)
+  keyword_names no_members = []
+  keyword_names (member k v ks) = by_keyword (under k keywords) (record { name = name_in v; itself = direct_names v; elements = list_names v }) ++ keyword_names ks
+
+  pub list_names : Document → List (List ℕ)
+  list_names (list ss) = each_names ss
+  list_names _ = []
+
+  pub each_names : Documents → List (List ℕ)
+  each_names no_documents = []
+  each_names (document s ss) = direct_names s ++ each_names ss
+
+-- the names in a value, by how its keyword reaches them
+abbrev pub value_names : Document → ByReach
+value_names v = record {
+  name = name_in v;
+  itself = direct_names v;
+  elements = list_names v;
+}
+
+-- the definition n of the root R refers directly to the name m
+abbrev pub RefersDirectly : Document → List ℕ → List ℕ → Type 0
+RefersDirectly R n m = IsTrue (list_any (bytes_eq m) (option_map_or direct_names (defined R n) []))
+
+-- n refers directly to the first of the names, and each of them to the next
+abbrev pub IsChain : Document → List ℕ → List (List ℕ) → Type 0
+IsChain R n [] = Unit {0}
+IsChain R n (m ∷ ms) = RefersDirectly R n m × IsChain R m ms
+
+-- each of the names refers directly to the next, and the last one to the first
+abbrev pub IsLoop : Document → List (List ℕ) → Type 0
+IsLoop R [] = ⊥
+IsLoop R (n ∷ ns) = IsChain R n (ns ++ n ∷ [])
+
+-- no definition reaches itself directly
+abbrev pub NoLoop : Document → Type 0
+NoLoop R = (ns : List (List ℕ)) → ¬ (IsLoop R ns)

@@ -1,0 +1,34 @@
+-- Why a document is refused, by the first fault (own rule).
+use Rattle.std.specs.Prelude.{◌≡◌, ℕ, List, [], ◌∷◌, map, Some, None, string_bytes}
+use Rattle.std.specs.Cmp.Lexicographic.{slice_cmp}
+use Rattle.std.specs.Ordering.{nat_cmp}
+use Rattle.std.specs.declared.cmp.Ordering.TheVariants.{Less}
+use Rattle.std.specs.List.{AllByRecursion, IsDistinct}
+use Rattle.std.specs.Str.{bytes_eq}
+use Rattle.cs_document.specs.Document.{Document}
+use Rattle.cs_profile.specs.Loops.{IsLoop}
+use Rattle.cs_profile.specs.Profile.{unknown, misshapen, undefined, walk_fault, name_fault}
+use Rattle.cs_profile.specs.declared.fault.SchemaFault.{SchemaFault}
+use Rattle.cs_profile.specs.declared.fault.SchemaFault.TheVariants as fault
+
+-- the first of some names is the least in byte order
+abbrev pub LeastFirst : List (List ℕ) → Type 0
+LeastFirst [] = Unit {0}
+LeastFirst (n ∷ ns) = AllByRecursion (λ m. slice_cmp nat_cmp n m ≡ Less) ns
+
+-- the names are those of definitions of which each refers directly to the next, and the last to the first
+pub record IsLoopOf (d : Document) (names : List (List ℕ)) : Type 0 where
+  pub shaped : walk_fault d ≡ None
+  pub named : name_fault d ≡ None
+  pub loop : IsLoop d names
+  pub distinct : IsDistinct bytes_eq names
+  pub least : LeastFirst names
+
+-- the refusal tells the first fault: of a keyword or a value, then of a name, then a loop; memory may run
+-- out at any time
+abbrev pub IsRefusal : SchemaFault → Document → Type 0
+IsRefusal fault.OutOfMemory d = Unit {0}
+IsRefusal (fault.Keyword p n) d = walk_fault d ≡ Some (unknown (string_bytes p) (string_bytes n))
+IsRefusal (fault.Shape p n) d = walk_fault d ≡ Some (misshapen (string_bytes p) (string_bytes n))
+IsRefusal (fault.Reference p n) d = (walk_fault d ≡ None) × (name_fault d ≡ Some (undefined (string_bytes p) (string_bytes n)))
+IsRefusal (fault.Loop ns) d = IsLoopOf d (map string_bytes ns.items)

@@ -1,0 +1,114 @@
+-- The document that a schema with its definitions stands for.
+use Rattle.std.specs.Prelude.{◌≡◌, ℕ, Bool, List, [], ◌∷◌, ◌++◌, Option, Some, None, codes, map, option_map, String, string_bytes, if◌then◌else◌}
+use Rattle.std.specs.Str.{bytes_eq}
+use Rattle.std.specs.declared.alloc.Global.{Global}
+use Rattle.cs_document.specs.Document.{Document, boolean, integer, text, list, object, Members, no_members, Entry, under}
+use Rattle.cs_document.specs.View.{doc_view, list_view, documents_of, members_of}
+use Rattle.cs_profile.specs.Keywords.{reference_start}
+use Rattle.cs_profile.specs.Trim.{with_member, with_dialect}
+use Rattle.cs_profile.specs.Profile.{IsSchema}
+use Rattle.cs_profile.specs.declared.schema.Schema.{Schema, fold-Schema}
+use Rattle.cs_profile.specs.declared.schema.Schema.TheOpen.{Schema-F, Keywords-F}
+use Rattle.cs_profile.specs.declared.schema.Keywords.{Keywords, fold-Keywords}
+use Rattle.cs_profile.specs.declared.schema.JsonKind.{JsonKind}
+use Rattle.cs_profile.specs.declared.schema.JsonKind.TheVariants as kind
+
+abbrev pub kind_name : JsonKind → List ℕ
+kind_name kind.Null = codes "null"
+kind_name kind.Boolean = codes "boolean"
+kind_name kind.Object = codes "object"
+kind_name kind.Array = codes "array"
+kind_name kind.Number = codes "number"
+kind_name kind.String = codes "string"
+kind_name kind.Integer = codes "integer"
+
+-- a keyword with its value, where it stands
+abbrev pub Slot : Type 0
+Slot = Entry (Option Document)
+
+-- the keywords that stand
+abbrev pub present : List Slot → Members
+present [] = no_members
+present (s ∷ ss) = with_member s.1 s.0 (present ss)
+
+-- a keyword's value is set
+abbrev pub set_slot : List ℕ → Option Document → List Slot → List Slot
+set_slot k o [] = []
+set_slot k o (s ∷ ss) = if bytes_eq k s.0 then (s.0, o) ∷ ss else s ∷ set_slot k o ss
+
+-- an empty list and an empty map are left out
+abbrev pub unless_no_list : List Document → Option Document
+unless_no_list [] = None
+unless_no_list (d ∷ ds) = Some (list (documents_of (d ∷ ds)))
+
+abbrev pub unless_no_map : List (String Global × Document) → Option Document
+unless_no_map [] = None
+unless_no_map (m ∷ ms) = Some (object (members_of (m ∷ ms)))
+
+abbrev pub reference_document : String Global → Document
+reference_document s = text (reference_start ++ string_bytes s)
+
+abbrev pub text_document : String Global → Document
+text_document s = text (string_bytes s)
+
+-- the keywords of an object, in the byte order of their names
+abbrev pub keyword_slots : Keywords-F Document (List Slot) → List Slot
+keyword_slots k =
+    (codes "$ref", option_map reference_document k.reference)
+    ∷ (codes "additionalProperties", k.additional)
+    ∷ (codes "allOf", unless_no_list k.all_of.items)
+    ∷ (codes "anyOf", unless_no_list k.any_of.items)
+    ∷ (codes "const", option_map doc_view k.equal)
+    ∷ (codes "enum", option_map (λ v. list (list_view v.items)) k.one_of)
+    ∷ (codes "exclusiveMaximum", option_map integer k.below)
+    ∷ (codes "exclusiveMinimum", option_map integer k.above)
+    ∷ (codes "items", k.rest)
+    ∷ (codes "maximum", option_map integer k.maximum)
+    ∷ (codes "minItems", option_map integer k.min_items)
+    ∷ (codes "minimum", option_map integer k.minimum)
+    ∷ (codes "not", k.negated)
+    ∷ (codes "prefixItems", unless_no_list k.prefix.items)
+    ∷ (codes "properties", unless_no_map k.properties.entries)
+    ∷ (codes "required", unless_no_list (map text_document k.required.items))
+    ∷ (codes "type", option_map (λ j. text (kind_name j)) k.kind)
+    ∷ []
+
+abbrev pub schema_step : Schema-F Document (List Slot) → Document
+schema_step (Schema-F.Always b) = boolean b
+schema_step (Schema-F.Object k) = object (present k.value)
+
+-- the document that a schema below the root stands for
+abbrev pub schema_view : Schema → Document
+schema_view = fold-Schema Document (List Slot) schema_step keyword_slots
+
+abbrev pub slots_of : Keywords → List Slot
+slots_of = fold-Keywords Document (List Slot) schema_step keyword_slots
+
+abbrev pub schemas_view : List Schema → List Document
+schemas_view = map schema_view
+
+abbrev pub definitions_view : List (String Global × Schema) → List (String Global × Document)
+definitions_view = map (λ m. (m.0, schema_view m.1))
+
+-- a root with its definitions
+pub record SchemaValue : Type 0 where
+  pub root : Schema
+  pub definitions : List (String Global × Schema)
+
+-- an object with its definitions
+abbrev pub with_definitions : Option Document → Document → Document
+with_definitions o (object ms) = object (with_member o (codes "$defs") ms)
+with_definitions o d = d
+
+-- the document that a root with its definitions stands for
+abbrev pub document_of : SchemaValue → Document
+document_of s = with_dialect (with_definitions (unless_no_map (definitions_view s.definitions)) (schema_view s.root))
+
+-- a schema document: what it stands for is a schema of the profile, and a truth value has no definitions
+pub record IsWhole (v : SchemaValue) : Type 0 where
+  pub profile : IsSchema (document_of v)
+  pub bare : (b : Bool) → schema_view v.root ≡ boolean b → v.definitions ≡ []
+
+-- the definition of a name, as its document
+abbrev pub definition_of : SchemaValue → List ℕ → Option Document
+definition_of v n = under n (map (λ m. (string_bytes m.0, schema_view m.1)) v.definitions)

@@ -1,0 +1,12 @@
+// Schemas of the profile, as types, definitions and laws: what a schema asks of a document, and which documents are schemas.
+#![tactic(auto)]
+
+mod fault;
+mod laws;
+mod schema;
+mod schema_doc;
+
+pub use fault::SchemaFault;
+pub use laws::one_meaning;
+pub use schema::{JsonKind, Keywords, Schema};
+pub use schema_doc::SchemaDoc;

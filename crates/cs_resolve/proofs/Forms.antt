@@ -1,0 +1,241 @@
+-- Samples of every form of tree and of every limit, worked by the definitions. A wrong expectation stops the check here.
+use Rattle.std.proofs.Common.{◌≡◌, ℕ, ◌-◌, ◌^◌, true, false, List, [], ◌∷◌, map, Option, Some, None, pos, neg_ℤ, codes, inl, inr, refl, arith}
+use Rattle.cs_grammar.specs.Tree.{Label, Tree, top, bottom, null, boolean, integer, text, named, reference, bound, not_integer, not_text, not_null, meet, join, paren, struct, list, none, more, no_field, field, closed, any, each, DefinitionTree, definition, FileTree, file}
+use Rattle.cs_grammar.specs.declared.ast.Relation.TheVariants.{Less, AtMost, More, AtLeast}
+use Rattle.cs_grammar.specs.declared.ast.FieldMark.TheVariants.{Regular, Optional, Required}
+use Rattle.cs_package.specs.Expression as cue
+use Rattle.cs_package.specs.Expression.{Expression, Expressions, Declarations}
+use Rattle.cs_package.specs.View.{expressions_of}
+use Rattle.cs_resolve.specs.Declarations.{distinct, bodies_of, faults_of_files}
+use Rattle.cs_resolve.specs.Offsets.{StandsBefore}
+use Rattle.cs_resolve.specs.Opening.{holds, Literal, literals, conjunctions, asks, unopened, unopened_files}
+use Rattle.cs_resolve.specs.PackageName.{differing_file}
+use Rattle.cs_resolve.specs.Predeclared.{predeclared}
+use Rattle.cs_resolve.specs.Resolved.{resolved}
+use Rattle.cs_resolve.specs.Scopes.{names_field, innermost, Place, a_name, a_reference, places, faults, unknown, of_field}
+use Rattle.cs_resolve.specs.Size.{nodes}
+
+-- ---- short forms
+
+abbrev a : Label
+a = record { text = codes "a"; quotes = false }
+
+abbrev b : Label
+b = record { text = codes "b"; quotes = false }
+
+abbrev quoted_a : Label
+quoted_a = record { text = codes "a"; quotes = true }
+
+-- the forms that have no expression inside, in the order of the grammar
+abbrev leaves : List Tree
+leaves =
+    top ∷ bottom ∷ null ∷ boolean true ∷ integer (pos 1) ∷ text (codes "s") ∷ named (codes "int") 4 ∷ reference (codes "A") 5
+    ∷ bound More (pos 1) ∷ not_integer (pos 1) ∷ not_text (codes "s") ∷ not_null ∷ []
+
+-- the forms that have: `_ & e`, `_ | e`, `(e)`, `{a: e}`, `{b: _, a: e, ...}`, `[_, e]`, `[e, ...]` and `[...e]`
+abbrev around : Tree → List Tree
+around e =
+    meet (more top (more e none)) ∷ join (more top (more e none)) ∷ paren e ∷ struct 1 (field a Regular e no_field) false
+    ∷ struct 1 (field b Optional top (field a Required e no_field)) true ∷ list (more top (more e none)) closed
+    ∷ list (more e none) any ∷ list none (each e) ∷ []
+
+-- `{}`
+abbrev empty : Tree
+empty = struct 7 no_field false
+
+abbrev file_of : List DefinitionTree → FileTree
+file_of ds = file None ds
+
+-- ---- predeclared names
+
+-- the kinds
+kinds : map predeclared (codes "int" ∷ codes "number" ∷ codes "string" ∷ codes "bool" ∷ [])
+    ≡ Some (cue.kind cue.int) ∷ Some (cue.kind cue.number) ∷ Some (cue.kind cue.string) ∷ Some (cue.kind cue.bool) ∷ []
+kinds = refl
+
+-- integers of so many bits without a sign, and with one
+abbrev unsigned : ℕ → Option Expression
+unsigned n = Some (cue.range (pos 0) (Some (pos (2 ^ n - 1))))
+
+abbrev signed : ℕ → Option Expression
+signed n = Some (cue.range (neg_ℤ (pos (2 ^ (n - 1)))) (Some (pos (2 ^ (n - 1) - 1))))
+
+unsigned_ranges : map predeclared (codes "uint" ∷ codes "uint8" ∷ codes "uint16" ∷ codes "uint32" ∷ [])
+    ≡ Some (cue.range (pos 0) None) ∷ unsigned 8 ∷ unsigned 16 ∷ unsigned 32 ∷ []
+unsigned_ranges = refl
+
+signed_ranges : map predeclared (codes "int8" ∷ codes "int16" ∷ codes "int32" ∷ codes "int64" ∷ [])
+    ≡ signed 8 ∷ signed 16 ∷ signed 32 ∷ signed 64 ∷ []
+signed_ranges = refl
+
+-- names of CUE that this profile leaves out, and names that only look alike
+no_names : map predeclared (codes "uint64" ∷ codes "int128" ∷ codes "uint128" ∷ codes "float" ∷ codes "float64" ∷ codes "bytes" ∷ codes "rune" ∷ codes "Int" ∷ codes "in" ∷ codes "ints" ∷ codes "null" ∷ [] ∷ [])
+    ≡ None ∷ None ∷ None ∷ None ∷ None ∷ None ∷ None ∷ None ∷ None ∷ None ∷ None ∷ None ∷ []
+no_names = refl
+
+-- ---- nodes
+
+nodes_of_leaves : map nodes leaves ≡ 1 ∷ 1 ∷ 1 ∷ 1 ∷ 1 ∷ 1 ∷ 1 ∷ 1 ∷ 1 ∷ 1 ∷ 1 ∷ 1 ∷ []
+nodes_of_leaves = refl
+
+-- a parenthesis is none, and nor is the bare `...` of a list
+nodes_of_forms : map nodes (around null) ≡ 3 ∷ 3 ∷ 1 ∷ 2 ∷ 3 ∷ 3 ∷ 2 ∷ 2 ∷ []
+nodes_of_forms = refl
+
+nodes_of_empty : map nodes (empty ∷ list none closed ∷ list none any ∷ []) ≡ 1 ∷ 1 ∷ 1 ∷ []
+nodes_of_empty = refl
+
+-- ---- the opening rule
+
+-- a reference alone among the leaves isn't plain
+holds_of_leaves : map holds leaves ≡ false ∷ false ∷ false ∷ false ∷ false ∷ false ∷ false ∷ true ∷ false ∷ false ∷ false ∷ false ∷ []
+holds_of_leaves = refl
+
+-- a struct literal isn't plain, and the other forms are where what is inside is
+holds_of_plain : map holds (around null) ≡ false ∷ false ∷ false ∷ true ∷ true ∷ false ∷ false ∷ false ∷ []
+holds_of_plain = refl
+
+holds_of_reference : map holds (around (reference (codes "A") 5)) ≡ true ∷ true ∷ true ∷ true ∷ true ∷ true ∷ true ∷ true ∷ []
+holds_of_reference = refl
+
+holds_of_empty : map holds (empty ∷ list none closed ∷ list none any ∷ []) ≡ true ∷ false ∷ false ∷ []
+holds_of_empty = refl
+
+literals_of_leaves : map literals leaves ≡ [] ∷ [] ∷ [] ∷ [] ∷ [] ∷ [] ∷ [] ∷ [] ∷ [] ∷ [] ∷ [] ∷ [] ∷ []
+literals_of_leaves = refl
+
+-- a literal that doesn't end with `...`, and one that does
+abbrev shut : ℕ → Literal
+shut o = record { at = o; opened = false }
+
+abbrev open_at : ℕ → Literal
+open_at o = record { at = o; opened = true }
+
+-- `{}` inside each form
+literals_of_forms : map literals (around empty)
+    ≡ (shut 7 ∷ []) ∷ (shut 7 ∷ []) ∷ (shut 7 ∷ []) ∷ (shut 1 ∷ shut 7 ∷ []) ∷ (open_at 1 ∷ shut 7 ∷ []) ∷ (shut 7 ∷ []) ∷ (shut 7 ∷ []) ∷ (shut 7 ∷ []) ∷ []
+literals_of_forms = refl
+
+conjunctions_of_leaves : map conjunctions leaves ≡ [] ∷ [] ∷ [] ∷ [] ∷ [] ∷ [] ∷ [] ∷ [] ∷ [] ∷ [] ∷ [] ∷ [] ∷ []
+conjunctions_of_leaves = refl
+
+-- `null & 1`
+abbrev both : Tree
+both = meet (more null (more (integer (pos 1)) none))
+
+abbrev inner : List Tree
+inner = null ∷ integer (pos 1) ∷ []
+
+-- inside each form; a literal has one for each field, of the values of its label
+conjunctions_of_forms : map conjunctions (around both)
+    ≡ ((top ∷ both ∷ []) ∷ inner ∷ []) ∷ (inner ∷ []) ∷ (inner ∷ []) ∷ ((both ∷ []) ∷ inner ∷ []) ∷ ((top ∷ []) ∷ (both ∷ []) ∷ inner ∷ []) ∷ (inner ∷ []) ∷ (inner ∷ []) ∷ (inner ∷ []) ∷ []
+conjunctions_of_forms = refl
+
+-- `{a: null, b: _, "a": 1}`: the values of `a` are joined, and those of `b` are one
+conjunctions_of_labels : conjunctions (struct 0 (field a Regular null (field b Regular top (field quoted_a Regular (integer (pos 1)) no_field))) false) ≡ inner ∷ (top ∷ []) ∷ inner ∷ []
+conjunctions_of_labels = refl
+
+-- a conjunction asks from the second operand on that isn't plain
+asks_of_operands : map asks ([] ∷ (empty ∷ []) ∷ (empty ∷ null ∷ top ∷ []) ∷ (empty ∷ null ∷ empty ∷ []) ∷ (reference (codes "A") 5 ∷ reference (codes "A") 9 ∷ []) ∷ (empty ∷ empty ∷ empty ∷ []) ∷ [])
+    ≡ false ∷ false ∷ false ∷ true ∷ true ∷ true ∷ []
+asks_of_operands = refl
+
+-- where a conjunction around them asks, the literals that don't end with `...`, in order
+unopened_where_asked : map (unopened true) (around empty) ≡ (7 ∷ []) ∷ (7 ∷ []) ∷ (7 ∷ []) ∷ (1 ∷ 7 ∷ []) ∷ (7 ∷ []) ∷ (7 ∷ []) ∷ (7 ∷ []) ∷ (7 ∷ []) ∷ []
+unopened_where_asked = refl
+
+unopened_elsewhere : map (unopened false) (around empty) ≡ [] ∷ [] ∷ [] ∷ [] ∷ [] ∷ [] ∷ [] ∷ [] ∷ []
+unopened_elsewhere = refl
+
+-- `#A: 1` in one file, and `#A: {}`, `#B: {}` and `#A: #B` in the next: the literal of #A, in the file at number 1
+literal_in_file_1 : unopened_files (file_of (definition (codes "A") 0 null ∷ []) ∷ file_of (definition (codes "A") 0 empty ∷ definition (codes "B") 10 (struct 14 no_field false) ∷ definition (codes "A") 17 (reference (codes "B") 21) ∷ []) ∷ []) ≡ (1, 7) ∷ []
+literal_in_file_1 = refl
+
+-- ---- scopes
+
+places_of_leaves : map (places []) leaves ≡ [] ∷ [] ∷ [] ∷ [] ∷ [] ∷ [] ∷ (a_name [] (codes "int") 4 ∷ []) ∷ (a_reference (codes "A") 5 ∷ []) ∷ [] ∷ [] ∷ [] ∷ [] ∷ []
+places_of_leaves = refl
+
+-- a name that stands in so many literals, innermost first
+abbrev within : List (List Label) → List Place
+within scopes = a_name scopes (codes "a") 8 ∷ []
+
+-- a name inside each form: a literal puts all its labels around its values
+places_of_forms : map (places ((b ∷ []) ∷ [])) (around (named (codes "a") 8))
+    ≡ within ((b ∷ []) ∷ []) ∷ within ((b ∷ []) ∷ []) ∷ within ((b ∷ []) ∷ []) ∷ within ((a ∷ []) ∷ (b ∷ []) ∷ []) ∷ within ((b ∷ a ∷ []) ∷ (b ∷ []) ∷ [])
+    ∷ within ((b ∷ []) ∷ []) ∷ within ((b ∷ []) ∷ []) ∷ within ((b ∷ []) ∷ []) ∷ []
+places_of_forms = refl
+
+-- the innermost literal with that label, one further out, none, a quoted label
+fields_named : map (names_field (codes "a")) (((a ∷ []) ∷ []) ∷ ((b ∷ []) ∷ (b ∷ a ∷ []) ∷ []) ∷ [] ∷ ((b ∷ []) ∷ []) ∷ ((quoted_a ∷ []) ∷ []) ∷ ((quoted_a ∷ a ∷ []) ∷ []) ∷ [])
+    ≡ true ∷ true ∷ false ∷ false ∷ false ∷ true ∷ []
+fields_named = refl
+
+the_innermost : innermost (codes "a") ((b ∷ []) ∷ (a ∷ []) ∷ (b ∷ a ∷ []) ∷ []) ≡ Some (a ∷ [])
+the_innermost = refl
+
+-- `int` and `#A`, where #A is declared, are no faults
+no_faults : faults (codes "B" ∷ codes "A" ∷ []) (places [] (meet (more (named (codes "int") 4) (more (reference (codes "A") 10) none)))) ≡ []
+no_faults = refl
+
+-- `#A: x` and `#A: [#B, {a: a}]` in the second file: three faults, in order
+faults_in_order : faults_of_files (file_of (definition (codes "A") 0 (named (codes "x") 4) ∷ []) ∷ file_of (definition (codes "A") 0 (list (more (reference (codes "B") 5) (more (struct 9 (field a Regular (named (codes "a") 13) no_field) false) none)) closed) ∷ []) ∷ [])
+    ≡ (0, unknown 4) ∷ (1, unknown 5) ∷ (1, of_field 13) ∷ []
+faults_in_order = refl
+
+-- ---- what is resolved
+
+resolved_leaves : map resolved leaves
+    ≡ cue.top ∷ cue.bottom ∷ cue.null ∷ cue.boolean true ∷ cue.integer (pos 1) ∷ cue.text (codes "s") ∷ cue.kind cue.int ∷ cue.reference (codes "A")
+    ∷ cue.bound cue.more (pos 1) ∷ cue.not_integer (pos 1) ∷ cue.not_text (codes "s") ∷ cue.not_null ∷ []
+resolved_leaves = refl
+
+abbrev two : Expressions
+two = expressions_of (cue.top ∷ cue.null ∷ [])
+
+-- a parenthesis is dropped
+resolved_forms : map resolved (around null)
+    ≡ cue.conjunction two ∷ cue.disjunction two ∷ cue.null ∷ cue.struct (cue.declaration (codes "a") cue.regular cue.null cue.no_declarations) false
+    ∷ cue.struct (cue.declaration (codes "b") cue.optional cue.top (cue.declaration (codes "a") cue.required cue.null cue.no_declarations)) true
+    ∷ cue.list two cue.closed ∷ cue.list (expressions_of (cue.null ∷ [])) cue.any ∷ cue.list cue.no_expressions (cue.each cue.null) ∷ []
+resolved_forms = refl
+
+resolved_bounds : map (λ r. resolved (bound r (pos 5))) (Less ∷ AtMost ∷ More ∷ AtLeast ∷ [])
+    ≡ cue.bound cue.less (pos 5) ∷ cue.bound cue.at_most (pos 5) ∷ cue.bound cue.more (pos 5) ∷ cue.bound cue.at_least (pos 5) ∷ []
+resolved_bounds = refl
+
+-- ---- names and files
+
+-- each name where it stands first; a name isn't another one that begins with it
+each_once : map distinct ([] ∷ (codes "A" ∷ codes "A" ∷ []) ∷ (codes "B" ∷ codes "A" ∷ codes "AB" ∷ codes "B" ∷ codes "C" ∷ codes "A" ∷ []) ∷ [])
+    ≡ [] ∷ (codes "A" ∷ []) ∷ (codes "B" ∷ codes "A" ∷ codes "AB" ∷ codes "C" ∷ []) ∷ []
+each_once = refl
+
+-- `#A: null`, `#B: _`, `#A: 1`
+bodies_of_each : map (λ n. bodies_of n (definition (codes "A") 0 null ∷ definition (codes "B") 9 top ∷ definition (codes "A") 15 (integer (pos 1)) ∷ [])) (codes "A" ∷ codes "B" ∷ codes "C" ∷ [])
+    ≡ (null ∷ integer (pos 1) ∷ []) ∷ (top ∷ []) ∷ [] ∷ []
+bodies_of_each = refl
+
+-- files with these names in their package clauses
+abbrev named_so : List (Option (List ℕ)) → List FileTree
+named_so ns = map (λ n. file n []) ns
+
+-- the first that names another one than the first named: none among no files, one, or those without a clause
+differing : map (λ ns. differing_file (named_so ns))
+    ([] ∷ (Some (codes "p") ∷ []) ∷ (None ∷ None ∷ []) ∷ (Some (codes "p") ∷ Some (codes "p") ∷ []) ∷ (Some (codes "p") ∷ Some (codes "pq") ∷ []) ∷ (None ∷ Some (codes "p") ∷ Some (codes "p") ∷ Some (codes "q") ∷ None ∷ Some (codes "r") ∷ []) ∷ [])
+    ≡ None ∷ None ∷ None ∷ None ∷ Some 1 ∷ Some 3 ∷ []
+differing = refl
+
+-- ---- places in files
+
+-- in an earlier file at a higher offset, and in the same file at the next one; not at its own, and not in a later file
+before : StandsBefore (0, 9) (1, 0) × StandsBefore (1, 4) (1, 5)
+before = (inl (omega arith), inr (refl, omega arith))
+
+not_before_itself : ¬ (StandsBefore (1, 4) (1, 4))
+not_before_itself (inl lt) = omega arith
+not_before_itself (inr h) = let lt = h.1 in omega arith
+
+not_before_an_earlier_file : ¬ (StandsBefore (1, 0) (0, 9))
+not_before_an_earlier_file (inl lt) = omega arith
+not_before_an_earlier_file (inr h) = let same = h.0 in omega arith

@@ -1,0 +1,131 @@
+-- The offsets of faults are some of those that a tree has, in the same order.
+use Rattle.std.proofs.Common.{ℕ, suc, ◌≤◌, Bool, true, false, ◌||◌, List, [], ◌∷◌, ◌++◌, is_some, arith}
+use Rattle.std.specs.List.{list_any}
+use Rattle.std.specs.Str.{bytes_eq}
+use Rattle.cs_grammar.specs.Tree.{Label, Tree, named, reference, meet, join, paren, struct, list, Trees, none, more, Fields, no_field, field, End, closed, any, each, DefinitionTree, body, defined_name}
+use Rattle.cs_resolve.specs.Declarations.{places_of}
+use Rattle.cs_resolve.specs.Offsets.{offset}
+use Rattle.cs_resolve.specs.Opening.{Named, named_fields, values, operands, asks, at_fault, unopened, unopened_all, unopened_in, unopened_end, unopened_definitions}
+use Rattle.cs_resolve.specs.Predeclared.{predeclared}
+use Rattle.cs_resolve.specs.Scopes.{labels, names_field, Place, a_name, a_reference, places, places_all, places_in, places_end, name_faults, reference_faults, place_faults, faults}
+use Rattle.cs_resolve.proofs.MarkOrder.{marks, marks_all, marks_in, marks_end, marks_of, Within}
+
+-- ---- some of the marks
+
+-- the values of xs by f are some of these numbers, in the same order
+pub data Picks {X : Type 0} (f : X → ℕ) : List X → List ℕ → Type 0 where
+  nothing : Picks f [] []
+  taken : {x : X} {xs : List X} {os : List ℕ} → Picks f xs os → Picks f (x ∷ xs) (f x ∷ os)
+  left : {o : ℕ} {xs : List X} {os : List ℕ} → Picks f xs os → Picks f xs (o ∷ os)
+
+module _ {X : Type 0} (f : X → ℕ) where
+  join_picks : {xs ys : List X} {os ps : List ℕ} → Picks f xs os → Picks f ys ps → Picks f (xs ++ ys) (os ++ ps)
+  join_picks nothing k = k
+  join_picks (taken h) k = taken (join_picks h k)
+  join_picks (left h) k = left (join_picks h k)
+
+  -- they rise, from o on
+  abbrev pub Rise : ℕ → List X → Type 0
+  Rise o [] = Unit {0}
+  Rise o (x ∷ xs) = (o ≤ f x) × Rise (suc (f x)) xs
+
+  rise_later : (o p : ℕ) (xs : List X) → o ≤ p → Rise p xs → Rise o xs
+  rise_later o p [] le h = tt
+  rise_later o p (x ∷ xs) le h = let at = h.0 in (omega arith, h.1)
+
+  pub picks_rise : {xs : List X} {os : List ℕ} → Picks f xs os → (o p : ℕ) → Within o os p → Rise o xs
+  picks_rise nothing o p h = tt
+  picks_rise (taken {x} {xs} {os} k) o p h = (h.0, picks_rise k (suc (f x)) p h.1)
+  picks_rise (left {o = q} {xs} {os} k) o p h = let at = h.0 in rise_later o (suc q) xs (omega arith) (picks_rise k (suc q) p h.1)
+
+-- ---- places of names
+
+abbrev pub at : Place → ℕ
+at (a_name around t o) = o
+at (a_reference t o) = o
+
+mutual
+  place_picks : (around : List (List Label)) (e : Tree) → Picks at (places around e) (marks e)
+  place_picks around (named t o) = taken nothing
+  place_picks around (reference t o) = taken nothing
+  place_picks around (meet es) = place_picks_all around es
+  place_picks around (join es) = place_picks_all around es
+  place_picks around (paren e) = place_picks around e
+  place_picks around (struct o fs b) = left (place_picks_in (labels fs ∷ around) fs)
+  place_picks around (list es end) = join_picks at (place_picks_all around es) (place_picks_end around end)
+  place_picks around _ = nothing
+
+  place_picks_all : (around : List (List Label)) (es : Trees) → Picks at (places_all around es) (marks_all es)
+  place_picks_all around none = nothing
+  place_picks_all around (more e es) = join_picks at (place_picks around e) (place_picks_all around es)
+
+  place_picks_in : (around : List (List Label)) (fs : Fields) → Picks at (places_in around fs) (marks_in fs)
+  place_picks_in around no_field = nothing
+  place_picks_in around (field l m e fs) = join_picks at (place_picks around e) (place_picks_in around fs)
+
+  place_picks_end : (around : List (List Label)) (end : End) → Picks at (places_end around end) (marks_end end)
+  place_picks_end around closed = nothing
+  place_picks_end around any = nothing
+  place_picks_end around (each e) = place_picks around e
+
+pub place_picks_of : (ds : List DefinitionTree) → Picks at (places_of ds) (marks_of ds)
+place_picks_of [] = nothing
+place_picks_of (d ∷ ds) = join_picks at (place_picks [] (body d)) (place_picks_of ds)
+
+-- ---- faults at places
+
+name_fault_picks : (o : ℕ) (a b : Bool) → Picks offset (name_faults o a b) (o ∷ [])
+name_fault_picks o true b = taken nothing
+name_fault_picks o false true = left nothing
+name_fault_picks o false false = taken nothing
+
+reference_fault_picks : (o : ℕ) (a : Bool) → Picks offset (reference_faults o a) (o ∷ [])
+reference_fault_picks o true = left nothing
+reference_fault_picks o false = taken nothing
+
+fault_picks : (ns : List (List ℕ)) (p : Place) → Picks offset (place_faults ns p) (at p ∷ [])
+fault_picks ns (a_name around t o) = name_fault_picks o (names_field t around) (is_some (predeclared t))
+fault_picks ns (a_reference t o) = reference_fault_picks o (list_any (bytes_eq t) ns)
+
+pub faults_pick : (ns : List (List ℕ)) {ps : List Place} {os : List ℕ} → Picks at ps os → Picks offset (faults ns ps) os
+faults_pick ns nothing = nothing
+faults_pick ns (taken {x} k) = join_picks offset (fault_picks ns x) (faults_pick ns k)
+faults_pick ns (left k) = left (faults_pick ns k)
+
+-- ---- literals
+
+abbrev pub own : ℕ → ℕ
+own o = o
+
+at_fault_picks : (asked opened : Bool) (o : ℕ) → Picks own (at_fault asked opened o) (o ∷ [])
+at_fault_picks true false o = taken nothing
+at_fault_picks true true o = left nothing
+at_fault_picks false opened o = left nothing
+
+mutual
+  literal_picks : (asked : Bool) (e : Tree) → Picks own (unopened asked e) (marks e)
+  literal_picks asked (named t o) = left nothing
+  literal_picks asked (reference t o) = left nothing
+  literal_picks asked (meet es) = literal_picks_all (asked || asks (operands es)) es
+  literal_picks asked (join es) = literal_picks_all asked es
+  literal_picks asked (paren e) = literal_picks asked e
+  literal_picks asked (struct o fs opened) = join_picks own (at_fault_picks asked opened o) (literal_picks_in asked (named_fields fs) fs)
+  literal_picks asked (list es end) = join_picks own (literal_picks_all asked es) (literal_picks_end asked end)
+  literal_picks asked _ = nothing
+
+  literal_picks_all : (asked : Bool) (es : Trees) → Picks own (unopened_all asked es) (marks_all es)
+  literal_picks_all asked none = nothing
+  literal_picks_all asked (more e es) = join_picks own (literal_picks asked e) (literal_picks_all asked es)
+
+  literal_picks_in : (asked : Bool) (all : List Named) (fs : Fields) → Picks own (unopened_in asked all fs) (marks_in fs)
+  literal_picks_in asked all no_field = nothing
+  literal_picks_in asked all (field l m e fs) = join_picks own (literal_picks (asked || asks (values l.text all)) e) (literal_picks_in asked all fs)
+
+  literal_picks_end : (asked : Bool) (end : End) → Picks own (unopened_end asked end) (marks_end end)
+  literal_picks_end asked closed = nothing
+  literal_picks_end asked any = nothing
+  literal_picks_end asked (each e) = literal_picks asked e
+
+pub literal_picks_of : (all : List Named) (ds : List DefinitionTree) → Picks own (unopened_definitions all ds) (marks_of ds)
+literal_picks_of all [] = nothing
+literal_picks_of all (d ∷ ds) = join_picks own (literal_picks (asks (values (defined_name d) all)) (body d)) (literal_picks_of all ds)

@@ -1,6 +1,0 @@
-use Rattle.cs_schema.specs.SchemaDocument.{document_of}
-use Rattle.cs_schema.proofs.Meanings as meanings
-use Rattle.cs_schema.proofs.laws.one_meaning.Goals as goal
-
-pub returns : goal.returns
-returns c = meanings.one_meaning (document_of c.args.schema.now) c.is_whole.ensures.whole.profile.no_loop
