@@ -1,8 +1,8 @@
 // Which packages are refused, by which number, and what the refusal carries.
-use crate::packages::files_of;
+use crate::packages::resolved;
 use crate::tables::{Asked, check};
 use cs_guard::{GuardFault, guard};
-use cs_resolve::{Package, ResolveFault, resolve};
+use cs_resolve::{Package, ResolveFault};
 use std::alloc::{AllocError, Global};
 use std::test::Fail;
 
@@ -73,7 +73,7 @@ fn guarded(alloc: Global, package: Package) -> Result<String, AllocError> {
 
 /// The answer of `resolve` and then `guard` for some sources.
 fn answer_of(alloc: Global, sources: &[&str]) -> Result<String, Fail> {
-    match resolve(alloc, files_of(alloc, sources)?) {
+    match resolved(alloc, sources)? {
         Ok(package) => Ok(guarded(alloc, package)?),
         Err(fault) => Ok(told(alloc, &fault)?),
     }
