@@ -1,9 +1,9 @@
 # make            builds the proved program as bin/cue2schema
 # make run        builds it and runs it on examples/port.cue
 # make test       the gate: every proof from nothing, the must-fail edits, the tests, the program's stored run and its cases
-# make cases      the cases of the program alone
+# make cases      the cases of the program alone, and those that need pipes, rights or special files
 # make edits      the edits that the gate doesn't try; CRATES="cs_x cs_y" for those of some crates
-# make memory     runs the program with each of its first 40 allocations refused in turn, half an hour
+# make memory     runs each command with each of its first 40 allocations refused in turn, half an hour
 # make bench      times the lexer and the parser on 1 MiB of source in four shapes each, and packages at their limits
 # make install    copies the program to $(PREFIX)/bin
 # JOBS=4 works on four crates or runs at once; there are as many as processors where it isn't given
@@ -27,13 +27,16 @@ bin/cue2schema: $(SOURCES) | toolchain
 run: bin/cue2schema
 	bin/cue2schema export --root '#P' < examples/port.cue
 
+# Both run, also where the first one fails.
+try = tools/cases.sh $(1); cases=$$?; tools/commands.sh $(1) && [ $$cases -eq 0 ]
+
 # The gate leaves the program that it built; the cases never run on one that is older than a source.
 test: | toolchain
 	RT_JOBS=$(JOBS) rt ci
-	@if [ -x $(BUILT) ] && [ -z "$$(find $(SOURCES) -newer $(BUILT))" ]; then tools/cases.sh $(BUILT); else $(MAKE) -s cases; fi
+	@if [ -x $(BUILT) ] && [ -z "$$(find $(SOURCES) -newer $(BUILT))" ]; then $(call try,$(BUILT)); else $(MAKE) -s cases; fi
 
 cases: bin/cue2schema
-	tools/cases.sh bin/cue2schema
+	@$(call try,bin/cue2schema)
 
 edits: | toolchain
 	JOBS=$(JOBS) tools/edits.sh $(CRATES)

@@ -7,65 +7,66 @@ set -eu
 program=$(realpath "$1")
 shift
 cases=$(cd "$(dirname "$0")/../cases" && pwd)
-room=$(mktemp -d)
-trap 'rm -rf "$room"' EXIT
+. "$(dirname "$0")/wanted.sh"
 # The stack that a process has by default, so that deep sources are tried with no more.
 ulimit -s 8192
-passed=0
-failed=0
-dialect='"$schema":"https://json-schema.org/draft/2020-12/schema"'
 
-# run ARGS: the program on $room/in with the words of a file, one a line
+# run WORD..: the program on $room/in
 run() {
     status=0
-    set --
-    while IFS= read -r word; do set -- "$@" "$word"; done < "$words"
     "$program" "$@" < "$room/in" > "$room/out" 2> "$room/said" || status=$?
 }
 
-# count LABEL WELL: one more case
-count() {
-    if [ "$2" = yes ]; then
-        passed=$((passed + 1))
-    else
-        failed=$((failed + 1))
-        echo "cases/$1: status $status, printed '$(head -c 300 "$room/out")', said '$(head -c 300 "$room/said")'"
-    fi
+# run_args: the program on $room/in with the words of `args`, one a line
+run_args() {
+    set --
+    while IFS= read -r word; do set -- "$@" "$word"; done < args
+    run "$@"
 }
 
-# is_text FILE TEXT: whether the file is the text and a newline, or empty for no text
-is_text() {
-    if [ -n "$2" ]; then printf '%s\n' "$2"; fi | cmp -s - "$1"
-}
-
-# whether the run gave an answer: a schema, or a refusal whose offset stands in the source
-is_answered() {
-    if [ "$status" -eq 0 ]; then
-        [ -s "$room/out" ] && [ ! -s "$room/said" ]
-    else
-        [ "$status" -eq 2 ] && [ ! -s "$room/out" ] && [ "$(wc -l < "$room/said")" -eq 1 ] \
-            && awk -v most="$(wc -c < "$room/in")" \
-                '!/^error [0-9]+( at [0-9]+)?$/ || NF == 4 && $4 > most { bad = 1 } END { exit bad }' "$room/said"
-    fi
-}
-
-# is_wanted WANTED: whether the run did what a row wants: `answered`, the line of a refusal, or a schema's `$defs`
-is_wanted() {
-    case $1 in
-        answered) is_answered ;;
-        'error '*) [ "$status" -eq 2 ] && is_text "$room/out" '' && is_text "$room/said" "$1" ;;
-        '{'*)
-            [ "$status" -eq 0 ] && is_text "$room/said" '' \
-                && is_text "$room/out" "{\"\$defs\":$1,\"\$ref\":\"#/\$defs/$root\",$dialect}"
-            ;;
-        *) false ;;
-    esac
+# run_line LINE: the program with the words of a line, parted by blanks; behind `<` stands the file that it reads
+run_line() {
+    root=
+    : > "$room/in"
+    case $1 in *' < '*) cp "${1#* < }" "$room/in" ;; esac
+    set -f
+    set -- ${1%% < *}
+    set +f
+    for word in "$@"; do
+        case $word in '#'* | '--root=#'*) root=${word#*\#} ;; esac
+    done
+    run "$@"
 }
 
 # row LABEL WANTED: runs the program on $room/in
 row() {
-    run
-    if is_wanted "$2"; then count "$1" yes; else count "$1: wanted $2" no; fi
+    run_args
+    judge "$1" "$2"
+}
+
+# The rows of `runs`: a command line, and what is wanted of it.
+runs() { # folder
+    while IFS= read -r line || [ -n "$line" ]; do
+        run_line "${line%% => *}"
+        judge "$1: ${line%% => *}" "${line#* => }"
+    done < runs
+}
+
+# A definition, its schema, and documents with their verdicts: all commands, each with a file and with standard input.
+documents() { # folder
+    for line in 'export --root #P source.cue' 'export --root #P < source.cue'; do
+        run_line "$line"
+        if is_run 0 "$(cat schema.json)" ''; then count "$1: $line" yes; else count "$1: $line" no; fi
+    done
+    while IFS= read -r row || [ -n "$row" ]; do
+        printf '%s' "${row%% => *}" > document
+        for line in 'vet --root #P --doc document source.cue' 'vet --root #P --doc document < source.cue' \
+            'validate --schema schema.json --doc document' 'validate --schema schema.json < document' \
+            'agree --root #P --doc document source.cue' 'agree --root #P --doc document < source.cue'; do
+            run_line "$line"
+            judge "$1: ${row%% => *}: $line" "${row#* => }"
+        done
+    done < documents
 }
 
 # The rows of a table: a source, whose `;` are newlines, and what is wanted of it.
@@ -73,7 +74,7 @@ table() { # folder
     while IFS= read -r line || [ -n "$line" ]; do
         printf '%s' "${line%% => *}" | tr ';' '\n' > "$room/in"
         row "$1: ${line%% => *}" "${line#* => }"
-    done < "$cases/$1/table"
+    done < table
 }
 
 # The rows of `repeated`: what a source begins with, how many times a text follows, that text, and what is wanted.
@@ -83,7 +84,7 @@ repeated() { # folder
         many=${source#* + }
         { printf '%s' "${source%% + *}"; yes "${many#* \* }" | head -n "${many%% \* *}" | tr -d '\n'; } > "$room/in"
         row "$1: $source" "${line#* => }"
-    done < "$cases/$1/repeated"
+    done < repeated
 }
 
 # Each front of a source, byte by byte: how many bytes, or from how many to how many, and what is wanted of them.
@@ -94,11 +95,11 @@ fronts() { # folder
         [ "${range%-*}" -eq "$next" ] || { status=-; count "$1: the rows don't go on at $next" no; }
         next=$((${range#*-} + 1))
         for length in $(seq "${range%-*}" "${range#*-}"); do
-            head -c "$length" "$cases/$1/stdin" > "$room/in"
+            head -c "$length" stdin > "$room/in"
             row "$1: $length bytes" "${line#* => }"
         done
-    done < "$cases/$1/fronts"
-    [ "$next" -eq $(($(wc -c < "$cases/$1/stdin") + 1)) ] || { status=-; count "$1: the rows end before $next" no; }
+    done < fronts
+    [ "$next" -eq $(($(wc -c < stdin) + 1)) ] || { status=-; count "$1: the rows end before $next" no; }
 }
 
 # is_file FILE WANTED: whether the file is the other, which may be left out where nothing is wanted, and says `*` where
@@ -116,11 +117,11 @@ is_file() {
 # One run, by files.
 single() { # folder
     : > "$room/in"
-    if [ -e "$cases/$1/stdin" ]; then cp "$cases/$1/stdin" "$room/in"; fi
-    run
+    if [ -e stdin ]; then cp stdin "$room/in"; fi
+    run_args
     wanted=0
-    if [ -e "$cases/$1/status" ]; then wanted=$(cat "$cases/$1/status"); fi
-    if [ "$status" -eq "$wanted" ] && is_file "$room/out" "$cases/$1/stdout" && is_file "$room/said" "$cases/$1/stderr"; then
+    if [ -e status ]; then wanted=$(cat status); fi
+    if [ "$status" -eq "$wanted" ] && is_file "$room/out" stdout && is_file "$room/said" stderr; then
         count "$1" yes
     else
         count "$1" no
@@ -129,17 +130,17 @@ single() { # folder
 
 [ $# -gt 0 ] || set -- $(cd "$cases" && for it in */; do echo "${it%/}"; done)
 for name in "$@"; do
-    words=$cases/$name/args
-    root=$(sed -n 's/^#//p' "$words" | tail -n 1)
-    if [ -e "$cases/$name/table" ]; then
-        table "$name"
-    elif [ -e "$cases/$name/repeated" ]; then
-        repeated "$name"
-    elif [ -e "$cases/$name/fronts" ]; then
-        fronts "$name"
-    else
-        single "$name"
-    fi
+    # The program runs in a copy of the folder, where the files stand that its words name.
+    cp -r "$cases/$name" "$room/here"
+    cd "$room/here"
+    root=
+    if [ -e args ]; then root=$(sed -n 's/^#//p' args | tail -n 1); fi
+    form=single
+    for it in runs documents table repeated fronts; do
+        if [ -e "$it" ]; then form=$it; fi
+    done
+    "$form" "cases/$name"
+    cd "$room"
+    rm -r "$room/here"
 done
-echo "$passed passed, $failed failed"
-[ "$failed" -eq 0 ] && [ "$passed" -gt 0 ]
+closing

@@ -1,6 +1,6 @@
 // Takes the source on standard input through the first steps and prints how many tokens it has (`lex`), how many
 // definitions (`parse`), or how many definitions the package has (`resolve`, and `guard`, which takes that one step
-// further). A number behind the word says how many times, for measuring.
+// further). A number after the word says how many times, for measuring.
 #![tactic(auto)]
 
 use cs_guard::guard;

@@ -1,10 +1,10 @@
 -- A root that refers to one of its definitions, together with the definitions of a package, is the package's schema.
-use Rattle.std.proofs.Common.{◌≡◌, ℕ, List, Bool, Option, Some, None, IsSome, IfSome, refl, sym, ap, ◌∙◌, subst}
+use Rattle.std.proofs.Common.{◌≡◌, ℕ, List, Bool, Option, Some, None, IsSome, refl, sym, ap, ◌∙◌, subst}
+use Rattle.std.proofs.lemmas.Option.{same_Some}
 use Rattle.std.specs.Prelude.{◌↔◌, option_map, ◌≤◌}
 use Rattle.cs_document.specs.Document.{Document, entries, under, depth, IsDocument}
 use Rattle.cs_document.specs.View.{members_of}
-use Rattle.cs_grammar.specs.View.{bare_name}
-use Rattle.cs_package.specs.Environment.{Environment, bodies, written, IsDefinitionName}
+use Rattle.cs_package.specs.Environment.{Environment, bodies, IsDefinitionName}
 use Rattle.cs_instance.specs.Instance.{Rule, definition, IsInstance}
 use Rattle.cs_profile.specs.Keywords.{defined}
 use Rattle.cs_profile.specs.Profile.{IsSchema}
@@ -29,10 +29,8 @@ some_value None h = cc
 some_value (Some x) h = (x, refl)
 
 -- the root that was made for the name at a place
-pub refers : (o : Option (List ℕ)) (n t b : List ℕ) (d : Document) → o ≡ Some n → IfSome o (λ m. t ≡ written m) → b ≡ bare_name t → d ≡ reference_to b → d ≡ reference_to n
-refers o n t b d at text bare is =
-    let as_written : t ≡ written n = subst (λ p. IfSome p (λ m. t ≡ written m)) at text in
-    is ∙ ap reference_to (bare ∙ ap bare_name as_written)
+pub refers : (o : Option (List ℕ)) (n b : List ℕ) (d : Document) → o ≡ Some n → o ≡ Some b → d ≡ reference_to b → d ≡ reference_to n
+refers o n b d at there is = is ∙ ap reference_to (same_Some b n (sym there ∙ at))
 
 module _ (E : Environment) (n : List ℕ) (s : SchemaValue) (root : schema_view s.root ≡ reference_to n)
     (each : (m : List ℕ) → under m (definition_entries s.definitions) ≡ option_map definition_schema (bodies E m))
@@ -57,7 +55,7 @@ module _ (E : Environment) (n : List ℕ) (s : SchemaValue) (root : schema_view 
       let own = definition_under E n ms found.0 are found.1 in
       valid-root_of ms n found.0 V g found.1 x
       ∙ ap (λ d. V d x) own.schema
-      ∙ definition_agrees E (root_of ms n) I V h g n own.operands own.declared own.taken x
+      ∙ definition_agrees E (root_of ms n) I V h g n own.operands own.declared own.exportable x
 
   pub translates : IsTranslation E (document_of s)
   translates = λ m. ap (λ d. defined d m) is_root ∙ defined-root_of (members_of (definitions_view s.definitions)) n m ∙ each m

@@ -7,13 +7,13 @@ use Rattle.std.proofs.lemmas.Slice.Eq.{bytes_eq-Decides}
 use Rattle.cs_document.specs.Document.{Document, Members, no_members, member, entries, under, put}
 use Rattle.cs_package.specs.Expression.{Expression}
 use Rattle.cs_package.specs.Environment.{Environment, bodies}
-use Rattle.cs_instance.specs.Taken.{AllTaken}
+use Rattle.cs_instance.specs.Exportable.{AllExportable}
 use Rattle.cs_compile.specs.Translation.{definition_schema}
 use Rattle.cs_compile.specs.Definitions.{IsDefinition, AreDefinitions}
 
-module _ (E : Environment) (k : List ℕ) (bs : List Expression) (has : bodies E k ≡ Some bs) (taken : AllTaken bs) where
+module _ (E : Environment) (k : List ℕ) (bs : List Expression) (has : bodies E k ≡ Some bs) (exportable : AllExportable bs) where
   put_at : (l : List ℕ) → k ≡ l → IsDefinition E l (definition_schema bs)
-  put_at l same = record { operands = bs; declared = ap (bodies E) (sym same) ∙ has; schema = refl; taken = taken }
+  put_at l same = record { operands = bs; declared = ap (bodies E) (sym same) ∙ has; schema = refl; exportable = exportable }
 
   put_by : (l : List ℕ) (d : Document) (ms : Members) (o : Ordering) → slice_cmp nat_cmp k l ≡ o → AreDefinitions E (member l d ms) → AreDefinitions E (put k (definition_schema bs) ms)
       → AreDefinitions E (match_ordering o (member k (definition_schema bs) (member l d ms)) (member l (definition_schema bs) ms) (member l d (put k (definition_schema bs) ms)))

@@ -20,6 +20,7 @@ two-levels d k h = let one : max (suc d) 0 ≤ suc d = max-le (omega arith) (ome
 
 mutual
   schema_of-depth : (e : Expression) → depth (schema_of e) + 2 ≤ 4 * height e
+  schema_of-depth (cue.atom (cue.integer n)) = omega arith
   schema_of-depth (cue.range least None) = omega arith
   schema_of-depth (cue.range least (Some greatest)) = omega arith
   schema_of-depth (cue.conjunction cue.no_expressions) = omega arith

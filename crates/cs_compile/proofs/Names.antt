@@ -1,8 +1,7 @@
 -- Definitions that are put under their names, one after the other.
-use Rattle.std.proofs.Common.{◌≡◌, ℕ, suc, zero, ◌+◌, ◌<◌, List, [], ◌∷◌, take, length, Bool, true, false, ◌||◌, Option, Some, None, is_some, Ordering, Less, Equal, Greater, String, Global, string_bytes, string_cmp, nat_cmp, bytes_eq, cond, add-one, refl, sym, ap, ◌∙◌, if◌then◌else◌, arith}
-use Rattle.std.specs.Prelude.{option_map, ◌==◌, ◌≢◌}
+use Rattle.std.proofs.Common.{◌≡◌, ℕ, suc, zero, ◌+◌, ◌<◌, List, [], ◌∷◌, take, length, Bool, true, false, ◌||◌, Option, Some, None, is_some, Ordering, Less, Equal, Greater, String, Global, string_bytes, string_cmp, nat_cmp, bytes_eq, add-one, refl, sym, ap, ◌∙◌, if◌then◌else◌, arith}
+use Rattle.std.specs.Prelude.{option_map}
 use Rattle.std.proofs.Math.Bool.{or-true, or-false}
-use Rattle.std.proofs.lemmas.Bool.Decides.{nat_tests}
 use Rattle.std.proofs.lemmas.List.{take_all}
 use Rattle.std.specs.Ordering.{match_ordering, is_eq}
 use Rattle.std.specs.Cmp.Lexicographic.{slice_cmp}
@@ -11,23 +10,11 @@ use Rattle.std.proofs.lemmas.Map.Text.{is_eq-slice_cmp}
 use Rattle.std.proofs.lemmas.Slice.Eq.{bytes_eq-Decides}
 use Rattle.cs_document.specs.Document.{Document, Members, no_members, member, entries, under, put}
 use Rattle.cs_document.specs.View.{members_of}
-use Rattle.cs_grammar.specs.View.{bare_name}
 use Rattle.cs_package.specs.Expression.{Expression}
 use Rattle.cs_package.specs.Environment.{Environment, bodies, name_at}
 use Rattle.cs_profile.specs.SchemaDocument.{schema_view, definitions_view}
 use Rattle.cs_profile.specs.declared.schema.Schema.{Schema}
 use Rattle.cs_compile.specs.Translation.{definition_schema}
-
-bare_already : (bs : List ℕ) → ((rest : List ℕ) → bs ≢ 35 ∷ rest) → bs ≡ bare_name bs
-bare_already [] h = refl
-bare_already (x ∷ xs) h = bare (x == 35) refl
-  where
-    bare : (b : Bool) → (x == 35) ≡ b → x ∷ xs ≡ cond b xs (x ∷ xs)
-    bare true e = let is : x ≡ 35 = grind (arith, nat_tests) in absurd (h xs (rw is refl))
-    bare false e = refl
-
-pub bare_is : (t : List ℕ) → ((rest : List ℕ) → t ≢ 35 ∷ rest) → t ≡ bare_name t
-bare_is = bare_already
 
 once : {A : Type 0} (b : Bool) (x y r : A) → (if b then x else r) ≡ (if b then x else (if b then y else r))
 once true x y r = refl
@@ -91,10 +78,6 @@ declared-more (d ∷ E) zero k n e =
     one_there (bytes_eq n d.0) d.1 ∙ ap (bytes_eq n) same
 declared-more (d ∷ E) (suc i) k n e = one_past (bytes_eq n d.0) d.1 (bodies (take (suc i) E) n) (bodies (take i E) n) (bytes_eq n k) (declared-more E i k n e)
 
-pub first_schemas-none : (E : Environment) (n : List ℕ) → None ≡ first_schemas E 0 n
-first_schemas-none [] n = refl
-first_schemas-none (d ∷ E) n = refl
-
 -- the next definition is put under its name
 pub first_schemas-more : (E : Environment) (i : ℕ) (k : List ℕ) (bs : List Expression) (ms : Members) → name_at E i ≡ Some k → bodies E k ≡ Some bs
     → ((n : List ℕ) → under n (entries ms) ≡ first_schemas E i n) → (n : List ℕ) → under n (entries (put k (definition_schema bs) ms)) ≡ first_schemas E (i + 1) n
@@ -109,9 +92,3 @@ first_schemas-more E i k bs ms name has h n =
 
 pub first_schemas-all : (E : Environment) (n : List ℕ) → first_schemas E (length E) n ≡ option_map definition_schema (bodies E n)
 first_schemas-all E n = let all : take (length E) E ≡ E = take_all (length E) E (omega arith) in rw all (there (bodies E n))
-
--- a place within an environment has a name
-pub name_there : (E : Environment) (i : ℕ) → i < length E → (k : List ℕ) × (name_at E i ≡ Some k)
-name_there [] i h = absurd (omega arith)
-name_there (d ∷ E) zero h = (d.0, refl)
-name_there (d ∷ E) (suc i) h = name_there E i (omega arith)

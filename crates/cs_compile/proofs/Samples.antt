@@ -1,41 +1,25 @@
 -- Rows of the translation with their schemas, worked by the definitions. A wrong row stops the check here.
 use Rattle.std.proofs.Common.{◌≡◌, ℤ, pos, negsuc, List, [], ◌∷◌, map, Some, None, codes, refl}
-use Rattle.cs_document.specs.Document.{Document, integer, text, list, object, Documents, no_documents, document, Members, no_members, member}
-use Rattle.cs_grammar.specs.View.{bare_name}
+use Rattle.cs_document.specs.Document.{Document, integer, text}
+use Rattle.cs_document.proofs.SampleDocuments.{array, named_map}
 use Rattle.cs_package.specs.Expression as cue
 use Rattle.cs_package.specs.Expression.{Expression, int, number, string, bool, less, at_most, more, at_least}
 use Rattle.cs_package.specs.View.{expressions_of}
 use Rattle.cs_package.specs.Environment.{Environment, bodies}
 use Rattle.cs_profile.specs.Keywords.{defined}
+use Rattle.cs_profile.proofs.Rows.{says, typed}
 use Rattle.cs_compile.specs.Translation.{schema_of, definition_schema}
 use Rattle.cs_compile.specs.Whole.{reference_to}
 use Prim.Native.String.{String}
 
 -- ---- documents, written briefly
 
-abbrev members_of : List (String × Document) → Members
-members_of [] = no_members
-members_of (e ∷ es) = member (codes e.0) e.1 (members_of es)
-
-abbrev o : List (String × Document) → Document
-o es = object (members_of es)
-
-abbrev documents_of : List Document → Documents
-documents_of [] = no_documents
-documents_of (d ∷ ds) = document d (documents_of ds)
-
--- a schema of one keyword, of a type alone, and of a limit for numbers
-abbrev says : String → Document → Document
-says keyword v = o ((keyword, v) ∷ [])
-
-abbrev typed : String → Document
-typed name = says "type" (text (codes name))
-
+-- the schema of a limit for numbers
 abbrev limited : String → ℤ → Document
-limited keyword z = o ((keyword, integer z) ∷ ("type", text (codes "number")) ∷ [])
+limited keyword z = named_map ((keyword, integer z) ∷ ("type", text (codes "number")) ∷ [])
 
 abbrev all : List Document → Document
-all ds = says "allOf" (list (documents_of ds))
+all ds = says "allOf" (array ds)
 
 -- ---- expressions
 
@@ -44,7 +28,7 @@ conjunction es = cue.conjunction (expressions_of es)
 
 -- `int & >=1 & <=65535`
 abbrev port : List Expression
-port = cue.kind int ∷ cue.bound at_least (pos 1) ∷ cue.bound at_most (pos 65535) ∷ []
+port = cue.kind int ∷ cue.atom (cue.bound at_least (pos 1)) ∷ cue.atom (cue.bound at_most (pos 65535)) ∷ []
 
 abbrev port_schemas : List Document
 port_schemas = typed "integer" ∷ limited "minimum" (pos 1) ∷ limited "maximum" (pos 65535) ∷ []
@@ -52,23 +36,23 @@ port_schemas = typed "integer" ∷ limited "minimum" (pos 1) ∷ limited "maximu
 abbrev rows : List (Expression × Document)
 rows =
     -- `5` and `-9_223_372_036_854_775_808`
-    (cue.integer (pos 5), says "const" (integer (pos 5)))
-    ∷ (cue.integer (negsuc 9223372036854775807), says "const" (integer (negsuc 9223372036854775807)))
+    (cue.atom (cue.integer (pos 5)), says "const" (integer (pos 5)))
+    ∷ (cue.atom (cue.integer (negsuc 9223372036854775807)), says "const" (integer (negsuc 9223372036854775807)))
     -- `int`, `number`, `string`, `bool`
     ∷ (cue.kind int, typed "integer")
     ∷ (cue.kind number, typed "number")
     ∷ (cue.kind string, typed "string")
     ∷ (cue.kind bool, typed "boolean")
     -- `uint`, and `int8`
-    ∷ (cue.range (pos 0) None, o (("minimum", integer (pos 0)) ∷ ("type", text (codes "integer")) ∷ []))
-    ∷ (cue.range (negsuc 127) (Some (pos 127)), o (("maximum", integer (pos 127)) ∷ ("minimum", integer (negsuc 127)) ∷ ("type", text (codes "integer")) ∷ []))
+    ∷ (cue.range (pos 0) None, named_map (("minimum", integer (pos 0)) ∷ ("type", text (codes "integer")) ∷ []))
+    ∷ (cue.range (negsuc 127) (Some (pos 127)), named_map (("maximum", integer (pos 127)) ∷ ("minimum", integer (negsuc 127)) ∷ ("type", text (codes "integer")) ∷ []))
     -- `<3`, `<=3`, `>9223372036854775807`, `>=-3`
-    ∷ (cue.bound less (pos 3), limited "exclusiveMaximum" (pos 3))
-    ∷ (cue.bound at_most (pos 3), limited "maximum" (pos 3))
-    ∷ (cue.bound more (pos 9223372036854775807), limited "exclusiveMinimum" (pos 9223372036854775807))
-    ∷ (cue.bound at_least (negsuc 2), limited "minimum" (negsuc 2))
+    ∷ (cue.atom (cue.bound less (pos 3)), limited "exclusiveMaximum" (pos 3))
+    ∷ (cue.atom (cue.bound at_most (pos 3)), limited "maximum" (pos 3))
+    ∷ (cue.atom (cue.bound more (pos 9223372036854775807)), limited "exclusiveMinimum" (pos 9223372036854775807))
+    ∷ (cue.atom (cue.bound at_least (negsuc 2)), limited "minimum" (negsuc 2))
     -- no operand, one, and several, of which one may be a conjunction
-    ∷ (conjunction [], o [])
+    ∷ (conjunction [], named_map [])
     ∷ (conjunction (cue.kind int ∷ []), all (typed "integer" ∷ []))
     ∷ (conjunction port, all port_schemas)
     ∷ (conjunction (cue.kind number ∷ conjunction port ∷ []), all (typed "number" ∷ all port_schemas ∷ []))
@@ -80,23 +64,20 @@ each_row = refl
 -- ---- definitions
 
 -- without a body, with one, and with several: `#A: int`, then `#A: >2`
-by_bodies : map definition_schema ([] ∷ (cue.kind int ∷ []) ∷ (cue.kind int ∷ cue.bound more (pos 2) ∷ []) ∷ []) ≡ o [] ∷ typed "integer" ∷ all (typed "integer" ∷ limited "exclusiveMinimum" (pos 2) ∷ []) ∷ []
+by_bodies : map definition_schema ([] ∷ (cue.kind int ∷ []) ∷ (cue.kind int ∷ cue.atom (cue.bound more (pos 2)) ∷ []) ∷ []) ≡ named_map [] ∷ typed "integer" ∷ all (typed "integer" ∷ limited "exclusiveMinimum" (pos 2) ∷ []) ∷ []
 by_bodies = refl
 
 -- a root that refers to a definition
 referring : reference_to (codes "P") ≡ says "$ref" (text (codes "#/$defs/P"))
 referring = refl
 
--- ---- names
-
-bare : map bare_name (codes "#P" ∷ codes "P" ∷ codes "##" ∷ codes "" ∷ []) ≡ codes "P" ∷ codes "P" ∷ codes "#" ∷ [] ∷ []
-bare = refl
+-- ---- packages
 
 abbrev declared : Environment
 declared = (codes "A", cue.kind int ∷ []) ∷ (codes "B", cue.kind string ∷ []) ∷ []
 
 abbrev schema : Document
-schema = o (("$defs", o (("A", typed "integer") ∷ ("B", typed "string") ∷ [])) ∷ ("$ref", text (codes "#/$defs/A")) ∷ [])
+schema = named_map (("$defs", named_map (("A", typed "integer") ∷ ("B", typed "string") ∷ [])) ∷ ("$ref", text (codes "#/$defs/A")) ∷ [])
 
 -- what stands under each declared name, and under another one
 defines : map (defined schema) (codes "A" ∷ codes "B" ∷ codes "C" ∷ []) ≡ Some (typed "integer") ∷ Some (typed "string") ∷ None ∷ []

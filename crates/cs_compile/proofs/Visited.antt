@@ -42,17 +42,17 @@ clean-all_of p (document d ds) h =
 
 mutual
   pub schema_of-clean : (p : List ℕ) (e : Expression) → IsClean (visits false p (schema_of e))
-  schema_of-clean p (cue.integer n) = record { shaped = refl; named = λ is_defined. refl }
+  schema_of-clean p (cue.atom (cue.integer n)) = record { shaped = refl; named = λ is_defined. refl }
   schema_of-clean p (cue.kind int) = record { shaped = refl; named = λ is_defined. refl }
   schema_of-clean p (cue.kind number) = record { shaped = refl; named = λ is_defined. refl }
   schema_of-clean p (cue.kind string) = record { shaped = refl; named = λ is_defined. refl }
   schema_of-clean p (cue.kind bool) = record { shaped = refl; named = λ is_defined. refl }
   schema_of-clean p (cue.range least None) = record { shaped = refl; named = λ is_defined. refl }
   schema_of-clean p (cue.range least (Some greatest)) = record { shaped = refl; named = λ is_defined. refl }
-  schema_of-clean p (cue.bound less n) = record { shaped = refl; named = λ is_defined. refl }
-  schema_of-clean p (cue.bound at_most n) = record { shaped = refl; named = λ is_defined. refl }
-  schema_of-clean p (cue.bound more n) = record { shaped = refl; named = λ is_defined. refl }
-  schema_of-clean p (cue.bound at_least n) = record { shaped = refl; named = λ is_defined. refl }
+  schema_of-clean p (cue.atom (cue.bound less n)) = record { shaped = refl; named = λ is_defined. refl }
+  schema_of-clean p (cue.atom (cue.bound at_most n)) = record { shaped = refl; named = λ is_defined. refl }
+  schema_of-clean p (cue.atom (cue.bound more n)) = record { shaped = refl; named = λ is_defined. refl }
+  schema_of-clean p (cue.atom (cue.bound at_least n)) = record { shaped = refl; named = λ is_defined. refl }
   schema_of-clean p (cue.conjunction es) = clean-all_of p (schemas_of es) (schemas_of-clean (at_key p (codes "allOf")) 0 es)
   schema_of-clean p _ = record { shaped = refl; named = λ is_defined. refl }
 
@@ -78,14 +78,14 @@ definitions-clean E p (member k d ms) h =
 
 mutual
   schema_of-direct_names : (e : Expression) → direct_names (schema_of e) ≡ []
-  schema_of-direct_names (cue.integer n) = refl
+  schema_of-direct_names (cue.atom (cue.integer n)) = refl
   schema_of-direct_names (cue.kind k) = refl
   schema_of-direct_names (cue.range least None) = refl
   schema_of-direct_names (cue.range least (Some greatest)) = refl
-  schema_of-direct_names (cue.bound less n) = refl
-  schema_of-direct_names (cue.bound at_most n) = refl
-  schema_of-direct_names (cue.bound more n) = refl
-  schema_of-direct_names (cue.bound at_least n) = refl
+  schema_of-direct_names (cue.atom (cue.bound less n)) = refl
+  schema_of-direct_names (cue.atom (cue.bound at_most n)) = refl
+  schema_of-direct_names (cue.atom (cue.bound more n)) = refl
+  schema_of-direct_names (cue.atom (cue.bound at_least n)) = refl
   schema_of-direct_names (cue.conjunction cue.no_expressions) = refl
   schema_of-direct_names (cue.conjunction (cue.expression e es)) = ap (λ ns. ns ++ []) (schemas_of-direct_names (cue.expression e es))
   schema_of-direct_names _ = refl

@@ -5,7 +5,7 @@ use Rattle.cs_document.specs.Document.{Document, Members, no_members, member, En
 use Rattle.cs_document.specs.View.{members_of}
 use Rattle.cs_package.specs.Expression.{Expression}
 use Rattle.cs_package.specs.Environment.{Environment, bodies}
-use Rattle.cs_instance.specs.Taken.{AllTaken}
+use Rattle.cs_instance.specs.Exportable.{AllExportable}
 use Rattle.cs_profile.specs.SchemaDocument.{definitions_view}
 use Rattle.cs_profile.specs.declared.schema.Schema.{Schema}
 use Rattle.cs_compile.specs.Translation.{definition_schema}
@@ -14,12 +14,12 @@ use Rattle.cs_compile.specs.Translation.{definition_schema}
 abbrev pub definition_entries : List (String Global × Schema) → List (Entry Document)
 definition_entries ds = entries (members_of (definitions_view ds))
 
--- d is the schema of the bodies of n, whose forms are taken
+-- d is the schema of the bodies of n, whose forms are exportable
 pub record IsDefinition (E : Environment) (n : List ℕ) (d : Document) : Type 0 where
   pub operands : List Expression
   pub declared : bodies E n ≡ Some operands
   pub schema : d ≡ definition_schema operands
-  pub taken : AllTaken operands
+  pub exportable : AllExportable operands
 
 -- each member is the definition of its key
 abbrev pub AreDefinitions : Environment → Members → Type 0

@@ -1,3 +1,4 @@
-pub mod Definitions
 pub mod Translation
 pub mod Whole
+-- for contracts of private functions and proofs alone
+pub mod Definitions

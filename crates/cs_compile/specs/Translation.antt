@@ -1,4 +1,4 @@
--- The schema of each form of expression that is taken so far, a row for each form (own rule; the keywords are those of
+-- The schema of each form of expression that is exported so far, a row for each form (own rule; the keywords are those of
 -- JSON Schema Validation 2020-12, section 6, and Core, section 10). Keys stand in byte order.
 use Rattle.std.specs.Prelude.{◌≡◌, ℕ, ℤ, List, [], ◌∷◌, Option, Some, None, option_map, false, codes}
 use Rattle.cs_document.specs.Document.{Document, boolean, integer, text, list, object, Documents, no_documents, document, Members, no_members, member}
@@ -40,21 +40,21 @@ all_of (document d ds) = member (codes "allOf") (list (document d ds)) no_member
 
 abbrev mutual
   pub schema_of : Expression → Document
-  schema_of (cue.integer n) = object (member (codes "const") (integer n) no_members)
+  schema_of (cue.atom (cue.integer n)) = object (member (codes "const") (integer n) no_members)
   schema_of (cue.kind k) = object (of_type (type_name k))
   schema_of (cue.range least greatest) = object (range_keywords least greatest)
-  schema_of (cue.bound r n) = object (member (limit_name r) (integer n) (of_type (codes "number")))
+  schema_of (cue.atom (cue.bound r n)) = object (member (limit_name r) (integer n) (of_type (codes "number")))
   schema_of (cue.conjunction es) = object (all_of (schemas_of es))
-  -- the forms that are not taken yet: no call writes these rows
-  schema_of cue.top = boolean false
-  schema_of cue.bottom = boolean false
-  schema_of cue.null = boolean false
-  schema_of (cue.boolean b) = boolean false
-  schema_of (cue.text s) = boolean false
+  -- the forms that are not exported yet: no call writes these rows
+  schema_of (cue.atom cue.top) = boolean false
+  schema_of (cue.atom cue.bottom) = boolean false
+  schema_of (cue.atom cue.null) = boolean false
+  schema_of (cue.atom (cue.boolean b)) = boolean false
+  schema_of (cue.atom (cue.text s)) = boolean false
   schema_of (cue.reference n) = boolean false
-  schema_of (cue.not_integer n) = boolean false
-  schema_of (cue.not_text s) = boolean false
-  schema_of cue.not_null = boolean false
+  schema_of (cue.atom (cue.not_integer n)) = boolean false
+  schema_of (cue.atom (cue.not_text s)) = boolean false
+  schema_of (cue.atom cue.not_null) = boolean false
   schema_of (cue.disjunction es) = boolean false
   schema_of (cue.struct ds opened) = boolean false
   schema_of (cue.list es rest) = boolean false

@@ -1,14 +1,14 @@
-use std::alloc::{AllocError, AllocFailed};
+use std::alloc::AllocError;
 use thiserror::Error;
 
-/// Why there is no schema.
+/// Why a package can't be compiled.
 #[derive(Debug, Drop, Error)]
 pub enum CompileFault {
-    /// Memory ran out, at any time.
+    /// Memory ran out.
     #[error("out of memory")]
     OutOfMemory,
-    /// The root is no definition of the package.
-    #[error("unknown root")]
+    /// The package doesn't declare the root.
+    #[error("the package does not declare the root")]
     UnknownRoot,
 }
 
@@ -19,17 +19,6 @@ impl From<AllocError> for CompileFault {
     ghost from_gives = { λ _ e. e ≡ OutOfMemory };
 
     fn from(_refused: AllocError) -> CompileFault {
-        CompileFault::OutOfMemory
-    }
-}
-
-impl<T: Drop> From<AllocFailed<T>> for CompileFault {
-    ghost use Rattle.std.specs.Prelude.{◌≡◌};
-    ghost use Rattle.cs_compile.specs.declared.fault.CompileFault.TheVariants.{OutOfMemory};
-
-    ghost from_gives = { λ _ e. e ≡ OutOfMemory };
-
-    fn from(_refused: AllocFailed<T>) -> CompileFault {
         CompileFault::OutOfMemory
     }
 }

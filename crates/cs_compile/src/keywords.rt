@@ -1,20 +1,19 @@
 // Schema objects, a keyword at a time.
-ghost use Rattle.std.specs.Prelude.{◌≡◌, [], ◌∷◌, Some, IfOk, IsOkUnless, codes};
-ghost use Rattle.cs_document.specs.Document.{text, integer, list, object};
-ghost use Rattle.cs_document.specs.View.{doc_view, documents_of};
-ghost use Rattle.cs_profile.specs.SchemaDocument.{schema_view, schemas_view, kind_name, reference_document, slots_of, present, unless_no_list};
-ghost use Rattle.cs_profile.specs.SchemaDocument.{set_slot};
-ghost use Rattle.cs_compile.specs.Translation.{all_of};
+ghost use Rattle.std.specs.Prelude.{◌≡◌, Some, IfOk, codes};
+ghost use Rattle.cs_document.specs.Document.{text, integer, object};
+ghost use Rattle.cs_document.specs.View.{doc_view};
+ghost use Rattle.cs_package.specs.View.{relation_of};
+ghost use Rattle.cs_profile.specs.SchemaDocument.{schema_view, schemas_view, kind_name, reference_document, slots_of, present, set_slot, unless_no_list};
+ghost use Rattle.cs_compile.specs.Translation.{limit_name};
 
-use crate::CompileFault;
 use cs_document::Doc;
+use cs_package::Relation;
 use cs_profile::{JsonKind, Keywords, Schema};
-use std::alloc::Global;
+use std::alloc::{AllocError, Global};
 
 /// The schema of some keywords.
-pub(crate) fn object(alloc: Global, keywords: Keywords) -> Result<Schema, CompileFault>
-    ensures value { IfOk result (λ s. schema_view s ≡ object (present (slots_of keywords))) }
-    ensures memory { IsOkUnless result CompileFault.OutOfMemory }
+pub(crate) fn object(alloc: Global, keywords: Keywords) -> Result<Schema, AllocError>
+    ensures { IfOk result (λ s. schema_view s ≡ object (present (slots_of keywords))) }
 {
     Ok(Schema::Object(Box::new(alloc, keywords)?))
 }
@@ -49,45 +48,28 @@ pub(crate) fn with_type(keywords: Keywords, kind: JsonKind) -> Keywords
     }
 }
 
-/// The keywords with `minimum`.
-pub(crate) fn with_minimum(keywords: Keywords, limit: i64) -> Keywords
-    ensures { slots_of result ≡ set_slot (codes "minimum") (Some (integer limit)) (slots_of keywords) }
-{
-    Keywords {
-        minimum: Some(limit),
-        ..keywords
-    }
-}
-
-/// The keywords with `maximum`.
-pub(crate) fn with_maximum(keywords: Keywords, limit: i64) -> Keywords
-    ensures { slots_of result ≡ set_slot (codes "maximum") (Some (integer limit)) (slots_of keywords) }
-{
-    Keywords {
-        maximum: Some(limit),
-        ..keywords
-    }
-}
-
-/// The keywords with `exclusiveMinimum`.
-pub(crate) fn with_above(keywords: Keywords, limit: i64) -> Keywords
+/// The keywords with the limit that a relation to it is written as.
+pub(crate) fn with_limit(keywords: Keywords, relation: Relation, limit: i64) -> Keywords
     ensures { slots_of result
-        ≡ set_slot (codes "exclusiveMinimum") (Some (integer limit)) (slots_of keywords) }
+        ≡ set_slot (limit_name (relation_of relation)) (Some (integer limit)) (slots_of keywords) }
 {
-    Keywords {
-        above: Some(limit),
-        ..keywords
-    }
-}
-
-/// The keywords with `exclusiveMaximum`.
-pub(crate) fn with_below(keywords: Keywords, limit: i64) -> Keywords
-    ensures { slots_of result
-        ≡ set_slot (codes "exclusiveMaximum") (Some (integer limit)) (slots_of keywords) }
-{
-    Keywords {
-        below: Some(limit),
-        ..keywords
+    match relation {
+        Relation::Less => Keywords {
+            below: Some(limit),
+            ..keywords
+        },
+        Relation::AtMost => Keywords {
+            maximum: Some(limit),
+            ..keywords
+        },
+        Relation::More => Keywords {
+            above: Some(limit),
+            ..keywords
+        },
+        Relation::AtLeast => Keywords {
+            minimum: Some(limit),
+            ..keywords
+        },
     }
 }
 

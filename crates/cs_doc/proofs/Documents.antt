@@ -142,11 +142,6 @@ pub members_of-turn : (es : List Entry) (e : Entry) (k : List ℕ) (v : Data) (r
     → option_map (members_before es) (members_of (value.member k v rest)) ≡ option_map (members_before (es ++ e ∷ [])) (members_of rest)
 members_of-turn es e k v rest named is = rw (← named, is) (members_before-more es e (members_of rest))
 
--- nothing was made yet
-pub none_before : (r : Option Documents) → r ≡ option_map (documents_before []) r
-none_before None = refl
-none_before (Some ds) = refl
-
 pub no_member_before : (r : Option Members) → r ≡ option_map (members_before []) r
 no_member_before None = refl
 no_member_before (Some ms) = refl

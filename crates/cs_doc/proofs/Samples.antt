@@ -1,30 +1,17 @@
 -- Documents and their texts, worked by the definitions. A wrong expectation stops the check here.
-use Rattle.std.proofs.Common.{◌≡◌, ℕ, pos, neg_ℤ, true, false, List, [], ◌∷◌, map, codes, Option, Some, None, option_and_then, refl}
+use Rattle.std.proofs.Common.{◌≡◌, pos, neg_ℤ, true, false, [], ◌∷◌, map, codes, Option, Some, None, option_and_then, refl}
 use Rattle.std.specs.Prelude.{is_some}
 use Rattle.std.specs.Fmt.{digits}
 use Rattle.std.specs.Str.{chars, is_utf8}
 use Rattle.std.proofs.lemmas.Str.{IsUtf8-from_is_utf8}
 use Rattle.serde_json.specs.Read.{read}
-use Rattle.cs_document.specs.Document.{Document, null, boolean, integer, text, list, object, Members, no_members, member, Entry}
-use Rattle.cs_document.specs.View.{documents_of}
+use Rattle.cs_document.specs.Document.{Document, null, boolean, integer, text}
+use Rattle.cs_document.proofs.SampleDocuments.{number, array, map_of}
 use Rattle.cs_doc.specs.Texts.{document_of, text_of, Reads, IsJson, HasOtherNumber}
 use Rattle.cs_doc.proofs.OnLiterals.{cs_doc_on_literals}
 use Prim.Native.String.{String}
 
 -- ---- short forms
-
-abbrev number : ℕ → Document
-number n = integer (pos n)
-
-abbrev array : List Document → Document
-array ds = list (documents_of ds)
-
-abbrev members : List (Entry Document) → Members
-members [] = no_members
-members (e ∷ es) = member e.0 e.1 (members es)
-
-abbrev map_of : List (Entry Document) → Document
-map_of es = object (members es)
 
 -- ---- what is written (RFC 8259; a text has the shortest escapes, and only those that it must have)
 

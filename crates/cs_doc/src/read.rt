@@ -9,7 +9,7 @@ use serde_json::{Map, Value};
 use std::alloc::Global;
 use std::collections::BTreeMap;
 
-/// The document that a text of JSON is (RFC 8259), as `serde_json` reads it: of a key that stands
+/// The document that a text of JSON is (RFC 8259), as `serde_json` reads it: where a key occurs
 /// several times the last value counts. `NotJson` comes before `NotInteger`.
 pub fn read_doc(alloc: Global, text: &[u8]) -> Result<Doc, DocFault>
     ensures found { IfOk result (λ d. Reads text.now (doc_view d)) }
@@ -28,8 +28,8 @@ pub fn read_doc(alloc: Global, text: &[u8]) -> Result<Doc, DocFault>
 fn doc_of(alloc: Global, value: &Value) -> Result<Doc, DocFault>
     ensures value { IfOk result (λ d. document_of (view value.now) ≡ Some (doc_view d)) }
     ensures document { IfOk result (λ d. IsDocument (doc_view d)) }
-    ensures other { IsErrOf result DocFault.NotInteger → document_of (view value.now) ≡ None }
-    ensures json { ¬ (IsErrOf result DocFault.NotJson) }
+    ensures not_integer { IsErrOf result DocFault.NotInteger → document_of (view value.now) ≡ None }
+    ensures never_not_json { ¬ (IsErrOf result DocFault.NotJson) }
 {
     match value {
         Value::Null => Ok(Doc::Null),
@@ -49,9 +49,9 @@ fn docs_of(alloc: Global, items: &Vec<Value>) -> Result<Vec<Doc>, DocFault>
     ensures value { IfOk result
         (λ v. documents_of (items_view items.now.items) ≡ Some (list_view v.items)) }
     ensures document { IfOk result (λ v. AreDocuments (list_view v.items)) }
-    ensures other { IsErrOf result DocFault.NotInteger
+    ensures not_integer { IsErrOf result DocFault.NotInteger
         → documents_of (items_view items.now.items) ≡ None }
-    ensures json { ¬ (IsErrOf result DocFault.NotJson) }
+    ensures never_not_json { ¬ (IsErrOf result DocFault.NotJson) }
 {
     let mut found = Vec::with_capacity(alloc, items.len())?;
     for item in items {
@@ -68,9 +68,9 @@ fn members_of(
     ensures value { IfOk result
         (λ m. members_of (members_view members.now.entries) ≡ Some (object_view m.entries)) }
     ensures document { IfOk result (λ m. AreMembers (object_view m.entries)) }
-    ensures other { IsErrOf result DocFault.NotInteger
+    ensures not_integer { IsErrOf result DocFault.NotInteger
         → members_of (members_view members.now.entries) ≡ None }
-    ensures json { ¬ (IsErrOf result DocFault.NotJson) }
+    ensures never_not_json { ¬ (IsErrOf result DocFault.NotJson) }
 {
     let mut found = BTreeMap::new(alloc);
     for (key, member) in members {

@@ -7,7 +7,7 @@ ghost use Rattle.cs_document.specs.View.{doc_view, list_view, object_view};
 
 use crate::{Doc, DocFault};
 use serde_json::{Map, Value};
-use std::alloc::Global;
+use std::alloc::{AllocError, Global};
 use std::collections::BTreeMap;
 
 /// The compact text of a document, as `serde_json` writes it: no blanks, keys in byte order. It is read
@@ -24,10 +24,9 @@ pub fn write_doc(alloc: Global, doc: &Doc) -> Result<Vec<u8>, DocFault>
 }
 
 #[cycle(write)]
-fn value_of(alloc: Global, doc: &Doc) -> Result<Value, DocFault>
+fn value_of(alloc: Global, doc: &Doc) -> Result<Value, AllocError>
     ensures value { IfOk result (λ v. view v ≡ data_of (doc_view doc.now)) }
     ensures document { OnOk result (IsDocument (doc_view doc.now)) }
-    ensures memory { IsOkUnless result DocFault.OutOfMemory }
 {
     match doc {
         Doc::Null => Ok(Value::Null),
@@ -40,10 +39,9 @@ fn value_of(alloc: Global, doc: &Doc) -> Result<Value, DocFault>
 }
 
 #[cycle(write)]
-fn values_of(alloc: Global, items: &Vec<Doc>) -> Result<Vec<Value>, DocFault>
+fn values_of(alloc: Global, items: &Vec<Doc>) -> Result<Vec<Value>, AllocError>
     ensures value { IfOk result (λ v. items_view v.items ≡ items_of (list_view items.now.items)) }
     ensures document { OnOk result (AreDocuments (list_view items.now.items)) }
-    ensures memory { IsOkUnless result DocFault.OutOfMemory }
 {
     let mut found = Vec::with_capacity(alloc, items.len())?;
     for item in items {
@@ -53,11 +51,10 @@ fn values_of(alloc: Global, items: &Vec<Doc>) -> Result<Vec<Value>, DocFault>
 }
 
 #[cycle(write)]
-fn map_of(alloc: Global, members: &BTreeMap<String, Doc>) -> Result<Map<String, Value>, DocFault>
+fn map_of(alloc: Global, members: &BTreeMap<String, Doc>) -> Result<Map<String, Value>, AllocError>
     ensures value { IfOk result
         (λ m. members_view m.entries ≡ values_of (object_view members.now.entries)) }
     ensures document { OnOk result (AreMembers (object_view members.now.entries)) }
-    ensures memory { IsOkUnless result DocFault.OutOfMemory }
 {
     let mut found = Map::new(alloc);
     for (key, member) in members {

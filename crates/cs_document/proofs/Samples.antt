@@ -1,23 +1,10 @@
 -- Documents, worked by the definitions. A wrong expectation stops the check here.
 use Rattle.std.proofs.Common.{◌≡◌, ℕ, pos, neg_ℤ, true, false, if◌then◌else◌, suc, List, [], ◌∷◌, map, codes, Some, None, refl, arith, rules}
-use Rattle.cs_document.specs.Document.{Document, null, boolean, integer, text, list, object, Members, no_members, member, Entry, IsDocument, document_eq, depth, put, under, get_member, entries}
+use Rattle.cs_document.specs.Document.{Document, null, boolean, integer, text, Members, no_members, IsDocument, document_eq, depth, put, under, get_member, entries}
 use Rattle.cs_document.specs.Opened.{opened, a_null, a_boolean, an_integer, a_text, a_list, an_object}
-use Rattle.cs_document.specs.View.{documents_of}
+use Rattle.cs_document.proofs.SampleDocuments.{number, array, members, map_of}
 
 -- ---- short forms
-
-abbrev number : ℕ → Document
-number n = integer (pos n)
-
-abbrev array : List Document → Document
-array ds = list (documents_of ds)
-
-abbrev members : List (Entry Document) → Members
-members [] = no_members
-members (e ∷ es) = member e.0 e.1 (members es)
-
-abbrev map_of : List (Entry Document) → Document
-map_of es = object (members es)
 
 abbrev a : List ℕ
 a = codes "a"

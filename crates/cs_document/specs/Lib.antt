@@ -1,4 +1,5 @@
 pub mod Document
-pub mod Equality
 pub mod Opened
 pub mod View
+-- for contracts of private functions and proofs alone
+pub mod Equality

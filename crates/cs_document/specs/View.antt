@@ -28,5 +28,6 @@ doc_view = fold-Doc Document doc_step
 abbrev pub list_view : List Doc → Documents
 list_view ds = documents_of (map doc_view ds)
 
+-- for private contracts alone
 abbrev pub object_view : List (String Global × Doc) → Members
 object_view ms = members_of (map (λ m. (m.0, doc_view m.1)) ms)

@@ -2,7 +2,7 @@ ghost use Rattle.std.specs.Prelude.{◌≡◌, IfOk, IsOkUnless};
 ghost use Rattle.cs_document.specs.View.{doc_view, list_view, object_view};
 
 use crate::{Doc, DocFault};
-use std::alloc::Global;
+use std::alloc::{AllocError, Global};
 use std::collections::BTreeMap;
 
 impl Doc {
@@ -11,14 +11,13 @@ impl Doc {
         ensures value { IfOk result (λ d. doc_view d ≡ doc_view self.now) }
         ensures memory { IsOkUnless result DocFault.OutOfMemory }
     {
-        copy_doc(alloc, self)
+        Ok(copy_doc(alloc, self)?)
     }
 }
 
 #[cycle(copy)]
-fn copy_doc(alloc: Global, doc: &Doc) -> Result<Doc, DocFault>
-    ensures value { IfOk result (λ d. doc_view d ≡ doc_view doc.now) }
-    ensures memory { IsOkUnless result DocFault.OutOfMemory }
+fn copy_doc(alloc: Global, doc: &Doc) -> Result<Doc, AllocError>
+    ensures { IfOk result (λ d. doc_view d ≡ doc_view doc.now) }
 {
     match doc {
         Doc::Null => Ok(Doc::Null),
@@ -31,9 +30,8 @@ fn copy_doc(alloc: Global, doc: &Doc) -> Result<Doc, DocFault>
 }
 
 #[cycle(copy)]
-fn copy_items(alloc: Global, items: &Vec<Doc>) -> Result<Vec<Doc>, DocFault>
-    ensures value { IfOk result (λ v. list_view v.items ≡ list_view items.now.items) }
-    ensures memory { IsOkUnless result DocFault.OutOfMemory }
+fn copy_items(alloc: Global, items: &Vec<Doc>) -> Result<Vec<Doc>, AllocError>
+    ensures { IfOk result (λ v. list_view v.items ≡ list_view items.now.items) }
 {
     let mut copies = Vec::with_capacity(alloc, items.len())?;
     for item in items {
@@ -46,9 +44,8 @@ fn copy_items(alloc: Global, items: &Vec<Doc>) -> Result<Vec<Doc>, DocFault>
 fn copy_members(
     alloc: Global,
     members: &BTreeMap<String, Doc>,
-) -> Result<BTreeMap<String, Doc>, DocFault>
-    ensures value { IfOk result (λ m. object_view m.entries ≡ object_view members.now.entries) }
-    ensures memory { IsOkUnless result DocFault.OutOfMemory }
+) -> Result<BTreeMap<String, Doc>, AllocError>
+    ensures { IfOk result (λ m. object_view m.entries ≡ object_view members.now.entries) }
 {
     let mut copies = BTreeMap::new(alloc);
     for (key, member) in members {

@@ -4,15 +4,15 @@ use thiserror::Error;
 /// Why a document was not read or made.
 #[derive(Debug, Drop, Error)]
 pub enum DocFault {
-    /// A growth was refused for want of memory.
+    /// Memory ran out.
     #[error("out of memory")]
     OutOfMemory,
-    /// `serde_json` reads no value from the text: wrong JSON, bytes that are no UTF-8, nesting above
-    /// 127, or a number too large for it.
-    #[error("not JSON")]
+    /// `serde_json` reads no value from the text: it isn't JSON or isn't UTF-8, nests deeper than 127, or has
+    /// a number that is too large.
+    #[error("the text is not JSON")]
     NotJson,
-    /// The value that it reads has a number that is no signed integer of 64 bits.
-    #[error("a number is no signed integer of 64 bits")]
+    /// The text has a number that isn't an integer, or doesn't fit in 64 signed bits.
+    #[error("a number is not an integer that fits in 64 signed bits")]
     NotInteger,
 }
 

@@ -2,10 +2,11 @@
 use Rattle.std.proofs.Common.{◌≡◌, ℕ, zero, suc, ◌<◌, ◌≤◌, List, [], ◌∷◌, length, take, Bool, true, false, ◌&&◌, ◌||◌, Option, Some, None, codes, refl, arith}
 use Rattle.std.proofs.lemmas.Bool.Decides.{nat_tests}
 use Rattle.std.specs.Prelude.{nat_le, is_none}
+use Rattle.std.proofs.lemmas.Bool.{and_parts}
 use Rattle.cs_grammar.specs.declared.token.Sort.{Sort}
 use Rattle.cs_grammar.specs.declared.token.Sort.TheVariants as sorts
-use Rattle.cs_grammar.specs.declared.line.Line.{Line}
-use Rattle.cs_grammar.specs.declared.line.Line.TheVariants.{Plain, WantsComma, Minus}
+use Rattle.cs_grammar.specs.declared.line.LineState.{LineState}
+use Rattle.cs_grammar.specs.declared.line.LineState.TheVariants.{Plain, WantsComma, Minus}
 use Rattle.cs_grammar.specs.declared.fault.SyntaxFault.TheVariants.{NoToken, IntegerRange}
 use Rattle.cs_grammar.specs.Spelling.{is_integer, text_value, sort_of}
 use Rattle.cs_grammar.specs.Values.{integer_value}
@@ -22,15 +23,11 @@ none_is : (o : Option Sort) → is_none o ≡ true → o ≡ None
 none_is None h = refl
 none_is (Some s) h = absurd cc
 
-both : (a b : Bool) → (a && b) ≡ true → (a ≡ true) × (b ≡ true)
-both true b h = (refl, h)
-both false b h = absurd cc
-
 step : (bs : List ℕ) (n k m : ℕ) → none_among bs n (suc k) ≡ true → n < m → m ≤ suc k → (none_among bs n k ≡ true → m ≤ k → sort_of (take m bs) ≡ None) → sort_of (take m bs) ≡ None
 step bs n k m h lt le again = by (nat_le m k) refl
   where
     parts : ((nat_le (suc k) n || is_none (sort_of (take (suc k) bs))) ≡ true) × (none_among bs n k ≡ true)
-    parts = both (nat_le (suc k) n || is_none (sort_of (take (suc k) bs))) (none_among bs n k) h
+    parts = and_parts (nat_le (suc k) n || is_none (sort_of (take (suc k) bs))) (none_among bs n k) h
 
     last : (b : Bool) → nat_le (suc k) n ≡ b → (b || is_none (sort_of (take (suc k) bs))) ≡ true → m ≡ suc k → sort_of (take (suc k) bs) ≡ None
     last true e p is = let never : ⊥ = grind (arith, nat_tests) in absurd never
@@ -47,7 +44,7 @@ tried bs n (suc k) h m lt le = step bs n k m h lt le (λ e less. tried bs n k e 
 longest : (bs : List ℕ) (n : ℕ) (s : Sort) → nat_le n (length bs) ≡ true → sort_of (take n bs) ≡ Some s → none_among bs n (length bs) ≡ true → IsLongest bs n s
 longest bs n s h e none = record { within = grind (arith, nat_tests); spelled = e; longest = tried bs n (length bs) none }
 
-begins : (l : Line) (bs : List ℕ) (n : ℕ) (s : Sort) → begins_bad_number bs ≡ false → begins_quotes bs ≡ false → begins_comment bs ≡ false → is_out_of_range l s (take n bs) ≡ false
+begins : (l : LineState) (bs : List ℕ) (n : ℕ) (s : Sort) → begins_bad_number bs ≡ false → begins_quotes bs ≡ false → begins_comment bs ≡ false → is_out_of_range l s (take n bs) ≡ false
     → nat_le n (length bs) ≡ true → sort_of (take n bs) ≡ Some s → none_among bs n (length bs) ≡ true → Begins l bs n s
 begins l bs n s digit three slashes range h e none = record { no_bad_number = digit; no_quotes = three; no_comment = slashes; in_range = range; token = longest bs n s h e none }
 

@@ -1,2 +1,5 @@
+pub mod Views
+pub mod Rests
+pub mod BareNames
 pub mod Samples
 pub mod CutSamples

@@ -6,14 +6,14 @@ use Rattle.cs_grammar.specs.declared.token.Sort.{Sort}
 use Rattle.cs_grammar.specs.declared.token.Sort.TheVariants as sorts
 use Rattle.cs_grammar.specs.Spelling.{is_letter, is_digit, is_name_byte, begins_definition, is_run_byte, is_hex_digit, digit_value, is_integer, escape_value, is_character, text_value, sort_of}
 use Rattle.cs_grammar.specs.Values.{is_hexadecimal, integer_value, unescaped}
-use Rattle.cs_grammar.specs.declared.line.Line.TheVariants.{Plain, WantsComma, Minus}
-use Rattle.cs_grammar.specs.declared.ast.Relation.TheVariants as relations
+use Rattle.cs_grammar.specs.declared.line.LineState.TheVariants.{Plain, WantsComma, Minus}
+use Rattle.cs_grammar.specs.Atom as atoms
 use Rattle.cs_grammar.specs.Cut.{run, begins_bad_number, begins_quotes, begins_comment, line_len, is_too_large, is_out_of_range, is_space, line_after, line_ended, comma_if, lexeme}
 use Rattle.cs_grammar.specs.View.{bare_name, word, words}
 use Rattle.cs_grammar.specs.Literal.{Literal, ends, plain, escape, four, eight}
 use Rattle.cs_grammar.specs.Words as W
 use Rattle.cs_grammar.specs.Tree as T
-use Rattle.cs_grammar.specs.Spells.{is_keyword, literal_of, is_null, is_package, start_at, SpellsNumber, positive, negative}
+use Rattle.cs_grammar.specs.Spells.{is_reserved, literal_of, is_null, is_package, start_at, SpellsNumber, positive, negative}
 use Rattle.std.proofs.lemmas.Int.{ints}
 use Prim.Native.String.{String}
 
@@ -204,13 +204,13 @@ unfolding integer_value unescaped text_value
 tokens = refl
 
 marks : map (λ t. word (lexeme sorts.Mark (codes t) 7)) ("{" ∷ "}" ∷ "[" ∷ "]" ∷ "(" ∷ ")" ∷ "," ∷ ":" ∷ "?" ∷ "!" ∷ "&" ∷ "|" ∷ "..." ∷ "<" ∷ "<=" ∷ ">" ∷ ">=" ∷ "!=" ∷ "-" ∷ [])
-    ≡ W.open_struct 7 ∷ W.close_struct 7 ∷ W.open_list 7 ∷ W.close_list 7 ∷ W.open_paren 7 ∷ W.close_paren 7 ∷ W.comma 7 ∷ W.colon 7 ∷ W.question 7 ∷ W.bang 7 ∷ W.amp 7 ∷ W.bar 7 ∷ W.dots 7 ∷ W.relation relations.Less 7 ∷ W.relation relations.AtMost 7 ∷ W.relation relations.More 7 ∷ W.relation relations.AtLeast 7 ∷ W.unequal 7 ∷ W.minus 7 ∷ []
+    ≡ W.open_struct 7 ∷ W.close_struct 7 ∷ W.open_list 7 ∷ W.close_list 7 ∷ W.open_paren 7 ∷ W.close_paren 7 ∷ W.comma 7 ∷ W.colon 7 ∷ W.question 7 ∷ W.bang 7 ∷ W.amp 7 ∷ W.bar 7 ∷ W.dots 7 ∷ W.relation atoms.less 7 ∷ W.relation atoms.at_most 7 ∷ W.relation atoms.more 7 ∷ W.relation atoms.at_least 7 ∷ W.unequal 7 ∷ W.minus 7 ∷ []
 marks = refl
 
 bare_names : map (λ t. bare_name (codes t)) ("#A" ∷ "A#" ∷ "##" ∷ "" ∷ []) ≡ map codes ("A" ∷ "A#" ∷ "#" ∷ "" ∷ [])
 bare_names = refl
 
-starts : map W.start (W.name (1 ∷ []) 7 ∷ W.definition_name (1 ∷ []) 7 ∷ W.hidden 7 ∷ W.top_mark 7 ∷ W.bottom_mark 7 ∷ W.numeral 1 7 ∷ W.quoted (1 ∷ []) 7 ∷ W.open_struct 7 ∷ W.close_struct 7 ∷ W.open_list 7 ∷ W.close_list 7 ∷ W.open_paren 7 ∷ W.close_paren 7 ∷ W.comma 7 ∷ W.nl 7 ∷ W.colon 7 ∷ W.question 7 ∷ W.bang 7 ∷ W.amp 7 ∷ W.bar 7 ∷ W.dots 7 ∷ W.relation relations.Less 7 ∷ W.unequal 7 ∷ W.minus 7 ∷ W.left_out 7 ∷ W.finish 7 ∷ [])
+starts : map W.start (W.name (1 ∷ []) 7 ∷ W.definition_name (1 ∷ []) 7 ∷ W.hidden 7 ∷ W.top_mark 7 ∷ W.bottom_mark 7 ∷ W.numeral 1 7 ∷ W.quoted (1 ∷ []) 7 ∷ W.open_struct 7 ∷ W.close_struct 7 ∷ W.open_list 7 ∷ W.close_list 7 ∷ W.open_paren 7 ∷ W.close_paren 7 ∷ W.comma 7 ∷ W.nl 7 ∷ W.colon 7 ∷ W.question 7 ∷ W.bang 7 ∷ W.amp 7 ∷ W.bar 7 ∷ W.dots 7 ∷ W.relation atoms.less 7 ∷ W.unequal 7 ∷ W.minus 7 ∷ W.left_out 7 ∷ W.finish 7 ∷ [])
     ≡ replicate 26 7
 starts = refl
 
@@ -219,10 +219,10 @@ first_start = refl
 
 -- ---- names with a meaning of their own
 
-no_operands : parts (λ t. is_keyword (codes t)) ("for" ∷ "if" ∷ "let" ∷ []) ("" ∷ "fo" ∷ "fors" ∷ "If" ∷ "lets" ∷ "import" ∷ "package" ∷ "null" ∷ "true" ∷ "false" ∷ []) ≡ true
+no_operands : parts (λ t. is_reserved (codes t)) ("for" ∷ "if" ∷ "let" ∷ []) ("" ∷ "fo" ∷ "fors" ∷ "If" ∷ "lets" ∷ "import" ∷ "package" ∷ "null" ∷ "true" ∷ "false" ∷ []) ≡ true
 no_operands = refl
 
-literals : map (λ t. literal_of (codes t)) ("null" ∷ "true" ∷ "false" ∷ "nul" ∷ "Null" ∷ "truer" ∷ "False" ∷ "" ∷ []) ≡ Some T.null ∷ Some (T.boolean true) ∷ Some (T.boolean false) ∷ replicate 5 None
+literals : map (λ t. literal_of (codes t)) ("null" ∷ "true" ∷ "false" ∷ "nul" ∷ "Null" ∷ "truer" ∷ "False" ∷ "" ∷ []) ≡ Some (T.atom T.null) ∷ Some (T.atom (T.boolean true)) ∷ Some (T.atom (T.boolean false)) ∷ replicate 5 None
 literals = refl
 
 nulls : parts (λ t. is_null (codes t)) ("null" ∷ []) ("nul" ∷ "nulls" ∷ "Null" ∷ "" ∷ []) ≡ true

@@ -3,8 +3,8 @@ use Rattle.std.specs.Prelude.{◌≡◌, ℕ, ◌+◌, ◌^◌, ◌<◌, ◌≤�
 use Rattle.std.specs.List.{prefix_len}
 use Rattle.cs_grammar.specs.declared.token.Sort.{Sort}
 use Rattle.cs_grammar.specs.declared.token.Sort.TheVariants as sorts
-use Rattle.cs_grammar.specs.declared.line.Line.{Line}
-use Rattle.cs_grammar.specs.declared.line.Line.TheVariants.{Plain, WantsComma, Minus}
+use Rattle.cs_grammar.specs.declared.line.LineState.{LineState}
+use Rattle.cs_grammar.specs.declared.line.LineState.TheVariants.{Plain, WantsComma, Minus}
 use Rattle.cs_grammar.specs.declared.fault.SyntaxFault.{SyntaxFault}
 use Rattle.cs_grammar.specs.declared.fault.SyntaxFault.TheVariants.{NoToken, IntegerRange}
 use Rattle.cs_grammar.specs.Spelling.{is_digit, is_run_byte, is_integer, sort_of}
@@ -46,17 +46,17 @@ abbrev pub line_len : List ℕ → ℕ
 line_len bs = prefix_len (λ x. not (x == 10)) bs
 
 -- an integer that hasn't 64 signed bits: the least one needs a `-` as the token before it
-abbrev pub is_too_large : Line → List ℕ → Bool
+abbrev pub is_too_large : LineState → List ℕ → Bool
 is_too_large Minus t = nat_lt (2 ^ 63) (integer_value t)
 is_too_large Plain t = nat_le (2 ^ 63) (integer_value t)
 is_too_large WantsComma t = nat_le (2 ^ 63) (integer_value t)
 
-abbrev pub is_out_of_range : Line → Sort → List ℕ → Bool
+abbrev pub is_out_of_range : LineState → Sort → List ℕ → Bool
 is_out_of_range l sorts.Integer t = is_too_large l t
 is_out_of_range l _ t = false
 
 -- a token stands here, and neither a comment nor what is refused
-pub record Begins (l : Line) (bs : List ℕ) (n : ℕ) (s : Sort) : Type 0 where
+pub record Begins (l : LineState) (bs : List ℕ) (n : ℕ) (s : Sort) : Type 0 where
   pub no_bad_number : begins_bad_number bs ≡ false
   pub no_quotes : begins_quotes bs ≡ false
   pub no_comment : begins_comment bs ≡ false
@@ -70,13 +70,13 @@ abbrev pub is_space : ℕ → Bool
 is_space x = x == 32 || x == 9 || x == 13
 
 -- what a mark means for what follows: the end of a line behind `)`, `]`, `}`, `?` and `...` inserts a comma; 45 is `-`
-abbrev pub line_after_mark : List ℕ → Line
+abbrev pub line_after_mark : List ℕ → LineState
 line_after_mark (x ∷ []) = if x == 45 then Minus else (if x == 41 || x == 93 || x == 125 || x == 63 then WantsComma else Plain)
 line_after_mark (x ∷ y ∷ z ∷ []) = if x == 46 && (y == 46 && z == 46) then WantsComma else Plain
 line_after_mark _ = Plain
 
 -- what a token means for what follows
-abbrev pub line_after : Sort → List ℕ → Line
+abbrev pub line_after : Sort → List ℕ → LineState
 line_after sorts.Name t = WantsComma
 line_after sorts.Definition t = WantsComma
 line_after sorts.Hidden t = WantsComma
@@ -90,7 +90,7 @@ line_after sorts.Inserted t = Plain
 line_after sorts.End t = Plain
 
 -- the end of a line inserts its comma, and leaves the `-` that the last token may be
-abbrev pub line_ended : Line → Line
+abbrev pub line_ended : LineState → LineState
 line_ended Plain = Plain
 line_ended WantsComma = Plain
 line_ended Minus = Minus
@@ -100,7 +100,7 @@ pub data Lexeme : Type 0 where
   lexeme : Sort → List ℕ → ℕ → Lexeme
 
 -- the comma that the end of a line inserts; a comment is the end of its line
-abbrev pub comma_if : Line → ℕ → List Lexeme → List Lexeme
+abbrev pub comma_if : LineState → ℕ → List Lexeme → List Lexeme
 comma_if WantsComma o ks = lexeme sorts.Inserted [] o ∷ ks
 comma_if Plain o ks = ks
 comma_if Minus o ks = ks
@@ -108,12 +108,12 @@ comma_if Minus o ks = ks
 -- ---- the cut
 
 -- Cut bs o l ks: the text bs, which begins at offset o behind a token that leaves the line as l, is blanks, comments and the tokens ks.
-pub data Cut : List ℕ → ℕ → Line → List Lexeme → Type 0 where
-  blank : {x o : ℕ} {bs : List ℕ} {l : Line} {ks : List Lexeme} → is_space x ≡ true → Cut bs (o + 1) l ks → Cut (x ∷ bs) o l ks
-  new_line : {x o : ℕ} {bs : List ℕ} {l : Line} {ks : List Lexeme} → (x == 10) ≡ true → Cut bs (o + 1) (line_ended l) ks → Cut (x ∷ bs) o l (comma_if l o ks)
-  comment : {o : ℕ} {bs : List ℕ} {l : Line} {ks : List Lexeme} → begins_comment bs ≡ true → Cut (drop (line_len bs) bs) (o + line_len bs) (line_ended l) ks → Cut bs o l (comma_if l o ks)
-  token : {n o : ℕ} {s : Sort} {bs : List ℕ} {l : Line} {ks : List Lexeme} → Begins l bs n s → Cut (drop n bs) (o + n) (line_after s (take n bs)) ks → Cut bs o l (lexeme s (take n bs) o ∷ ks)
-  finish : {o : ℕ} {l : Line} → Cut [] o l (comma_if l o (lexeme sorts.End [] o ∷ []))
+pub data Cut : List ℕ → ℕ → LineState → List Lexeme → Type 0 where
+  blank : {x o : ℕ} {bs : List ℕ} {l : LineState} {ks : List Lexeme} → is_space x ≡ true → Cut bs (o + 1) l ks → Cut (x ∷ bs) o l ks
+  new_line : {x o : ℕ} {bs : List ℕ} {l : LineState} {ks : List Lexeme} → (x == 10) ≡ true → Cut bs (o + 1) (line_ended l) ks → Cut (x ∷ bs) o l (comma_if l o ks)
+  comment : {o : ℕ} {bs : List ℕ} {l : LineState} {ks : List Lexeme} → begins_comment bs ≡ true → Cut (drop (line_len bs) bs) (o + line_len bs) (line_ended l) ks → Cut bs o l (comma_if l o ks)
+  token : {n o : ℕ} {s : Sort} {bs : List ℕ} {l : LineState} {ks : List Lexeme} → Begins l bs n s → Cut (drop n bs) (o + n) (line_after s (take n bs)) ks → Cut bs o l (lexeme s (take n bs) o ∷ ks)
+  finish : {o : ℕ} {l : LineState} → Cut [] o l (comma_if l o (lexeme sorts.End [] o ∷ []))
 
 -- the tokens of a source
 abbrev pub IsCut : List ℕ → List Lexeme → Type 0
@@ -128,7 +128,7 @@ pub data NoneBegins : List ℕ → Type 0 where
   nothing : {x : ℕ} {bs : List ℕ} → is_space x ≡ false → (x == 10) ≡ false → begins_comment (x ∷ bs) ≡ false → BeginsNone (x ∷ bs) → NoneBegins (x ∷ bs)
 
 -- an integer out of range begins here
-pub record TooLarge (l : Line) (bs : List ℕ) (n : ℕ) : Type 0 where
+pub record TooLarge (l : LineState) (bs : List ℕ) (n : ℕ) : Type 0 where
   pub no_bad_number : begins_bad_number bs ≡ false
   pub no_quotes : begins_quotes bs ≡ false
   pub no_comment : begins_comment bs ≡ false
@@ -136,13 +136,13 @@ pub record TooLarge (l : Line) (bs : List ℕ) (n : ℕ) : Type 0 where
   pub token : IsLongest bs n sorts.Integer
 
 -- Stuck bs o l f: the text bs, which begins at offset o behind a token that leaves the line as l, is cut so up to the offset of f, where what f says stands.
-pub data Stuck : List ℕ → ℕ → Line → SyntaxFault → Type 0 where
-  no_token : {o : ℕ} {bs : List ℕ} {l : Line} → NoneBegins bs → Stuck bs o l (NoToken o)
-  too_large : {o n : ℕ} {bs : List ℕ} {l : Line} → TooLarge l bs n → Stuck bs o l (IntegerRange o)
-  past_blank : {x o : ℕ} {bs : List ℕ} {l : Line} {f : SyntaxFault} → is_space x ≡ true → Stuck bs (o + 1) l f → Stuck (x ∷ bs) o l f
-  past_line : {x o : ℕ} {bs : List ℕ} {l : Line} {f : SyntaxFault} → (x == 10) ≡ true → Stuck bs (o + 1) (line_ended l) f → Stuck (x ∷ bs) o l f
-  past_comment : {o : ℕ} {bs : List ℕ} {l : Line} {f : SyntaxFault} → begins_comment bs ≡ true → Stuck (drop (line_len bs) bs) (o + line_len bs) (line_ended l) f → Stuck bs o l f
-  past_token : {n o : ℕ} {s : Sort} {bs : List ℕ} {l : Line} {f : SyntaxFault} → Begins l bs n s → Stuck (drop n bs) (o + n) (line_after s (take n bs)) f → Stuck bs o l f
+pub data Stuck : List ℕ → ℕ → LineState → SyntaxFault → Type 0 where
+  no_token : {o : ℕ} {bs : List ℕ} {l : LineState} → NoneBegins bs → Stuck bs o l (NoToken o)
+  too_large : {o n : ℕ} {bs : List ℕ} {l : LineState} → TooLarge l bs n → Stuck bs o l (IntegerRange o)
+  past_blank : {x o : ℕ} {bs : List ℕ} {l : LineState} {f : SyntaxFault} → is_space x ≡ true → Stuck bs (o + 1) l f → Stuck (x ∷ bs) o l f
+  past_line : {x o : ℕ} {bs : List ℕ} {l : LineState} {f : SyntaxFault} → (x == 10) ≡ true → Stuck bs (o + 1) (line_ended l) f → Stuck (x ∷ bs) o l f
+  past_comment : {o : ℕ} {bs : List ℕ} {l : LineState} {f : SyntaxFault} → begins_comment bs ≡ true → Stuck (drop (line_len bs) bs) (o + line_len bs) (line_ended l) f → Stuck bs o l f
+  past_token : {n o : ℕ} {s : Sort} {bs : List ℕ} {l : LineState} {f : SyntaxFault} → Begins l bs n s → Stuck (drop n bs) (o + n) (line_after s (take n bs)) f → Stuck bs o l f
 
 abbrev pub IsStuck : List ℕ → SyntaxFault → Type 0
 IsStuck bs f = Stuck bs 0 Plain f

@@ -2,6 +2,7 @@ pub mod Spelling
 pub mod Literal
 pub mod Values
 pub mod Cut
+pub mod Atom
 pub mod Words
 pub mod Tree
 pub mod Spells

@@ -4,18 +4,18 @@ use Rattle.std.specs.Int.{w64}
 use Rattle.std.specs.Option.{unwrap_or}
 use Rattle.std.specs.Str.{bytes_eq}
 use Rattle.std.specs.List.{list_any}
-use Rattle.cs_grammar.specs.declared.ast.Relation.{Relation}
 use Rattle.cs_grammar.specs.declared.ast.FieldMark.{FieldMark}
 use Rattle.cs_grammar.specs.declared.ast.FieldMark.TheVariants.{Regular, Optional, Required}
+use Rattle.cs_grammar.specs.Atom.{Relation, top, bottom, null, boolean, integer, text, bound, not_integer, not_text, not_null}
 use Rattle.cs_grammar.specs.Words.{Words, start, name, definition_name, top_mark, bottom_mark, numeral, quoted, open_struct, close_struct, open_list, close_list, open_paren, close_paren, comma, nl, colon, question, bang, amp, bar, dots, relation, unequal, minus, finish}
-use Rattle.cs_grammar.specs.Tree.{Label, Tree, top, bottom, null, boolean, integer, text, named, reference, bound, not_integer, not_text, not_null, meet, join, paren, struct, list, Trees, none, more, Fields, no_field, field, End, closed, any, each, DefinitionTree, definition, FileTree, file}
+use Rattle.cs_grammar.specs.Tree.{Label, Tree, atom, named, reference, conjunction, disjunction, paren, struct, list, Trees, none, more, Fields, no_field, field, End, closed, any, each, DefinitionTree, definition, FileTree, file}
 
 -- the names that are no operands
-abbrev pub keywords : List (List ℕ)
-keywords = codes "for" ∷ codes "if" ∷ codes "let" ∷ []
+abbrev pub reserved_names : List (List ℕ)
+reserved_names = codes "for" ∷ codes "if" ∷ codes "let" ∷ []
 
-abbrev pub is_keyword : List ℕ → Bool
-is_keyword s = list_any (bytes_eq s) keywords
+abbrev pub is_reserved : List ℕ → Bool
+is_reserved s = list_any (bytes_eq s) reserved_names
 
 abbrev pub is_null : List ℕ → Bool
 is_null s = bytes_eq s (codes "null")
@@ -26,9 +26,9 @@ is_package s = bytes_eq s (codes "package")
 -- the literals that are names
 abbrev pub literal_of : List ℕ → Option Tree
 literal_of s =
-    if is_null s then Some null else (
-    if bytes_eq s (codes "true") then Some (boolean true) else (
-    if bytes_eq s (codes "false") then Some (boolean false) else
+    if is_null s then Some (atom null) else (
+    if bytes_eq s (codes "true") then Some (atom (boolean true)) else (
+    if bytes_eq s (codes "false") then Some (atom (boolean false)) else
     None))
 
 -- where the first word stands
@@ -65,10 +65,10 @@ pub data SpellsNumber : ℤ → Words → Words → Type 0 where
 
 -- Bound = `<` or `<=` or `>` or `>=`, then Number; or `!=`, then Number or text or `null`
 pub data SpellsBound : Tree → Words → Words → Type 0 where
-  limit_is : {b : Relation} {z : ℤ} {p : ℕ} {ts r : Words} → SpellsNumber z ts r → SpellsBound (bound b z) (relation b p ∷ ts) r
-  other_number : {z : ℤ} {p : ℕ} {ts r : Words} → SpellsNumber z ts r → SpellsBound (not_integer z) (unequal p ∷ ts) r
-  other_text : {s : List ℕ} {p q : ℕ} {r : Words} → SpellsBound (not_text s) (unequal p ∷ quoted s q ∷ r) r
-  other_null : {s : List ℕ} {p q : ℕ} {r : Words} → is_null s ≡ true → SpellsBound not_null (unequal p ∷ name s q ∷ r) r
+  limit_is : {b : Relation} {z : ℤ} {p : ℕ} {ts r : Words} → SpellsNumber z ts r → SpellsBound (atom (bound b z)) (relation b p ∷ ts) r
+  other_number : {z : ℤ} {p : ℕ} {ts r : Words} → SpellsNumber z ts r → SpellsBound (atom (not_integer z)) (unequal p ∷ ts) r
+  other_text : {s : List ℕ} {p q : ℕ} {r : Words} → SpellsBound (atom (not_text s)) (unequal p ∷ quoted s q ∷ r) r
+  other_null : {s : List ℕ} {p q : ℕ} {r : Words} → is_null s ≡ true → SpellsBound (atom not_null) (unequal p ∷ name s q ∷ r) r
 
 -- Label = name or text
 pub data SpellsLabel : Label → Words → Words → Type 0 where
@@ -98,20 +98,20 @@ mutual
   pub data SpellsField : Label → FieldMark → Tree → Words → Words → Type 0 where
     labelled : {l : Label} {m : FieldMark} {e : Tree} {ts us vs r : Words} → SpellsLabel l ts us → SpellsMark m us vs → SpellsValue e vs r → SpellsField l m e ts r
 
-  -- Expr = Conj { `|` Conj }; one alone makes no join
+  -- Expr = Conj { `|` Conj }; one alone makes no disjunction
   pub data SpellsExpr : Tree → Words → Words → Type 0 where
     one_conj : {e : Tree} {ts r : Words} → SpellsConj e ts r → SpellsExpr e ts r
-    joined : {e f : Tree} {fs : Trees} {ts us r : Words} → SpellsConj e ts us → SpellsBars (more f fs) us r → SpellsExpr (join (more e (more f fs))) ts r
+    disjunction_is : {e f : Tree} {fs : Trees} {ts us r : Words} → SpellsConj e ts us → SpellsBars (more f fs) us r → SpellsExpr (disjunction (more e (more f fs))) ts r
 
   -- { `|` Conj }
   pub data SpellsBars : Trees → Words → Words → Type 0 where
     no_bar : {r : Words} → SpellsBars none r r
     a_bar : {p : ℕ} {e : Tree} {es : Trees} {ts us r : Words} → SpellsConj e ts us → SpellsBars es us r → SpellsBars (more e es) (bar p ∷ ts) r
 
-  -- Conj = Operand { `&` Operand }; one alone makes no meet
+  -- Conj = Operand { `&` Operand }; one alone makes no conjunction
   pub data SpellsConj : Tree → Words → Words → Type 0 where
     one_operand : {e : Tree} {ts r : Words} → SpellsOperand e ts r → SpellsConj e ts r
-    met : {e f : Tree} {fs : Trees} {ts us r : Words} → SpellsOperand e ts us → SpellsAmps (more f fs) us r → SpellsConj (meet (more e (more f fs))) ts r
+    conjunction_is : {e f : Tree} {fs : Trees} {ts us r : Words} → SpellsOperand e ts us → SpellsAmps (more f fs) us r → SpellsConj (conjunction (more e (more f fs))) ts r
 
   -- { `&` Operand }
   pub data SpellsAmps : Trees → Words → Words → Type 0 where
@@ -120,12 +120,12 @@ mutual
 
   -- Operand = `_`, `_|_`, definition-name, name other than `for`, `if`, `let`, Number, text, Bound, `(` Expr [ nl ] `)`, Struct, List; the names `null`, `true`, `false` are literals
   pub data SpellsOperand : Tree → Words → Words → Type 0 where
-    top_is : {p : ℕ} {r : Words} → SpellsOperand top (top_mark p ∷ r) r
-    bottom_is : {p : ℕ} {r : Words} → SpellsOperand bottom (bottom_mark p ∷ r) r
+    top_is : {p : ℕ} {r : Words} → SpellsOperand (atom top) (top_mark p ∷ r) r
+    bottom_is : {p : ℕ} {r : Words} → SpellsOperand (atom bottom) (bottom_mark p ∷ r) r
     reference_is : {s : List ℕ} {p : ℕ} {r : Words} → SpellsOperand (reference s p) (definition_name s p ∷ r) r
-    name_is : {s : List ℕ} {e : Tree} {p : ℕ} {r : Words} → is_keyword s ≡ false → e ≡ unwrap_or (literal_of s) (named s p) → SpellsOperand e (name s p ∷ r) r
-    number_is : {z : ℤ} {ts r : Words} → SpellsNumber z ts r → SpellsOperand (integer z) ts r
-    text_is : {s : List ℕ} {p : ℕ} {r : Words} → SpellsOperand (text s) (quoted s p ∷ r) r
+    name_is : {s : List ℕ} {e : Tree} {p : ℕ} {r : Words} → is_reserved s ≡ false → e ≡ unwrap_or (literal_of s) (named s p) → SpellsOperand e (name s p ∷ r) r
+    number_is : {z : ℤ} {ts r : Words} → SpellsNumber z ts r → SpellsOperand (atom (integer z)) ts r
+    text_is : {s : List ℕ} {p : ℕ} {r : Words} → SpellsOperand (atom (text s)) (quoted s p ∷ r) r
     bound_is : {e : Tree} {ts r : Words} → SpellsBound e ts r → SpellsOperand e ts r
     paren_is : {p : ℕ} {e : Tree} {ts us r : Words} → SpellsExpr e ts us → ClosesParen us r → SpellsOperand (paren e) (open_paren p ∷ ts) r
     struct_is : {p : ℕ} {fs : Fields} {b : Bool} {ts r : Words} → SpellsStruct fs b ts r → SpellsOperand (struct p fs b) (open_struct p ∷ ts) r

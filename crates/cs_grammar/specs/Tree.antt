@@ -1,7 +1,8 @@
 -- The tree of a file, apart from where it lies in memory. Offsets are kept where a fault may stand.
-use Rattle.std.specs.Prelude.{ℕ, ℤ, Bool, List, Option}
-use Rattle.cs_grammar.specs.declared.ast.Relation.{Relation}
+use Rattle.std.specs.Prelude.{ℕ, Bool, List, Option}
 use Rattle.cs_grammar.specs.declared.ast.FieldMark.{FieldMark}
+use Rattle.cs_grammar.specs.Atom.{Atom}
+pub use Rattle.cs_grammar.specs.Atom.{top, bottom, null, boolean, integer, text, bound, not_integer, not_text, not_null}
 
 -- a label of a struct literal, and whether it stands in quotes
 pub record Label : Type 0 where
@@ -11,20 +12,11 @@ pub record Label : Type 0 where
 mutual
   -- an expression; a reference is named without its `#`
   pub data Tree : Type 0 where
-    top : Tree
-    bottom : Tree
-    null : Tree
-    boolean : Bool → Tree
-    integer : ℤ → Tree
-    text : List ℕ → Tree
+    atom : Atom → Tree
     named : List ℕ → ℕ → Tree
     reference : List ℕ → ℕ → Tree
-    bound : Relation → ℤ → Tree
-    not_integer : ℤ → Tree
-    not_text : List ℕ → Tree
-    not_null : Tree
-    meet : Trees → Tree
-    join : Trees → Tree
+    conjunction : Trees → Tree
+    disjunction : Trees → Tree
     paren : Tree → Tree
     struct : ℕ → Fields → Bool → Tree
     list : Trees → End → Tree

@@ -7,6 +7,7 @@ use Rattle.cs_grammar.specs.declared.ast.Expr.TheOpen.{Expr-F, Field-F, ListEnd-
 use Rattle.cs_grammar.specs.declared.ast.ListEnd.{ListEnd, fold-ListEnd}
 use Rattle.cs_grammar.specs.declared.ast.Field.{Field, fold-Field}
 use Rattle.cs_grammar.specs.declared.ast.FieldMark.{FieldMark}
+use Rattle.cs_grammar.specs.declared.ast.Relation as ast
 use Rattle.cs_grammar.specs.declared.ast.Relation.TheVariants as relations
 use Rattle.cs_grammar.specs.declared.ast.Definition.{Definition}
 use Rattle.cs_grammar.specs.declared.ast.File.{File}
@@ -17,6 +18,7 @@ use Rattle.cs_grammar.specs.declared.kind.Kind.{Kind}
 use Rattle.cs_grammar.specs.declared.kind.Kind.TheVariants as kinds
 use Rattle.cs_grammar.specs.Values.{integer_value, unescaped}
 use Rattle.cs_grammar.specs.Cut.{Lexeme, lexeme}
+use Rattle.cs_grammar.specs.Atom.{Relation, less, at_most, more, at_least}
 use Rattle.cs_grammar.specs.Words as W
 use Rattle.cs_grammar.specs.Words.{Word, Words}
 use Rattle.cs_grammar.specs.Tree as T
@@ -94,10 +96,10 @@ word_of kinds.Bang t o = W.bang o
 word_of kinds.Amp t o = W.amp o
 word_of kinds.Bar t o = W.bar o
 word_of kinds.Dots t o = W.dots o
-word_of kinds.Less t o = W.relation relations.Less o
-word_of kinds.AtMost t o = W.relation relations.AtMost o
-word_of kinds.More t o = W.relation relations.More o
-word_of kinds.AtLeast t o = W.relation relations.AtLeast o
+word_of kinds.Less t o = W.relation less o
+word_of kinds.AtMost t o = W.relation at_most o
+word_of kinds.More t o = W.relation more o
+word_of kinds.AtLeast t o = W.relation at_least o
 word_of kinds.Unequal t o = W.unequal o
 word_of kinds.Minus t o = W.minus o
 word_of kinds.LeftOut t o = W.left_out o
@@ -112,6 +114,12 @@ abbrev pub words : List Lexeme → Words
 words ks = map word ks
 
 -- ---- trees
+
+abbrev pub relation_of : ast.Relation → Relation
+relation_of relations.Less = less
+relation_of relations.AtMost = at_most
+relation_of relations.More = more
+relation_of relations.AtLeast = at_least
 
 abbrev pub trees_of : List Tree → Trees
 trees_of [] = T.none
@@ -129,20 +137,20 @@ fields_of (f ∷ fs) = T.field f.label f.mark f.value (fields_of fs)
 
 -- one level, with each expression inside already seen as its tree
 abbrev pub expr_step : Expr-F Tree End Seen → Tree
-expr_step Expr-F.Top = T.top
-expr_step Expr-F.Bottom = T.bottom
-expr_step Expr-F.Null = T.null
-expr_step (Expr-F.Bool b) = T.boolean b
-expr_step (Expr-F.Int n) = T.integer n
-expr_step (Expr-F.Text s) = T.text (string_bytes s)
+expr_step Expr-F.Top = T.atom T.top
+expr_step Expr-F.Bottom = T.atom T.bottom
+expr_step Expr-F.Null = T.atom T.null
+expr_step (Expr-F.Bool b) = T.atom (T.boolean b)
+expr_step (Expr-F.Int n) = T.atom (T.integer n)
+expr_step (Expr-F.Text s) = T.atom (T.text (string_bytes s))
 expr_step (Expr-F.Name s o) = T.named (string_bytes s) o
 expr_step (Expr-F.Reference s o) = T.reference (string_bytes s) o
-expr_step (Expr-F.Bound r n) = T.bound r n
-expr_step (Expr-F.NotInt n) = T.not_integer n
-expr_step (Expr-F.NotText s) = T.not_text (string_bytes s)
-expr_step Expr-F.NotNull = T.not_null
-expr_step (Expr-F.And v) = T.meet (trees_of v.items)
-expr_step (Expr-F.Or v) = T.join (trees_of v.items)
+expr_step (Expr-F.Bound r n) = T.atom (T.bound (relation_of r) n)
+expr_step (Expr-F.NotInt n) = T.atom (T.not_integer n)
+expr_step (Expr-F.NotText s) = T.atom (T.not_text (string_bytes s))
+expr_step Expr-F.NotNull = T.atom T.not_null
+expr_step (Expr-F.And v) = T.conjunction (trees_of v.items)
+expr_step (Expr-F.Or v) = T.disjunction (trees_of v.items)
 expr_step (Expr-F.Paren b) = T.paren b.value
 expr_step (Expr-F.Struct o v opened) = T.struct o (fields_of v.items) opened
 expr_step (Expr-F.List v end) = T.list (trees_of v.items) end
@@ -152,6 +160,7 @@ end_step ListEnd-F.Closed = T.closed
 end_step ListEnd-F.Any = T.any
 end_step (ListEnd-F.Each b) = T.each b.value
 
+-- for private contracts alone
 abbrev pub label_of : List ℕ → Bool → Label
 label_of s b = record { text = s; quotes = b }
 
@@ -161,6 +170,7 @@ field_step f = record { label = record { text = string_bytes f.label; quotes = f
 abbrev pub expr_view : Expr → Tree
 expr_view = fold-Expr Tree End Seen expr_step end_step field_step
 
+-- the parts of an expression; for private contracts alone
 abbrev pub end_view : ListEnd → End
 end_view = fold-ListEnd Tree End Seen expr_step end_step field_step
 
@@ -173,6 +183,7 @@ exprs_view es = trees_of (map expr_view es)
 abbrev pub fields_view : List Field → Fields
 fields_view fs = fields_of (map field_view fs)
 
+-- definitions and files
 abbrev pub definition_view : Definition → DefinitionTree
 definition_view d = T.definition (string_bytes d.name) d.at (expr_view d.body)
 

@@ -1,6 +1,6 @@
 -- The tokens as the grammar sees them: each with the offset at which it starts.
 use Rattle.std.specs.Prelude.{ℕ, List}
-use Rattle.cs_grammar.specs.declared.ast.Relation.{Relation}
+use Rattle.cs_grammar.specs.Atom.{Relation}
 
 pub data Word : Type 0 where
   name : List ℕ → ℕ → Word

@@ -7,7 +7,7 @@ pub struct File {
     pub definitions: Vec<Definition>,
 }
 
-/// A definition: its name without `#`, the byte at which it stands, and its body.
+/// A definition: its name without `#`, the offset of the name, and its body.
 #[derive(Debug, Drop)]
 pub struct Definition {
     pub name: String,
@@ -27,12 +27,12 @@ pub enum Expr {
     Bool(bool),
     Int(i64),
     Text(String),
-    /// A name other than `null`, `true` and `false`, and the byte at which it stands.
+    /// A name other than `null`, `true` and `false`, and its offset.
     Name {
         text: String,
         at: usize,
     },
-    /// A reference to a definition: its name without `#`, and the byte at which it stands.
+    /// A reference to a definition: its name without `#`, and its offset.
     Reference {
         text: String,
         at: usize,
@@ -53,7 +53,7 @@ pub enum Expr {
     /// Two or more operands joined by `|`.
     Or(Vec<Expr>),
     Paren(Box<Expr>),
-    /// A struct literal, the byte at which it stands, and whether it ends with `...`.
+    /// A struct literal, its offset, and whether it ends with `...`.
     Struct {
         at: usize,
         fields: Vec<Field>,
@@ -75,7 +75,7 @@ pub struct Field {
     pub value: Expr,
 }
 
-/// Whether a field has to be there: `a: T` and `a!: T` have to, `a?: T` has not.
+/// Whether a field has to be there: `a: T` and `a!: T` do, `a?: T` doesn't.
 #[derive(Clone, Copy, Debug, PartialEq, Eq)]
 pub enum FieldMark {
     Regular,
@@ -83,7 +83,7 @@ pub enum FieldMark {
     Required,
 }
 
-/// What stands behind the last fixed element of a list: nothing, `...`, or `...T`.
+/// What follows the last fixed element of a list: nothing, `...`, or `...T`.
 #[cycle(ast)]
 #[derive(Debug, Drop)]
 pub enum ListEnd {

@@ -4,23 +4,23 @@ use thiserror::Error;
 /// Why a source has no tokens, or no tree. Offsets count the bytes of the source from 0.
 #[derive(Debug, Drop, Error)]
 pub enum SyntaxFault {
-    /// A growth was refused for want of memory.
+    /// Memory ran out.
     #[error("out of memory")]
     OutOfMemory,
     /// No token of the profile begins at the offset.
     #[error("no token begins here")]
     NoToken { offset: usize },
-    /// The tokens spell no file, and one of them is at the offset.
-    #[error("this token is out of place")]
+    /// The tokens don't spell a file, and one of them is at the offset.
+    #[error("a token is out of place")]
     Syntax { offset: usize },
-    /// The same, where that token is of a form that this profile of CUE leaves out.
-    #[error("a form of CUE that is left out")]
+    /// The same, where that token begins a form of CUE that this profile leaves out.
+    #[error("this form of CUE is not supported")]
     LeftOut { offset: usize },
-    /// An integer at the offset that has not 64 signed bits.
-    #[error("an integer does not fit 64 signed bits")]
+    /// The integer at the offset doesn't fit in 64 signed bits.
+    #[error("an integer does not fit in 64 signed bits")]
     IntegerRange { offset: usize },
-    /// Tokens that nest deeper than 28, or an expression higher than that.
-    #[error("an expression is higher than 28")]
+    /// The tokens nest deeper than 28, or a body is higher than that.
+    #[error("an expression nests deeper than 28 levels")]
     TooHigh,
 }
 

@@ -1,6 +1,7 @@
 // The tokens as the grammar sees them.
 
-/// What a token is for the grammar.
+/// What a token is for the grammar: its `Sort`, with the marks told apart. The definitions speak of a `Word`, which is
+/// a token by its kind, its value and its offset.
 #[derive(Clone, Copy, PartialEq, Eq)]
 pub enum Kind {
     Name,

@@ -10,5 +10,5 @@ mod token;
 pub use ast::{Definition, Expr, Field, FieldMark, File, ListEnd, Relation};
 pub use fault::SyntaxFault;
 pub use kind::Kind;
-pub use line::Line;
+pub use line::LineState;
 pub use token::{Sort, Token};

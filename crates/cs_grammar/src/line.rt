@@ -1,8 +1,8 @@
-// What a line is behind a token, for the comma that its end inserts.
+// The state of a line after a token, for the comma that its end inserts.
 
 /// What the token before a place means for what follows it.
 #[derive(Clone, Copy, PartialEq, Eq)]
-pub enum Line {
+pub enum LineState {
     /// Nothing.
     Plain,
     /// The end of the line inserts a comma.

@@ -7,12 +7,12 @@ use Rattle.std.proofs.lemmas.Option.{slice_get_within}
 use Rattle.cs_guard.specs.Chains.{IsHeight, most_references}
 use Rattle.cs_guard.specs.Graph.{Graph, Refers}
 use Rattle.cs_guard.specs.Walk.{State, Keeps, Deep}
-use Rattle.cs_guard.specs.declared.walk.Mark.{Mark}
-use Rattle.cs_guard.specs.declared.walk.Mark.TheVariants.{Done}
+use Rattle.cs_guard.specs.declared.walk.VisitState.{VisitState}
+use Rattle.cs_guard.specs.declared.walk.VisitState.TheVariants.{Done}
 use Rattle.cs_guard.proofs.Paths.{chain_short}
 use Rattle.cs_guard.proofs.Marks.{same_or}
 
-pub done_more : (M N : List Mark) (hs new : List ℕ) (n h : ℕ) → length hs ≡ n → new ≡ hs ++ h ∷ [] → Keeps M N → ((k : ℕ) → k < n → slice_get M k ≡ Some (Done (get_or hs k 0))) → slice_get N n ≡ Some (Done h) → (k : ℕ) → k < n + 1 → slice_get N k ≡ Some (Done (get_or new k 0))
+pub done_more : (M N : List VisitState) (hs new : List ℕ) (n h : ℕ) → length hs ≡ n → new ≡ hs ++ h ∷ [] → Keeps M N → ((k : ℕ) → k < n → slice_get M k ≡ Some (Done (get_or hs k 0))) → slice_get N n ≡ Some (Done h) → (k : ℕ) → k < n + 1 → slice_get N k ≡ Some (Done (get_or new k 0))
 done_more M N hs new n h long grown kept before at k l = elim (same_or k n) [
   | inl e ↦ ap (slice_get N) e ∙ at ∙ ap (λ x. Some (Done x)) (sym (get_or-append_seam hs h [] 0) ∙ ap₂ (λ xs i. get_or xs i 0) (sym grown) (long ∙ sym e))
   | inr ne ↦ (let low : k < n = below_or k n ne l in
@@ -36,7 +36,7 @@ deep_more G false hs h s l = low hs s
     low (x ∷ xs) s (suc n) = low xs (λ k. s (suc k)) n
 
 -- the heights fall along references
-pub falls_of : (G : Graph) (M : List Mark) (hs : List ℕ) (c : ℕ) → State G M [] → length G ≤ c → ((k : ℕ) → k < c → slice_get M k ≡ Some (Done (get_or hs k 0))) → (n m : ℕ) → Refers G n m → get_or hs m 0 < get_or hs n 0
+pub falls_of : (G : Graph) (M : List VisitState) (hs : List ℕ) (c : ℕ) → State G M [] → length G ≤ c → ((k : ℕ) → k < c → slice_get M k ≡ Some (Done (get_or hs k 0))) → (n m : ℕ) → Refers G n m → get_or hs m 0 < get_or hs n 0
 falls_of G M hs c s all done n m r =
     let n_in : n < length G = slice_get_within G n r.row r.found in
     let b = (s.settled n (get_or hs n 0) (done n (omega (arith, all)))).low m r in
@@ -46,7 +46,7 @@ falls_of G M hs c s all done n m r =
     let less = b.less in omega (arith, less, same)
 
 -- a number that is done has its height
-pub height_of : (G : Graph) (M : List Mark) (hs : List ℕ) (c : ℕ) → State G M [] → ((k : ℕ) → k < c → slice_get M k ≡ Some (Done (get_or hs k 0))) → ((n m : ℕ) → Refers G n m → get_or hs m 0 < get_or hs n 0) → (n : ℕ) → n < c → IsHeight (Refers G) n (get_or hs n 0)
+pub height_of : (G : Graph) (M : List VisitState) (hs : List ℕ) (c : ℕ) → State G M [] → ((k : ℕ) → k < c → slice_get M k ≡ Some (Done (get_or hs k 0))) → ((n m : ℕ) → Refers G n m → get_or hs m 0 < get_or hs n 0) → (n : ℕ) → n < c → IsHeight (Refers G) n (get_or hs n 0)
 height_of G M hs c s done falls n l =
     let chain = (s.settled n (get_or hs n 0) (done n l)).chain in
     record { steps = chain.steps; chain = chain.chain; long = chain.long; longest = chain_short (Refers G) (λ k. get_or hs k 0) falls n }

@@ -10,8 +10,8 @@ use Rattle.std.specs.Option.{option_map}
 use Rattle.cs_guard.specs.Chains.{On, Links}
 use Rattle.cs_guard.specs.Graph.{Graph, Refers, graph_of}
 use Rattle.cs_guard.specs.Walk.{State, Settled, Below, HasChain, Keeps, is_new, is_done}
-use Rattle.cs_guard.specs.declared.walk.Mark.{Mark}
-use Rattle.cs_guard.specs.declared.walk.Mark.TheVariants.{New, Open, Done}
+use Rattle.cs_guard.specs.declared.walk.VisitState.{VisitState}
+use Rattle.cs_guard.specs.declared.walk.VisitState.TheVariants.{New, Open, Done}
 use Rattle.cs_guard.proofs.Places.{on_left, on_end, on_cases, distinct_push, distinct_front, last_apart}
 use Rattle.cs_guard.proofs.Paths.{links_front}
 
@@ -34,12 +34,12 @@ same_or (suc i) zero = inr (λ e. let f : ⊥ = omega (arith, e) in f)
 same_or (suc i) (suc j) = elim (same_or i j) [ inl e ↦ inl (ap suc e) | inr ne ↦ inr (λ e. ne (omega (arith, e))) ]
 
 -- a count, after a mark is written over another
-pub count_written : (p : Mark → Bool) (M : List Mark) (i : ℕ) (old v : Mark) → slice_get M i ≡ Some old → count_by p (set M i v) + cond (p old) 1 0 ≡ count_by p M + cond (p v) 1 0
+pub count_written : (p : VisitState → Bool) (M : List VisitState) (i : ℕ) (old v : VisitState) → slice_get M i ≡ Some old → count_by p (set M i v) + cond (p old) 1 0 ≡ count_by p M + cond (p v) 1 0
 count_written p M i old v at =
-    let weight : Mark → ℕ = λ m. cond (p m) 1 0 in
+    let weight : VisitState → ℕ = λ m. cond (p m) 1 0 in
     ap (λ n. count_by p (set M i v) + n) (ap weight (sym (get_or_from_slice_get M i old old at))) ∙ sum_by-set weight M i v old (slice_get_within M i old at)
 
-apart : (M : List Mark) (i j : ℕ) (a b : Mark) → slice_get M i ≡ Some a → slice_get M j ≡ Some b → (a ≡ b → ⊥) → i ≡ j → ⊥
+apart : (M : List VisitState) (i j : ℕ) (a b : VisitState) → slice_get M i ≡ Some a → slice_get M j ≡ Some b → (a ≡ b → ⊥) → i ≡ j → ⊥
 apart M i j a b x y ne e = ne (let f : Some a ≡ Some b = sym x ∙ ap (slice_get M) e ∙ y in cc)
 
 new_open : New ≡ Open → ⊥
@@ -52,17 +52,17 @@ open_done : (h : ℕ) → Open ≡ Done h → ⊥
 open_done h e = cc
 
 -- below h, after a write at a place that wasn't done
-below_set : (M : List Mark) (i : ℕ) (a v : Mark) → slice_get M i ≡ Some a → ((k : ℕ) → a ≡ Done k → ⊥) → (m h : ℕ) → Below M m h → Below (set M i v) m h
+below_set : (M : List VisitState) (i : ℕ) (a v : VisitState) → slice_get M i ≡ Some a → ((k : ℕ) → a ≡ Done k → ⊥) → (m h : ℕ) → Below M m h → Below (set M i v) m h
 below_set M i a v at ne m h b = record { height = b.height; done = past_set M i m v (apart M i m a (Done b.height) at b.done (ne b.height)) ∙ b.done; less = b.less }
 
-settled_set : (G : Graph) (M : List Mark) (i : ℕ) (a v : Mark) → slice_get M i ≡ Some a → ((k : ℕ) → a ≡ Done k → ⊥) → count_by is_done M ≤ count_by is_done (set M i v) → (j h : ℕ) → Settled G M j h → Settled G (set M i v) j h
+settled_set : (G : Graph) (M : List VisitState) (i : ℕ) (a v : VisitState) → slice_get M i ≡ Some a → ((k : ℕ) → a ≡ Done k → ⊥) → count_by is_done M ≤ count_by is_done (set M i v) → (j h : ℕ) → Settled G M j h → Settled G (set M i v) j h
 settled_set G M i a v at ne le j h s = record { chain = s.chain; low = λ m r. below_set M i a v at ne m h (s.low m r); few = let f = s.few in omega arith }
 
-pub keeps_set : (M : List Mark) (i : ℕ) (v : Mark) → slice_get M i ≡ Some New → Keeps M (set M i v)
+pub keeps_set : (M : List VisitState) (i : ℕ) (v : VisitState) → slice_get M i ≡ Some New → Keeps M (set M i v)
 keeps_set M i v at j m found old = past_set M i j v (apart M i j New m at found (λ e. let f : is_new New ≡ false = ap is_new e ∙ old in let g : true ≡ false = f in cc)) ∙ found
 
 -- a number is entered
-pub opening : (G : Graph) (M : List Mark) (P : List ℕ) (i : ℕ) → State G M P → slice_get M i ≡ Some New → Links (Refers G) (P ++ i ∷ []) → State G (set M i Open) (P ++ i ∷ [])
+pub opening : (G : Graph) (M : List VisitState) (P : List ℕ) (i : ℕ) → State G M P → slice_get M i ≡ Some New → Links (Refers G) (P ++ i ∷ []) → State G (set M i Open) (P ++ i ∷ [])
 opening G M P i s at links =
     let l = slice_get_within M i New at in record {
       long = length-set M i Open ∙ s.long;
@@ -79,7 +79,7 @@ opening G M P i s at links =
     }
 
 -- a number is left, with its height
-pub closing : (G : Graph) (M : List Mark) (P : List ℕ) (i h : ℕ) → State G M (P ++ i ∷ []) → HasChain G i h → ((m : ℕ) → Refers G i m → Below M m h) → h ≤ count_by is_done M → State G (set M i (Done h)) P
+pub closing : (G : Graph) (M : List VisitState) (P : List ℕ) (i h : ℕ) → State G M (P ++ i ∷ []) → HasChain G i h → ((m : ℕ) → Refers G i m → Below M m h) → h ≤ count_by is_done M → State G (set M i (Done h)) P
 closing G M P i h s chain low few =
     let at : slice_get M i ≡ Some Open = s.opened i (on_end i P) in
     let l = slice_get_within M i Open at in
@@ -101,21 +101,21 @@ closing G M P i h s chain low few =
       distinct = distinct_front P (i ∷ []) s.distinct;
     }
 
-pub keeps_more : (A B C : List Mark) → Keeps A B → Keeps B C → Keeps A C
+pub keeps_more : (A B C : List VisitState) → Keeps A B → Keeps B C → Keeps A C
 keeps_more A B C f g j m at old = g j m (f j m at old) old
 
-pub keeps_written : (A B : List Mark) (i : ℕ) (v : Mark) → slice_get A i ≡ Some New → Keeps A B → Keeps A (set B i v)
+pub keeps_written : (A B : List VisitState) (i : ℕ) (v : VisitState) → slice_get A i ≡ Some New → Keeps A B → Keeps A (set B i v)
 keeps_written A B i v at kept j m found old =
     past_set B i j v (apart A i j New m at found (λ e. let f : is_new New ≡ false = ap is_new e ∙ old in let g : true ≡ false = f in cc)) ∙ kept j m found old
 
-below_kept : (M N : List Mark) (m h k : ℕ) → Keeps M N → Below M m h → h ≤ k → Below N m k
+below_kept : (M N : List VisitState) (m h k : ℕ) → Keeps M N → Below M m h → h ≤ k → Below N m k
 below_kept M N m h k kept b le = record { height = b.height; done = kept m (Done b.height) b.done refl; less = let l = b.less in omega arith }
 
 pub refers_on : (G : Graph) (i m : ℕ) (row : List ℕ) → slice_get G i ≡ Some row → Refers G i m → On m row
 refers_on G i m row at r = let e : Some r.row ≡ Some row = sym r.found ∙ at in let same : r.row ≡ row = cc in let Q : List ℕ → Type 0 = λ xs. On m xs in subst Q same r.on
 
 -- the references so far, one more
-pub below_more : (M N : List Mark) (xs : List ℕ) (i h k b : ℕ) → i < length xs → Keeps M N → ((m : ℕ) → On m (take i xs) → Below M m h) → h ≤ k → slice_get N (get_or xs i 0) ≡ Some (Done b) → b < k → (m : ℕ) → On m (take (i + 1) xs) → Below N m k
+pub below_more : (M N : List VisitState) (xs : List ℕ) (i h k b : ℕ) → i < length xs → Keeps M N → ((m : ℕ) → On m (take i xs) → Below M m h) → h ≤ k → slice_get N (get_or xs i 0) ≡ Some (Done b) → b < k → (m : ℕ) → On m (take (i + 1) xs) → Below N m k
 below_more M N xs i h k b l kept before le done less m o =
     let split : take (i + 1) xs ≡ take i xs ++ get_or xs i 0 ∷ [] = rw add-one (take-suc xs i 0 l) in
     let Q : List ℕ → Type 0 = λ ys. On m ys in
@@ -125,12 +125,12 @@ below_more M N xs i h k b l kept before le done less m o =
     ]
 
 -- a chain grows by a reference
-pub chain_more : (G : Graph) (M : List Mark) (P : List ℕ) (i x b h k : ℕ) → State G M P → slice_get M x ≡ Some (Done b) → Refers G i x → HasChain G i h → (k ≡ h) ⊎ (k ≡ b + 1) → HasChain G i k
+pub chain_more : (G : Graph) (M : List VisitState) (P : List ℕ) (i x b h k : ℕ) → State G M P → slice_get M x ≡ Some (Done b) → Refers G i x → HasChain G i h → (k ≡ h) ⊎ (k ≡ b + 1) → HasChain G i k
 chain_more G M P i x b h k s at r c (inl e) = record { steps = c.steps; chain = c.chain; long = c.long ∙ sym e }
 chain_more G M P i x b h k s at r c (inr e) =
     let d = (s.settled x b at).chain in record { steps = x ∷ d.steps; chain = (r, d.chain); long = let l = d.long in omega arith }
 
-pub same_path : (G : Graph) (M : List Mark) (P Q : List ℕ) → P ≡ Q → State G M P → State G M Q
+pub same_path : (G : Graph) (M : List VisitState) (P Q : List ℕ) → P ≡ Q → State G M P → State G M Q
 same_path G M P Q e s = subst (State G M) e s
 
 pub graph_long : (vs : List (Vec ℕ Global)) → length (graph_of vs) ≡ length vs

@@ -1,9 +1,10 @@
 -- Numbers pushed one after another, and the shapes that they are read from.
-use Rattle.std.proofs.Common.{◌≡◌, ℕ, ◌+◌, ◌<◌, Bool, true, false, ◌&&◌, List, [], ◌∷◌, ◌++◌, map, length, take, get_or, Vec, Global, Result, Ok, Err, OnOk, refl, sym, ap, ◌∙◌, append_assoc}
+use Rattle.std.proofs.Common.{◌≡◌, ℕ, ◌+◌, ◌<◌, Bool, true, ◌&&◌, List, [], ◌∷◌, ◌++◌, map, length, take, get_or, Vec, Global, Result, Ok, Err, OnOk, sym, ap, ◌∙◌, append_assoc}
 use Rattle.std.specs.List.{list_all}
 use Rattle.std.proofs.lemmas.List.{take_more}
 use Rattle.std.proofs.lemmas.List.{map-append, append-nil}
 use Rattle.std.proofs.lemmas.List.Folds.{list_all_more}
+use Rattle.std.proofs.lemmas.Bool.{and_parts}
 use Rattle.cs_package.specs.Expression.{Expression, Declaration}
 use Rattle.cs_package.specs.View.{expression_of, part_of, expressions_of, declarations_of, is_known, is_known_end, is_known_part}
 use Rattle.cs_package.proofs.Views.{of-And, of-Or, of-Struct, of-List, known-And, known-Or, known-Struct, known-List}
@@ -11,19 +12,15 @@ use Rattle.cs_package.specs.declared.shape.Shape as Shapes
 use Rattle.cs_package.specs.declared.shape.Shape.{Shape}
 use Rattle.cs_package.specs.declared.shape.ShapeEnd.{ShapeEnd}
 use Rattle.cs_package.specs.declared.shape.Part.{Part}
-use Rattle.cs_guard.specs.References.{strong, strong_all, strong_under, if_asked}
+use Rattle.cs_guard.specs.References.{strong, strong_all, strong_fields, unless_optional}
 use Rattle.cs_guard.specs.Pushed.{Pushed, named}
-
-both : (a b : Bool) → (a && b) ≡ true → (a ≡ true) × (b ≡ true)
-both true b e = (refl, e)
-both false b e = cc
 
 -- ---- what was pushed
 
 pub pushed_more : (a b c : List ℕ) (f g : List (List ℕ) → List (List ℕ)) (k l : ℕ → Bool) → Pushed a b f k → Pushed b c g l → Pushed a c (λ ns. f ns ++ g ns) (λ n. k n && l n)
 pushed_more a b c f g k l p q = record {
   behind = λ ns. q.behind ns ∙ ap (λ xs. xs ++ g ns) (p.behind ns) ∙ append_assoc (named ns a) (f ns) (g ns);
-  within = λ n e old. let h = both (k n) (l n) e in q.within n h.1 (p.within n h.0 old);
+  within = λ n e old. let h = and_parts (k n) (l n) e in q.within n h.1 (p.within n h.0 old);
 }
 
 -- the same names, and no less is known
@@ -55,12 +52,12 @@ all_join (d ∷ es) e = ap (λ ns. strong d ++ ns) (all_join es e) ∙ sym (appe
 pub strong_join : {X : Type 0} (f : X → Expression) (xs : List X) (x : X) → strong_all (expressions_of (map f (xs ++ x ∷ []))) ≡ strong_all (expressions_of (map f xs)) ++ strong (f x)
 strong_join f xs x = ap (λ es. strong_all (expressions_of es)) (map-append f xs (x ∷ [])) ∙ all_join (map f xs) (f x)
 
-under_join : (ds : List (Declaration Expression)) (d : Declaration Expression) → strong_under (declarations_of (ds ++ d ∷ [])) ≡ strong_under (declarations_of ds) ++ if_asked d.mark (strong d.value)
-under_join [] d = append-nil (if_asked d.mark (strong d.value))
-under_join (c ∷ ds) d = ap (λ ns. if_asked c.mark (strong c.value) ++ ns) (under_join ds d) ∙ sym (append_assoc (if_asked c.mark (strong c.value)) (strong_under (declarations_of ds)) (if_asked d.mark (strong d.value)))
+under_join : (ds : List (Declaration Expression)) (d : Declaration Expression) → strong_fields (declarations_of (ds ++ d ∷ [])) ≡ strong_fields (declarations_of ds) ++ unless_optional d.mark (strong d.value)
+under_join [] d = append-nil (unless_optional d.mark (strong d.value))
+under_join (c ∷ ds) d = ap (λ ns. unless_optional c.mark (strong c.value) ++ ns) (under_join ds d) ∙ sym (append_assoc (unless_optional c.mark (strong c.value)) (strong_fields (declarations_of ds)) (unless_optional d.mark (strong d.value)))
 
-pub parts_join : {X : Type 0} (f : X → Declaration Expression) (xs : List X) (x : X) → strong_under (declarations_of (map f (xs ++ x ∷ []))) ≡ strong_under (declarations_of (map f xs)) ++ if_asked (f x).mark (strong (f x).value)
-parts_join f xs x = ap (λ ds. strong_under (declarations_of ds)) (map-append f xs (x ∷ [])) ∙ under_join (map f xs) (f x)
+pub parts_join : {X : Type 0} (f : X → Declaration Expression) (xs : List X) (x : X) → strong_fields (declarations_of (map f (xs ++ x ∷ []))) ≡ strong_fields (declarations_of (map f xs)) ++ unless_optional (f x).mark (strong (f x).value)
+parts_join f xs x = ap (λ ds. strong_fields (declarations_of ds)) (map-append f xs (x ∷ [])) ∙ under_join (map f xs) (f x)
 
 -- ---- each form of shape
 
@@ -81,7 +78,7 @@ pub pushed_Or : (a b : List ℕ) (s : Shape) (v : Vec Shape Global) → s ≡ Sh
 pushed_Or a b s v is p = pushed_operands a b v.items s (λ ns. ap strong (ap (expression_of ns) is ∙ of-Or ns v)) (λ n e. sym (ap (is_known n) is ∙ known-Or n v) ∙ e) p
 
 pub pushed_List : (a b : List ℕ) (s : Shape) (v : Vec Shape Global) (end : ShapeEnd) → s ≡ Shapes.List v end → PushedAll a b v.items → PushedOf a b s
-pushed_List a b s v end is p = pushed_operands a b v.items s (λ ns. ap strong (ap (expression_of ns) is ∙ of-List ns v end)) (λ n e. (both (list_all (is_known n) v.items) (is_known_end n end) (sym (ap (is_known n) is ∙ known-List n v end) ∙ e)).0) p
+pushed_List a b s v end is p = pushed_operands a b v.items s (λ ns. ap strong (ap (expression_of ns) is ∙ of-List ns v end)) (λ n e. (and_parts (list_all (is_known n) v.items) (is_known_end n end) (sym (ap (is_known n) is ∙ known-List n v end) ∙ e)).0) p
 
-pub pushed_Struct : (a b : List ℕ) (s : Shape) (v : Vec Part Global) (opened : Bool) → s ≡ Shapes.Struct v opened → Pushed a b (λ ns. strong_under (declarations_of (map (part_of ns) v.items))) (λ n. list_all (is_known_part n) v.items) → PushedOf a b s
+pub pushed_Struct : (a b : List ℕ) (s : Shape) (v : Vec Part Global) (opened : Bool) → s ≡ Shapes.Struct v opened → Pushed a b (λ ns. strong_fields (declarations_of (map (part_of ns) v.items))) (λ n. list_all (is_known_part n) v.items) → PushedOf a b s
 pushed_Struct a b s v opened is p = pushed_as a b _ _ _ _ (λ ns. sym (ap strong (ap (expression_of ns) is ∙ of-Struct ns v opened))) (λ n e. sym (ap (is_known n) is ∙ known-Struct n v opened) ∙ e) p

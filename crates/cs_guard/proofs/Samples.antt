@@ -107,7 +107,7 @@ strong_names : map strong forms ≡ (A ∷ []) ∷ (A ∷ B ∷ []) ∷ (A ∷ B
 strong_names = refl
 
 abbrev atoms : List Expression
-atoms = cue.top ∷ cue.bottom ∷ cue.null ∷ cue.boolean true ∷ cue.integer (pos 1) ∷ cue.text A ∷ int ∷ cue.range (pos 0) None ∷ cue.bound cue.less (pos 1) ∷ cue.not_integer (pos 1) ∷ cue.not_text A ∷ cue.not_null ∷ []
+atoms = cue.atom cue.top ∷ cue.atom cue.bottom ∷ cue.atom cue.null ∷ cue.atom (cue.boolean true) ∷ cue.atom (cue.integer (pos 1)) ∷ cue.atom (cue.text A) ∷ int ∷ cue.range (pos 0) None ∷ cue.atom (cue.bound cue.less (pos 1)) ∷ cue.atom (cue.not_integer (pos 1)) ∷ cue.atom (cue.not_text A) ∷ cue.atom cue.not_null ∷ []
 
 without_names : map direct atoms ≡ [] ∷ [] ∷ [] ∷ [] ∷ [] ∷ [] ∷ [] ∷ [] ∷ [] ∷ [] ∷ [] ∷ [] ∷ []
 without_names = refl

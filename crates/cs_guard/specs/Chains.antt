@@ -1,12 +1,12 @@
 -- Chains and cycles of references. Whether one thing refers to another is a relation R.
 use Rattle.std.specs.Prelude.{◌≡◌, ℕ, ◌<◌, ◌≤◌, List, [], ◌∷◌, ◌++◌, length, ◌⊎◌}
 
--- x stands in the list
+-- x stands in the list; for private contracts alone
 abbrev pub On : {X : Type 0} → X → List X → Type 0
 On x [] = ⊥
 On x (y ∷ ys) = (x ≡ y) ⊎ On x ys
 
--- none stands twice
+-- none stands twice; for private contracts alone
 abbrev pub Distinct : {X : Type 0} → List X → Type 0
 Distinct [] = Unit {0}
 Distinct (x ∷ xs) = (On x xs → ⊥) × Distinct xs
@@ -16,7 +16,7 @@ abbrev pub Chain : {X : Type 0} → (X → X → Type 0) → X → List X → Ty
 Chain R x [] = Unit {0}
 Chain R x (y ∷ ys) = R x y × Chain R y ys
 
--- each refers to the next
+-- each refers to the next; for private contracts alone
 abbrev pub Links : {X : Type 0} → (X → X → Type 0) → List X → Type 0
 Links R [] = Unit {0}
 Links R (x ∷ xs) = Chain R x xs
@@ -26,7 +26,7 @@ abbrev pub IsClosed : {X : Type 0} → (X → X → Type 0) → List X → Type 
 IsClosed R [] = ⊥
 IsClosed R (x ∷ xs) = Chain R x (xs ++ x ∷ [])
 
--- each refers to the next and the last to the first, and none stands twice
+-- each refers to the next and the last to the first, and none stands twice; for private contracts alone
 abbrev pub IsCycle : {X : Type 0} → (X → X → Type 0) → List X → Type 0
 IsCycle R xs = IsClosed R xs × Distinct xs
 

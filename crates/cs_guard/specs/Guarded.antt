@@ -4,7 +4,7 @@ use Rattle.cs_package.specs.Environment.{Environment}
 use Rattle.cs_guard.specs.Chains as general
 use Rattle.cs_guard.specs.References.{RefersStrongly}
 
--- from n on, each name refers strongly to the next; a chain's length is the number of its references
+-- from n on, each name refers strongly to the next; a chain's length is the number of its references; for proofs alone
 abbrev pub Chain : Environment → List ℕ → List (List ℕ) → Type 0
 Chain E = general.Chain (RefersStrongly E)
 

@@ -1,9 +1,10 @@
 pub mod References
-pub mod Guarded
-pub mod Ranks
 pub mod Chains
-pub mod Graph
-pub mod Walk
+pub mod Guarded
 pub mod Cycles
+-- for contracts of private functions and proofs alone
+pub mod Ranks
+pub mod Graph
 pub mod Numbered
 pub mod Pushed
+pub mod Walk

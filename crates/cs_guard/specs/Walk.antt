@@ -3,17 +3,17 @@ use Rattle.std.specs.Prelude.{◌≡◌, ℕ, ◌<◌, ◌≤◌, Bool, true, fa
 use Rattle.std.specs.declared.alloc.Global.{Global}
 use Rattle.cs_guard.specs.Chains.{On, Distinct, Chain, Links, LongChain, IsTooDeep, most_references}
 use Rattle.cs_guard.specs.Graph.{Graph, Refers, IsLowestCycle, AreHeights}
-use Rattle.cs_guard.specs.declared.walk.Mark.{Mark}
-use Rattle.cs_guard.specs.declared.walk.Mark.TheVariants.{New, Open, Done}
+use Rattle.cs_guard.specs.declared.walk.VisitState.{VisitState}
+use Rattle.cs_guard.specs.declared.walk.VisitState.TheVariants.{New, Open, Done}
 use Rattle.cs_guard.specs.declared.walk.WalkFault.{WalkFault}
 use Rattle.cs_guard.specs.declared.walk.WalkFault.TheVariants.{OutOfMemory, Cycle, TooDeep}
 
-abbrev pub is_new : Mark → Bool
+abbrev pub is_new : VisitState → Bool
 is_new New = true
 is_new Open = false
 is_new (Done h) = false
 
-abbrev pub is_done : Mark → Bool
+abbrev pub is_done : VisitState → Bool
 is_done New = false
 is_done Open = false
 is_done (Done h) = true
@@ -25,19 +25,19 @@ pub record HasChain (G : Graph) (n h : ℕ) : Type 0 where
   pub long : length steps ≡ h
 
 -- m is done with a height below h
-pub record Below (M : List Mark) (m h : ℕ) : Type 0 where
+pub record Below (M : List VisitState) (m h : ℕ) : Type 0 where
   pub height : ℕ
   pub done : slice_get M m ≡ Some (Done height)
   pub less : height < h
 
 -- h is the height of n: a chain of that length begins there, and the heights of what n refers to are below h
-pub record Settled (G : Graph) (M : List Mark) (n h : ℕ) : Type 0 where
+pub record Settled (G : Graph) (M : List VisitState) (n h : ℕ) : Type 0 where
   pub chain : HasChain G n h
   pub low : (m : ℕ) → Refers G n m → Below M m h
   pub few : h < count_by is_done M
 
 -- the path P is one of references, and has the open numbers
-pub record State (G : Graph) (M : List Mark) (P : List ℕ) : Type 0 where
+pub record State (G : Graph) (M : List VisitState) (P : List ℕ) : Type 0 where
   pub long : length M ≡ length G
   pub settled : (n h : ℕ) → slice_get M n ≡ Some (Done h) → Settled G M n h
   pub entered : (n : ℕ) → slice_get M n ≡ Some Open → On n P
@@ -46,11 +46,11 @@ pub record State (G : Graph) (M : List Mark) (P : List ℕ) : Type 0 where
   pub distinct : Distinct P
 
 -- what isn't new stays
-abbrev pub Keeps : List Mark → List Mark → Type 0
-Keeps old new = (n : ℕ) (m : Mark) → slice_get old n ≡ Some m → is_new m ≡ false → slice_get new n ≡ Some m
+abbrev pub Keeps : List VisitState → List VisitState → Type 0
+Keeps old new = (n : ℕ) (m : VisitState) → slice_get old n ≡ Some m → is_new m ≡ false → slice_get new n ≡ Some m
 
 -- n is done with the height h, and the path is as before
-pub record Reached (G : Graph) (M N : List Mark) (P Q : List ℕ) (n h : ℕ) : Type 0 where
+pub record Reached (G : Graph) (M N : List VisitState) (P Q : List ℕ) (n h : ℕ) : Type 0 where
   pub path : Q ≡ P
   pub state : State G N P
   pub done : slice_get N n ≡ Some (Done h)
@@ -58,7 +58,7 @@ pub record Reached (G : Graph) (M N : List Mark) (P Q : List ℕ) (n h : ℕ) : 
   pub fewer : count_by is_new N ≤ count_by is_new M
   pub more : count_by is_done M ≤ count_by is_done N
 
-abbrev pub Visited : Graph → List Mark → List Mark → List ℕ → List ℕ → ℕ → Result ℕ WalkFault → Type 0
+abbrev pub Visited : Graph → List VisitState → List VisitState → List ℕ → List ℕ → ℕ → Result ℕ WalkFault → Type 0
 Visited G M N P Q n (Ok h) = Reached G M N P Q n h
 Visited G M N P Q n (Err OutOfMemory) = Unit {0}
 Visited G M N P Q n (Err (Cycle v)) = IsLowestCycle G v.items

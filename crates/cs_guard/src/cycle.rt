@@ -30,7 +30,7 @@ fn path_from(alloc: Global, path: &[usize], number: usize) -> Result<Vec<usize>,
         .collect(alloc)
 }
 
-/// The path from the place of a number on, turned so that the lowest number stands first.
+/// The path from the place of a number on, turned so that the lowest number comes first.
 pub(crate) fn cycle_from(
     alloc: Global,
     path: &[usize],

@@ -60,7 +60,7 @@ impl Guarded {
 ///
 /// # Errors
 /// `Cycle`, with the names of a cycle as CUE writes them: each refers strongly to the next and the last to the first,
-/// no name stands twice, and the one that is declared first stands first. `ChainTooLong`, only where there is no cycle.
+/// no name comes twice, and the one that is declared first comes first. `ChainTooLong`, only where there is no cycle.
 pub fn guard(alloc: Global, package: Package) -> Result<Guarded, GuardFault>
     ensures found { IfOk result (λ g. g ≡ «package») }
     ensures guarded { OnOk result (IsGuarded «package») }

@@ -5,7 +5,7 @@ ghost use Rattle.std.specs.List.{list_all, IsDistinct};
 ghost use Rattle.std.specs.Str.{bytes_eq};
 ghost use Rattle.cs_package.specs.Environment.{declared_names};
 ghost use Rattle.cs_package.specs.View.{expression_of, part_of, expressions_of, declarations_of, is_known, is_known_part};
-ghost use Rattle.cs_guard.specs.References.{strong, strong_all, strong_under, if_asked};
+ghost use Rattle.cs_guard.specs.References.{strong, strong_all, strong_fields, unless_optional};
 ghost use Rattle.cs_guard.specs.Graph.{graph_of};
 ghost use Rattle.cs_guard.specs.Numbered.{IsGraphOf};
 ghost use Rattle.cs_guard.specs.Pushed.{Pushed};
@@ -21,22 +21,12 @@ fn push_strong(shape: &Shape, numbers: &mut Vec<usize>) -> Result<(), AllocError
         (λ ns. strong (expression_of ns shape.now)) (λ count. is_known count shape.now)) }
 {
     match shape {
-        Shape::Top
-        | Shape::Bottom
-        | Shape::Null
-        | Shape::Bool(_)
-        | Shape::Int(_)
-        | Shape::Text(_)
-        | Shape::Kind(_)
-        | Shape::Range { .. }
-        | Shape::Bound { .. }
-        | Shape::NotInt(_)
-        | Shape::NotText(_)
-        | Shape::NotNull => Ok(()),
         Shape::Definition(number) => Ok(numbers.push(*number)?),
         Shape::And(operands) | Shape::Or(operands) => push_all(operands, numbers),
         Shape::Struct { parts, .. } => push_parts(parts, numbers),
         Shape::List { front, .. } => push_all(front, numbers),
+        // The others have no parts.
+        _ => Ok(()),
     }
 }
 
@@ -54,7 +44,7 @@ fn push_all(shapes: &[Shape], numbers: &mut Vec<usize>) -> Result<(), AllocError
 #[cycle(references)]
 fn push_parts(parts: &[Part], numbers: &mut Vec<usize>) -> Result<(), AllocError>
     ensures { OnOk result (Pushed numbers.old.items numbers.new.items
-        (λ ns. strong_under (declarations_of (map (part_of ns) parts.now))) (λ count. list_all (is_known_part count) parts.now)) }
+        (λ ns. strong_fields (declarations_of (map (part_of ns) parts.now))) (λ count. list_all (is_known_part count) parts.now)) }
 {
     for part in parts {
         push_part(part, numbers)?;
@@ -66,7 +56,7 @@ fn push_parts(parts: &[Part], numbers: &mut Vec<usize>) -> Result<(), AllocError
 #[cycle(references)]
 fn push_part(part: &Part, numbers: &mut Vec<usize>) -> Result<(), AllocError>
     ensures { OnOk result (Pushed numbers.old.items numbers.new.items
-        (λ ns. if_asked (part_of ns part.now).mark (strong (part_of ns part.now).value)) (λ count. is_known_part count part.now)) }
+        (λ ns. unless_optional (part_of ns part.now).mark (strong (part_of ns part.now).value)) (λ count. is_known_part count part.now)) }
 {
     match part.mark {
         FieldMark::Optional => Ok(()),

@@ -9,12 +9,12 @@ use crate::cycle::cycle_from;
 use std::alloc::{AllocError, AllocFailed, Global};
 
 /// The most references that a chain may have.
-const CHAIN_LIMIT: usize = 64;
+const MOST_REFERENCES: usize = 64;
 
 /// Why a graph has no ranks.
 #[derive(Debug, Drop)]
 pub(crate) enum WalkFault {
-    /// A growth was refused for want of memory.
+    /// Memory ran out.
     OutOfMemory,
     /// Each number refers to the next, and the last to the first, which is the lowest.
     Cycle { numbers: Vec<usize> },
@@ -46,7 +46,7 @@ impl<T: Drop> From<AllocFailed<T>> for WalkFault {
 
 /// What the walk knows of a number: its height once it is done.
 #[derive(Clone, Copy, Debug, PartialEq, Eq)]
-pub(crate) enum Mark {
+pub(crate) enum VisitState {
     New,
     Open,
     Done(usize),
@@ -56,7 +56,7 @@ pub(crate) enum Mark {
 fn visit(
     alloc: Global,
     graph: &[Vec<usize>],
-    marks: &mut [Mark],
+    marks: &mut [VisitState],
     path: &mut Vec<usize>,
     number: usize,
 ) -> Result<usize, WalkFault>
@@ -67,14 +67,14 @@ fn visit(
     ensures { Visited (graph_of graph.now) marks.old marks.new path.old.items path.new.items number result }
 {
     match marks[number] {
-        Mark::Done(height) => return Ok(height),
-        Mark::Open => {
+        VisitState::Done(height) => return Ok(height),
+        VisitState::Open => {
             let numbers = cycle_from(alloc, path, number)?;
             return Err(WalkFault::Cycle { numbers });
         }
-        Mark::New => {}
+        VisitState::New => {}
     }
-    marks[number] = Mark::Open;
+    marks[number] = VisitState::Open;
     path.push(number)?;
     let mut height = 0;
     for next in &graph[number] {
@@ -84,23 +84,23 @@ fn visit(
         }
     }
     let _ = path.pop();
-    marks[number] = Mark::Done(height);
+    marks[number] = VisitState::Done(height);
     Ok(height)
 }
 
-/// The height of each number. All are walked before a long chain is told of, so that a cycle comes first.
+/// The height of each number. All are walked before a long chain is reported, so that a cycle comes first.
 pub(crate) fn heights(alloc: Global, graph: &[Vec<usize>]) -> Result<Vec<usize>, WalkFault>
     requires { Within (graph_of graph.now) }
     ensures { Answers (graph_of graph.now) result }
 {
     let count = graph.len();
-    let mut marks = vec![in alloc; Mark::New; count]?;
+    let mut marks = vec![in alloc; VisitState::New; count]?;
     let mut path = Vec::new(alloc);
     let mut heights = Vec::with_capacity(alloc, count)?;
     let mut deep = false;
     for number in 0..count {
         let height = visit(alloc, graph, &mut marks, &mut path, number)?;
-        if height > CHAIN_LIMIT {
+        if height > MOST_REFERENCES {
             deep = true;
         }
         heights.push(height)?;

@@ -14,7 +14,7 @@ use Rattle.cs_package.specs.Expression.{Expression}
 use Rattle.cs_package.specs.Environment.{Environment, bodies}
 use Rattle.cs_guard.specs.References.{strong, strong_of}
 use Rattle.cs_guard.specs.Guarded.{Chain, IsGuarded}
-use Rattle.cs_instance.specs.Asked.{held}
+use Rattle.cs_instance.specs.Constraint.{is_satisfied}
 use Rattle.cs_instance.specs.Instance.{Rule, definition, node, all_bodies, IsInstance, OneMeaning}
 use Rattle.cs_instance.proofs.Meaning.{one_meaning}
 
@@ -42,9 +42,6 @@ length-name : (k : ℕ) → length (name k) ≡ suc k
 length-name zero = refl
 length-name (suc k) = ap suc (length-name k)
 
-name-same : (k : ℕ) → bytes_eq (name k) (name k) ≡ true
-name-same k = (bytes_eq-Decides (name k) (name k)).1 refl
-
 name-other : (j k : ℕ) → j < k → bytes_eq (name j) (name k) ≡ false
 name-other j k l = by (bytes_eq (name j) (name k)) refl
   where
@@ -60,7 +57,7 @@ look-up (suc k) j l = by (leb j k) refl (look-up k j)
     top : j ≡ suc k → bodies (tower (suc k)) (name j) ≡ Some (body j ∷ [])
     top e =
         subst (λ i. bodies (tower (suc k)) (name i) ≡ Some (body i ∷ [])) (sym e)
-        (ap (λ b. cond b (Some (body (suc k) ∷ [])) (bodies (tower k) (name (suc k)))) (name-same (suc k)))
+        (ap (λ b. cond b (Some (body (suc k) ∷ [])) (bodies (tower k) (name (suc k)))) ((bytes_eq-Decides (name (suc k)) (name (suc k))).1 refl))
 
     by : (b : Bool) → leb j k ≡ b → (j ≤ k → bodies (tower k) (name j) ≡ Some (body j ∷ [])) → bodies (tower (suc k)) (name j) ≡ Some (body j ∷ [])
     by true e below =
@@ -79,7 +76,7 @@ both-same false = refl
 module _ (k : ℕ) (I : Rule → Document → Bool) (h : IsInstance (tower k) I) (x : Document) where
   by_body : (j : ℕ) → j ≤ k → I (definition (name j)) x ≡ I (node (body j)) x
   by_body j l =
-      h (definition (name j)) x ∙ ap (λ o. held (λ r. I r x) (λ y e. I (node e) y) (all_bodies o) (opened x)) (look-up k j l) ∙ and-true (I (node (body j)) x)
+      h (definition (name j)) x ∙ ap (λ o. is_satisfied (λ r. I r x) (λ y e. I (node e) y) (all_bodies o) (opened x)) (look-up k j l) ∙ and-true (I (node (body j)) x)
 
   is_int : (j : ℕ) → j ≤ k → I (definition (name j)) x ≡ I (node int) x
   is_int zero l = by_body zero l

@@ -1,18 +1,19 @@
 -- Induction on a document, then on direct references, then on an expression.
 use Rattle.std.proofs.Common.{◌≡◌, ℕ, zero, suc, ◌<◌, List, [], ◌∷◌, map, length, Contains, Option, Some, None, refl, sym, arith, subst}
-use Rattle.std.specs.List.{flat_map}
+use Rattle.std.specs.List.{flat_map, AllByRecursion as Each}
 use Rattle.std.specs.Option.{unwrap_or}
 use Rattle.std.proofs.lemmas.List.Elements.{Contains-append_left, Contains-append_right, Contains-append_cases}
 use Rattle.std.proofs.Common.{inl, inr}
-use Rattle.cs_document.specs.Document.{Document, null, boolean, integer, text, list, object, Documents, no_documents, document, Members, no_members, member, elements, entries}
+use Rattle.cs_document.specs.Document.{Document}
+use Rattle.cs_document.proofs.Each.{each_map, each_of, each_front, each_back, each_member, each_over}
+use Rattle.cs_document.proofs.Children.{children, by_children}
 use Rattle.cs_package.specs.Expression as cue
 use Rattle.cs_package.specs.Expression.{Expression, Expressions, no_expressions, expression, operands}
 use Rattle.cs_package.specs.Environment.{Environment, bodies}
 use Rattle.cs_guard.specs.References.{direct, direct_all, strong, strong_all, strong_of}
 use Rattle.cs_guard.specs.Guarded.{Chain, IsGuarded}
-use Rattle.cs_instance.specs.Instance.{Rule, definition, node, asked, all_bodies}
-use Rattle.cs_instance.proofs.Each.{Each, each_map, each_of, each_front, each_back, each_member, each_over}
-use Rattle.cs_instance.proofs.Parts.{values, children, here_parts}
+use Rattle.cs_instance.specs.Instance.{Rule, definition, node, constraint_of, all_bodies}
+use Rattle.cs_instance.proofs.Parts.{here_parts}
 
 -- ---- chains of direct references
 
@@ -59,7 +60,7 @@ guarded-short E g n = short-from E 65 n (λ ns c. let h = g.short n ns c in omeg
 any_direct : (e : Expression) → Each (λ n. Unit {0}) (direct e)
 any_direct e = each_of (λ n. Unit {0}) (λ n. tt) (direct e)
 
-module _ (E : Environment) (P : Rule → Document → Type 0) (step : (r : Rule) (x : Document) → Each (λ p. P p x) (here_parts (asked E r)) → Each (λ y. (p : Rule) → P p y) (children x) → P r x) where
+module _ (E : Environment) (P : Rule → Document → Type 0) (step : (r : Rule) (x : Document) → Each (λ p. P p x) (here_parts (constraint_of E r)) → Each (λ y. (p : Rule) → P p y) (children x) → P r x) where
   module _ (x : Document) (kids : Each (λ y. (p : Rule) → P p y) (children x)) where
     -- an expression, where Q names the definitions that are done
     module _ (Q : List ℕ → Type 0) (done : (n : List ℕ) → Q n → P (definition n) x) where
@@ -68,18 +69,18 @@ module _ (E : Environment) (P : Rule → Document → Type 0) (step : (r : Rule)
         through (cue.reference n) d = step (node (cue.reference n)) x (done n d.0, tt) kids
         through (cue.conjunction es) d = step (node (cue.conjunction es)) x (throughs es d) kids
         through (cue.disjunction es) d = step (node (cue.disjunction es)) x (throughs es d) kids
-        through cue.top d = step (node cue.top) x tt kids
-        through cue.bottom d = step (node cue.bottom) x tt kids
-        through cue.null d = step (node cue.null) x tt kids
-        through (cue.boolean b) d = step (node (cue.boolean b)) x tt kids
-        through (cue.integer n) d = step (node (cue.integer n)) x tt kids
-        through (cue.text s) d = step (node (cue.text s)) x tt kids
+        through (cue.atom cue.top) d = step (node (cue.atom cue.top)) x tt kids
+        through (cue.atom cue.bottom) d = step (node (cue.atom cue.bottom)) x tt kids
+        through (cue.atom cue.null) d = step (node (cue.atom cue.null)) x tt kids
+        through (cue.atom (cue.boolean b)) d = step (node (cue.atom (cue.boolean b))) x tt kids
+        through (cue.atom (cue.integer n)) d = step (node (cue.atom (cue.integer n))) x tt kids
+        through (cue.atom (cue.text s)) d = step (node (cue.atom (cue.text s))) x tt kids
+        through (cue.atom (cue.bound r n)) d = step (node (cue.atom (cue.bound r n))) x tt kids
+        through (cue.atom (cue.not_integer n)) d = step (node (cue.atom (cue.not_integer n))) x tt kids
+        through (cue.atom (cue.not_text s)) d = step (node (cue.atom (cue.not_text s))) x tt kids
+        through (cue.atom cue.not_null) d = step (node (cue.atom cue.not_null)) x tt kids
         through (cue.kind k) d = step (node (cue.kind k)) x tt kids
         through (cue.range l g) d = step (node (cue.range l g)) x tt kids
-        through (cue.bound r n) d = step (node (cue.bound r n)) x tt kids
-        through (cue.not_integer n) d = step (node (cue.not_integer n)) x tt kids
-        through (cue.not_text s) d = step (node (cue.not_text s)) x tt kids
-        through cue.not_null d = step (node cue.not_null) x tt kids
         through (cue.struct ds o) d = step (node (cue.struct ds o)) x tt kids
         through (cue.list es r) d = step (node (cue.list es r)) x tt kids
 
@@ -100,25 +101,7 @@ module _ (E : Environment) (P : Rule → Document → Type 0) (step : (r : Rule)
       any_rule (definition n) = definitions k n (short n)
       any_rule (node e) = through (λ n. Unit {0}) (λ n q. definitions k n (short n)) e (any_direct e)
 
-  module _ (at : (x : Document) → Each (λ y. (p : Rule) → P p y) (children x) → (r : Rule) → P r x) where
-    mutual
-      every : (x : Document) (r : Rule) → P r x
-      every null = at null tt
-      every (boolean b) = at (boolean b) tt
-      every (integer n) = at (integer n) tt
-      every (text s) = at (text s) tt
-      every (list ds) = at (list ds) (every_element ds)
-      every (object ms) = at (object ms) (every_member ms)
-
-      every_element : (ds : Documents) → Each (λ y. (p : Rule) → P p y) (elements ds)
-      every_element no_documents = tt
-      every_element (document d ds) = (every d, every_element ds)
-
-      every_member : (ms : Members) → Each (λ y. (p : Rule) → P p y) (values (entries ms))
-      every_member no_members = tt
-      every_member (member k d ms) = (every d, every_member ms)
-
 pub guarded-induction : (E : Environment) → IsGuarded E → (P : Rule → Document → Type 0)
-    → ((r : Rule) (x : Document) → Each (λ p. P p x) (here_parts (asked E r)) → Each (λ y. (p : Rule) → P p y) (children x) → P r x)
+    → ((r : Rule) (x : Document) → Each (λ p. P p x) (here_parts (constraint_of E r)) → Each (λ y. (p : Rule) → P p y) (children x) → P r x)
     → (r : Rule) (x : Document) → P r x
-guarded-induction E g P step r x = every E P step (λ x kids. any_rule E P step x kids 65 (guarded-short E g)) x r
+guarded-induction E g P step r x = by_children (λ y. (p : Rule) → P p y) (λ y kids. any_rule E P step y kids 65 (guarded-short E g)) x r

@@ -1,10 +1,8 @@
-pub mod Each
-pub mod Unfolding
 pub mod Parts
 pub mod Induction
 pub mod Meaning
 pub mod Shapes
-pub mod Taken
+pub mod Exportable
 mod Rows
 mod Samples
 mod Doubling

@@ -1,41 +1,18 @@
 -- What is asked rests on the verdicts on its parts alone.
 use Rattle.std.proofs.Common.{◌≡◌, ℕ, Bool, true, false, ◌&&◌, ◌||◌, List, [], ◌∷◌, cond, Some, refl, ap, ap₂}
-use Rattle.std.specs.List.{list_all, list_any}
+use Rattle.std.specs.List.{list_all, list_any, AllByRecursion as Each}
 use Rattle.std.specs.Str.{bytes_eq}
-use Rattle.cs_document.specs.Document.{Document, null, boolean, integer, text, list, object, Entry, elements, entries, under}
-use Rattle.cs_document.specs.Opened.{Opened, a_null, a_boolean, an_integer, a_text, a_list, an_object, opened}
+use Rattle.cs_document.specs.Document.{Entry, under}
+use Rattle.cs_document.specs.Opened.{Opened, a_null, a_boolean, an_integer, a_text, a_list, an_object}
+use Rattle.cs_document.proofs.Each.{each_map, all_same, any_same}
+use Rattle.cs_document.proofs.Children.{values, within}
 use Rattle.cs_package.specs.Expression.{Declaration}
-use Rattle.cs_instance.specs.Asked.{Rest, nothing, anything, each, Asked, always, never, the_null, the_boolean, the_integer, the_text, of_kind, in_range, bounded, another_integer, another_text, not_the_null, all_of, one_of, object_of, list_of, held, declaration_holds, rest_holds, elements_hold}
-use Rattle.cs_instance.proofs.Each.{Each, each_map, all_same, any_same}
-
-abbrev pub values : {A : Type 0} → List (Entry A) → List A
-values [] = []
-values (m ∷ ms) = m.1 ∷ values ms
-
--- the documents directly inside one
-abbrev pub children : Document → List Document
-children (list ds) = elements ds
-children (object ms) = values (entries ms)
-children _ = []
-
--- what stands inside an opened document
-abbrev pub within : {A : Type 0} → Opened A → List A
-within (a_list ys) = ys
-within (an_object ms) = values ms
-within _ = []
-
-pub within-opened : (x : Document) (P : Document → Type 0) → Each P (children x) → Each P (within (opened x))
-within-opened null P h = h
-within-opened (boolean b) P h = h
-within-opened (integer n) P h = h
-within-opened (text s) P h = h
-within-opened (list ds) P h = h
-within-opened (object ms) P h = h
+use Rattle.cs_instance.specs.Constraint.{Rest, nothing, anything, each, Constraint, always, never, the_null, the_boolean, the_integer, the_text, of_kind, in_range, bounded, another_integer, another_text, not_the_null, all_of, any_of, object_of, list_of, is_satisfied, declaration_holds, rest_holds, elements_hold}
 
 -- the parts asked of the same document
-abbrev pub here_parts : {D N : Type 0} → Asked D N → List D
+abbrev pub here_parts : {D N : Type 0} → Constraint D N → List D
 here_parts (all_of rs) = rs
-here_parts (one_of rs) = rs
+here_parts (any_of rs) = rs
 here_parts _ = []
 
 module _ {N : Type 0} where
@@ -52,7 +29,7 @@ module _ {N : Type 0} where
   list_parts (e ∷ es) rest = e ∷ list_parts es rest
 
 -- the parts asked of documents inside
-abbrev pub inner_parts : {D N : Type 0} → Asked D N → List N
+abbrev pub inner_parts : {D N : Type 0} → Constraint D N → List N
 inner_parts (object_of ds opened) = declared_values ds
 inner_parts (list_of es rest) = list_parts es rest
 inner_parts _ = []
@@ -87,30 +64,30 @@ module _ {A N : Type 0} (inside inside' : A → N → Bool) where
 
 module _ {A D N : Type 0} (here here' : D → Bool) (inside inside' : A → N → Bool) where
   -- what is asked of a document rests on the parts alone
-  pub held_same : (a : Asked D N) (x : Opened A) → Each (λ r. here r ≡ here' r) (here_parts a) → Each (SameAt inside inside' (inner_parts a)) (within x) → held here inside a x ≡ held here' inside' a x
-  held_same always x d w = refl
-  held_same never x d w = refl
-  held_same the_null x d w = refl
-  held_same (the_boolean b) x d w = refl
-  held_same (the_integer n) x d w = refl
-  held_same (the_text s) x d w = refl
-  held_same (of_kind k) x d w = refl
-  held_same (in_range l g) x d w = refl
-  held_same (bounded r n) x d w = refl
-  held_same (another_integer n) x d w = refl
-  held_same (another_text s) x d w = refl
-  held_same not_the_null x d w = refl
-  held_same (all_of rs) x d w = all_same here here' rs d
-  held_same (one_of rs) x d w = any_same here here' rs d
-  held_same (object_of ds o) (an_object ms) d w = ap (λ b. b && (o || list_all (λ (m : Entry A). list_any (λ (c : Declaration N). bytes_eq m.0 c.label) ds) ms)) (declarations_same inside inside' ds ms w)
-  held_same (object_of ds o) a_null d w = refl
-  held_same (object_of ds o) (a_boolean b) d w = refl
-  held_same (object_of ds o) (an_integer n) d w = refl
-  held_same (object_of ds o) (a_text s) d w = refl
-  held_same (object_of ds o) (a_list ys) d w = refl
-  held_same (list_of es rest) (a_list ys) d w = elements_same inside inside' es rest ys w
-  held_same (list_of es rest) a_null d w = refl
-  held_same (list_of es rest) (a_boolean b) d w = refl
-  held_same (list_of es rest) (an_integer n) d w = refl
-  held_same (list_of es rest) (a_text s) d w = refl
-  held_same (list_of es rest) (an_object ms) d w = refl
+  pub satisfied_same : (a : Constraint D N) (x : Opened A) → Each (λ r. here r ≡ here' r) (here_parts a) → Each (SameAt inside inside' (inner_parts a)) (within x) → is_satisfied here inside a x ≡ is_satisfied here' inside' a x
+  satisfied_same always x d w = refl
+  satisfied_same never x d w = refl
+  satisfied_same the_null x d w = refl
+  satisfied_same (the_boolean b) x d w = refl
+  satisfied_same (the_integer n) x d w = refl
+  satisfied_same (the_text s) x d w = refl
+  satisfied_same (of_kind k) x d w = refl
+  satisfied_same (in_range l g) x d w = refl
+  satisfied_same (bounded r n) x d w = refl
+  satisfied_same (another_integer n) x d w = refl
+  satisfied_same (another_text s) x d w = refl
+  satisfied_same not_the_null x d w = refl
+  satisfied_same (all_of rs) x d w = all_same here here' rs d
+  satisfied_same (any_of rs) x d w = any_same here here' rs d
+  satisfied_same (object_of ds o) (an_object ms) d w = ap (λ b. b && (o || list_all (λ (m : Entry A). list_any (λ (c : Declaration N). bytes_eq m.0 c.label) ds) ms)) (declarations_same inside inside' ds ms w)
+  satisfied_same (object_of ds o) a_null d w = refl
+  satisfied_same (object_of ds o) (a_boolean b) d w = refl
+  satisfied_same (object_of ds o) (an_integer n) d w = refl
+  satisfied_same (object_of ds o) (a_text s) d w = refl
+  satisfied_same (object_of ds o) (a_list ys) d w = refl
+  satisfied_same (list_of es rest) (a_list ys) d w = elements_same inside inside' es rest ys w
+  satisfied_same (list_of es rest) a_null d w = refl
+  satisfied_same (list_of es rest) (a_boolean b) d w = refl
+  satisfied_same (list_of es rest) (an_integer n) d w = refl
+  satisfied_same (list_of es rest) (a_text s) d w = refl
+  satisfied_same (list_of es rest) (an_object ms) d w = refl

@@ -2,23 +2,23 @@
 -- meaning that is turned, stops the check here.
 use Rattle.std.proofs.Common.{◌≡◌, ℕ, ℤ, pos, neg_ℤ, Bool, true, false, ◌&&◌, List, [], ◌∷◌, Some, None, codes, cond, refl, ap, ◌∙◌, arith, FitsSigned, w64, int_lt}
 use Rattle.std.specs.Bool.{beq}
-use Rattle.std.specs.List.{list_all, flat_map}
+use Rattle.std.specs.List.{list_all, flat_map, AllByRecursion as Each}
 use Rattle.std.specs.Option.{unwrap_or}
 use Rattle.std.specs.Str.{bytes_eq}
+use Rattle.std.proofs.lemmas.Bool.{and_parts}
 use Rattle.std.proofs.lemmas.Int.{ints}
 use Rattle.cs_document.specs.Document as json
-use Rattle.cs_document.specs.Document.{Document, Documents, Members, IsDocument, Entry}
+use Rattle.cs_document.specs.Document.{Document, IsDocument}
 use Rattle.cs_document.specs.Opened.{opened as json_opened}
-use Rattle.cs_document.specs.View.{documents_of}
+use Rattle.cs_document.proofs.SampleDocuments.{number, array, map_of as object}
 use Rattle.cs_package.specs.Expression as cue
-use Rattle.cs_package.specs.Expression.{Expression, Expressions, Declarations}
+use Rattle.cs_package.specs.Expression.{Expression, Declarations}
 use Rattle.cs_package.specs.Environment.{Environment}
 use Rattle.cs_package.specs.View.{expressions_of}
 use Rattle.cs_guard.specs.References.{strong, strong_of}
 use Rattle.cs_guard.proofs.Chains.{alone-guarded}
-use Rattle.cs_instance.specs.Asked.{is_integer}
+use Rattle.cs_instance.specs.Constraint.{is_integer}
 use Rattle.cs_instance.specs.Instance.{Rule, definition, node, IsInstance, OneMeaning}
-use Rattle.cs_instance.proofs.Each.{Each, both_true}
 use Rattle.cs_instance.proofs.Meaning.{is_settled, value_after, computed, one_meaning}
 
 -- each document is an instance of the definition of that name, or isn't, as the truth value beside it says
@@ -38,8 +38,8 @@ same false true e = cc
 settled_rows : (E : Environment) (n : List ℕ) (rows : List (Document × Bool)) → judged E n rows ≡ true → (I : Rule → Document → Bool) → IsInstance E I → Each (λ (p : Document × Bool). I (definition n) p.0 ≡ p.1) rows
 settled_rows E n [] e I h = tt
 settled_rows E n (p ∷ rows) e I h =
-    let first = both_true (is_settled E 10 (definition n) p.0 && beq (value_after E 10 (definition n) p.0) p.1) (judged E n rows) e in
-    let parts = both_true (is_settled E 10 (definition n) p.0) (beq (value_after E 10 (definition n) p.0) p.1) first.0 in
+    let first = and_parts (is_settled E 10 (definition n) p.0 && beq (value_after E 10 (definition n) p.0) p.1) (judged E n rows) e in
+    let parts = and_parts (is_settled E 10 (definition n) p.0) (beq (value_after E 10 (definition n) p.0) p.1) first.0 in
     (computed E I h 10 (definition n) p.0 parts.0 ∙ same (value_after E 10 (definition n) p.0) p.1 parts.1, settled_rows E n rows first.1 I h)
 
 by_steps : {E : Environment} {n : List ℕ} {rows : List (Document × Bool)} → judged E n rows ≡ true → Judges E n rows
@@ -50,8 +50,8 @@ by_steps {E} {n} {rows} e = record { verdicts = settled_rows E n rows e }
 abbrev pub all_of : List Expression → Expression
 all_of es = cue.conjunction (expressions_of es)
 
-abbrev pub one_of : List Expression → Expression
-one_of es = cue.disjunction (expressions_of es)
+abbrev pub any_of : List Expression → Expression
+any_of es = cue.disjunction (expressions_of es)
 
 abbrev pub int : Expression
 int = cue.kind cue.int
@@ -60,7 +60,7 @@ abbrev pub string : Expression
 string = cue.kind cue.string
 
 abbrev pub more_than : ℤ → Expression
-more_than n = cue.bound cue.more n
+more_than n = cue.atom (cue.bound cue.more n)
 
 abbrev pub refers_to : List ℕ → Expression
 refers_to n = cue.reference n
@@ -92,46 +92,33 @@ opened ds = cue.struct ds true
 abbrev pub only : List ℕ → Expression → Environment
 only n e = (n, e ∷ []) ∷ []
 
-abbrev pub number : ℕ → Document
-number n = json.integer (pos n)
-
 abbrev pub word : List ℕ → Document
 word s = json.text s
-
-abbrev pub array : List Document → Document
-array ds = json.list (documents_of ds)
-
-abbrev pub members : List (Entry Document) → Members
-members [] = json.no_members
-members (e ∷ es) = json.member e.0 e.1 (members es)
-
-abbrev pub object : List (Entry Document) → Document
-object es = json.object (members es)
 
 -- ---- atoms
 
 -- #P: int & >=1 & <=65535
-port : Judges (only (codes "P") (all_of (int ∷ cue.bound cue.at_least (pos 1) ∷ cue.bound cue.at_most (pos 65535) ∷ []))) (codes "P")
+port : Judges (only (codes "P") (all_of (int ∷ cue.atom (cue.bound cue.at_least (pos 1)) ∷ cue.atom (cue.bound cue.at_most (pos 65535)) ∷ []))) (codes "P")
     ((number 1, true) ∷ (number 65535, true) ∷ (number 0, false) ∷ (number 65536, false) ∷ (word (codes "1"), false) ∷ [])
 port = by_steps refl
 
 -- #N: -5
-literal : Judges (only (codes "N") (cue.integer (neg_ℤ (pos 5)))) (codes "N") ((json.integer (neg_ℤ (pos 5)), true) ∷ (number 5, false) ∷ [])
+literal : Judges (only (codes "N") (cue.atom (cue.integer (neg_ℤ (pos 5))))) (codes "N") ((json.integer (neg_ℤ (pos 5)), true) ∷ (number 5, false) ∷ [])
 literal = by_steps refl
 
 -- #S: !="s"
-other_text : Judges (only (codes "S") (cue.not_text (codes "s"))) (codes "S") ((word (codes "t"), true) ∷ (word (codes "s"), false) ∷ (number 1, false) ∷ [])
+other_text : Judges (only (codes "S") (cue.atom (cue.not_text (codes "s")))) (codes "S") ((word (codes "t"), true) ∷ (word (codes "s"), false) ∷ (number 1, false) ∷ [])
 other_text = by_steps refl
 
 -- #M: -9_223_372_036_854_775_808
-least_integer : Judges (only (codes "M") (cue.integer (neg_ℤ (pos 9223372036854775808)))) (codes "M")
+least_integer : Judges (only (codes "M") (cue.atom (cue.integer (neg_ℤ (pos 9223372036854775808))))) (codes "M")
     ((json.integer (neg_ℤ (pos 9223372036854775808)), true) ∷ (json.integer (neg_ℤ (pos 9223372036854775807)), false) ∷ [])
 least_integer = by_steps refl
 
 -- ---- `&` and `|`
 
 -- #Q: 1 | int & >5
-tighter : Judges (only (codes "Q") (one_of (cue.integer (pos 1) ∷ all_of (int ∷ more_than (pos 5) ∷ []) ∷ []))) (codes "Q") ((number 1, true) ∷ (number 6, true) ∷ (number 5, false) ∷ [])
+tighter : Judges (only (codes "Q") (any_of (cue.atom (cue.integer (pos 1)) ∷ all_of (int ∷ more_than (pos 5) ∷ []) ∷ []))) (codes "Q") ((number 1, true) ∷ (number 6, true) ∷ (number 5, false) ∷ [])
 tighter = by_steps refl
 
 -- #A: int, and again #A: >2
@@ -139,7 +126,7 @@ declared_twice : Judges ((codes "A", int ∷ more_than (pos 2) ∷ []) ∷ []) (
 declared_twice = by_steps refl
 
 -- #W: !=null & (1 | "s" | null)
-but_null : Judges (only (codes "W") (all_of (cue.not_null ∷ one_of (cue.integer (pos 1) ∷ cue.text (codes "s") ∷ cue.null ∷ []) ∷ []))) (codes "W")
+but_null : Judges (only (codes "W") (all_of (cue.atom cue.not_null ∷ any_of (cue.atom (cue.integer (pos 1)) ∷ cue.atom (cue.text (codes "s")) ∷ cue.atom cue.null ∷ []) ∷ []))) (codes "W")
     ((word (codes "s"), true) ∷ (json.null, false) ∷ (number 2, false) ∷ [])
 but_null = by_steps refl
 
@@ -167,7 +154,7 @@ opened_struct : Judges (only (codes "R") (opened (regular (codes "k") int end)))
 opened_struct = by_steps refl
 
 -- #D: {a: int} | {b: int}
-either : Judges (only (codes "D") (one_of (closed (regular (codes "a") int end) ∷ closed (regular (codes "b") int end) ∷ []))) (codes "D")
+either : Judges (only (codes "D") (any_of (closed (regular (codes "a") int end) ∷ closed (regular (codes "b") int end) ∷ []))) (codes "D")
     ((object ((codes "a", number 1) ∷ []), true) ∷ (object ((codes "a", number 1) ∷ (codes "b", number 2) ∷ []), false) ∷ [])
 either = by_steps refl
 
@@ -197,7 +184,7 @@ empty_list : Judges (only (codes "Z") (list_of [] cue.closed)) (codes "Z") ((arr
 empty_list = by_steps refl
 
 -- #N: [1, 2]
-two_literals : Judges (only (codes "N") (list_of (cue.integer (pos 1) ∷ cue.integer (pos 2) ∷ []) cue.closed)) (codes "N") ((array (number 1 ∷ number 2 ∷ []), true) ∷ (array (number 1 ∷ []), false) ∷ [])
+two_literals : Judges (only (codes "N") (list_of (cue.atom (cue.integer (pos 1)) ∷ cue.atom (cue.integer (pos 2)) ∷ []) cue.closed)) (codes "N") ((array (number 1 ∷ number 2 ∷ []), true) ∷ (array (number 1 ∷ []), false) ∷ [])
 two_literals = by_steps refl
 
 -- ---- references
@@ -220,7 +207,7 @@ tree_meaning = one_meaning trees (alone-guarded trees alone)
     alone n = elim (bytes_eq n (codes "T")) as (λ b. flat_map strong (unwrap_or (cond b (Some (closed (regular (codes "v") int (optional (codes "kids") (list_of [] (cue.each (refers_to (codes "T")))) end)) ∷ [])) None) []) ≡ []) [ true ↦ refl | false ↦ refl ]
 
 -- #B: {k: string}, and #C: #B & {k: "x", ...}
-refined : Judges ((codes "B", closed (regular (codes "k") string end) ∷ []) ∷ (codes "C", all_of (refers_to (codes "B") ∷ opened (regular (codes "k") (cue.text (codes "x")) end) ∷ []) ∷ []) ∷ []) (codes "C")
+refined : Judges ((codes "B", closed (regular (codes "k") string end) ∷ []) ∷ (codes "C", all_of (refers_to (codes "B") ∷ opened (regular (codes "k") (cue.atom (cue.text (codes "x"))) end) ∷ []) ∷ []) ∷ []) (codes "C")
     ((object ((codes "k", word (codes "x")) ∷ []), true) ∷ (object ((codes "k", word (codes "y")) ∷ []), false) ∷ (object ((codes "k", word (codes "x")) ∷ (codes "z", number 1) ∷ []), false) ∷ [])
 refined = by_steps refl
 

@@ -1,17 +1,18 @@
 -- Each form of expression with those documents of a list that are its instances. A wrong expectation, or a definition
 -- of the meaning that is turned, stops the check here.
 use Rattle.std.proofs.Common.{◌≡◌, ℕ, ℤ, pos, neg_ℤ, Bool, true, false, List, [], ◌∷◌, map, filter, Some, None, codes, if◌then◌else◌, refl, ap₂, ◌∙◌, rules}
-use Rattle.std.specs.List.{list_all}
+use Rattle.std.specs.List.{list_all, AllByRecursion as Each}
+use Rattle.std.proofs.lemmas.Bool.{and_parts}
 use Rattle.cs_document.specs.Document as json
 use Rattle.cs_document.specs.Document.{Document}
+use Rattle.cs_document.proofs.SampleDocuments.{number, array, map_of as object}
 use Rattle.cs_package.specs.Expression as cue
 use Rattle.cs_package.specs.Expression.{Expression}
 use Rattle.cs_package.specs.Environment.{Environment}
 use Rattle.cs_instance.specs.Instance.{Rule, node, IsInstance}
-use Rattle.cs_instance.specs.Taken.{IsTaken, AllTaken, IsTakenPackage}
-use Rattle.cs_instance.proofs.Each.{Each, both_true}
+use Rattle.cs_instance.specs.Exportable.{IsExportable, AllExportable, IsExportablePackage}
 use Rattle.cs_instance.proofs.Meaning.{is_settled, value_after, computed}
-use Rattle.cs_instance.proofs.Rows.{all_of, one_of, int, string, more_than, refers_to, list_of, regular, optional, required, end, closed, opened, number, word, array, object}
+use Rattle.cs_instance.proofs.Rows.{all_of, any_of, int, string, more_than, refers_to, list_of, regular, optional, required, end, closed, opened, word}
 
 -- of these documents, just those beside an expression are its instances
 pub record Admits (E : Environment) (documents : List Document) (rows : List (Expression × List Document)) : Type 0 where
@@ -21,7 +22,7 @@ each_computed : (E : Environment) (I : Rule → Document → Bool) → IsInstanc
     → list_all (is_settled E 10 (node e)) xs ≡ true → filter (I (node e)) xs ≡ filter (value_after E 10 (node e)) xs
 each_computed E I h e [] s = refl
 each_computed E I h e (x ∷ xs) s =
-    let t = both_true (is_settled E 10 (node e) x) _ s in
+    let t = and_parts (is_settled E 10 (node e) x) _ s in
     ap₂ (λ b ys. if b then x ∷ ys else ys) (computed E I h 10 (node e) x t.0) (each_computed E I h e xs t.1)
 
 rows_computed : (E : Environment) (I : Rule → Document → Bool) → IsInstance E I → (xs : List Document) (rows : List (Expression × List Document))
@@ -29,7 +30,7 @@ rows_computed : (E : Environment) (I : Rule → Document → Bool) → IsInstanc
     → map (λ r. filter (I (node r.0)) xs) rows ≡ map (λ (r : Expression × List Document). filter (value_after E 10 (node r.0)) xs) rows
 rows_computed E I h xs [] s = refl
 rows_computed E I h xs (r ∷ rows) s =
-    let t = both_true (list_all (is_settled E 10 (node r.0)) xs) _ s in
+    let t = and_parts (list_all (is_settled E 10 (node r.0)) xs) _ s in
     ap₂ (λ ys rest. ys ∷ rest) (each_computed E I h r.0 xs t.0) (rows_computed E I h xs rows t.1)
 
 by_values : {E : Environment} {documents : List Document} {rows : List (Expression × List Document)}
@@ -106,15 +107,15 @@ every_kind = json.null ∷ yes ∷ no ∷ minus_one ∷ number 0 ∷ number 1 �
 
 module _ (E : Environment) where
   literals_and_kinds : Admits E every_kind
-      ((cue.top, every_kind)
-      ∷ (cue.bottom, [])
-      ∷ (cue.null, json.null ∷ [])
-      ∷ (cue.boolean true, yes ∷ [])
-      ∷ (cue.boolean false, no ∷ [])
-      ∷ (cue.integer (pos 1), number 1 ∷ [])
-      ∷ (cue.integer (below_zero 1), minus_one ∷ [])
-      ∷ (cue.text [], no_text ∷ [])
-      ∷ (cue.text (codes "s"), a_text ∷ [])
+      ((cue.atom cue.top, every_kind)
+      ∷ (cue.atom cue.bottom, [])
+      ∷ (cue.atom cue.null, json.null ∷ [])
+      ∷ (cue.atom (cue.boolean true), yes ∷ [])
+      ∷ (cue.atom (cue.boolean false), no ∷ [])
+      ∷ (cue.atom (cue.integer (pos 1)), number 1 ∷ [])
+      ∷ (cue.atom (cue.integer (below_zero 1)), minus_one ∷ [])
+      ∷ (cue.atom (cue.text []), no_text ∷ [])
+      ∷ (cue.atom (cue.text (codes "s")), a_text ∷ [])
       ∷ (cue.kind cue.int, minus_one ∷ number 0 ∷ number 1 ∷ number 2 ∷ [])
       ∷ (cue.kind cue.number, minus_one ∷ number 0 ∷ number 1 ∷ number 2 ∷ [])
       ∷ (cue.kind cue.string, no_text ∷ a_text ∷ [])
@@ -127,20 +128,20 @@ module _ (E : Environment) where
       ((cue.range (pos 0) None, number 0 ∷ number 1 ∷ number 2 ∷ [])
       ∷ (cue.range (pos 0) (Some (pos 1)), number 0 ∷ number 1 ∷ [])
       ∷ (cue.range (below_zero 1) (Some (pos 0)), minus_one ∷ number 0 ∷ [])
-      ∷ (cue.bound cue.less (pos 1), minus_one ∷ number 0 ∷ [])
-      ∷ (cue.bound cue.at_most (pos 1), minus_one ∷ number 0 ∷ number 1 ∷ [])
-      ∷ (cue.bound cue.more (pos 0), number 1 ∷ number 2 ∷ [])
-      ∷ (cue.bound cue.at_least (pos 0), number 0 ∷ number 1 ∷ number 2 ∷ [])
-      ∷ (cue.not_integer (pos 1), minus_one ∷ number 0 ∷ number 2 ∷ [])
-      ∷ (cue.not_text (codes "s"), no_text ∷ [])
-      ∷ (cue.not_null, yes ∷ no ∷ minus_one ∷ number 0 ∷ number 1 ∷ number 2 ∷ no_text ∷ a_text ∷ array [] ∷ array (number 1 ∷ []) ∷ object [] ∷ a_one ∷ [])
+      ∷ (cue.atom (cue.bound cue.less (pos 1)), minus_one ∷ number 0 ∷ [])
+      ∷ (cue.atom (cue.bound cue.at_most (pos 1)), minus_one ∷ number 0 ∷ number 1 ∷ [])
+      ∷ (cue.atom (cue.bound cue.more (pos 0)), number 1 ∷ number 2 ∷ [])
+      ∷ (cue.atom (cue.bound cue.at_least (pos 0)), number 0 ∷ number 1 ∷ number 2 ∷ [])
+      ∷ (cue.atom (cue.not_integer (pos 1)), minus_one ∷ number 0 ∷ number 2 ∷ [])
+      ∷ (cue.atom (cue.not_text (codes "s")), no_text ∷ [])
+      ∷ (cue.atom cue.not_null, yes ∷ no ∷ minus_one ∷ number 0 ∷ number 1 ∷ number 2 ∷ no_text ∷ a_text ∷ array [] ∷ array (number 1 ∷ []) ∷ object [] ∷ a_one ∷ [])
       ∷ [])
   bounds = by_values refl refl
 
   -- operands, structs with each mark, closed and opened, and lists with each rest
   parts : Admits E every_kind
-      ((all_of (int ∷ more_than (pos 0) ∷ cue.not_integer (pos 2) ∷ []), number 1 ∷ [])
-      ∷ (one_of (cue.integer (pos 2) ∷ string ∷ closed end ∷ []), number 2 ∷ no_text ∷ a_text ∷ object [] ∷ [])
+      ((all_of (int ∷ more_than (pos 0) ∷ cue.atom (cue.not_integer (pos 2)) ∷ []), number 1 ∷ [])
+      ∷ (any_of (cue.atom (cue.integer (pos 2)) ∷ string ∷ closed end ∷ []), number 2 ∷ no_text ∷ a_text ∷ object [] ∷ [])
       ∷ (closed end, object [] ∷ [])
       ∷ (opened end, object [] ∷ a_one ∷ [])
       ∷ (closed (regular (codes "a") int end), a_one ∷ [])
@@ -166,13 +167,13 @@ module _ (E : Environment) where
   -- the ends of 64 signed bits, and the integers beside them
   at_the_ends : Admits E (least ∷ behind_least ∷ before_greatest ∷ greatest ∷ [])
       ((cue.range (below_zero 9223372036854775808) (Some (pos 9223372036854775807)), least ∷ behind_least ∷ before_greatest ∷ greatest ∷ [])
-      ∷ (cue.bound cue.more (below_zero 9223372036854775808), behind_least ∷ before_greatest ∷ greatest ∷ [])
-      ∷ (cue.bound cue.at_least (below_zero 9223372036854775808), least ∷ behind_least ∷ before_greatest ∷ greatest ∷ [])
-      ∷ (cue.bound cue.less (below_zero 9223372036854775808), [])
-      ∷ (cue.bound cue.less (pos 9223372036854775807), least ∷ behind_least ∷ before_greatest ∷ [])
-      ∷ (cue.bound cue.at_most (pos 9223372036854775807), least ∷ behind_least ∷ before_greatest ∷ greatest ∷ [])
-      ∷ (cue.integer (pos 9223372036854775807), greatest ∷ [])
-      ∷ (cue.not_integer (below_zero 9223372036854775808), behind_least ∷ before_greatest ∷ greatest ∷ [])
+      ∷ (cue.atom (cue.bound cue.more (below_zero 9223372036854775808)), behind_least ∷ before_greatest ∷ greatest ∷ [])
+      ∷ (cue.atom (cue.bound cue.at_least (below_zero 9223372036854775808)), least ∷ behind_least ∷ before_greatest ∷ greatest ∷ [])
+      ∷ (cue.atom (cue.bound cue.less (below_zero 9223372036854775808)), [])
+      ∷ (cue.atom (cue.bound cue.less (pos 9223372036854775807)), least ∷ behind_least ∷ before_greatest ∷ [])
+      ∷ (cue.atom (cue.bound cue.at_most (pos 9223372036854775807)), least ∷ behind_least ∷ before_greatest ∷ greatest ∷ [])
+      ∷ (cue.atom (cue.integer (pos 9223372036854775807)), greatest ∷ [])
+      ∷ (cue.atom (cue.not_integer (below_zero 9223372036854775808)), behind_least ∷ before_greatest ∷ greatest ∷ [])
       ∷ [])
   at_the_ends = by_values refl refl
 
@@ -186,7 +187,7 @@ module _ (E : Environment) where
       ∷ (closed (optional A int (regular A (more_than (pos 3)) end)), a_four ∷ [])
       ∷ (closed (regular A (more_than (pos 3)) (optional A int end)), a_four ∷ [])
       ∷ (closed (optional A int (optional A string end)), object [] ∷ [])
-      ∷ (opened (optional A cue.bottom end), object [] ∷ b_two ∷ [])
+      ∷ (opened (optional A (cue.atom cue.bottom) end), object [] ∷ b_two ∷ [])
       ∷ (closed (regular A (closed (regular B int end)) end), inner ∷ [])
       ∷ (closed (regular A (opened (regular B int end)) end), inner ∷ inner_more ∷ [])
       ∷ (opened (regular A (closed end) end), [])
@@ -200,7 +201,7 @@ module _ (E : Environment) where
       ∷ (list_of (int ∷ []) (cue.each string), array (number 1 ∷ []) ∷ array (number 1 ∷ a_text ∷ []) ∷ [])
       ∷ (list_of (int ∷ []) cue.any, array (number 1 ∷ []) ∷ array (number 1 ∷ a_text ∷ []) ∷ array (number 1 ∷ a_text ∷ yes ∷ []) ∷ array (number 1 ∷ number 2 ∷ number 1 ∷ []) ∷ [])
       ∷ (list_of [] (cue.each int), array [] ∷ array (number 1 ∷ []) ∷ array (number 1 ∷ number 2 ∷ number 1 ∷ []) ∷ [])
-      ∷ (list_of [] (cue.each cue.bottom), array [] ∷ [])
+      ∷ (list_of [] (cue.each (cue.atom cue.bottom)), array [] ∷ [])
       ∷ (list_of (list_of (int ∷ []) cue.closed ∷ []) cue.closed, array (array (number 1 ∷ []) ∷ []) ∷ [])
       ∷ [])
   lists = by_values refl refl
@@ -215,8 +216,8 @@ references : Admits named (number 2 ∷ number 3 ∷ a_text ∷ array (number 2 
     ((refers_to A, number 3 ∷ [])
     ∷ (refers_to B, number 3 ∷ [])
     ∷ (refers_to (codes "c"), [])
-    ∷ (one_of (refers_to B ∷ string ∷ []), number 3 ∷ a_text ∷ [])
-    ∷ (all_of (refers_to B ∷ cue.not_integer (pos 3) ∷ []), [])
+    ∷ (any_of (refers_to B ∷ string ∷ []), number 3 ∷ a_text ∷ [])
+    ∷ (all_of (refers_to B ∷ cue.atom (cue.not_integer (pos 3)) ∷ []), [])
     ∷ (closed (regular A (refers_to B) end), a_four ∷ [])
     ∷ (closed (optional A (refers_to A) end), a_four ∷ object [] ∷ [])
     ∷ (list_of (refers_to A ∷ []) cue.closed, array (number 3 ∷ []) ∷ [])
@@ -224,18 +225,18 @@ references : Admits named (number 2 ∷ number 3 ∷ a_text ∷ array (number 2 
     ∷ [])
 references = by_values refl refl
 
--- ---- the forms that are taken so far
+-- ---- the forms that are exported so far
 
-taken : AllTaken (int ∷ cue.kind cue.number ∷ string ∷ cue.kind cue.bool ∷ cue.integer (pos 1) ∷ cue.range (pos 0) None ∷ more_than (pos 1) ∷ all_of (int ∷ all_of (int ∷ int ∷ []) ∷ []) ∷ [])
-taken = search rules
+exportable : AllExportable (int ∷ cue.kind cue.number ∷ string ∷ cue.kind cue.bool ∷ cue.atom (cue.integer (pos 1)) ∷ cue.range (pos 0) None ∷ more_than (pos 1) ∷ all_of (int ∷ all_of (int ∷ int ∷ []) ∷ []) ∷ [])
+exportable = search rules
 
 -- each of the others, and one of them inside
-not_taken : Each (λ e. IsTaken e → ⊥) (cue.top ∷ cue.bottom ∷ cue.null ∷ cue.boolean true ∷ cue.text A ∷ refers_to A ∷ cue.not_integer (pos 1) ∷ cue.not_text A ∷ cue.not_null ∷ one_of (int ∷ int ∷ []) ∷ closed end ∷ list_of [] cue.any ∷ all_of (int ∷ cue.null ∷ []) ∷ [])
-not_taken = (λ h. h, (λ h. h, (λ h. h, (λ h. h, (λ h. h, (λ h. h, (λ h. h, (λ h. h, (λ h. h, (λ h. h, (λ h. h, (λ h. h, (λ h. h.1.0, tt)))))))))))))
+not_exportable : Each (λ e. IsExportable e → ⊥) (cue.atom cue.top ∷ cue.atom cue.bottom ∷ cue.atom cue.null ∷ cue.atom (cue.boolean true) ∷ cue.atom (cue.text A) ∷ refers_to A ∷ cue.atom (cue.not_integer (pos 1)) ∷ cue.atom (cue.not_text A) ∷ cue.atom cue.not_null ∷ any_of (int ∷ int ∷ []) ∷ closed end ∷ list_of [] cue.any ∷ all_of (int ∷ cue.atom cue.null ∷ []) ∷ [])
+not_exportable = (λ h. h, (λ h. h, (λ h. h, (λ h. h, (λ h. h, (λ h. h, (λ h. h, (λ h. h, (λ h. h, (λ h. h, (λ h. h, (λ h. h, (λ h. h.1.0, tt)))))))))))))
 
-package_taken : IsTakenPackage ((A, int ∷ more_than (pos 1) ∷ []) ∷ (B, int ∷ []) ∷ [])
-package_taken = search rules
+package_exportable : IsExportablePackage ((A, int ∷ more_than (pos 1) ∷ []) ∷ (B, int ∷ []) ∷ [])
+package_exportable = search rules
 
 -- the second body of the second definition
-package_not_taken : IsTakenPackage ((A, int ∷ []) ∷ (B, int ∷ cue.null ∷ []) ∷ []) → ⊥
-package_not_taken h = h.1.0.1.0
+package_not_exportable : IsExportablePackage ((A, int ∷ []) ∷ (B, int ∷ cue.atom cue.null ∷ []) ∷ []) → ⊥
+package_not_exportable h = h.1.0.1.0

@@ -11,7 +11,7 @@ use Rattle.cs_package.specs.Environment.{Environment, bodies, name_at, bodies_at
 use Rattle.cs_package.specs.View.{expression_of, expressions_of}
 use Rattle.cs_package.specs.declared.shape.Shape.{Shape, And}
 use Rattle.cs_package.proofs.Views.{of-And}
-use Rattle.cs_instance.specs.Asked.{held}
+use Rattle.cs_instance.specs.Constraint.{is_satisfied}
 use Rattle.cs_instance.specs.Instance.{Rule, definition, node, all_bodies, IsInstance}
 
 module _ (ns : List (List ℕ)) (E : Environment) (I : Rule → Document → Bool) (h : IsInstance E I) (x : Document) where
@@ -36,7 +36,7 @@ module _ (ns : List (List ℕ)) (E : Environment) (I : Rule → Document → Boo
       → I (definition n) x ≡ list_all admitted ss
   definition-admits n i ss named at same =
       let found : bodies E n ≡ bodies_at E i = subst (λ o. IfSome o (λ m. bodies E m ≡ bodies_at E i)) named same in
-      h (definition n) x ∙ ap (λ o. held (λ part. I part x) (λ y e. I (node e) y) (all_bodies o) (opened x)) (found ∙ at) ∙ bodies-admit ss
+      h (definition n) x ∙ ap (λ o. is_satisfied (λ part. I part x) (λ y e. I (node e) y) (all_bodies o) (opened x)) (found ∙ at) ∙ bodies-admit ss
 
 -- the next element of a list, and none past its end
 pub all-next : {X : Type 0} (f : X → Bool) (xs : List X) (i : ℕ) (x : X) → i < length xs → x ≡ get_or xs i x → f x ≡ true → list_all f (drop i xs) ≡ list_all f (drop (i + 1) xs)

@@ -6,7 +6,7 @@ use Rattle.cs_document.specs.Opened.{opened}
 use Rattle.cs_package.specs.Expression as cue
 use Rattle.cs_package.specs.Expression.{Expression, Expressions, operands, declarations}
 use Rattle.cs_package.specs.Environment.{Environment, bodies}
-use Rattle.cs_instance.specs.Asked.{Rest, nothing, anything, each, Asked, always, never, the_null, the_boolean, the_integer, the_text, of_kind, in_range, bounded, another_integer, another_text, not_the_null, all_of, one_of, object_of, list_of, held}
+use Rattle.cs_instance.specs.Constraint.{Rest, nothing, anything, each, Constraint, always, never, the_null, the_boolean, the_integer, the_text, of_kind, in_range, bounded, another_integer, another_text, not_the_null, all_of, any_of, object_of, list_of, is_satisfied}
 
 -- what a document may be an instance of: a definition, by its name without `#`, or an expression
 pub data Rule : Type 0 where
@@ -19,34 +19,34 @@ rest_of cue.any = anything
 rest_of (cue.each e) = each e
 
 -- a definition asks all its bodies; a name that isn't declared has no instance
-abbrev pub all_bodies : Option (List Expression) → Asked Rule Expression
+abbrev pub all_bodies : Option (List Expression) → Constraint Rule Expression
 all_bodies None = never
 all_bodies (Some bs) = all_of (map node bs)
 
-abbrev pub asked : Environment → Rule → Asked Rule Expression
-asked E (definition n) = all_bodies (bodies E n)
-asked E (node cue.top) = always
-asked E (node cue.bottom) = never
-asked E (node cue.null) = the_null
-asked E (node (cue.boolean b)) = the_boolean b
-asked E (node (cue.integer n)) = the_integer n
-asked E (node (cue.text s)) = the_text s
-asked E (node (cue.kind k)) = of_kind k
-asked E (node (cue.range least greatest)) = in_range least greatest
-asked E (node (cue.reference n)) = all_of (definition n ∷ [])
-asked E (node (cue.bound r n)) = bounded r n
-asked E (node (cue.not_integer n)) = another_integer n
-asked E (node (cue.not_text s)) = another_text s
-asked E (node cue.not_null) = not_the_null
-asked E (node (cue.conjunction es)) = all_of (map node (operands es))
-asked E (node (cue.disjunction es)) = one_of (map node (operands es))
-asked E (node (cue.struct ds opened)) = object_of (declarations ds) opened
-asked E (node (cue.list es rest)) = list_of (operands es) (rest_of rest)
+abbrev pub constraint_of : Environment → Rule → Constraint Rule Expression
+constraint_of E (definition n) = all_bodies (bodies E n)
+constraint_of E (node (cue.atom cue.top)) = always
+constraint_of E (node (cue.atom cue.bottom)) = never
+constraint_of E (node (cue.atom cue.null)) = the_null
+constraint_of E (node (cue.atom (cue.boolean b))) = the_boolean b
+constraint_of E (node (cue.atom (cue.integer n))) = the_integer n
+constraint_of E (node (cue.atom (cue.text s))) = the_text s
+constraint_of E (node (cue.kind k)) = of_kind k
+constraint_of E (node (cue.range least greatest)) = in_range least greatest
+constraint_of E (node (cue.reference n)) = all_of (definition n ∷ [])
+constraint_of E (node (cue.atom (cue.bound r n))) = bounded r n
+constraint_of E (node (cue.atom (cue.not_integer n))) = another_integer n
+constraint_of E (node (cue.atom (cue.not_text s))) = another_text s
+constraint_of E (node (cue.atom cue.not_null)) = not_the_null
+constraint_of E (node (cue.conjunction es)) = all_of (map node (operands es))
+constraint_of E (node (cue.disjunction es)) = any_of (map node (operands es))
+constraint_of E (node (cue.struct ds opened)) = object_of (declarations ds) opened
+constraint_of E (node (cue.list es rest)) = list_of (operands es) (rest_of rest)
 
 -- I is the instance relation of the environment: a document is an instance of a rule just where it meets what
 -- the rule asks, by I itself
 abbrev pub IsInstance : Environment → (Rule → Document → Bool) → Type 0
-IsInstance E I = (r : Rule) (x : Document) → I r x ≡ held (λ part. I part x) (λ y e. I (node e) y) (asked E r) (opened x)
+IsInstance E I = (r : Rule) (x : Document) → I r x ≡ is_satisfied (λ part. I part x) (λ y e. I (node e) y) (constraint_of E r) (opened x)
 
 -- there is an instance relation, and only one
 pub record OneMeaning (E : Environment) : Type 0 where

@@ -1,3 +1,3 @@
-pub mod Asked
+pub mod Constraint
 pub mod Instance
-pub mod Taken
+pub mod Exportable

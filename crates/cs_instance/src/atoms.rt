@@ -4,13 +4,13 @@ ghost use Rattle.std.specs.Ordering.{int_eq};
 ghost use Rattle.cs_document.specs.Opened.{opened};
 ghost use Rattle.cs_document.specs.View.{doc_view};
 ghost use Rattle.cs_package.specs.View.{kind_of, relation_of};
-ghost use Rattle.cs_instance.specs.Asked as asked;
+ghost use Rattle.cs_instance.specs.Constraint as constraint;
 
 use cs_document::Doc;
 use cs_package::{Kind, Relation};
 
 pub(crate) fn is_of_kind(kind: Kind, doc: &Doc) -> bool
-    ensures { result ≡ asked.is_of_kind (kind_of kind) (opened (doc_view doc.now)) }
+    ensures { result ≡ constraint.is_of_kind (kind_of kind) (opened (doc_view doc.now)) }
 {
     match kind {
         Kind::Int | Kind::Number => matches!(doc, Doc::Int(_)),
@@ -20,7 +20,7 @@ pub(crate) fn is_of_kind(kind: Kind, doc: &Doc) -> bool
 }
 
 pub(crate) fn is_integer(n: i64, doc: &Doc) -> bool
-    ensures { result ≡ asked.is_integer (int_eq n) (opened (doc_view doc.now)) }
+    ensures { result ≡ constraint.is_integer (int_eq n) (opened (doc_view doc.now)) }
 {
     match doc {
         Doc::Int(m) => n == *m,
@@ -29,7 +29,7 @@ pub(crate) fn is_integer(n: i64, doc: &Doc) -> bool
 }
 
 pub(crate) fn is_in_range(least: i64, greatest: Option<i64>, doc: &Doc) -> bool
-    ensures { result ≡ asked.is_integer (asked.is_within least greatest) (opened (doc_view doc.now)) }
+    ensures { result ≡ constraint.is_integer (constraint.is_within least greatest) (opened (doc_view doc.now)) }
 {
     match doc {
         Doc::Int(n) => is_within(least, greatest, *n),
@@ -38,7 +38,7 @@ pub(crate) fn is_in_range(least: i64, greatest: Option<i64>, doc: &Doc) -> bool
 }
 
 fn is_within(least: i64, greatest: Option<i64>, n: i64) -> bool
-    ensures { result ≡ asked.is_within least greatest n }
+    ensures { result ≡ constraint.is_within least greatest n }
 {
     match greatest {
         Some(limit) => least <= n && n <= limit,
@@ -47,7 +47,7 @@ fn is_within(least: i64, greatest: Option<i64>, n: i64) -> bool
 }
 
 pub(crate) fn is_bounded(relation: Relation, limit: i64, doc: &Doc) -> bool
-    ensures { result ≡ asked.is_integer (asked.is_related (relation_of relation) limit) (opened (doc_view doc.now)) }
+    ensures { result ≡ constraint.is_integer (constraint.is_related (relation_of relation) limit) (opened (doc_view doc.now)) }
 {
     match doc {
         Doc::Int(n) => is_related(relation, limit, *n),
@@ -56,7 +56,7 @@ pub(crate) fn is_bounded(relation: Relation, limit: i64, doc: &Doc) -> bool
 }
 
 fn is_related(relation: Relation, limit: i64, n: i64) -> bool
-    ensures { result ≡ asked.is_related (relation_of relation) limit n }
+    ensures { result ≡ constraint.is_related (relation_of relation) limit n }
 {
     match relation {
         Relation::Less => n < limit,

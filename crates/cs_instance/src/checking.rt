@@ -6,7 +6,7 @@ ghost use Rattle.cs_document.specs.View.{doc_view};
 ghost use Rattle.cs_package.specs.Environment.{Environment, Names};
 ghost use Rattle.cs_package.specs.View.{expression_of};
 ghost use Rattle.cs_instance.specs.Instance.{Rule, definition, node, IsInstance, OneMeaning};
-ghost use Rattle.cs_instance.specs.Taken.{IsTaken, AllTaken, IsTakenPackage};
+ghost use Rattle.cs_instance.specs.Exportable.{IsExportable, AllExportable, IsExportablePackage};
 
 use crate::InstanceFault;
 use crate::atoms::{is_bounded, is_in_range, is_integer, is_of_kind};
@@ -22,7 +22,7 @@ pub fn is_instance(
     root: &str,
     doc: &Doc,
 ) -> Result<bool, InstanceFault>
-    requires { IsTakenPackage «package».now }
+    requires { IsExportablePackage «package».now }
     ensures one_meaning { OneMeaning «package».now }
     ensures answer { IfOk result (λ b. (n : List ℕ) × Names «package».now root.now n
         × ((I : Rule → Document → Bool) → IsInstance «package».now I → b ≡ I (definition n) (doc_view doc.now))) }
@@ -38,7 +38,7 @@ pub fn is_instance(
 /// Whether the document is an instance of a shape.
 #[cycle(checking)]
 fn admits(shape: &Shape, doc: &Doc) -> bool
-    requires { (ns : List (List ℕ)) × IsTaken (expression_of ns shape.now) }
+    requires { (ns : List (List ℕ)) × IsExportable (expression_of ns shape.now) }
     ensures { (ns : List (List ℕ)) (E : Environment) (I : Rule → Document → Bool) → IsInstance E I
         → result ≡ I (node (expression_of ns shape.now)) (doc_view doc.now) }
 {
@@ -54,7 +54,7 @@ fn admits(shape: &Shape, doc: &Doc) -> bool
 
 #[cycle(checking)]
 fn all_admit(shapes: &[Shape], doc: &Doc) -> bool
-    requires { (ns : List (List ℕ)) × AllTaken (map (expression_of ns) shapes.now) }
+    requires { (ns : List (List ℕ)) × AllExportable (map (expression_of ns) shapes.now) }
     ensures { (ns : List (List ℕ)) (E : Environment) (I : Rule → Document → Bool) → IsInstance E I
         → result ≡ list_all (λ s. I (node (expression_of ns s)) (doc_view doc.now)) shapes.now }
 {

@@ -1,35 +1,12 @@
-use std::alloc::{AllocError, AllocFailed};
 use thiserror::Error;
 
-/// Why there is no answer.
+/// Why a document can't be judged.
 #[derive(Debug, Drop, Error)]
 pub enum InstanceFault {
-    /// A growth was refused for want of memory.
+    /// Memory ran out.
     #[error("out of memory")]
     OutOfMemory,
-    /// The root is no definition of the package.
-    #[error("unknown root")]
+    /// The package doesn't declare the root.
+    #[error("the package does not declare the root")]
     UnknownRoot,
-}
-
-impl From<AllocError> for InstanceFault {
-    ghost use Rattle.std.specs.Prelude.{◌≡◌};
-    ghost use Rattle.cs_instance.specs.declared.fault.InstanceFault.TheVariants.{OutOfMemory};
-
-    ghost from_gives = { λ _ e. e ≡ OutOfMemory };
-
-    fn from(_refused: AllocError) -> InstanceFault {
-        InstanceFault::OutOfMemory
-    }
-}
-
-impl<T: Drop> From<AllocFailed<T>> for InstanceFault {
-    ghost use Rattle.std.specs.Prelude.{◌≡◌};
-    ghost use Rattle.cs_instance.specs.declared.fault.InstanceFault.TheVariants.{OutOfMemory};
-
-    ghost from_gives = { λ _ e. e ≡ OutOfMemory };
-
-    fn from(_refused: AllocFailed<T>) -> InstanceFault {
-        InstanceFault::OutOfMemory
-    }
 }

@@ -7,5 +7,5 @@ use cs_guard::Guarded;
 pub fn one_meaning(package: &Guarded)
     ensures { OneMeaning «package».now }
 {
-    let _package = package.package();
+    let _package = package.package(); // for the proof: the package is guarded
 }

@@ -6,7 +6,7 @@ use Rattle.std.specs.Prelude.{◌==◌}
 use Rattle.std.specs.List.{prefix_len}
 use Rattle.cs_grammar.specs.Spelling.{is_letter, is_digit, is_name_byte, begins_definition, is_run_byte}
 use Rattle.cs_grammar.specs.Cut.{begins_quotes, begins_comment}
-use Rattle.cs_lexer.specs.Heads.{Edges}
+use Rattle.cs_lexer.specs.Pieces.{Edges}
 use Rattle.cs_lexer.proofs.Runs.{all_prefix, prefix_within, all_at}
 
 pub letter_not_digit : (x : ℕ) → is_letter x ≡ true → is_digit x ≡ false

@@ -9,22 +9,22 @@ use Rattle.std.specs.Str.{IsCharBoundary}
 use Rattle.std.proofs.lemmas.Str.{IsCharBoundary-after_ascii}
 use Rattle.cs_grammar.specs.declared.token.Sort.{Sort}
 use Rattle.cs_grammar.specs.declared.token.Sort.TheVariants as sorts
-use Rattle.cs_grammar.specs.declared.line.Line.{Line}
-use Rattle.cs_grammar.specs.declared.line.Line.TheVariants.{Plain, WantsComma, Minus}
+use Rattle.cs_grammar.specs.declared.line.LineState.{LineState}
+use Rattle.cs_grammar.specs.declared.line.LineState.TheVariants.{Plain, WantsComma, Minus}
 use Rattle.cs_grammar.specs.declared.fault.SyntaxFault.{SyntaxFault}
 use Rattle.cs_grammar.specs.declared.fault.SyntaxFault.TheVariants.{NoToken, IntegerRange}
-use Rattle.cs_lexer.specs.Heads.{Edges}
+use Rattle.cs_lexer.specs.Pieces.{Edges}
 use Rattle.cs_lexer.proofs.Runs.{prefix_within}
 use Rattle.cs_grammar.specs.Cut.{is_space, Begins, Lexeme, lexeme, line_after, line_ended, line_len, begins_comment, comma_if, Cut, blank, new_line, comment, token, finish, NoneBegins, TooLarge, Stuck, no_token, too_large, past_blank, past_line, past_comment, past_token}
 
-pub record Before (bs : List ℕ) (at : ℕ) (l : Line) (front : List Lexeme) : Type 0 where
+pub record Before (bs : List ℕ) (at : ℕ) (l : LineState) (front : List Lexeme) : Type 0 where
   pub cut : (ks : List Lexeme) → Cut (drop at bs) at l ks → Cut bs 0 Plain (front ++ ks)
   pub stuck : (f : SyntaxFault) → Stuck (drop at bs) at l f → Stuck bs 0 Plain f
 
 pub begin : (bs : List ℕ) → Before bs 0 Plain []
 begin bs = record { cut = λ ks h. h; stuck = λ f h. h }
 
-pub comma_front : (front ks : List Lexeme) (l : Line) (o : ℕ) → (front ++ comma_if l o []) ++ ks ≡ front ++ comma_if l o ks
+pub comma_front : (front ks : List Lexeme) (l : LineState) (o : ℕ) → (front ++ comma_if l o []) ++ ks ≡ front ++ comma_if l o ks
 comma_front front ks WantsComma o = append_assoc front (comma_if WantsComma o []) ks
 comma_front front ks Plain o = append_assoc front [] ks
 comma_front front ks Minus o = append_assoc front [] ks
@@ -34,7 +34,7 @@ whole_rest bs at = take_all (length bs - at) (drop at bs) (omega (arith, length-
 
 -- ---- the turns of the loop
 
-module _ (bs : List ℕ) (at : ℕ) (l : Line) (front : List Lexeme) (b : Before bs at l front) where
+module _ (bs : List ℕ) (at : ℕ) (l : LineState) (front : List Lexeme) (b : Before bs at l front) where
   module _ (lt : at < length bs) where
     first_is : drop at bs ≡ get_or bs at 0 ∷ drop (at + 1) bs
     first_is = rw add-one (drop-cons bs at 0 lt)
@@ -77,7 +77,7 @@ module _ (bs : List ℕ) (at : ℕ) (l : Line) (front : List Lexeme) (b : Before
 abbrev pub rest : List ℕ → ℕ → List ℕ
 rest bs at = take (length bs - at) (drop at bs)
 
-module _ (bs : List ℕ) (at : ℕ) (l : Line) (front : List Lexeme) (b : Before bs at l front) where
+module _ (bs : List ℕ) (at : ℕ) (l : LineState) (front : List Lexeme) (b : Before bs at l front) where
   pub turn_blank : at < length bs → is_space (get_or (rest bs at) 0 0) ≡ true → Before bs (at + 1) l front
   turn_blank lt h = after_blank bs at l front b lt (rw (whole_rest, first_is bs at l front b lt) at h)
 

@@ -4,12 +4,12 @@ use Rattle.std.proofs.lemmas.Bool.Decides.{nat_tests}
 use Rattle.std.specs.Prelude.{◌==◌}
 use Rattle.std.specs.List.{list_any}
 use Rattle.std.specs.Str.{bytes_eq}
-use Rattle.cs_grammar.specs.declared.line.Line.{Line}
+use Rattle.cs_grammar.specs.declared.line.LineState.{LineState}
 use Rattle.cs_grammar.specs.declared.token.Sort.{Sort}
 use Rattle.cs_grammar.specs.declared.token.Sort.TheVariants as sorts
 use Rattle.cs_grammar.specs.Spelling.{is_letter, is_digit, used_marks, left_out_marks, mark_sort, sort_of}
 use Rattle.cs_grammar.specs.Cut.{BeginsNone, Begins, begins_comment, is_space, NoneBegins, nothing, is_out_of_range}
-use Rattle.cs_lexer.specs.Heads.{Edges, longest_mark}
+use Rattle.cs_lexer.specs.Pieces.{Edges, longest_mark}
 use Rattle.cs_lexer.proofs.Runs.{all_at}
 use Rattle.cs_lexer.proofs.ByteClasses.{no_quotes_at}
 use Rattle.cs_lexer.proofs.Marks.{is_ascii_byte, mark_ascii, NoneAbove, IsLongestMark, longest_mark_is}
@@ -33,7 +33,7 @@ module _ (x : ℕ) (xs : List ℕ) (h : BeginsMark x) where
   mark_longer n above zero lt le = refl
   mark_longer n above (suc m) lt le = mark_is (take m xs) ∙ above (suc m) lt le
 
-  mark_begins : (l : Line) (s : Sort) (n : ℕ) → 0 < n → n ≤ length (x ∷ xs) → mark_sort (take n (x ∷ xs)) ≡ Some s → NoneAbove (x ∷ xs) n → begins_comment (x ∷ xs) ≡ false → is_out_of_range l s (take n (x ∷ xs)) ≡ false → Begins l (x ∷ xs) n s
+  mark_begins : (l : LineState) (s : Sort) (n : ℕ) → 0 < n → n ≤ length (x ∷ xs) → mark_sort (take n (x ∷ xs)) ≡ Some s → NoneAbove (x ∷ xs) n → begins_comment (x ∷ xs) ≡ false → is_out_of_range l s (take n (x ∷ xs)) ≡ false → Begins l (x ∷ xs) n s
   mark_begins l s zero some within marked above plain fits = let never : ⊥ = omega arith in absurd never
   mark_begins l s (suc n) some within marked above plain fits = record {
     no_bad_number = rw h.no_digit refl;
@@ -48,7 +48,7 @@ module _ (x : ℕ) (xs : List ℕ) (h : BeginsMark x) where
   mark_none above (suc m) le = mark_longer 0 above (suc m) (omega arith) le
 
 -- a mark is no integer
-mark_fits : (l : Line) (t : List ℕ) (s : Sort) → mark_sort t ≡ Some s → is_out_of_range l s t ≡ false
+mark_fits : (l : LineState) (t : List ℕ) (s : Sort) → mark_sort t ≡ Some s → is_out_of_range l s t ≡ false
 mark_fits l t s h = fits (list_any (bytes_eq t) used_marks) (list_any (bytes_eq t) left_out_marks) h
   where
     fits : (b c : Bool) → cond b (Some sorts.Mark) (cond c (Some sorts.LeftOut) None) ≡ Some s → is_out_of_range l s t ≡ false
@@ -66,7 +66,7 @@ mark_edges bs n s some within marked =
       last = ascii_is (get_or bs (n - 1) 0) (all_at is_ascii_byte bs n (n - 1) all (omega arith) within);
     }
 
-module _ (l : Line) (bs : List ℕ) (h : 0 < length bs) (a : is_letter (get_or bs 0 0) ≡ false) (d : is_digit (get_or bs 0 0) ≡ false) (b : get_or bs 0 0 ≢ 35) (u : get_or bs 0 0 ≢ 95) (q : get_or bs 0 0 ≢ 34) (plain : begins_comment bs ≡ false) where
+module _ (l : LineState) (bs : List ℕ) (h : 0 < length bs) (a : is_letter (get_or bs 0 0) ≡ false) (d : is_digit (get_or bs 0 0) ≡ false) (b : get_or bs 0 0 ≢ 35) (u : get_or bs 0 0 ≢ 95) (q : get_or bs 0 0 ≢ 34) (plain : begins_comment bs ≡ false) where
   first : BeginsMark (get_or bs 0 0)
   first = record { no_letter = a; no_hash = grind (arith, nat_tests); no_underscore = grind (arith, nat_tests); no_digit = d; no_quote = grind (arith, nat_tests) }
 

@@ -6,9 +6,9 @@ pub mod Texts
 pub mod CharacterSteps
 pub mod Marks
 pub mod Fronts
-pub mod Once
+pub mod CutUnique
 pub mod Cutting
-pub mod Always
+pub mod CutExists
 pub mod Slices
 pub mod Literals
 pub mod TextValues

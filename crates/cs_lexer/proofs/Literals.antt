@@ -1,17 +1,14 @@
 -- A text, byte by byte, is what its parts say.
 use Rattle.std.proofs.Common.{◌≡◌, ℕ, zero, suc, ◌+◌, ◌-◌, ◌*◌, ◌<◌, ◌≤◌, List, [], ◌∷◌, ◌++◌, length, Bool, true, false, Option, Some, None, refl, sym, ap, subst, ◌∙◌, arith}
 use Rattle.std.proofs.lemmas.Bool.Decides.{nat_tests}
-use Rattle.std.specs.Prelude.{◌==◌, ◌&&◌, ◌||◌, nat_lt, nat_le, encode_utf8}
+use Rattle.std.specs.Prelude.{◌==◌, ◌||◌, nat_lt, nat_le, encode_utf8}
 use Rattle.std.specs.List.{list_all}
-use Rattle.cs_lexer.specs.declared.text.Spot.{Spot}
-use Rattle.cs_lexer.specs.declared.text.Spot.TheVariants.{Inside, Escaped, Digits}
+use Rattle.std.proofs.lemmas.Bool.{and_parts}
+use Rattle.cs_lexer.specs.declared.text.TextState.{TextState}
+use Rattle.cs_lexer.specs.declared.text.TextState.TheVariants.{Inside, Escaped, Digits}
 use Rattle.cs_grammar.specs.Spelling.{is_hex_digit, digit_value, escape_value, is_character, is_nothing, hex_number}
 use Rattle.cs_grammar.specs.Literal.{Literal, ends, plain, escape, four, eight}
 use Rattle.cs_lexer.specs.Automaton.{closes, characters}
-
-and_both : (a b : Bool) → (a && b) ≡ true → (a ≡ true) × (b ≡ true)
-and_both true b h = (refl, h)
-and_both false b h = absurd cc
 
 -- more digits make no number smaller
 number_grows : (n : ℕ) (ds : List ℕ) → n ≤ hex_number n ds
@@ -39,11 +36,11 @@ last_digit n x ys hex good = (rw (hex, good) refl, rw (hex, good) refl)
 digits_pass : (left n : ℕ) (ds xs : List ℕ) → length ds ≡ suc left → list_all is_hex_digit ds ≡ true → is_character (hex_number n ds) ≡ true
     → (closes (Digits (suc left) n) (ds ++ xs) ≡ closes Inside xs) × (characters (Digits (suc left) n) (ds ++ xs) ≡ encode_utf8 (hex_number n ds) ++ characters Inside xs)
 digits_pass left n [] xs len hex good = let never : ⊥ = omega arith in absurd never
-digits_pass zero n (x ∷ []) xs len hex good = last_digit n x xs (and_both (is_hex_digit x) true hex).0 good
+digits_pass zero n (x ∷ []) xs len hex good = last_digit n x xs (and_parts (is_hex_digit x) true hex).0 good
 digits_pass (suc left) n (x ∷ []) xs len hex good = let never : ⊥ = omega arith in absurd never
 digits_pass zero n (x ∷ y ∷ ds) xs len hex good = let never : ⊥ = omega arith in absurd never
 digits_pass (suc left) n (x ∷ y ∷ ds) xs len hex good =
-    let h = and_both (is_hex_digit x) (list_all is_hex_digit (y ∷ ds)) hex in
+    let h = and_parts (is_hex_digit x) (list_all is_hex_digit (y ∷ ds)) hex in
     let small : n * 16 + digit_value x ≤ 1114111 = omega (arith, number_grows (n * 16 + digit_value x) (y ∷ ds), character_small (hex_number n (x ∷ y ∷ ds)) good) in
     let first = more_digits left n x ((y ∷ ds) ++ xs) h.0 small in
     let rest = digits_pass left (n * 16 + digit_value x) (y ∷ ds) xs (omega arith) h.1 good in
@@ -90,7 +87,7 @@ record Numbered (left n : ℕ) (xs cs : List ℕ) : Type 0 where
   pub literal : Literal rest behind
   pub made : cs ≡ encode_utf8 (hex_number n digits) ++ behind
 
-abbrev Behind : Spot → List ℕ → List ℕ → Type 0
+abbrev Behind : TextState → List ℕ → List ℕ → Type 0
 Behind Inside xs cs = Literal xs cs
 Behind Escaped xs cs = Literal (92 ∷ xs) cs
 Behind (Digits left n) xs cs = 0 < left → Numbered left n xs cs
@@ -138,7 +135,7 @@ pub nothing_is : (xs : List ℕ) → is_nothing xs ≡ true → xs ≡ []
 nothing_is [] h = refl
 nothing_is (x ∷ xs) h = absurd cc
 
-module _ (x : ℕ) (xs : List ℕ) (again : (s : Spot) → closes s xs ≡ true → Behind s xs (characters s xs)) where
+module _ (x : ℕ) (xs : List ℕ) (again : (s : TextState) → closes s xs ≡ true → Behind s xs (characters s xs)) where
   inside_step : (q b l : Bool) → (x == 34) ≡ q → (x == 92) ≡ b → (x == 10) ≡ l → closes Inside (x ∷ xs) ≡ true → Literal (x ∷ xs) (characters Inside (x ∷ xs))
   inside_step true b l eq eb el h =
       let is : x ≡ 34 = grind (arith, nat_tests) in
@@ -191,12 +188,12 @@ module _ (x : ℕ) (xs : List ℕ) (again : (s : Spot) → closes s xs ≡ true 
           made = rw (ed, em, ec) refl;
         }
 
-  step : (s : Spot) → closes s (x ∷ xs) ≡ true → Behind s (x ∷ xs) (characters s (x ∷ xs))
+  step : (s : TextState) → closes s (x ∷ xs) ≡ true → Behind s (x ∷ xs) (characters s (x ∷ xs))
   step Inside h = inside_step (x == 34) (x == 92) (x == 10) refl refl refl h
   step Escaped h = escaped_step (x == 117) (x == 85) (escape_value x) refl refl refl h
   step (Digits left n) h = digits_step left n (is_hex_digit x) (nat_lt 1 left) (nat_le (n * 16 + digit_value x) 1114111) refl refl refl (is_character (n * 16 + digit_value x)) refl h
 
-has_parts : (xs : List ℕ) (s : Spot) → closes s xs ≡ true → Behind s xs (characters s xs)
+has_parts : (xs : List ℕ) (s : TextState) → closes s xs ≡ true → Behind s xs (characters s xs)
 has_parts [] s h = absurd cc
 has_parts (x ∷ xs) s h = step x xs (has_parts xs) s h
 

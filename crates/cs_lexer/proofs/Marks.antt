@@ -2,31 +2,20 @@
 use Rattle.std.proofs.Common.{◌≡◌, ℕ, suc, ◌<◌, ◌≤◌, List, [], ◌∷◌, length, take, Bool, true, false, cond, Option, Some, None, refl, ap, subst, ◌∙◌, arith}
 use Rattle.std.proofs.lemmas.List.{length-take-le}
 use Rattle.std.proofs.lemmas.Bool.Decides.{nat_tests}
-use Rattle.std.specs.Prelude.{nat_le, nat_lt, nat_eq, ◌&&◌, ◌||◌}
+use Rattle.std.proofs.lemmas.Slice.Eq.{bytes_eq-Decides}
+use Rattle.std.specs.Prelude.{nat_le, nat_lt, ◌&&◌, ◌||◌}
 use Rattle.std.specs.List.{list_all, list_any}
 use Rattle.std.specs.Option.{option_map, option_or}
 use Rattle.std.specs.Str.{bytes_eq}
 use Rattle.cs_grammar.specs.declared.token.Sort.{Sort}
 use Rattle.cs_grammar.specs.declared.token.Sort.TheVariants as sorts
 use Rattle.cs_grammar.specs.Spelling.{used_marks, left_out_marks, mark_sort}
-use Rattle.cs_lexer.specs.Heads.{mark_of, longest_mark}
-
--- ---- equal texts
-
-equal_step : (x y : ℕ) (b c : Bool) → nat_eq x y ≡ b → (b && c) ≡ true → (x ≡ y) × (c ≡ true)
-equal_step x y true c e h = (grind (arith, nat_tests), h)
-equal_step x y false c e h = absurd cc
-
-pub equal_is : (a b : List ℕ) → bytes_eq a b ≡ true → a ≡ b
-equal_is [] [] h = refl
-equal_is [] (y ∷ b) h = absurd cc
-equal_is (x ∷ a) [] h = absurd cc
-equal_is (x ∷ a) (y ∷ b) h = let p = equal_step x y (nat_eq x y) (bytes_eq a b) refl h in let e = equal_is a b p.1 in let f = p.0 in cc
+use Rattle.cs_lexer.specs.Pieces.{mark_of, longest_mark}
 
 -- a text among others has what they all have
 module _ (p : List ℕ → Bool) (t : List ℕ) where
   among_step : (m : List ℕ) (ms : List (List ℕ)) (b c : Bool) → bytes_eq t m ≡ b → p m ≡ c → (b || list_any (bytes_eq t) ms) ≡ true → (c && list_all p ms) ≡ true → (list_any (bytes_eq t) ms ≡ true → list_all p ms ≡ true → p t ≡ true) → p t ≡ true
-  among_step m ms true true eb ec h k again = rw (equal_is t m eb) ec
+  among_step m ms true true eb ec h k again = rw ((bytes_eq-Decides t m).0 eb) ec
   among_step m ms false true eb ec h k again = again h k
   among_step m ms b false eb ec h k again = absurd cc
 

@@ -6,11 +6,12 @@ use Rattle.std.proofs.lemmas.List.{take_all}
 use Rattle.std.specs.Prelude.{◌==◌, ◌&&◌}
 use Rattle.std.specs.List.{list_all, prefix_len}
 use Rattle.std.specs.Str.{bytes_eq}
-use Rattle.cs_grammar.specs.declared.line.Line.{Line}
+use Rattle.std.proofs.lemmas.Bool.{and_parts}
+use Rattle.cs_grammar.specs.declared.line.LineState.{LineState}
 use Rattle.cs_grammar.specs.declared.token.Sort.TheVariants as sorts
 use Rattle.cs_grammar.specs.Spelling.{is_letter, is_name_byte, begins_definition, is_definition_rest, sort_if, underscore_sort, sort_of}
 use Rattle.cs_grammar.specs.Cut.{BeginsNone, Begins, NoneBegins, nothing}
-use Rattle.cs_lexer.specs.Heads.{Edges, begins_name, begins_definition_name, begins_bottom_rest}
+use Rattle.cs_lexer.specs.Pieces.{Edges, begins_name, begins_definition_name, begins_bottom_rest}
 use Rattle.cs_lexer.proofs.Runs.{all_prefix, past_prefix, prefix_within}
 use Rattle.cs_lexer.proofs.ByteClasses.{letter_not_digit, letter_not_quote, letter_not_slash, letter_names, definition_names, name_byte_ascii, no_quotes_at, no_comment_at, run_edges, edges_behind}
 
@@ -19,7 +20,7 @@ use Rattle.cs_lexer.proofs.ByteClasses.{letter_not_digit, letter_not_quote, lett
 abbrev name_len : List ℕ → ℕ
 name_len xs = prefix_len is_name_byte xs
 
-module _ (l : Line) (x : ℕ) (xs : List ℕ) (letter : is_letter x ≡ true) where
+module _ (l : LineState) (x : ℕ) (xs : List ℕ) (letter : is_letter x ≡ true) where
   name_longer : (m : ℕ) → suc (name_len xs) < m → m ≤ length (x ∷ xs) → sort_of (take m (x ∷ xs)) ≡ None
   name_longer zero lt le = let never : ⊥ = omega arith in absurd never
   name_longer (suc m) lt le = rw (letter, past_prefix is_name_byte xs m (omega arith) (omega arith)) refl
@@ -33,7 +34,7 @@ module _ (l : Line) (x : ℕ) (xs : List ℕ) (letter : is_letter x ≡ true) wh
     token = record { within = omega (arith, prefix_within is_name_byte xs); spelled = rw (letter, all_prefix is_name_byte xs) refl; longest = name_longer };
   }
 
-pub name_case : (l : Line) (bs : List ℕ) → 0 < length bs → is_letter (get_or bs 0 0) ≡ true → (n : ℕ) → n ≡ prefix_len is_name_byte bs → Begins l bs n sorts.Name × Edges bs n
+pub name_case : (l : LineState) (bs : List ℕ) → 0 < length bs → is_letter (get_or bs 0 0) ≡ true → (n : ℕ) → n ≡ prefix_len is_name_byte bs → Begins l bs n sorts.Name × Edges bs n
 name_case l [] h a n e = let never : ⊥ = omega arith in absurd never
 name_case l (x ∷ xs) h a n e =
     let is : prefix_len is_name_byte (x ∷ xs) ≡ suc (name_len xs) = rw (letter_names x a, one-add) refl in
@@ -41,7 +42,7 @@ name_case l (x ∷ xs) h a n e =
 
 -- ---- the name of a definition
 
-module _ (l : Line) (y : ℕ) (ys : List ℕ) (good : begins_definition y ≡ true) where
+module _ (l : LineState) (y : ℕ) (ys : List ℕ) (good : begins_definition y ≡ true) where
   rest_len : name_len (y ∷ ys) ≡ suc (name_len ys)
   rest_len = rw (definition_names y good, one-add) refl
 
@@ -84,20 +85,16 @@ module _ (l : Line) (y : ℕ) (ys : List ℕ) (good : begins_definition y ≡ tr
     token = record { within = omega (arith, prefix_within is_name_byte ys); spelled = rw rest_good refl; longest = hidden_longer };
   }
 
-and_both : (a b : Bool) → (a && b) ≡ true → (a ≡ true) × (b ≡ true)
-and_both true b h = (refl, h)
-and_both false b h = absurd cc
-
 -- what stands behind the `#` of a name
 behind_hash : (P : List ℕ → Type 0) (xs : List ℕ) → begins_definition_name xs ≡ true → ((y : ℕ) (ys : List ℕ) → begins_definition y ≡ true → P (35 ∷ y ∷ ys)) → P xs
 behind_hash P [] h k = absurd cc
 behind_hash P (x ∷ []) h k = absurd cc
 behind_hash P (x ∷ y ∷ ys) h k =
-    let p = and_both (x == 35) (begins_definition y) h in
+    let p = and_parts (x == 35) (begins_definition y) h in
     let is : x ≡ 35 = grind (arith, nat_tests) in
     rw is (k y ys p.1)
 
-pub definition_case : (l : Line) (bs : List ℕ) → begins_definition_name bs ≡ true → (n : ℕ) → n ≡ prefix_len is_name_byte (take (length bs - 1) (drop 1 bs)) → Begins l bs (n + 1) sorts.Definition × Edges bs (n + 1)
+pub definition_case : (l : LineState) (bs : List ℕ) → begins_definition_name bs ≡ true → (n : ℕ) → n ≡ prefix_len is_name_byte (take (length bs - 1) (drop 1 bs)) → Begins l bs (n + 1) sorts.Definition × Edges bs (n + 1)
 definition_case l bs h = behind_hash (λ t. (n : ℕ) → n ≡ prefix_len is_name_byte (take (length t - 1) (drop 1 t)) → Begins l t (n + 1) sorts.Definition × Edges t (n + 1)) bs h made
   where
     made : (y : ℕ) (ys : List ℕ) → begins_definition y ≡ true → (n : ℕ) → n ≡ prefix_len is_name_byte (take (length (35 ∷ y ∷ ys) - 1) (drop 1 (35 ∷ y ∷ ys))) → Begins l (35 ∷ y ∷ ys) (n + 1) sorts.Definition × Edges (35 ∷ y ∷ ys) (n + 1)
@@ -120,7 +117,7 @@ bad_definition_case (x ∷ xs) some is h = subst (λ k. NoneBegins (k ∷ xs)) (
 
 -- ---- a hidden name, `_|_` and `_`
 
-module _ (l : Line) (y : ℕ) (ys : List ℕ) (good : is_name_byte y ≡ true) where
+module _ (l : LineState) (y : ℕ) (ys : List ℕ) (good : is_name_byte y ≡ true) where
   named_len : name_len (y ∷ ys) ≡ suc (name_len ys)
   named_len = rw (good, one-add) refl
 
@@ -141,13 +138,13 @@ module _ (l : Line) (y : ℕ) (ys : List ℕ) (good : is_name_byte y ≡ true) w
   named_edges : Edges (y ∷ ys) (suc (name_len ys))
   named_edges = rw named_len at (run_edges is_name_byte name_byte_ascii (y ∷ ys) (omega (arith, named_len)))
 
-pub hidden_name_case : (l : Line) (xs : List ℕ) → begins_name xs ≡ true → (n : ℕ) → n ≡ prefix_len is_name_byte xs → Begins l (95 ∷ xs) (n + 1) sorts.Hidden × Edges (95 ∷ xs) (n + 1)
+pub hidden_name_case : (l : LineState) (xs : List ℕ) → begins_name xs ≡ true → (n : ℕ) → n ≡ prefix_len is_name_byte xs → Begins l (95 ∷ xs) (n + 1) sorts.Hidden × Edges (95 ∷ xs) (n + 1)
 hidden_name_case l [] h n e = absurd cc
 hidden_name_case l (y ∷ ys) h n e =
     let is : n ≡ suc (name_len ys) = rw e (named_len l y ys h) in
     rw (is, add-one) (named_begins l y ys h, rw add-one at (edges_behind 95 (y ∷ ys) (suc (name_len ys)) (omega arith) (named_edges l y ys h)))
 
-pub hidden_definition_case : (l : Line) (xs : List ℕ) → begins_definition_name xs ≡ true → (n : ℕ) → n ≡ prefix_len is_name_byte (take (length xs - 1) (drop 1 xs)) → Begins l (95 ∷ xs) (n + 2) sorts.Hidden × Edges (95 ∷ xs) (n + 2)
+pub hidden_definition_case : (l : LineState) (xs : List ℕ) → begins_definition_name xs ≡ true → (n : ℕ) → n ≡ prefix_len is_name_byte (take (length xs - 1) (drop 1 xs)) → Begins l (95 ∷ xs) (n + 2) sorts.Hidden × Edges (95 ∷ xs) (n + 2)
 hidden_definition_case l xs h = behind_hash (λ t. (n : ℕ) → n ≡ prefix_len is_name_byte (take (length t - 1) (drop 1 t)) → Begins l (95 ∷ t) (n + 2) sorts.Hidden × Edges (95 ∷ t) (n + 2)) xs h made
   where
     made : (y : ℕ) (ys : List ℕ) → begins_definition y ≡ true → (n : ℕ) → n ≡ prefix_len is_name_byte (take (length (35 ∷ y ∷ ys) - 1) (drop 1 (35 ∷ y ∷ ys))) → Begins l (95 ∷ 35 ∷ y ∷ ys) (n + 2) sorts.Hidden × Edges (95 ∷ 35 ∷ y ∷ ys) (n + 2)
@@ -165,14 +162,14 @@ bottom_longer zs (suc (suc (suc zero))) lt le = let never : ⊥ = omega arith in
 bottom_longer [] (suc (suc (suc (suc m)))) lt le = let never : ⊥ = omega arith in absurd never
 bottom_longer (z ∷ zs) (suc (suc (suc (suc m)))) lt le = refl
 
-bottom_begins : (l : Line) (zs : List ℕ) → Begins l (95 ∷ 124 ∷ 95 ∷ zs) 3 sorts.Bottom × Edges (95 ∷ 124 ∷ 95 ∷ zs) 3
+bottom_begins : (l : LineState) (zs : List ℕ) → Begins l (95 ∷ 124 ∷ 95 ∷ zs) 3 sorts.Bottom × Edges (95 ∷ 124 ∷ 95 ∷ zs) 3
 bottom_begins l zs = (record { no_bad_number = refl; no_quotes = refl; no_comment = refl; in_range = refl; token = record { within = omega arith; spelled = refl; longest = bottom_longer zs } }, record { some = omega arith; within = omega arith; first = omega arith; last = omega arith })
 
-pub bottom_case : (l : Line) (xs : List ℕ) → begins_bottom_rest xs ≡ true → Begins l (95 ∷ xs) 3 sorts.Bottom × Edges (95 ∷ xs) 3
+pub bottom_case : (l : LineState) (xs : List ℕ) → begins_bottom_rest xs ≡ true → Begins l (95 ∷ xs) 3 sorts.Bottom × Edges (95 ∷ xs) 3
 bottom_case l [] h = absurd cc
 bottom_case l (x ∷ []) h = absurd cc
 bottom_case l (x ∷ y ∷ ys) h =
-    let p = and_both (x == 124) (y == 95) h in
+    let p = and_parts (x == 124) (y == 95) h in
     let first : x ≡ 124 = grind (arith, nat_tests) in
     let second : y ≡ 95 = grind (arith, nat_tests) in
     rw (first, second) (bottom_begins l ys)
@@ -204,5 +201,5 @@ top_longer (y ∷ ys) h d b (suc (suc zero)) lt le = top_alone y h
 top_longer (y ∷ []) h d b (suc (suc (suc m))) lt le = let never : ⊥ = omega arith in absurd never
 top_longer (y ∷ z ∷ zs) h d b (suc (suc (suc m))) lt le = top_before y z zs h d b (take m zs)
 
-pub top_case : (l : Line) (xs : List ℕ) → begins_name xs ≡ false → begins_definition_name xs ≡ false → begins_bottom_rest xs ≡ false → Begins l (95 ∷ xs) 1 sorts.Top × Edges (95 ∷ xs) 1
+pub top_case : (l : LineState) (xs : List ℕ) → begins_name xs ≡ false → begins_definition_name xs ≡ false → begins_bottom_rest xs ≡ false → Begins l (95 ∷ xs) 1 sorts.Top × Edges (95 ∷ xs) 1
 top_case l xs h d b = (record { no_bad_number = refl; no_quotes = no_quotes_at 95 xs refl; no_comment = no_comment_at 95 xs refl; in_range = refl; token = record { within = omega arith; spelled = refl; longest = top_longer xs h d b } }, record { some = omega arith; within = omega arith; first = omega arith; last = omega arith })

@@ -6,11 +6,12 @@ use Rattle.std.proofs.lemmas.Bool.Decides.{nat_tests}
 use Rattle.std.proofs.lemmas.List.{take_all, length-drop}
 use Rattle.std.specs.Prelude.{◌==◌, ◌&&◌, ◌||◌}
 use Rattle.std.specs.List.{list_all, prefix_len}
-use Rattle.cs_grammar.specs.declared.line.Line.{Line}
+use Rattle.std.proofs.lemmas.Bool.{and_parts}
+use Rattle.cs_grammar.specs.declared.line.LineState.{LineState}
 use Rattle.cs_grammar.specs.declared.token.Sort.TheVariants as sorts
 use Rattle.cs_grammar.specs.Spelling.{is_digit, is_hex_digit, is_run_byte, begins_digit, begins_piece, is_separated, is_hex_rest, is_nothing, is_integer, sort_of}
 use Rattle.cs_grammar.specs.Cut.{IsLongest, run, is_too_large, begins_bad_number, Begins, NoneBegins, number, TooLarge}
-use Rattle.cs_lexer.specs.Heads.{Edges}
+use Rattle.cs_lexer.specs.Pieces.{Edges}
 use Rattle.cs_lexer.proofs.Runs.{past_prefix, prefix_within}
 use Rattle.cs_lexer.proofs.ByteClasses.{digit_not_letter, digit_not_hash, digit_not_underscore, digit_not_quote, digit_not_slash, digit_runs, run_byte_ascii, no_quotes_at, no_comment_at, run_edges}
 
@@ -22,23 +23,19 @@ piece_runs x b h = grind (arith, nat_tests)
 hex_runs : (x : ℕ) → is_hex_digit x ≡ true → is_run_byte x ≡ true
 hex_runs x h = grind (arith, nat_tests)
 
-and_both : (a b : Bool) → (a && b) ≡ true → (a ≡ true) × (b ≡ true)
-and_both true b h = (refl, h)
-and_both false b h = absurd cc
-
 all_hex_run : (xs : List ℕ) → list_all is_hex_digit xs ≡ true → list_all is_run_byte xs ≡ true
 all_hex_run [] h = refl
-all_hex_run (x ∷ xs) h = let p = and_both (is_hex_digit x) (list_all is_hex_digit xs) h in rw (hex_runs x p.0, all_hex_run xs p.1) refl
+all_hex_run (x ∷ xs) h = let p = and_parts (is_hex_digit x) (list_all is_hex_digit xs) h in rw (hex_runs x p.0, all_hex_run xs p.1) refl
 
 separated_run : (xs : List ℕ) → is_separated xs ≡ true → list_all is_run_byte xs ≡ true
 separated_run [] h = refl
-separated_run (x ∷ xs) h = let p = and_both (begins_piece (x ∷ xs)) (is_separated xs) h in rw (piece_runs x (begins_digit xs) p.0, separated_run xs p.1) refl
+separated_run (x ∷ xs) h = let p = and_parts (begins_piece (x ∷ xs)) (is_separated xs) h in rw (piece_runs x (begins_digit xs) p.0, separated_run xs p.1) refl
 
 hex_rest_run : (xs : List ℕ) → is_hex_rest xs ≡ true → list_all is_run_byte xs ≡ true
 hex_rest_run [] h = absurd cc
 hex_rest_run (x ∷ []) h = absurd cc
 hex_rest_run (x ∷ y ∷ ys) h =
-    let p = and_both (x == 120) (list_all is_hex_digit (y ∷ ys)) h in
+    let p = and_parts (x == 120) (list_all is_hex_digit (y ∷ ys)) h in
     let r : is_run_byte x ≡ true = grind (arith, nat_tests) in
     let e : is_run_byte x && list_all is_run_byte (y ∷ ys) ≡ true = rw (r, all_hex_run (y ∷ ys) p.1) refl in
     e
@@ -54,7 +51,7 @@ integer_run (x ∷ xs) h = by (x == 48) refl h
   where
     by : (b : Bool) → (x == 48) ≡ b → cond b (is_nothing xs || is_hex_rest xs) (is_digit x && is_separated xs) ≡ true → list_all is_run_byte (x ∷ xs) ≡ true
     by true e k = let r : is_run_byte x ≡ true = grind (arith, nat_tests) in rw (r, zero_run xs k) refl
-    by false e k = let p = and_both (is_digit x) (is_separated xs) k in rw (digit_runs x p.0, separated_run xs p.1) refl
+    by false e k = let p = and_parts (is_digit x) (is_separated xs) k in rw (digit_runs x p.0, separated_run xs p.1) refl
 
 integer_runs : (ts : List ℕ) → list_all is_run_byte ts ≡ false → is_integer ts ≡ false
 integer_runs ts h = by (is_integer ts) refl
@@ -65,7 +62,7 @@ integer_runs ts h = by (is_integer ts) refl
 
 -- ---- the longest one
 
-module _ (l : Line) (x : ℕ) (xs : List ℕ) (digit : is_digit x ≡ true) where
+module _ (l : LineState) (x : ℕ) (xs : List ℕ) (digit : is_digit x ≡ true) where
   run-digit : run (x ∷ xs) ≡ suc (prefix_len is_run_byte xs)
   run-digit = rw (digit_runs x digit, one-add) refl
 
@@ -89,7 +86,7 @@ module _ (l : Line) (x : ℕ) (xs : List ℕ) (digit : is_digit x ≡ true) wher
     number_good : begins_bad_number (x ∷ xs) ≡ false
     number_good = rw (good, digit) refl
 
-pub number_case : (l : Line) (bs : List ℕ) → 0 < length bs → is_digit (get_or bs 0 0) ≡ true → (n : ℕ) → n ≡ run bs → is_integer (take n bs) ≡ true → is_too_large l (take n bs) ≡ false → Begins l bs n sorts.Integer × Edges bs n
+pub number_case : (l : LineState) (bs : List ℕ) → 0 < length bs → is_digit (get_or bs 0 0) ≡ true → (n : ℕ) → n ≡ run bs → is_integer (take n bs) ≡ true → is_too_large l (take n bs) ≡ false → Begins l bs n sorts.Integer × Edges bs n
 number_case l [] h d n e good fits = let never : ⊥ = omega arith in absurd never
 number_case l (x ∷ xs) h d n e good fits =
     let g : is_integer (take (run (x ∷ xs)) (x ∷ xs)) ≡ true = rw e at good in
@@ -104,7 +101,7 @@ number_case l (x ∷ xs) h d n e good fits =
       run_edges is_run_byte run_byte_ascii (x ∷ xs) (omega (arith, run-digit l x xs d)),
     )
 
-pub large_number_case : (l : Line) (bs : List ℕ) → 0 < length bs → is_digit (get_or bs 0 0) ≡ true → (n : ℕ) → n ≡ run bs → is_integer (take n bs) ≡ true → is_too_large l (take n bs) ≡ true → TooLarge l bs n
+pub large_number_case : (l : LineState) (bs : List ℕ) → 0 < length bs → is_digit (get_or bs 0 0) ≡ true → (n : ℕ) → n ≡ run bs → is_integer (take n bs) ≡ true → is_too_large l (take n bs) ≡ true → TooLarge l bs n
 large_number_case l [] h d n e good large = let never : ⊥ = omega arith in absurd never
 large_number_case l (x ∷ xs) h d n e good large =
     let g : is_integer (take (run (x ∷ xs)) (x ∷ xs)) ≡ true = rw e at good in

@@ -1,7 +1,7 @@
 -- The longest front of a list whose items all pass a test.
 use Rattle.std.proofs.Common.{◌≡◌, ℕ, zero, suc, ◌+◌, ◌<◌, ◌≤◌, List, [], ◌∷◌, length, take, get_or, Bool, true, false, cond, refl, arith}
 use Rattle.std.proofs.Math.Numerals.{one-add}
-use Rattle.std.specs.Prelude.{◌&&◌}
+use Rattle.std.proofs.lemmas.Bool.{and_parts}
 use Rattle.std.specs.List.{list_all, prefix_len}
 
 module _ (p : ℕ → Bool) where
@@ -32,13 +32,9 @@ module _ (p : ℕ → Bool) where
   prefix_within [] = omega arith
   prefix_within (x ∷ xs) = within_step (prefix_len p xs) (length xs) (p x) (prefix_within xs)
 
-  all_at_step : (x : ℕ) (xs : List ℕ) (b : Bool) → p x ≡ b → (b && list_all p xs) ≡ true → (p x ≡ true) × (list_all p xs ≡ true)
-  all_at_step x xs true e h = (e, h)
-  all_at_step x xs false e h = absurd cc
-
   -- where all of a front pass, so does each of it
   pub all_at : (xs : List ℕ) (n k : ℕ) → list_all p (take n xs) ≡ true → k < n → n ≤ length xs → p (get_or xs k 0) ≡ true
   all_at xs zero k h lt le = let never : ⊥ = omega arith in absurd never
   all_at [] (suc n) k h lt le = let never : ⊥ = omega arith in absurd never
-  all_at (x ∷ xs) (suc n) zero h lt le = (all_at_step x (take n xs) (p x) refl h).0
-  all_at (x ∷ xs) (suc n) (suc k) h lt le = all_at xs n k (all_at_step x (take n xs) (p x) refl h).1 (omega arith) (omega arith)
+  all_at (x ∷ xs) (suc n) zero h lt le = (and_parts (p x) (list_all p (take n xs)) h).0
+  all_at (x ∷ xs) (suc n) (suc k) h lt le = all_at xs n k (and_parts (p x) (list_all p (take n xs)) h).1 (omega arith) (omega arith)

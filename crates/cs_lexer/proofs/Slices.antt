@@ -1,8 +1,8 @@
 -- The tokens of a cut are slices of its text, in order.
 use Rattle.std.proofs.Common.{◌≡◌, ℕ, ◌+◌, ◌≤◌, List, [], ◌∷◌, length, take, drop, refl, ap, ◌∙◌, arith}
 use Rattle.std.proofs.lemmas.List.{drop-drop, length-drop, length-take-le}
-use Rattle.cs_grammar.specs.declared.line.Line.{Line}
-use Rattle.cs_grammar.specs.declared.line.Line.TheVariants.{Plain, WantsComma, Minus}
+use Rattle.cs_grammar.specs.declared.line.LineState.{LineState}
+use Rattle.cs_grammar.specs.declared.line.LineState.TheVariants.{Plain, WantsComma, Minus}
 use Rattle.cs_grammar.specs.Cut.{Lexeme, lexeme, line_len, comma_if, Cut, blank, new_line, comment, token, finish, IsCut}
 use Rattle.cs_lexer.specs.Lexed.{AreSlices}
 use Rattle.cs_lexer.proofs.Cutting.{line_within}
@@ -16,7 +16,7 @@ module _ (source : List ℕ) where
   empty : (o : ℕ) (ks : List Lexeme) → AreSlices source o ks → AreSlices source (o + 0) ks
   empty o ks h = let is : o + 0 ≡ o = omega arith in rw is h
 
-  comma_slices : (l : Line) (o : ℕ) (ks : List Lexeme) → o ≤ length source → AreSlices source o ks → AreSlices source o (comma_if l o ks)
+  comma_slices : (l : LineState) (o : ℕ) (ks : List Lexeme) → o ≤ length source → AreSlices source o ks → AreSlices source o (comma_if l o ks)
   comma_slices WantsComma o ks le h = (omega arith, omega arith, refl, empty o ks h)
   comma_slices Plain o ks le h = h
   comma_slices Minus o ks le h = h
@@ -27,7 +27,7 @@ module _ (source : List ℕ) where
   within : (bs : List ℕ) (o n : ℕ) → bs ≡ drop o source → n ≤ length bs → o ≤ length source → o + n ≤ length source
   within bs o n is le in_range = omega (arith, length-drop o source, ap length is)
 
-  cut_slices : {bs : List ℕ} {o : ℕ} {l : Line} {ks : List Lexeme} → Cut bs o l ks → bs ≡ drop o source → o ≤ length source → AreSlices source o ks
+  cut_slices : {bs : List ℕ} {o : ℕ} {l : LineState} {ks : List Lexeme} → Cut bs o l ks → bs ≡ drop o source → o ≤ length source → AreSlices source o ks
   cut_slices (blank {x} {o} {bs} {l} {ks} h k) is le = sooner o (o + 1) ks (omega arith) (cut_slices k (moved (x ∷ bs) o 1 is) (within (x ∷ bs) o 1 is (omega arith) le))
   cut_slices (new_line {x} {o} {bs} {l} {ks} h k) is le = comma_slices l o ks le (sooner o (o + 1) ks (omega arith) (cut_slices k (moved (x ∷ bs) o 1 is) (within (x ∷ bs) o 1 is (omega arith) le)))
   cut_slices (comment {o} {bs} {l} {ks} h k) is le = comma_slices l o ks le (sooner o (o + line_len bs) ks (omega arith) (cut_slices k (moved bs o (line_len bs) is) (within bs o (line_len bs) is (line_within bs) le)))

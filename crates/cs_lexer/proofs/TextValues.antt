@@ -8,8 +8,8 @@ use Rattle.cs_grammar.specs.declared.token.Sort.TheVariants as sorts
 use Rattle.cs_grammar.specs.Spelling.{is_hex_digit, escape_value, is_character, is_nothing, hex_number, numbered, followed, text_value, escaped_value, four_digits_value, eight_digits_value, sort_if, sort_of}
 use Rattle.cs_grammar.specs.Values.{unescaped}
 use Rattle.cs_grammar.specs.Literal.{IsNumber, Literal, ends, plain, escape, four, eight}
-use Rattle.cs_lexer.specs.declared.text.Spot.TheVariants.{Inside}
-use Rattle.cs_lexer.specs.Automaton.{closes, characters}
+use Rattle.cs_lexer.specs.declared.text.TextState.TheVariants.{Inside}
+use Rattle.cs_lexer.specs.Automaton.{closes, characters, value_from}
 use Rattle.cs_lexer.proofs.Literals.{plain_step, escape_letter, nothing_is, parts_close, parts_of}
 
 -- ---- from the parts to the value
@@ -151,14 +151,14 @@ parts_text xs cs h = let e = literal_value h in (rw e refl, rw e refl)
 
 -- ---- the characters
 
-pub unescaped_none : (t rest : List ℕ) → rest ≡ drop 1 t → is_some (text_value rest) ≡ false → unescaped t ≡ []
+pub unescaped_is : (t rest : List ℕ) → rest ≡ drop 1 t → unescaped t ≡ value_from Inside rest
 unfolding unescaped
-unescaped_none t rest is h = by (text_value (drop 1 t)) (rw is at h)
+unescaped_is t rest is = rw (← is) (by (closes Inside rest) refl)
   where
-    by : (o : Option (List ℕ)) → is_some o ≡ false → unwrap_or o [] ≡ []
-    by None e = refl
-    by (Some cs) e = absurd cc
+    none : (o : Option (List ℕ)) → is_some o ≡ false → unwrap_or o [] ≡ []
+    none None e = refl
+    none (Some cs) e = absurd cc
 
-pub unescaped_some : (t rest : List ℕ) → rest ≡ drop 1 t → is_some (text_value rest) ≡ true → unescaped t ≡ characters Inside rest
-unfolding unescaped
-unescaped_some t rest is h = rw (← is, value_is rest (sym (closes_is rest) ∙ h)) refl
+    by : (b : Bool) → closes Inside rest ≡ b → unwrap_or (text_value rest) [] ≡ cond b (characters Inside rest) []
+    by true e = rw (value_is rest e) refl
+    by false e = none (text_value rest) (closes_is rest ∙ e)

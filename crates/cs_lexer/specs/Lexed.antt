@@ -34,7 +34,7 @@ abbrev pub IsOf : Result (String Global) SyntaxFault → List ℕ → Type 0
 IsOf (Ok s) xs = string_bytes s ≡ xs
 IsOf (Err e) xs = e ≡ faults.OutOfMemory
 
--- on success these were put at the end, and an error is want of memory
+-- on success these were put at the end, and an error is want of memory; for private contracts alone
 abbrev pub Puts : {X : Type 0} → Result X SyntaxFault → List Token → List Token → List Lexeme → Type 0
 Puts (Ok x) old new ks = lexemes_view new ≡ lexemes_view old ++ ks
 Puts (Err e) old new ks = e ≡ faults.OutOfMemory

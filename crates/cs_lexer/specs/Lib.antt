@@ -1,4 +1,5 @@
 pub mod Lexed
-pub mod Heads
 pub mod Quoted
+-- for contracts of private functions and proofs alone
+pub mod Pieces
 pub mod Automaton

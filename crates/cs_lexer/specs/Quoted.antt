@@ -8,11 +8,12 @@ abbrev pub begins_quote : List ℕ → Bool
 begins_quote [] = false
 begins_quote (x ∷ xs) = x == 34
 
+-- for private contracts alone
 abbrev pub is_quoted : Sort → List ℕ → Bool
 is_quoted sorts.Text t = begins_quote t
 is_quoted s t = true
 
--- each text of these tokens begins with a quote
+-- each text of these tokens begins with a quote; for private contracts alone
 abbrev pub are_quoted : List Lexeme → Bool
 are_quoted [] = true
 are_quoted (lexeme s t o ∷ ks) = is_quoted s t && are_quoted ks

@@ -34,14 +34,14 @@ pub(crate) fn digit_value(x: u8) -> u8
     }
 }
 
-// A byte behind the first of a name.
+// A byte after the first of a name.
 pub(crate) fn is_name_byte(x: u8) -> bool
     ensures { result ≡ is_name_byte x }
 {
     is_letter(x) || is_digit(x) || x == b'_'
 }
 
-// A byte with which the name of a definition may begin, behind its `#`.
+// A byte with which the name of a definition may begin, after its `#`.
 pub(crate) fn begins_definition(x: u8) -> bool
     ensures { result ≡ begins_definition x }
 {

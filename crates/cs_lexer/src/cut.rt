@@ -5,9 +5,9 @@ ghost use Rattle.cs_grammar.specs.Cut.{Lexeme, lexeme, IsCut, IsStuck, comma_if}
 ghost use Rattle.cs_grammar.specs.View.{lexemes_view};
 ghost use Rattle.cs_lexer.specs.Lexed.{Answers, AreSlices, IsRefusal, Puts, Refuses};
 
-use crate::head::{Head, read_head};
 use crate::line::{line_after, line_ended};
-use cs_grammar::{Line, Sort, SyntaxFault, Token};
+use crate::piece::{Piece, read_piece};
+use cs_grammar::{LineState, Sort, SyntaxFault, Token};
 use std::alloc::Global;
 
 // Puts a token without a text.
@@ -20,10 +20,10 @@ fn put(tokens: &mut Vec<Token<'_>>, sort: Sort, start: usize) -> Result<(), Synt
 }
 
 // Inserts a comma at the end of a line, where one is wanted.
-fn end_line(tokens: &mut Vec<Token<'_>>, line: Line, start: usize) -> Result<(), SyntaxFault>
+fn end_line(tokens: &mut Vec<Token<'_>>, line: LineState, start: usize) -> Result<(), SyntaxFault>
     ensures { Puts result tokens.old.items tokens.new.items (comma_if line start []) }
 {
-    if line == Line::WantsComma {
+    if line == LineState::WantsComma {
         put(tokens, Sort::Inserted, start)?;
     }
     Ok(())
@@ -34,40 +34,40 @@ fn end_line(tokens: &mut Vec<Token<'_>>, line: Line, start: usize) -> Result<(),
 ///
 /// # Errors
 /// `NoToken` where no token of the profile begins, as at a number of another form, at a text without
-/// an end or with another escape, and at three quotes. `IntegerRange` at an integer that has not 64
-/// signed bits (the least one needs a `-` as the token before it). The first of them in the text
-/// stands. `OutOfMemory`.
+/// an end or with another escape, and at three quotes. `IntegerRange` at an integer that doesn't
+/// fit in 64 signed bits (the least one needs a `-` as the token before it). The first of them in
+/// the text is reported. `OutOfMemory`.
 pub fn lex(alloc: Global, source: &str) -> Result<Vec<Token<'_>>, SyntaxFault>
     // The tokens are those of the source's cut.
     ensures found { IfOk result (λ v. IsCut source.now (lexemes_view v.items)) }
-    // A fault other than want of memory says where the source is stuck, and why.
-    ensures stuck { IfErr result (λ f. IsRefusal source.now f) }
+    // A fault other than `OutOfMemory` says where the source is stuck, and why.
+    ensures refused { IfErr result (λ f. IsRefusal source.now f) }
     // Where the source has a cut, that is answered, unless memory runs out.
     ensures only { (ks : List Lexeme)
         → IsCut source.now ks → Answers (λ v. lexemes_view v.items) result ks }
     // Where it is stuck, that is the fault, unless memory runs out.
-    ensures refused { (f : SyntaxFault) → IsStuck source.now f → Refuses result f }
-    // Each token's text is the slice of the source at its start, and they stand in order.
+    ensures stuck { (f : SyntaxFault) → IsStuck source.now f → Refuses result f }
+    // Each token's text is the slice of the source at its start, and they are in order.
     ensures slices { IfOk result (λ v. AreSlices source.now 0 (lexemes_view v.items)) }
 {
     let bytes = source.as_bytes();
     let mut tokens = Vec::new(alloc);
     let mut at = 0;
-    let mut line = Line::Plain;
+    let mut line = LineState::Plain;
     'text: while at < bytes.len() {
-        match read_head(line, &bytes[at..]) {
-            Head::Space => at += 1,
-            Head::NewLine => {
+        match read_piece(line, &bytes[at..]) {
+            Piece::Space => at += 1,
+            Piece::NewLine => {
                 end_line(&mut tokens, line, at)?;
                 line = line_ended(line);
                 at += 1;
             }
-            Head::Comment(len) => {
+            Piece::Comment(len) => {
                 end_line(&mut tokens, line, at)?;
                 line = line_ended(line);
                 at += len;
             }
-            Head::Token(sort, len) => {
+            Piece::Token(sort, len) => {
                 tokens.push(Token {
                     sort,
                     text: &source[at..at + len],
@@ -76,8 +76,8 @@ pub fn lex(alloc: Global, source: &str) -> Result<Vec<Token<'_>>, SyntaxFault>
                 line = line_after(sort, &bytes[at..at + len]);
                 at += len;
             }
-            Head::NoToken => return Err(SyntaxFault::NoToken { offset: at }),
-            Head::TooLarge => return Err(SyntaxFault::IntegerRange { offset: at }),
+            Piece::NoToken => return Err(SyntaxFault::NoToken { offset: at }),
+            Piece::TooLarge => return Err(SyntaxFault::IntegerRange { offset: at }),
         }
     }
     end_line(&mut tokens, line, at)?;

@@ -4,10 +4,10 @@
 mod bytes;
 mod characters;
 mod cut;
-mod head;
 mod line;
 mod mark;
 mod numeral;
+mod piece;
 mod text;
 
 pub use characters::unescape;

@@ -2,7 +2,7 @@
 
 ghost use Rattle.std.specs.Prelude.{◌≡◌};
 ghost use Rattle.cs_grammar.specs.Spelling.{mark_sort};
-ghost use Rattle.cs_lexer.specs.Heads.{longest_mark};
+ghost use Rattle.cs_lexer.specs.Pieces.{longest_mark};
 
 use cs_grammar::Sort;
 

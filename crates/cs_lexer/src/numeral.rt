@@ -18,7 +18,7 @@ fn begins_piece(bytes: &[u8]) -> bool
     }
 }
 
-// Whether a text is digits, and underscores that each stand before a digit.
+// Whether a text is digits, and underscores that each come before a digit.
 fn is_separated(text: &[u8]) -> bool
     ensures { result ≡ is_separated text.now }
 {
@@ -82,7 +82,7 @@ fn is_hexadecimal(text: &[u8]) -> bool
     matches!(text, [_, b'x', ..])
 }
 
-/// The value of an integer, whose token the text is, if it has at most 64 bits (CUE, numeric literals).
+/// The value of an integer by the text of its token, if it has at most 64 bits (CUE, numeric literals).
 #[tactic(auto, unfolding(cs_grammar::specs::Values::integer_value))]
 pub fn integer_value(text: &[u8]) -> Option<u64>
     ensures { SomeIff result (integer_value text.now < 2 ^ 64) (integer_value text.now) }

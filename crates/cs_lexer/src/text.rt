@@ -1,7 +1,7 @@
 // Text literals.
 
-ghost use Rattle.std.specs.Prelude.{◌≡◌, List, ℕ, ◌∷◌, Some, is_some};
-ghost use Rattle.cs_grammar.specs.Spelling.{is_character, escape_value, sort_of, text_value};
+ghost use Rattle.std.specs.Prelude.{◌≡◌, List, ℕ, ◌∷◌, Some};
+ghost use Rattle.cs_grammar.specs.Spelling.{is_character, escape_value, sort_of};
 ghost use Rattle.cs_grammar.specs.Values.{unescaped};
 ghost use Rattle.cs_grammar.specs.Literal.{Literal};
 ghost use Rattle.cs_grammar.specs.Cut.{begins_quotes};
@@ -10,9 +10,9 @@ ghost use Rattle.cs_lexer.specs.Automaton.{number_step, text_step, text_len};
 use crate::bytes::{digit_value, is_hex_digit};
 use cs_grammar::Sort;
 
-// What stands before a place in a text.
+// What comes before a place in a text.
 #[derive(Clone, Copy)]
-pub(crate) enum Spot {
+pub(crate) enum TextState {
     // Whole characters.
     Inside,
     // A backslash.
@@ -23,12 +23,12 @@ pub(crate) enum Spot {
 
 // What a byte does in a text.
 #[derive(Clone, Copy)]
-pub(crate) enum Step {
+pub(crate) enum TextStep {
     // The text goes on.
-    More(Spot),
+    More(TextState),
     // It ends.
     Ends,
-    // It is none.
+    // It isn't a text.
     Fails,
 }
 
@@ -42,7 +42,7 @@ pub(crate) fn begins_quotes(bytes: &[u8]) -> bool
     }
 }
 
-// The character that a letter behind a backslash stands for.
+// The character that a letter after a backslash stands for.
 pub(crate) fn escape_value(x: u8) -> Option<u8>
     ensures { result ≡ escape_value x }
 {
@@ -61,7 +61,7 @@ pub(crate) fn escape_value(x: u8) -> Option<u8>
     }
 }
 
-// Whether a number is that of a character, and of no surrogate.
+// Whether a number is that of a character, and not of a surrogate.
 fn is_character(number: u64) -> bool
     ensures { result ≡ is_character number }
 {
@@ -69,89 +69,79 @@ fn is_character(number: u64) -> bool
 }
 
 // What a digit does within an escape by number.
-fn number_step(left: u8, number: u64) -> Step
+fn number_step(left: u8, number: u64) -> TextStep
     ensures { result ≡ number_step left number }
 {
     if left > 1 {
         if number > 0x10FFFF {
-            return Step::Fails;
+            return TextStep::Fails;
         }
         let left = left - 1;
         let number = number as u32;
-        return Step::More(Spot::Digits { left, number });
+        return TextStep::More(TextState::Digits { left, number });
     }
     if is_character(number) {
-        Step::More(Spot::Inside)
+        TextStep::More(TextState::Inside)
     } else {
-        Step::Fails
+        TextStep::Fails
     }
 }
 
-// What a byte does behind a backslash.
-fn escape_step(x: u8) -> Step
-    ensures { result ≡ text_step Spot.Escaped x }
+// What a byte does after a backslash.
+fn escape_step(x: u8) -> TextStep
+    ensures { result ≡ text_step TextState.Escaped x }
 {
     match x {
-        b'u' => Step::More(Spot::Digits { left: 4, number: 0 }),
-        b'U' => Step::More(Spot::Digits { left: 8, number: 0 }),
+        b'u' => TextStep::More(TextState::Digits { left: 4, number: 0 }),
+        b'U' => TextStep::More(TextState::Digits { left: 8, number: 0 }),
         _ => {
             if escape_value(x).is_some() {
-                Step::More(Spot::Inside)
+                TextStep::More(TextState::Inside)
             } else {
-                Step::Fails
+                TextStep::Fails
             }
         }
     }
 }
 
 // What a byte does in a text.
-pub(crate) fn text_step(spot: Spot, x: u8) -> Step
-    ensures { result ≡ text_step spot x }
+pub(crate) fn text_step(state: TextState, x: u8) -> TextStep
+    ensures { result ≡ text_step state x }
 {
-    match spot {
-        Spot::Inside => match x {
-            b'"' => Step::Ends,
-            b'\\' => Step::More(Spot::Escaped),
-            b'\n' => Step::Fails,
-            _ => Step::More(Spot::Inside),
+    match state {
+        TextState::Inside => match x {
+            b'"' => TextStep::Ends,
+            b'\\' => TextStep::More(TextState::Escaped),
+            b'\n' => TextStep::Fails,
+            _ => TextStep::More(TextState::Inside),
         },
-        Spot::Escaped => escape_step(x),
-        Spot::Digits { left, number } => {
+        TextState::Escaped => escape_step(x),
+        TextState::Digits { left, number } => {
             if is_hex_digit(x) {
                 number_step(left, number as u64 * 16 + digit_value(x) as u64)
             } else {
-                Step::Fails
+                TextStep::Fails
             }
         }
     }
 }
 
-// The length of a text behind its first quote, with its last one.
+// The length of a text after its first quote, with its last one.
 pub(crate) fn text_len(bytes: &[u8]) -> Option<usize>
-    ensures { result ≡ text_len Spot.Inside bytes.now }
+    ensures { result ≡ text_len TextState.Inside bytes.now }
 {
-    let mut spot = Spot::Inside;
+    let mut state = TextState::Inside;
     'text: for (i, x) in bytes.iter().enumerate() {
-        match text_step(spot, *x) {
-            Step::Ends => return Some(i + 1),
-            Step::Fails => return None,
-            Step::More(next) => spot = next,
+        match text_step(state, *x) {
+            TextStep::Ends => return Some(i + 1),
+            TextStep::Fails => return None,
+            TextStep::More(next) => state = next,
         }
     }
     None
 }
 
-// Whether the bytes are what stands behind the first quote of a text.
-pub(crate) fn ends_text(bytes: &[u8]) -> bool
-    ensures { result ≡ is_some (text_value bytes.now) }
-{
-    match text_len(bytes) {
-        Some(len) => len == bytes.len(),
-        None => false,
-    }
-}
-
-/// Behind its first quote a text is its parts, as they stand in the source: characters, escapes and
+/// After its first quote a text is its parts, as they are written: characters, escapes and
 /// the last quote. What it stands for is their characters.
 pub fn text_parts()
     ensures parts { (xs : List ℕ)

@@ -1,5 +1,6 @@
 -- Environments, place by place and name by name.
 use Rattle.std.proofs.Common.{◌≡◌, ℕ, zero, suc, Bool, true, false, cond, List, [], ◌∷◌, map, length, Option, Some, None, is_some, option_map, slice_get, get_or, position, IfSome, IfNone, String, string_bytes, Vec, Global, refl, sym, ap, ◌∙◌, subst, true≢false, arith}
+use Rattle.std.specs.Cmp.{both_ways}
 use Rattle.std.specs.List.{IsDistinct, AllByRecursion}
 use Rattle.std.specs.Map.{keys_of, lookup}
 use Rattle.std.specs.Str.{bytes_eq}
@@ -17,12 +18,11 @@ use Rattle.cs_package.specs.declared.shape.Shape.{Shape}
 pub bytes_eq-refl : (t : List ℕ) → bytes_eq t t ≡ true
 bytes_eq-refl t = (bytes_eq-Decides t t).1 refl
 
-pub bytes_eq-flip : (s t : List ℕ) → bytes_eq s t ≡ false → bytes_eq t s ≡ false
-bytes_eq-flip s t e = by (bytes_eq t s) refl
-  where
-    by : (b : Bool) → bytes_eq t s ≡ b → b ≡ false
-    by false q = refl
-    by true q = let same : t ≡ s = (bytes_eq-Decides t s).0 q in let yes : bytes_eq s t ≡ true = (bytes_eq-Decides s t).1 (sym same) in cc
+bytes_eq-turned : (s t : List ℕ) → bytes_eq s t ≡ true → bytes_eq t s ≡ true
+bytes_eq-turned s t e = (bytes_eq-Decides t s).1 (sym ((bytes_eq-Decides s t).0 e))
+
+pub bytes_eq-sym : (s t : List ℕ) → bytes_eq s t ≡ bytes_eq t s
+bytes_eq-sym s t = both_ways (bytes_eq s t) (bytes_eq t s) (bytes_eq-turned s t) (bytes_eq-turned t s)
 
 -- what holds of all holds of the one at a place
 pub all-at : {X : Type 0} (P : X → Type 0) (xs : List X) (i : ℕ) (x : X) → AllByRecursion P xs → slice_get xs i ≡ Some x → P x
@@ -41,7 +41,7 @@ bodies-at [] i n d e = cc
 bodies-at (x ∷ E) zero n d e = let same : x.0 ≡ n = same_Some x.0 n e in ap (λ b. cond b (Some x.1) (bodies E n)) (ap (λ y. bytes_eq n y) same ∙ bytes_eq-refl n)
 bodies-at (x ∷ E) (suc i) n d e =
     let there : slice_get (declared_names E) i ≡ Some n = slice_get-map (λ (y : List ℕ × List Expression). y.0) E i ∙ e in
-    let other = bytes_eq-flip x.0 n (apart x.0 n i (declared_names E) (IsDistinct-head bytes_eq x.0 (declared_names E) d) there) in
+    let other = bytes_eq-sym n x.0 ∙ apart x.0 n i (declared_names E) (IsDistinct-head bytes_eq x.0 (declared_names E) d) there in
     ap (λ b. cond b (Some x.1) (bodies E n)) other ∙ bodies-at E i n (IsDistinct-tail bytes_eq x.0 (declared_names E) d) e
 
 pub bodies-named : (E : Environment) (i : ℕ) → IsDistinct bytes_eq (declared_names E) → IfSome (name_at E i) (λ n. bodies E n ≡ bodies_at E i)
@@ -99,6 +99,10 @@ spelled-at [] i h = tt
 spelled-at (x ∷ es) zero h = h.0
 spelled-at (x ∷ es) (suc i) h = spelled-at es i h.1
 
+-- a name of a table is the name of a definition
+pub spelled-name : (es : List (String Global × String Global)) (i : ℕ) (k w : String Global) → AllByRecursion (λ e. IsDefinitionName (string_bytes e.0)) es → Some (k, w) ≡ slice_get es i → IsDefinitionName (string_bytes k)
+spelled-name es i k w h e = all-at (λ (x : String Global × String Global). IsDefinitionName (string_bytes x.0)) es i (k, w) h (sym e)
+
 -- no name
 pub table-empty : (es : List (String Global × String Global)) → es ≡ [] → IsTable es
 table-empty [] e = record { distinct = none-distinct; written = tt; spelled = tt }
@@ -128,6 +132,12 @@ module _ {V : Type 0} (ns : List (List ℕ)) where
   name_at-is (x ∷ es) [] i e = absurd (omega arith)
   name_at-is (x ∷ es) (v ∷ vs) zero e = refl
   name_at-is (x ∷ es) (v ∷ vs) (suc i) e = name_at-is es vs i (omega arith)
+
+  pub name-there : (es : List (String Global × V)) (vs : List (Vec Shape Global)) (i : ℕ) (k : String Global) (v : V) → length es ≡ length vs → Some (k, v) ≡ slice_get es i → name_at (environment_of ns es vs) i ≡ Some (string_bytes k)
+  name-there [] vs i k v long e = cc
+  name-there (x ∷ es) [] i k v long e = absurd (omega arith)
+  name-there (x ∷ es) (b ∷ vs) zero k v long e = ap (λ (p : String Global × V). Some (string_bytes p.0)) (same_Some x (k, v) (sym e))
+  name-there (x ∷ es) (b ∷ vs) (suc i) k v long e = name-there es vs i k v (omega arith) e
 
   pub bodies_at-is : (es : List (String Global × V)) (vs : List (Vec Shape Global)) (i : ℕ) → length es ≡ length vs → bodies_at (environment_of ns es vs) i ≡ slice_get (bodies_of ns vs) i
   bodies_at-is [] [] i e = refl

@@ -30,7 +30,7 @@ abbrev B : List ℕ
 B = codes "B"
 
 abbrev one : Expression
-one = cue.integer (pos 1)
+one = cue.atom (cue.integer (pos 1))
 
 abbrev both : List Expression → Expression
 both es = cue.conjunction (expressions_of es)
@@ -38,7 +38,7 @@ both es = cue.conjunction (expressions_of es)
 abbrev either : List Expression → Expression
 either es = cue.disjunction (expressions_of es)
 
-abbrev field : List ℕ → cue.Mark → Expression → Declaration Expression
+abbrev field : List ℕ → cue.DeclarationMark → Expression → Declaration Expression
 field l m e = record { label = l; mark = m; value = e }
 
 abbrev struct : List (Declaration Expression) → Expression
@@ -64,18 +64,18 @@ other_names = (λ h. cc, (λ h. cc, (λ h. cc, (λ h. cc, (λ h. cc, (λ h. cc, 
 
 -- #A: 1, #B: null and again #A: _
 abbrev two : Environment
-two = (A, one ∷ cue.top ∷ []) ∷ (B, cue.null ∷ []) ∷ []
+two = (A, one ∷ cue.atom cue.top ∷ []) ∷ (B, cue.atom cue.null ∷ []) ∷ []
 
 declared : declared_names two ≡ A ∷ B ∷ []
 declared = refl
 
-by_name : map (bodies two) (A ∷ B ∷ codes "C" ∷ codes "#A" ∷ [] ∷ []) ≡ Some (one ∷ cue.top ∷ []) ∷ Some (cue.null ∷ []) ∷ None ∷ None ∷ None ∷ []
+by_name : map (bodies two) (A ∷ B ∷ codes "C" ∷ codes "#A" ∷ [] ∷ []) ≡ Some (one ∷ cue.atom cue.top ∷ []) ∷ Some (cue.atom cue.null ∷ []) ∷ None ∷ None ∷ None ∷ []
 by_name = refl
 
 names_by_place : map (name_at two) (0 ∷ 1 ∷ 2 ∷ []) ≡ Some A ∷ Some B ∷ None ∷ []
 names_by_place = refl
 
-bodies_by_place : map (bodies_at two) (0 ∷ 1 ∷ 2 ∷ []) ≡ Some (one ∷ cue.top ∷ []) ∷ Some (cue.null ∷ []) ∷ None ∷ []
+bodies_by_place : map (bodies_at two) (0 ∷ 1 ∷ 2 ∷ []) ≡ Some (one ∷ cue.atom cue.top ∷ []) ∷ Some (cue.atom cue.null ∷ []) ∷ None ∷ []
 bodies_by_place = refl
 
 with_sign : written A ≡ codes "#A"
@@ -97,10 +97,10 @@ table ns a b x y v w = refl
 
 -- ---- parts, in order
 
-operands_are : operands (expressions_of (one ∷ cue.null ∷ cue.top ∷ [])) ≡ one ∷ cue.null ∷ cue.top ∷ []
+operands_are : operands (expressions_of (one ∷ cue.atom cue.null ∷ cue.atom cue.top ∷ [])) ≡ one ∷ cue.atom cue.null ∷ cue.atom cue.top ∷ []
 operands_are = refl
 
-fields_are : declarations (declarations_of (field A cue.optional one ∷ field B cue.required cue.null ∷ [])) ≡ field A cue.optional one ∷ field B cue.required cue.null ∷ []
+fields_are : declarations (declarations_of (field A cue.optional one ∷ field B cue.required (cue.atom cue.null) ∷ [])) ≡ field A cue.optional one ∷ field B cue.required (cue.atom cue.null) ∷ []
 fields_are = refl
 
 -- ---- expressions of shapes
@@ -115,11 +115,11 @@ marks_are : map mark_of (marks.Regular ∷ marks.Optional ∷ marks.Required ∷
 marks_are = refl
 
 atoms : map (expression_of (A ∷ B ∷ [])) (Shapes.Top ∷ Shapes.Bottom ∷ Shapes.Null ∷ Shapes.Bool true ∷ Shapes.Bool false ∷ Shapes.Int (neg_ℤ (pos 5)) ∷ Shapes.Kind kinds.Number ∷ Shapes.Range (pos 0) None ∷ Shapes.Range (pos 0) (Some (pos 255)) ∷ Shapes.Definition 1 ∷ Shapes.Bound relations.AtMost (pos 3) ∷ Shapes.NotInt (pos 4) ∷ Shapes.NotNull ∷ [])
-    ≡ cue.top ∷ cue.bottom ∷ cue.null ∷ cue.boolean true ∷ cue.boolean false ∷ cue.integer (neg_ℤ (pos 5)) ∷ cue.kind cue.number ∷ cue.range (pos 0) None ∷ cue.range (pos 0) (Some (pos 255)) ∷ cue.reference B ∷ cue.bound cue.at_most (pos 3) ∷ cue.not_integer (pos 4) ∷ cue.not_null ∷ []
+    ≡ cue.atom cue.top ∷ cue.atom cue.bottom ∷ cue.atom cue.null ∷ cue.atom (cue.boolean true) ∷ cue.atom (cue.boolean false) ∷ cue.atom (cue.integer (neg_ℤ (pos 5))) ∷ cue.kind cue.number ∷ cue.range (pos 0) None ∷ cue.range (pos 0) (Some (pos 255)) ∷ cue.reference B ∷ cue.atom (cue.bound cue.at_most (pos 3)) ∷ cue.atom (cue.not_integer (pos 4)) ∷ cue.atom cue.not_null ∷ []
 atoms = search (rules, Shapes.the_lemmas)
 
 module _ (ns : List (List ℕ)) where
-  texts : (s : String Global) → map (expression_of ns) (Shapes.Text s ∷ Shapes.NotText s ∷ []) ≡ cue.text (string_bytes s) ∷ cue.not_text (string_bytes s) ∷ []
+  texts : (s : String Global) → map (expression_of ns) (Shapes.Text s ∷ Shapes.NotText s ∷ []) ≡ cue.atom (cue.text (string_bytes s)) ∷ cue.atom (cue.not_text (string_bytes s)) ∷ []
   texts s = search (rules, Shapes.the_lemmas)
 
   joined : (v : Vec Shape Global) → map (expression_of ns) (Shapes.And v ∷ Shapes.Or v ∷ []) ≡ both (map (expression_of ns) v.items) ∷ either (map (expression_of ns) v.items) ∷ []
@@ -133,7 +133,7 @@ module _ (ns : List (List ℕ)) where
 
 -- ---- heights
 
-heights_are : map height (cue.top ∷ cue.bottom ∷ cue.null ∷ cue.boolean true ∷ one ∷ cue.text A ∷ cue.kind cue.int ∷ cue.range (pos 0) None ∷ cue.reference A ∷ cue.bound cue.less (pos 1) ∷ cue.not_integer (pos 1) ∷ cue.not_text A ∷ cue.not_null ∷ struct [] ∷ front [] ∷ cue.list cue.no_expressions cue.any ∷ [])
+heights_are : map height (cue.atom cue.top ∷ cue.atom cue.bottom ∷ cue.atom cue.null ∷ cue.atom (cue.boolean true) ∷ one ∷ cue.atom (cue.text A) ∷ cue.kind cue.int ∷ cue.range (pos 0) None ∷ cue.reference A ∷ cue.atom (cue.bound cue.less (pos 1)) ∷ cue.atom (cue.not_integer (pos 1)) ∷ cue.atom (cue.not_text A) ∷ cue.atom cue.not_null ∷ struct [] ∷ front [] ∷ cue.list cue.no_expressions cue.any ∷ [])
     ≡ 1 ∷ 1 ∷ 1 ∷ 1 ∷ 1 ∷ 1 ∷ 1 ∷ 1 ∷ 1 ∷ 1 ∷ 1 ∷ 1 ∷ 1 ∷ 1 ∷ 1 ∷ 1 ∷ []
 heights_are = refl
 
@@ -175,7 +175,7 @@ abbrev lone : Expression
 lone = both (one ∷ [])
 
 joined_forms : AllByRecursion IsJoined
-    (cue.top ∷ cue.bottom ∷ cue.null ∷ cue.boolean true ∷ one ∷ cue.text A ∷ cue.kind cue.int ∷ cue.range (pos 0) None ∷ cue.reference A ∷ cue.bound cue.less (pos 1) ∷ cue.not_integer (pos 1) ∷ cue.not_text A ∷ cue.not_null ∷ struct [] ∷ front [] ∷ cue.list cue.no_expressions cue.any
+    (cue.atom cue.top ∷ cue.atom cue.bottom ∷ cue.atom cue.null ∷ cue.atom (cue.boolean true) ∷ one ∷ cue.atom (cue.text A) ∷ cue.kind cue.int ∷ cue.range (pos 0) None ∷ cue.reference A ∷ cue.atom (cue.bound cue.less (pos 1)) ∷ cue.atom (cue.not_integer (pos 1)) ∷ cue.atom (cue.not_text A) ∷ cue.atom cue.not_null ∷ struct [] ∷ front [] ∷ cue.list cue.no_expressions cue.any
     ∷ both (one ∷ one ∷ []) ∷ either (one ∷ higher ∷ one ∷ []) ∷ struct (field A cue.regular one ∷ field B cue.optional higher ∷ []) ∷ front (one ∷ higher ∷ []) ∷ rest higher ∷ [])
 joined_forms = search rules
 

@@ -3,7 +3,8 @@ use Rattle.std.specs.Prelude.{◌≡◌, ℕ, ℤ, Option, List, refl}
 use Rattle.std.proofs.Common.{ap, ap₂, arith}
 use Rattle.std.specs.Coded.{Coded, coded×, coded_ℕ, coded_ℤ, coded_bool, coded_list, coded_option}
 use base.Stored.{Gv, gnil, gnum, gcons}
-use Rattle.cs_package.specs.Expression.{Kind, int, number, string, bool, Relation, less, at_most, more, at_least, Mark, regular, optional, required, Expression, top, bottom, null, boolean, integer, text, kind, range, reference, bound, not_integer, not_text, not_null, conjunction, disjunction, struct, list, Expressions, no_expressions, expression, Declarations, no_declarations, declaration, Rest, closed, any, each}
+use Rattle.cs_grammar.specs.Atom.{Atom, Relation, less, at_most, more, at_least, top, bottom, null, boolean, integer, text, bound, not_integer, not_text, not_null}
+use Rattle.cs_package.specs.Expression.{Kind, int, number, string, bool, DeclarationMark, regular, optional, required, Expression, atom, kind, range, reference, conjunction, disjunction, struct, list, Expressions, no_expressions, expression, Declarations, no_declarations, declaration, Rest, closed, any, each}
 use Rattle.cs_package.specs.Environment.{Environment}
 
 abbrev of_kind : Kind → Gv
@@ -18,7 +19,7 @@ of_relation at_most = gnum 1
 of_relation more = gnum 2
 of_relation at_least = gnum 3
 
-abbrev of_mark : Mark → Gv
+abbrev of_mark : DeclarationMark → Gv
 of_mark regular = gnum 0
 of_mark optional = gnum 1
 of_mark required = gnum 2
@@ -26,25 +27,28 @@ of_mark required = gnum 2
 abbrev coded_text : Coded (List ℕ)
 coded_text = coded_list coded_ℕ
 
+abbrev of_atom : Atom → Gv
+of_atom top = gcons (gnum 0) gnil
+of_atom bottom = gcons (gnum 1) gnil
+of_atom null = gcons (gnum 2) gnil
+of_atom (boolean b) = gcons (gnum 3) (coded_bool.code b)
+of_atom (integer z) = gcons (gnum 4) (coded_ℤ.code z)
+of_atom (text s) = gcons (gnum 5) (coded_text.code s)
+of_atom (bound r z) = gcons (gnum 6) (gcons (of_relation r) (coded_ℤ.code z))
+of_atom (not_integer z) = gcons (gnum 7) (coded_ℤ.code z)
+of_atom (not_text s) = gcons (gnum 8) (coded_text.code s)
+of_atom not_null = gcons (gnum 9) gnil
+
 abbrev mutual
   of_expression : Expression → Gv
-  of_expression top = gcons (gnum 0) gnil
-  of_expression bottom = gcons (gnum 1) gnil
-  of_expression null = gcons (gnum 2) gnil
-  of_expression (boolean b) = gcons (gnum 3) (coded_bool.code b)
-  of_expression (integer z) = gcons (gnum 4) (coded_ℤ.code z)
-  of_expression (text s) = gcons (gnum 5) (coded_text.code s)
-  of_expression (kind k) = gcons (gnum 6) (of_kind k)
-  of_expression (range l g) = gcons (gnum 7) ((coded× coded_ℤ (coded_option coded_ℤ)).code (l, g))
-  of_expression (reference n) = gcons (gnum 8) (coded_text.code n)
-  of_expression (bound r z) = gcons (gnum 9) (gcons (of_relation r) (coded_ℤ.code z))
-  of_expression (not_integer z) = gcons (gnum 10) (coded_ℤ.code z)
-  of_expression (not_text s) = gcons (gnum 11) (coded_text.code s)
-  of_expression not_null = gcons (gnum 12) gnil
-  of_expression (conjunction es) = gcons (gnum 13) (of_expressions es)
-  of_expression (disjunction es) = gcons (gnum 14) (of_expressions es)
-  of_expression (struct ds b) = gcons (gnum 15) (gcons (of_declarations ds) (coded_bool.code b))
-  of_expression (list es r) = gcons (gnum 16) (gcons (of_expressions es) (of_rest r))
+  of_expression (atom a) = gcons (gnum 0) (of_atom a)
+  of_expression (kind k) = gcons (gnum 1) (of_kind k)
+  of_expression (range l g) = gcons (gnum 2) ((coded× coded_ℤ (coded_option coded_ℤ)).code (l, g))
+  of_expression (reference n) = gcons (gnum 3) (coded_text.code n)
+  of_expression (conjunction es) = gcons (gnum 4) (of_expressions es)
+  of_expression (disjunction es) = gcons (gnum 5) (of_expressions es)
+  of_expression (struct ds b) = gcons (gnum 6) (gcons (of_declarations ds) (coded_bool.code b))
+  of_expression (list es r) = gcons (gnum 7) (gcons (of_expressions es) (of_rest r))
 
   of_expressions : Expressions → Gv
   of_expressions no_expressions = gnil
@@ -75,7 +79,7 @@ relation-same more more p = refl
 relation-same at_least at_least p = refl
 relation-same _ _ p = cc
 
-mark-same : (a b : Mark) → of_mark a ≡ of_mark b → a ≡ b
+mark-same : (a b : DeclarationMark) → of_mark a ≡ of_mark b → a ≡ b
 mark-same regular regular p = refl
 mark-same optional optional p = refl
 mark-same required required p = refl
@@ -93,21 +97,25 @@ abbrev number_of : Gv → ℕ
 number_of (gnum n) = n
 number_of _ = 0
 
+atom-same : (a b : Atom) → of_atom a ≡ of_atom b → a ≡ b
+atom-same top top p = refl
+atom-same bottom bottom p = refl
+atom-same null null p = refl
+atom-same (boolean a) (boolean b) p = ap boolean (coded_bool.inj a b (ap second p))
+atom-same (integer a) (integer b) p = ap integer (coded_ℤ.inj a b (ap second p))
+atom-same (text a) (text b) p = ap text (coded_text.inj a b (ap second p))
+atom-same (bound r a) (bound s b) p = ap₂ bound (relation-same r s (ap (λ g. first (second g)) p)) (coded_ℤ.inj a b (ap (λ g. second (second g)) p))
+atom-same (not_integer a) (not_integer b) p = ap not_integer (coded_ℤ.inj a b (ap second p))
+atom-same (not_text a) (not_text b) p = ap not_text (coded_text.inj a b (ap second p))
+atom-same not_null not_null p = refl
+atom-same a b p = (let h = ap (λ g. number_of (first g)) p in absurd (omega (arith, h)))
+
 mutual
   pub expression-same : (a b : Expression) → of_expression a ≡ of_expression b → a ≡ b
-  expression-same top top p = refl
-  expression-same bottom bottom p = refl
-  expression-same null null p = refl
-  expression-same (boolean a) (boolean b) p = ap boolean (coded_bool.inj a b (ap second p))
-  expression-same (integer a) (integer b) p = ap integer (coded_ℤ.inj a b (ap second p))
-  expression-same (text a) (text b) p = ap text (coded_text.inj a b (ap second p))
+  expression-same (atom a) (atom b) p = ap atom (atom-same a b (ap second p))
   expression-same (kind a) (kind b) p = ap kind (kind-same a b (ap second p))
   expression-same (range l g) (range k h) p = ap (λ (q : ℤ × Option ℤ). range q.0 q.1) ((coded× coded_ℤ (coded_option coded_ℤ)).inj (l, g) (k, h) (ap second p))
   expression-same (reference a) (reference b) p = ap reference (coded_text.inj a b (ap second p))
-  expression-same (bound r a) (bound s b) p = ap₂ bound (relation-same r s (ap (λ g. first (second g)) p)) (coded_ℤ.inj a b (ap (λ g. second (second g)) p))
-  expression-same (not_integer a) (not_integer b) p = ap not_integer (coded_ℤ.inj a b (ap second p))
-  expression-same (not_text a) (not_text b) p = ap not_text (coded_text.inj a b (ap second p))
-  expression-same not_null not_null p = refl
   expression-same (conjunction a) (conjunction b) p = ap conjunction (expressions-same a b (ap second p))
   expression-same (disjunction a) (disjunction b) p = ap disjunction (expressions-same a b (ap second p))
   expression-same (struct ds a) (struct cs b) p = ap₂ struct (declarations-same ds cs (ap (λ g. first (second g)) p)) (coded_bool.inj a b (ap (λ g. second (second g)) p))

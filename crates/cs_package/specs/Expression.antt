@@ -1,38 +1,25 @@
 -- Resolved expressions of CUE: names are replaced by what they name, and parentheses are dropped
 -- (CUE language specification, "Expressions").
 use Rattle.std.specs.Prelude.{ℕ, ℤ, Bool, List, [], ◌∷◌, Option}
+use Rattle.cs_grammar.specs.Atom.{Atom}
+pub use Rattle.cs_grammar.specs.Atom.{Relation, less, at_most, more, at_least, top, bottom, null, boolean, integer, text, bound, not_integer, not_text, not_null}
 
 -- the predeclared kinds
 pub data Kind : Type 0 where
   int number string bool : Kind
 
--- the relations of `<n`, `<=n`, `>n`, `>=n`
-pub data Relation : Type 0 where
-  less at_most more at_least : Relation
-
 -- the marks of `a: T`, `a?: T`, `a!: T`
-pub data Mark : Type 0 where
-  regular optional required : Mark
+pub data DeclarationMark : Type 0 where
+  regular optional required : DeclarationMark
 
 mutual
   pub data Expression : Type 0 where
-    -- `_` and `_|_`
-    top bottom : Expression
-    -- a literal
-    null : Expression
-    boolean : Bool → Expression
-    integer : ℤ → Expression
-    text : List ℕ → Expression
+    atom : Atom → Expression
     -- a kind, and the integers from the first on, up to the second where there is one
     kind : Kind → Expression
     range : ℤ → Option ℤ → Expression
     -- `#N`, by its name without `#`
     reference : List ℕ → Expression
-    -- `<n` and its like, `!=n`, `!="s"` and `!=null`
-    bound : Relation → ℤ → Expression
-    not_integer : ℤ → Expression
-    not_text : List ℕ → Expression
-    not_null : Expression
     -- operands joined by `&`, and by `|`
     conjunction : Expressions → Expression
     disjunction : Expressions → Expression
@@ -48,7 +35,7 @@ mutual
   -- the declarations of a struct literal, each with its label, its mark and its value
   pub data Declarations : Type 0 where
     no_declarations : Declarations
-    declaration : List ℕ → Mark → Expression → Declarations → Declarations
+    declaration : List ℕ → DeclarationMark → Expression → Declarations → Declarations
 
   -- nothing, `...`, or `...T`
   pub data Rest : Type 0 where
@@ -62,7 +49,7 @@ operands (expression e es) = e ∷ operands es
 -- a declaration, with an N for its value
 pub record Declaration (N : Type 0) : Type 0 where
   pub label : List ℕ
-  pub mark : Mark
+  pub mark : DeclarationMark
   pub value : N
 
 abbrev pub declarations : Declarations → List (Declaration Expression)

@@ -1,6 +1,7 @@
 pub mod Expression
 pub mod Environment
-pub mod Height
 pub mod Joined
+pub mod Height
 pub mod View
+-- for contracts of private functions and proofs alone
 pub mod Code

@@ -16,8 +16,7 @@ use Rattle.cs_package.specs.declared.shape.ShapeEnd.{ShapeEnd, fold-ShapeEnd}
 use Rattle.cs_package.specs.declared.shape.Part.{Part, fold-Part}
 use Rattle.cs_grammar.specs.declared.ast.FieldMark.{FieldMark}
 use Rattle.cs_grammar.specs.declared.ast.FieldMark.TheVariants as marks
-use Rattle.cs_grammar.specs.declared.ast.Relation.{Relation}
-use Rattle.cs_grammar.specs.declared.ast.Relation.TheVariants as relations
+pub use Rattle.cs_grammar.specs.View.{relation_of}
 
 abbrev pub kind_of : Kind → cue.Kind
 kind_of kinds.Int = cue.int
@@ -25,13 +24,7 @@ kind_of kinds.Number = cue.number
 kind_of kinds.Text = cue.string
 kind_of kinds.Bool = cue.bool
 
-abbrev pub relation_of : Relation → cue.Relation
-relation_of relations.Less = cue.less
-relation_of relations.AtMost = cue.at_most
-relation_of relations.More = cue.more
-relation_of relations.AtLeast = cue.at_least
-
-abbrev pub mark_of : FieldMark → cue.Mark
+abbrev pub mark_of : FieldMark → cue.DeclarationMark
 mark_of marks.Regular = cue.regular
 mark_of marks.Optional = cue.optional
 mark_of marks.Required = cue.required
@@ -46,19 +39,19 @@ declarations_of (d ∷ ds) = cue.declaration d.label d.mark d.value (declaration
 
 -- one level, with each shape inside already seen as its expression; a number stands for the name at its place
 abbrev pub shape_step : List (List ℕ) → Shape-F Expression Rest (Declaration Expression) → Expression
-shape_step ns Shape-F.Top = cue.top
-shape_step ns Shape-F.Bottom = cue.bottom
-shape_step ns Shape-F.Null = cue.null
-shape_step ns (Shape-F.Bool b) = cue.boolean b
-shape_step ns (Shape-F.Int n) = cue.integer n
-shape_step ns (Shape-F.Text s) = cue.text (string_bytes s)
+shape_step ns Shape-F.Top = cue.atom cue.top
+shape_step ns Shape-F.Bottom = cue.atom cue.bottom
+shape_step ns Shape-F.Null = cue.atom cue.null
+shape_step ns (Shape-F.Bool b) = cue.atom (cue.boolean b)
+shape_step ns (Shape-F.Int n) = cue.atom (cue.integer n)
+shape_step ns (Shape-F.Text s) = cue.atom (cue.text (string_bytes s))
 shape_step ns (Shape-F.Kind k) = cue.kind (kind_of k)
 shape_step ns (Shape-F.Range least greatest) = cue.range least greatest
 shape_step ns (Shape-F.Definition i) = cue.reference (get_or ns i [])
-shape_step ns (Shape-F.Bound r n) = cue.bound (relation_of r) n
-shape_step ns (Shape-F.NotInt n) = cue.not_integer n
-shape_step ns (Shape-F.NotText s) = cue.not_text (string_bytes s)
-shape_step ns Shape-F.NotNull = cue.not_null
+shape_step ns (Shape-F.Bound r n) = cue.atom (cue.bound (relation_of r) n)
+shape_step ns (Shape-F.NotInt n) = cue.atom (cue.not_integer n)
+shape_step ns (Shape-F.NotText s) = cue.atom (cue.not_text (string_bytes s))
+shape_step ns Shape-F.NotNull = cue.atom cue.not_null
 shape_step ns (Shape-F.And v) = cue.conjunction (expressions_of v.items)
 shape_step ns (Shape-F.Or v) = cue.disjunction (expressions_of v.items)
 shape_step ns (Shape-F.Struct v opened) = cue.struct (declarations_of v.items) opened
@@ -76,6 +69,7 @@ part_step p = record { label = string_bytes p.label; mark = mark_of p.mark; valu
 abbrev pub expression_of : List (List ℕ) → Shape → Expression
 expression_of ns = fold-Shape Expression Rest (Declaration Expression) (shape_step ns) end_step part_step
 
+-- the parts of an expression; for private contracts alone
 abbrev pub rest_of : List (List ℕ) → ShapeEnd → Rest
 rest_of ns = fold-ShapeEnd Expression Rest (Declaration Expression) (shape_step ns) end_step part_step
 
@@ -115,6 +109,7 @@ known_part p = p.value
 abbrev pub is_known : ℕ → Shape → Bool
 is_known count = fold-Shape Bool Bool Bool (known_step count) known_end known_part
 
+-- the same of parts; for private contracts alone
 abbrev pub is_known_end : ℕ → ShapeEnd → Bool
 is_known_end count = fold-ShapeEnd Bool Bool Bool (known_step count) known_end known_part
 

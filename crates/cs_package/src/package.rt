@@ -40,7 +40,7 @@ impl Model for Package {
 impl Package {
     ghost use Rattle.cs_package.specs.View.{expression_of, is_known};
 
-    /// How many definitions there are. Each has another name.
+    /// How many definitions there are. Their names are distinct.
     pub fn count(&self) -> usize
         ensures length { result ≡ length self.now }
         ensures distinct { IsDistinct bytes_eq (declared_names self.now) }
@@ -56,7 +56,7 @@ impl Package {
         self.names.get_index_of(name.strip_prefix("#")?)
     }
 
-    /// The name of a definition, with its `#`: behind that a letter, `_` or `$`, then letters, digits, `_` and `$`.
+    /// The name of a definition, with its `#`: after that a letter, `_` or `$`, then letters, digits, `_` and `$`.
     pub fn name(&self, i: usize) -> &str
         requires { i < length self.now }
         ensures text { IfSome (name_at self.now i) (λ n. result.now ≡ written n) }
@@ -64,6 +64,18 @@ impl Package {
     {
         match self.names.get_index(i) {
             Some((_, written)) => written.as_str(),
+            None => unreachable!(),
+        }
+    }
+
+    /// The name of a definition, without its `#`.
+    pub fn bare_name(&self, i: usize) -> &str
+        requires { i < length self.now }
+        ensures at { name_at self.now i ≡ Some result.now }
+        ensures spelled { IsDefinitionName result.now }
+    {
+        match self.names.get_index(i) {
+            Some((bare, _)) => bare.as_str(),
             None => unreachable!(),
         }
     }

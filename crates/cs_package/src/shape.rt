@@ -43,7 +43,7 @@ pub struct Part {
     pub value: Shape,
 }
 
-/// What stands behind the fixed elements of a list: nothing, `...`, or `...` and an expression.
+/// What follows the fixed elements of a list: nothing, `...`, or `...` and an expression.
 #[cycle(shapes)]
 #[derive(Drop)]
 pub enum ShapeEnd {

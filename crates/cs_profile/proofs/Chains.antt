@@ -3,12 +3,11 @@
 use Rattle.std.proofs.Common.{◌≡◌, ℕ, zero, suc, ◌≤◌, Bool, true, false, ◌||◌, List, [], ◌∷◌, ◌++◌, length, Some, codes, refl, sym, ap, subst, ◌∙◌, ◌⊎◌, inl, inr, arith, if◌then◌else◌}
 use Rattle.std.specs.Option.{option_map_or}
 use Rattle.std.specs.Str.{bytes_eq}
-use Rattle.std.specs.List.{list_any}
+use Rattle.std.specs.List.{list_any, AllByRecursion as Each}
 use Rattle.std.proofs.lemmas.Slice.Eq.{bytes_eq-Decides}
 use Rattle.cs_document.specs.Document.{Document, Entry, under}
 use Rattle.cs_profile.specs.Keywords.{defined, listed_under, entries_of}
 use Rattle.cs_profile.specs.Loops.{direct_names, RefersDirectly, IsChain, NoLoop}
-use Rattle.cs_profile.proofs.Each.{Each}
 
 -- each chain of direct references that begins at n goes through fewer than k definitions
 abbrev pub Short : Document → ℕ → List ℕ → Type 0
@@ -22,9 +21,6 @@ is_in n ns = list_any (bytes_eq n) ns
 abbrev without : List ℕ → List (List ℕ) → List (List ℕ)
 without n [] = []
 without n (m ∷ ms) = if bytes_eq n m then ms else m ∷ without n ms
-
-same_name : (n m : List ℕ) → bytes_eq n m ≡ true → n ≡ m
-same_name n m = (bytes_eq-Decides n m).0
 
 length-without : (n : List ℕ) (ns : List (List ℕ)) → is_in n ns ≡ true → suc (length (without n ns)) ≡ length ns
 length-without n [] h = cc
@@ -40,7 +36,7 @@ is_in-without n q (m ∷ ms) h = at_first (is_in-without n q ms) (bytes_eq n m) 
   where
     at_first : (is_in q ms ≡ true → (is_in q (without n ms) ≡ true) ⊎ (q ≡ n)) → (b c : Bool) → bytes_eq n m ≡ b → bytes_eq q m ≡ c → (c || is_in q ms) ≡ true
         → (is_in q (if b then ms else m ∷ without n ms) ≡ true) ⊎ (q ≡ n)
-    at_first more true true e f h = inr (same_name q m f ∙ sym (same_name n m e))
+    at_first more true true e f h = inr ((bytes_eq-Decides q m).0 f ∙ sym ((bytes_eq-Decides n m).0 e))
     at_first more true false e f h = inl h
     at_first more false true e f h = inl (ap (λ c. c || is_in q (without n ms)) f)
     at_first more false false e f h = elim (more h) [ inl w ↦ inl (ap (λ c. c || is_in q (without n ms)) f ∙ w) | inr w ↦ inr w ]

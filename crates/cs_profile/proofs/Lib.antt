@@ -1,5 +1,4 @@
-pub mod Each
-pub mod Unfolding
+pub mod Views
 pub mod Locality
 pub mod Chains
 pub mod Meanings

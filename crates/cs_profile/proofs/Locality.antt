@@ -3,36 +3,13 @@ use Rattle.std.proofs.Common.{◌≡◌, ℕ, Bool, true, false, not, ◌&&◌, 
 use Rattle.std.specs.Prelude.{option_to_list}
 use Rattle.std.specs.Option.{option_map_or}
 use Rattle.std.specs.Str.{bytes_eq}
-use Rattle.std.specs.List.{list_all, flat_map}
-use Rattle.cs_document.specs.Document.{Document, null, boolean, integer, text, list, object, elements, entries, Entry, under}
-use Rattle.cs_document.specs.Opened.{Opened, a_list, an_object, opened}
-use Rattle.cs_profile.specs.Asked.{Assertion, valid_by, at_keys, at_other_keys, in_front, behind, valid_by_all, valid_by_any, not_valid_by, Asked, always, never, conjunction}
-use Rattle.cs_profile.specs.Validity.{if_array, if_object, if_there, front_holds, holds, held}
-use Rattle.cs_profile.proofs.Each.{Each, each_map, each_drop, each_front, each_back, all_same, any_same}
-
-abbrev pub values : {A : Type 0} → List (Entry A) → List A
-values [] = []
-values (m ∷ ms) = m.1 ∷ values ms
-
--- the documents directly inside one
-abbrev pub children : Document → List Document
-children (list ds) = elements ds
-children (object ms) = values (entries ms)
-children _ = []
-
--- what stands inside an opened document
-abbrev pub within : {A : Type 0} → Opened A → List A
-within (a_list ys) = ys
-within (an_object ms) = values ms
-within _ = []
-
-pub each_within : (x : Document) → (P : Document → Type 0) → Each P (children x) → Each P (within (opened x))
-each_within null P h = h
-each_within (boolean b) P h = h
-each_within (integer n) P h = h
-each_within (text s) P h = h
-each_within (list ds) P h = h
-each_within (object ms) P h = h
+use Rattle.std.specs.List.{list_all, flat_map, AllByRecursion as Each}
+use Rattle.cs_document.specs.Document.{Document, Entry, under}
+use Rattle.cs_document.specs.Opened.{Opened, a_list, an_object}
+use Rattle.cs_document.proofs.Each.{each_map, each_drop, each_front, each_back, all_same, any_same}
+use Rattle.cs_document.proofs.Children.{values, within}
+use Rattle.cs_profile.specs.Constraint.{Assertion, valid_by, at_keys, at_other_keys, in_front, behind, valid_by_all, valid_by_any, not_valid_by, Constraint, always, never, conjunction}
+use Rattle.cs_profile.specs.Validity.{if_array, if_object, if_there, front_holds, holds, is_satisfied}
 
 module _ {H I : Type 0} where
   -- what an assertion asks of the document itself, and of the documents inside
@@ -51,11 +28,11 @@ module _ {H I : Type 0} where
   inside_of _ = []
 
   -- the same of a schema
-  abbrev pub here_parts : Asked H I → List H
+  abbrev pub here_parts : Constraint H I → List H
   here_parts (conjunction claims) = flat_map here_of claims
   here_parts _ = []
 
-  abbrev pub inside_parts : Asked H I → List I
+  abbrev pub inside_parts : Constraint H I → List I
   inside_parts (conjunction claims) = flat_map inside_of claims
   inside_parts _ = []
 
@@ -120,7 +97,7 @@ module _ {A H I : Type 0} (here here' : H → Bool) (inside inside' : A → I �
       ap₂ ◌&&◌ (holds_same a d x (each_front _ (here_of a) _ h) (each_map _ _ (λ y s. each_front _ (inside_of a) _ s) (within x) w))
       (claims_same claims d x (each_back _ (here_of a) _ h) (each_map _ _ (λ y s. each_back _ (inside_of a) _ s) (within x) w))
 
-  pub held_same : (a : Asked H I) (d : Document) (x : Opened A) → Each (λ p. here p ≡ here' p) (here_parts a) → Each (SameAt (inside_parts a)) (within x) → held here inside a d x ≡ held here' inside' a d x
-  held_same always d x h w = refl
-  held_same never d x h w = refl
-  held_same (conjunction claims) d x h w = claims_same claims d x h w
+  pub satisfied_same : (a : Constraint H I) (d : Document) (x : Opened A) → Each (λ p. here p ≡ here' p) (here_parts a) → Each (SameAt (inside_parts a)) (within x) → is_satisfied here inside a d x ≡ is_satisfied here' inside' a d x
+  satisfied_same always d x h w = refl
+  satisfied_same never d x h w = refl
+  satisfied_same (conjunction claims) d x h w = claims_same claims d x h w

@@ -3,19 +3,20 @@
 use Rattle.std.proofs.Common.{◌≡◌, ℕ, zero, suc, Bool, true, false, List, Option, Some, None, pos, refl, map}
 use Rattle.std.specs.Prelude.{option_to_list, option_and_then}
 use Rattle.std.specs.Option.{option_map_or}
-use Rattle.std.specs.List.{flat_map}
+use Rattle.std.specs.List.{flat_map, AllByRecursion as Each}
 use Rattle.cs_document.specs.Document.{Document, null, boolean, integer, text, list, object, Documents, no_documents, document, Members, no_members, member, elements, entries, Entry, under}
 use Rattle.cs_document.specs.Opened.{opened}
+use Rattle.cs_document.proofs.Each.{each_of, each_append, each_front, each_back}
+use Rattle.cs_document.proofs.Children.{children, each_within, by_children}
+use Rattle.cs_document.proofs.OneMeaning.{some, only}
 use Rattle.cs_profile.specs.Keywords.{Keyword, Refers, HasType, OneOf, Minimum, Maximum, Above, Below, Requires, Properties, Prefix, MinItems, AllOf, AnyOf, Not, keywords, Kind, kinds, reference_start, text_after, elements_of, defined}
-use Rattle.cs_profile.specs.Asked.{nothing, has_kind, assertion, assertion_at, asked}
-use Rattle.cs_profile.specs.Validity.{held, OneMeaning}
+use Rattle.cs_profile.specs.Constraint.{nothing, has_kind, assertion, assertion_at, constraint_of}
+use Rattle.cs_profile.specs.Validity.{is_satisfied, OneMeaning}
 use Rattle.cs_profile.specs.Loops.{by_keyword, value_names, direct_names, keyword_names, list_names, each_names, NoLoop}
-use Rattle.cs_profile.proofs.Each.{Each, each_of, each_append, each_front, each_back}
-use Rattle.cs_profile.proofs.Locality.{values, children, each_within, here_of, here_parts, inside_parts, held_same}
+use Rattle.cs_profile.proofs.Locality.{here_of, here_parts, inside_parts, satisfied_same}
 use Rattle.cs_profile.proofs.Chains.{Short, most_steps, all_short}
-use Rattle.cs_profile.proofs.Unfolding.{unfolds_only, solution}
 
-module _ (R : Document) (P : Document → Document → Type 0) (step : (s x : Document) → Each (λ p. P p x) (here_parts (asked R s)) → Each (λ y. (p : Document) → P p y) (children x) → P s x) where
+module _ (R : Document) (P : Document → Document → Type 0) (step : (s x : Document) → Each (λ p. P p x) (here_parts (constraint_of R s)) → Each (λ y. (p : Document) → P p y) (children x) → P s x) where
   module _ (x : Document) (kids : Each (λ y. (p : Document) → P p y) (children x)) where
     module _ (Q : List ℕ → Type 0) (by_name : (n : List ℕ) (s : Document) → defined R n ≡ Some s → Q n → P s x) where
       through_name : (o : Option (List ℕ)) → Each Q (option_to_list o) → Each (λ p. P p x) (option_to_list (option_and_then (defined R) o))
@@ -86,36 +87,18 @@ module _ (R : Document) (P : Document → Document → Type 0) (step : (s x : Do
       any : (s : Document) → P s x
       any s = through (λ n. Unit {0}) (λ n t f q. by_short k n t f (short n)) s (each_of _ (λ n. tt) (direct_names s))
 
-  module _ (k : ℕ) (short : (n : List ℕ) → Short R k n) where
-    mutual
-      every : (x : Document) → (s : Document) → P s x
-      every null = any null tt k short
-      every (boolean b) = any (boolean b) tt k short
-      every (integer n) = any (integer n) tt k short
-      every (text s) = any (text s) tt k short
-      every (list ds) = any (list ds) (every_element ds) k short
-      every (object ms) = any (object ms) (every_member ms) k short
-
-      every_element : (ds : Documents) → Each (λ y. (p : Document) → P p y) (elements ds)
-      every_element no_documents = tt
-      every_element (document d ds) = (every d, every_element ds)
-
-      every_member : (ms : Members) → Each (λ y. (p : Document) → P p y) (values (entries ms))
-      every_member no_members = tt
-      every_member (member k d ms) = (every d, every_member ms)
-
 module _ (R : Document) where
   abbrev ask : (Document → Document → Bool) → Document → Document → Bool
-  ask V s x = held (λ p. V p x) (λ y p. V p y) (asked R s) x (opened x)
+  ask V s x = is_satisfied (λ p. V p x) (λ y p. V p y) (constraint_of R s) x (opened x)
 
-  ask_local : (f g : Document → Document → Bool) (s x : Document) → Each (λ p. f p x ≡ g p x) (here_parts (asked R s)) → Each (λ y. Each (λ p. f p y ≡ g p y) (inside_parts (asked R s))) (children x) → ask f s x ≡ ask g s x
-  ask_local f g s x h c = held_same (λ p. f p x) (λ p. g p x) (λ y p. f p y) (λ y p. g p y) (asked R s) x (opened x) h (each_within x _ c)
+  ask_local : (f g : Document → Document → Bool) (s x : Document) → Each (λ p. f p x ≡ g p x) (here_parts (constraint_of R s)) → Each (λ y. Each (λ p. f p y ≡ g p y) (inside_parts (constraint_of R s))) (children x) → ask f s x ≡ ask g s x
+  ask_local f g s x h c = satisfied_same (λ p. f p x) (λ p. g p x) (λ y p. f p y) (λ y p. g p y) (constraint_of R s) x (opened x) h (each_within _ x c)
 
   pub one_meaning : NoLoop R → OneMeaning R
   one_meaning h = record {
-    some = solution Document ask (λ s. here_parts (asked R s)) (λ s. inside_parts (asked R s)) children ask_local induct;
-    only = unfolds_only Document ask (λ s. here_parts (asked R s)) (λ s. inside_parts (asked R s)) children ask_local induct;
+    some = some Document ask (λ s. here_parts (constraint_of R s)) (λ s. inside_parts (constraint_of R s)) ask_local induct;
+    only = only Document ask (λ s. here_parts (constraint_of R s)) (λ s. inside_parts (constraint_of R s)) ask_local induct;
   }
     where
-      induct : (P : Document → Document → Type 0) → ((s x : Document) → Each (λ p. P p x) (here_parts (asked R s)) → Each (λ y. (p : Document) → P p y) (children x) → P s x) → (s x : Document) → P s x
-      induct P step s x = every R P step (most_steps R) (all_short R h) x s
+      induct : (P : Document → Document → Type 0) → ((s x : Document) → Each (λ p. P p x) (here_parts (constraint_of R s)) → Each (λ y. (p : Document) → P p y) (children x) → P s x) → (s x : Document) → P s x
+      induct P step s x = by_children (λ y. (p : Document) → P p y) (λ y kids. any R P step y kids (most_steps R) (all_short R h)) x s

@@ -4,10 +4,12 @@ use Rattle.std.proofs.lemmas.List.{map-append}
 use Rattle.std.proofs.lemmas.Map.Text.{is_eq-slice_cmp}
 use Rattle.std.proofs.lemmas.Slice.Eq.{bytes_eq-Decides}
 use Rattle.std.specs.Cmp.Lexicographic.{slice_cmp}
-use Rattle.std.specs.List.{list_any}
+use Rattle.std.specs.Cmp.{both_ways}
+use Rattle.std.specs.List.{list_any, AllByRecursion as Each}
 use Rattle.std.specs.Option.{option_map_or}
 use Rattle.std.specs.Ordering.{match_ordering}
 use Rattle.cs_document.specs.Document.{Document, null, boolean, integer, text, list, object, no_documents, document, Members, no_members, member, Entry, entries, under, put}
+use Rattle.cs_document.proofs.Each.{each_append}
 use Rattle.cs_profile.specs.Keywords.{listed_under, entries_of, defined, text_after, reference_start}
 use Rattle.cs_profile.specs.Loops.{direct_names, RefersDirectly, NoLoop}
 use Rattle.cs_profile.specs.Shapes.{Form, the_dialect, a_reference, a_kind, anything, an_array, an_integer, a_count, distinct_texts, a_text, a_schema, some_schemas, named_schemas, Row, row, has_form, dialect}
@@ -15,22 +17,16 @@ use Rattle.cs_profile.specs.Places.{at_key}
 use Rattle.cs_profile.specs.Profile.{Fault, undefined, keyword_at, first, or_else, fault_of, shape_fault, visits, member_visits, keyword_visits, map_visits, named_visits, undefined_at, reference_fault, unless_defined, within, value_visits, walk_fault, name_fault, IsSchema}
 use Rattle.cs_profile.specs.Trim.{trim, trimmed, trimmed_members, trimmed_named, trimmed_value, with_member}
 use Rattle.cs_profile.specs.SchemaDocument.{Slot, present}
-use Rattle.cs_profile.proofs.Each.{Each, each_append}
 use Rattle.cs_profile.proofs.Walks.{first-append}
 use Rattle.cs_profile.proofs.Slots.{has_slot}
 use Rattle.cs_profile.proofs.Definitions.{not_put}
 use Rattle.cs_profile.proofs.Faultless.{Faultless, or_else_none, parted, joined, inside, faultless_members, none_referring, none_in_list}
 
-same_key : (k l : List ℕ) → bytes_eq k l ≡ true → k ≡ l
-same_key k l e = (bytes_eq-Decides k l).0 e
-
 other_key : (k l : List ℕ) → bytes_eq k l ≡ false → bytes_eq l k ≡ false
-other_key k l e = by_test (bytes_eq l k) refl
+other_key k l e = both_ways (bytes_eq l k) (bytes_eq k l) (turned l k) (turned k l) ∙ e
   where
-    by_test : (t : Bool) → bytes_eq l k ≡ t → t ≡ false
-    by_test false f = refl
-    by_test true f =
-        let same : bytes_eq k l ≡ true = (bytes_eq-Decides k l).1 (sym (same_key l k f)) in cc
+    turned : (m n : List ℕ) → bytes_eq m n ≡ true → bytes_eq n m ≡ true
+    turned m n f = (bytes_eq-Decides n m).1 (sym ((bytes_eq-Decides m n).0 f))
 
 -- ---- no definition refers directly to a name
 
@@ -54,7 +50,7 @@ map_plain place (object ms) h = named_plain place ms h
 one_plain : (place k : List ℕ) (v : Document) (t : Bool) → bytes_eq (codes "$defs") k ≡ t → Faultless (keyword_visits true place k v) → Each HasNoName (if t then entries_of v else [])
 one_plain place k v false e h = tt
 one_plain place k v true e h =
-    let is = same_key (codes "$defs") k e in
+    let is = (bytes_eq-Decides (codes "$defs") k).0 e in
     let mine : Faultless (keyword_visits true place (codes "$defs") v) = subst (λ n. Faultless (keyword_visits true place n v)) (sym is) h in
     map_plain (at_key place (codes "$defs")) v (or_else_none (shape_fault place (codes "$defs") (has_form named_schemas v)) (first fault_of (map_visits (at_key place (codes "$defs")) v)) mine).1
 
@@ -151,7 +147,7 @@ module _ (known : List ℕ → Bool) where
   one_trimmed : (k : List ℕ) (v : Document) (ms ns : Members) (t : Bool) → bytes_eq k (codes "$ref") ≡ t → root_references ns ≡ root_references ms
       → root_references (with_member (trimmed_value true k v) k ns) ≡ root_references (member k v ms)
   one_trimmed k v ms ns true e h =
-      let is = same_key k (codes "$ref") e in
+      let is = (bytes_eq-Decides k (codes "$ref")).0 e in
       subst (λ n. root_references (with_member (trimmed_value true n v) n ns) ≡ root_references (member n v ms)) (sym is) (ap (or_else (undefined_at known (keyword_at true [] (codes "$ref") v))) h)
   one_trimmed k v ms ns false e h = other_keyword k (trimmed_value true k v) ns e ∙ h ∙ sym (other_keyword k (Some v) ms e)
 
@@ -163,7 +159,7 @@ module _ (known : List ℕ → Bool) where
       → (o : Ordering) → slice_cmp nat_cmp k m ≡ o → root_references (match_ordering o (member k d (member m e ms)) (member m d ms) (member m e (put k d ms))) ≡ root_references (member m e ms)
   put_by_order k m d e ms other rest Less c = other_keyword k (Some d) (member m e ms) other
   put_by_order k m d e ms other rest Equal c =
-      let same : k ≡ m = same_key k m (sym (is_eq-slice_cmp k m) ∙ ap is_eq c) in
+      let same : k ≡ m = (bytes_eq-Decides k m).0 (sym (is_eq-slice_cmp k m) ∙ ap is_eq c) in
       let none : bytes_eq m (codes "$ref") ≡ false = subst (λ n. bytes_eq n (codes "$ref") ≡ false) same other in
       other_keyword m (Some d) ms none ∙ sym (other_keyword m (Some e) ms none)
   put_by_order k m d e ms other rest Greater c = ap (or_else (undefined_at known (keyword_at true [] m e))) rest
@@ -224,7 +220,7 @@ elsewhere k (Some v) ns e = rw e refl
 one_listed : (k : List ℕ) (v : Document) (ns : Members) (es : List (Entry Document)) → listed_under (codes "$defs") (entries ns) ≡ map below es → (t : Bool) → bytes_eq (codes "$defs") k ≡ t
     → listed_under (codes "$defs") (entries (with_member (trimmed_value true k v) k ns)) ≡ map below ((if t then entries_of v else []) ++ es)
 one_listed k v ns es h true e =
-    subst (λ n. listed_under (codes "$defs") (entries (with_member (trimmed_value true n v) n ns)) ≡ map below (entries_of v ++ es)) (same_key (codes "$defs") k e) (there v ns es h)
+    subst (λ n. listed_under (codes "$defs") (entries (with_member (trimmed_value true n v) n ns)) ≡ map below (entries_of v ++ es)) ((bytes_eq-Decides (codes "$defs") k).0 e) (there v ns es h)
 one_listed k v ns es h false e = elsewhere k (trimmed_value true k v) ns e ∙ h
 
 pub listed_trimmed : (ms : Members) → listed_under (codes "$defs") (entries (trimmed_members true ms)) ≡ map below (listed_under (codes "$defs") (entries ms))
@@ -260,7 +256,7 @@ faultless_by_order : (k m : List ℕ) (d e : Document) (ms : Members) → Faultl
     → (o : Ordering) → slice_cmp nat_cmp k m ≡ o → Faultless (member_visits true [] (match_ordering o (member k d (member m e ms)) (member m d ms) (member m e (put k d ms))))
 faultless_by_order k m d e ms one all rest Less c = joined fault_of (keyword_visits true [] k d) (member_visits true [] (member m e ms)) one all
 faultless_by_order k m d e ms one all rest Equal c =
-    let same : k ≡ m = same_key k m (sym (is_eq-slice_cmp k m) ∙ ap is_eq c) in
+    let same : k ≡ m = (bytes_eq-Decides k m).0 (sym (is_eq-slice_cmp k m) ∙ ap is_eq c) in
     let parts = parted fault_of (keyword_visits true [] m e) (member_visits true [] ms) all in
     joined fault_of (keyword_visits true [] m d) (member_visits true [] ms) (subst (λ n. Faultless (keyword_visits true [] n d)) same one) parts.1
 faultless_by_order k m d e ms one all rest Greater c =

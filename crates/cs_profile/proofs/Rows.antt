@@ -1,32 +1,12 @@
 -- Schemas with documents that they validate and documents that they do not, by computation.
-use Rattle.std.proofs.Common.{◌≡◌, ℕ, pos, negsuc, Bool, true, false, List, [], ◌∷◌, ◌++◌, codes, refl}
+use Rattle.std.proofs.Common.{◌≡◌, ℕ, negsuc, Bool, true, false, List, [], ◌∷◌, ◌++◌, codes, refl}
 use Rattle.std.specs.List.{list_all, list_any}
-use Rattle.cs_document.specs.Document.{Document, null, boolean, integer, text, list, object, Documents, no_documents, document, Members, no_members, member}
+use Rattle.cs_document.specs.Document.{Document, null, boolean, integer, text, object}
+use Rattle.cs_document.proofs.SampleDocuments.{number as n, string as t, array as l, named_map as o}
 use Rattle.cs_profile.specs.Validity.{IsValidity}
 use Rattle.cs_profile.specs.Loops.{IsLoop}
 use Rattle.cs_profile.proofs.Unfolded.{unfolded, all_valid, none_valid}
 use Prim.Native.String.{String}
-
--- documents, written briefly
-abbrev pub t : String → Document
-t s = text (codes s)
-
-abbrev pub n : ℕ → Document
-n k = integer (pos k)
-
-abbrev documents_of : List Document → Documents
-documents_of [] = no_documents
-documents_of (d ∷ ds) = document d (documents_of ds)
-
-abbrev pub l : List Document → Document
-l ds = list (documents_of ds)
-
-abbrev members_of : List (String × Document) → Members
-members_of [] = no_members
-members_of (e ∷ es) = member (codes e.0) e.1 (members_of es)
-
-abbrev pub o : List (String × Document) → Document
-o es = object (members_of es)
 
 -- a schema of one keyword
 abbrev pub says : String → Document → Document

@@ -4,7 +4,8 @@ use Rattle.std.specs.Fmt.{digits}
 use Rattle.std.specs.List.{list_all, list_any}
 use Rattle.cs_document.specs.Document.{Document, null, boolean, integer, text, list, under}
 use Rattle.cs_document.specs.View.{doc_view, list_view}
-use Rattle.cs_profile.specs.Keywords.{Keyword, keywords, Kind, kinds, reference_start, text_after}
+use Rattle.cs_document.proofs.SampleDocuments.{number as n, string as t, array as l, named_map as o}
+use Rattle.cs_profile.specs.Keywords.{Keyword, keywords, kinds, reference_start, text_after}
 use Rattle.cs_profile.specs.Keywords as keyword
 use Rattle.cs_profile.specs.Shapes.{Form, the_dialect, a_reference, a_kind, anything, an_array, an_integer, a_count, distinct_texts, a_text, a_schema, some_schemas, named_schemas, kept, left_out, left_out_if_empty, Row, row, is_name_code, is_name, has_form, is_kept, by_form}
 use Rattle.cs_profile.specs.Places.{at_key, at_index}
@@ -15,7 +16,7 @@ use Rattle.cs_profile.specs.Refusal.{LeastFirst}
 use Rattle.cs_profile.specs.SchemaDocument.{Slot, kind_name, keyword_slots, reference_document, text_document, unless_no_list, unless_no_map}
 use Rattle.cs_profile.specs.declared.schema.Schema.TheOpen.{Keywords-F}
 use Rattle.cs_profile.specs.declared.schema.JsonKind.TheVariants as kind
-use Rattle.cs_profile.proofs.Rows.{t, n, l, o, says}
+use Rattle.cs_profile.proofs.Rows.{says}
 use Prim.Native.String.{String}
 
 -- ---- keywords by their names

@@ -10,8 +10,8 @@ use Rattle.std.specs.Ordering.{match_ordering}
 use Rattle.cs_document.specs.Document.{Document, null, boolean, integer, text, list, object, Documents, no_documents, document, Members, no_members, member, Entry, entries, under, put}
 use Rattle.cs_document.specs.Opened.{opened}
 use Rattle.cs_profile.specs.Keywords.{Keyword, Dialect, Definitions, Refers, HasType, Equals, OneOf, Minimum, Maximum, Above, Below, Requires, Properties, Additional, Prefix, Items, MinItems, AllOf, AnyOf, Not, Note, keywords, elements_of, entries_of, listed_under, defined, text_after, reference_start}
-use Rattle.cs_profile.specs.Asked.{Assertion, nothing, valid_by, places_taken, assertion, assertion_at, at_other_keys, behind, conjunction, asked}
-use Rattle.cs_profile.specs.Validity.{holds, held, IsValidity}
+use Rattle.cs_profile.specs.Constraint.{Assertion, nothing, valid_by, places_taken, assertion, assertion_at, at_other_keys, behind, conjunction, constraint_of}
+use Rattle.cs_profile.specs.Validity.{holds, is_satisfied, IsValidity}
 use Rattle.cs_profile.specs.Profile.{walk_fault, name_fault}
 use Rattle.cs_profile.specs.Shapes.{row_of, is_empty, dialect}
 use Rattle.cs_profile.specs.Trim.{trim, trimmed, trimmed_members, trimmed_list, trimmed_elements, trimmed_map, trimmed_as, value_trims, with_member, KeepsValidity}
@@ -118,18 +118,18 @@ module _ (R R' : Document) (same : (n : List ℕ) → defined R' n ≡ defined R
   assertions_alike beside [] = refl
   assertions_alike beside (e ∷ es) = ap₂ (λ (a : Assertion Document Document) as'. a ∷ as') (assertion_alike beside e.1 (under e.0 keywords)) (assertions_alike beside es)
 
-  asked_alike : (s : Document) → asked R' s ≡ asked R s
-  asked_alike null = refl
-  asked_alike (boolean true) = refl
-  asked_alike (boolean false) = refl
-  asked_alike (integer z) = refl
-  asked_alike (text t) = refl
-  asked_alike (list ds) = refl
-  asked_alike (object ks) = ap conjunction (assertions_alike (entries ks) (entries ks))
+  constraint_alike : (s : Document) → constraint_of R' s ≡ constraint_of R s
+  constraint_alike null = refl
+  constraint_alike (boolean true) = refl
+  constraint_alike (boolean false) = refl
+  constraint_alike (integer z) = refl
+  constraint_alike (text t) = refl
+  constraint_alike (list ds) = refl
+  constraint_alike (object ks) = ap conjunction (assertions_alike (entries ks) (entries ks))
 
 -- a validity of a root is one of the trimmed root
 still_valid : (R : Document) (V : Document → Document → Bool) → IsValidity R V → IsValidity (trim R) V
-still_valid R V h s x = h s x ∙ ap (λ a. held (λ p. V p x) (λ y p. V p y) a x (opened x)) (sym (asked_alike R (trim R) (defined_alike R) s))
+still_valid R V h s x = h s x ∙ ap (λ a. is_satisfied (λ p. V p x) (λ y p. V p y) a x (opened x)) (sym (constraint_alike R (trim R) (defined_alike R) s))
 
 -- ---- the root
 
@@ -256,7 +256,7 @@ module _ (R : Document) (here : Document → Bool) (inside : Document → Docume
   asserts_nothing beside k v b Definitions e s = ap (λ o. holds here inside (option_map_or (λ q. assertion R beside q v) o nothing) x (opened x) && b) e
   asserts_nothing beside k v b _ e s = absurd s
 
-  root_alike : (ms : Members) → held here inside (asked R (trim (object ms))) x (opened x) ≡ held here inside (asked R (object ms)) x (opened x)
+  root_alike : (ms : Members) → is_satisfied here inside (constraint_of R (trim (object ms))) x (opened x) ≡ is_satisfied here inside (constraint_of R (object ms)) x (opened x)
   root_alike ms =
       let ns = put (codes "$schema") (text dialect) (trimmed_members true ms) in
       ap (list_all (λ a. holds here inside a x (opened x))) (all_beside_alike R (entries ns) (entries ms) (properties_alike ms) (places_alike ms) (entries ns))

@@ -1,5 +1,6 @@
 -- What a schema document stands for is trimmed.
 use Rattle.std.proofs.Common.{◌≡◌, ℕ, Bool, true, false, List, [], ◌∷◌, map, Option, Some, None, String, Global, Ordering, Less, Equal, Greater, nat_cmp, string_bytes, codes, is_eq, refl, sym, ap, ap₂, ◌∙◌, subst}
+use Rattle.std.specs.List.{AllByRecursion as Each}
 use Rattle.std.proofs.lemmas.Map.Text.{is_eq-slice_cmp}
 use Rattle.std.proofs.lemmas.Slice.Eq.{bytes_eq-Decides}
 use Rattle.std.specs.Cmp.Lexicographic.{slice_cmp}
@@ -14,7 +15,6 @@ use Rattle.cs_profile.specs.declared.schema.Schema.{Schema}
 use Rattle.cs_profile.specs.declared.schema.Schema.TheOpen.{Schema-F, Keywords-F}
 use Rattle.cs_profile.specs.declared.schema.Schema.TheFolds.{fold-roll-Schema, fold-roll-Keywords, fold_out-Keywords, map-Schema, map-Keywords, ind-Schema}
 use Rattle.cs_profile.specs.declared.schema.Keywords.{Keywords, out-Keywords}
-use Rattle.cs_profile.proofs.Each.{Each}
 use Rattle.cs_profile.proofs.Definitions.{by_case}
 
 -- trimming leaves a schema as it is

@@ -1,5 +1,5 @@
 pub mod Keywords
-pub mod Asked
+pub mod Constraint
 pub mod Validity
 pub mod Loops
 pub mod Shapes

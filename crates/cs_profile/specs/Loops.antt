@@ -59,7 +59,7 @@ abbrev mutual
   each_names no_documents = []
   each_names (document s ss) = direct_names s ++ each_names ss
 
--- the names in a value, by how its keyword reaches them
+-- the names in a value, by how its keyword reaches them; for private contracts alone
 abbrev pub value_names : Document → ByReach
 value_names v = record {
   name = name_in v;

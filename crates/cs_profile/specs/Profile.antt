@@ -61,7 +61,7 @@ abbrev mutual
   named_visits place no_members = []
   named_visits place (member k v ms) = visits false (at_key place k) v ++ named_visits place ms
 
--- inside a value, by the schemas that it holds
+-- inside a value, by the schemas that it holds; for private contracts alone
 abbrev pub value_visits : List ℕ → Document → BySchemas (List Visit)
 value_visits place v = record {
   none = [];
@@ -70,7 +70,7 @@ value_visits place v = record {
   members = map_visits place v;
 }
 
--- a keyword with what stands inside its value
+-- a keyword with what stands inside its value; for private contracts alone
 abbrev pub keyword_visits : Bool → List ℕ → List ℕ → Document → List Visit
 keyword_visits root place k v = keyword_at root place k v ∷ within (row root k) (value_visits (at_key place k) v)
 
@@ -99,7 +99,7 @@ abbrev pub fault_of : Visit → Option Fault
 fault_of (value_at place d) = shape_fault place [] (is_truth d)
 fault_of (keyword_at root place k v) = row_fault place k v (row root k)
 
--- the fault of a keyword whose row has this shape, and of what stands inside
+-- the fault of a keyword whose row has this shape, and of what stands inside; for private contracts alone
 abbrev pub value_fault : List ℕ → List ℕ → Form → Document → List Visit → Option Fault
 value_fault place name form v inside = or_else (shape_fault place name (has_form form v)) (first fault_of inside)
 

@@ -31,7 +31,7 @@ abbrev pub present : List Slot → Members
 present [] = no_members
 present (s ∷ ss) = with_member s.1 s.0 (present ss)
 
--- a keyword's value is set
+-- a keyword's value is set; for private contracts alone
 abbrev pub set_slot : List ℕ → Option Document → List Slot → List Slot
 set_slot k o [] = []
 set_slot k o (s ∷ ss) = if bytes_eq k s.0 then (s.0, o) ∷ ss else s ∷ set_slot k o ss
@@ -84,6 +84,7 @@ schema_view = fold-Schema Document (List Slot) schema_step keyword_slots
 abbrev pub slots_of : Keywords → List Slot
 slots_of = fold-Keywords Document (List Slot) schema_step keyword_slots
 
+-- for private contracts alone
 abbrev pub schemas_view : List Schema → List Document
 schemas_view = map schema_view
 

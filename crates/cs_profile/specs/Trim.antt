@@ -43,7 +43,7 @@ abbrev mutual
   trimmed_named no_members = no_members
   trimmed_named (member k v ms) = member k (trimmed false v) (trimmed_named ms)
 
--- a value trimmed, by the schemas that it holds
+-- a value trimmed, by the schemas that it holds; for private contracts alone
 abbrev pub value_trims : Document → BySchemas Document
 value_trims v = record {
   none = v;
@@ -52,7 +52,7 @@ value_trims v = record {
   members = trimmed_map v;
 }
 
--- a keyword's value, if it is kept
+-- a keyword's value, if it is kept; for private contracts alone
 abbrev pub trimmed_value : Bool → List ℕ → Document → Option Document
 trimmed_value root k v = trimmed_as (row root k) v (value_trims v)
 

@@ -7,7 +7,7 @@ use Rattle.std.specs.List.{list_all, list_any}
 use Rattle.cs_document.specs.Document.{Document, Entry, under, document_eq}
 use Rattle.cs_document.specs.Opened.{Opened, a_null, a_boolean, an_integer, a_text, a_list, an_object, opened}
 use Rattle.cs_profile.specs.Keywords.{Kind, Null, Boolean, Object, Array, Number, String, Integer}
-use Rattle.cs_profile.specs.Asked.{Assertion, nothing, valid_by, has_kind, equals, is_among, at_least, at_most, above, below, has_keys, at_keys, at_other_keys, in_front, behind, at_least_long, valid_by_all, valid_by_any, not_valid_by, Asked, always, never, conjunction, asked}
+use Rattle.cs_profile.specs.Constraint.{Assertion, nothing, valid_by, has_kind, equals, is_among, at_least, at_most, above, below, has_keys, at_keys, at_other_keys, in_front, behind, at_least_long, valid_by_all, valid_by_any, not_valid_by, Constraint, always, never, conjunction, constraint_of}
 
 module _ {A : Type 0} where
   -- whether a document has a kind; an integer is a number too
@@ -67,15 +67,15 @@ module _ {A H I : Type 0} (here : H → Bool) (inside : A → I → Bool) where
   holds (valid_by_any ss) d x = list_any here ss
   holds (not_valid_by s) d x = not (here s)
 
-  -- whether all that a schema asks holds
-  abbrev pub held : Asked H I → Document → Opened A → Bool
-  held always d x = true
-  held never d x = false
-  held (conjunction claims) d x = list_all (λ a. holds a d x) claims
+  -- whether the constraint of a schema is satisfied
+  abbrev pub is_satisfied : Constraint H I → Document → Opened A → Bool
+  is_satisfied always d x = true
+  is_satisfied never d x = false
+  is_satisfied (conjunction claims) d x = list_all (λ a. holds a d x) claims
 
 -- V is the validity of the schemas of the root R: V s x says whether the schema s validates the document x
 abbrev pub IsValidity : Document → (Document → Document → Bool) → Type 0
-IsValidity R V = (s x : Document) → V s x ≡ held (λ p. V p x) (λ y p. V p y) (asked R s) x (opened x)
+IsValidity R V = (s x : Document) → V s x ≡ is_satisfied (λ p. V p x) (λ y p. V p y) (constraint_of R s) x (opened x)
 
 -- there is a validity of the schemas of R, and only one
 pub record OneMeaning (R : Document) : Type 0 where

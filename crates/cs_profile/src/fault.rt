@@ -1,23 +1,23 @@
 use std::alloc::{AllocError, AllocFailed};
 use thiserror::Error;
 
-/// Why a document is no schema of the profile. A place is the JSON pointer of the schema object at fault.
+/// Why a document isn't a schema of the profile. A place is the JSON pointer of the schema object at fault.
 #[derive(Debug, Drop, Error)]
 pub enum SchemaFault {
-    /// A growth was refused for want of memory.
+    /// Memory ran out.
     #[error("out of memory")]
     OutOfMemory,
-    /// A keyword that is none of the profile.
-    #[error("a keyword outside the profile")]
+    /// The profile doesn't have the keyword.
+    #[error("a keyword of the schema is not supported")]
     Keyword { place: String, name: String },
-    /// A keyword whose value has not its shape; with the empty name, a value that is no schema.
-    #[error("the value of a keyword has a wrong shape")]
+    /// The keyword's value doesn't have its shape; with the empty name, the value at the place isn't a schema.
+    #[error("a keyword of the schema has a value of the wrong form")]
     Shape { place: String, name: String },
-    /// A reference to a name that is not defined.
-    #[error("a reference to a definition that the schema does not have")]
+    /// A `$ref` names a definition that the schema doesn't have.
+    #[error("a `$ref` names a definition that `$defs` does not have")]
     Reference { place: String, name: String },
-    /// Definitions that reach themselves: each refers directly to the next, and the last to the first.
-    #[error("a definition reaches itself")]
+    /// Definitions reach themselves: each refers directly to the next, and the last to the first.
+    #[error("definitions of the schema refer to one another in a loop")]
     Loop { names: Vec<String> },
 }
 

@@ -68,10 +68,10 @@ impl SchemaDoc {
     }
 
     /// What every schema document is.
-    pub fn is_whole(&self)
+    pub fn whole_law(&self)
         ensures whole { IsWhole self.now }
         ensures trimmed { trim (document_of self.now) ≡ document_of self.now }
     {
-        let _ = &self.root;
+        let _ = &self.root; // for the proof: the invariant of what is read
     }
 }

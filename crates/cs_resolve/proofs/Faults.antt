@@ -1,7 +1,5 @@
 -- Faults of names, part by part, and what is refused for the first of them.
 use Rattle.std.proofs.Common.{◌≡◌, ℕ, ◌+◌, ◌<◌, List, [], ◌∷◌, ◌++◌, map, drop, length, get_or, Option, Some, None, option_map, slice_get, inl, inr, refl, sym, ap, ◌∙◌, subst, add-one}
-use Rattle.std.proofs.lemmas.Grind.{flat_map-append}
-use Rattle.std.proofs.lemmas.List.{map-append}
 use Rattle.std.proofs.lemmas.Option.{same_Some}
 use Rattle.cs_grammar.specs.Tree.{FileTree}
 use Rattle.cs_grammar.specs.View.{definition_view, file_view}
@@ -11,19 +9,13 @@ use Rattle.cs_resolve.specs.Declarations.{faults_from, faults_of_files, places_o
 use Rattle.cs_resolve.specs.Opening.{unopened_files}
 use Rattle.cs_resolve.specs.PackageName.{IsOnePackage}
 use Rattle.cs_resolve.specs.Resolved.{IsRefusal, IsResolved, IsSmall}
-use Rattle.cs_resolve.specs.Scopes.{Place, NameFault, faults, place_faults}
+use Rattle.cs_resolve.specs.Scopes.{NameFault}
 use Rattle.cs_resolve.specs.Steps.{faults_in, IsNameRefusal}
 use Rattle.cs_resolve.specs.declared.fault.ResolveFault.{ResolveFault}
 use Rattle.cs_resolve.specs.declared.fault.ResolveFault.TheVariants.{OutOfMemory, UnknownName, FieldReference, NotOpened}
 use Rattle.cs_resolve.proofs.Refusals.{at_place, cut}
-
-abbrev Found : Type 0
-Found = List (ℕ × NameFault)
-
-pub faults_in-append : (i : ℕ) (ns : List (List ℕ)) (ps qs : List Place) → faults_in i ns (ps ++ qs) ≡ faults_in i ns ps ++ faults_in i ns qs
-faults_in-append i ns ps qs =
-    ap (map (λ x. (i, x))) (flat_map-append (place_faults ns) ps qs)
-    ∙ map-append (λ (x : NameFault). (i, x)) (faults ns ps) (faults ns qs)
+use Rattle.cs_resolve.proofs.NameFaults.{Found}
+pub use Rattle.cs_resolve.proofs.NameFaults.{faults_in-append, refused-same as refusal-same, refused-left as refusal-first}
 
 -- the faults from a file on
 pub faults-cut : (ns : List (List ℕ)) (fs : List File) (i : ℕ) (f : File) → i < length fs → f ≡ get_or fs i f → faults_from i ns (map file_view (drop i fs)) ≡ faults_in i ns (places_of (map definition_view f.definitions.items)) ++ faults_from (i + 1) ns (map file_view (drop (i + 1) fs))
@@ -32,18 +24,6 @@ faults-cut ns fs i f l is =
     ∙ ap (λ j. faults_in i ns (places_of (map definition_view f.definitions.items)) ++ faults_from j ns (map file_view (drop (i + 1) fs))) (sym (add-one i))
 
 -- ---- refusals for names
-
-pub refusal-same : (e : ResolveFault) (xs ys : Found) → xs ≡ ys → IsNameRefusal e xs → IsNameRefusal e ys
-refusal-same e xs ys same h = subst (λ zs. IsNameRefusal e zs) same h
-
--- a fault of the first part comes first
-pub refusal-first : (e : ResolveFault) (xs ys : Found) → IsNameRefusal e xs → IsNameRefusal e (xs ++ ys)
-refusal-first OutOfMemory xs ys h = tt
-refusal-first (UnknownName f o) [] ys h = cc
-refusal-first (UnknownName f o) (x ∷ xs) ys h = h
-refusal-first (FieldReference f o) [] ys h = cc
-refusal-first (FieldReference f o) (x ∷ xs) ys h = h
-refusal-first _ xs ys h = h
 
 -- F gathers the faults of a list part by part, and the part at a place is refused
 module _ {A : Type 0} (F : List A → Found) (h : A → Found) (parts : (a : A) (rest : List A) → F (a ∷ rest) ≡ h a ++ F rest) where

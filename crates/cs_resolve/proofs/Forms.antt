@@ -1,14 +1,15 @@
 -- Samples of every form of tree and of every limit, worked by the definitions. A wrong expectation stops the check here.
 use Rattle.std.proofs.Common.{◌≡◌, ℕ, ◌-◌, ◌^◌, true, false, List, [], ◌∷◌, map, Option, Some, None, pos, neg_ℤ, codes, inl, inr, refl, arith}
-use Rattle.cs_grammar.specs.Tree.{Label, Tree, top, bottom, null, boolean, integer, text, named, reference, bound, not_integer, not_text, not_null, meet, join, paren, struct, list, none, more, no_field, field, closed, any, each, DefinitionTree, definition, FileTree, file}
-use Rattle.cs_grammar.specs.declared.ast.Relation.TheVariants.{Less, AtMost, More, AtLeast}
+use Rattle.cs_grammar.specs.Tree.{Label, Tree, atom, named, reference, conjunction, disjunction, paren, struct, list, none, more, no_field, field, closed, any, each, DefinitionTree, definition, FileTree, file}
+use Rattle.cs_grammar.specs.Atom as atoms
+use Rattle.cs_grammar.specs.Atom.{top, bottom, null, boolean, integer, text, bound, not_integer, not_text, not_null}
 use Rattle.cs_grammar.specs.declared.ast.FieldMark.TheVariants.{Regular, Optional, Required}
 use Rattle.cs_package.specs.Expression as cue
 use Rattle.cs_package.specs.Expression.{Expression, Expressions, Declarations}
 use Rattle.cs_package.specs.View.{expressions_of}
 use Rattle.cs_resolve.specs.Declarations.{distinct, bodies_of, faults_of_files}
 use Rattle.cs_resolve.specs.Offsets.{StandsBefore}
-use Rattle.cs_resolve.specs.Opening.{holds, Literal, literals, conjunctions, asks, unopened, unopened_files}
+use Rattle.cs_resolve.specs.Opening.{has_literal_or_reference, Literal, literals, conjunctions, demands_open, unopened, unopened_files}
 use Rattle.cs_resolve.specs.PackageName.{differing_file}
 use Rattle.cs_resolve.specs.Predeclared.{predeclared}
 use Rattle.cs_resolve.specs.Resolved.{resolved}
@@ -29,14 +30,14 @@ quoted_a = record { text = codes "a"; quotes = true }
 -- the forms that have no expression inside, in the order of the grammar
 abbrev leaves : List Tree
 leaves =
-    top ∷ bottom ∷ null ∷ boolean true ∷ integer (pos 1) ∷ text (codes "s") ∷ named (codes "int") 4 ∷ reference (codes "A") 5
-    ∷ bound More (pos 1) ∷ not_integer (pos 1) ∷ not_text (codes "s") ∷ not_null ∷ []
+    atom top ∷ atom bottom ∷ atom null ∷ atom (boolean true) ∷ atom (integer (pos 1)) ∷ atom (text (codes "s")) ∷ named (codes "int") 4 ∷ reference (codes "A") 5
+    ∷ atom (bound atoms.more (pos 1)) ∷ atom (not_integer (pos 1)) ∷ atom (not_text (codes "s")) ∷ atom not_null ∷ []
 
 -- the forms that have: `_ & e`, `_ | e`, `(e)`, `{a: e}`, `{b: _, a: e, ...}`, `[_, e]`, `[e, ...]` and `[...e]`
 abbrev around : Tree → List Tree
 around e =
-    meet (more top (more e none)) ∷ join (more top (more e none)) ∷ paren e ∷ struct 1 (field a Regular e no_field) false
-    ∷ struct 1 (field b Optional top (field a Required e no_field)) true ∷ list (more top (more e none)) closed
+    conjunction (more (atom top) (more e none)) ∷ disjunction (more (atom top) (more e none)) ∷ paren e ∷ struct 1 (field a Regular e no_field) false
+    ∷ struct 1 (field b Optional (atom top) (field a Required e no_field)) true ∷ list (more (atom top) (more e none)) closed
     ∷ list (more e none) any ∷ list none (each e) ∷ []
 
 -- `{}`
@@ -79,7 +80,7 @@ nodes_of_leaves : map nodes leaves ≡ 1 ∷ 1 ∷ 1 ∷ 1 ∷ 1 ∷ 1 ∷ 1 ∷
 nodes_of_leaves = refl
 
 -- a parenthesis is none, and nor is the bare `...` of a list
-nodes_of_forms : map nodes (around null) ≡ 3 ∷ 3 ∷ 1 ∷ 2 ∷ 3 ∷ 3 ∷ 2 ∷ 2 ∷ []
+nodes_of_forms : map nodes (around (atom null)) ≡ 3 ∷ 3 ∷ 1 ∷ 2 ∷ 3 ∷ 3 ∷ 2 ∷ 2 ∷ []
 nodes_of_forms = refl
 
 nodes_of_empty : map nodes (empty ∷ list none closed ∷ list none any ∷ []) ≡ 1 ∷ 1 ∷ 1 ∷ []
@@ -88,17 +89,17 @@ nodes_of_empty = refl
 -- ---- the opening rule
 
 -- a reference alone among the leaves isn't plain
-holds_of_leaves : map holds leaves ≡ false ∷ false ∷ false ∷ false ∷ false ∷ false ∷ false ∷ true ∷ false ∷ false ∷ false ∷ false ∷ []
+holds_of_leaves : map has_literal_or_reference leaves ≡ false ∷ false ∷ false ∷ false ∷ false ∷ false ∷ false ∷ true ∷ false ∷ false ∷ false ∷ false ∷ []
 holds_of_leaves = refl
 
 -- a struct literal isn't plain, and the other forms are where what is inside is
-holds_of_plain : map holds (around null) ≡ false ∷ false ∷ false ∷ true ∷ true ∷ false ∷ false ∷ false ∷ []
+holds_of_plain : map has_literal_or_reference (around (atom null)) ≡ false ∷ false ∷ false ∷ true ∷ true ∷ false ∷ false ∷ false ∷ []
 holds_of_plain = refl
 
-holds_of_reference : map holds (around (reference (codes "A") 5)) ≡ true ∷ true ∷ true ∷ true ∷ true ∷ true ∷ true ∷ true ∷ []
+holds_of_reference : map has_literal_or_reference (around (reference (codes "A") 5)) ≡ true ∷ true ∷ true ∷ true ∷ true ∷ true ∷ true ∷ true ∷ []
 holds_of_reference = refl
 
-holds_of_empty : map holds (empty ∷ list none closed ∷ list none any ∷ []) ≡ true ∷ false ∷ false ∷ []
+holds_of_empty : map has_literal_or_reference (empty ∷ list none closed ∷ list none any ∷ []) ≡ true ∷ false ∷ false ∷ []
 holds_of_empty = refl
 
 literals_of_leaves : map literals leaves ≡ [] ∷ [] ∷ [] ∷ [] ∷ [] ∷ [] ∷ [] ∷ [] ∷ [] ∷ [] ∷ [] ∷ [] ∷ []
@@ -121,34 +122,34 @@ conjunctions_of_leaves = refl
 
 -- `null & 1`
 abbrev both : Tree
-both = meet (more null (more (integer (pos 1)) none))
+both = conjunction (more (atom null) (more (atom (integer (pos 1))) none))
 
 abbrev inner : List Tree
-inner = null ∷ integer (pos 1) ∷ []
+inner = atom null ∷ atom (integer (pos 1)) ∷ []
 
 -- inside each form; a literal has one for each field, of the values of its label
 conjunctions_of_forms : map conjunctions (around both)
-    ≡ ((top ∷ both ∷ []) ∷ inner ∷ []) ∷ (inner ∷ []) ∷ (inner ∷ []) ∷ ((both ∷ []) ∷ inner ∷ []) ∷ ((top ∷ []) ∷ (both ∷ []) ∷ inner ∷ []) ∷ (inner ∷ []) ∷ (inner ∷ []) ∷ (inner ∷ []) ∷ []
+    ≡ ((atom top ∷ both ∷ []) ∷ inner ∷ []) ∷ (inner ∷ []) ∷ (inner ∷ []) ∷ ((both ∷ []) ∷ inner ∷ []) ∷ ((atom top ∷ []) ∷ (both ∷ []) ∷ inner ∷ []) ∷ (inner ∷ []) ∷ (inner ∷ []) ∷ (inner ∷ []) ∷ []
 conjunctions_of_forms = refl
 
 -- `{a: null, b: _, "a": 1}`: the values of `a` are joined, and those of `b` are one
-conjunctions_of_labels : conjunctions (struct 0 (field a Regular null (field b Regular top (field quoted_a Regular (integer (pos 1)) no_field))) false) ≡ inner ∷ (top ∷ []) ∷ inner ∷ []
+conjunctions_of_labels : conjunctions (struct 0 (field a Regular (atom null) (field b Regular (atom top) (field quoted_a Regular (atom (integer (pos 1))) no_field))) false) ≡ inner ∷ (atom top ∷ []) ∷ inner ∷ []
 conjunctions_of_labels = refl
 
 -- a conjunction asks from the second operand on that isn't plain
-asks_of_operands : map asks ([] ∷ (empty ∷ []) ∷ (empty ∷ null ∷ top ∷ []) ∷ (empty ∷ null ∷ empty ∷ []) ∷ (reference (codes "A") 5 ∷ reference (codes "A") 9 ∷ []) ∷ (empty ∷ empty ∷ empty ∷ []) ∷ [])
+demands_open_of_operands : map demands_open ([] ∷ (empty ∷ []) ∷ (empty ∷ atom null ∷ atom top ∷ []) ∷ (empty ∷ atom null ∷ empty ∷ []) ∷ (reference (codes "A") 5 ∷ reference (codes "A") 9 ∷ []) ∷ (empty ∷ empty ∷ empty ∷ []) ∷ [])
     ≡ false ∷ false ∷ false ∷ true ∷ true ∷ true ∷ []
-asks_of_operands = refl
+demands_open_of_operands = refl
 
 -- where a conjunction around them asks, the literals that don't end with `...`, in order
-unopened_where_asked : map (unopened true) (around empty) ≡ (7 ∷ []) ∷ (7 ∷ []) ∷ (7 ∷ []) ∷ (1 ∷ 7 ∷ []) ∷ (7 ∷ []) ∷ (7 ∷ []) ∷ (7 ∷ []) ∷ (7 ∷ []) ∷ []
-unopened_where_asked = refl
+unopened_where_demanded : map (unopened true) (around empty) ≡ (7 ∷ []) ∷ (7 ∷ []) ∷ (7 ∷ []) ∷ (1 ∷ 7 ∷ []) ∷ (7 ∷ []) ∷ (7 ∷ []) ∷ (7 ∷ []) ∷ (7 ∷ []) ∷ []
+unopened_where_demanded = refl
 
 unopened_elsewhere : map (unopened false) (around empty) ≡ [] ∷ [] ∷ [] ∷ [] ∷ [] ∷ [] ∷ [] ∷ [] ∷ []
 unopened_elsewhere = refl
 
 -- `#A: 1` in one file, and `#A: {}`, `#B: {}` and `#A: #B` in the next: the literal of #A, in the file at number 1
-literal_in_file_1 : unopened_files (file_of (definition (codes "A") 0 null ∷ []) ∷ file_of (definition (codes "A") 0 empty ∷ definition (codes "B") 10 (struct 14 no_field false) ∷ definition (codes "A") 17 (reference (codes "B") 21) ∷ []) ∷ []) ≡ (1, 7) ∷ []
+literal_in_file_1 : unopened_files (file_of (definition (codes "A") 0 (atom null) ∷ []) ∷ file_of (definition (codes "A") 0 empty ∷ definition (codes "B") 10 (struct 14 no_field false) ∷ definition (codes "A") 17 (reference (codes "B") 21) ∷ []) ∷ []) ≡ (1, 7) ∷ []
 literal_in_file_1 = refl
 
 -- ---- scopes
@@ -175,7 +176,7 @@ the_innermost : innermost (codes "a") ((b ∷ []) ∷ (a ∷ []) ∷ (b ∷ a �
 the_innermost = refl
 
 -- `int` and `#A`, where #A is declared, are no faults
-no_faults : faults (codes "B" ∷ codes "A" ∷ []) (places [] (meet (more (named (codes "int") 4) (more (reference (codes "A") 10) none)))) ≡ []
+no_faults : faults (codes "B" ∷ codes "A" ∷ []) (places [] (conjunction (more (named (codes "int") 4) (more (reference (codes "A") 10) none)))) ≡ []
 no_faults = refl
 
 -- `#A: x` and `#A: [#B, {a: a}]` in the second file: three faults, in order
@@ -186,22 +187,22 @@ faults_in_order = refl
 -- ---- what is resolved
 
 resolved_leaves : map resolved leaves
-    ≡ cue.top ∷ cue.bottom ∷ cue.null ∷ cue.boolean true ∷ cue.integer (pos 1) ∷ cue.text (codes "s") ∷ cue.kind cue.int ∷ cue.reference (codes "A")
-    ∷ cue.bound cue.more (pos 1) ∷ cue.not_integer (pos 1) ∷ cue.not_text (codes "s") ∷ cue.not_null ∷ []
+    ≡ cue.atom cue.top ∷ cue.atom cue.bottom ∷ cue.atom cue.null ∷ cue.atom (cue.boolean true) ∷ cue.atom (cue.integer (pos 1)) ∷ cue.atom (cue.text (codes "s")) ∷ cue.kind cue.int ∷ cue.reference (codes "A")
+    ∷ cue.atom (cue.bound cue.more (pos 1)) ∷ cue.atom (cue.not_integer (pos 1)) ∷ cue.atom (cue.not_text (codes "s")) ∷ cue.atom cue.not_null ∷ []
 resolved_leaves = refl
 
 abbrev two : Expressions
-two = expressions_of (cue.top ∷ cue.null ∷ [])
+two = expressions_of (cue.atom cue.top ∷ cue.atom cue.null ∷ [])
 
 -- a parenthesis is dropped
-resolved_forms : map resolved (around null)
-    ≡ cue.conjunction two ∷ cue.disjunction two ∷ cue.null ∷ cue.struct (cue.declaration (codes "a") cue.regular cue.null cue.no_declarations) false
-    ∷ cue.struct (cue.declaration (codes "b") cue.optional cue.top (cue.declaration (codes "a") cue.required cue.null cue.no_declarations)) true
-    ∷ cue.list two cue.closed ∷ cue.list (expressions_of (cue.null ∷ [])) cue.any ∷ cue.list cue.no_expressions (cue.each cue.null) ∷ []
+resolved_forms : map resolved (around (atom null))
+    ≡ cue.conjunction two ∷ cue.disjunction two ∷ cue.atom cue.null ∷ cue.struct (cue.declaration (codes "a") cue.regular (cue.atom cue.null) cue.no_declarations) false
+    ∷ cue.struct (cue.declaration (codes "b") cue.optional (cue.atom cue.top) (cue.declaration (codes "a") cue.required (cue.atom cue.null) cue.no_declarations)) true
+    ∷ cue.list two cue.closed ∷ cue.list (expressions_of (cue.atom cue.null ∷ [])) cue.any ∷ cue.list cue.no_expressions (cue.each (cue.atom cue.null)) ∷ []
 resolved_forms = refl
 
-resolved_bounds : map (λ r. resolved (bound r (pos 5))) (Less ∷ AtMost ∷ More ∷ AtLeast ∷ [])
-    ≡ cue.bound cue.less (pos 5) ∷ cue.bound cue.at_most (pos 5) ∷ cue.bound cue.more (pos 5) ∷ cue.bound cue.at_least (pos 5) ∷ []
+resolved_bounds : map (λ r. resolved (atom (bound r (pos 5)))) (atoms.less ∷ atoms.at_most ∷ atoms.more ∷ atoms.at_least ∷ [])
+    ≡ cue.atom (cue.bound cue.less (pos 5)) ∷ cue.atom (cue.bound cue.at_most (pos 5)) ∷ cue.atom (cue.bound cue.more (pos 5)) ∷ cue.atom (cue.bound cue.at_least (pos 5)) ∷ []
 resolved_bounds = refl
 
 -- ---- names and files
@@ -212,8 +213,8 @@ each_once : map distinct ([] ∷ (codes "A" ∷ codes "A" ∷ []) ∷ (codes "B"
 each_once = refl
 
 -- `#A: null`, `#B: _`, `#A: 1`
-bodies_of_each : map (λ n. bodies_of n (definition (codes "A") 0 null ∷ definition (codes "B") 9 top ∷ definition (codes "A") 15 (integer (pos 1)) ∷ [])) (codes "A" ∷ codes "B" ∷ codes "C" ∷ [])
-    ≡ (null ∷ integer (pos 1) ∷ []) ∷ (top ∷ []) ∷ [] ∷ []
+bodies_of_each : map (λ n. bodies_of n (definition (codes "A") 0 (atom null) ∷ definition (codes "B") 9 (atom top) ∷ definition (codes "A") 15 (atom (integer (pos 1))) ∷ [])) (codes "A" ∷ codes "B" ∷ codes "C" ∷ [])
+    ≡ (atom null ∷ atom (integer (pos 1)) ∷ []) ∷ (atom top ∷ []) ∷ [] ∷ []
 bodies_of_each = refl
 
 -- files with these names in their package clauses

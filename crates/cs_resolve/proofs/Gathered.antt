@@ -15,7 +15,7 @@ use Rattle.cs_resolve.specs.Resolved.{resolved, environment_of_files}
 use Rattle.cs_resolve.specs.Steps.{gathered, AreBodiesOf, IsShapeOf}
 use Rattle.cs_package.specs.View.{bodies_of, expression_of, is_known, names_of}
 use Rattle.cs_package.specs.declared.shape.Shape.{Shape}
-use Rattle.cs_package.proofs.Environments.{all-at, bytes_eq-refl, bytes_eq-flip, apart}
+use Rattle.cs_package.proofs.Environments.{all-at, bytes_eq-refl, bytes_eq-sym, apart}
 
 abbrev seen : List (List ℕ) → Vec Shape Global → List Expression
 seen ns v = map (expression_of ns) v.items
@@ -59,7 +59,7 @@ module _ (s : List ℕ) (o : ℕ) (t : Tree) (ds : List DefinitionTree) where
       let other = subst (λ m. AllByRecursion (λ y. bytes_eq m y ≡ false) ns) same (IsDistinct-head bytes_eq n ns d) in
       ap₂ (λ xs rest. xs ∷ rest) (ap (λ xs. xs ++ resolved t ∷ []) (sym (same_Some (found ds n) es has)) ∙ sym (bodies-own n same)) (sym (gathered-same ns other))
   gathered-more (n ∷ ns) (suc i) es d at has =
-      let other = bytes_eq-flip n s (apart n s i ns (IsDistinct-head bytes_eq n ns d) at) in
+      let other = bytes_eq-sym s n ∙ apart n s i ns (IsDistinct-head bytes_eq n ns d) at in
       ap₂ (λ xs rest. xs ∷ rest) (sym (bodies-same n other)) (gathered-more ns i es (IsDistinct-tail bytes_eq n ns d) at has)
 
 -- a text that the table has not differs from each of its names

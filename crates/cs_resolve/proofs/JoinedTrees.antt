@@ -7,13 +7,13 @@ use Rattle.cs_grammar.specs.Source.{IsSpelledBy}
 use Rattle.cs_grammar.specs.Tree as T
 use Rattle.cs_grammar.specs.Tree.{Label, Tree, Trees, Fields, End, DefinitionTree, defined_name, body, FileTree, definitions}
 use Rattle.cs_grammar.specs.Words.{Words}
-use Rattle.cs_grammar.specs.Spells.{is_null, literal_of, SpellsBound, limit_is, other_number, other_text, other_null, SpellsValue, long, short, SpellsField, labelled, SpellsExpr, one_conj, joined, SpellsBars, no_bar, a_bar, SpellsConj, one_operand, met, SpellsAmps, no_amp, an_amp, SpellsOperand, top_is, bottom_is, reference_is, name_is, number_is, text_is, bound_is, paren_is, struct_is, list_is, SpellsStruct, no_fields, dots_alone, fields, SpellsFields, no_more_fields, next_field, SpellsList, no_elements, rest_alone, elements, SpellsElements, no_more_elements, next_element, SpellsEnd, closed_is, rest_is, SpellsRest, any_is, each_is, SpellsDefinition, defined, SpellsDefinitions, no_definition, next_definition, SpellsFile, spelled}
+use Rattle.cs_grammar.specs.Spells.{is_null, literal_of, SpellsBound, limit_is, other_number, other_text, other_null, SpellsValue, long, short, SpellsField, labelled, SpellsExpr, one_conj, disjunction_is, SpellsBars, no_bar, a_bar, SpellsConj, one_operand, conjunction_is, SpellsAmps, no_amp, an_amp, SpellsOperand, top_is, bottom_is, reference_is, name_is, number_is, text_is, bound_is, paren_is, struct_is, list_is, SpellsStruct, no_fields, dots_alone, fields, SpellsFields, no_more_fields, next_field, SpellsList, no_elements, rest_alone, elements, SpellsElements, no_more_elements, next_element, SpellsEnd, closed_is, rest_is, SpellsRest, any_is, each_is, SpellsDefinition, defined, SpellsDefinitions, no_definition, next_definition, SpellsFile, spelled}
 use Rattle.cs_grammar.specs.declared.ast.FieldMark.{FieldMark}
 use Rattle.cs_package.specs.Expression as cue
 use Rattle.cs_package.specs.Expression.{Expression}
-use Rattle.cs_package.specs.Joined.{IsJoined, AreJoined, AreJoinedUnder, IsJoinedRest}
+use Rattle.cs_package.specs.Joined.{IsJoined, AreJoined, AreJoinedFields, IsJoinedRest}
 use Rattle.cs_resolve.specs.Predeclared as Predeclared
-use Rattle.cs_resolve.specs.Resolved.{resolved, resolved_all, resolved_under, resolved_end, AreSpelled}
+use Rattle.cs_resolve.specs.Resolved.{resolved, resolved_all, resolved_fields, resolved_end, AreSpelled}
 use Rattle.cs_resolve.specs.Steps.{gathered}
 
 -- ---- names
@@ -28,7 +28,7 @@ Joined t = IsJoined (resolved t)
 
 -- the expression of a name, with what stands for none
 abbrev OrBottom : Option Expression → Type 0
-OrBottom o = IsJoined (unwrap_or o cue.bottom)
+OrBottom o = IsJoined (unwrap_or o (cue.atom cue.bottom))
 
 among : (t : List ℕ) (ns : List (List ℕ × Expression)) → AllByRecursion (λ n. IsJoined n.1) ns → OrBottom (Predeclared.among t ns)
 among t [] h = tt
@@ -37,7 +37,7 @@ among t (n ∷ ns) h = either OrBottom (bytes_eq t n.0) (Some n.1) (Predeclared.
 all_names : AllByRecursion (λ n. IsJoined n.1) Predeclared.names
 all_names = (tt, (tt, (tt, (tt, (tt, (tt, (tt, (tt, (tt, (tt, (tt, (tt, tt))))))))))))
 
-literal : (s : List ℕ) (o : ℕ) (a b c : Bool) → Joined (unwrap_or (cond a (Some T.null) (cond b (Some (T.boolean true)) (cond c (Some (T.boolean false)) None))) (T.named s o))
+literal : (s : List ℕ) (o : ℕ) (a b c : Bool) → Joined (unwrap_or (cond a (Some (T.atom T.null)) (cond b (Some (T.atom (T.boolean true))) (cond c (Some (T.atom (T.boolean false))) None))) (T.named s o))
 literal s o true b c = tt
 literal s o false true c = tt
 literal s o false false true = tt
@@ -64,7 +64,7 @@ mutual
 
   of_expr : {e : Tree} {ts r : Words} → SpellsExpr e ts r → Joined e
   of_expr (one_conj c) = of_conj c
-  of_expr (joined c b) = (tt, (of_conj c, of_bars b))
+  of_expr (disjunction_is c b) = (tt, (of_conj c, of_bars b))
 
   of_bars : {es : Trees} {ts r : Words} → SpellsBars es ts r → AreJoined (resolved_all es)
   of_bars no_bar = tt
@@ -72,7 +72,7 @@ mutual
 
   of_conj : {e : Tree} {ts r : Words} → SpellsConj e ts r → Joined e
   of_conj (one_operand o) = of_operand o
-  of_conj (met o a) = (tt, (of_operand o, of_amps a))
+  of_conj (conjunction_is o a) = (tt, (of_operand o, of_amps a))
 
   of_amps : {es : Trees} {ts r : Words} → SpellsAmps es ts r → AreJoined (resolved_all es)
   of_amps no_amp = tt
@@ -90,12 +90,12 @@ mutual
   of_operand (struct_is s) = of_struct s
   of_operand (list_is l) = of_list l
 
-  of_struct : {fs : Fields} {b : Bool} {ts r : Words} → SpellsStruct fs b ts r → AreJoinedUnder (resolved_under fs)
+  of_struct : {fs : Fields} {b : Bool} {ts r : Words} → SpellsStruct fs b ts r → AreJoinedFields (resolved_fields fs)
   of_struct no_fields = tt
   of_struct (dots_alone c) = tt
   of_struct (fields f fs o) = (of_field f, of_fields fs)
 
-  of_fields : {fs : Fields} {ts r : Words} → SpellsFields fs ts r → AreJoinedUnder (resolved_under fs)
+  of_fields : {fs : Fields} {ts r : Words} → SpellsFields fs ts r → AreJoinedFields (resolved_fields fs)
   of_fields no_more_fields = tt
   of_fields (next_field c f fs) = (of_field f, of_fields fs)
 

@@ -5,10 +5,10 @@ pub mod Trees
 pub mod Refusals
 pub mod RepeatTables
 pub mod Elements
-pub mod ToldLiterals
+pub mod UnopenedLiterals
 pub mod OpeningRule
 pub mod Sums
-pub mod Rests
+pub mod DefinedNames
 pub mod Spellings
 pub mod JoinedTrees
 pub mod Order
@@ -22,4 +22,4 @@ pub mod NameTables
 pub mod WordOrder
 pub mod MarkOrder
 pub mod PickedOffsets
-pub mod ToldOffsets
+pub mod FaultOffsets

@@ -4,7 +4,7 @@ use Rattle.std.specs.List.{flat_map}
 use Rattle.std.specs.Str.{bytes_eq}
 use Rattle.std.proofs.lemmas.Bool.Decides.{nat_tests}
 use Rattle.std.proofs.lemmas.List.Sums.{sum_by-cons}
-use Rattle.cs_grammar.specs.Tree.{top, meet, Trees, none, more, DefinitionTree, definition, defined_name, body, FileTree, file, definitions}
+use Rattle.cs_grammar.specs.Tree.{atom, top, conjunction, Trees, none, more, DefinitionTree, definition, defined_name, body, FileTree, file, definitions}
 use Rattle.cs_resolve.specs.Declarations.{distinct, names}
 use Rattle.cs_resolve.specs.Resolved.{IsSmall}
 use Rattle.cs_resolve.specs.Size.{nodes, nodes_all, nodes_of_definitions, nodes_of_files}
@@ -14,7 +14,7 @@ use Rattle.cs_resolve.specs.Size.{nodes, nodes_all, nodes_of_definitions, nodes_
 -- so many operands
 wide : ℕ → Trees
 wide zero = none
-wide (suc n) = more top (wide n)
+wide (suc n) = more (atom top) (wide n)
 
 nodes_wide : (n : ℕ) → nodes_all (wide n) ≡ n
 unfolding wide
@@ -23,7 +23,7 @@ nodes_wide (suc n) = let k = nodes_wide n in omega arith
 
 -- `#A: _ & _ & ..`, which has n + 1 nodes
 of_operands : ℕ → List FileTree
-of_operands n = file None (definition (codes "A") 0 (meet (wide n)) ∷ []) ∷ []
+of_operands n = file None (definition (codes "A") 0 (conjunction (wide n)) ∷ []) ∷ []
 
 nodes_of_operands : (n : ℕ) → nodes_of_files (of_operands n) ≡ n + 1
 unfolding of_operands
@@ -41,7 +41,7 @@ nodes_above_it h = let k = nodes_of_operands 50000 in let le = h.nodes in omega 
 -- so many definitions, each of a name of its own
 many : ℕ → List DefinitionTree
 many zero = []
-many (suc n) = definition (n ∷ []) 0 top ∷ many n
+many (suc n) = definition (n ∷ []) 0 (atom top) ∷ many n
 
 abbrev names_of_many : ℕ → List (List ℕ)
 names_of_many n = map defined_name (many n)
@@ -68,7 +68,7 @@ long_many (suc n) = let k = long_many n in omega arith
 nodes_of_many : (n : ℕ) → nodes_of_definitions (many n) ≡ n
 unfolding many
 nodes_of_many zero = refl
-nodes_of_many (suc n) = let more = sum_by-cons (λ (d : DefinitionTree). nodes (body d)) (definition (n ∷ []) 0 top) (many n) in more ∙ ap (λ k. 1 + k) (nodes_of_many n) ∙ omega arith
+nodes_of_many (suc n) = let more = sum_by-cons (λ (d : DefinitionTree). nodes (body d)) (definition (n ∷ []) 0 (atom top)) (many n) in more ∙ ap (λ k. 1 + k) (nodes_of_many n) ∙ omega arith
 
 of_definitions : ℕ → List FileTree
 of_definitions n = file None (many n) ∷ []

@@ -9,8 +9,8 @@ use Rattle.cs_grammar.specs.declared.ast.Expr.{Expr}
 use Rattle.cs_grammar.specs.declared.ast.Field.{Field}
 use Rattle.cs_package.specs.Expression as cue
 use Rattle.cs_package.specs.Expression.{Expression, Declaration}
-use Rattle.cs_resolve.specs.Resolved.{resolved, resolved_all, resolved_under}
-use Rattle.cs_resolve.specs.Scopes.{places, places_all, places_in}
+use Rattle.cs_resolve.specs.Resolved.{resolved, resolved_all, resolved_fields}
+use Rattle.cs_resolve.specs.Scopes.{places, places_all, places_fields}
 use Rattle.cs_resolve.specs.Steps.{faults_in, IsNameRefusal}
 use Rattle.cs_package.specs.View.{mark_of, expression_of, expressions_of, part_of, declarations_of, is_known, is_known_part}
 use Rattle.cs_resolve.specs.declared.fault.ResolveFault.{ResolveFault}
@@ -76,9 +76,9 @@ module _ (file : ℕ) (ns : List (List ℕ)) (scopes : List (List Label)) where
 
   abbrev pub of_fields : Making Field Part (Declaration Expression)
   of_fields = record {
-    found = λ fs. faults_in file ns (places_in scopes (fields_view fs));
+    found = λ fs. faults_in file ns (places_fields scopes (fields_view fs));
     found_at = λ f. faults_in file ns (places scopes (field_view f).value);
-    parts = λ f fs. faults_in-append file ns (places scopes (field_view f).value) (places_in scopes (fields_view fs));
+    parts = λ f fs. faults_in-append file ns (places scopes (field_view f).value) (places_fields scopes (fields_view fs));
     none = refl;
     seen = part_of ns;
     meant = declared;
@@ -89,7 +89,7 @@ pub all_resolved : (es : List Expr) → expressions_of (map (λ e. resolved (exp
 all_resolved [] = refl
 all_resolved (e ∷ es) = ap (cue.expression (resolved (expr_view e))) (all_resolved es)
 
-pub all_declared : (fs : List Field) → declarations_of (map declared fs) ≡ resolved_under (fields_view fs)
+pub all_declared : (fs : List Field) → declarations_of (map declared fs) ≡ resolved_fields (fields_view fs)
 all_declared [] = refl
 all_declared (f ∷ fs) = ap (cue.declaration (field_view f).label.text (mark_of (field_view f).mark) (resolved (field_view f).value)) (all_declared fs)
 

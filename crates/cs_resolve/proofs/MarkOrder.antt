@@ -5,12 +5,12 @@ use Rattle.std.specs.Option.{unwrap_or}
 use Rattle.std.specs.Str.{bytes_eq}
 use Rattle.std.specs.Prelude.{codes}
 use Rattle.cs_grammar.specs.Source.{IsSpelledBy}
-use Rattle.cs_grammar.specs.Tree.{Label, Tree, null, boolean, named, reference, meet, join, paren, struct, list, Trees, none, more, Fields, no_field, field, End, closed, any, each, DefinitionTree, body, FileTree, definitions}
+use Rattle.cs_grammar.specs.Tree.{Label, Tree, atom, null, boolean, named, reference, conjunction, disjunction, paren, struct, list, Trees, none, more, Fields, no_field, field, End, closed, any, each, DefinitionTree, body, FileTree, definitions}
 use Rattle.cs_grammar.specs.Words as W
 use Rattle.cs_grammar.specs.Words.{Words}
-use Rattle.cs_grammar.specs.Spells.{is_null, literal_of, start_at, SpellsBound, limit_is, other_number, other_text, other_null, SpellsLabel, bare_label, quoted_label, SpellsValue, long, short, SpellsField, labelled, SpellsExpr, one_conj, joined, SpellsBars, no_bar, a_bar, SpellsConj, one_operand, met, SpellsAmps, no_amp, an_amp, SpellsOperand, top_is, bottom_is, reference_is, name_is, number_is, text_is, bound_is, paren_is, struct_is, list_is, SpellsStruct, no_fields, dots_alone, fields, SpellsFields, no_more_fields, next_field, SpellsList, no_elements, rest_alone, elements, SpellsElements, no_more_elements, next_element, SpellsEnd, closed_is, rest_is, SpellsRest, any_is, each_is, SpellsDefinition, defined, SpellsDefinitions, no_definition, next_definition, SpellsFile, spelled}
+use Rattle.cs_grammar.specs.Spells.{is_null, literal_of, start_at, SpellsBound, limit_is, other_number, other_text, other_null, SpellsLabel, bare_label, quoted_label, SpellsValue, long, short, SpellsField, labelled, SpellsExpr, one_conj, disjunction_is, SpellsBars, no_bar, a_bar, SpellsConj, one_operand, conjunction_is, SpellsAmps, no_amp, an_amp, SpellsOperand, top_is, bottom_is, reference_is, name_is, number_is, text_is, bound_is, paren_is, struct_is, list_is, SpellsStruct, no_fields, dots_alone, fields, SpellsFields, no_more_fields, next_field, SpellsList, no_elements, rest_alone, elements, SpellsElements, no_more_elements, next_element, SpellsEnd, closed_is, rest_is, SpellsRest, any_is, each_is, SpellsDefinition, defined, SpellsDefinitions, no_definition, next_definition, SpellsFile, spelled}
 use Rattle.cs_grammar.specs.declared.ast.FieldMark.{FieldMark}
-use Rattle.cs_resolve.proofs.Rests.{IsRest, whole, behind, of_comma, of_paren, of_list_end, of_struct_end, of_number, of_mark, of_opening, of_package}
+use Rattle.cs_grammar.proofs.Rests.{IsRest, whole, behind, of_comma, of_paren, of_list_end, of_struct_end, of_number, of_mark, of_opening, of_package}
 use Rattle.cs_resolve.proofs.WordOrder.{From, at_least, past, tail, from_cut}
 
 -- ---- marks
@@ -20,8 +20,8 @@ abbrev mutual
   pub marks : Tree → List ℕ
   marks (named t o) = o ∷ []
   marks (reference t o) = o ∷ []
-  marks (meet es) = marks_all es
-  marks (join es) = marks_all es
+  marks (conjunction es) = marks_all es
+  marks (disjunction es) = marks_all es
   marks (paren e) = marks e
   marks (struct o fs b) = o ∷ marks_in fs
   marks (list es end) = marks_all es ++ marks_end end
@@ -105,7 +105,7 @@ of_label quoted_label h = record { at = at_least h; follows = past h }
 of_name : (s : List ℕ) (p o : ℕ) (r : Words) → From o (W.name s p ∷ r) → Spans o (marks (unwrap_or (literal_of s) (named s p))) r
 of_name s p o r h = by (is_null s) (bytes_eq s (codes "true")) (bytes_eq s (codes "false"))
   where
-    by : (a b c : Bool) → Spans o (marks (unwrap_or (cond a (Some null) (cond b (Some (boolean true)) (cond c (Some (boolean false)) None))) (named s p))) r
+    by : (a b c : Bool) → Spans o (marks (unwrap_or (cond a (Some (atom null)) (cond b (Some (atom (boolean true))) (cond c (Some (atom (boolean false))) None))) (named s p))) r
     by true b c = still (tail h)
     by false true c = still (tail h)
     by false false true = still (tail h)
@@ -127,7 +127,7 @@ mutual
 
   of_expr : {e : Tree} {o : ℕ} {ts r : Words} → SpellsExpr e ts r → From o ts → Spans o (marks e) r
   of_expr (one_conj c) h = of_conj c h
-  of_expr (joined c b) h = both (of_conj c h) (λ p k. of_bars b k)
+  of_expr (disjunction_is c b) h = both (of_conj c h) (λ p k. of_bars b k)
 
   of_bars : {es : Trees} {o : ℕ} {ts r : Words} → SpellsBars es ts r → From o ts → Spans o (marks_all es) r
   of_bars no_bar h = still h
@@ -135,7 +135,7 @@ mutual
 
   of_conj : {e : Tree} {o : ℕ} {ts r : Words} → SpellsConj e ts r → From o ts → Spans o (marks e) r
   of_conj (one_operand c) h = of_operand c h
-  of_conj (met c a) h = both (of_operand c h) (λ p k. of_amps a k)
+  of_conj (conjunction_is c a) h = both (of_operand c h) (λ p k. of_amps a k)
 
   of_amps : {es : Trees} {o : ℕ} {ts r : Words} → SpellsAmps es ts r → From o ts → Spans o (marks_all es) r
   of_amps no_amp h = still h

@@ -4,10 +4,10 @@ use Rattle.std.specs.List.{AllByRecursion, flat_map}
 use Rattle.std.proofs.lemmas.Bool.{cases_lt, lt-ltb, ltb-true, false≢true}
 use Rattle.std.proofs.lemmas.Grind.{flat_map-append}
 use Rattle.cs_grammar.specs.Tree.{Tree, DefinitionTree, defined_name, body, FileTree, definitions}
-use Rattle.cs_resolve.specs.Opening.{holds, Literal, literals, Named, named_bodies, values, conjunctions, all_conjunctions, KeepsRule, IsOpened, IsAsked, IsAskedFor, asks, unopened, unopened_definitions, unopened_from, unopened_files}
+use Rattle.cs_resolve.specs.Opening.{has_literal_or_reference, Literal, literals, Named, named_bodies, values, conjunctions, all_conjunctions, KeepsRule, IsOpened, IsDemanded, IsUnopenedAt, demands_open, unopened, unopened_definitions, unopened_from, unopened_files}
 use Rattle.cs_resolve.proofs.Refusals.{nil_left, nil_right}
 use Rattle.cs_resolve.proofs.Elements.{Has, has_left, has_right, has_cases, has_element, element_of}
-use Rattle.cs_resolve.proofs.ToldLiterals.{IsAt, Lacks, AsksFor, AskedOf, told_of_all, told_of_some}
+use Rattle.cs_resolve.proofs.UnopenedLiterals.{IsAt, Lacks, DemandsOf, DemandedOf, told_of_all, told_of_some}
 
 abbrev IsOpen : Literal → Type 0
 IsOpen l = l.opened ≡ true
@@ -20,19 +20,19 @@ abbrev Keeps : List (List Tree) → Type 0
 Keeps cs = AllByRecursion KeepsRule cs
 
 -- a conjunction that keeps the rule, and one that asks
-kept_by : (es : List Tree) → (asks es ≡ true → Open (flat_map literals es)) → KeepsRule es
-kept_by es h = by (asks es) refl
+kept_by : (es : List Tree) → (demands_open es ≡ true → Open (flat_map literals es)) → KeepsRule es
+kept_by es h = by (demands_open es) refl
   where
-    by : (b : Bool) → asks es ≡ b → KeepsRule es
+    by : (b : Bool) → demands_open es ≡ b → KeepsRule es
     by true e = inr (h e)
-    by false e = inl (few (count_by holds es) e (cases_lt 1 (count_by holds es)))
+    by false e = inl (few (count_by has_literal_or_reference es) e (cases_lt 1 (count_by has_literal_or_reference es)))
       where
         few : (n : ℕ) → nat_lt 1 n ≡ false → (1 < n) ⊎ (n ≤ 1) → n ≤ 1
         few n e (inl many) = absurd (false≢true (sym e ∙ lt-ltb 1 n many))
         few n e (inr le) = le
 
-open_by : (es : List Tree) → KeepsRule es → asks es ≡ true → Open (flat_map literals es)
-open_by es (inl few) e = absurd (let many : 1 < count_by holds es = ltb-true 1 (count_by holds es) e in omega arith)
+open_by : (es : List Tree) → KeepsRule es → demands_open es ≡ true → Open (flat_map literals es)
+open_by es (inl few) e = absurd (let many : 1 < count_by has_literal_or_reference es = ltb-true 1 (count_by has_literal_or_reference es) e in omega arith)
 open_by es (inr h) e = h
 
 -- ---- no literal
@@ -55,11 +55,11 @@ none_open o (l ∷ ls) h (inl k) = false≢true (sym k.1 ∙ h.0)
 none_open o (l ∷ ls) h (inr k) = none_open o ls h.1 k
 
 -- each conjunction keeps the rule just where none asks for a literal
-keeps_none : (cs : List (List Tree)) → ((o : ℕ) → Has (AsksFor o) cs → ⊥) → Keeps cs
+keeps_none : (cs : List (List Tree)) → ((o : ℕ) → Has (DemandsOf o) cs → ⊥) → Keeps cs
 keeps_none [] h = tt
 keeps_none (es ∷ cs) h = (kept_by es (λ e. open_none (flat_map literals es) (λ o l. h o (inl (e, l)))), keeps_none cs (λ o k. h o (inr k)))
 
-none_keeps : (o : ℕ) (cs : List (List Tree)) → Keeps cs → Has (AsksFor o) cs → ⊥
+none_keeps : (o : ℕ) (cs : List (List Tree)) → Keeps cs → Has (DemandsOf o) cs → ⊥
 none_keeps o [] h k = k
 none_keeps o (es ∷ cs) h (inl k) = none_open o (flat_map literals es) (open_by es h.0 k.0) k.1
 none_keeps o (es ∷ cs) h (inr k) = none_keeps o cs h.1 k
@@ -74,7 +74,7 @@ numbered_none i [] h = refl
 numbered_none i (o ∷ os) h = cc
 
 definitions-append : (all : List Named) (ds es : List DefinitionTree) → unopened_definitions all (ds ++ es) ≡ unopened_definitions all ds ++ unopened_definitions all es
-definitions-append all ds es = flat_map-append (λ d. unopened (asks (values (defined_name d) all)) (body d)) ds es
+definitions-append all ds es = flat_map-append (λ d. unopened (demands_open (values (defined_name d) all)) (body d)) ds es
 
 files_none : (i : ℕ) (all : List Named) (fs : List FileTree) → unopened_from i all fs ≡ [] → unopened_definitions all (flat_map definitions fs) ≡ []
 files_none i all [] h = refl
@@ -121,53 +121,53 @@ module _ (i o : ℕ) where
   numbered-from n (p ∷ os) e (inr t) = inr (numbered-from n os e t)
 
   module _ (all : List Named) where
-    told_file : (n : ℕ) (fs : List FileTree) → Has IsPlace (unopened_from n all fs) → (k : ℕ) × (f : FileTree) × (slice_get fs k ≡ Some f) × (n + k ≡ i) × Has (AskedOf o all) (definitions f)
+    told_file : (n : ℕ) (fs : List FileTree) → Has IsPlace (unopened_from n all fs) → (k : ℕ) × (f : FileTree) × (slice_get fs k ≡ Some f) × (n + k ≡ i) × Has (DemandedOf o all) (definitions f)
     told_file n [] t = absurd t
     told_file n (f ∷ fs) t = by (has_cases IsPlace (numbered n (unopened_definitions all (definitions f))) (unopened_from (suc n) all fs) t) (told_file (suc n) fs)
       where
         by : Has IsPlace (numbered n (unopened_definitions all (definitions f))) ⊎ Has IsPlace (unopened_from (suc n) all fs)
-            → (Has IsPlace (unopened_from (suc n) all fs) → (k : ℕ) × (g : FileTree) × (slice_get fs k ≡ Some g) × (suc n + k ≡ i) × Has (AskedOf o all) (definitions g))
-            → (k : ℕ) × (g : FileTree) × (slice_get (f ∷ fs) k ≡ Some g) × (n + k ≡ i) × Has (AskedOf o all) (definitions g)
+            → (Has IsPlace (unopened_from (suc n) all fs) → (k : ℕ) × (g : FileTree) × (slice_get fs k ≡ Some g) × (suc n + k ≡ i) × Has (DemandedOf o all) (definitions g))
+            → (k : ℕ) × (g : FileTree) × (slice_get (f ∷ fs) k ≡ Some g) × (n + k ≡ i) × Has (DemandedOf o all) (definitions g)
         by (inl a) rest = let r = numbered-to n (unopened_definitions all (definitions f)) a in let e = r.0 in (0, f, refl, omega (arith, e), (told_of_some o all (definitions f)).0 r.1)
         by (inr b) rest = let r = rest b in let e = r.3 in (suc r.0, r.1, r.2, omega (arith, e), r.4)
 
-    file_told : (n : ℕ) (fs : List FileTree) (k : ℕ) (f : FileTree) → slice_get fs k ≡ Some f → n + k ≡ i → Has (AskedOf o all) (definitions f) → Has IsPlace (unopened_from n all fs)
+    file_told : (n : ℕ) (fs : List FileTree) (k : ℕ) (f : FileTree) → slice_get fs k ≡ Some f → n + k ≡ i → Has (DemandedOf o all) (definitions f) → Has IsPlace (unopened_from n all fs)
     file_told n [] k f e m a = cc
     file_told n (g ∷ fs) zero f e m a =
         let here = unopened_definitions all (definitions g) in
         let same : f ≡ g = cc in
-        has_left IsPlace (numbered n here) (unopened_from (suc n) all fs) (numbered-from n here (omega (arith, m)) ((told_of_some o all (definitions g)).1 (subst (λ (h : FileTree). Has (AskedOf o all) (definitions h)) same a)))
+        has_left IsPlace (numbered n here) (unopened_from (suc n) all fs) (numbered-from n here (omega (arith, m)) ((told_of_some o all (definitions g)).1 (subst (λ (h : FileTree). Has (DemandedOf o all) (definitions h)) same a)))
     file_told n (g ∷ fs) (suc k) f e m a = has_right IsPlace (numbered n (unopened_definitions all (definitions g))) (unopened_from (suc n) all fs) (file_told (suc n) fs k f e (omega (arith, m)) a)
 
 -- a literal that a definition asks for
-asked-to : (o : ℕ) (ds : List DefinitionTree) (d : DefinitionTree) → AskedOf o (named_bodies ds) d → (l : Literal) × Lacks o l × IsAsked ds d l
-asked-to o ds d (inl a) = let r = element_of (Lacks o) (literals (body d)) a.1 in (r.0, r.2, inl (a.0, r.1))
-asked-to o ds d (inr c) =
-    let r = element_of (AsksFor o) (conjunctions (body d)) c in
+demanded-to : (o : ℕ) (ds : List DefinitionTree) (d : DefinitionTree) → DemandedOf o (named_bodies ds) d → (l : Literal) × Lacks o l × IsDemanded ds d l
+demanded-to o ds d (inl a) = let r = element_of (Lacks o) (literals (body d)) a.1 in (r.0, r.2, inl (a.0, r.1))
+demanded-to o ds d (inr c) =
+    let r = element_of (DemandsOf o) (conjunctions (body d)) c in
     let l = element_of (Lacks o) (flat_map literals r.0) r.2.1 in
     (l.0, l.2, inr (r.1.0, r.0, r.1.1, r.1.2, (r.2.0, l.1)))
 
-asked-from : (o : ℕ) (ds : List DefinitionTree) (d : DefinitionTree) (l : Literal) → Lacks o l → IsAsked ds d l → AskedOf o (named_bodies ds) d
-asked-from o ds d l h (inl a) = inl (a.0, has_element (Lacks o) (literals (body d)) l a.1 h)
-asked-from o ds d l h (inr c) = inr (has_element (AsksFor o) (conjunctions (body d)) c.1 (c.0, c.2, c.3) (c.4.0, has_element (Lacks o) (flat_map literals c.1) l c.4.1 h))
+demanded-from : (o : ℕ) (ds : List DefinitionTree) (d : DefinitionTree) (l : Literal) → Lacks o l → IsDemanded ds d l → DemandedOf o (named_bodies ds) d
+demanded-from o ds d l h (inl a) = inl (a.0, has_element (Lacks o) (literals (body d)) l a.1 h)
+demanded-from o ds d l h (inr c) = inr (has_element (DemandsOf o) (conjunctions (body d)) c.1 (c.0, c.2, c.3) (c.4.0, has_element (Lacks o) (flat_map literals c.1) l c.4.1 h))
 
-pub told_law : (fs : List FileTree) (i o : ℕ) → Contains (unopened_files fs) (i, o) ↔ IsAskedFor fs i o
+pub told_law : (fs : List FileTree) (i o : ℕ) → Contains (unopened_files fs) (i, o) ↔ IsUnopenedAt fs i o
 told_law fs i o = (to, from)
   where
     ds : List DefinitionTree
     ds = flat_map definitions fs
 
-    to : Contains (unopened_files fs) (i, o) → IsAskedFor fs i o
+    to : Contains (unopened_files fs) (i, o) → IsUnopenedAt fs i o
     to c =
         let f = told_file i o (named_bodies ds) 0 fs (has_element (IsPlace i o) (unopened_files fs) (i, o) c refl) in
-        let d = element_of (AskedOf o (named_bodies ds)) (definitions f.1) f.4 in
-        let l = asked-to o ds d.0 d.2 in
+        let d = element_of (DemandedOf o (named_bodies ds)) (definitions f.1) f.4 in
+        let l = demanded-to o ds d.0 d.2 in
         let e = f.3 in
         let same : f.0 ≡ i = omega (arith, e) in
-        record { source = f.1; numbered = subst (λ k. slice_get fs k ≡ Some f.1) same f.2; declared = d.0; in_source = d.1; literal = l.0; at_offset = l.1.0; not_opened = l.1.1; asked = l.2 }
+        record { source = f.1; numbered = subst (λ k. slice_get fs k ≡ Some f.1) same f.2; declared = d.0; in_source = d.1; literal = l.0; at_offset = l.1.0; not_opened = l.1.1; demanded = l.2 }
 
-    from : IsAskedFor fs i o → Contains (unopened_files fs) (i, o)
+    from : IsUnopenedAt fs i o → Contains (unopened_files fs) (i, o)
     from a =
-        let d = has_element (AskedOf o (named_bodies ds)) (definitions a.source) a.declared a.in_source (asked-from o ds a.declared a.literal (a.at_offset, a.not_opened) a.asked) in
+        let d = has_element (DemandedOf o (named_bodies ds)) (definitions a.source) a.declared a.in_source (demanded-from o ds a.declared a.literal (a.at_offset, a.not_opened) a.demanded) in
         let r = element_of (IsPlace i o) (unopened_files fs) (file_told i o (named_bodies ds) 0 fs i a.source a.numbered (omega arith) d) in
         subst (λ p. Contains (unopened_files fs) p) r.2 r.1

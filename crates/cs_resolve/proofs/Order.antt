@@ -4,6 +4,7 @@ use Rattle.std.specs.Str.{bytes_eq}
 use Rattle.std.specs.Map.{keys_of, lookup}
 use Rattle.std.specs.String.{string_eq}
 use Rattle.std.proofs.lemmas.Slice.Eq.{bytes_eq-Decides}
+use Rattle.cs_package.proofs.Environments.{bytes_eq-sym}
 use Rattle.indexmap.specs.IndexMap.{insert_entry}
 use Rattle.cs_resolve.specs.Declarations.{distinct}
 use Rattle.cs_package.specs.View.{names_of}
@@ -26,15 +27,6 @@ put_there t (x ∷ es) h = by (bytes_eq t (string_bytes x.0)) h (put_there t es)
     by : (b : Bool) → is_some (cond b (Some x.1) (lookup (λ k. bytes_eq t (string_bytes k)) es)) ≡ true → (is_some (lookup (λ k. bytes_eq t (string_bytes k)) es) ≡ true → put t (names_of es) ≡ names_of es) → cond b (names_of (x ∷ es)) (string_bytes x.0 ∷ put t (names_of es)) ≡ names_of (x ∷ es)
     by true is later = refl
     by false is later = ap (λ ns. string_bytes x.0 ∷ ns) (later is)
-
-bytes_eq-sym : (x y : List ℕ) → bytes_eq x y ≡ bytes_eq y x
-bytes_eq-sym x y = by (bytes_eq x y) (bytes_eq y x) refl refl
-  where
-    by : (a b : Bool) → bytes_eq x y ≡ a → bytes_eq y x ≡ b → a ≡ b
-    by true true p q = refl
-    by false false p q = refl
-    by true false p q = sym ((bytes_eq-Decides y x).1 (sym ((bytes_eq-Decides x y).0 p))) ∙ q
-    by false true p q = sym p ∙ (bytes_eq-Decides x y).1 (sym ((bytes_eq-Decides y x).0 q))
 
 -- names other than y, after one more was put in
 other : (y n : List ℕ) (ms : List (List ℕ)) → filter (λ m. not (bytes_eq y m)) (put n ms) ≡ cond (bytes_eq n y) (filter (λ m. not (bytes_eq y m)) ms) (put n (filter (λ m. not (bytes_eq y m)) ms))

@@ -2,12 +2,12 @@
 use Rattle.std.proofs.Common.{ℕ, suc, ◌≤◌, Bool, true, false, ◌||◌, List, [], ◌∷◌, ◌++◌, is_some, arith}
 use Rattle.std.specs.List.{list_any}
 use Rattle.std.specs.Str.{bytes_eq}
-use Rattle.cs_grammar.specs.Tree.{Label, Tree, named, reference, meet, join, paren, struct, list, Trees, none, more, Fields, no_field, field, End, closed, any, each, DefinitionTree, body, defined_name}
+use Rattle.cs_grammar.specs.Tree.{Label, Tree, named, reference, conjunction, disjunction, paren, struct, list, Trees, none, more, Fields, no_field, field, End, closed, any, each, DefinitionTree, body, defined_name}
 use Rattle.cs_resolve.specs.Declarations.{places_of}
 use Rattle.cs_resolve.specs.Offsets.{offset}
-use Rattle.cs_resolve.specs.Opening.{Named, named_fields, values, operands, asks, at_fault, unopened, unopened_all, unopened_in, unopened_end, unopened_definitions}
+use Rattle.cs_resolve.specs.Opening.{Named, named_fields, values, operands, demands_open, at_fault, unopened, unopened_all, unopened_fields, unopened_end, unopened_definitions}
 use Rattle.cs_resolve.specs.Predeclared.{predeclared}
-use Rattle.cs_resolve.specs.Scopes.{labels, names_field, Place, a_name, a_reference, places, places_all, places_in, places_end, name_faults, reference_faults, place_faults, faults}
+use Rattle.cs_resolve.specs.Scopes.{labels, names_field, Place, a_name, a_reference, places, places_all, places_fields, places_end, name_faults, reference_faults, place_faults, faults}
 use Rattle.cs_resolve.proofs.MarkOrder.{marks, marks_all, marks_in, marks_end, marks_of, Within}
 
 -- ---- some of the marks
@@ -48,8 +48,8 @@ mutual
   place_picks : (around : List (List Label)) (e : Tree) → Picks at (places around e) (marks e)
   place_picks around (named t o) = taken nothing
   place_picks around (reference t o) = taken nothing
-  place_picks around (meet es) = place_picks_all around es
-  place_picks around (join es) = place_picks_all around es
+  place_picks around (conjunction es) = place_picks_all around es
+  place_picks around (disjunction es) = place_picks_all around es
   place_picks around (paren e) = place_picks around e
   place_picks around (struct o fs b) = left (place_picks_in (labels fs ∷ around) fs)
   place_picks around (list es end) = join_picks at (place_picks_all around es) (place_picks_end around end)
@@ -59,7 +59,7 @@ mutual
   place_picks_all around none = nothing
   place_picks_all around (more e es) = join_picks at (place_picks around e) (place_picks_all around es)
 
-  place_picks_in : (around : List (List Label)) (fs : Fields) → Picks at (places_in around fs) (marks_in fs)
+  place_picks_in : (around : List (List Label)) (fs : Fields) → Picks at (places_fields around fs) (marks_in fs)
   place_picks_in around no_field = nothing
   place_picks_in around (field l m e fs) = join_picks at (place_picks around e) (place_picks_in around fs)
 
@@ -97,35 +97,35 @@ faults_pick ns (left k) = left (faults_pick ns k)
 abbrev pub own : ℕ → ℕ
 own o = o
 
-at_fault_picks : (asked opened : Bool) (o : ℕ) → Picks own (at_fault asked opened o) (o ∷ [])
+at_fault_picks : (demanded opened : Bool) (o : ℕ) → Picks own (at_fault demanded opened o) (o ∷ [])
 at_fault_picks true false o = taken nothing
 at_fault_picks true true o = left nothing
 at_fault_picks false opened o = left nothing
 
 mutual
-  literal_picks : (asked : Bool) (e : Tree) → Picks own (unopened asked e) (marks e)
-  literal_picks asked (named t o) = left nothing
-  literal_picks asked (reference t o) = left nothing
-  literal_picks asked (meet es) = literal_picks_all (asked || asks (operands es)) es
-  literal_picks asked (join es) = literal_picks_all asked es
-  literal_picks asked (paren e) = literal_picks asked e
-  literal_picks asked (struct o fs opened) = join_picks own (at_fault_picks asked opened o) (literal_picks_in asked (named_fields fs) fs)
-  literal_picks asked (list es end) = join_picks own (literal_picks_all asked es) (literal_picks_end asked end)
-  literal_picks asked _ = nothing
+  literal_picks : (demanded : Bool) (e : Tree) → Picks own (unopened demanded e) (marks e)
+  literal_picks demanded (named t o) = left nothing
+  literal_picks demanded (reference t o) = left nothing
+  literal_picks demanded (conjunction es) = literal_picks_all (demanded || demands_open (operands es)) es
+  literal_picks demanded (disjunction es) = literal_picks_all demanded es
+  literal_picks demanded (paren e) = literal_picks demanded e
+  literal_picks demanded (struct o fs opened) = join_picks own (at_fault_picks demanded opened o) (literal_picks_in demanded (named_fields fs) fs)
+  literal_picks demanded (list es end) = join_picks own (literal_picks_all demanded es) (literal_picks_end demanded end)
+  literal_picks demanded _ = nothing
 
-  literal_picks_all : (asked : Bool) (es : Trees) → Picks own (unopened_all asked es) (marks_all es)
-  literal_picks_all asked none = nothing
-  literal_picks_all asked (more e es) = join_picks own (literal_picks asked e) (literal_picks_all asked es)
+  literal_picks_all : (demanded : Bool) (es : Trees) → Picks own (unopened_all demanded es) (marks_all es)
+  literal_picks_all demanded none = nothing
+  literal_picks_all demanded (more e es) = join_picks own (literal_picks demanded e) (literal_picks_all demanded es)
 
-  literal_picks_in : (asked : Bool) (all : List Named) (fs : Fields) → Picks own (unopened_in asked all fs) (marks_in fs)
-  literal_picks_in asked all no_field = nothing
-  literal_picks_in asked all (field l m e fs) = join_picks own (literal_picks (asked || asks (values l.text all)) e) (literal_picks_in asked all fs)
+  literal_picks_in : (demanded : Bool) (all : List Named) (fs : Fields) → Picks own (unopened_fields demanded all fs) (marks_in fs)
+  literal_picks_in demanded all no_field = nothing
+  literal_picks_in demanded all (field l m e fs) = join_picks own (literal_picks (demanded || demands_open (values l.text all)) e) (literal_picks_in demanded all fs)
 
-  literal_picks_end : (asked : Bool) (end : End) → Picks own (unopened_end asked end) (marks_end end)
-  literal_picks_end asked closed = nothing
-  literal_picks_end asked any = nothing
-  literal_picks_end asked (each e) = literal_picks asked e
+  literal_picks_end : (demanded : Bool) (end : End) → Picks own (unopened_end demanded end) (marks_end end)
+  literal_picks_end demanded closed = nothing
+  literal_picks_end demanded any = nothing
+  literal_picks_end demanded (each e) = literal_picks demanded e
 
 pub literal_picks_of : (all : List Named) (ds : List DefinitionTree) → Picks own (unopened_definitions all ds) (marks_of ds)
 literal_picks_of all [] = nothing
-literal_picks_of all (d ∷ ds) = join_picks own (literal_picks (asks (values (defined_name d) all)) (body d)) (literal_picks_of all ds)
+literal_picks_of all (d ∷ ds) = join_picks own (literal_picks (demands_open (values (defined_name d) all)) (body d)) (literal_picks_of all ds)

@@ -23,10 +23,6 @@ module _ {X : Type 0} where
     first_left [] ys (inr h) = cc
     first_left (x ∷ xs) ys h = h
 
-    -- the first of the second part, where the first has none
-    pub first_right : (xs ys : List X) → xs ≡ [] → Refuses e f ys → Refuses e f (xs ++ ys)
-    first_right xs ys none h = subst (λ zs. Refuses e f (zs ++ ys)) (sym none) h
-
     pub same_first : (xs ys : List X) → xs ≡ ys → Refuses e f xs → Refuses e f ys
     same_first xs ys same h = subst (λ zs. Refuses e f zs) same h
 

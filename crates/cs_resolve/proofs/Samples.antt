@@ -1,7 +1,8 @@
 -- Samples, worked by the definitions.
 use Rattle.std.proofs.Common.{◌≡◌, ℕ, true, false, List, [], ◌∷◌, pos, codes, refl}
-use Rattle.cs_grammar.specs.Tree.{Label, top, bottom, integer, named, bound, reference, meet, paren, struct, list, none, more, Fields, no_field, field, any, each, definition, file}
-use Rattle.cs_grammar.specs.declared.ast.Relation.TheVariants.{More}
+use Rattle.cs_grammar.specs.Tree.{Label, atom, named, reference, conjunction, paren, struct, list, none, more, Fields, no_field, field, any, each, definition, file}
+use Rattle.cs_grammar.specs.Atom as atoms
+use Rattle.cs_grammar.specs.Atom.{top, bottom, integer, bound}
 use Rattle.cs_grammar.specs.declared.ast.FieldMark.TheVariants.{Regular, Optional}
 use Rattle.cs_package.specs.Expression as cue
 use Rattle.cs_package.specs.Height.{height, heights}
@@ -21,7 +22,7 @@ quoted t = record { text = t; quotes = true }
 
 -- `x: 1`
 abbrev one : List ℕ → Fields
-one t = field (plain t) Regular (integer (pos 1)) no_field
+one t = field (plain t) Regular (atom (integer (pos 1))) no_field
 
 -- ---- the opening rule
 
@@ -33,15 +34,15 @@ first_of_all : unopened false (struct 4 (field (plain (codes "a")) Regular (stru
 first_of_all = refl
 
 -- `{a: {b: 1}, ...} & {...}`: the literal inside
-inside : unopened false (meet (more (struct 4 (field (plain (codes "a")) Regular (struct 8 (one (codes "b")) false) no_field) true) (more (struct 23 no_field true) none))) ≡ 8 ∷ []
+inside : unopened false (conjunction (more (struct 4 (field (plain (codes "a")) Regular (struct 8 (one (codes "b")) false) no_field) true) (more (struct 23 no_field true) none))) ≡ 8 ∷ []
 inside = refl
 
 -- `(#A & {x: 1, ...}) & int`: a parenthesis is one operand
-one_operand : unopened false (meet (more (paren (meet (more (reference (codes "A") 5) (more (struct 10 (one (codes "x")) true) none)))) (more (named (codes "int") 30) none))) ≡ []
+one_operand : unopened false (conjunction (more (paren (conjunction (more (reference (codes "A") 5) (more (struct 10 (one (codes "x")) true) none)))) (more (named (codes "int") 30) none))) ≡ []
 one_operand = refl
 
 -- `(#A & #B) & {x: 1}`: two operands that aren't plain
-two_operands : unopened false (meet (more (paren (meet (more (reference (codes "A") 5) (more (reference (codes "B") 10) none)))) (more (struct 16 (one (codes "x")) false) none))) ≡ 16 ∷ []
+two_operands : unopened false (conjunction (more (paren (conjunction (more (reference (codes "A") 5) (more (reference (codes "B") 10) none)))) (more (struct 16 (one (codes "x")) false) none))) ≡ 16 ∷ []
 two_operands = refl
 
 -- `{"a": #A, a: {x: 1}}`: a quoted label and an identifier are one label
@@ -58,7 +59,7 @@ short_fields : unopened_files (file None (definition (codes "A") 0 (struct 4 (fi
 short_fields = refl
 
 -- `#B: 1` and `#A: {a: {x: 1}, ...}` in one file and `#A: #B` in the next: the literal inside the opened one
-inside_a_body : unopened_files (file None (definition (codes "B") 0 (integer (pos 1)) ∷ definition (codes "A") 6 (struct 10 (field (plain (codes "a")) Regular (struct 14 (one (codes "x")) false) no_field) true) ∷ []) ∷ file None (definition (codes "A") 0 (reference (codes "B") 4) ∷ []) ∷ []) ≡ (0, 14) ∷ []
+inside_a_body : unopened_files (file None (definition (codes "B") 0 (atom (integer (pos 1))) ∷ definition (codes "A") 6 (struct 10 (field (plain (codes "a")) Regular (struct 14 (one (codes "x")) false) no_field) true) ∷ []) ∷ file None (definition (codes "A") 0 (reference (codes "B") 4) ∷ []) ∷ []) ≡ (0, 14) ∷ []
 inside_a_body = refl
 
 -- ---- nodes
@@ -68,7 +69,7 @@ short_field : nodes (struct 4 (field (plain (codes "a")) Regular (struct 7 (fiel
 short_field = refl
 
 -- `([...] & [...int])`: the parenthesis and the bare `...` are none
-bare_rest : nodes (paren (meet (more (list none any) (more (list none (each (named (codes "int") 20))) none)))) ≡ 4
+bare_rest : nodes (paren (conjunction (more (list none any) (more (list none (each (named (codes "int") 20))) none)))) ≡ 4
 bare_rest = refl
 
 -- ---- package names
@@ -104,7 +105,7 @@ outer_field : faults [] (places [] (struct 4 (field (plain (codes "x")) Regular 
 outer_field = refl
 
 -- `float`, and `#B` where `#A` alone is declared: unknown
-unknown_names : faults (codes "A" ∷ []) (places [] (meet (more (named (codes "float") 4) (more (reference (codes "B") 12) none)))) ≡ unknown 4 ∷ unknown 12 ∷ []
+unknown_names : faults (codes "A" ∷ []) (places [] (conjunction (more (named (codes "float") 4) (more (reference (codes "B") 12) none)))) ≡ unknown 4 ∷ unknown 12 ∷ []
 unknown_names = refl
 
 -- `#A: {x: #B}` in one file alone: the reference in file 0
@@ -112,18 +113,18 @@ undeclared : faults_of_files (file None (definition (codes "A") 10 (struct 14 (f
 undeclared = refl
 
 -- `#A`, `#B`, `#A`: two names, in order of first declaration
-two_names : names (definition (codes "A") 0 top ∷ definition (codes "B") 5 top ∷ definition (codes "A") 10 bottom ∷ []) ≡ codes "A" ∷ codes "B" ∷ []
+two_names : names (definition (codes "A") 0 (atom top) ∷ definition (codes "B") 5 (atom top) ∷ definition (codes "A") 10 (atom bottom) ∷ []) ≡ codes "A" ∷ codes "B" ∷ []
 two_names = refl
 
 -- ---- environments
 
 -- `#A: int`, `#B: 1`, `#A: >2 & 3`: two definitions, of which the first has two bodies
-two_bodies : environment_of_files (file None (definition (codes "A") 0 (named (codes "int") 4) ∷ []) ∷ file None (definition (codes "B") 0 (integer (pos 1)) ∷ []) ∷ file None (definition (codes "A") 0 (meet (more (bound More (pos 2)) (more (integer (pos 3)) none))) ∷ []) ∷ [])
-    ≡ (codes "A", cue.kind cue.int ∷ cue.conjunction (cue.expression (cue.bound cue.more (pos 2)) (cue.expression (cue.integer (pos 3)) cue.no_expressions)) ∷ []) ∷ (codes "B", cue.integer (pos 1) ∷ []) ∷ []
+two_bodies : environment_of_files (file None (definition (codes "A") 0 (named (codes "int") 4) ∷ []) ∷ file None (definition (codes "B") 0 (atom (integer (pos 1))) ∷ []) ∷ file None (definition (codes "A") 0 (conjunction (more (atom (bound atoms.more (pos 2))) (more (atom (integer (pos 3))) none))) ∷ []) ∷ [])
+    ≡ (codes "A", cue.kind cue.int ∷ cue.conjunction (cue.expression (cue.atom (cue.bound cue.more (pos 2))) (cue.expression (cue.atom (cue.integer (pos 3))) cue.no_expressions)) ∷ []) ∷ (codes "B", cue.atom (cue.integer (pos 1)) ∷ []) ∷ []
 two_bodies = refl
 
 -- `{}` and `{a: int & 1}`
-heights_of_two : heights (cue.struct cue.no_declarations false ∷ cue.struct (cue.declaration (codes "a") cue.regular (cue.conjunction (cue.expression (cue.kind cue.int) (cue.expression (cue.integer (pos 1)) cue.no_expressions))) cue.no_declarations) false ∷ []) ≡ 3
+heights_of_two : heights (cue.struct cue.no_declarations false ∷ cue.struct (cue.declaration (codes "a") cue.regular (cue.conjunction (cue.expression (cue.kind cue.int) (cue.expression (cue.atom (cue.integer (pos 1))) cue.no_expressions))) cue.no_declarations) false ∷ []) ≡ 3
 heights_of_two = refl
 
 -- `{}` alone

@@ -11,13 +11,13 @@ use Rattle.cs_grammar.specs.Spelling.{is_letter, is_digit, is_name_byte, is_inte
 use Rattle.cs_grammar.specs.Tree.{FileTree, defined_name, definitions}
 use Rattle.cs_grammar.specs.View.{bare_name, file_view, mark_kind, word_of, word, words}
 use Rattle.cs_grammar.specs.Words as W
-use Rattle.cs_grammar.specs.Words.{Word, Words}
+use Rattle.cs_grammar.specs.Words.{Word}
 use Rattle.cs_grammar.specs.declared.ast.File.{File}
 use Rattle.cs_grammar.specs.declared.token.Sort.{Sort}
 use Rattle.cs_grammar.specs.declared.token.Sort.TheVariants as sorts
 use Rattle.cs_package.specs.Environment.{IsDefinitionName}
 use Rattle.cs_resolve.specs.Resolved.{AreSpelled}
-use Rattle.cs_resolve.proofs.Rests.{of_file}
+use Rattle.cs_resolve.proofs.DefinedNames.{of_file}
 
 -- what a word names, if it is the name of a definition, is one
 abbrev is_named : Word → Bool

@@ -1,5 +1,5 @@
 -- Expressions and their trees, level by level.
-use Rattle.std.proofs.Common.{◌≡◌, ℕ, ◌+◌, ◌<◌, Bool, List, [], ◌∷◌, ◌++◌, map, length, take, get_or, Vec, Box, Global, rules, string_bytes, String, refl, sym, ap, ◌∙◌, subst, arith}
+use Rattle.std.proofs.Common.{◌≡◌, ℕ, ◌+◌, ◌<◌, List, [], ◌∷◌, ◌++◌, map, length, take, get_or, string_bytes, refl, sym, ap, ◌∙◌, subst, arith}
 use Rattle.std.proofs.lemmas.List.{take_more}
 use Rattle.cs_grammar.specs.declared.ast.Definition.{Definition}
 use Rattle.cs_grammar.specs.declared.ast.File.{File}
@@ -8,45 +8,11 @@ use Rattle.std.proofs.lemmas.List.{map-append, append_assoc, append-nil, get_or-
 use Rattle.std.proofs.lemmas.Grind.{flat_map-append}
 use Rattle.cs_resolve.specs.Opening.{Named, named_fields, named_bodies, operands}
 use Rattle.cs_grammar.specs.Tree as T
-use Rattle.cs_grammar.specs.View.{trees_of, definition_view, file_view, expr_view, exprs_view, fields_view, end_view, field_view}
+use Rattle.cs_grammar.specs.View.{trees_of, definition_view, file_view, expr_view, fields_view, field_view}
 use Rattle.cs_grammar.specs.declared.ast.Expr as Exprs
-use Rattle.cs_grammar.specs.declared.ast.Expr.{Expr}
 use Rattle.cs_grammar.specs.declared.ast.ListEnd as Ends
-use Rattle.cs_grammar.specs.declared.ast.ListEnd.{ListEnd}
 use Rattle.cs_grammar.specs.declared.ast.Field.{Field}
-
-pub view-Struct : (at : ℕ) (v : Vec Field Global) (o : Bool) → expr_view (Exprs.Struct at v o) ≡ T.struct at (fields_view v.items) o
-view-Struct at v o = search (rules, Exprs.the_lemmas)
-
-pub view-List : (v : Vec Expr Global) (end : ListEnd) → expr_view (Exprs.List v end) ≡ T.list (exprs_view v.items) (end_view end)
-view-List v end = search (rules, Exprs.the_lemmas)
-
-pub view-And : (v : Vec Expr Global) → expr_view (Exprs.And v) ≡ T.meet (exprs_view v.items)
-view-And v = search (rules, Exprs.the_lemmas)
-
-pub view-Or : (v : Vec Expr Global) → expr_view (Exprs.Or v) ≡ T.join (exprs_view v.items)
-view-Or v = search (rules, Exprs.the_lemmas)
-
-pub view-Name : (t : String Global) (at : ℕ) → expr_view (Exprs.Name t at) ≡ T.named (string_bytes t) at
-view-Name t at = search (rules, Exprs.the_lemmas)
-
-pub view-Each : (b : Box Expr Global) → end_view (Ends.Each b) ≡ T.each (expr_view b.value)
-view-Each b = search (rules, Exprs.the_lemmas)
-
-pub view-Reference : (t : String Global) (at : ℕ) → expr_view (Exprs.Reference t at) ≡ T.reference (string_bytes t) at
-view-Reference t at = search (rules, Exprs.the_lemmas)
-
-pub view-value : (f : Field) → (field_view f).value ≡ expr_view f.value
-view-value f = search (rules, Exprs.the_lemmas)
-
-pub view-label : (f : Field) → (field_view f).label ≡ record { text = string_bytes f.label; quotes = f.quoted }
-view-label f = search (rules, Exprs.the_lemmas)
-
-pub view-mark : (f : Field) → (field_view f).mark ≡ f.mark
-view-mark f = search (rules, Exprs.the_lemmas)
-
-pub view-text : (f : Field) → (field_view f).label.text ≡ string_bytes f.label
-view-text f = ap (λ (l : T.Label). l.text) (view-label f)
+pub use Rattle.cs_grammar.proofs.Views.{view-Name, view-Reference, view-And, view-Or, view-Struct, view-List, view-Each, view-value, view-label, view-mark, view-text}
 
 pub take_at : {X : Type 0} (xs : List X) (i : ℕ) (x : X) → i < length xs → x ≡ get_or xs i x → take (i + 1) xs ≡ take i xs ++ x ∷ []
 take_at xs i x l is = take_more xs i x l ∙ ap (λ y. take i xs ++ y ∷ []) (sym is)

@@ -1,16 +1,16 @@
 -- The words of a cut stand one behind the other.
-use Rattle.std.proofs.Common.{◌≡◌, ℕ, zero, suc, ◌≤◌, List, [], ◌∷◌, take, Some, refl, arith}
+use Rattle.std.proofs.Common.{◌≡◌, ℕ, zero, suc, ◌≤◌, List, [], ◌∷◌, take, Some, arith}
 use Rattle.cs_grammar.specs.Cut.{Lexeme, lexeme, Cut, blank, new_line, comment, token, finish, comma_if}
 use Rattle.cs_grammar.specs.Spelling.{sort_of}
-use Rattle.cs_grammar.specs.View.{kind_of, word_of, word, words}
+use Rattle.cs_grammar.specs.View.{kind_of, word, words}
 use Rattle.cs_grammar.specs.Words as W
 use Rattle.cs_grammar.specs.Words.{Word, Words, start}
-use Rattle.cs_grammar.specs.declared.kind.Kind.{Kind}
 use Rattle.cs_grammar.specs.declared.kind.Kind.TheVariants as kinds
-use Rattle.cs_grammar.specs.declared.line.Line.{Line}
-use Rattle.cs_grammar.specs.declared.line.Line.TheVariants.{Plain, WantsComma, Minus}
+use Rattle.cs_grammar.specs.declared.line.LineState.{LineState}
+use Rattle.cs_grammar.specs.declared.line.LineState.TheVariants.{Plain, WantsComma, Minus}
 use Rattle.cs_grammar.specs.declared.token.Sort.{Sort}
 use Rattle.cs_grammar.specs.declared.token.Sort.TheVariants as sorts
+use Rattle.cs_grammar.proofs.Views.{start_word_of}
 
 -- ---- words
 
@@ -45,16 +45,12 @@ tail (comes {o} {w} at rest) = let k = room w in later (omega arith) rest
 
 -- ---- the cut
 
-starts : (k : Kind) (t : List ℕ) (o : ℕ) → start (word_of k t o) ≡ o
-starts kinds.Name t o = refl
-starts _ t o = refl
-
 short_room : (w : Word) → next w ≤ suc (start w)
 short_room (W.nl o) = omega arith
 short_room (W.finish o) = omega arith
 short_room w = omega arith
 
-from_comma : (l : Line) (o : ℕ) (ks : List Lexeme) → From o (words ks) → From o (words (comma_if l o ks))
+from_comma : (l : LineState) (o : ℕ) (ks : List Lexeme) → From o (words ks) → From o (words (comma_if l o ks))
 from_comma WantsComma o ks h = comes (omega arith) h
 from_comma Plain o ks h = h
 from_comma Minus o ks h = h
@@ -64,13 +60,13 @@ long_token : (n : ℕ) (s : Sort) (bs : List ℕ) → sort_of (take n bs) ≡ So
 long_token zero s bs h = cc
 long_token (suc n) s bs h = omega arith
 
-pub from_cut : {bs : List ℕ} {o : ℕ} {l : Line} {ks : List Lexeme} → Cut bs o l ks → From o (words ks)
+pub from_cut : {bs : List ℕ} {o : ℕ} {l : LineState} {ks : List Lexeme} → Cut bs o l ks → From o (words ks)
 from_cut (blank h k) = later (omega arith) (from_cut k)
 from_cut (new_line {o} {l} {ks} h k) = from_comma l o ks (later (omega arith) (from_cut k))
 from_cut (comment {o} {bs} {l} {ks} h k) = from_comma l o ks (later (omega arith) (from_cut k))
 from_cut (token {n} {o} {s} {bs} b k) =
     let long = long_token n s bs b.token.spelled in
-    let at = starts (kind_of s (take n bs)) (take n bs) o in
+    let at = start_word_of (kind_of s (take n bs)) (take n bs) o in
     let least = short_room (word (lexeme s (take n bs) o)) in
     comes (omega arith) (later (omega arith) (from_cut k))
 from_cut (finish {o} {l}) = from_comma l o (lexeme sorts.End [] o ∷ []) (comes (omega arith) ended)

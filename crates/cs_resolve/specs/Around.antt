@@ -5,7 +5,7 @@ use Rattle.std.specs.HashSet.{HashSet, contains_by}
 use Rattle.std.specs.List.{list_any, list_all}
 use Rattle.std.specs.Str.{bytes_eq}
 use Rattle.cs_grammar.specs.Tree.{Label, Trees, Fields, End}
-use Rattle.cs_resolve.specs.Resolved.{resolved_all, resolved_under, resolved_end}
+use Rattle.cs_resolve.specs.Resolved.{resolved_all, resolved_fields, resolved_end}
 use Rattle.cs_resolve.specs.Scopes.{has_label, names_field}
 use Rattle.cs_package.specs.View.{expression_of, expressions_of, part_of, declarations_of, rest_of, is_known, is_known_part, is_known_end}
 use Rattle.cs_package.specs.declared.shape.Shape.{Shape}
@@ -30,7 +30,7 @@ pub record AreShapesOf (ns : List (List ℕ)) (ss : List Shape) (ts : Trees) : T
   pub known : list_all (is_known (length ns)) ss ≡ true
 
 pub record ArePartsOf (ns : List (List ℕ)) (ps : List Part) (fs : Fields) : Type 0 where
-  pub same : declarations_of (map (part_of ns) ps) ≡ resolved_under fs
+  pub same : declarations_of (map (part_of ns) ps) ≡ resolved_fields fs
   pub known : list_all (is_known_part (length ns)) ps ≡ true
 
 pub record IsEndOf (ns : List (List ℕ)) (s : ShapeEnd) (e : End) : Type 0 where

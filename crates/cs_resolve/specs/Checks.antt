@@ -6,7 +6,7 @@ use Rattle.std.specs.Option.{option_map}
 use Rattle.std.specs.Str.{bytes_eq}
 use Rattle.cs_resolve.specs.declared.fault.ResolveFault.{ResolveFault}
 use Rattle.cs_resolve.specs.declared.fault.ResolveFault.TheVariants.{OutOfMemory}
-use Rattle.cs_resolve.specs.Opening.{Named, values, holds}
+use Rattle.cs_resolve.specs.Opening.{Named, values, has_literal_or_reference}
 
 -- the refusal is for want of memory, or is the first of these faults, as f says it
 abbrev pub Refuses : {X : Type 0} → ResolveFault → (X → ResolveFault) → List X → Type 0
@@ -20,5 +20,5 @@ Checks (Err e) f xs = Refuses e f xs
 -- the table has each name that has a value that isn't plain, with whether it has two or more
 abbrev pub Repeats : {S : Type 0} → HashMap (Bor (List ℕ)) Bool S → List Named → Type 0
 Repeats m ns =
-    (t : List ℕ) → MatchOption (get_by (λ k. bytes_eq t k.now) m) (count_by holds (values t ns) ≡ 0)
-    (λ again. (0 < count_by holds (values t ns)) × (again ≡ nat_lt 1 (count_by holds (values t ns))))
+    (t : List ℕ) → MatchOption (get_by (λ k. bytes_eq t k.now) m) (count_by has_literal_or_reference (values t ns) ≡ 0)
+    (λ again. (0 < count_by has_literal_or_reference (values t ns)) × (again ≡ nat_lt 1 (count_by has_literal_or_reference (values t ns))))

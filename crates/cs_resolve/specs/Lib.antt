@@ -1,17 +1,18 @@
 pub use Rattle.cs_package.specs.Expression
 pub use Rattle.cs_package.specs.Environment
-pub use Rattle.cs_package.specs.Height
 pub use Rattle.cs_package.specs.Joined
+pub use Rattle.cs_package.specs.Height
 pub use Rattle.cs_package.specs.View
-pub use Rattle.cs_package.specs.Code
 pub mod Predeclared
-pub mod Opening
-pub mod Offsets
-pub mod Size
 pub mod Scopes
 pub mod Declarations
-pub mod Resolved
+pub mod Opening
+pub mod Size
 pub mod PackageName
-pub mod Checks
+pub mod Resolved
+pub mod Offsets
+-- for contracts of private functions and proofs alone
+pub use Rattle.cs_package.specs.Code
 pub mod Steps
 pub mod Around
+pub mod Checks

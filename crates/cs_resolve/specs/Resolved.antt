@@ -13,38 +13,29 @@ use Rattle.cs_resolve.specs.Declarations.{names, declared, faults_of_files}
 use Rattle.cs_resolve.specs.Opening.{IsOpened, unopened_files}
 use Rattle.cs_resolve.specs.PackageName.{IsOnePackage, differing_file}
 use Rattle.cs_resolve.specs.Size.{nodes_of_files}
-use Rattle.cs_package.specs.View.{relation_of, mark_of}
+use Rattle.cs_package.specs.View.{mark_of}
 use Rattle.cs_resolve.specs.declared.fault.ResolveFault.{ResolveFault}
 use Rattle.cs_resolve.specs.declared.fault.ResolveFault.TheVariants.{OutOfMemory, PackageName, TooLarge, UnknownName, FieldReference, NotOpened}
 
 -- names are replaced by what they name: where no name is at fault, every one is predeclared
 abbrev mutual
   pub resolved : Tree → Expression
-  resolved T.top = cue.top
-  resolved T.bottom = cue.bottom
-  resolved T.null = cue.null
-  resolved (T.boolean b) = cue.boolean b
-  resolved (T.integer z) = cue.integer z
-  resolved (T.text s) = cue.text s
-  resolved (T.named t o) = unwrap_or (predeclared t) cue.bottom
+  resolved (T.atom a) = cue.atom a
+  resolved (T.named t o) = unwrap_or (predeclared t) (cue.atom cue.bottom)
   resolved (T.reference t o) = cue.reference t
-  resolved (T.bound r z) = cue.bound (relation_of r) z
-  resolved (T.not_integer z) = cue.not_integer z
-  resolved (T.not_text s) = cue.not_text s
-  resolved T.not_null = cue.not_null
-  resolved (T.meet ts) = cue.conjunction (resolved_all ts)
-  resolved (T.join ts) = cue.disjunction (resolved_all ts)
+  resolved (T.conjunction ts) = cue.conjunction (resolved_all ts)
+  resolved (T.disjunction ts) = cue.disjunction (resolved_all ts)
   resolved (T.paren t) = resolved t
-  resolved (T.struct o fs opened) = cue.struct (resolved_under fs) opened
+  resolved (T.struct o fs opened) = cue.struct (resolved_fields fs) opened
   resolved (T.list ts end) = cue.list (resolved_all ts) (resolved_end end)
 
   pub resolved_all : Trees → Expressions
   resolved_all T.none = cue.no_expressions
   resolved_all (T.more t ts) = cue.expression (resolved t) (resolved_all ts)
 
-  pub resolved_under : Fields → Declarations
-  resolved_under T.no_field = cue.no_declarations
-  resolved_under (T.field l m t fs) = cue.declaration l.text (mark_of m) (resolved t) (resolved_under fs)
+  pub resolved_fields : Fields → Declarations
+  resolved_fields T.no_field = cue.no_declarations
+  resolved_fields (T.field l m t fs) = cue.declaration l.text (mark_of m) (resolved t) (resolved_fields fs)
 
   pub resolved_end : End → Rest
   resolved_end T.closed = cue.closed

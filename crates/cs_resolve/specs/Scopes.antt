@@ -3,7 +3,7 @@
 use Rattle.std.specs.Prelude.{ℕ, Bool, true, false, ◌&&◌, not, List, [], ◌∷◌, ◌++◌, Option, Some, None, is_some, if◌then◌else◌}
 use Rattle.std.specs.List.{list_any, flat_map}
 use Rattle.std.specs.Str.{bytes_eq}
-use Rattle.cs_grammar.specs.Tree.{Label, Tree, top, bottom, null, boolean, integer, text, named, reference, bound, not_integer, not_text, not_null, meet, join, paren, struct, list, Trees, none, more, Fields, no_field, field, End, closed, any, each}
+use Rattle.cs_grammar.specs.Tree.{Label, Tree, atom, named, reference, conjunction, disjunction, paren, struct, list, Trees, none, more, Fields, no_field, field, End, closed, any, each}
 use Rattle.cs_resolve.specs.Predeclared.{predeclared}
 
 abbrev pub labels : Fields → List Label
@@ -34,31 +34,22 @@ pub data Place : Type 0 where
 -- the places of an expression, in order of the text; a field's own literal is around its value
 abbrev mutual
   pub places : List (List Label) → Tree → List Place
-  places around top = []
-  places around bottom = []
-  places around null = []
-  places around (boolean b) = []
-  places around (integer z) = []
-  places around (text s) = []
+  places around (atom a) = []
   places around (named t o) = a_name around t o ∷ []
   places around (reference t o) = a_reference t o ∷ []
-  places around (bound r z) = []
-  places around (not_integer z) = []
-  places around (not_text s) = []
-  places around not_null = []
-  places around (meet es) = places_all around es
-  places around (join es) = places_all around es
+  places around (conjunction es) = places_all around es
+  places around (disjunction es) = places_all around es
   places around (paren e) = places around e
-  places around (struct o fs opened) = places_in (labels fs ∷ around) fs
+  places around (struct o fs opened) = places_fields (labels fs ∷ around) fs
   places around (list es end) = places_all around es ++ places_end around end
 
   pub places_all : List (List Label) → Trees → List Place
   places_all around none = []
   places_all around (more e es) = places around e ++ places_all around es
 
-  pub places_in : List (List Label) → Fields → List Place
-  places_in around no_field = []
-  places_in around (field l m e fs) = places around e ++ places_in around fs
+  pub places_fields : List (List Label) → Fields → List Place
+  places_fields around no_field = []
+  places_fields around (field l m e fs) = places around e ++ places_fields around fs
 
   pub places_end : List (List Label) → End → List Place
   places_end around closed = []

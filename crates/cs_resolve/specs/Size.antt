@@ -1,36 +1,27 @@
 -- The nodes of a package (own rule): each expression in its bodies is one.
 use Rattle.std.specs.Prelude.{ℕ, ◌+◌, List, sum_by}
 use Rattle.std.specs.List.{flat_map}
-use Rattle.cs_grammar.specs.Tree.{Tree, top, bottom, null, boolean, integer, text, named, reference, bound, not_integer, not_text, not_null, meet, join, paren, struct, list, Trees, none, more, Fields, no_field, field, End, closed, any, each, DefinitionTree, body, FileTree, definitions}
+use Rattle.cs_grammar.specs.Tree.{Tree, atom, named, reference, conjunction, disjunction, paren, struct, list, Trees, none, more, Fields, no_field, field, End, closed, any, each, DefinitionTree, body, FileTree, definitions}
 
 -- the expressions in an expression, itself among them; a parenthesis is none, and nor is the bare `...` of a list
 abbrev mutual
   pub nodes : Tree → ℕ
-  nodes top = 1
-  nodes bottom = 1
-  nodes null = 1
-  nodes (boolean b) = 1
-  nodes (integer z) = 1
-  nodes (text s) = 1
+  nodes (atom a) = 1
   nodes (named n o) = 1
   nodes (reference n o) = 1
-  nodes (bound r z) = 1
-  nodes (not_integer z) = 1
-  nodes (not_text s) = 1
-  nodes not_null = 1
-  nodes (meet es) = 1 + nodes_all es
-  nodes (join es) = 1 + nodes_all es
+  nodes (conjunction es) = 1 + nodes_all es
+  nodes (disjunction es) = 1 + nodes_all es
   nodes (paren e) = nodes e
-  nodes (struct o fs opened) = 1 + nodes_in fs
+  nodes (struct o fs opened) = 1 + nodes_fields fs
   nodes (list es end) = 1 + (nodes_all es + nodes_end end)
 
   pub nodes_all : Trees → ℕ
   nodes_all none = 0
   nodes_all (more e es) = nodes e + nodes_all es
 
-  pub nodes_in : Fields → ℕ
-  nodes_in no_field = 0
-  nodes_in (field l m e fs) = nodes e + nodes_in fs
+  pub nodes_fields : Fields → ℕ
+  nodes_fields no_field = 0
+  nodes_fields (field l m e fs) = nodes e + nodes_fields fs
 
   pub nodes_end : End → ℕ
   nodes_end closed = 0

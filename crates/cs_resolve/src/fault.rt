@@ -1,26 +1,26 @@
 use std::alloc::{AllocError, AllocFailed};
 use thiserror::Error;
 
-/// Why files are no package. A file is named by its place in the list, an offset counts its bytes.
+/// Why files aren't a package. A file is named by its index in the list, an offset counts its bytes from 0.
 #[derive(Debug, Drop, Error)]
 pub enum ResolveFault {
-    /// A growth was refused for want of memory.
+    /// Memory ran out.
     #[error("out of memory")]
     OutOfMemory,
-    /// The package name differs from the first one named.
-    #[error("a file names another package")]
+    /// The file is the first whose package name differs from the first one named.
+    #[error("a file names another package than the files before it")]
     PackageName { file: usize },
-    /// A name that names nothing.
-    #[error("this name names nothing")]
+    /// The name at the offset isn't declared.
+    #[error("a name is not declared")]
     UnknownName { file: usize, offset: usize },
-    /// A name that names a field.
-    #[error("this name names a field")]
+    /// The name at the offset names a field.
+    #[error("a name refers to a field, which JSON Schema cannot express")]
     FieldReference { file: usize, offset: usize },
-    /// A struct literal that has to end with `...`.
-    #[error("this struct literal has to end with `...`")]
+    /// The struct literal at the offset has to end with `...`, and doesn't.
+    #[error("a struct literal in a conjunction must end with `...`")]
     NotOpened { file: usize, offset: usize },
-    /// More than 1,000 definitions, or more than 50,000 nodes of expressions.
-    #[error("too many definitions or nodes")]
+    /// The package has more than 1,000 definitions, or more than 50,000 nodes of expressions.
+    #[error("the package has more than 1,000 definitions or 50,000 nodes")]
     TooLarge,
 }
 

@@ -1,4 +1,4 @@
-// The order of what is told.
+// The order of faults.
 
 ghost use Rattle.std.specs.Prelude.{List, map};
 ghost use Rattle.cs_grammar.specs.Tree.{FileTree};
@@ -8,7 +8,7 @@ ghost use Rattle.cs_resolve.specs.Opening.{unopened_files};
 ghost use Rattle.cs_resolve.specs.Resolved.{AreSpelled};
 
 /// A law: where each file is spelled by the tokens of a text, the faults of names come by file and then by offset, and
-/// so do the literals at fault. So the first of them, which a refusal tells, has the least offset of those in its file.
+/// so do the literals at fault. So the first of them, which a refusal reports, has the least offset of those in its file.
 pub fn offsets_law()
     ensures names { (fs : List FileTree) → AreSpelled fs → AreInOrder (map place (faults_of_files fs)) }
     ensures literals { (fs : List FileTree) → AreSpelled fs → AreInOrder (unopened_files fs) }

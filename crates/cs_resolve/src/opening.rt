@@ -1,82 +1,77 @@
 // The opening rule: a conjunction of two or more operands that hold a struct literal or a reference asks each struct
 // literal in its operands to end with `...`.
 
-ghost use Rattle.std.specs.Prelude.{◌≡◌, ◌++◌, [], ◌∷◌, List, ℕ, map, IfOk, IfErr, OnOk, ◌||◌, ◌↔◌, Contains};
+ghost use Rattle.std.specs.Prelude.{◌≡◌, ◌++◌, [], ◌∷◌, List, ℕ, map, IfOk, OnOk, ◌||◌, ◌↔◌, Contains};
 ghost use Rattle.cs_grammar.specs.View.{expr_view, exprs_view, end_view, fields_view, definition_view, file_view};
 ghost use Rattle.cs_grammar.specs.Tree.{FileTree, definitions};
 ghost use Rattle.std.specs.List.{flat_map};
 ghost use Rattle.cs_resolve.specs.Opening as Opening;
-ghost use Rattle.cs_resolve.specs.Opening.{Named, values, named_fields, named_bodies, IsOpened, IsAskedFor, unopened, unopened_all, unopened_in, unopened_end, unopened_definitions, unopened_files};
+ghost use Rattle.cs_resolve.specs.Opening.{Named, values, named_fields, named_bodies, IsOpened, IsUnopenedAt, unopened, unopened_all, unopened_fields, unopened_end, unopened_definitions, unopened_files};
 ghost use Rattle.cs_resolve.specs.Checks.{Checks, Repeats};
 
 use crate::ResolveFault;
 use cs_grammar::{Definition, Expr, Field, File, ListEnd};
 use indexmap::IndexMap;
-use std::alloc::Global;
+use std::alloc::{AllocError, Global};
 
 /// The names that have a value that isn't plain, each with whether it has two or more of them.
 type RepeatTable<'a> = IndexMap<&'a str, bool>;
 
 /// Whether an expression holds a struct literal or a reference, so that it isn't plain.
-#[cycle(holds)]
-fn holds(expr: &Expr) -> bool
-    ensures { result ≡ Opening.holds (expr_view expr.now) }
+#[cycle(has_literal_or_reference)]
+fn has_literal_or_reference(expr: &Expr) -> bool
+    ensures { result ≡ Opening.has_literal_or_reference (expr_view expr.now) }
 {
     match expr {
-        Expr::Top
-        | Expr::Bottom
-        | Expr::Null
-        | Expr::Bool(_)
-        | Expr::Int(_)
-        | Expr::Text(_)
-        | Expr::Name { .. }
-        | Expr::Bound { .. }
-        | Expr::NotInt(_)
-        | Expr::NotText(_)
-        | Expr::NotNull => false,
         Expr::Reference { .. } | Expr::Struct { .. } => true,
-        Expr::And(operands) | Expr::Or(operands) => holds_some(operands),
-        Expr::Paren(inner) => holds(inner),
-        Expr::List { front, end } => holds_some(front) || holds_end(end),
+        Expr::And(operands) | Expr::Or(operands) => has_literal_or_reference_some(operands),
+        Expr::Paren(inner) => has_literal_or_reference(inner),
+        Expr::List { front, end } => has_literal_or_reference_some(front)
+            || has_literal_or_reference_end(end),
+        // The others have no parts.
+        _ => false,
     }
 }
 
-#[cycle(holds)]
-fn holds_some(operands: &Vec<Expr>) -> bool
-    ensures { result ≡ Opening.holds_some (exprs_view operands.now.items) }
+#[cycle(has_literal_or_reference)]
+fn has_literal_or_reference_some(operands: &Vec<Expr>) -> bool
+    ensures { result ≡ Opening.has_literal_or_reference_some (exprs_view operands.now.items) }
 {
     for operand in operands {
-        if holds(operand) {
+        if has_literal_or_reference(operand) {
             return true;
         }
     }
     false
 }
 
-#[cycle(holds)]
-fn holds_end(end: &ListEnd) -> bool
-    ensures { result ≡ Opening.holds_end (end_view end.now) }
+#[cycle(has_literal_or_reference)]
+fn has_literal_or_reference_end(end: &ListEnd) -> bool
+    ensures { result ≡ Opening.has_literal_or_reference_end (end_view end.now) }
 {
     match end {
         ListEnd::Closed | ListEnd::Any => false,
-        ListEnd::Each(inner) => holds(inner),
+        ListEnd::Each(inner) => has_literal_or_reference(inner),
     }
 }
 
 /// Whether a conjunction of these operands asks its literals to end with `...`.
-fn asks(operands: &Vec<Expr>) -> bool
-    ensures { result ≡ Opening.asks (map expr_view operands.now.items) }
+fn demands_open(operands: &Vec<Expr>) -> bool
+    ensures { result ≡ Opening.demands_open (map expr_view operands.now.items) }
 {
-    operands.iter().filter(|operand| holds(operand)).count() > 1
+    operands
+        .iter()
+        .filter(|operand| has_literal_or_reference(operand))
+        .count()
+        > 1
 }
 
 /// Notes a value under its name.
-fn note<'a>(repeats: &mut RepeatTable<'a>, name: &'a str, value: &Expr) -> Result<(), ResolveFault>
-    ensures noted { OnOk result ((ns : List Named) → Repeats repeats.old ns
+fn note<'a>(repeats: &mut RepeatTable<'a>, name: &'a str, value: &Expr) -> Result<(), AllocError>
+    ensures { OnOk result ((ns : List Named) → Repeats repeats.old ns
         → Repeats repeats.new (ns ++ record { name = name.now; value = expr_view value.now } ∷ [])) }
-    ensures memory { IfErr result (λ e. e ≡ ResolveFault.OutOfMemory) }
 {
-    if holds(value) {
+    if has_literal_or_reference(value) {
         let again = repeats.contains_key(name);
         repeats.insert(name, again)?;
     }
@@ -84,8 +79,8 @@ fn note<'a>(repeats: &mut RepeatTable<'a>, name: &'a str, value: &Expr) -> Resul
 }
 
 /// Whether the values of a name ask their literals to end with `...`.
-fn asks_of(repeats: &RepeatTable<'_>, name: &str) -> bool
-    ensures { (ns : List Named) → Repeats repeats.now ns → result ≡ Opening.asks (values name.now ns) }
+fn demands_open_of(repeats: &RepeatTable<'_>, name: &str) -> bool
+    ensures { (ns : List Named) → Repeats repeats.now ns → result ≡ Opening.demands_open (values name.now ns) }
 {
     match repeats.get(name) {
         Some(again) => *again,
@@ -94,9 +89,8 @@ fn asks_of(repeats: &RepeatTable<'_>, name: &str) -> bool
 }
 
 /// The table of a struct literal's labels.
-fn label_repeats(alloc: Global, fields: &Vec<Field>) -> Result<RepeatTable<'_>, ResolveFault>
-    ensures found { IfOk result (λ m. Repeats m (named_fields (fields_view fields.now.items))) }
-    ensures memory { IfErr result (λ e. e ≡ ResolveFault.OutOfMemory) }
+fn label_repeats(alloc: Global, fields: &Vec<Field>) -> Result<RepeatTable<'_>, AllocError>
+    ensures { IfOk result (λ m. Repeats m (named_fields (fields_view fields.now.items))) }
 {
     let mut repeats = IndexMap::new(alloc);
     for field in fields {
@@ -105,37 +99,27 @@ fn label_repeats(alloc: Global, fields: &Vec<Field>) -> Result<RepeatTable<'_>, 
     Ok(repeats)
 }
 
-/// Checks the literals in an expression of a file. Where `asked`, a conjunction around it asks them to end with `...`.
+/// Checks the literals in an expression of a file. Where `demanded`, a conjunction around it asks them to end with `...`.
 #[cycle(opening)]
-fn check_expr(alloc: Global, file: usize, asked: bool, expr: &Expr) -> Result<(), ResolveFault>
-    ensures { Checks result (ResolveFault.NotOpened file) (unopened asked (expr_view expr.now)) }
+fn check_expr(alloc: Global, file: usize, demanded: bool, expr: &Expr) -> Result<(), ResolveFault>
+    ensures { Checks result (ResolveFault.NotOpened file) (unopened demanded (expr_view expr.now)) }
 {
     match expr {
-        Expr::Top
-        | Expr::Bottom
-        | Expr::Null
-        | Expr::Bool(_)
-        | Expr::Int(_)
-        | Expr::Text(_)
-        | Expr::Name { .. }
-        | Expr::Reference { .. }
-        | Expr::Bound { .. }
-        | Expr::NotInt(_)
-        | Expr::NotText(_)
-        | Expr::NotNull => Ok(()),
-        Expr::And(operands) => check_all(alloc, file, asked || asks(operands), operands),
-        Expr::Or(operands) => check_all(alloc, file, asked, operands),
-        Expr::Paren(inner) => check_expr(alloc, file, asked, inner),
+        Expr::And(operands) => check_all(alloc, file, demanded || demands_open(operands), operands),
+        Expr::Or(operands) => check_all(alloc, file, demanded, operands),
+        Expr::Paren(inner) => check_expr(alloc, file, demanded, inner),
         Expr::Struct { at, fields, opened } => {
-            if asked && !*opened {
+            if demanded && !*opened {
                 return Err(ResolveFault::NotOpened { file, offset: *at });
             }
-            check_fields(alloc, file, asked, fields)
+            check_fields(alloc, file, demanded, fields)
         }
         Expr::List { front, end } => {
-            check_all(alloc, file, asked, front)?;
-            check_end(alloc, file, asked, end)
+            check_all(alloc, file, demanded, front)?;
+            check_end(alloc, file, demanded, end)
         }
+        // The others have no parts.
+        _ => Ok(()),
     }
 }
 
@@ -143,13 +127,13 @@ fn check_expr(alloc: Global, file: usize, asked: bool, expr: &Expr) -> Result<()
 fn check_all(
     alloc: Global,
     file: usize,
-    asked: bool,
+    demanded: bool,
     operands: &Vec<Expr>,
 ) -> Result<(), ResolveFault>
-    ensures { Checks result (ResolveFault.NotOpened file) (unopened_all asked (exprs_view operands.now.items)) }
+    ensures { Checks result (ResolveFault.NotOpened file) (unopened_all demanded (exprs_view operands.now.items)) }
 {
     for operand in operands {
-        check_expr(alloc, file, asked, operand)?;
+        check_expr(alloc, file, demanded, operand)?;
     }
     Ok(())
 }
@@ -158,26 +142,26 @@ fn check_all(
 fn check_fields(
     alloc: Global,
     file: usize,
-    asked: bool,
+    demanded: bool,
     fields: &Vec<Field>,
 ) -> Result<(), ResolveFault>
-    ensures { Checks result (ResolveFault.NotOpened file) (unopened_in asked (named_fields (fields_view fields.now.items)) (fields_view fields.now.items)) }
+    ensures { Checks result (ResolveFault.NotOpened file) (unopened_fields demanded (named_fields (fields_view fields.now.items)) (fields_view fields.now.items)) }
 {
     let repeats = label_repeats(alloc, fields)?;
     for field in fields {
-        let asked_here = asked || asks_of(&repeats, field.label.as_str());
-        check_expr(alloc, file, asked_here, &field.value)?;
+        let demanded_here = demanded || demands_open_of(&repeats, field.label.as_str());
+        check_expr(alloc, file, demanded_here, &field.value)?;
     }
     Ok(())
 }
 
 #[cycle(opening)]
-fn check_end(alloc: Global, file: usize, asked: bool, end: &ListEnd) -> Result<(), ResolveFault>
-    ensures { Checks result (ResolveFault.NotOpened file) (unopened_end asked (end_view end.now)) }
+fn check_end(alloc: Global, file: usize, demanded: bool, end: &ListEnd) -> Result<(), ResolveFault>
+    ensures { Checks result (ResolveFault.NotOpened file) (unopened_end demanded (end_view end.now)) }
 {
     match end {
         ListEnd::Closed | ListEnd::Any => Ok(()),
-        ListEnd::Each(inner) => check_expr(alloc, file, asked, inner),
+        ListEnd::Each(inner) => check_expr(alloc, file, demanded, inner),
     }
 }
 
@@ -185,10 +169,9 @@ fn check_end(alloc: Global, file: usize, asked: bool, end: &ListEnd) -> Result<(
 fn note_bodies<'a>(
     repeats: &mut RepeatTable<'a>,
     definitions: &'a Vec<Definition>,
-) -> Result<(), ResolveFault>
-    ensures noted { OnOk result ((ns : List Named) → Repeats repeats.old ns
+) -> Result<(), AllocError>
+    ensures { OnOk result ((ns : List Named) → Repeats repeats.old ns
         → Repeats repeats.new (ns ++ named_bodies (map definition_view definitions.now.items))) }
-    ensures memory { IfErr result (λ e. e ≡ ResolveFault.OutOfMemory) }
 {
     for definition in definitions {
         note(repeats, definition.name.as_str(), &definition.body)?;
@@ -197,9 +180,8 @@ fn note_bodies<'a>(
 }
 
 /// The table of the definitions of files.
-fn body_repeats(alloc: Global, files: &Vec<File>) -> Result<RepeatTable<'_>, ResolveFault>
-    ensures found { IfOk result (λ m. Repeats m (named_bodies (flat_map definitions (map file_view files.now.items)))) }
-    ensures memory { IfErr result (λ e. e ≡ ResolveFault.OutOfMemory) }
+fn body_repeats(alloc: Global, files: &Vec<File>) -> Result<RepeatTable<'_>, AllocError>
+    ensures { IfOk result (λ m. Repeats m (named_bodies (flat_map definitions (map file_view files.now.items)))) }
 {
     let mut repeats = IndexMap::new(alloc);
     for file in files {
@@ -219,8 +201,8 @@ fn check_definitions(
         → Checks result (ResolveFault.NotOpened file) (unopened_definitions all (map definition_view definitions.now.items)) }
 {
     for definition in definitions {
-        let asked = asks_of(repeats, definition.name.as_str());
-        check_expr(alloc, file, asked, &definition.body)?;
+        let demanded = demands_open_of(repeats, definition.name.as_str());
+        check_expr(alloc, file, demanded, &definition.body)?;
     }
     Ok(())
 }
@@ -242,5 +224,5 @@ pub(crate) fn check_opened(alloc: Global, files: &Vec<File>) -> Result<(), Resol
 /// a conjunction that holds them asks it.
 pub fn opening_law()
     ensures kept { (fs : List FileTree) → (unopened_files fs ≡ []) ↔ IsOpened fs }
-    ensures told { (fs : List FileTree) (i o : ℕ) → Contains (unopened_files fs) (i, o) ↔ IsAskedFor fs i o }
+    ensures at_fault { (fs : List FileTree) (i o : ℕ) → Contains (unopened_files fs) (i, o) ↔ IsUnopenedAt fs i o }
 {}

@@ -17,15 +17,14 @@ use crate::{Package, ResolveFault, Shape};
 use cs_grammar::{Definition, File};
 use cs_package::{NameTable, package_of};
 use indexmap::IndexMap;
-use std::alloc::Global;
+use std::alloc::{AllocError, Global};
 
 /// The package that the files declare: each name, in order of first declaration, with its bodies, by file and
 /// then by text (CUE, definitions).
 ///
 /// # Errors
-/// In this order: `PackageName`, with the first file that names another package than the first one named;
-/// `TooLarge`; `UnknownName` or `FieldReference`, at the first name of all that names nothing or a field, by file and
-/// then by text; `NotOpened`, at the first struct literal that has to end with `...` and doesn't.
+/// The first condition that the files fail, as the clause `refused` says: `PackageName`, `TooLarge`, `UnknownName` or
+/// `FieldReference`, `NotOpened`. `OutOfMemory`.
 pub fn resolve(alloc: Global, files: Vec<File>) -> Result<Package, ResolveFault>
     requires { AreSpelled (map file_view files.items) }
     ensures found { IfOk result (λ p. p ≡ environment_of_files (map file_view files.items)) }
@@ -46,11 +45,10 @@ pub fn resolve(alloc: Global, files: Vec<File>) -> Result<Package, ResolveFault>
 }
 
 /// The names that files declare.
-fn declared_names(alloc: Global, files: &Vec<File>) -> Result<NameTable, ResolveFault>
+fn declared_names(alloc: Global, files: &Vec<File>) -> Result<NameTable, AllocError>
     requires { AreSpelled (map file_view files.now.items) }
     ensures table { IfOk result (λ t. IsTable t.entries) }
     ensures found { IfOk result (λ t. names_of t.entries ≡ names (flat_map definitions (map file_view files.now.items))) }
-    ensures memory { IfErr result (λ e. e ≡ ResolveFault.OutOfMemory) }
 {
     let mut names = IndexMap::new(alloc);
     for file in files {
@@ -64,13 +62,12 @@ fn add_names(
     alloc: Global,
     names: &mut NameTable,
     definitions: &Vec<Definition>,
-) -> Result<(), ResolveFault>
+) -> Result<(), AllocError>
     requires table { IsTable names.old.entries }
     requires spelled { All (λ d. IsDefinitionName (defined_name d)) (map definition_view definitions.now.items) }
     ensures table { OnOk result (IsTable names.new.entries) }
     ensures added { OnOk result ((ns : List (List ℕ)) → names_of names.old.entries ≡ distinct ns
         → names_of names.new.entries ≡ distinct (ns ++ map defined_name (map definition_view definitions.now.items))) }
-    ensures memory { IfErr result (λ e. e ≡ ResolveFault.OutOfMemory) }
 {
     for definition in definitions {
         if names.contains_key(definition.name.as_str()) {
@@ -84,9 +81,8 @@ fn add_names(
 }
 
 /// A name as it is written, with `#`.
-fn written_name(alloc: Global, name: &String) -> Result<String, ResolveFault>
-    ensures text { IfOk result (λ w. string_bytes w ≡ written (string_bytes name.now)) }
-    ensures memory { IfErr result (λ e. e ≡ ResolveFault.OutOfMemory) }
+fn written_name(alloc: Global, name: &String) -> Result<String, AllocError>
+    ensures { IfOk result (λ w. string_bytes w ≡ written (string_bytes name.now)) }
 {
     let mut written = String::from_str(alloc, "#")?;
     written.push_str(name.as_str())?;
@@ -112,10 +108,9 @@ fn declared_bodies(
 }
 
 /// An empty list of bodies for each of so many names.
-fn no_bodies(alloc: Global, count: usize) -> Result<Vec<Vec<Shape>>, ResolveFault>
+fn no_bodies(alloc: Global, count: usize) -> Result<Vec<Vec<Shape>>, AllocError>
     ensures long { IfOk result (λ v. length v.items ≡ count) }
     ensures empty { IfOk result (λ v. AllByRecursion (λ b. b.items ≡ []) v.items) }
-    ensures memory { IfErr result (λ e. e ≡ ResolveFault.OutOfMemory) }
 {
     let mut bodies = Vec::with_capacity(alloc, count)?;
     for _ in 0..count {
@@ -154,14 +149,13 @@ fn add_body(
     bodies: &mut Vec<Vec<Shape>>,
     name: &str,
     shape: Shape,
-) -> Result<(), ResolveFault>
+) -> Result<(), AllocError>
     requires table { IsTable names.now.entries }
     requires long { length names.now.entries ≡ length bodies.old.items }
     ensures long { length bodies.new.items ≡ length bodies.old.items }
     ensures added { OnOk result ((ds : List DefinitionTree) (o : ℕ) (t : Tree)
         → AreBodiesOf (names_of names.now.entries) bodies.old.items ds → IsShapeOf (names_of names.now.entries) shape t
         → AreBodiesOf (names_of names.now.entries) bodies.new.items (ds ++ definition name.now o t ∷ [])) }
-    ensures memory { IfErr result (λ e. e ≡ ResolveFault.OutOfMemory) }
 {
     if let Some(i) = names.get_index_of(name) {
         bodies[i].push(shape)?;

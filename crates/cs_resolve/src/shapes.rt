@@ -1,10 +1,10 @@
 // From an expression to its shape: names are replaced by what they name.
-ghost use Rattle.std.specs.Prelude.{◌≡◌, ◌++◌, ℕ, List, [], ◌∷◌, IfOk, IfErr, OnOk};
+ghost use Rattle.std.specs.Prelude.{◌≡◌, ◌++◌, ℕ, List, [], ◌∷◌, IfOk, OnOk};
 ghost use Rattle.std.specs.List.{list_any};
 ghost use Rattle.cs_grammar.specs.Tree.{Label, named, reference};
 ghost use Rattle.cs_grammar.specs.View.{expr_view, exprs_view, field_view, fields_view, end_view};
 ghost use Rattle.cs_resolve.specs.Around.{has_text, HoldsLabels, HoldAround, AreShapesOf, ArePartsOf, IsEndOf};
-ghost use Rattle.cs_resolve.specs.Scopes.{places, places_all, places_in, places_end, labels};
+ghost use Rattle.cs_resolve.specs.Scopes.{places, places_all, places_fields, places_end, labels};
 ghost use Rattle.cs_resolve.specs.Steps.{faults_in, IsShapeOf, Resolves};
 ghost use Rattle.cs_package.specs.View.{names_of, IsTable};
 
@@ -12,17 +12,16 @@ use crate::kinds::predeclared_shape;
 use crate::{Part, ResolveFault, Shape, ShapeEnd};
 use cs_grammar::{Expr, Field, ListEnd};
 use cs_package::NameTable;
-use std::alloc::Global;
+use std::alloc::{AllocError, Global};
 use std::collections::HashSet;
 
 /// The labels of a struct literal that aren't quoted: a name can refer to these alone.
 type Labels<'a> = HashSet<&'a str>;
 
 /// Puts the label of a field among these, where it isn't quoted.
-fn put_label<'a>(labels: &mut Labels<'a>, field: &'a Field) -> Result<(), ResolveFault>
-    ensures put { OnOk result ((ls : List Label) → HoldsLabels labels.old ls
+fn put_label<'a>(labels: &mut Labels<'a>, field: &'a Field) -> Result<(), AllocError>
+    ensures { OnOk result ((ls : List Label) → HoldsLabels labels.old ls
         → HoldsLabels labels.new (ls ++ (field_view field.now).label ∷ [])) }
-    ensures memory { IfErr result (λ e. e ≡ ResolveFault.OutOfMemory) }
 {
     if !field.quoted {
         labels.insert(field.label.as_str())?;
@@ -30,9 +29,8 @@ fn put_label<'a>(labels: &mut Labels<'a>, field: &'a Field) -> Result<(), Resolv
     Ok(())
 }
 
-fn labels_of(alloc: Global, fields: &Vec<Field>) -> Result<Labels<'_>, ResolveFault>
-    ensures found { IfOk result (λ s. HoldsLabels s (labels (fields_view fields.now.items))) }
-    ensures memory { IfErr result (λ e. e ≡ ResolveFault.OutOfMemory) }
+fn labels_of(alloc: Global, fields: &Vec<Field>) -> Result<Labels<'_>, AllocError>
+    ensures { IfOk result (λ s. HoldsLabels s (labels (fields_view fields.now.items))) }
 {
     let mut labels = HashSet::new(alloc);
     for field in fields {
@@ -164,7 +162,7 @@ fn parts_of<'a>(
     ensures parts { (scopes : List (List Label)) → HoldAround around.old.items scopes
         → Resolves result (λ v. ArePartsOf (names_of names.now.entries) v.items (fields_view fields.now.items))
         (faults_in file (names_of names.now.entries)
-        (places_in (labels (fields_view fields.now.items) ∷ scopes) (fields_view fields.now.items))) }
+        (places_fields (labels (fields_view fields.now.items) ∷ scopes) (fields_view fields.now.items))) }
 {
     let own = labels_of(alloc, fields)?;
     around.push(own)?;
@@ -205,7 +203,7 @@ fn shape_end<'a>(
     }
 }
 
-/// The shape of a definition's body, which stands in the file of that number. No struct literal is around it.
+/// The shape of a definition's body, which is in the file of that number. No struct literal is around it.
 pub(crate) fn body_shape(
     alloc: Global,
     names: &NameTable,

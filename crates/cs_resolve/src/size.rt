@@ -3,7 +3,7 @@
 ghost use Rattle.std.specs.Prelude.{◌≡◌, ◌+◌, ◌<◌, ◌≤◌, ◌↔◌, IsTrue, MatchOption, map};
 ghost use Rattle.cs_grammar.specs.View.{expr_view, exprs_view, fields_view, end_view, definition_view, file_view};
 ghost use Rattle.cs_resolve.specs.Resolved.{most_nodes};
-ghost use Rattle.cs_resolve.specs.Size.{nodes, nodes_all, nodes_in, nodes_end, nodes_of_definitions, nodes_of_files};
+ghost use Rattle.cs_resolve.specs.Size.{nodes, nodes_all, nodes_fields, nodes_end, nodes_of_definitions, nodes_of_files};
 
 use cs_grammar::{Definition, Expr, Field, File, ListEnd};
 
@@ -19,18 +19,6 @@ fn room_after(room: usize, expr: &Expr) -> Option<usize>
     ensures { MatchOption result (room < nodes (expr_view expr.now)) (λ left. left + nodes (expr_view expr.now) ≡ room) }
 {
     match expr {
-        Expr::Top
-        | Expr::Bottom
-        | Expr::Null
-        | Expr::Bool(_)
-        | Expr::Int(_)
-        | Expr::Text(_)
-        | Expr::Name { .. }
-        | Expr::Reference { .. }
-        | Expr::Bound { .. }
-        | Expr::NotInt(_)
-        | Expr::NotText(_)
-        | Expr::NotNull => room.checked_sub(1),
         Expr::And(operands) | Expr::Or(operands) => room_after_all(room.checked_sub(1)?, operands),
         Expr::Paren(inner) => room_after(room, inner),
         Expr::Struct { fields, .. } => room_after_fields(room.checked_sub(1)?, fields),
@@ -38,6 +26,8 @@ fn room_after(room: usize, expr: &Expr) -> Option<usize>
             let left = room_after_all(room.checked_sub(1)?, front)?;
             room_after_end(left, end)
         }
+        // The others have no parts.
+        _ => room.checked_sub(1),
     }
 }
 
@@ -54,7 +44,7 @@ fn room_after_all(room: usize, operands: &Vec<Expr>) -> Option<usize>
 
 #[cycle(room)]
 fn room_after_fields(room: usize, fields: &Vec<Field>) -> Option<usize>
-    ensures { MatchOption result (room < nodes_in (fields_view fields.now.items)) (λ left. left + nodes_in (fields_view fields.now.items) ≡ room) }
+    ensures { MatchOption result (room < nodes_fields (fields_view fields.now.items)) (λ left. left + nodes_fields (fields_view fields.now.items) ≡ room) }
 {
     let mut left = room;
     for field in fields {

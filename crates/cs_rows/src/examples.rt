@@ -1,6 +1,6 @@
 // Packages with their schemas, and documents with their verdicts on both sides.
 use crate::tables::{Row, cell, check, sources_of};
-use cs_tool::{Fault, export, validate, vet};
+use cs_tool::{Fault, agree, export, validate, vet};
 use std::alloc::Global;
 use std::test::Fail;
 
@@ -35,7 +35,7 @@ const PACKAGES: &str =
 package p;#P: >2 % #Q: int % package p;#P: int => "P":{"allOf":[{"exclusiveMinimum":2,"type":"number"},{"type":"integer"}]},"Q":{"type":"integer"} => 3 => 2
 #Q: int % #P: ((int) & (<9 & >1)) => "P":{"allOf":[{"type":"integer"},{"allOf":[{"exclusiveMaximum":9,"type":"number"},{"exclusiveMinimum":1,"type":"number"}]}]},"Q":{"type":"integer"} => 8 => 9"#;
 
-/// Whether `vet` and `validate` give the document that verdict.
+/// Whether `vet`, `validate` and `agree` give the document that verdict.
 fn is(
     alloc: Global,
     sources: &[&[u8]],
@@ -45,7 +45,8 @@ fn is(
 ) -> Result<bool, Fault> {
     let vetted = vet(alloc, sources, "#P", doc)?;
     let validated = validate(alloc, schema, doc)?;
-    Ok(vetted == verdict && validated == verdict)
+    let agreed = agree(alloc, sources, "#P", doc)?;
+    Ok(vetted == verdict && validated == verdict && agreed == verdict)
 }
 
 /// Whether each of the documents, which blanks part, has that verdict.

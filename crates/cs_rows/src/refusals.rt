@@ -1,6 +1,6 @@
 // Refusals by their numbers, and what they carry.
 use crate::tables::{Row, cell, check, sources_of};
-use cs_tool::{Fault, export, validate, vet};
+use cs_tool::{Fault, agree, export, validate, vet};
 use std::alloc::{AllocError, Global};
 use std::test::Fail;
 
@@ -25,7 +25,7 @@ fn is_exported(
     is_told(alloc, &export(alloc, sources, root).err(), wanted)
 }
 
-/// Whether `vet` answers so.
+/// Whether `vet` and `agree` answer so.
 fn is_vetted(
     alloc: Global,
     sources: &[&[u8]],
@@ -33,11 +33,9 @@ fn is_vetted(
     doc: &str,
     wanted: &str,
 ) -> Result<bool, AllocError> {
-    is_told(
-        alloc,
-        &vet(alloc, sources, root, doc.as_bytes()).err(),
-        wanted,
-    )
+    let vetted = vet(alloc, sources, root, doc.as_bytes()).err();
+    let agreed = agree(alloc, sources, root, doc.as_bytes()).err();
+    Ok(is_told(alloc, &vetted, wanted)? && is_told(alloc, &agreed, wanted)?)
 }
 
 /// Whether `validate` answers so.
@@ -50,7 +48,7 @@ fn is_validated(alloc: Global, schema: &str, doc: &str, wanted: &str) -> Result<
 }
 
 /// Sources, which `%` parts and whose `;` are newlines, a root, and what `export` answers. A package that is accepted and
-/// has forms that aren't taken yet is refused by 5 at 0.
+/// has forms that aren't exported yet is refused by 5 at 0.
 const PACKAGES: &str = r##"#P: int => #P => 0 in 0 at 0
 #P: int => #Q => 13 in 0 at 0
 #P: int => P => 13 in 0 at 0
@@ -150,7 +148,7 @@ fn are_exported(
     is_exported(alloc, &[first, second], "#A", wanted)
 }
 
-/// Whether no source is taken behind so many blanks, be it a blank or a definition.
+/// Whether every source is refused after so many blanks, a blank as well as a definition.
 fn are_full(alloc: Global, blanks: &[u8]) -> Result<bool, AllocError> {
     Ok(
         are_exported(alloc, blanks, b"", "13 in 0 at 0")?

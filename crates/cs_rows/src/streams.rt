@@ -91,11 +91,22 @@ fn request(alloc: Global, file: Option<&[u8]>) -> Result<Request, AllocError> {
     Ok(Request::Export { files, root })
 }
 
+/// A request whether `1` is an instance of `#P`, with that file or with none.
+fn vet_request(alloc: Global, file: Option<&[u8]>) -> Result<Request, AllocError> {
+    let mut files = Vec::new(alloc);
+    if let Some(source) = file {
+        files.push(Vec::from_slice(alloc, source)?)?;
+    }
+    let root = String::from_str(alloc, "#P")?;
+    let doc = Vec::from_slice(alloc, b"1")?;
+    Ok(Request::Vet { files, root, doc })
+}
+
 /// The number of the refusal of a run over that input, which fails once, after so many calls, and gives a byte at each
 /// other; 0 for an answer.
 fn outcome(
     alloc: Global,
-    file: Option<&[u8]>,
+    request: Request,
     input: &[u8],
     calls: usize,
     output: &mut Room,
@@ -104,7 +115,6 @@ fn outcome(
         rest: input,
         calls_left: calls,
     };
-    let request = request(alloc, file)?;
     match run(alloc, request, &mut input, output) {
         Ok(answer) => Ok(if answer { 0 } else { 99 }),
         Err(fault) => Ok(fault.number()),
@@ -120,7 +130,7 @@ fn line_comes_out(
     a_call: usize,
 ) -> Result<bool, AllocError> {
     let mut output = with_room(alloc, 1000, a_call);
-    let number = outcome(alloc, file, input, calls, &mut output)?;
+    let number = outcome(alloc, request(alloc, file)?, input, calls, &mut output)?;
     Ok(number == 0 && output.taken.as_slice() == LINE && output.flushes == 1)
 }
 
@@ -139,7 +149,7 @@ fn reads_no_input_where_there_are_files(rt: HostRuntime) -> Result<(), Fail> {
 /// Whether a run over that input is refused by the number, and the writer has nothing.
 fn is_refused(alloc: Global, input: &[u8], calls: usize, number: u32) -> Result<bool, AllocError> {
     let mut output = with_room(alloc, 1000, 1000);
-    let told = outcome(alloc, None, input, calls, &mut output)?;
+    let told = outcome(alloc, request(alloc, None)?, input, calls, &mut output)?;
     Ok(told == number && output.taken.is_empty())
 }
 
@@ -165,7 +175,7 @@ fn is_cut(alloc: Global, left: usize, fails: bool, can_flush: bool) -> Result<bo
         can_flush,
         ..with_room(alloc, left, 1000)
     };
-    let number = outcome(alloc, Some(SOURCE), b"", 0, &mut output)?;
+    let number = outcome(alloc, request(alloc, Some(SOURCE))?, b"", 0, &mut output)?;
     Ok(number == 31 && output.taken.as_slice() == LINE.get(..left).unwrap_or(LINE))
 }
 
@@ -176,6 +186,26 @@ fn a_write_or_a_flush_fails(rt: HostRuntime) -> Result<(), Fail> {
     assert!(rt; is_cut(rt.alloc(), 0, true, true)?);
     assert!(rt; is_cut(rt.alloc(), 0, false, true)?);
     assert!(rt; is_cut(rt.alloc(), 1000, true, false)?);
+    Ok(())
+}
+
+/// Whether `vet` of a document that is an instance is refused by that number, and the writer, which takes three bytes, has
+/// that text.
+fn verdict_is_cut(
+    alloc: Global,
+    file: Option<&[u8]>,
+    number: u32,
+    text: &[u8],
+) -> Result<bool, AllocError> {
+    let mut output = with_room(alloc, 3, 1000);
+    let told = outcome(alloc, vet_request(alloc, file)?, SOURCE, 1, &mut output)?;
+    Ok(told == number && output.taken.as_slice() == text)
+}
+
+#[test]
+fn a_verdict_is_cut_short(rt: HostRuntime) -> Result<(), Fail> {
+    assert!(rt; verdict_is_cut(rt.alloc(), Some(SOURCE), 31, b"val")?);
+    assert!(rt; verdict_is_cut(rt.alloc(), None, 30, b"")?);
     Ok(())
 }
 
@@ -207,7 +237,13 @@ fn long_answer_comes_out_whole(alloc: Global) -> Result<bool, AllocError> {
         "{\"type\":\"integer\"}]}},\"$ref\":\"#/$defs/P\",\"$schema\":\"https://json-schema.org/draft/2020-12/schema\"}\n",
     )?;
     let mut output = with_room(alloc, 100_000, 1000);
-    let number = outcome(alloc, None, source.as_bytes(), 100_000, &mut output)?;
+    let number = outcome(
+        alloc,
+        request(alloc, None)?,
+        source.as_bytes(),
+        100_000,
+        &mut output,
+    )?;
     Ok(number == 0 && output.taken.as_slice() == line.as_bytes())
 }
 

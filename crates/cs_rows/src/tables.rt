@@ -1,5 +1,5 @@
 // Tables of examples: a row a line, its cells parted by `=>`.
-use crate::{documents, examples, refusals, schemas};
+use crate::{commands, documents, examples, refusals, requests, schemas};
 use std::alloc::{AllocError, Global};
 use std::test::Fail;
 
@@ -18,6 +18,10 @@ pub(crate) enum Row {
     Package,
     /// A schema, a document and what `validate` answers.
     Document,
+    /// A call, its texts, the input and what `run` answers.
+    Request,
+    /// Words, and what the command takes them for.
+    Words,
 }
 
 /// Fails with the first row that doesn't hold.
@@ -38,6 +42,8 @@ fn holds(alloc: Global, row: &str, rows: Row) -> Result<bool, Fail> {
         Row::Example => Ok(examples::is_held(alloc, row)?),
         Row::Package => Ok(refusals::is_answered(alloc, row)?),
         Row::Document => Ok(refusals::is_judged(alloc, row)?),
+        Row::Request => Ok(requests::is_run(alloc, row)?),
+        Row::Words => Ok(commands::is_read(alloc, row)?),
     }
 }
 

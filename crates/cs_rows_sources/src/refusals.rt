@@ -90,7 +90,7 @@ fn packages_are_guarded_or_refused(rt: HostRuntime) -> Result<(), Fail> {
     check(rt.alloc(), ANSWERS, Asked::Package)
 }
 
-/// A source: a line so many times behind the first text, in which `N` stands for its number and `M` for the next one, and
+/// A source: a line so many times after the first text, in which `N` stands for its number and `M` for the next one, and
 /// a last line.
 fn lines(
     alloc: Global,
@@ -109,25 +109,25 @@ fn lines(
     Ok(source)
 }
 
-/// How many times a line stands, the line, what stands before and behind these, and the answer.
-const LIMITS: &str = r##"1000 times "#DN: _;" behind "" and before "" => 0 in 0 at 0
-1000 times "#DN: _;" behind "" and before "#D7: #D999" => 0 in 0 at 0
-1001 times "#DN: _;" behind "" and before "" => 14 in 0 at 0
-1000 times "#DN: _;" behind "" and before "#E: x" => 14 in 0 at 0
-49998 times "_ & " behind "#A: " and before "_" => 0 in 0 at 0
-49999 times "_ & " behind "#A: " and before "_" => 14 in 0 at 0
-49998 times "[...] & " behind "#A: " and before "[...]" => 0 in 0 at 0
-49999 times "x & " behind "#A: " and before "x" => 14 in 0 at 0
-64 times "#AN: {a: #AM};" behind "" and before "#A64: int" => 0 in 0 at 0
-65 times "#AN: {a: #AM};" behind "" and before "#A65: int" => 16 in 0 at 0
-999 times "#AN: {a?: #AM};" behind "" and before "#A999: int" => 0 in 0 at 0
-65 times "#AN: {a: #AM};" behind "" and before "#A65: int, #B: {b: #B}" => #B
-40 times "#AN: #AM & #AM;" behind "" and before "#A40: int" => 0 in 0 at 0
-64 times "#AN: #AM & #AM;" behind "" and before "#A64: int" => 0 in 0 at 0
-65 times "#AN: #AM & #AM;" behind "" and before "#A65: int" => 16 in 0 at 0
-100 times "#AN: #AM;" behind "" and before "#A100: #A98" => #A98 #A99 #A100
-2 times "#AN: #AM;" behind "#A9: #A1;" and before "#A2: #A0" => #A0 #A1 #A2
-2 times "#AN: #AM;" behind "" and before "#A2: #A0" => #A0 #A1 #A2"##;
+/// How many times a line is repeated, the line, what comes before and after, and the answer.
+const LIMITS: &str = r##"1000 times "#DN: _;" after "" and before "" => 0 in 0 at 0
+1000 times "#DN: _;" after "" and before "#D7: #D999" => 0 in 0 at 0
+1001 times "#DN: _;" after "" and before "" => 14 in 0 at 0
+1000 times "#DN: _;" after "" and before "#E: x" => 14 in 0 at 0
+49998 times "_ & " after "#A: " and before "_" => 0 in 0 at 0
+49999 times "_ & " after "#A: " and before "_" => 14 in 0 at 0
+49998 times "[...] & " after "#A: " and before "[...]" => 0 in 0 at 0
+49999 times "x & " after "#A: " and before "x" => 14 in 0 at 0
+64 times "#AN: {a: #AM};" after "" and before "#A64: int" => 0 in 0 at 0
+65 times "#AN: {a: #AM};" after "" and before "#A65: int" => 16 in 0 at 0
+999 times "#AN: {a?: #AM};" after "" and before "#A999: int" => 0 in 0 at 0
+65 times "#AN: {a: #AM};" after "" and before "#A65: int, #B: {b: #B}" => #B
+40 times "#AN: #AM & #AM;" after "" and before "#A40: int" => 0 in 0 at 0
+64 times "#AN: #AM & #AM;" after "" and before "#A64: int" => 0 in 0 at 0
+65 times "#AN: #AM & #AM;" after "" and before "#A65: int" => 16 in 0 at 0
+100 times "#AN: #AM;" after "" and before "#A100: #A98" => #A98 #A99 #A100
+2 times "#AN: #AM;" after "#A9: #A1;" and before "#A2: #A0" => #A0 #A1 #A2
+2 times "#AN: #AM;" after "" and before "#A2: #A0" => #A0 #A1 #A2"##;
 
 /// The text up to the next quote, and what follows it.
 fn quoted(row: &str) -> (&str, &str) {

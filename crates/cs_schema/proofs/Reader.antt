@@ -21,7 +21,7 @@ use Rattle.cs_profile.proofs.Slots.{has_slot}
 use Rattle.cs_profile.proofs.Definitions.{named, found, with_defs, viewed, not_present, no_definitions}
 use Rattle.cs_profile.proofs.Faultless.{Faultless}
 use Rattle.cs_profile.proofs.Profiles.{root_references, roots_alone, other_keyword, references_trimmed, references_alike, no_reference_slot, defined_in_trimmed, is_some-map, trimmed_schema}
-use Rattle.cs_schema.proofs.Writing.{view-Object}
+use Rattle.cs_profile.proofs.Views.{view-Always, view-Object}
 
 -- ---- which names are defined
 
@@ -147,9 +147,6 @@ whole ms p k is h made names = record {
   profile = subst IsSchema (sym (document_is ms p k is made)) (trimmed_schema (object ms) h (name_is ms p h made ∙ names));
   bare = λ b e. let clash : object (present (slots_of k.value)) ≡ boolean b = sym (view-Object k) ∙ e in cc;
 }
-
-view-Always : (b : Bool) → schema_view (Always b) ≡ boolean b
-view-Always b = search (rules, the_lemmas)
 
 pub whole_truth : (b : Bool) (es : List (String Global × Schema)) → es ≡ [] → IsWhole (record { root = Always b; definitions = es })
 whole_truth b es none =

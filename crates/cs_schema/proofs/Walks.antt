@@ -1,5 +1,5 @@
 -- The walk and trimming, a part at a time.
-use Rattle.std.proofs.Common.{◌≡◌, ℕ, Bool, true, false, List, [], ◌∷◌, ◌++◌, Option, Some, None, String, Global, string_bytes, string_cmp, Less, refl, ap, ◌∙◌, length, subst, ◌==◌, map}
+use Rattle.std.proofs.Common.{◌≡◌, ℕ, Bool, true, false, List, [], ◌∷◌, ◌++◌, Option, Some, None, String, Global, string_bytes, string_cmp, Less, refl, ap, ◌∙◌, length, subst, ◌==◌}
 use Rattle.std.specs.List.{AllByRecursion}
 use Rattle.std.specs.List.Sorted.{IsStrictlySortedBy}
 use Rattle.std.specs.Map.{keys_of}
@@ -12,7 +12,7 @@ use Rattle.cs_document.proofs.Entries.{Entry}
 use Rattle.cs_profile.specs.Profile.{Fault, Visit, first, fault_of, element_visits, value_fault, list_visits}
 use Rattle.cs_profile.specs.Shapes.{some_schemas}
 use Rattle.cs_profile.specs.Trim.{trimmed, trimmed_members, trimmed_elements, trimmed_named, trimmed_value, with_member, trimmed_list}
-use Rattle.cs_profile.specs.SchemaDocument.{schema_view, schemas_view, definitions_view, unless_no_list, text_document}
+use Rattle.cs_profile.specs.SchemaDocument.{schema_view, schemas_view, definitions_view, unless_no_list}
 use Rattle.cs_schema.specs.Reading.{Refuses}
 use Rattle.cs_profile.specs.declared.fault.SchemaFault.{SchemaFault}
 use Rattle.cs_profile.specs.declared.fault.SchemaFault.TheVariants as fault
@@ -111,14 +111,3 @@ pub not_nil : {A : Type 0} (xs : List A) (n : ℕ) → n ≡ length xs → (n ==
 not_nil [] n e h =
     let g : (0 == 0) ≡ false = subst (λ m. (m == 0) ≡ false) e h in g
 not_nil (x ∷ xs) n e h = refl
-
-pub texts-push : (found : List (String Global)) (done : List Doc) (s : String Global) (d : Doc)
-    → documents_of (map text_document found) ≡ list_view done → text_document s ≡ doc_view d
-    → documents_of (map text_document (found ++ s ∷ [])) ≡ list_view (done ++ d ∷ [])
-texts-push [] [] s d is seen = rw seen
-texts-push [] (x ∷ done) s d is seen = cc
-texts-push (f ∷ found) [] s d is seen = cc
-texts-push (f ∷ found) (x ∷ done) s d is seen =
-    let first : text_document f ≡ doc_view x = cc in
-    let rest : documents_of (map text_document found) ≡ list_view done = cc in
-    rw first (ap (document (doc_view x)) (texts-push found done s d rest seen))

@@ -1,14 +1,14 @@
 -- Keywords that are put in their order stand in that order.
 use Rattle.std.proofs.Common.{◌≡◌, ◌↔◌, IsTrue, length, ℕ, zero, suc, Bool, false, List, [], ◌∷◌, ◌++◌, map, take, drop, Option, Some, None, option_map, String, Global, Box, Less, Greater, nat_cmp, string_bytes, codes, refl, sym, ap, ap₂, ◌∙◌, rules}
 use Rattle.std.proofs.lemmas.Cmp.{nat_list_cmp_total}
-use Rattle.std.proofs.lemmas.List.{map-append}
 use Rattle.std.proofs.Math.Seq.{drop-nil}
 use Rattle.std.specs.Cmp.Lexicographic.{slice_cmp}
 use Rattle.std.specs.Ordering.{ordering_reverse}
 use Rattle.cs_document.specs.Document.{Document, Members, no_members, member, integer, text, list, object, put}
 use Rattle.cs_document.specs.View.{doc_view, object_view, documents_of, members_of}
 use Rattle.cs_document.specs.declared.doc.Doc.{Doc}
-use Rattle.cs_document.proofs.Entries.{Entry}
+use Rattle.cs_document.proofs.Entries.{Entry, entries-push}
+pub use Rattle.cs_document.proofs.Maps.{map_more as mapped_more}
 use Rattle.cs_profile.specs.Shapes.{dialect}
 use Rattle.cs_profile.specs.Trim.{with_member, with_dialect}
 use Rattle.cs_profile.specs.SchemaDocument.{Slot, present, slots_of, schema_view, schemas_view, text_document, kind_name, definitions_view, unless_no_list, unless_no_map, SchemaValue, with_definitions, document_of}
@@ -16,6 +16,7 @@ use Rattle.cs_schema.specs.Writing.{put_some, put_all}
 use Rattle.cs_profile.specs.declared.schema.Schema.{Schema, Object, the_lemmas}
 use Rattle.cs_profile.specs.declared.schema.Keywords.{Keywords, out-Keywords}
 use Rattle.cs_profile.proofs.Slots.{Above, Ordered}
+use Rattle.cs_profile.proofs.Views.{view-Object}
 use Rattle.cs_schema.proofs.Walks.{join, join-nil, KeysBelow, is_nil}
 
 -- a key above the others goes last
@@ -100,11 +101,6 @@ definitions_put k o = put_some-first (codes "$defs") o (slots_of k) (below_keywo
 
 -- ---- lists and maps of schemas
 
--- one more element on both sides
-pub mapped_more : {X Y Z : Type 0} (f : X → Z) (g : Y → Z) (xs : List X) (ys : List Y) (x : X) (y : Y) → map f xs ≡ map g ys → f x ≡ g y → map f (xs ++ x ∷ []) ≡ map g (ys ++ y ∷ [])
-mapped_more f g xs ys x y all one =
-    map-append f xs (x ∷ []) ∙ ap₂ (λ zs z. zs ++ z ∷ []) all one ∙ sym (map-append g ys (y ∷ []))
-
 pub some_listed : {X : Type 0} (f : X → Document) (xs : List X) → is_nil xs ≡ false → unless_no_list (map f xs) ≡ Some (list (documents_of (map f xs)))
 some_listed f [] h = cc
 some_listed f (x ∷ xs) h = refl
@@ -112,14 +108,7 @@ some_listed f (x ∷ xs) h = refl
 pub members_of-push : (found : List Entry) (done : List (String Global × Schema)) (name : String Global) (d : Doc) (e : String Global × Schema)
     → object_view found ≡ members_of (definitions_view done) → string_bytes name ≡ string_bytes e.0 → doc_view d ≡ schema_view e.1
     → object_view (found ++ (name, d) ∷ []) ≡ members_of (definitions_view (done ++ e ∷ []))
-members_of-push [] [] name v e is named seen = rw (named, seen)
-members_of-push [] (d ∷ done) name v e is named seen = cc
-members_of-push (f ∷ found) [] name v e is named seen = cc
-members_of-push (f ∷ found) (d ∷ done) name v e is named seen =
-    let key : string_bytes f.0 ≡ string_bytes d.0 = cc in
-    let first : doc_view f.1 ≡ schema_view d.1 = cc in
-    let rest : object_view found ≡ members_of (definitions_view done) = cc in
-    rw (key, first) (ap (member (string_bytes d.0) (schema_view d.1)) (members_of-push found done name v e rest named seen))
+members_of-push found done name d e is named seen = entries-push doc_view schema_view found done name d e is named seen
 
 pub not_empty : {X : Type 0} (b : Bool) (xs : List X) → (IsTrue b ↔ (length xs ≡ 0)) → b ≡ false → is_nil xs ≡ false
 not_empty b [] h e = let t : IsTrue b = h.1 refl in cc
@@ -130,9 +119,6 @@ some_named [] h = cc
 some_named (e ∷ es) h = refl
 
 -- ---- the root
-
-pub view-Object : (k : Box Keywords Global) → schema_view (Object k) ≡ object (present (slots_of k.value))
-view-Object k = search (rules, the_lemmas)
 
 -- an object's keywords, with the definitions and the dialect put to them
 pub document_put : (v : SchemaValue) (k : Box Keywords Global) (o : Option Document) → v.root ≡ Object k → o ≡ unless_no_map (definitions_view v.definitions)

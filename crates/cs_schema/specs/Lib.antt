@@ -1,5 +1,5 @@
 pub use Rattle.cs_profile.specs.Keywords
-pub use Rattle.cs_profile.specs.Asked
+pub use Rattle.cs_profile.specs.Constraint
 pub use Rattle.cs_profile.specs.Validity
 pub use Rattle.cs_profile.specs.Loops
 pub use Rattle.cs_profile.specs.Shapes
@@ -8,5 +8,6 @@ pub use Rattle.cs_profile.specs.Profile
 pub use Rattle.cs_profile.specs.Trim
 pub use Rattle.cs_profile.specs.SchemaDocument
 pub use Rattle.cs_profile.specs.Refusal
+-- for contracts of private functions and proofs alone
 pub mod Reading
 pub mod Writing

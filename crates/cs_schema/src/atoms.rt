@@ -1,14 +1,14 @@
 // Values of keywords that hold no schema.
-ghost use Rattle.std.specs.Prelude.{◌≡◌, Some, None, false, true, IfSome, IfOk, string_bytes, IsOkUnless};
+ghost use Rattle.std.specs.Prelude.{◌≡◌, Some, None, false, true, IfSome, IfOk};
 ghost use Rattle.std.specs.List.{list_all};
 ghost use Rattle.cs_document.specs.Document.{text, integer};
 ghost use Rattle.cs_document.specs.View.{doc_view};
 ghost use Rattle.cs_profile.specs.Shapes.{has_form, a_reference, a_kind, an_integer, the_dialect, is_name as text_is_name, is_name_code as code_is_name};
 ghost use Rattle.cs_profile.specs.SchemaDocument.{kind_name, reference_document};
 
-use crate::{JsonKind, SchemaFault};
+use crate::JsonKind;
 use cs_document::Doc;
-use std::alloc::Global;
+use std::alloc::{AllocError, Global};
 
 /// The kind that a value names.
 pub(crate) fn kind_of(value: &Doc) -> Option<JsonKind>
@@ -74,11 +74,10 @@ pub(crate) fn is_dialect(value: &Doc) -> bool
 }
 
 /// The name that the value of a `$ref` refers to.
-pub(crate) fn reference_of(alloc: Global, value: &Doc) -> Result<Option<String>, SchemaFault>
+pub(crate) fn reference_of(alloc: Global, value: &Doc) -> Result<Option<String>, AllocError>
     ensures some { IfOk result (λ o. IfSome o (λ n. doc_view value.now ≡ reference_document n)) }
-    ensures right { IfOk result (λ o. IfSome o (λ n. has_form a_reference (doc_view value.now) ≡ true)) }
+    ensures accepted { IfOk result (λ o. IfSome o (λ n. has_form a_reference (doc_view value.now) ≡ true)) }
     ensures none { IfOk result (λ o. o ≡ None → has_form a_reference (doc_view value.now) ≡ false) }
-    ensures memory { IsOkUnless result SchemaFault.OutOfMemory }
 {
     match value {
         Doc::Text(text) => match text.strip_prefix("#/$defs/") {
@@ -109,12 +108,11 @@ fn is_name_code(c: u8) -> bool
 }
 
 /// An equal document.
-pub(crate) fn copied(alloc: Global, value: &Doc) -> Result<Doc, SchemaFault>
-    ensures value { IfOk result (λ d. doc_view d ≡ doc_view value.now) }
-    ensures memory { IsOkUnless result SchemaFault.OutOfMemory }
+pub(crate) fn copied(alloc: Global, value: &Doc) -> Result<Doc, AllocError>
+    ensures { IfOk result (λ d. doc_view d ≡ doc_view value.now) }
 {
     match value.copy(alloc) {
         Ok(doc) => Ok(doc),
-        Err(_) => Err(SchemaFault::OutOfMemory),
+        Err(_) => Err(AllocError),
     }
 }

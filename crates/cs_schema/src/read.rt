@@ -26,8 +26,8 @@ use std::collections::BTreeMap;
 /// Refused by the first fault: of a keyword or a value (`Keyword`, `Shape`), of a reference (`Reference`), and
 /// of definitions that reach themselves (`Loop`).
 pub fn read_schema(alloc: Global, doc: &Doc) -> Result<SchemaDoc, SchemaFault>
-    ensures found { OnOk result (IsSchema (doc_view doc.now)) }
-    ensures value { IfOk result (λ s. document_of s ≡ trim (doc_view doc.now)) }
+    ensures accepted { OnOk result (IsSchema (doc_view doc.now)) }
+    ensures found { IfOk result (λ s. document_of s ≡ trim (doc_view doc.now)) }
     ensures refused { IfErr result (λ e. IsRefusal e (doc_view doc.now)) }
     ensures one_meaning { OnOk result (OneMeaning (doc_view doc.now)) }
     ensures meaning { OnOk result (KeepsValidity (doc_view doc.now)) }
@@ -47,14 +47,14 @@ pub fn read_schema(alloc: Global, doc: &Doc) -> Result<SchemaDoc, SchemaFault>
     }
 }
 
-/// Refuses a root that refers to what is not defined. Below the root nothing refers to a name.
+/// Refuses a root that refers to a name that isn't defined. Below the root nothing refers to a name.
 fn find_reference(
     alloc: Global,
     reference: &Option<String>,
     definitions: &BTreeMap<String, Schema>,
 ) -> Result<(), SchemaFault>
-    ensures right { OnOk result (undefined_name reference.now definitions.now.entries ≡ None) }
-    ensures fault { IfErr result (λ e. Refuses e (undefined_name reference.now definitions.now.entries)) }
+    ensures accepted { OnOk result (undefined_name reference.now definitions.now.entries ≡ None) }
+    ensures refused { IfErr result (λ e. Refuses e (undefined_name reference.now definitions.now.entries)) }
 {
     let Some(name) = reference else {
         return Ok(());
@@ -69,11 +69,11 @@ fn find_reference(
 /// The schema that a document below the root is.
 #[cycle(read)]
 fn read_value(alloc: Global, place: &str, doc: &Doc) -> Result<Schema, SchemaFault>
-    ensures right { OnOk result
+    ensures accepted { OnOk result
         (first fault_of (visits false place.now (doc_view doc.now)) ≡ None) }
-    ensures value { IfOk result
+    ensures found { IfOk result
         (λ s. schema_view s ≡ trimmed false (doc_view doc.now)) }
-    ensures fault { IfErr result
+    ensures refused { IfErr result
         (λ e. Refuses e (first fault_of (visits false place.now (doc_view doc.now)))) }
 {
     match doc {
@@ -94,12 +94,12 @@ fn read_members(
     place: &str,
     members: &BTreeMap<String, Doc>,
 ) -> Result<Parts, SchemaFault>
-    ensures right { OnOk result
+    ensures accepted { OnOk result
         (first fault_of (member_visits root place.now (object_view members.now.entries)) ≡ None) }
-    ensures value { IfOk result (λ p. present (slots p)
+    ensures found { IfOk result (λ p. present (slots p)
         ≡ trimmed_members root (object_view members.now.entries)) }
     ensures below { IfOk result (λ p. root ≡ false → p.definitions.entries ≡ []) }
-    ensures fault { IfErr result (λ e. Refuses e
+    ensures refused { IfErr result (λ e. Refuses e
         (first fault_of (member_visits root place.now (object_view members.now.entries)))) }
 {
     let mut parts = Parts::new(alloc);
@@ -119,13 +119,13 @@ fn read_keyword(
     key: &str,
     value: &Doc,
 ) -> Result<Found, SchemaFault>
-    ensures right { OnOk result
+    ensures accepted { OnOk result
         (first fault_of (keyword_visits root place.now key.now (doc_view value.now)) ≡ None) }
-    ensures value { IfOk result
+    ensures found { IfOk result
         (λ f. found_value f ≡ trimmed_value root key.now (doc_view value.now)) }
     ensures name { IfOk result (λ f. IsFoundAt f key.now) }
     ensures below { IfOk result (λ f. root ≡ false → IsNoDefinitions f) }
-    ensures fault { IfErr result (λ e. Refuses e
+    ensures refused { IfErr result (λ e. Refuses e
         (first fault_of (keyword_visits root place.now key.now (doc_view value.now)))) }
 {
     match word_of(root, key) {
@@ -168,11 +168,11 @@ fn read_keyword(
 /// The schemas of a nonempty array under a key.
 #[cycle(read)]
 fn read_some(alloc: Global, place: &str, key: &str, value: &Doc) -> Result<Vec<Schema>, SchemaFault>
-    ensures right { OnOk result (value_fault place.now key.now some_schemas (doc_view value.now)
+    ensures accepted { OnOk result (value_fault place.now key.now some_schemas (doc_view value.now)
         (list_visits (key_place place.now key.now) (doc_view value.now)) ≡ None) }
-    ensures value { IfOk result (λ v. unless_no_list (schemas_view v.items)
+    ensures found { IfOk result (λ v. unless_no_list (schemas_view v.items)
         ≡ Some (trimmed_list (doc_view value.now))) }
-    ensures fault { IfErr result (λ e. Refuses e
+    ensures refused { IfErr result (λ e. Refuses e
         (value_fault place.now key.now some_schemas (doc_view value.now)
         (list_visits (key_place place.now key.now) (doc_view value.now)))) }
 {
@@ -195,11 +195,11 @@ fn read_named(
     key: &str,
     value: &Doc,
 ) -> Result<BTreeMap<String, Schema>, SchemaFault>
-    ensures right { OnOk result (value_fault place.now key.now named_schemas (doc_view value.now)
+    ensures accepted { OnOk result (value_fault place.now key.now named_schemas (doc_view value.now)
         (map_visits (key_place place.now key.now) (doc_view value.now)) ≡ None) }
-    ensures value { IfOk result (λ m. object (members_of (definitions_view m.entries))
+    ensures found { IfOk result (λ m. object (members_of (definitions_view m.entries))
         ≡ trimmed_map (doc_view value.now)) }
-    ensures fault { IfErr result (λ e. Refuses e
+    ensures refused { IfErr result (λ e. Refuses e
         (value_fault place.now key.now named_schemas (doc_view value.now)
         (map_visits (key_place place.now key.now) (doc_view value.now)))) }
 {
@@ -215,12 +215,12 @@ fn read_named(
 /// The schemas of an array.
 #[cycle(read)]
 fn read_list(alloc: Global, place: &str, items: &Vec<Doc>) -> Result<Vec<Schema>, SchemaFault>
-    ensures right { OnOk result
+    ensures accepted { OnOk result
         (first fault_of (element_visits place.now 0 (list_view items.now.items)) ≡ None) }
-    ensures value { IfOk result
+    ensures found { IfOk result
         (λ v. documents_of (schemas_view v.items)
         ≡ trimmed_elements (list_view items.now.items)) }
-    ensures fault { IfErr result
+    ensures refused { IfErr result
         (λ e. Refuses e (first fault_of (element_visits place.now 0 (list_view items.now.items)))) }
 {
     let mut schemas = Vec::with_capacity(alloc, items.len())?;
@@ -238,12 +238,12 @@ fn read_map(
     place: &str,
     members: &BTreeMap<String, Doc>,
 ) -> Result<BTreeMap<String, Schema>, SchemaFault>
-    ensures right { OnOk result
+    ensures accepted { OnOk result
         (first fault_of (named_visits place.now (object_view members.now.entries)) ≡ None) }
-    ensures value { IfOk result
+    ensures found { IfOk result
         (λ m. members_of (definitions_view m.entries)
         ≡ trimmed_named (object_view members.now.entries)) }
-    ensures fault { IfErr result
+    ensures refused { IfErr result
         (λ e. Refuses e (first fault_of (named_visits place.now (object_view members.now.entries)))) }
 {
     let mut schemas = BTreeMap::new(alloc);

@@ -2,7 +2,7 @@ ghost use Rattle.std.specs.Prelude.{◌≡◌, Some, None, IfSome, true, false};
 ghost use Rattle.cs_profile.specs.Shapes.{row};
 ghost use Rattle.cs_schema.specs.Reading.{word_row, Names};
 
-/// The keywords that the reader tells apart.
+/// The keywords that the reader distinguishes.
 #[derive(Clone, Copy)]
 pub(crate) enum Word {
     Dialect,
@@ -37,7 +37,7 @@ pub(crate) fn word_of(root: bool, key: &str) -> Option<Word>
 /// The keyword that a key is below the root.
 fn common_word(key: &str) -> Option<Word>
     ensures row { IfSome result (λ w. row false key.now ≡ Some (word_row w)) }
-    ensures also { IfSome result (λ w. row true key.now ≡ Some (word_row w)) }
+    ensures row_at_root { IfSome result (λ w. row true key.now ≡ Some (word_row w)) }
     ensures name { IfSome result (λ w. Names w key.now) }
     ensures none { result ≡ None → row false key.now ≡ None }
 {

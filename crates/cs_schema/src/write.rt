@@ -10,7 +10,7 @@ ghost use Rattle.cs_schema.specs.Writing.{put_some, put_all};
 use crate::atoms::{copied, name_of};
 use crate::{JsonKind, Keywords, Schema, SchemaDoc, SchemaFault};
 use cs_document::Doc;
-use std::alloc::Global;
+use std::alloc::{AllocError, Global};
 use std::collections::BTreeMap;
 
 /// The members of a schema object.
@@ -24,7 +24,8 @@ pub fn to_doc(alloc: Global, schema: &SchemaDoc) -> Result<Doc, SchemaFault>
     ensures trimmed { trim (document_of schema.now) ≡ document_of schema.now }
     ensures memory { IsOkUnless result SchemaFault.OutOfMemory }
 {
-    schema.is_whole();
+    // for the proof: what every schema document is
+    schema.whole_law(); // for the proof: the document is a schema of the profile, and trimmed
     match schema.root() {
         Schema::Always(b) => Ok(Doc::Bool(*b)),
         Schema::Object(keywords) => {
@@ -44,10 +45,9 @@ fn set(
     members: &mut Members,
     name: &str,
     value: Option<Doc>,
-) -> Result<(), SchemaFault>
-    ensures put { OnOk result (object_view members.new.entries
+) -> Result<(), AllocError>
+    ensures { OnOk result (object_view members.new.entries
         ≡ put_some name.now (option_map doc_view value) (object_view members.old.entries)) }
-    ensures memory { IsOkUnless result SchemaFault.OutOfMemory }
 {
     let Some(value) = value else {
         return Ok(());
@@ -58,9 +58,8 @@ fn set(
 
 /// The document that a schema below the root stands for.
 #[cycle(write)]
-fn schema_doc(alloc: Global, schema: &Schema) -> Result<Doc, SchemaFault>
-    ensures value { IfOk result (λ d. doc_view d ≡ schema_view schema.now) }
-    ensures memory { IsOkUnless result SchemaFault.OutOfMemory }
+fn schema_doc(alloc: Global, schema: &Schema) -> Result<Doc, AllocError>
+    ensures { IfOk result (λ d. doc_view d ≡ schema_view schema.now) }
 {
     match schema {
         Schema::Always(b) => Ok(Doc::Bool(*b)),
@@ -70,9 +69,8 @@ fn schema_doc(alloc: Global, schema: &Schema) -> Result<Doc, SchemaFault>
 
 /// The keywords of an object.
 #[cycle(write)]
-fn keywords_doc(alloc: Global, keywords: &Keywords) -> Result<Members, SchemaFault>
-    ensures value { IfOk result (λ m. object_view m.entries ≡ present (slots_of keywords.now)) }
-    ensures memory { IsOkUnless result SchemaFault.OutOfMemory }
+fn keywords_doc(alloc: Global, keywords: &Keywords) -> Result<Members, AllocError>
+    ensures { IfOk result (λ m. object_view m.entries ≡ present (slots_of keywords.now)) }
 {
     let mut members = BTreeMap::new(alloc);
     set_to_any_of(alloc, keywords, &mut members)?;
@@ -88,10 +86,9 @@ fn set_to_any_of(
     alloc: Global,
     keywords: &Keywords,
     members: &mut Members,
-) -> Result<(), SchemaFault>
-    ensures put { OnOk result (object_view members.new.entries
+) -> Result<(), AllocError>
+    ensures { OnOk result (object_view members.new.entries
         ≡ put_all (take 4 (slots_of keywords.now)) (object_view members.old.entries)) }
-    ensures memory { IsOkUnless result SchemaFault.OutOfMemory }
 {
     let reference = reference_doc(alloc, &keywords.reference)?;
     set(alloc, members, "$ref", reference)?;
@@ -104,14 +101,9 @@ fn set_to_any_of(
 }
 
 /// Puts the keywords from `const` to `exclusiveMinimum`, in byte order.
-fn set_to_above(
-    alloc: Global,
-    keywords: &Keywords,
-    members: &mut Members,
-) -> Result<(), SchemaFault>
-    ensures put { OnOk result (object_view members.new.entries
+fn set_to_above(alloc: Global, keywords: &Keywords, members: &mut Members) -> Result<(), AllocError>
+    ensures { OnOk result (object_view members.new.entries
         ≡ put_all (take 4 (drop 4 (slots_of keywords.now))) (object_view members.old.entries)) }
-    ensures memory { IsOkUnless result SchemaFault.OutOfMemory }
 {
     let equal = equal_doc(alloc, &keywords.equal)?;
     set(alloc, members, "const", equal)?;
@@ -129,10 +121,9 @@ fn set_to_minimum(
     alloc: Global,
     keywords: &Keywords,
     members: &mut Members,
-) -> Result<(), SchemaFault>
-    ensures put { OnOk result (object_view members.new.entries
+) -> Result<(), AllocError>
+    ensures { OnOk result (object_view members.new.entries
         ≡ put_all (take 4 (drop 8 (slots_of keywords.now))) (object_view members.old.entries)) }
-    ensures memory { IsOkUnless result SchemaFault.OutOfMemory }
 {
     let rest = option_doc(alloc, &keywords.rest)?;
     set(alloc, members, "items", rest)?;
@@ -146,10 +137,9 @@ fn set_to_minimum(
 
 /// Puts the keywords from `not` to `type`, in byte order.
 #[cycle(write)]
-fn set_to_kind(alloc: Global, keywords: &Keywords, members: &mut Members) -> Result<(), SchemaFault>
-    ensures put { OnOk result (object_view members.new.entries
+fn set_to_kind(alloc: Global, keywords: &Keywords, members: &mut Members) -> Result<(), AllocError>
+    ensures { OnOk result (object_view members.new.entries
         ≡ put_all (drop 12 (slots_of keywords.now)) (object_view members.old.entries)) }
-    ensures memory { IsOkUnless result SchemaFault.OutOfMemory }
 {
     let negated = option_doc(alloc, &keywords.negated)?;
     set(alloc, members, "not", negated)?;
@@ -165,9 +155,8 @@ fn set_to_kind(alloc: Global, keywords: &Keywords, members: &mut Members) -> Res
 
 /// A schema, where there is one.
 #[cycle(write)]
-fn option_doc(alloc: Global, schema: &Option<Schema>) -> Result<Option<Doc>, SchemaFault>
-    ensures value { IfOk result (λ o. option_map doc_view o ≡ option_map schema_view schema.now) }
-    ensures memory { IsOkUnless result SchemaFault.OutOfMemory }
+fn option_doc(alloc: Global, schema: &Option<Schema>) -> Result<Option<Doc>, AllocError>
+    ensures { IfOk result (λ o. option_map doc_view o ≡ option_map schema_view schema.now) }
 {
     match schema {
         Some(schema) => Ok(Some(schema_doc(alloc, schema)?)),
@@ -177,9 +166,8 @@ fn option_doc(alloc: Global, schema: &Option<Schema>) -> Result<Option<Doc>, Sch
 
 /// A list of schemas, unless it is empty.
 #[cycle(write)]
-fn list_doc(alloc: Global, schemas: &Vec<Schema>) -> Result<Option<Doc>, SchemaFault>
-    ensures value { IfOk result (λ o. option_map doc_view o ≡ unless_no_list (schemas_view schemas.now.items)) }
-    ensures memory { IsOkUnless result SchemaFault.OutOfMemory }
+fn list_doc(alloc: Global, schemas: &Vec<Schema>) -> Result<Option<Doc>, AllocError>
+    ensures { IfOk result (λ o. option_map doc_view o ≡ unless_no_list (schemas_view schemas.now.items)) }
 {
     if schemas.is_empty() {
         return Ok(None);
@@ -193,9 +181,8 @@ fn list_doc(alloc: Global, schemas: &Vec<Schema>) -> Result<Option<Doc>, SchemaF
 
 /// A map of schemas, unless it is empty.
 #[cycle(write)]
-fn map_doc(alloc: Global, schemas: &BTreeMap<String, Schema>) -> Result<Option<Doc>, SchemaFault>
-    ensures value { IfOk result (λ o. option_map doc_view o ≡ unless_no_map (definitions_view schemas.now.entries)) }
-    ensures memory { IsOkUnless result SchemaFault.OutOfMemory }
+fn map_doc(alloc: Global, schemas: &BTreeMap<String, Schema>) -> Result<Option<Doc>, AllocError>
+    ensures { IfOk result (λ o. option_map doc_view o ≡ unless_no_map (definitions_view schemas.now.entries)) }
 {
     if schemas.is_empty() {
         return Ok(None);
@@ -209,9 +196,8 @@ fn map_doc(alloc: Global, schemas: &BTreeMap<String, Schema>) -> Result<Option<D
     Ok(Some(Doc::Object(docs)))
 }
 
-fn text_doc(alloc: Global, text: &str) -> Result<Doc, SchemaFault>
-    ensures value { IfOk result (λ d. doc_view d ≡ a_text text.now) }
-    ensures memory { IsOkUnless result SchemaFault.OutOfMemory }
+fn text_doc(alloc: Global, text: &str) -> Result<Doc, AllocError>
+    ensures { IfOk result (λ d. doc_view d ≡ a_text text.now) }
 {
     Ok(Doc::Text(String::from_str(alloc, text)?))
 }
@@ -222,9 +208,8 @@ fn integer_doc(n: Option<i64>) -> Option<Doc>
     n.map(Doc::Int)
 }
 
-fn reference_doc(alloc: Global, name: &Option<String>) -> Result<Option<Doc>, SchemaFault>
-    ensures value { IfOk result (λ o. option_map doc_view o ≡ option_map reference_document name.now) }
-    ensures memory { IsOkUnless result SchemaFault.OutOfMemory }
+fn reference_doc(alloc: Global, name: &Option<String>) -> Result<Option<Doc>, AllocError>
+    ensures { IfOk result (λ o. option_map doc_view o ≡ option_map reference_document name.now) }
 {
     match name {
         Some(name) => Ok(Some(Doc::Text(format!(in alloc; "#/$defs/{name}")?))),
@@ -232,9 +217,8 @@ fn reference_doc(alloc: Global, name: &Option<String>) -> Result<Option<Doc>, Sc
     }
 }
 
-fn kind_doc(alloc: Global, kind: Option<JsonKind>) -> Result<Option<Doc>, SchemaFault>
-    ensures value { IfOk result (λ o. option_map doc_view o ≡ option_map (λ k. a_text (kind_name k)) kind) }
-    ensures memory { IsOkUnless result SchemaFault.OutOfMemory }
+fn kind_doc(alloc: Global, kind: Option<JsonKind>) -> Result<Option<Doc>, AllocError>
+    ensures { IfOk result (λ o. option_map doc_view o ≡ option_map (λ k. a_text (kind_name k)) kind) }
 {
     match kind {
         Some(kind) => Ok(Some(text_doc(alloc, name_of(kind))?)),
@@ -242,9 +226,8 @@ fn kind_doc(alloc: Global, kind: Option<JsonKind>) -> Result<Option<Doc>, Schema
     }
 }
 
-fn equal_doc(alloc: Global, value: &Option<Doc>) -> Result<Option<Doc>, SchemaFault>
-    ensures value { IfOk result (λ o. option_map doc_view o ≡ option_map doc_view value.now) }
-    ensures memory { IsOkUnless result SchemaFault.OutOfMemory }
+fn equal_doc(alloc: Global, value: &Option<Doc>) -> Result<Option<Doc>, AllocError>
+    ensures { IfOk result (λ o. option_map doc_view o ≡ option_map doc_view value.now) }
 {
     match value {
         Some(value) => Ok(Some(copied(alloc, value)?)),
@@ -252,9 +235,8 @@ fn equal_doc(alloc: Global, value: &Option<Doc>) -> Result<Option<Doc>, SchemaFa
     }
 }
 
-fn one_of_doc(alloc: Global, values: &Option<Vec<Doc>>) -> Result<Option<Doc>, SchemaFault>
-    ensures value { IfOk result (λ o. option_map doc_view o ≡ option_map (λ v. list (list_view v.items)) values.now) }
-    ensures memory { IsOkUnless result SchemaFault.OutOfMemory }
+fn one_of_doc(alloc: Global, values: &Option<Vec<Doc>>) -> Result<Option<Doc>, AllocError>
+    ensures { IfOk result (λ o. option_map doc_view o ≡ option_map (λ v. list (list_view v.items)) values.now) }
 {
     match values {
         Some(values) => Ok(Some(Doc::List(copies_of(alloc, values)?))),
@@ -262,9 +244,8 @@ fn one_of_doc(alloc: Global, values: &Option<Vec<Doc>>) -> Result<Option<Doc>, S
     }
 }
 
-fn copies_of(alloc: Global, values: &Vec<Doc>) -> Result<Vec<Doc>, SchemaFault>
-    ensures value { IfOk result (λ v. list_view v.items ≡ list_view values.now.items) }
-    ensures memory { IsOkUnless result SchemaFault.OutOfMemory }
+fn copies_of(alloc: Global, values: &Vec<Doc>) -> Result<Vec<Doc>, AllocError>
+    ensures { IfOk result (λ v. list_view v.items ≡ list_view values.now.items) }
 {
     let mut docs = Vec::with_capacity(alloc, values.len())?;
     for value in values {
@@ -274,9 +255,8 @@ fn copies_of(alloc: Global, values: &Vec<Doc>) -> Result<Vec<Doc>, SchemaFault>
 }
 
 /// A list of texts, unless it is empty.
-fn texts_doc(alloc: Global, texts: &Vec<String>) -> Result<Option<Doc>, SchemaFault>
-    ensures value { IfOk result (λ o. option_map doc_view o ≡ unless_no_list (map text_document texts.now.items)) }
-    ensures memory { IsOkUnless result SchemaFault.OutOfMemory }
+fn texts_doc(alloc: Global, texts: &Vec<String>) -> Result<Option<Doc>, AllocError>
+    ensures { IfOk result (λ o. option_map doc_view o ≡ unless_no_list (map text_document texts.now.items)) }
 {
     if texts.is_empty() {
         return Ok(None);

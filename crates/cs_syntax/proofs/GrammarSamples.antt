@@ -7,8 +7,8 @@ use Rattle.cs_grammar.specs.Tree as T
 use Rattle.cs_grammar.specs.Tree.{Tree, FileTree, file, definition}
 use Rattle.cs_syntax.specs.Nesting.{nesting}
 use Rattle.cs_grammar.specs.Spells.{SpellsFile}
-use Rattle.cs_syntax.specs.Reading.{number_at, integer_at, plain_at, many, label_at, field_with, struct_with, rest_with, end_with, list_with, operand_with, conj_with, expr_with, inner, definition_at, line_at, package_at, file_with, file_at}
-use Rattle.cs_syntax.proofs.Sound.{file_found}
+use Rattle.cs_syntax.specs.Reading.{number_at, integer_at, unbracketed_at, many, label_at, field_with, struct_with, rest_with, end_with, list_with, operand_with, conj_with, expr_with, inner, definition_at, line_at, package_at, file_with, file_at}
+use Rattle.cs_syntax.proofs.Soundness.{file_found}
 
 -- the words of `#A: ` and a body, with the comma and the end at that offset
 abbrev one_body : Words → Words
@@ -23,10 +23,10 @@ abbrev choice : Words
 choice = one_body (W.numeral 1 4 ∷ W.bar 6 ∷ W.numeral 2 8 ∷ W.amp 10 ∷ W.numeral 3 12 ∷ W.nl 13 ∷ W.finish 13 ∷ [])
 
 abbrev choice_tree : Tree
-choice_tree = T.join (T.more (T.integer (pos 1)) (T.more (T.meet (T.more (T.integer (pos 2)) (T.more (T.integer (pos 3)) T.none))) T.none))
+choice_tree = T.disjunction (T.more (T.atom (T.integer (pos 1))) (T.more (T.conjunction (T.more (T.atom (T.integer (pos 2))) (T.more (T.atom (T.integer (pos 3))) T.none))) T.none))
 
 choice_read : file_at choice ≡ Ok (one_file choice_tree)
-unfolding number_at integer_at plain_at many operand_with conj_with expr_with inner definition_at line_at package_at file_with
+unfolding number_at integer_at unbracketed_at many operand_with conj_with expr_with inner definition_at line_at package_at file_with
 choice_read = refl
 
 pub choice_spelled : SpellsFile (one_file choice_tree) choice
@@ -44,7 +44,7 @@ short_tree =
     T.no_field) false
 
 short_read : file_at short_form ≡ Ok (one_file short_tree)
-unfolding number_at integer_at plain_at many label_at field_with struct_with rest_with end_with list_with operand_with conj_with expr_with inner definition_at line_at package_at file_with
+unfolding number_at integer_at unbracketed_at many label_at field_with struct_with rest_with end_with list_with operand_with conj_with expr_with inner definition_at line_at package_at file_with
 short_read = refl
 
 pub short_spelled : SpellsFile (one_file short_tree) short_form

@@ -1,17 +1,16 @@
 -- Heights, one by one.
-use Rattle.std.proofs.Common.{◌≡◌, ℕ, ◌+◌, ◌-◌, suc, zero, ◌<◌, ◌≤◌, List, [], ◌∷◌, length, drop, get_or, drop-cons, Bool, true, false, refl, ap, sym, ◌∙◌, rules, arith, Vec, Box, Global}
+use Rattle.std.proofs.Common.{◌≡◌, ℕ, ◌+◌, ◌-◌, suc, zero, ◌<◌, ◌≤◌, List, [], ◌∷◌, length, drop, get_or, drop-cons, true, false, refl, ap, sym, ◌∙◌, arith}
 use Rattle.std.proofs.Math.Numerals.{add-one}
 use Rattle.std.proofs.lemmas.List.{drop_all}
 use Rattle.std.proofs.lemmas.Bool.Decides.{nat_tests}
 use Rattle.std.specs.Prelude.{max, nat_le, ◌&&◌}
 use Rattle.cs_grammar.specs.declared.ast.Expr as Exprs
-use Rattle.cs_grammar.specs.declared.ast.Expr.{Expr}
 use Rattle.cs_grammar.specs.declared.ast.Field.{Field}
-use Rattle.cs_grammar.specs.declared.ast.ListEnd.{ListEnd, Closed, Any, Each}
 use Rattle.cs_grammar.specs.Tree as T
 use Rattle.cs_grammar.specs.Tree.{Tree}
-use Rattle.cs_grammar.specs.View.{expr_view, exprs_view, field_view, fields_view, end_view}
-use Rattle.cs_syntax.specs.Height.{height, heights, field_heights, end_height}
+use Rattle.cs_grammar.specs.View.{expr_view, fields_view}
+use Rattle.cs_grammar.proofs.Views.{view-value}
+use Rattle.cs_syntax.specs.Height.{height, height_all, height_fields, height_end}
 
 max_within : (m n k : ℕ) → nat_le m k ≡ true → nat_le (max m n) k ≡ nat_le n k
 max_within m n k h = grind (arith, nat_tests)
@@ -46,34 +45,22 @@ module _ {X : Type 0} (one : X → ℕ) (all : List X → ℕ) (nothing : all []
 
 -- ---- expressions, level by level
 
-pub view-value : (f : Field) → (field_view f).value ≡ expr_view f.value
-view-value f = search (rules, Exprs.the_lemmas)
-
-pub field_parts : (f : Field) (fs : List Field) → field_heights (fields_view (f ∷ fs)) ≡ max (height (expr_view f.value)) (field_heights (fields_view fs))
-field_parts f fs = ap (λ e. max (height e) (field_heights (fields_view fs))) (view-value f)
+pub field_parts : (f : Field) (fs : List Field) → height_fields (fields_view (f ∷ fs)) ≡ max (height (expr_view f.value)) (height_fields (fields_view fs))
+field_parts f fs = ap (λ e. max (height e) (height_fields (fields_view fs))) (view-value f)
 
 one_higher : (n : ℕ) → nat_le (suc n) 0 ≡ false
 one_higher n = grind (arith, nat_tests)
 
 -- every tree has some height
 has_height : (e : Tree) → nat_le (height e) 0 ≡ false
-has_height T.top = refl
-has_height T.bottom = refl
-has_height T.null = refl
-has_height (T.boolean b) = refl
-has_height (T.integer z) = refl
-has_height (T.text s) = refl
+has_height (T.atom a) = refl
 has_height (T.named s o) = refl
 has_height (T.reference s o) = refl
-has_height (T.bound r z) = refl
-has_height (T.not_integer z) = refl
-has_height (T.not_text s) = refl
-has_height T.not_null = refl
-has_height (T.meet es) = one_higher (heights es)
-has_height (T.join es) = one_higher (heights es)
+has_height (T.conjunction es) = one_higher (height_all es)
+has_height (T.disjunction es) = one_higher (height_all es)
 has_height (T.paren e) = one_higher (height e)
-has_height (T.struct o fs b) = one_higher (field_heights fs)
-has_height (T.list es end) = one_higher (max (heights es) (end_height end))
+has_height (T.struct o fs b) = one_higher (height_fields fs)
+has_height (T.list es end) = one_higher (max (height_all es) (height_end end))
 
 pub no_height : (e : Tree) (k : ℕ) → k ≡ 0 → nat_le (height e) k ≡ false
 no_height e k is = ap (λ n. nat_le (height e) n) is ∙ has_height e
@@ -81,21 +68,3 @@ no_height e k is = ap (λ n. nat_le (height e) n) is ∙ has_height e
 pub positive : (n : ℕ) → (n ≡ 0 → ⊥) → 0 < n
 positive zero h = absurd (h refl)
 positive (suc n) h = omega arith
-
-pub view-Struct : (at : ℕ) (v : Vec Field Global) (o : Bool) → expr_view (Exprs.Struct at v o) ≡ T.struct at (fields_view v.items) o
-view-Struct at v o = search (rules, Exprs.the_lemmas)
-
-pub view-List : (v : Vec Expr Global) (end : ListEnd) → expr_view (Exprs.List v end) ≡ T.list (exprs_view v.items) (end_view end)
-view-List v end = search (rules, Exprs.the_lemmas)
-
-pub view-Paren : (b : Box Expr Global) → expr_view (Exprs.Paren b) ≡ T.paren (expr_view b.value)
-view-Paren b = search (rules, Exprs.the_lemmas)
-
-pub view-Closed : end_view Closed ≡ T.closed
-view-Closed = search (rules, Exprs.the_lemmas)
-
-pub view-Any : end_view Any ≡ T.any
-view-Any = search (rules, Exprs.the_lemmas)
-
-pub view-Each : (b : Box Expr Global) → end_view (Each b) ≡ T.each (expr_view b.value)
-view-Each b = search (rules, Exprs.the_lemmas)

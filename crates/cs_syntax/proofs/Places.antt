@@ -6,17 +6,17 @@ use denote.Enum.Bare.{sameb}
 use Rattle.cs_grammar.specs.contracts.kind.Kind.{the_type}
 use Rattle.cs_grammar.specs.declared.kind.Kind.{Kind}
 use Rattle.cs_grammar.specs.declared.kind.Kind.TheVariants as kinds
-use Rattle.cs_grammar.specs.declared.ast.Relation.TheVariants as relations
-use Rattle.cs_grammar.specs.declared.line.Line.{Line}
-use Rattle.cs_grammar.specs.declared.line.Line.TheVariants.{Plain, WantsComma, Minus}
+use Rattle.cs_grammar.specs.Atom as atoms
+use Rattle.cs_grammar.specs.declared.line.LineState.{LineState}
+use Rattle.cs_grammar.specs.declared.line.LineState.TheVariants.{Plain, WantsComma, Minus}
 use Rattle.cs_grammar.specs.Cut.{Lexeme, comma_if, Cut, blank, new_line, comment, token, finish, Stuck, no_token, too_large, past_blank, past_line, past_comment, past_token}
 use Rattle.cs_grammar.specs.Words as W
 use Rattle.std.specs.Prelude.{◌&&◌, ◌||◌, not, cond}
 use Rattle.cs_grammar.specs.Words.{Word, Words, start, name, quoted, definition_name, numeral, top_mark, bottom_mark, open_paren, open_struct, open_list, close_paren, close_struct, close_list, comma, nl, colon, question, bang, dots, relation, unequal, minus}
-use Rattle.cs_grammar.specs.Tree.{Tree, not_integer, DefinitionTree, FileTree, file}
-use Rattle.cs_grammar.specs.Spells.{is_keyword, is_null, literal_of}
+use Rattle.cs_grammar.specs.Tree.{Tree, atom, not_integer, DefinitionTree, FileTree, file}
+use Rattle.cs_grammar.specs.Spells.{is_reserved, is_null, literal_of}
 use Rattle.cs_grammar.specs.View.{words}
-use Rattle.cs_syntax.specs.Reading.{◌>>=◌, Read, word_kind, begins_with, begins_comma, fault_at, behind_if, after, after_comma, or_fault, beyond, comma_at, close_at, paren_end, expected, signed, number_or, number_at, name_or, null_or, bound_at, unequal_at, integer_at, plain_at, or_more, many, another_field, another_element, opening, opening_if, opening_at, rest_behind, may_end, label_at, mark_if, mark_at, field_with, fields_with, struct_if, struct_with, rest_if, rest_with, end_if, end_with, elements_with, list_if, list_with, operand_with, amps_with, conj_with, bars_with, expr_with, value_if, begins_field, inner, definition_at, line_at, before_end, definitions_at, is_clause, clause_at, package_if, package_at, whole, file_with, file_at}
+use Rattle.cs_syntax.specs.Reading.{◌>>=◌, Read, word_kind, begins_with, begins_comma, fault_at, behind_if, after, after_comma, or_fault, beyond, comma_at, close_at, paren_end, expected, signed, number_or, number_at, name_or, null_or, bound_at, unequal_at, integer_at, unbracketed_at, or_more, many, another_field, another_element, opening, opening_if, opening_at, rest_behind, may_end, label_at, mark_if, mark_at, field_with, fields_with, struct_if, struct_with, rest_if, rest_with, end_if, end_with, elements_with, list_if, list_with, operand_with, amps_with, conj_with, bars_with, expr_with, value_if, begins_field, inner, definition_at, line_at, before_end, definitions_at, is_clause, clause_at, package_if, package_at, whole, file_with, file_at}
 use Rattle.cs_syntax.specs.Place.{is_left_out, fault_if, Ends, same, past, IsFaultIn}
 use Rattle.cs_lexer.specs.Lexed.{IsRefusal}
 use Rattle.cs_syntax.specs.Answer.{IsFileRefusal}
@@ -27,12 +27,12 @@ pub data WellEnded : Words → Type 0 where
   last : {p : ℕ} → WellEnded (W.finish p ∷ [])
   before : {w : Word} {ts : Words} → WellEnded ts → WellEnded (w ∷ ts)
 
-comma_ended : (l : Line) (o : ℕ) (ks : List Lexeme) → WellEnded (words ks) → WellEnded (words (comma_if l o ks))
+comma_ended : (l : LineState) (o : ℕ) (ks : List Lexeme) → WellEnded (words ks) → WellEnded (words (comma_if l o ks))
 comma_ended WantsComma o ks h = before h
 comma_ended Plain o ks h = h
 comma_ended Minus o ks h = h
 
-pub cut_ended : {bs : List ℕ} {o : ℕ} {l : Line} {ks : List Lexeme} → Cut bs o l ks → WellEnded (words ks)
+pub cut_ended : {bs : List ℕ} {o : ℕ} {l : LineState} {ks : List Lexeme} → Cut bs o l ks → WellEnded (words ks)
 cut_ended (blank h k) = cut_ended k
 cut_ended (new_line {o = o} {l = l} {ks = ks} h k) = comma_ended l o ks (cut_ended k)
 cut_ended (comment {o = o} {l = l} {ks = ks} h k) = comma_ended l o ks (cut_ended k)
@@ -146,7 +146,7 @@ unfolding number_at
 number_goes (numeral n p ∷ ts) (before e) = number_or_goes n p ts (signed false n) e
 number_goes (minus q ∷ numeral n p ∷ ts) (before (before e)) = moved (minus q ∷ numeral n p ∷ ts) (numeral n p ∷ ts) (number_or (signed true n) p ts) (past same) (number_or_goes n p ts (signed true n) e)
 number_goes (minus q ∷ ts) (before e) = fault_moved (minus q ∷ ts) ts (fault_at ts) (past same) (fault_here ts e)
-number_goes (relation relations.Less p ∷ ts) e = fault_here (relation relations.Less p ∷ ts) e
+number_goes (relation atoms.less p ∷ ts) e = fault_here (relation atoms.less p ∷ ts) e
 number_goes ts e = fault_here ts e
 
 name_or_goes : (b : Bool) (o : Option Tree) (s : List ℕ) (p : ℕ) (ts : Words) → WellEnded ts → Goes (name s p ∷ ts) (name_or b o s p ts)
@@ -157,7 +157,7 @@ null_or_goes : (b : Bool) (s : List ℕ) (p : ℕ) (ts : Words) → WellEnded ts
 null_or_goes false s p ts e = (name s p, ts, same, refl)
 null_or_goes true s p ts e = (past same, e)
 
-unequal_number_goes : IsGoing (λ ts. number_at ts >>= λ z. Ok (not_integer z.0, z.1))
+unequal_number_goes : IsGoing (λ ts. number_at ts >>= λ z. Ok (atom (not_integer z.0), z.1))
 unequal_number_goes ts e = then ts (number_at ts) _ (number_goes ts e) (λ x h. (same, h))
 
 unequal_goes : IsGoing unequal_at
@@ -170,12 +170,12 @@ integer_goes : IsGoing integer_at
 unfolding integer_at
 integer_goes ts e = then ts (number_at ts) _ (number_goes ts e) (λ x h. (same, h))
 
-plain_goes : IsGoing plain_at
-unfolding plain_at bound_at
+plain_goes : IsGoing unbracketed_at
+unfolding unbracketed_at bound_at
 plain_goes (top_mark p ∷ ts) (before e) = (past same, e)
 plain_goes (bottom_mark p ∷ ts) (before e) = (past same, e)
 plain_goes (definition_name s p ∷ ts) (before e) = (past same, e)
-plain_goes (name s p ∷ ts) (before e) = name_or_goes (is_keyword s) (literal_of s) s p ts e
+plain_goes (name s p ∷ ts) (before e) = name_or_goes (is_reserved s) (literal_of s) s p ts e
 plain_goes (quoted s p ∷ ts) (before e) = (past same, e)
 plain_goes (relation b p ∷ ts) (before e) = moved (relation b p ∷ ts) ts (bound_at b ts) (past same) (then ts (number_at ts) _ (number_goes ts e) (λ x h. (same, h)))
 plain_goes (unequal p ∷ ts) (before e) = moved (unequal p ∷ ts) ts (unequal_at ts) (past same) (unequal_goes ts e)
@@ -319,7 +319,7 @@ fault_is [] f e h = elim e [ ]
 rest_fault : (us : Words) → WellEnded us → (x : FileTree) (f : SyntaxFault) → (expected kinds.End us >>= λ ws. whole x ws) ≡ Err f → IsFaultIn f us
 rest_fault (W.finish q ∷ []) e x f is = absurd cc
 rest_fault (W.finish q ∷ w ∷ us) e x f is = (w, us, past same, cc)
-rest_fault (relation relations.Less p ∷ us) e x f is = fault_is (relation relations.Less p ∷ us) f e cc
+rest_fault (relation atoms.less p ∷ us) e x f is = fault_is (relation atoms.less p ∷ us) f e cc
 rest_fault us e x f is = fault_is us f e cc
 
 pub file_fault : (ts : Words) → WellEnded ts → (f : SyntaxFault) → file_at ts ≡ Err f → IsFaultIn f ts
@@ -341,7 +341,7 @@ is_lexical (faults.NoToken o) = true
 is_lexical (faults.IntegerRange o) = true
 is_lexical _ = false
 
-stuck_lexical : {bs : List ℕ} {o : ℕ} {l : Line} {f : SyntaxFault} → Stuck bs o l f → is_lexical f ≡ true
+stuck_lexical : {bs : List ℕ} {o : ℕ} {l : LineState} {f : SyntaxFault} → Stuck bs o l f → is_lexical f ≡ true
 stuck_lexical (no_token h) = refl
 stuck_lexical (too_large h) = refl
 stuck_lexical (past_blank h k) = stuck_lexical k

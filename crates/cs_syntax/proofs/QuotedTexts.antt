@@ -1,13 +1,14 @@
 -- Texts begin with a quote.
-use Rattle.std.proofs.Common.{◌≡◌, ℕ, zero, suc, List, [], ◌∷◌, drop, Bool, true, false, cond, ◌&&◌, Option, Some, refl, sym, ap, ◌∙◌}
+use Rattle.std.proofs.Common.{◌≡◌, ℕ, zero, suc, List, [], ◌∷◌, drop, Bool, true, false, cond, Option, Some, refl, sym, ap, ◌∙◌}
 use Rattle.std.specs.Prelude.{◌==◌, codes}
 use Rattle.std.specs.List.{list_all, list_any}
 use Rattle.std.specs.Str.{bytes_eq}
+use Rattle.std.proofs.lemmas.Bool.{and_parts}
 use Rattle.cs_grammar.specs.declared.token.Token.{Token}
 use Rattle.cs_grammar.specs.declared.token.Sort.{Sort}
 use Rattle.cs_grammar.specs.declared.token.Sort.TheVariants as sorts
-use Rattle.cs_grammar.specs.declared.line.Line.{Line}
-use Rattle.cs_grammar.specs.declared.line.Line.TheVariants.{Plain, WantsComma, Minus}
+use Rattle.cs_grammar.specs.declared.line.LineState.{LineState}
+use Rattle.cs_grammar.specs.declared.line.LineState.TheVariants.{Plain, WantsComma, Minus}
 use Rattle.cs_grammar.specs.declared.kind.Kind.{Kind}
 use Rattle.cs_grammar.specs.declared.kind.Kind.TheVariants as kinds
 use Rattle.cs_grammar.specs.Spelling.{is_letter, is_digit, is_name_byte, is_integer, is_definition_rest, used_marks, left_out_marks, mark_sort, sort_if, underscore_sort, sort_of}
@@ -67,12 +68,12 @@ sort_quoted s t h = refl
 
 -- ---- the tokens of a source
 
-comma_quoted : (l : Line) (o : ℕ) (ks : List Lexeme) → are_quoted ks ≡ true → are_quoted (comma_if l o ks) ≡ true
+comma_quoted : (l : LineState) (o : ℕ) (ks : List Lexeme) → are_quoted ks ≡ true → are_quoted (comma_if l o ks) ≡ true
 comma_quoted Plain o ks h = h
 comma_quoted WantsComma o ks h = h
 comma_quoted Minus o ks h = h
 
-pub cut_quoted : {bs : List ℕ} {o : ℕ} {l : Line} {ks : List Lexeme} → Cut bs o l ks → are_quoted ks ≡ true
+pub cut_quoted : {bs : List ℕ} {o : ℕ} {l : LineState} {ks : List Lexeme} → Cut bs o l ks → are_quoted ks ≡ true
 cut_quoted (blank h k) = cut_quoted k
 cut_quoted (new_line {l} h k) = comma_quoted l _ _ (cut_quoted k)
 cut_quoted (comment {l} h k) = comma_quoted l _ _ (cut_quoted k)
@@ -120,17 +121,12 @@ text_quoted sorts.Text t k h = h
 text_quoted sorts.Mark t k h = let never : true ≡ false = sym (ap is_text_kind k) ∙ (mark_no_text t).is in absurd cc
 text_quoted s t k h = absurd cc
 
-both : (a b : Bool) → (a && b) ≡ true → (a ≡ true) × (b ≡ true)
-both true true h = (refl, refl)
-both true false h = absurd cc
-both false b h = absurd cc
-
 -- a text among these tokens begins with a quote
 pub next_quoted : (ts rest : List Token) (n : ℕ) (t : Token) → are_quoted (lexemes_view ts) ≡ true → drop n ts ≡ t ∷ rest → kind_of t.sort t.text.now ≡ kinds.Text → begins_quote t.text.now ≡ true
 next_quoted [] rest zero t h e k = absurd cc
 next_quoted [] rest (suc n) t h e k = absurd cc
 next_quoted (u ∷ ts) rest zero t h e k =
     let is : u ≡ t = cc in
-    let h = (both (is_quoted u.sort u.text.now) (are_quoted (lexemes_view ts)) h).0 in
+    let h = (and_parts (is_quoted u.sort u.text.now) (are_quoted (lexemes_view ts)) h).0 in
     text_quoted t.sort t.text.now k (rw is at h)
-next_quoted (u ∷ ts) rest (suc n) t h e k = next_quoted ts rest n t (both (is_quoted u.sort u.text.now) (are_quoted (lexemes_view ts)) h).1 e k
+next_quoted (u ∷ ts) rest (suc n) t h e k = next_quoted ts rest n t (and_parts (is_quoted u.sort u.text.now) (are_quoted (lexemes_view ts)) h).1 e k

@@ -1,12 +1,12 @@
 -- Reading one after the other, as a loop does.
-use Rattle.std.proofs.Common.{◌≡◌, ℕ, zero, suc, ◌<◌, List, [], ◌∷◌, ◌++◌, map, Option, Some, None, Result, Ok, Err, refl, ap, subst, length, rules, arith, Vec, Global}
+use Rattle.std.proofs.Common.{◌≡◌, ℕ, zero, suc, ◌<◌, List, [], ◌∷◌, ◌++◌, map, Option, Some, None, Result, Ok, Err, refl, ap, subst, length, arith}
 use Rattle.cs_grammar.specs.declared.fault.SyntaxFault.{SyntaxFault}
 use Rattle.cs_grammar.specs.declared.fault.SyntaxFault.TheVariants as faults
-use Rattle.cs_grammar.specs.declared.ast.Expr.{Expr, And, Or, the_lemmas}
+use Rattle.cs_grammar.specs.declared.ast.Expr.{Expr}
 use Rattle.cs_grammar.specs.Words.{Words}
-use Rattle.cs_grammar.specs.Tree.{Tree, meet, join, more}
+use Rattle.cs_grammar.specs.Tree.{Tree, conjunction, disjunction, more}
 use Rattle.cs_grammar.specs.View.{expr_view, exprs_view}
-use Rattle.cs_syntax.specs.Reading.{◌>>=◌, Fails, Read, many, meet_of, join_of}
+use Rattle.cs_syntax.specs.Reading.{◌>>=◌, Fails, Read, many, conjunction_of, disjunction_of}
 
 -- ---- faults
 
@@ -65,16 +65,10 @@ module _ {X A : Type 0} (view : X → A) where
 
 -- ---- two or more operands make one tree
 
-pub view-And : (v : Vec Expr Global) → expr_view (And v) ≡ meet (exprs_view v.items)
-view-And v = search (rules, the_lemmas)
-
-pub view-Or : (v : Vec Expr Global) → expr_view (Or v) ≡ join (exprs_view v.items)
-view-Or v = search (rules, the_lemmas)
-
-pub met : (e : Tree) (es : List Expr) → 0 < length es → meet_of e (map expr_view es) ≡ meet (more e (exprs_view es))
+pub met : (e : Tree) (es : List Expr) → 0 < length es → conjunction_of e (map expr_view es) ≡ conjunction (more e (exprs_view es))
 met e [] h = let never : ⊥ = omega arith in absurd never
 met e (f ∷ fs) h = refl
 
-pub joined : (e : Tree) (es : List Expr) → 0 < length es → join_of e (map expr_view es) ≡ join (more e (exprs_view es))
+pub joined : (e : Tree) (es : List Expr) → 0 < length es → disjunction_of e (map expr_view es) ≡ disjunction (more e (exprs_view es))
 joined e [] h = let never : ⊥ = omega arith in absurd never
 joined e (f ∷ fs) h = refl

@@ -2,7 +2,7 @@
 use Rattle.std.proofs.Common.{◌≡◌, ℕ, zero, suc, pos, ◌<◌, List, [], ◌∷◌, ◌++◌, map, true, false, None, refl, codes, arith, inl, inr}
 use Rattle.std.specs.Prelude.{◌⊎◌, replicate}
 use Rattle.cs_grammar.specs.declared.ast.FieldMark.TheVariants.{Optional}
-use Rattle.cs_grammar.specs.declared.ast.Relation.TheVariants as relations
+use Rattle.cs_grammar.specs.Atom as atoms
 use Rattle.cs_grammar.specs.declared.fault.SyntaxFault.{SyntaxFault}
 use Rattle.cs_grammar.specs.declared.fault.SyntaxFault.TheVariants.{Syntax, LeftOut}
 use Rattle.cs_grammar.specs.Cut.{Lexeme, IsCut}
@@ -20,7 +20,7 @@ use Rattle.cs_syntax.specs.Answer.{IsMisplaced, IsTooHigh, IsSpelled}
 -- ---- heights
 
 abbrev one : Tree
-one = T.integer (pos 1)
+one = T.atom (T.integer (pos 1))
 
 abbrev list_of : List Tree → Trees
 list_of [] = T.none
@@ -35,11 +35,11 @@ abbrev kept : ℕ → Tree → Tree
 kept zero e = e
 kept (suc n) e = T.paren (kept n e)
 
-without_parts : map height (T.top ∷ T.bottom ∷ T.null ∷ T.boolean true ∷ one ∷ T.text (codes "a") ∷ T.named (codes "int") 4 ∷ T.reference (codes "A") 4 ∷ T.bound relations.Less (pos 1) ∷ T.not_integer (pos 1) ∷ T.not_text (codes "a") ∷ T.not_null ∷ []) ≡ replicate 12 1
+without_parts : map height (T.atom T.top ∷ T.atom T.bottom ∷ T.atom T.null ∷ T.atom (T.boolean true) ∷ one ∷ T.atom (T.text (codes "a")) ∷ T.named (codes "int") 4 ∷ T.reference (codes "A") 4 ∷ T.atom (T.bound atoms.less (pos 1)) ∷ T.atom (T.not_integer (pos 1)) ∷ T.atom (T.not_text (codes "a")) ∷ T.atom T.not_null ∷ []) ≡ replicate 12 1
 without_parts = refl
 
 -- `1 & (1)`, `(1) | 1`, `(1)` and `((1))`
-operands : map height (T.meet (list_of (one ∷ kept 1 one ∷ [])) ∷ T.join (list_of (kept 1 one ∷ one ∷ [])) ∷ kept 1 one ∷ kept 2 one ∷ []) ≡ 3 ∷ 3 ∷ 2 ∷ 3 ∷ []
+operands : map height (T.conjunction (list_of (one ∷ kept 1 one ∷ [])) ∷ T.disjunction (list_of (kept 1 one ∷ one ∷ [])) ∷ kept 1 one ∷ kept 2 one ∷ []) ≡ 3 ∷ 3 ∷ 2 ∷ 3 ∷ []
 operands = refl
 
 -- `{}`, `{...}`, `{a?: 1}` and `{a?: 1, a?: (1), a?: 1}`
@@ -111,7 +111,7 @@ other_levels = refl
 
 -- words of each sort, in the order of their definition
 abbrev sorts : Words
-sorts = a ∷ W.definition_name (codes "A") 0 ∷ W.hidden 0 ∷ W.top_mark 0 ∷ W.bottom_mark 0 ∷ one_word ∷ q ∷ W.open_struct 0 ∷ W.close_struct 0 ∷ W.open_list 0 ∷ W.close_list 0 ∷ W.open_paren 0 ∷ W.close_paren 0 ∷ W.comma 0 ∷ W.nl 0 ∷ W.colon 0 ∷ W.question 0 ∷ W.bang 0 ∷ W.amp 0 ∷ W.bar 0 ∷ W.dots 0 ∷ W.relation relations.Less 0 ∷ W.unequal 0 ∷ W.minus 0 ∷ W.left_out 0 ∷ W.finish 0 ∷ []
+sorts = a ∷ W.definition_name (codes "A") 0 ∷ W.hidden 0 ∷ W.top_mark 0 ∷ W.bottom_mark 0 ∷ one_word ∷ q ∷ W.open_struct 0 ∷ W.close_struct 0 ∷ W.open_list 0 ∷ W.close_list 0 ∷ W.open_paren 0 ∷ W.close_paren 0 ∷ W.comma 0 ∷ W.nl 0 ∷ W.colon 0 ∷ W.question 0 ∷ W.bang 0 ∷ W.amp 0 ∷ W.bar 0 ∷ W.dots 0 ∷ W.relation atoms.less 0 ∷ W.unequal 0 ∷ W.minus 0 ∷ W.left_out 0 ∷ W.finish 0 ∷ []
 
 -- the levels behind a word, where a label behind a colon stands before it, and 2 and 1 short colons are open
 levels_behind : map (λ w. behind (a ∷ W.colon 0 ∷ []) w (2 ∷ 1 ∷ [])) sorts ≡ replicate 7 (2 ∷ 1 ∷ []) ++ (0 ∷ 2 ∷ 1 ∷ []) ∷ (1 ∷ []) ∷ (0 ∷ 2 ∷ 1 ∷ []) ∷ (1 ∷ []) ∷ (0 ∷ 2 ∷ 1 ∷ []) ∷ (1 ∷ []) ∷ (0 ∷ 1 ∷ []) ∷ (0 ∷ 1 ∷ []) ∷ (3 ∷ 1 ∷ []) ∷ replicate 10 (2 ∷ 1 ∷ [])

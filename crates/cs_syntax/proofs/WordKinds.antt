@@ -4,78 +4,17 @@ use Rattle.cs_grammar.specs.declared.fault.SyntaxFault.{SyntaxFault}
 use Rattle.cs_grammar.specs.declared.token.Token.{Token}
 use Rattle.cs_grammar.specs.declared.kind.Kind.{Kind}
 use Rattle.cs_grammar.specs.declared.kind.Kind.TheVariants as kinds
-use Rattle.cs_grammar.specs.Words.{Words, start}
+use Rattle.cs_grammar.specs.Words.{Words}
 use Rattle.cs_grammar.specs.Tree.{Tree}
 use Rattle.cs_grammar.specs.View.{word_of, words, lexemes_view}
+pub use Rattle.cs_grammar.proofs.Views.{start_word_of}
 use Rattle.cs_syntax.specs.Place.{fault_of}
-use Rattle.cs_syntax.specs.Reading.{Fails, Read, word_kind, fault_at, unsigned_at, unequal_at, plain_at, operand_with, number_at, begins_with, before_end}
-
-pub word_kind-word_of : (k : Kind) (t : List ℕ) (o : ℕ) → word_kind (word_of k t o) ≡ k
-word_kind-word_of kinds.Name t o = refl
-word_kind-word_of kinds.Definition t o = refl
-word_kind-word_of kinds.Hidden t o = refl
-word_kind-word_of kinds.Top t o = refl
-word_kind-word_of kinds.Bottom t o = refl
-word_kind-word_of kinds.Integer t o = refl
-word_kind-word_of kinds.Text t o = refl
-word_kind-word_of kinds.OpenStruct t o = refl
-word_kind-word_of kinds.CloseStruct t o = refl
-word_kind-word_of kinds.OpenList t o = refl
-word_kind-word_of kinds.CloseList t o = refl
-word_kind-word_of kinds.OpenParen t o = refl
-word_kind-word_of kinds.CloseParen t o = refl
-word_kind-word_of kinds.Comma t o = refl
-word_kind-word_of kinds.Colon t o = refl
-word_kind-word_of kinds.Question t o = refl
-word_kind-word_of kinds.Bang t o = refl
-word_kind-word_of kinds.Amp t o = refl
-word_kind-word_of kinds.Bar t o = refl
-word_kind-word_of kinds.Dots t o = refl
-word_kind-word_of kinds.Less t o = refl
-word_kind-word_of kinds.AtMost t o = refl
-word_kind-word_of kinds.More t o = refl
-word_kind-word_of kinds.AtLeast t o = refl
-word_kind-word_of kinds.Unequal t o = refl
-word_kind-word_of kinds.Minus t o = refl
-word_kind-word_of kinds.LeftOut t o = refl
-word_kind-word_of kinds.Inserted t o = refl
-word_kind-word_of kinds.End t o = refl
+use Rattle.cs_syntax.specs.Reading.{Fails, Read, fault_at, unsigned_at, unequal_at, unbracketed_at, operand_with, number_at, begins_with, before_end}
 
 -- a word that is no integer begins no number
 pub unsigned_other : (b : Bool) (k : Kind) (t : List ℕ) (o : ℕ) (ts : Words) → (k ≡ kinds.Integer → ⊥) → unsigned_at b (word_of k t o ∷ ts) ≡ Err (fault_of (word_of k t o))
 unsigned_other b kinds.Integer t o ts h = absurd (h refl)
 unsigned_other b k t o ts h = refl
-
-pub start_word_of : (k : Kind) (t : List ℕ) (o : ℕ) → start (word_of k t o) ≡ o
-start_word_of kinds.Name t o = refl
-start_word_of kinds.Definition t o = refl
-start_word_of kinds.Hidden t o = refl
-start_word_of kinds.Top t o = refl
-start_word_of kinds.Bottom t o = refl
-start_word_of kinds.Integer t o = refl
-start_word_of kinds.Text t o = refl
-start_word_of kinds.OpenStruct t o = refl
-start_word_of kinds.CloseStruct t o = refl
-start_word_of kinds.OpenList t o = refl
-start_word_of kinds.CloseList t o = refl
-start_word_of kinds.OpenParen t o = refl
-start_word_of kinds.CloseParen t o = refl
-start_word_of kinds.Comma t o = refl
-start_word_of kinds.Colon t o = refl
-start_word_of kinds.Question t o = refl
-start_word_of kinds.Bang t o = refl
-start_word_of kinds.Amp t o = refl
-start_word_of kinds.Bar t o = refl
-start_word_of kinds.Dots t o = refl
-start_word_of kinds.Less t o = refl
-start_word_of kinds.AtMost t o = refl
-start_word_of kinds.More t o = refl
-start_word_of kinds.AtLeast t o = refl
-start_word_of kinds.Unequal t o = refl
-start_word_of kinds.Minus t o = refl
-start_word_of kinds.LeftOut t o = refl
-start_word_of kinds.Inserted t o = refl
-start_word_of kinds.End t o = refl
 
 -- ---- behind the last word
 
@@ -87,7 +26,7 @@ unfolding unequal_at number_at
 unequal_end = refl
 
 pub operand_end : (r : Bool → Read Tree) → operand_with r [] ≡ Err (fault_at [])
-unfolding operand_with plain_at
+unfolding operand_with unbracketed_at
 operand_end r = refl
 
 -- ---- before the end of a file

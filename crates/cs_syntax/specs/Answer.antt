@@ -6,15 +6,15 @@ use Rattle.cs_grammar.specs.Cut.{Lexeme, IsCut, IsStuck}
 use Rattle.cs_grammar.specs.Tree.{FileTree}
 use Rattle.cs_grammar.specs.Spells.{SpellsFile}
 use Rattle.cs_grammar.specs.View.{words}
-use Rattle.cs_syntax.specs.Height.{file_height}
-use Rattle.cs_syntax.specs.Nesting.{nesting}
+use Rattle.cs_syntax.specs.Height.{file_height, most_height}
+use Rattle.cs_syntax.specs.Nesting.{nesting, most_nested}
 use Rattle.cs_syntax.specs.Place.{IsFaultIn}
 
 -- the tokens of a source nest at most 28 deep and spell no file, of whatever height; the fault is that of one of them
 pub record IsMisplaced (source : List ℕ) (f : SyntaxFault) : Type 0 where
   pub tokens : List Lexeme
   pub cut : IsCut source tokens
-  pub nested : nesting (words tokens) ≤ 28
+  pub nested : nesting (words tokens) ≤ most_nested
   pub no_file : (t : FileTree) → SpellsFile t (words tokens) → ⊥
   pub place : IsFaultIn f (words tokens)
 
@@ -22,7 +22,7 @@ pub record IsMisplaced (source : List ℕ) (f : SyntaxFault) : Type 0 where
 pub record IsTooHigh (source : List ℕ) : Type 0 where
   pub tokens : List Lexeme
   pub cut : IsCut source tokens
-  pub high : (28 < nesting (words tokens)) ⊎ ((t : FileTree) × SpellsFile t (words tokens) × (28 < file_height t))
+  pub high : (most_nested < nesting (words tokens)) ⊎ ((t : FileTree) × SpellsFile t (words tokens) × (most_height < file_height t))
 
 -- why a source is no file: it is stuck there, its tokens spell none, or it is too high, unless memory ran out
 abbrev pub IsFileRefusal : List ℕ → SyntaxFault → Type 0
@@ -37,6 +37,6 @@ IsFileRefusal source faults.TooHigh = IsTooHigh source
 pub record IsSpelled (source : List ℕ) (f : FileTree) : Type 0 where
   pub tokens : List Lexeme
   pub cut : IsCut source tokens
-  pub nested : nesting (words tokens) ≤ 28
+  pub nested : nesting (words tokens) ≤ most_nested
   pub spelled : SpellsFile f (words tokens)
-  pub low : file_height f ≤ 28
+  pub low : file_height f ≤ most_height

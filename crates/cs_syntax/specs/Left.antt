@@ -2,10 +2,9 @@
 use Rattle.std.specs.Prelude.{◌≡◌, ◌+◌, Bool, true, false, List, [], ◌∷◌, drop, reverse, Option, Some, None, Result, Ok, Err}
 use Rattle.cs_grammar.specs.declared.fault.SyntaxFault.{SyntaxFault}
 use Rattle.cs_syntax.specs.declared.parser.place.Parser.{Parser}
-use Rattle.cs_grammar.specs.declared.fault.SyntaxFault.TheVariants as faults
 use Rattle.cs_grammar.specs.declared.token.Token.{Token}
-use Rattle.cs_syntax.specs.declared.parser.nesting.Levels as rust
-use Rattle.cs_syntax.specs.Counting.{Levels}
+use Rattle.cs_syntax.specs.declared.parser.nesting.NestingState as rust
+use Rattle.cs_syntax.specs.Counting.{NestingState}
 use Rattle.cs_grammar.specs.Words.{Words}
 use Rattle.cs_grammar.specs.View.{lexemes_view, words}
 use Rattle.cs_syntax.specs.Reading.{Fails}
@@ -43,15 +42,5 @@ ReadsPast (Err e) p read = Fails e read
 
 -- ---- the nesting of tokens
 
-abbrev pub levels_of : rust.Levels → Levels
+abbrev pub levels_of : rust.NestingState → NestingState
 levels_of l = record { nested = l.nested; level = l.level; outer = reverse l.outer.items }
-
--- on success this is the nesting now, and an error is want of memory
-abbrev pub Steps : {X : Type 0} → Result X SyntaxFault → rust.Levels → Levels → Type 0
-Steps (Ok x) l m = levels_of l ≡ m
-Steps (Err e) l m = e ≡ faults.OutOfMemory
-
--- what is told is this, and an error is want of memory
-abbrev pub Tells : Result Bool SyntaxFault → Bool → Type 0
-Tells (Ok b) c = b ≡ c
-Tells (Err e) c = e ≡ faults.OutOfMemory

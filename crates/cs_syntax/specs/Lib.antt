@@ -8,11 +8,12 @@ pub use Rattle.cs_grammar.specs.Spells
 pub use Rattle.cs_grammar.specs.View
 pub use Rattle.cs_grammar.specs.Source
 pub use Rattle.cs_lexer.specs.Lexed
-pub mod Reading
 pub mod Height
 pub mod Nesting
-pub mod Counting
-pub mod Within
-pub mod Answer
-pub mod Left
 pub mod Place
+pub mod Answer
+-- for contracts of private functions and proofs alone
+pub mod Left
+pub mod Reading
+pub mod Within
+pub mod Counting

@@ -16,28 +16,28 @@ is_short (bang o ∷ before) = is_chained_label before
 is_short before = is_chained_label before
 
 -- Each open level is the count of its short colons since its last comma: the innermost comes first, and the bottom level is last.
-abbrev pub Levels : Type 0
-Levels = List ℕ
+abbrev pub OpenLevels : Type 0
+OpenLevels = List ℕ
 
 -- a closing bracket drops its level with that level's short colons; one on the bottom level changes nothing
-abbrev pub closed : Levels → Levels
+abbrev pub closed : OpenLevels → OpenLevels
 closed [] = []
 closed (n ∷ []) = n ∷ []
 closed (n ∷ m ∷ ns) = m ∷ ns
 
 -- a comma ends the short colons of its level
-abbrev pub parted : Levels → Levels
+abbrev pub parted : OpenLevels → OpenLevels
 parted [] = []
 parted (n ∷ ns) = 0 ∷ ns
 
 -- a colon counts where it is short
-abbrev pub counted_if : Bool → Levels → Levels
+abbrev pub counted_if : Bool → OpenLevels → OpenLevels
 counted_if true [] = []
 counted_if true (n ∷ ns) = suc n ∷ ns
 counted_if false ns = ns
 
 -- the levels behind a word; the words before it come newest first
-abbrev pub behind : Words → Word → Levels → Levels
+abbrev pub behind : Words → Word → OpenLevels → OpenLevels
 behind before (open_struct o) ns = 0 ∷ ns
 behind before (open_list o) ns = 0 ∷ ns
 behind before (open_paren o) ns = 0 ∷ ns
@@ -66,13 +66,17 @@ behind before (left_out o) ns = ns
 behind before (finish o) ns = ns
 
 -- the levels above the bottom one, and all their short colons
-abbrev pub nesting_at : Levels → ℕ
+abbrev pub nesting_at : OpenLevels → ℕ
 nesting_at ns = length ns - 1 + sum ns
 
 -- the greatest nesting at a word; the words passed come newest first
-abbrev pub nesting_from : Words → Levels → Words → ℕ
+abbrev pub nesting_from : Words → OpenLevels → Words → ℕ
 nesting_from before ns [] = nesting_at ns
 nesting_from before ns (w ∷ ts) = max (nesting_at ns) (nesting_from (w ∷ before) (behind before w ns) ts)
 
 abbrev pub nesting : Words → ℕ
 nesting ts = nesting_from [] (0 ∷ []) ts
+
+-- how deep the tokens of a file may nest (own rule)
+abbrev pub most_nested : ℕ
+most_nested = 28

@@ -1,21 +1,22 @@
 -- Reading from left to right with one word of look-ahead.
-use Rattle.std.specs.Prelude.{◌≡◌, ℕ, ℤ, pos, neg_ℤ, zero, suc, ◌^◌, [], ◌∷◌, List, length, drop, Bool, true, false, ◌&&◌, ◌||◌, not, nat_lt, nat_le, if◌then◌else◌, Option, Some, None, Result, Ok, Err}
+use Rattle.std.specs.Prelude.{◌≡◌, ℕ, ℤ, pos, neg_ℤ, zero, suc, ◌+◌, ◌^◌, [], ◌∷◌, List, length, drop, Bool, true, false, ◌&&◌, ◌||◌, not, nat_lt, nat_le, if◌then◌else◌, Option, Some, None, Result, Ok, Err}
 use Rattle.std.specs.Option.{unwrap_or}
 use denote.Enum.Bare.{sameb}
 use Rattle.cs_grammar.specs.contracts.kind.Kind.{the_type}
 use Rattle.cs_grammar.specs.declared.kind.Kind.{Kind}
 use Rattle.cs_grammar.specs.declared.kind.Kind.TheVariants as kinds
-use Rattle.cs_grammar.specs.declared.ast.Relation.{Relation}
-use Rattle.cs_grammar.specs.declared.ast.Relation.TheVariants as relations
+use Rattle.cs_grammar.specs.Atom as atoms
+use Rattle.cs_grammar.specs.Atom.{Relation, top, bottom, integer, text, bound, not_integer, not_text, not_null}
 use Rattle.cs_grammar.specs.declared.fault.SyntaxFault.{SyntaxFault}
 use Rattle.cs_grammar.specs.declared.fault.SyntaxFault.TheVariants as faults
 use Rattle.cs_grammar.specs.Words.{Word, Words, name, definition_name, hidden, top_mark, bottom_mark, numeral, quoted, open_struct, close_struct, open_list, close_list, open_paren, close_paren, comma, nl, colon, question, bang, amp, bar, dots, relation, unequal, minus, left_out, finish}
 use Rattle.cs_grammar.specs.declared.ast.FieldMark.{FieldMark}
 use Rattle.cs_grammar.specs.declared.ast.FieldMark.TheVariants.{Regular, Optional, Required}
-use Rattle.cs_grammar.specs.Tree.{Label, Tree, top, bottom, integer, text, named, reference, bound, not_integer, not_text, not_null, meet, join, paren, struct, list, End, closed, any, each, DefinitionTree, definition, FileTree, file}
+use Rattle.cs_grammar.specs.Tree.{Label, Tree, atom, named, reference, conjunction, disjunction, paren, struct, list, End, closed, any, each, DefinitionTree, definition, FileTree, file}
 use Rattle.cs_grammar.specs.View.{trees_of, fields_of, Seen}
-use Rattle.cs_grammar.specs.Spells.{is_keyword, is_null, is_package, literal_of, start_at}
+use Rattle.cs_grammar.specs.Spells.{is_reserved, is_null, is_package, literal_of, start_at}
 use Rattle.cs_syntax.specs.Place.{fault_of}
+use Rattle.cs_syntax.specs.Nesting.{most_nested}
 
 infixl 10 ◌>>=◌
 abbrev pub ◌>>=◌ : {A B : Type 0} → Result A SyntaxFault → (A → Result B SyntaxFault) → Result B SyntaxFault
@@ -65,10 +66,10 @@ word_kind (bang o) = kinds.Bang
 word_kind (amp o) = kinds.Amp
 word_kind (bar o) = kinds.Bar
 word_kind (dots o) = kinds.Dots
-word_kind (relation relations.Less o) = kinds.Less
-word_kind (relation relations.AtMost o) = kinds.AtMost
-word_kind (relation relations.More o) = kinds.More
-word_kind (relation relations.AtLeast o) = kinds.AtLeast
+word_kind (relation atoms.less o) = kinds.Less
+word_kind (relation atoms.at_most o) = kinds.AtMost
+word_kind (relation atoms.more o) = kinds.More
+word_kind (relation atoms.at_least o) = kinds.AtLeast
 word_kind (unequal o) = kinds.Unequal
 word_kind (minus o) = kinds.Minus
 word_kind (left_out o) = kinds.LeftOut
@@ -148,7 +149,7 @@ goes_on_label ts = begins_with kinds.Colon ts || (begins_with kinds.Question ts 
 
 -- a name or a text that is a label: one that goes on so, or a name that is no operand
 abbrev pub begins_field : Words → Bool
-begins_field (name s p ∷ ts) = is_keyword s || goes_on_label ts
+begins_field (name s p ∷ ts) = is_reserved s || goes_on_label ts
 begins_field (quoted s p ∷ ts) = goes_on_label ts
 begins_field ts = false
 
@@ -194,46 +195,46 @@ name_or false literal s p ts = Ok (unwrap_or literal (named s p), ts)
 unfoldable pub bound_at : Relation → Read Tree
 bound_at b ts = do
   z ← number_at ts
-  Ok (bound b z.0, z.1)
+  Ok (atom (bound b z.0), z.1)
 
 abbrev pub null_or : Bool → List ℕ → ℕ → Words → Result (Tree × Words) SyntaxFault
-null_or true s p ts = Ok (not_null, ts)
+null_or true s p ts = Ok (atom not_null, ts)
 null_or false s p ts = Err (fault_of (name s p))
 
 -- what stands behind `!=`
 unfoldable pub unequal_at : Read Tree
-unequal_at (quoted s p ∷ ts) = Ok (not_text s, ts)
+unequal_at (quoted s p ∷ ts) = Ok (atom (not_text s), ts)
 unequal_at (name s p ∷ ts) = null_or (is_null s) s p ts
 unequal_at ts = do
   z ← number_at ts
-  Ok (not_integer z.0, z.1)
+  Ok (atom (not_integer z.0), z.1)
 
 -- an integer
 unfoldable pub integer_at : Read Tree
 integer_at ts = do
   z ← number_at ts
-  Ok (integer z.0, z.1)
+  Ok (atom (integer z.0), z.1)
 
 -- the relation of a mark
 abbrev pub relation_of : Kind → Option Relation
-relation_of kinds.Less = Some relations.Less
-relation_of kinds.AtMost = Some relations.AtMost
-relation_of kinds.More = Some relations.More
-relation_of kinds.AtLeast = Some relations.AtLeast
+relation_of kinds.Less = Some atoms.less
+relation_of kinds.AtMost = Some atoms.at_most
+relation_of kinds.More = Some atoms.more
+relation_of kinds.AtLeast = Some atoms.at_least
 relation_of _ = None
 
 -- an operand without brackets
-unfoldable pub plain_at : Read Tree
-plain_at (top_mark p ∷ ts) = Ok (top, ts)
-plain_at (bottom_mark p ∷ ts) = Ok (bottom, ts)
-plain_at (definition_name s p ∷ ts) = Ok (reference s p, ts)
-plain_at (name s p ∷ ts) = name_or (is_keyword s) (literal_of s) s p ts
-plain_at (quoted s p ∷ ts) = Ok (text s, ts)
-plain_at (relation b p ∷ ts) = bound_at b ts
-plain_at (unequal p ∷ ts) = unequal_at ts
-plain_at (numeral n p ∷ ts) = integer_at (numeral n p ∷ ts)
-plain_at (minus p ∷ ts) = integer_at (minus p ∷ ts)
-plain_at ts = Err (fault_at ts)
+unfoldable pub unbracketed_at : Read Tree
+unbracketed_at (top_mark p ∷ ts) = Ok (atom top, ts)
+unbracketed_at (bottom_mark p ∷ ts) = Ok (atom bottom, ts)
+unbracketed_at (definition_name s p ∷ ts) = Ok (reference s p, ts)
+unbracketed_at (name s p ∷ ts) = name_or (is_reserved s) (literal_of s) s p ts
+unbracketed_at (quoted s p ∷ ts) = Ok (atom (text s), ts)
+unbracketed_at (relation b p ∷ ts) = bound_at b ts
+unbracketed_at (unequal p ∷ ts) = unequal_at ts
+unbracketed_at (numeral n p ∷ ts) = integer_at (numeral n p ∷ ts)
+unbracketed_at (minus p ∷ ts) = integer_at (minus p ∷ ts)
+unbracketed_at ts = Err (fault_at ts)
 
 -- ---- fields
 -- In what follows `r true` reads the values that stand inside, and `r false` the expressions, where no short form may stand.
@@ -350,35 +351,35 @@ operand_with r (open_struct p ∷ ts) = do
 operand_with r (open_list p ∷ ts) = do
   x ← list_with r ts
   Ok (list (trees_of x.0.0) x.0.1, x.1)
-operand_with r ts = plain_at ts
+operand_with r ts = unbracketed_at ts
 
 -- { `&` Operand }
 abbrev pub amps_with : (Bool → Read Tree) → ℕ → Read (List Tree)
 amps_with r = many (after kinds.Amp) (operand_with r)
 
-abbrev pub meet_of : Tree → List Tree → Tree
-meet_of e [] = e
-meet_of e (f ∷ fs) = meet (trees_of (e ∷ f ∷ fs))
+abbrev pub conjunction_of : Tree → List Tree → Tree
+conjunction_of e [] = e
+conjunction_of e (f ∷ fs) = conjunction (trees_of (e ∷ f ∷ fs))
 
 unfoldable pub conj_with : (Bool → Read Tree) → Read Tree
 conj_with r ts = do
   e ← operand_with r ts
   es ← amps_with r (length e.1) e.1
-  Ok (meet_of e.0 es.0, es.1)
+  Ok (conjunction_of e.0 es.0, es.1)
 
 -- { `|` Conj }
 abbrev pub bars_with : (Bool → Read Tree) → ℕ → Read (List Tree)
 bars_with r = many (after kinds.Bar) (conj_with r)
 
-abbrev pub join_of : Tree → List Tree → Tree
-join_of e [] = e
-join_of e (f ∷ fs) = join (trees_of (e ∷ f ∷ fs))
+abbrev pub disjunction_of : Tree → List Tree → Tree
+disjunction_of e [] = e
+disjunction_of e (f ∷ fs) = disjunction (trees_of (e ∷ f ∷ fs))
 
 unfoldable pub expr_with : (Bool → Read Tree) → Read Tree
 expr_with r ts = do
   e ← conj_with r ts
   es ← bars_with r (length e.1) e.1
-  Ok (join_of e.0 es.0, es.1)
+  Ok (disjunction_of e.0 es.0, es.1)
 
 abbrev pub value_if : (Bool → Read Tree) → Bool → Words → Result (Tree × Words) SyntaxFault
 value_if r true ts = do
@@ -449,6 +450,11 @@ file_with d ts = do
   us ← expected kinds.End ds.1
   whole (file c.0 ds.0) us
 
--- a file whose words nest at most 28 deep: so many values stand inside a body, and the body is one itself
+-- how deep values stand in a file whose words nest no deeper than they may: the body is one value, and so many stand
+-- inside it
+abbrev pub most_depth : ℕ
+most_depth = most_nested + 1
+
+-- a file whose words nest no deeper
 abbrev pub file_at : Words → Result FileTree SyntaxFault
-file_at ts = file_with 29 ts
+file_at ts = file_with most_depth ts

@@ -1,3 +1,4 @@
 pub mod Places
 pub mod Low
 pub mod Samples
+pub mod SchemaTexts

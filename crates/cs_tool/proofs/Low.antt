@@ -8,83 +8,74 @@ use Rattle.cs_grammar.specs.Tree as T
 use Rattle.cs_grammar.specs.Tree.{Tree, Trees, Fields, End, DefinitionTree, body, defined_name, FileTree, definitions}
 use Rattle.cs_resolve.specs.Declarations as declared
 use Rattle.cs_package.specs.Environment.{bodies}
-use Rattle.cs_package.specs.Expression.{Expression, bottom}
-use Rattle.cs_package.specs.Height.{height, height_all, height_under, height_rest, heights, IsLow}
+use Rattle.cs_package.specs.Expression.{Expression, atom, bottom}
+use Rattle.cs_package.specs.Height.{height, height_all, height_fields, height_rest, heights, IsLow}
 use Rattle.cs_resolve.specs.Predeclared.{names, among, predeclared}
-use Rattle.cs_resolve.specs.Resolved.{resolved, resolved_all, resolved_under, resolved_end, environment_of_files}
+use Rattle.cs_resolve.specs.Resolved.{resolved, resolved_all, resolved_fields, resolved_end, environment_of_files}
 use Rattle.cs_tool.specs.Accepted.{AreFiles}
 
 -- ---- what is resolved is no higher than it was
 
 -- what a name names has no parts
-flat_among : (t : List ℕ) (ns : List (List ℕ × Expression)) → AllByRecursion (λ (n : List ℕ × Expression). height n.1 ≡ 1) ns → height (unwrap_or (among t ns) bottom) ≡ 1
+flat_among : (t : List ℕ) (ns : List (List ℕ × Expression)) → AllByRecursion (λ (n : List ℕ × Expression). height n.1 ≡ 1) ns → height (unwrap_or (among t ns) (atom bottom)) ≡ 1
 flat_among t [] h = refl
 flat_among t (n ∷ ns) h = by (bytes_eq t n.0) (flat_among t ns h.1)
   where
-    by : (b : Bool) → height (unwrap_or (among t ns) bottom) ≡ 1 → height (unwrap_or (cond b (Some n.1) (among t ns)) bottom) ≡ 1
+    by : (b : Bool) → height (unwrap_or (among t ns) (atom bottom)) ≡ 1 → height (unwrap_or (cond b (Some n.1) (among t ns)) (atom bottom)) ≡ 1
     by true rest = h.0
     by false rest = rest
 
-flat_name : (t : List ℕ) → height (unwrap_or (predeclared t) bottom) ≡ 1
+flat_name : (t : List ℕ) → height (unwrap_or (predeclared t) (atom bottom)) ≡ 1
 flat_name t = flat_among t names (refl, (refl, (refl, (refl, (refl, (refl, (refl, (refl, (refl, (refl, (refl, (refl, tt))))))))))))
 
 mutual
   low : (t : Tree) → height (resolved t) ≤ tree.height t
   low (T.named t o) = omega (arith, flat_name t)
-  low (T.meet ts) = omega (arith, low_all ts)
-  low (T.join ts) = omega (arith, low_all ts)
+  low (T.conjunction ts) = omega (arith, low_all ts)
+  low (T.disjunction ts) = omega (arith, low_all ts)
   low (T.paren t) = omega (arith, low t)
   low (T.struct o fs b) = omega (arith, low_under fs)
   low (T.list ts end) = omega (arith, low_all ts, low_end end)
-  low T.top = omega arith
-  low T.bottom = omega arith
-  low T.null = omega arith
-  low (T.boolean b) = omega arith
-  low (T.integer z) = omega arith
-  low (T.text s) = omega arith
+  low (T.atom a) = omega arith
   low (T.reference t o) = omega arith
-  low (T.bound r z) = omega arith
-  low (T.not_integer z) = omega arith
-  low (T.not_text s) = omega arith
-  low T.not_null = omega arith
 
-  low_all : (ts : Trees) → height_all (resolved_all ts) ≤ tree.heights ts
+  low_all : (ts : Trees) → height_all (resolved_all ts) ≤ tree.height_all ts
   low_all T.none = omega arith
   low_all (T.more t ts) = omega (arith, low t, low_all ts)
 
-  low_under : (fs : Fields) → height_under (resolved_under fs) ≤ tree.field_heights fs
+  low_under : (fs : Fields) → height_fields (resolved_fields fs) ≤ tree.height_fields fs
   low_under T.no_field = omega arith
   low_under (T.field l m t fs) = omega (arith, low t, low_under fs)
 
-  low_end : (end : End) → height_rest (resolved_end end) ≤ tree.end_height end
+  low_end : (end : End) → height_rest (resolved_end end) ≤ tree.height_end end
   low_end T.closed = omega arith
   low_end T.any = omega arith
   low_end (T.each t) = low t
 
 -- the bodies of one name are some of all
-low_bodies : (n : List ℕ) (ds : List DefinitionTree) → heights (map resolved (declared.bodies_of n ds)) ≤ tree.definition_heights ds
+low_bodies : (n : List ℕ) (ds : List DefinitionTree) → heights (map resolved (declared.bodies_of n ds)) ≤ tree.height_definitions ds
 low_bodies n [] = omega arith
 low_bodies n (d ∷ ds) = by (bytes_eq (defined_name d) n) (low_bodies n ds)
   where
-    by : (b : Bool) → heights (map resolved (declared.bodies_of n ds)) ≤ tree.definition_heights ds
-        → heights (map resolved (map body (cond b (d ∷ filter (λ x. bytes_eq (defined_name x) n) ds) (filter (λ x. bytes_eq (defined_name x) n) ds)))) ≤ tree.definition_heights (d ∷ ds)
+    by : (b : Bool) → heights (map resolved (declared.bodies_of n ds)) ≤ tree.height_definitions ds
+        → heights (map resolved (map body (cond b (d ∷ filter (λ x. bytes_eq (defined_name x) n) ds) (filter (λ x. bytes_eq (defined_name x) n) ds)))) ≤ tree.height_definitions (d ∷ ds)
     by true h = omega (arith, low (body d), h)
     by false h = omega (arith, h)
 
-low_named : (ds : List DefinitionTree) (ns : List (List ℕ)) (n : List ℕ) (es : List Expression) → bodies (map (λ (d : List ℕ × List Tree). (d.0, map resolved d.1)) (map (λ (m : List ℕ). (m, declared.bodies_of m ds)) ns)) n ≡ Some es → heights es ≤ tree.definition_heights ds
+low_named : (ds : List DefinitionTree) (ns : List (List ℕ)) (n : List ℕ) (es : List Expression) → bodies (map (λ (d : List ℕ × List Tree). (d.0, map resolved d.1)) (map (λ (m : List ℕ). (m, declared.bodies_of m ds)) ns)) n ≡ Some es → heights es ≤ tree.height_definitions ds
 low_named ds [] n es is = cc
 low_named ds (m ∷ ns) n es is = by (bytes_eq n m) (low_named ds ns n es) is
   where
-    by : (b : Bool) → (bodies (map (λ (d : List ℕ × List Tree). (d.0, map resolved d.1)) (map (λ (k : List ℕ). (k, declared.bodies_of k ds)) ns)) n ≡ Some es → heights es ≤ tree.definition_heights ds)
-        → cond b (Some (map resolved (declared.bodies_of m ds))) (bodies (map (λ (d : List ℕ × List Tree). (d.0, map resolved d.1)) (map (λ (k : List ℕ). (k, declared.bodies_of k ds)) ns)) n) ≡ Some es → heights es ≤ tree.definition_heights ds
-    by true rest e = let same : map resolved (declared.bodies_of m ds) ≡ es = cc in subst (λ bs. heights bs ≤ tree.definition_heights ds) same (low_bodies m ds)
+    by : (b : Bool) → (bodies (map (λ (d : List ℕ × List Tree). (d.0, map resolved d.1)) (map (λ (k : List ℕ). (k, declared.bodies_of k ds)) ns)) n ≡ Some es → heights es ≤ tree.height_definitions ds)
+        → cond b (Some (map resolved (declared.bodies_of m ds))) (bodies (map (λ (d : List ℕ × List Tree). (d.0, map resolved d.1)) (map (λ (k : List ℕ). (k, declared.bodies_of k ds)) ns)) n) ≡ Some es → heights es ≤ tree.height_definitions ds
+    by true rest e = let same : map resolved (declared.bodies_of m ds) ≡ es = cc in subst (λ bs. heights bs ≤ tree.height_definitions ds) same (low_bodies m ds)
     by false rest e = rest e
 
-both_low : (ds es : List DefinitionTree) → tree.definition_heights ds ≤ 28 → tree.definition_heights es ≤ 28 → tree.definition_heights (ds ++ es) ≤ 28
+both_low : (ds es : List DefinitionTree) → tree.height_definitions ds ≤ 28 → tree.height_definitions es ≤ 28 → tree.height_definitions (ds ++ es) ≤ 28
 both_low [] es h k = k
 both_low (d ∷ ds) es h k = let rest = both_low ds es (omega arith) k in omega (arith, rest)
 
-low_spelled : (ss : List (List ℕ)) (fs : List FileTree) → AreFiles ss fs → tree.definition_heights (flat_map definitions fs) ≤ 28
+low_spelled : (ss : List (List ℕ)) (fs : List FileTree) → AreFiles ss fs → tree.height_definitions (flat_map definitions fs) ≤ 28
 low_spelled [] [] h = omega arith
 low_spelled [] (f ∷ fs) h = absurd h
 low_spelled (s ∷ ss) [] h = absurd h

@@ -120,5 +120,5 @@ gave_too_many ([], small, is) = cc
 gave_too_many (x ∷ xs, small, is) = omega arith
 
 -- what `run` takes from a reader at the most
-taken : most_bytes + chunk_bytes ≡ 1052672
-taken = refl
+exportable : most_bytes + chunk_bytes ≡ 1052672
+exportable = refl

@@ -12,7 +12,7 @@ use Rattle.cs_resolve.specs.declared.fault.ResolveFault.{ResolveFault}
 use Rattle.cs_guard.specs.Cycles as guard
 use Rattle.cs_guard.specs.Guarded.{IsGuarded}
 use Rattle.cs_guard.specs.declared.fault.GuardFault.{GuardFault}
-use Rattle.cs_instance.specs.Taken.{IsTakenPackage}
+use Rattle.cs_instance.specs.Exportable.{IsExportablePackage}
 use Rattle.cs_tool.specs.declared.fault.Fault.{Fault}
 use Rattle.cs_tool.specs.declared.fault.Fault.TheVariants.{SourcesTooLong, NotUtf8, NoToken, Syntax, LeftOut, IntegerRange, TooHigh, PackageName, UnknownName, FieldReference, NotOpened, Cycle, UnknownRoot, TooLarge, OutOfMemory, ChainTooLong}
 use Rattle.cs_tool.specs.Conversions.{of_syntax, of_resolve, of_guard}
@@ -45,10 +45,10 @@ pub record IsAccepted (sources : List (List ℕ)) (E : Environment) : Type 0 whe
   pub declares : E ≡ environment_of_files files
   pub guarded : IsGuarded E
 
--- the sources are accepted and declare the environment E, whose forms are taken, and the root is its definition n
+-- the sources are accepted and declare the environment E, whose forms are exportable, and the root is its definition n
 pub record DeclaresRoot (sources : List (List ℕ)) (root : List ℕ) (E : Environment) (n : List ℕ) : Type 0 where
   pub accepted : IsAccepted sources E
-  pub taken : IsTakenPackage E
+  pub exportable : IsExportablePackage E
   pub named : Names E root n
 
 -- the sources declare the root
@@ -99,20 +99,20 @@ pub record IsUnguarded (sources : List (List ℕ)) (f : Fault) : Type 0 where
   pub refused : guard.IsRefusal fault (environment_of_files files)
   pub told : f ≡ of_guard fault
 
--- the sources are accepted, and have a form of expression that isn't taken yet
-pub record IsNotTaken (sources : List (List ℕ)) : Type 0 where
+-- the sources are accepted, and have a form of expression that isn't exported yet
+pub record IsNotExportable (sources : List (List ℕ)) : Type 0 where
   pub environment : Environment
   pub accepted : IsAccepted sources environment
-  pub other : ¬ (IsTakenPackage environment)
+  pub other : ¬ (IsExportablePackage environment)
 
--- the sources are accepted and their forms taken, and they don't declare the root
+-- the sources are accepted and their forms exportable, and they don't declare the root
 pub record IsUnknownRoot (sources : List (List ℕ)) (root : List ℕ) : Type 0 where
   pub environment : Environment
   pub accepted : IsAccepted sources environment
-  pub taken : IsTakenPackage environment
+  pub exportable : IsExportablePackage environment
   pub unknown : (n : List ℕ) → ¬ (Names environment root n)
 
--- the fault tells the first condition that the sources fail, whatever the root is; a form of expression that isn't taken
+-- the fault tells the first condition that the sources fail, whatever the root is; a form of expression that isn't exported
 -- yet is told as one that is left out, at the first byte of the first source, after all else
 abbrev pub SourcesFault : List (List ℕ) → Fault → Type 0
 SourcesFault sources SourcesTooLong = most_bytes < bytes_of sources
@@ -121,7 +121,7 @@ SourcesFault sources (NoToken number offset) = IsMisspelled sources (NoToken num
 SourcesFault sources (Syntax number offset) = IsMisspelled sources (Syntax number offset)
 SourcesFault sources (IntegerRange number offset) = IsMisspelled sources (IntegerRange number offset)
 SourcesFault sources (TooHigh number) = IsMisspelled sources (TooHigh number)
-SourcesFault sources (LeftOut number offset) = IsMisspelled sources (LeftOut number offset) ⊎ ((number ≡ 0) × (offset ≡ 0) × IsNotTaken sources)
+SourcesFault sources (LeftOut number offset) = IsMisspelled sources (LeftOut number offset) ⊎ ((number ≡ 0) × (offset ≡ 0) × IsNotExportable sources)
 SourcesFault sources (PackageName number) = IsNoPackage sources (PackageName number)
 SourcesFault sources TooLarge = IsNoPackage sources TooLarge
 SourcesFault sources (UnknownName number offset) = IsNoPackage sources (UnknownName number offset)
@@ -135,7 +135,7 @@ SourcesFault sources _ = ⊥
 abbrev pub First : List (List ℕ) → List ℕ → Fault → Type 0
 First sources root f = SourcesFault sources f ⊎ ((f ≡ UnknownRoot) × IsUnknownRoot sources root)
 
--- ---- the parts, for the functions below the calls; memory may run out at any time
+-- ---- the parts, where memory may run out at any time; for private contracts alone
 
 abbrev pub TextsRefusal : List (List ℕ) → Fault → Type 0
 TextsRefusal sources OutOfMemory = Unit {0}

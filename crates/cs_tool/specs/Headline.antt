@@ -21,7 +21,7 @@ use Rattle.cs_tool.specs.declared.fault.Fault.TheVariants.{OutOfMemory, SchemaNo
 
 -- the text is the schema of the root definition that the sources spell
 pub record IsExport (sources : List (List ℕ)) (root text : List ℕ) : Type 0 where
-  -- the sources are accepted, their forms taken, and they declare the root
+  -- the sources are accepted, their forms exportable, and they declare the root
   pub environment : Environment
   pub name : List ℕ
   pub declares : DeclaresRoot sources root environment name
@@ -48,6 +48,7 @@ pub record IsVerdict (sources : List (List ℕ)) (root text : List ℕ) (answer 
   pub declares : DeclaresRoot sources root environment name
   pub document : Document
   pub read : Reads text document
+  pub proper : IsDocument document
   pub one_instance : instance.OneMeaning environment
   pub holds : (I : Rule → Document → Bool) → IsInstance environment I → answer ≡ I (definition name) document
 
@@ -60,6 +61,14 @@ pub record IsValidated (schema_text text : List ℕ) (answer : Bool) : Type 0 wh
   pub read : Reads text document
   pub one_validity : validity.OneMeaning schema
   pub holds : (V : Document → Document → Bool) → IsValidity schema V → answer ≡ V schema document
+
+-- the answer is that of both sides: whether the document is an instance of the root definition that the sources spell,
+-- and whether it is valid against the exported text
+pub record IsAgreement (sources : List (List ℕ)) (root text : List ℕ) (answer : Bool) : Type 0 where
+  pub verdict : IsVerdict sources root text answer
+  pub schema_text : List ℕ
+  pub exported : IsExport sources root schema_text
+  pub validated : IsValidated schema_text text answer
 
 -- ---- refusals; memory may run out at any time
 
@@ -98,6 +107,7 @@ ValidateRefusal schema_text text NotInteger = HasOtherNumber schema_text ⊎ (Is
 ValidateRefusal schema_text text NotJson = IsSchemaText schema_text × ¬ (IsJson text)
 ValidateRefusal schema_text text _ = ⊥
 
+-- for private contracts alone
 abbrev pub SchemaTextRefusal : List ℕ → Fault → Type 0
 SchemaTextRefusal schema_text OutOfMemory = Unit {0}
 SchemaTextRefusal schema_text SchemaNotJson = ¬ (IsJson schema_text)

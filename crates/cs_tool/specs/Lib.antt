@@ -1,7 +1,9 @@
-pub mod Conversions
 pub mod Refusals
-pub mod Streams
+pub mod Conversions
 pub mod Accepted
 pub mod Headline
 pub mod Translated
+pub mod Streams
 pub mod Runs
+-- for contracts of private functions and proofs alone
+pub mod CallView

@@ -1,50 +1,131 @@
 -- What a run answers, writes and leaves.
-use Rattle.std.specs.Prelude.{◌≡◌, ℕ, ◌⊎◌, List, [], ◌∷◌, ◌++◌, map, Bool, true, Option, Vec, string_bytes}
+use Rattle.std.specs.Prelude.{◌≡◌, ℕ, ◌≤◌, ◌⊎◌, List, [], ◌∷◌, ◌++◌, length, map, Bool, true, false, Option, Some, None, Vec, String, string_bytes, codes}
 use Rattle.std.specs.declared.alloc.Global.{Global}
 use Rattle.std.specs.Io.KnownBytes.{Keeps}
+use Rattle.cs_document.specs.Document.{Document}
+use Rattle.cs_doc.specs.Texts.{Reads}
 use Rattle.cs_tool.specs.declared.fault.Fault.{Fault}
-use Rattle.cs_tool.specs.declared.fault.Fault.TheVariants.{OutOfMemory, SourcesTooLong, ReadFailed, WriteFailed}
+use Rattle.cs_tool.specs.declared.fault.Fault.TheVariants.{OutOfMemory, SourcesTooLong, InputTooLong, ReadFailed, WriteFailed}
 use Rattle.cs_tool.specs.declared.request.Request.{Request}
-use Rattle.cs_tool.specs.declared.request.Request.TheVariants.{Export}
+use Rattle.cs_tool.specs.declared.request.Request.TheVariants.{Export, Vet, Validate, Agree}
 use Rattle.cs_tool.specs.Accepted.{most_bytes, IsReady}
-use Rattle.cs_tool.specs.Headline.{IsExport, ExportRefusal}
+use Rattle.cs_tool.specs.Headline.{IsExport, IsVerdict, IsValidated, IsAgreement, IsSchemaText, ExportRefusal, VetRefusal, ValidateRefusal}
 use Rattle.cs_tool.specs.Streams.{IsWholeInput, IsLonger, AppendsFront}
 
--- the request's files, or all that the input gives where it has none
-abbrev pub AreSources : List (Vec ℕ Global) → Option (List ℕ) → List (List ℕ) → Type 0
-AreSources [] remaining sources = (input : List ℕ) × IsWholeInput remaining input × (sources ≡ input ∷ [])
-AreSources (file ∷ files) remaining sources = sources ≡ map (λ f. f.items) (file ∷ files)
+-- ---- the call that a request makes
 
--- the request has no files, so that the input is its one source
+-- a call, with its sources, its root and its texts
+pub data Call : Type 0 where
+  export : List (List ℕ) → List ℕ → Call
+  vet : List (List ℕ) → List ℕ → List ℕ → Call
+  validate : List ℕ → List ℕ → Call
+  agree : List (List ℕ) → List ℕ → List ℕ → Call
+
+-- the files, or the input as the one source where there are none
+abbrev pub sources_or : List (Vec ℕ Global) → List ℕ → List (List ℕ)
+sources_or [] input = input ∷ []
+sources_or (file ∷ files) input = map (λ f. f.items) (file ∷ files)
+
+-- the document, or the input where there is none
+abbrev pub text_or : Option (Vec ℕ Global) → List ℕ → List ℕ
+text_or None input = input
+text_or (Some doc) input = doc.items
+
+-- the call of a request, where the input has these bytes
+abbrev pub call_of : Request → List ℕ → Call
+call_of (Export files root) input = export (sources_or files.items input) (string_bytes root)
+call_of (Vet files root doc) input = vet (sources_or files.items input) (string_bytes root) doc.items
+call_of (Validate schema doc) input = validate schema.items (text_or doc input)
+call_of (Agree files root doc) input = agree (sources_or files.items input) (string_bytes root) doc.items
+
+-- a request asks for the input: as its source where it has no files, or as its document where it has none
 abbrev pub ReadsInput : Request → Type 0
 ReadsInput (Export files root) = files.items ≡ []
+ReadsInput (Vet files root doc) = files.items ≡ []
+ReadsInput (Validate schema doc) = doc ≡ None
+ReadsInput (Agree files root doc) = files.items ≡ []
 
--- the request has files, and these declare its root
-abbrev pub HasReadyFiles : Request → Type 0
-HasReadyFiles (Export files root) = ¬ (files.items ≡ []) × IsReady (map (λ f. f.items) files.items) (string_bytes root)
+-- the bytes that an input other than sources may have
+abbrev pub most_input_bytes : ℕ
+most_input_bytes = 67108864
+
+-- the bytes that the input of a request may have
+abbrev pub most_of : Request → ℕ
+most_of (Export files root) = most_bytes
+most_of (Vet files root doc) = most_bytes
+most_of (Validate schema doc) = most_input_bytes
+most_of (Agree files root doc) = most_bytes
+
+-- ---- what a call answers
+
+abbrev pub verdict_text : Bool → List ℕ
+verdict_text true = codes "valid"
+verdict_text false = codes "invalid"
+
+-- the truth value and the text are those of the call
+abbrev pub IsCallAnswer : Call → Bool → List ℕ → Type 0
+IsCallAnswer (export sources root) truth text = IsExport sources root text × (truth ≡ true)
+IsCallAnswer (vet sources root doc) truth text = IsVerdict sources root doc truth × (text ≡ verdict_text truth)
+IsCallAnswer (validate schema doc) truth text = IsValidated schema doc truth × (text ≡ verdict_text truth)
+IsCallAnswer (agree sources root doc) truth text = IsAgreement sources root doc truth × (text ≡ verdict_text truth)
+
+abbrev pub IsCallRefusal : Call → Fault → Type 0
+IsCallRefusal (export sources root) fault = ExportRefusal sources root fault
+IsCallRefusal (vet sources root doc) fault = VetRefusal sources root doc fault
+IsCallRefusal (validate schema doc) fault = ValidateRefusal schema doc fault
+IsCallRefusal (agree sources root doc) fault = VetRefusal sources root doc fault
+
+-- the text is read as a document
+abbrev pub IsDocumentText : List ℕ → Type 0
+IsDocumentText text = (d : Document) × Reads text d
+
+-- a call that is answered, unless memory runs out
+abbrev pub IsReadyCall : Call → Type 0
+IsReadyCall (export sources root) = IsReady sources root
+IsReadyCall (vet sources root doc) = IsReady sources root × IsDocumentText doc
+IsReadyCall (validate schema doc) = IsSchemaText schema × IsDocumentText doc
+IsReadyCall (agree sources root doc) = IsReady sources root × IsDocumentText doc
+
+-- ---- what a run answers
+
+-- where the request asks for the input, these are its bytes, no more than it may have
+abbrev pub IsInput : Request → Option (List ℕ) → List ℕ → Type 0
+IsInput request remaining input = ReadsInput request → IsWholeInput remaining input × (length input ≤ most_of request)
 
 -- the truth value and the text are those of the request's call
 abbrev pub IsAnswer : Request → Option (List ℕ) → Bool → List ℕ → Type 0
-IsAnswer (Export files root) remaining truth text =
-    (sources : List (List ℕ)) × AreSources files.items remaining sources × IsExport sources (string_bytes root) text × (truth ≡ true)
+IsAnswer request remaining truth text = (input : List ℕ) × IsInput request remaining input × IsCallAnswer (call_of request input) truth text
 
 -- the refusal is that of the request's call
 abbrev pub IsRefused : Request → Option (List ℕ) → Fault → Type 0
-IsRefused (Export files root) remaining fault = (sources : List (List ℕ)) × AreSources files.items remaining sources × ExportRefusal sources (string_bytes root) fault
+IsRefused request remaining fault = (input : List ℕ) × IsInput request remaining input × IsCallRefusal (call_of request input) fault
 
--- what refuses the input, where it is read: it is too long, or memory or a read failed
-abbrev pub InputRefusal : List (Vec ℕ Global) → Option (List ℕ) → Fault → Type 0
-InputRefusal files remaining OutOfMemory = Unit {0}
-InputRefusal files remaining ReadFailed = files ≡ []
-InputRefusal files remaining SourcesTooLong = (files ≡ []) × IsLonger most_bytes remaining
-InputRefusal files remaining _ = ⊥
+-- the request doesn't ask for the input, and its call is answered
+abbrev pub IsReadyRequest : Request → Type 0
+IsReadyRequest request = ¬ (ReadsInput request) × IsReadyCall (call_of request [])
+
+-- what refuses the input: a read failed, or it is too long; memory may run out
+abbrev pub SourceRefusal : List (Vec ℕ Global) → Option (List ℕ) → Fault → Type 0
+SourceRefusal files remaining OutOfMemory = Unit {0}
+SourceRefusal files remaining ReadFailed = files ≡ []
+SourceRefusal files remaining SourcesTooLong = (files ≡ []) × IsLonger most_bytes remaining
+SourceRefusal files remaining _ = ⊥
+
+abbrev pub DocumentRefusal : Option (Vec ℕ Global) → Option (List ℕ) → Fault → Type 0
+DocumentRefusal doc remaining OutOfMemory = Unit {0}
+DocumentRefusal doc remaining ReadFailed = doc ≡ None
+DocumentRefusal doc remaining InputTooLong = (doc ≡ None) × IsLonger most_input_bytes remaining
+DocumentRefusal doc remaining _ = ⊥
+
+abbrev pub InputRefusal : Request → Option (List ℕ) → Fault → Type 0
+InputRefusal (Export files root) remaining fault = SourceRefusal files.items remaining fault
+InputRefusal (Vet files root doc) remaining fault = SourceRefusal files.items remaining fault
+InputRefusal (Validate schema doc) remaining fault = DocumentRefusal doc remaining fault
+InputRefusal (Agree files root doc) remaining fault = SourceRefusal files.items remaining fault
 
 -- what refuses the line before a byte of it is written
 abbrev pub LineRefusal : Request → Option (List ℕ) → Fault → Type 0
-LineRefusal request remaining OutOfMemory = Unit {0}
-LineRefusal request remaining ReadFailed = ReadsInput request
-LineRefusal request remaining SourcesTooLong = (ReadsInput request × IsLonger most_bytes remaining) ⊎ IsRefused request remaining SourcesTooLong
-LineRefusal request remaining fault = IsRefused request remaining fault
+LineRefusal request remaining fault = InputRefusal request remaining fault ⊎ IsRefused request remaining fault
 
 -- a text, and a newline
 abbrev pub line_of : List ℕ → List ℕ

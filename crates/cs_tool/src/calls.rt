@@ -4,13 +4,13 @@ ghost use Rattle.cs_document.specs.Document.{Document, depth};
 ghost use Rattle.cs_doc.specs.Texts.{Reads, text_of};
 ghost use Rattle.cs_document.specs.View.{doc_view};
 ghost use Rattle.cs_package.specs.Environment.{Environment, Names};
-ghost use Rattle.cs_instance.specs.Taken.{IsTakenPackage};
+ghost use Rattle.cs_instance.specs.Exportable.{IsExportablePackage};
 ghost use Rattle.cs_schema.specs.Profile.{IsSchema};
 ghost use Rattle.cs_schema.specs.SchemaDocument.{document_of};
 ghost use Rattle.cs_schema.specs.Trim.{trim};
 ghost use Rattle.cs_tool.specs.Accepted.{IsAccepted, IsReady};
 ghost use Rattle.cs_tool.specs.Translated.{IsTranslated};
-ghost use Rattle.cs_tool.specs.Headline.{IsExport, IsVerdict, IsValidated, ExportRefusal, VetRefusal, ValidateRefusal, SchemaTextRefusal};
+ghost use Rattle.cs_tool.specs.Headline.{IsExport, IsVerdict, IsValidated, IsAgreement, IsSchemaText, ExportRefusal, VetRefusal, ValidateRefusal, SchemaTextRefusal};
 
 use crate::Fault;
 use crate::packages::package_of;
@@ -25,9 +25,8 @@ use std::alloc::Global;
 /// The text of the schema that admits the documents that the root definition of the sources admits,
 /// without a newline. The root is named with its `#`.
 ///
-/// Refusals in order: sources above 1,048,576 bytes together; the first source that is no UTF-8; the fault
-/// of the first source's text that spells no file; files that are no package; recursion that is not guarded; a
-/// form of expression that is not taken yet; an unknown root.
+/// A refusal reports the first condition that the sources and the root fail, in the order of `First`
+/// (`specs/Accepted.antt`).
 pub fn export(alloc: Global, sources: &[&[u8]], root: &str) -> Result<Vec<u8>, Fault>
     ensures found { IfOk result
         (λ text. IsExport (map (λ s. s.now) sources.now) root.now text.items) }
@@ -36,10 +35,24 @@ pub fn export(alloc: Global, sources: &[&[u8]], root: &str) -> Result<Vec<u8>, F
         (λ e. ExportRefusal (map (λ s. s.now) sources.now) root.now e) }
     ensures only { IsReady (map (λ s. s.now) sources.now) root.now → IsOkUnless result Fault.OutOfMemory }
 {
-    let package = package_of(alloc, sources)?;
-    let schema = compile(alloc, &package, root)?;
-    cs_instance::one_meaning(&package);
-    cs_schema::one_meaning(&schema);
+    let guarded = package_of(alloc, sources)?;
+    exported(alloc, &guarded, root)
+}
+
+/// The text of the schema of the root definition, without a newline.
+fn exported(alloc: Global, guarded: &Guarded, root: &str) -> Result<Vec<u8>, Fault>
+    requires { IsExportablePackage guarded.now }
+    ensures found { (sources : List (List ℕ)) → IsAccepted sources guarded.now
+        → IfOk result (λ text. IsExport sources root.now text.items) }
+    ensures translated { (sources : List (List ℕ)) → ((E : Environment) → IsAccepted sources E → guarded.now ≡ E)
+        → IsAccepted sources guarded.now → IfOk result (λ text. IsTranslated sources text.items) }
+    ensures refused { (sources : List (List ℕ)) → IsAccepted sources guarded.now
+        → IfErr result (λ e. ExportRefusal sources root.now e) }
+    ensures only { (n : List ℕ) → Names guarded.now root.now n → IsOkUnless result Fault.OutOfMemory }
+{
+    let schema = compile(alloc, guarded, root)?;
+    cs_instance::one_meaning(guarded); // for the proof: there is one instance relation
+    cs_schema::one_meaning(&schema); // for the proof: there is one validity
     text_of_schema(alloc, &schema)
 }
 
@@ -57,8 +70,7 @@ fn text_of_schema(alloc: Global, schema: &SchemaDoc) -> Result<Vec<u8>, Fault>
 
 /// Whether the document is an instance of the root definition of the sources.
 ///
-/// Refusals in order: those of `export`; a text of the document that is no JSON; a number in it that is
-/// no signed integer of 64 bits.
+/// Refusals in order: those of `export`; then `NotJson` and `NotInteger`, of the document.
 pub fn vet(alloc: Global, sources: &[&[u8]], root: &str, doc: &[u8]) -> Result<bool, Fault>
     ensures found { IfOk result
         (λ b. IsVerdict (map (λ s. s.now) sources.now) root.now doc.now b) }
@@ -76,7 +88,7 @@ pub fn vet(alloc: Global, sources: &[&[u8]], root: &str, doc: &[u8]) -> Result<b
 
 /// Whether the document is an instance of the root definition, which the package declares.
 fn verdict(alloc: Global, guarded: Guarded, root: &str, doc: &[u8]) -> Result<bool, Fault>
-    requires { IsTakenPackage guarded }
+    requires { IsExportablePackage guarded }
     ensures found { (sources : List (List ℕ)) → IsAccepted sources guarded
         → IfOk result (λ b. IsVerdict sources root.now doc.now b) }
     ensures refused { (sources : List (List ℕ)) → IsReady sources root.now
@@ -91,11 +103,12 @@ fn verdict(alloc: Global, guarded: Guarded, root: &str, doc: &[u8]) -> Result<bo
 
 /// Whether the document is valid against the schema.
 ///
-/// Refusals in order: a text of the schema that is no JSON; a number in it that is no signed integer of
-/// 64 bits; a schema outside the profile; then those two of the document's text.
+/// Refusals in order: `SchemaNotJson` and `NotInteger`, of the schema's text; those of a schema outside the
+/// profile; then `NotJson` and `NotInteger`, of the document.
 pub fn validate(alloc: Global, schema: &[u8], doc: &[u8]) -> Result<bool, Fault>
     ensures found { IfOk result (λ b. IsValidated schema.now doc.now b) }
     ensures refused { IfErr result (λ e. ValidateRefusal schema.now doc.now e) }
+    ensures only { (d : Document) → IsSchemaText schema.now → Reads doc.now d → IsOkUnless result Fault.OutOfMemory }
 {
     let schema = read_schema(alloc, &schema_text(alloc, schema)?)?;
     let doc = read_doc(alloc, doc)?;
@@ -112,4 +125,23 @@ fn schema_text(alloc: Global, text: &[u8]) -> Result<Doc, Fault>
         Err(DocFault::NotJson) => Err(Fault::SchemaNotJson),
         Err(fault) => Err(Fault::from(fault)),
     }
+}
+
+/// Whether the document is an instance of the root definition of the sources, judged on both sides: by the definition
+/// itself, and by the exported schema, which is read again from its text. Both answer the same.
+///
+/// Refusals are those of `vet`.
+pub fn agree(alloc: Global, sources: &[&[u8]], root: &str, doc: &[u8]) -> Result<bool, Fault>
+    ensures found { IfOk result
+        (λ b. IsAgreement (map (λ s. s.now) sources.now) root.now doc.now b) }
+    ensures refused { IfErr result
+        (λ e. VetRefusal (map (λ s. s.now) sources.now) root.now doc.now e) }
+    ensures only { (d : Document) → IsReady (map (λ s. s.now) sources.now) root.now → Reads doc.now d
+        → IsOkUnless result Fault.OutOfMemory }
+{
+    let guarded = package_of(alloc, sources)?;
+    let schema = exported(alloc, &guarded, root)?;
+    let is_instance = verdict(alloc, guarded, root, doc)?;
+    let is_valid = validate(alloc, &schema, doc)?;
+    Ok(is_instance && is_valid)
 }

@@ -12,8 +12,8 @@ use cs_schema::SchemaFault;
 use cs_syntax::SyntaxFault;
 use cs_validate::ValidateFault;
 
-/// The refusal of a package with a form of expression that isn't taken yet: 5 at the first byte of the first source.
-pub(crate) fn not_taken() -> Fault
+/// The refusal of a package with a form of expression that isn't exported yet: 5 at the first byte of the first source.
+pub(crate) fn not_exportable() -> Fault
     ensures { result ≡ Fault.LeftOut 0 0 }
 {
     Fault::LeftOut { file: 0, offset: 0 }
@@ -118,7 +118,7 @@ impl From<ValidateFault> for Fault {
     }
 }
 
-// The fault of a document's text; `schema_text` among the calls tells that of a schema's.
+// The fault of a document's text; `schema_text` among the calls reports that of a schema's.
 impl From<DocFault> for Fault {
     ghost use Rattle.cs_tool.specs.Conversions.{of_document};
 

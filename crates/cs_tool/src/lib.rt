@@ -2,17 +2,23 @@
 #![tactic(auto)]
 
 mod calls;
+mod commands;
 mod conversions;
+mod exportable;
 mod fault;
 mod packages;
 mod reads;
 mod request;
+mod requested;
 mod runs;
-mod taken;
 mod writes;
 
-pub use calls::{export, validate, vet};
+pub use calls::{agree, export, validate, vet};
+pub use commands::command;
 pub use fault::Fault;
+pub use packages::MOST_BYTES;
+pub use reads::read_up_to;
 pub use request::Request;
+pub use requested::MOST_INPUT_BYTES;
 pub use runs::run;
 pub use writes::write_fault;

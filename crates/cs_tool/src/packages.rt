@@ -4,29 +4,29 @@ ghost use Rattle.std.specs.List.{AllByRecursion};
 ghost use Rattle.cs_grammar.specs.Tree.{FileTree};
 ghost use Rattle.cs_grammar.specs.View.{file_view};
 ghost use Rattle.cs_package.specs.Environment.{Environment};
-ghost use Rattle.cs_instance.specs.Taken.{IsTakenPackage};
+ghost use Rattle.cs_instance.specs.Exportable.{IsExportablePackage};
 ghost use Rattle.cs_tool.specs.Accepted.{most_bytes, bytes_of, AreFiles, IsAccepted, SourcesRefusal, TextsRefusal, FilesRefusal};
 
 use crate::Fault;
-use crate::conversions::{not_taken, of_syntax};
-use crate::taken::is_taken;
+use crate::conversions::{not_exportable, of_syntax};
+use crate::exportable::is_exportable;
 use cs_guard::{Guarded, guard};
 use cs_resolve::resolve;
 use cs_syntax::{File, parse_file};
 use std::alloc::Global;
 
 /// The bytes that all sources of a call may have together.
-pub(crate) const SOURCES_LIMIT: usize = 1_048_576;
+pub const MOST_BYTES: usize = 1_048_576;
 
-/// The guarded package that the sources spell. In order: their length, UTF-8, each file in turn, their
-/// package, its recursion, the forms that are taken.
+/// The guarded package that the sources spell. A refusal reports the first condition that they fail, in the order of
+/// `SourcesFault` (`specs/Accepted.antt`).
 pub(crate) fn package_of(alloc: Global, sources: &[&[u8]]) -> Result<Guarded, Fault>
     ensures accepted { IfOk result (λ g. IsAccepted (map (λ s. s.now) sources.now) g) }
-    ensures taken { IfOk result (λ g. IsTakenPackage g) }
+    ensures exportable { IfOk result (λ g. IsExportablePackage g) }
     ensures refused { IfErr result (λ e. SourcesRefusal (map (λ s. s.now) sources.now) e) }
-    ensures only { (E : Environment) → IsAccepted (map (λ s. s.now) sources.now) E → IsTakenPackage E
+    ensures only { (E : Environment) → IsAccepted (map (λ s. s.now) sources.now) E → IsExportablePackage E
         → IsOkUnless result Fault.OutOfMemory }
-    ensures one { (E : Environment) → IsAccepted (map (λ s. s.now) sources.now) E → IfOk result (λ g. g ≡ E) }
+    ensures unique { (E : Environment) → IsAccepted (map (λ s. s.now) sources.now) E → IfOk result (λ g. g ≡ E) }
 {
     if !fits(sources) {
         return Err(Fault::SourcesTooLong);
@@ -34,8 +34,8 @@ pub(crate) fn package_of(alloc: Global, sources: &[&[u8]]) -> Result<Guarded, Fa
     let texts = texts_of(alloc, sources)?;
     let files = files_of(alloc, &texts)?;
     let package = guard(alloc, resolve(alloc, files)?)?;
-    if !is_taken(package.package()) {
-        return Err(not_taken());
+    if !is_exportable(package.package()) {
+        return Err(not_exportable());
     }
     Ok(package)
 }
@@ -45,7 +45,7 @@ fn files_of(alloc: Global, texts: &[&str]) -> Result<Vec<File>, Fault>
     ensures spelled { IfOk result (λ v. AreFiles (map (λ t. t.now) texts.now) (map file_view v.items)) }
     ensures refused { IfErr result (λ e. FilesRefusal (map (λ t. t.now) texts.now) e) }
     ensures only { (fs : List FileTree) → AreFiles (map (λ t. t.now) texts.now) fs → IsOkUnless result Fault.OutOfMemory }
-    ensures one { (fs : List FileTree) → AreFiles (map (λ t. t.now) texts.now) fs
+    ensures unique { (fs : List FileTree) → AreFiles (map (λ t. t.now) texts.now) fs
         → IfOk result (λ v. map file_view v.items ≡ fs) }
 {
     let mut files = Vec::with_capacity(alloc, texts.len())?;
@@ -62,7 +62,7 @@ fn files_of(alloc: Global, texts: &[&str]) -> Result<Vec<File>, Fault>
 fn fits(sources: &[&[u8]]) -> bool
     ensures { IsTrue result ↔ (bytes_of (map (λ s. s.now) sources.now) ≤ most_bytes) }
 {
-    let mut left = SOURCES_LIMIT;
+    let mut left = MOST_BYTES;
     for source in sources {
         match left.checked_sub(source.len()) {
             Some(rest) => left = rest,
@@ -72,7 +72,7 @@ fn fits(sources: &[&[u8]]) -> bool
     true
 }
 
-/// The sources as texts; the fault is that of the first one that is no UTF-8.
+/// The sources as texts; the fault is that of the first one that isn't UTF-8.
 fn texts_of<'a>(alloc: Global, sources: &[&'a [u8]]) -> Result<Vec<&'a str>, Fault>
     ensures texts { IfOk result (λ v. map (λ t. t.now) v.items ≡ map (λ s. s.now) sources.now) }
     ensures utf8 { OnOk result (AllByRecursion IsUtf8 (map (λ s. s.now) sources.now)) }

@@ -8,9 +8,11 @@ use std::io::Read;
 
 const CHUNK: usize = 4096;
 
-/// All bytes up to the input's end, or `None` where more than `limit` come: no more than one chunk is read
-/// past the limit. Each error of the reader counts, an interruption too.
-pub(crate) fn read_up_to<R: Read>(
+/// All bytes up to the input's end, or `None` where more than `limit` come: no more than one chunk of 4,096 bytes is read past
+/// the limit. For what a program hands to a call or to `run`.
+///
+/// `ReadFailed` where a read failed, an interrupted one too; `OutOfMemory`.
+pub fn read_up_to<R: Read>(
     alloc: Global,
     input: &mut R,
     limit: usize,

@@ -17,7 +17,8 @@ use Rattle.cs_profile.proofs.Definitions.{by_case}
 use Rattle.cs_profile.proofs.Slots.{Above}
 use Rattle.cs_validate.specs.Shaped.{IsShaped, AreShaped}
 use Rattle.cs_validate.specs.Asserted.{unless_absent, slot_holds, but_reference, defined_holds}
-use Rattle.cs_validate.proofs.Shapes.{none_in_both, keywords_shaped}
+use Rattle.cs_profile.proofs.Faultless.{parted}
+use Rattle.cs_validate.proofs.Shapes.{keywords_shaped}
 use Rattle.cs_validate.proofs.Slots.{slots_are, object-valid, reference-said}
 
 -- a member above which all keywords stand
@@ -81,7 +82,7 @@ named_shaped : (place : List ℕ) (ds : List (String Global × Schema)) (n : Lis
     → under n (map (λ m. (string_bytes m.0, schema_view m.1)) ds) ≡ Some d → IsShaped d
 named_shaped place [] n d h e = cc
 named_shaped place (m ∷ ds) n d h e =
-    let g = none_in_both fault_of (visits false (at_key place (string_bytes m.0)) (schema_view m.1)) (named_visits place (members_of (definitions_view ds))) h in
+    let g = parted fault_of (visits false (at_key place (string_bytes m.0)) (schema_view m.1)) (named_visits place (members_of (definitions_view ds))) h in
     elim (bytes_eq n (string_bytes m.0)) as (λ b. (if b then Some (schema_view m.1) else under n (map (λ m. (string_bytes m.0, schema_view m.1)) ds)) ≡ Some d → IsShaped d) [
       | true ↦ λ e. let same : schema_view m.1 ≡ d = cc in subst IsShaped same (at_key place (string_bytes m.0), g.0)
       | false ↦ named_shaped place ds n d g.1

@@ -1,8 +1,9 @@
 -- What keywords assert of documents, worked by the definitions. A wrong expectation stops the check here.
 use Rattle.std.proofs.Common.{◌≡◌, ℕ, pos, neg_ℤ, Bool, true, false, List, [], ◌∷◌, map, filter, codes, Some, None, refl}
-use Rattle.cs_document.specs.Document.{Document, null, boolean, integer, text, list, object, Members, no_members, member, Entry}
-use Rattle.cs_document.specs.View.{documents_of, doc_view}
+use Rattle.cs_document.specs.Document.{Document, null, boolean, integer, text, Entry}
+use Rattle.cs_document.specs.View.{doc_view}
 use Rattle.cs_document.specs.declared.doc.Doc.{Doc}
+use Rattle.cs_document.proofs.SampleDocuments.{number, array, map_of}
 use Rattle.cs_profile.specs.Keywords as keyword
 use Rattle.cs_profile.specs.declared.schema.Keywords.{Keywords}
 use Rattle.cs_profile.specs.declared.schema.JsonKind.TheVariants as kind
@@ -10,19 +11,6 @@ use Rattle.cs_validate.specs.Asserted.{kind_of, is_kind, is_const, is_limited, s
 use Rattle.cs_validate.specs.Shaped.{IsShaped, AreShaped}
 
 -- ---- short forms
-
-abbrev number : ℕ → Document
-number n = integer (pos n)
-
-abbrev array : List Document → Document
-array ds = list (documents_of ds)
-
-abbrev members : List (Entry Document) → Members
-members [] = no_members
-members (e ∷ es) = member e.0 e.1 (members es)
-
-abbrev map_of : List (Entry Document) → Document
-map_of es = object (members es)
 
 abbrev A : List ℕ
 A = codes "a"

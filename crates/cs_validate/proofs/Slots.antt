@@ -7,7 +7,7 @@ use Rattle.cs_document.specs.Document.{Document, integer, text, list, object, En
 use Rattle.cs_document.specs.Opened.{Opened, a_null, a_boolean, an_integer, a_text, a_list, an_object, opened}
 use Rattle.cs_document.specs.View.{doc_view, list_view, documents_of}
 use Rattle.cs_profile.specs.Shapes.{Row, row}
-use Rattle.cs_profile.specs.Asked.{assertion_at}
+use Rattle.cs_profile.specs.Constraint.{assertion_at}
 use Rattle.cs_profile.specs.Validity.{is_of_kind, if_number, holds, IsValidity}
 use Rattle.cs_profile.specs.SchemaDocument.{Slot, reference_document, text_document, unless_no_map, definitions_view, present, schema_view, schemas_view, slots_of, unless_no_list, kind_name}
 use Rattle.cs_profile.specs.declared.schema.JsonKind.{JsonKind}

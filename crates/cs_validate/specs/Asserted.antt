@@ -7,7 +7,7 @@ use Rattle.cs_document.specs.View.{doc_view}
 use Rattle.cs_document.specs.declared.doc.Doc.{Doc}
 use Rattle.cs_profile.specs.Keywords as keyword
 use Rattle.cs_profile.specs.Keywords.{Kind, defined}
-use Rattle.cs_profile.specs.Asked.{assertion_at}
+use Rattle.cs_profile.specs.Constraint.{assertion_at}
 use Rattle.cs_profile.specs.Validity.{is_of_kind, if_number, holds}
 use Rattle.cs_profile.specs.SchemaDocument.{Slot}
 use Rattle.cs_profile.specs.declared.schema.Keywords.{Keywords}

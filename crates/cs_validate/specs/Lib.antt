@@ -1,2 +1,3 @@
+-- for contracts of private functions and proofs alone
 pub mod Shaped
 pub mod Asserted

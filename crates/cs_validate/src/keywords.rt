@@ -48,7 +48,7 @@ fn is_equal(value: &Option<Doc>, doc: &Doc) -> bool
     }
 }
 
-/// Whether a document is no number or within the limits (Validation, section 6.2).
+/// Whether a document isn't a number or is within the limits (Validation, section 6.2).
 fn is_within(keywords: &Keywords, doc: &Doc) -> bool
     ensures { result ≡ is_limited keywords.now (doc_view doc.now) }
 {

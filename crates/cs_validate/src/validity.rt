@@ -21,8 +21,9 @@ pub fn is_valid(_alloc: Global, schema: &SchemaDoc, doc: &Doc) -> Result<bool, V
         → b ≡ V (document_of schema.now) (doc_view doc.now)) }
     ensures one_meaning { OneMeaning (document_of schema.now) }
 {
-    schema.is_whole();
-    one_meaning(schema);
+    // for the proof: what every schema document is
+    schema.whole_law(); // for the proof: it is a schema of the profile
+    one_meaning(schema); // for the proof: there is one validity
     match schema.root() {
         Schema::Always(b) => Ok(*b),
         Schema::Object(keywords) => Ok(

@@ -1,16 +1,18 @@
-// The program: its words, the standard streams and the exit status.
+// The program: its words, the files that they name, the standard streams and the exit status.
 #![tactic(auto)]
 
-mod command;
+mod files;
+mod requests;
 
-use clap::ArgMatches;
 use clap::error::ErrorKind;
-use command::command;
-use cs_tool::{Fault, Request, run, write_fault};
+use cs_tool::{Fault, Request, command, run, write_fault};
+use requests::request_of;
 use std::alloc::Global;
 use std::io;
 use std::process::ExitCode;
 
+/// The status of `invalid`.
+const INVALID: u8 = 1;
 /// The status of a faulty command line.
 const COMMAND_LINE: u8 = 3;
 
@@ -34,18 +36,32 @@ fn answer(rt: &HostRuntime) -> Result<u8, Fault> {
     };
     let command = command(alloc)?;
     match command.try_get_matches_from(words.as_slice()) {
-        Ok(matches) => export(rt, &matches),
-        Err(error) => {
-            if error.kind() == ErrorKind::OutOfMemory {
-                return Err(Fault::OutOfMemory);
-            }
-            let _ = error.print(rt);
-            Ok(if error.use_stderr() { COMMAND_LINE } else { 0 })
-        }
+        Ok(matches) => match request_of(rt, &matches)? {
+            Some(request) => judged(rt, request),
+            None => Ok(COMMAND_LINE),
+        },
+        Err(error) => shown(rt, &error),
     }
 }
 
-/// The status where the words of the process can't be had: want of memory, or a word that is no UTF-8.
+/// The status of what `clap` prints: help on standard output, a fault of the command line on standard error.
+fn shown(rt: &HostRuntime, error: &clap::Error) -> Result<u8, Fault> {
+    if error.kind() == ErrorKind::OutOfMemory {
+        return Err(Fault::OutOfMemory);
+    }
+    let is_printed = error.print(rt).is_ok();
+    if error.use_stderr() {
+        // A fault that can't be printed changes no status.
+        return Ok(COMMAND_LINE);
+    }
+    if is_printed {
+        Ok(0)
+    } else {
+        Err(Fault::WriteFailed)
+    }
+}
+
+/// The status where the words of the process can't be read: memory ran out, or a word isn't UTF-8.
 fn unread_words(rt: &HostRuntime, error: &io::Error) -> Result<u8, Fault> {
     if error.kind() == io::ErrorKind::OutOfMemory {
         return Err(Fault::OutOfMemory);
@@ -54,21 +70,8 @@ fn unread_words(rt: &HostRuntime, error: &io::Error) -> Result<u8, Fault> {
     Ok(COMMAND_LINE)
 }
 
-/// Exports the schema of the source on standard input.
-fn export(rt: &HostRuntime, matches: &ArgMatches<'_>) -> Result<u8, Fault> {
-    let request = Request::Export {
-        files: Vec::new(rt.alloc()),
-        root: root_of(rt.alloc(), matches)?,
-    };
-    run(rt.alloc(), request, &mut rt.stdin(), &mut rt.stdout())?;
-    Ok(0)
-}
-
-/// The word after `--root`, as it stands.
-fn root_of(alloc: Global, matches: &ArgMatches<'_>) -> Result<String, Fault> {
-    let root = matches
-        .subcommand_matches("export")
-        .and_then(|export| export.get_str("root"))
-        .unwrap_or("");
-    Ok(String::from_str(alloc, root)?)
+/// Runs the request over the standard streams: 0, or 1 for `invalid`.
+fn judged(rt: &HostRuntime, request: Request) -> Result<u8, Fault> {
+    let truth = run(rt.alloc(), request, &mut rt.stdin(), &mut rt.stdout())?;
+    Ok(if truth { 0 } else { INVALID })
 }

@@ -1,22 +1,22 @@
-// Expressions and values. Recursion goes by brackets and fields alone: `depth` says how many may
-// still stand inside one another. It begins at 29, a body and 28 values inside it, which is what
+// Expressions and values. Recursion goes by brackets and fields alone: `depth` says how many more
+// may nest. It begins at 29, a body and 28 values inside it, which is what
 // tokens within the limit of nesting need: however long a source is, the stack bears it.
 
 ghost use Rattle.std.specs.Prelude.{◌≡◌, ◌≤◌, map, length, true, false};
 ghost use Rattle.cs_grammar.specs.View.{expr_view, field_view, end_view};
 ghost use Rattle.cs_syntax.specs.Left.{left, Reads};
-ghost use Rattle.cs_syntax.specs.Reading.{inner, field_with, fields_with, struct_with, rest_with, end_with, elements_with, list_with, operand_with, amps_with, conj_with, bars_with, expr_with};
+ghost use Rattle.cs_syntax.specs.Reading.{inner, field_with, fields_with, struct_with, rest_with, end_with, elements_with, list_with, operand_with, amps_with, conj_with, bars_with, expr_with, most_depth};
 
 use crate::parser::kind::kind_of;
 use crate::parser::place::Parser;
 use cs_grammar::{Expr, Field, Kind, ListEnd, SyntaxFault};
 
 impl Parser<'_, '_> {
-    // A value, which may be a field alone, or an expression, where no such short form may stand.
+    // A value, which may be a field alone, or an expression, where no such short form is allowed.
     #[cycle(parse)]
     #[tactic(auto, unfolding(crate::specs::Reading::inner))]
     pub(crate) fn inside(&mut self, depth: usize, short: bool) -> Result<Expr, SyntaxFault>
-        requires { depth ≤ 29 }
+        requires { depth ≤ most_depth }
         ensures { Reads expr_view result self.new (inner depth short (left self.old)) }
     {
         if depth == 0 {
@@ -40,7 +40,7 @@ impl Parser<'_, '_> {
     #[cycle(parse)]
     #[tactic(auto, unfolding(crate::specs::Reading::field_with))]
     fn field(&mut self, depth: usize) -> Result<Field, SyntaxFault>
-        requires { depth ≤ 29 }
+        requires { depth ≤ most_depth }
         ensures { Reads field_view result self.new (field_with (inner depth) (left self.old)) }
     {
         let (label, quoted) = self.label()?;
@@ -55,10 +55,10 @@ impl Parser<'_, '_> {
         })
     }
 
-    // The fields behind the first.
+    // The fields after the first.
     #[cycle(parse)]
     fn fields(&mut self, depth: usize) -> Result<Vec<Field>, SyntaxFault>
-        requires { depth ≤ 29 }
+        requires { depth ≤ most_depth }
         ensures { Reads (λ v. map field_view v.items) result self.new
             (fields_with (inner depth) (length (left self.old)) (left self.old)) }
     {
@@ -72,11 +72,11 @@ impl Parser<'_, '_> {
         Ok(fields)
     }
 
-    // What stands behind the bracket that opens a struct: its fields, and whether it is opened.
+    // What follows the bracket that opens a struct: its fields, and whether it is opened.
     #[cycle(parse)]
     #[tactic(auto, unfolding(crate::specs::Reading::struct_with))]
     fn structure(&mut self, depth: usize) -> Result<(Vec<Field>, bool), SyntaxFault>
-        requires { depth ≤ 29 }
+        requires { depth ≤ most_depth }
         ensures { Reads (λ x. (map field_view x.0.items, x.1)) result self.new
             (struct_with (inner depth) (left self.old)) }
     {
@@ -94,11 +94,11 @@ impl Parser<'_, '_> {
         Ok((fields, opened))
     }
 
-    // What stands behind the `...` of a list.
+    // What follows the `...` of a list.
     #[cycle(parse)]
     #[tactic(auto, unfolding(crate::specs::Reading::rest_with))]
     fn list_rest(&mut self, depth: usize) -> Result<ListEnd, SyntaxFault>
-        requires { depth ≤ 29 }
+        requires { depth ≤ most_depth }
         ensures { Reads end_view result self.new (rest_with (inner depth) (left self.old)) }
     {
         if self.may_end() {
@@ -110,11 +110,11 @@ impl Parser<'_, '_> {
         Ok(ListEnd::Each(Box::new(self.alloc, each)?))
     }
 
-    // What stands behind the last element of a list.
+    // What follows the last element of a list.
     #[cycle(parse)]
     #[tactic(auto, unfolding(crate::specs::Reading::end_with))]
     fn list_end(&mut self, depth: usize) -> Result<ListEnd, SyntaxFault>
-        requires { depth ≤ 29 }
+        requires { depth ≤ most_depth }
         ensures { Reads end_view result self.new (end_with (inner depth) (left self.old)) }
     {
         if !self.skip_to_rest() {
@@ -125,10 +125,10 @@ impl Parser<'_, '_> {
         self.list_rest(depth)
     }
 
-    // The elements behind the first.
+    // The elements after the first.
     #[cycle(parse)]
     fn elements(&mut self, depth: usize) -> Result<Vec<Expr>, SyntaxFault>
-        requires { depth ≤ 29 }
+        requires { depth ≤ most_depth }
         ensures { Reads (λ v. map expr_view v.items) result self.new
             (elements_with (inner depth) (length (left self.old)) (left self.old)) }
     {
@@ -142,11 +142,11 @@ impl Parser<'_, '_> {
         Ok(elements)
     }
 
-    // What stands behind the bracket that opens a list.
+    // What follows the bracket that opens a list.
     #[cycle(parse)]
     #[tactic(auto, unfolding(crate::specs::Reading::list_with))]
     fn list(&mut self, depth: usize) -> Result<(Vec<Expr>, ListEnd), SyntaxFault>
-        requires { depth ≤ 29 }
+        requires { depth ≤ most_depth }
         ensures { Reads (λ x. (map expr_view x.0.items, end_view x.1)) result self.new
             (list_with (inner depth) (left self.old)) }
     {
@@ -168,7 +168,7 @@ impl Parser<'_, '_> {
     #[cycle(parse)]
     #[tactic(auto, unfolding(crate::specs::Reading::operand_with))]
     fn operand(&mut self, depth: usize) -> Result<Expr, SyntaxFault>
-        requires { depth ≤ 29 }
+        requires { depth ≤ most_depth }
         ensures { Reads expr_view result self.new (operand_with (inner depth) (left self.old)) }
     {
         let Some(token) = self.peek() else {
@@ -192,14 +192,14 @@ impl Parser<'_, '_> {
                 let (front, end) = self.list(depth)?;
                 Ok(Expr::List { front, end })
             }
-            _ => self.plain(),
+            _ => self.unbracketed(),
         }
     }
 
-    // The operands of `&` behind the first.
+    // The operands of `&` after the first.
     #[cycle(parse)]
     fn amps(&mut self, depth: usize) -> Result<Vec<Expr>, SyntaxFault>
-        requires { depth ≤ 29 }
+        requires { depth ≤ most_depth }
         ensures { Reads (λ v. map expr_view v.items) result self.new
             (amps_with (inner depth) (length (left self.old)) (left self.old)) }
     {
@@ -217,7 +217,7 @@ impl Parser<'_, '_> {
     #[cycle(parse)]
     #[tactic(auto, unfolding(crate::specs::Reading::conj_with))]
     fn conj(&mut self, depth: usize) -> Result<Expr, SyntaxFault>
-        requires { depth ≤ 29 }
+        requires { depth ≤ most_depth }
         ensures { Reads expr_view result self.new (conj_with (inner depth) (left self.old)) }
     {
         let first = self.operand(depth)?;
@@ -229,10 +229,10 @@ impl Parser<'_, '_> {
         Ok(Expr::And(operands))
     }
 
-    // The operands of `|` behind the first.
+    // The operands of `|` after the first.
     #[cycle(parse)]
     fn bars(&mut self, depth: usize) -> Result<Vec<Expr>, SyntaxFault>
-        requires { depth ≤ 29 }
+        requires { depth ≤ most_depth }
         ensures { Reads (λ v. map expr_view v.items) result self.new
             (bars_with (inner depth) (length (left self.old)) (left self.old)) }
     {
@@ -246,11 +246,11 @@ impl Parser<'_, '_> {
         Ok(operands)
     }
 
-    // Operands joined by `|`, which binds looser than `&`; one alone makes no `Or`.
+    // Operands joined by `|`, which binds less tightly than `&`; one alone makes no `Or`.
     #[cycle(parse)]
     #[tactic(auto, unfolding(crate::specs::Reading::expr_with))]
     fn expr(&mut self, depth: usize) -> Result<Expr, SyntaxFault>
-        requires { depth ≤ 29 }
+        requires { depth ≤ most_depth }
         ensures { Reads expr_view result self.new (expr_with (inner depth) (left self.old)) }
     {
         let first = self.conj(depth)?;

@@ -6,14 +6,14 @@ ghost use Rattle.cs_grammar.specs.View.{label_of};
 ghost use Rattle.cs_syntax.specs.Reading.{begins_field, goes_on_label, another_field, another_element, opening, rest_behind, may_end, label_at, mark_at, opening_at};
 
 use crate::parser::kind::kind_of;
-use crate::parser::name::is_keyword;
+use crate::parser::name::is_reserved;
 use crate::parser::place::{Parser, fault_of};
 use cs_grammar::{FieldMark, Kind, SyntaxFault};
 use cs_lexer::unescape;
 
 impl Parser<'_, '_> {
-    // Whether the next token is a label: one with a mark or a colon behind it, or a name that is
-    // no operand.
+    // Whether the next token is a label: one with a mark or a colon after it, or a name that
+    // isn't an operand.
     pub(crate) fn begins_field(&self) -> bool
         ensures { result ≡ begins_field (left self.now) }
     {
@@ -24,13 +24,13 @@ impl Parser<'_, '_> {
             || self.is_behind(Kind::Question)
             || self.is_behind(Kind::Bang);
         match kind_of(&token) {
-            Kind::Name => is_keyword(token.text) || goes_on,
+            Kind::Name => is_reserved(token.text) || goes_on,
             Kind::Text => goes_on,
             _ => false,
         }
     }
 
-    // Passes over a comma that has another field behind it.
+    // Passes over a comma that has another field after it.
     pub(crate) fn skip_to_field(&mut self) -> bool
         ensures { Skips result self.old self.new (another_field (left self.old)) }
     {
@@ -39,7 +39,7 @@ impl Parser<'_, '_> {
         self.skip_if(comma && !ends)
     }
 
-    // Passes over a comma that has another element behind it.
+    // Passes over a comma that has another element after it.
     pub(crate) fn skip_to_element(&mut self) -> bool
         ensures { Skips result self.old self.new (another_element (left self.old)) }
     {
@@ -48,7 +48,7 @@ impl Parser<'_, '_> {
         self.skip_if(comma && !ends)
     }
 
-    // Passes over a comma that has the `...` of a struct behind it.
+    // Passes over a comma that has the `...` of a struct after it.
     fn skip_to_opening(&mut self) -> bool
         ensures { Skips result self.old self.new (opening (left self.old)) }
     {
@@ -57,7 +57,7 @@ impl Parser<'_, '_> {
         self.skip_if(comma && dots)
     }
 
-    // Passes over a comma that has the `...` of a list behind it.
+    // Passes over a comma that has the `...` of a list after it.
     pub(crate) fn skip_to_rest(&mut self) -> bool
         ensures { Skips result self.old self.new (rest_behind (left self.old)) }
     {
@@ -74,7 +74,7 @@ impl Parser<'_, '_> {
         self.is_at(Kind::CloseList) || comma
     }
 
-    // The name or the text of a label, and whether it stands in quotes.
+    // The name or the text of a label, and whether it is quoted.
     #[tactic(auto, unfolding(crate::specs::Reading::label_at))]
     pub(crate) fn label(&mut self) -> Result<(String, bool), SyntaxFault>
         ensures { Reads (λ x. label_of (string_bytes x.0) x.1) result self.new (label_at (left self.old)) }
@@ -102,7 +102,7 @@ impl Parser<'_, '_> {
         FieldMark::Regular
     }
 
-    // What stands behind the last field of a struct: whether it is opened.
+    // What follows the last field of a struct: whether it is opened.
     pub(crate) fn opening(&mut self) -> Result<bool, SyntaxFault>
         ensures { Reads (λ b. b) result self.new (opening_at (left self.old)) }
     {

@@ -8,9 +8,9 @@ ghost use Rattle.cs_grammar.specs.Spells.{SpellsFile};
 ghost use Rattle.cs_grammar.specs.View.{definition_view, file_view, lexemes_view, words};
 ghost use Rattle.cs_syntax.specs.Left.{left, Reads};
 ghost use Rattle.cs_lexer.specs.Quoted.{are_quoted};
-ghost use Rattle.cs_syntax.specs.Reading.{Gives, definition_at, line_at, definitions_at, is_clause, clause_at, package_at, file_with, file_at};
+ghost use Rattle.cs_syntax.specs.Reading.{Gives, definition_at, line_at, definitions_at, is_clause, clause_at, package_at, file_with, file_at, most_depth};
 ghost use Rattle.cs_syntax.specs.Within.{file_within};
-ghost use Rattle.cs_syntax.specs.Nesting.{nesting};
+ghost use Rattle.cs_syntax.specs.Nesting.{nesting, most_nested};
 ghost use Rattle.cs_lexer.specs.Lexed.{Answers};
 ghost use Rattle.cs_syntax.specs.Answer.{IsFileRefusal, IsSpelled};
 
@@ -27,7 +27,7 @@ impl Parser<'_, '_> {
     // A definition: its name, a colon and its body.
     #[tactic(auto, unfolding(crate::specs::Reading::definition_at))]
     fn definition(&mut self, depth: usize) -> Result<Definition, SyntaxFault>
-        requires { depth ≤ 29 }
+        requires { depth ≤ most_depth }
         ensures { Reads definition_view result self.new (definition_at depth (left self.old)) }
     {
         let Some(token) = self.take() else {
@@ -46,7 +46,7 @@ impl Parser<'_, '_> {
     // A definition and its comma.
     #[tactic(auto, unfolding(crate::specs::Reading::line_at))]
     fn line(&mut self, depth: usize) -> Result<Definition, SyntaxFault>
-        requires { depth ≤ 29 }
+        requires { depth ≤ most_depth }
         ensures { Reads definition_view result self.new (line_at depth (left self.old)) }
     {
         let definition = self.definition(depth)?;
@@ -56,7 +56,7 @@ impl Parser<'_, '_> {
 
     // The definitions up to the end.
     fn definitions(&mut self, depth: usize) -> Result<Vec<Definition>, SyntaxFault>
-        requires { depth ≤ 29 }
+        requires { depth ≤ most_depth }
         ensures { Reads (λ v. map definition_view v.items) result self.new
             (definitions_at depth (length (left self.old)) (left self.old)) }
     {
@@ -95,7 +95,7 @@ impl Parser<'_, '_> {
         Ok(String::from_str(self.alloc, token.text)?)
     }
 
-    // The package clause, where one stands.
+    // The package clause, where there is one.
     #[tactic(auto, unfolding(crate::specs::Reading::package_at))]
     fn package(&mut self) -> Result<Option<String>, SyntaxFault>
         ensures { Reads (option_map string_bytes) result self.new (package_at (left self.old)) }
@@ -110,7 +110,7 @@ impl Parser<'_, '_> {
     // A file, and the end.
     #[tactic(auto, unfolding(crate::specs::Reading::file_with))]
     fn file(&mut self, depth: usize) -> Result<File, SyntaxFault>
-        requires { depth ≤ 29 }
+        requires { depth ≤ most_depth }
         ensures { Gives file_view result (file_with depth (left self.old)) }
     {
         let package = self.package()?;
@@ -129,7 +129,7 @@ impl Parser<'_, '_> {
 fn file_of(alloc: Global, tokens: &[Token<'_>]) -> Result<File, SyntaxFault>
     requires quoted { are_quoted (lexemes_view tokens.now) ≡ true }
     // The stack bears the recursion of tokens that nest no deeper.
-    requires nested { nesting (words (lexemes_view tokens.now)) ≤ 28 }
+    requires nested { nesting (words (lexemes_view tokens.now)) ≤ most_nested }
     ensures { Gives file_view result (file_at (words (lexemes_view tokens.now))) }
 {
     let mut parser = Parser {
@@ -166,7 +166,7 @@ pub fn parse_file(alloc: Global, source: &str) -> Result<File, SyntaxFault>
     ensures found { IfOk result (λ f. IsSpelled source.now (file_view f)) }
     // A file that the tokens of the source spell so is answered, unless memory runs out.
     ensures only { (f : FileTree) → IsSpelled source.now f → Answers file_view result f }
-    // A fault other than want of memory says where the source is stuck, that its tokens spell no
+    // A fault other than `OutOfMemory` says where the source is stuck, that its tokens spell no
     // file, of whatever height, and the place of one of them, or that it is too high.
     ensures refused { IfErr result (λ f. IsFileRefusal source.now f) }
 {

@@ -2,7 +2,7 @@
 
 ghost use Rattle.std.specs.Prelude.{◌≡◌, map, nat_le};
 ghost use Rattle.cs_grammar.specs.View.{expr_view, exprs_view, fields_view, end_view, definition_view};
-ghost use Rattle.cs_syntax.specs.Height.{height, heights, field_heights, end_height, definition_heights};
+ghost use Rattle.cs_syntax.specs.Height.{height, height_all, height_fields, height_end, height_definitions};
 
 use cs_grammar::{Definition, Expr, Field, ListEnd};
 
@@ -21,16 +21,14 @@ fn is_low(expr: &Expr, limit: usize) -> bool
         Expr::Paren(kept) => is_low(kept, inside),
         Expr::Struct { fields, .. } => are_low_fields(fields, inside),
         Expr::List { front, end } => are_low(front, inside) && is_low_end(end, inside),
-        Expr::Top | Expr::Bottom | Expr::Null | Expr::Bool(_) => true,
-        Expr::Int(_) | Expr::Text(_) => true,
-        Expr::Name { .. } | Expr::Reference { .. } | Expr::Bound { .. } => true,
-        Expr::NotInt(_) | Expr::NotText(_) | Expr::NotNull => true,
+        // The others have no parts.
+        _ => true,
     }
 }
 
 #[cycle(height)]
 fn are_low(exprs: &Vec<Expr>, limit: usize) -> bool
-    ensures { result ≡ nat_le (heights (exprs_view exprs.now.items)) limit }
+    ensures { result ≡ nat_le (height_all (exprs_view exprs.now.items)) limit }
 {
     for expr in exprs {
         if !is_low(expr, limit) {
@@ -42,7 +40,7 @@ fn are_low(exprs: &Vec<Expr>, limit: usize) -> bool
 
 #[cycle(height)]
 fn are_low_fields(fields: &Vec<Field>, limit: usize) -> bool
-    ensures { result ≡ nat_le (field_heights (fields_view fields.now.items)) limit }
+    ensures { result ≡ nat_le (height_fields (fields_view fields.now.items)) limit }
 {
     for field in fields {
         if !is_low(&field.value, limit) {
@@ -54,7 +52,7 @@ fn are_low_fields(fields: &Vec<Field>, limit: usize) -> bool
 
 #[cycle(height)]
 fn is_low_end(end: &ListEnd, limit: usize) -> bool
-    ensures { result ≡ nat_le (end_height (end_view end.now)) limit }
+    ensures { result ≡ nat_le (height_end (end_view end.now)) limit }
 {
     match end {
         ListEnd::Closed => true,
@@ -65,7 +63,7 @@ fn is_low_end(end: &ListEnd, limit: usize) -> bool
 
 // Whether no body is higher than that.
 pub(crate) fn are_low_bodies(definitions: &Vec<Definition>, limit: usize) -> bool
-    ensures { result ≡ nat_le (definition_heights (map definition_view definitions.now.items)) limit }
+    ensures { result ≡ nat_le (height_definitions (map definition_view definitions.now.items)) limit }
 {
     for definition in definitions {
         if !is_low(&definition.body, limit) {

@@ -2,11 +2,11 @@
 
 ghost use Rattle.std.specs.Prelude.{◌≡◌};
 ghost use Rattle.cs_grammar.specs.View.{bare_name};
-ghost use Rattle.cs_grammar.specs.Spells.{is_keyword, is_package};
+ghost use Rattle.cs_grammar.specs.Spells.{is_reserved, is_package};
 
-// Whether a name is no operand.
-pub(crate) fn is_keyword(text: &str) -> bool
-    ensures { result ≡ is_keyword text.now }
+// Whether a name can't be an operand.
+pub(crate) fn is_reserved(text: &str) -> bool
+    ensures { result ≡ is_reserved text.now }
 {
     matches!(text, "for" | "if" | "let")
 }

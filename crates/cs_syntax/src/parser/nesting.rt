@@ -1,25 +1,25 @@
 // How deep tokens nest, before any of them is parsed: this bounds the parser's recursion.
 
-ghost use Rattle.std.specs.Prelude.{◌≡◌, ◌≤◌, nat_lt};
-ghost use Rattle.cs_syntax.specs.Nesting.{nesting};
-ghost use Rattle.cs_syntax.specs.Counting.{before_next, levels_next, opened, closed_by, short_colon};
+ghost use Rattle.std.specs.Prelude.{◌≡◌, ◌≤◌, nat_lt, IfOk, OnOk};
+ghost use Rattle.cs_syntax.specs.Nesting.{nesting, most_nested};
+ghost use Rattle.cs_syntax.specs.Counting.{before_next, levels_next, level_opened, level_closed, short_colon};
 ghost use Rattle.cs_grammar.specs.View.{lexemes_view, words};
-ghost use Rattle.cs_syntax.specs.Left.{levels_of, Steps, Tells};
+ghost use Rattle.cs_syntax.specs.Left.{levels_of};
 
 use crate::parser::kind::kind_of;
-use cs_grammar::{Kind, SyntaxFault, Token};
-use std::alloc::Global;
+use cs_grammar::{Kind, Token};
+use std::alloc::{AllocError, Global};
 
 /// How deep tokens may nest, and how high a body may be.
 pub(crate) const MOST_NESTED: usize = 28;
 
-/// What stands before a token.
+/// What comes before a token.
 #[derive(Clone, Copy)]
-pub(crate) enum Before {
+pub(crate) enum PrecedingToken {
     /// None of these.
     Other,
     Colon,
-    /// A label behind a colon.
+    /// A label after a colon.
     Label,
     /// The mark of such a label.
     Mark,
@@ -27,39 +27,39 @@ pub(crate) enum Before {
 
 /// The nesting at a token.
 #[derive(Drop)]
-pub(crate) struct Levels {
+pub(crate) struct NestingState {
     /// The brackets that are open, and their short colons.
     nested: usize,
-    /// The same behind the innermost bracket.
+    /// The same inside the innermost bracket.
     level: usize,
-    /// The same behind the other brackets, the innermost last.
+    /// The same inside the other brackets, the innermost last.
     outer: Vec<usize>,
 }
 
-fn before_next(before: Before, kind: Kind) -> Before
+fn before_next(before: PrecedingToken, kind: Kind) -> PrecedingToken
     ensures { result ≡ before_next before kind }
 {
     match (before, kind) {
-        (_, Kind::Colon) => Before::Colon,
-        (Before::Colon, Kind::Name | Kind::Text) => Before::Label,
-        (Before::Label, Kind::Question | Kind::Bang) => Before::Mark,
-        _ => Before::Other,
+        (_, Kind::Colon) => PrecedingToken::Colon,
+        (PrecedingToken::Colon, Kind::Name | Kind::Text) => PrecedingToken::Label,
+        (PrecedingToken::Label, Kind::Question | Kind::Bang) => PrecedingToken::Mark,
+        _ => PrecedingToken::Other,
     }
 }
 
-fn short_colon(before: Before) -> usize
+fn short_colon(before: PrecedingToken) -> usize
     ensures { result ≡ short_colon before }
 {
     match before {
-        Before::Label | Before::Mark => 1,
-        Before::Other | Before::Colon => 0,
+        PrecedingToken::Label | PrecedingToken::Mark => 1,
+        PrecedingToken::Other | PrecedingToken::Colon => 0,
     }
 }
 
-impl Levels {
-    fn open(&mut self) -> Result<(), SyntaxFault>
-        requires { self.old.nested ≤ 28 }
-        ensures { Steps result self.new (opened (levels_of self.old)) }
+impl NestingState {
+    fn open(&mut self) -> Result<(), AllocError>
+        requires { self.old.nested ≤ most_nested }
+        ensures { OnOk result (levels_of self.new ≡ level_opened (levels_of self.old)) }
     {
         self.outer.push(self.level)?;
         self.nested += 1;
@@ -68,7 +68,7 @@ impl Levels {
     }
 
     fn close(&mut self)
-        ensures { levels_of self.new ≡ closed_by (levels_of self.old) (levels_of self.old).outer }
+        ensures { levels_of self.new ≡ level_closed (levels_of self.old) (levels_of self.old).outer }
     {
         if let Some(level) = self.outer.pop() {
             self.nested = self.level.saturating_sub(1);
@@ -76,10 +76,10 @@ impl Levels {
         }
     }
 
-    // Goes on behind a token.
-    fn pass(&mut self, before: Before, kind: Kind) -> Result<(), SyntaxFault>
-        requires { self.old.nested ≤ 28 }
-        ensures { Steps result self.new (levels_next before kind (levels_of self.old)) }
+    // Goes on after a token.
+    fn pass(&mut self, before: PrecedingToken, kind: Kind) -> Result<(), AllocError>
+        requires { self.old.nested ≤ most_nested }
+        ensures { OnOk result (levels_of self.new ≡ levels_next before kind (levels_of self.old)) }
     {
         match kind {
             Kind::OpenStruct | Kind::OpenList | Kind::OpenParen => self.open()?,
@@ -93,11 +93,11 @@ impl Levels {
 }
 
 // Whether tokens nest too deep.
-pub(crate) fn is_too_nested(alloc: Global, tokens: &[Token<'_>]) -> Result<bool, SyntaxFault>
-    ensures { Tells result (nat_lt 28 (nesting (words (lexemes_view tokens.now)))) }
+pub(crate) fn is_too_nested(alloc: Global, tokens: &[Token<'_>]) -> Result<bool, AllocError>
+    ensures { IfOk result (λ deep. deep ≡ nat_lt most_nested (nesting (words (lexemes_view tokens.now)))) }
 {
-    let mut before = Before::Other;
-    let mut levels = Levels {
+    let mut before = PrecedingToken::Other;
+    let mut levels = NestingState {
         nested: 0,
         level: 0,
         outer: Vec::new(alloc),

@@ -2,13 +2,14 @@
 
 ghost use Rattle.std.specs.Prelude.{◌≡◌};
 ghost use Rattle.std.specs.Option.{option_map};
+ghost use Rattle.cs_grammar.specs.View as View;
 ghost use Rattle.cs_grammar.specs.View.{expr_view};
 ghost use Rattle.cs_grammar.specs.Spells.{literal_of};
 ghost use Rattle.cs_syntax.specs.Left.{left, Reads};
-ghost use Rattle.cs_syntax.specs.Reading.{relation_of, bound_at, unequal_at, integer_at, plain_at};
+ghost use Rattle.cs_syntax.specs.Reading.{relation_of, bound_at, unequal_at, integer_at, unbracketed_at};
 
 use crate::parser::kind::kind_of;
-use crate::parser::name::{bare_name, is_keyword};
+use crate::parser::name::{bare_name, is_reserved};
 use crate::parser::place::{Parser, fault_of};
 use cs_grammar::{Expr, Kind, Relation, SyntaxFault};
 use cs_lexer::unescape;
@@ -27,7 +28,7 @@ fn literal_of(text: &str) -> Option<Expr>
 
 // The relation of a mark.
 fn relation_of(kind: Kind) -> Option<Relation>
-    ensures { result ≡ relation_of kind }
+    ensures { option_map View.relation_of result ≡ relation_of kind }
 {
     match kind {
         Kind::Less => Some(Relation::Less),
@@ -39,16 +40,16 @@ fn relation_of(kind: Kind) -> Option<Relation>
 }
 
 impl Parser<'_, '_> {
-    // The limit behind a relation.
+    // The limit after a relation.
     #[tactic(auto, unfolding(crate::specs::Reading::bound_at))]
     fn bound(&mut self, relation: Relation) -> Result<Expr, SyntaxFault>
-        ensures { Reads expr_view result self.new (bound_at relation (left self.old)) }
+        ensures { Reads expr_view result self.new (bound_at (View.relation_of relation) (left self.old)) }
     {
         let limit = self.number()?;
         Ok(Expr::Bound { relation, limit })
     }
 
-    // What stands behind `!=`.
+    // What follows `!=`.
     #[tactic(auto, unfolding(crate::specs::Reading::unequal_at))]
     fn unequal(&mut self) -> Result<Expr, SyntaxFault>
         ensures { Reads expr_view result self.new (unequal_at (left self.old)) }
@@ -81,9 +82,9 @@ impl Parser<'_, '_> {
     }
 
     // An operand without brackets.
-    #[tactic(auto, unfolding(crate::specs::Reading::plain_at))]
-    pub(crate) fn plain(&mut self) -> Result<Expr, SyntaxFault>
-        ensures { Reads expr_view result self.new (plain_at (left self.old)) }
+    #[tactic(auto, unfolding(crate::specs::Reading::unbracketed_at))]
+    pub(crate) fn unbracketed(&mut self) -> Result<Expr, SyntaxFault>
+        ensures { Reads expr_view result self.new (unbracketed_at (left self.old)) }
     {
         let Some(token) = self.peek() else {
             return Err(self.fault());
@@ -108,7 +109,7 @@ impl Parser<'_, '_> {
                 self.next += 1;
                 Ok(Expr::Text(unescape(self.alloc, token.text)?))
             }
-            Kind::Name if is_keyword(token.text) => Err(fault_of(&token)),
+            Kind::Name if is_reserved(token.text) => Err(fault_of(&token)),
             Kind::Name => match literal_of(token.text) {
                 Some(literal) => {
                     self.next += 1;

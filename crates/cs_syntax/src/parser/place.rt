@@ -78,7 +78,7 @@ impl<'t, 'a> Parser<'t, 'a> {
         }
     }
 
-    // Passes over a token of that kind, where one stands.
+    // Passes over a token of that kind, where it is next.
     pub(crate) fn skip(&mut self, wanted: Kind) -> bool
         ensures { Skips result self.old self.new (after wanted (left self.old)) }
     {
@@ -91,7 +91,7 @@ impl<'t, 'a> Parser<'t, 'a> {
         }
     }
 
-    // Passes over a token of that kind, which has to stand here.
+    // Passes over a token of that kind, which has to be next.
     pub(crate) fn expect(&mut self, wanted: Kind) -> Result<(), SyntaxFault>
         ensures { ReadsPast result self.new (expected wanted (left self.old)) }
     {
@@ -102,7 +102,7 @@ impl<'t, 'a> Parser<'t, 'a> {
         }
     }
 
-    // The byte at which the next token stands.
+    // The offset of the next token.
     #[tactic(auto, using(crate::proofs::WordKinds::start_word_of))]
     pub(crate) fn start(&self) -> usize
         ensures { result ≡ start_at (left self.now) }
@@ -123,7 +123,7 @@ impl<'t, 'a> Parser<'t, 'a> {
         }
     }
 
-    // Whether the token behind the next one is of that kind.
+    // Whether the token after the next one is of that kind.
     pub(crate) fn is_behind(&self, wanted: Kind) -> bool
         ensures { result ≡ begins_with wanted (drop 1 (left self.now)) }
     {
@@ -134,7 +134,7 @@ impl<'t, 'a> Parser<'t, 'a> {
         behind < self.tokens.len() && kind_of(&self.tokens[behind]) == wanted
     }
 
-    // Passes over a token, where one stands and is wanted.
+    // Passes over the next token, where it is wanted.
     pub(crate) fn skip_if(&mut self, wanted: bool) -> bool
         ensures { Skips result self.old self.new (behind_if wanted (left self.old)) }
     {
@@ -147,7 +147,7 @@ impl<'t, 'a> Parser<'t, 'a> {
         }
     }
 
-    // Passes over a comma of either kind, where one stands.
+    // Passes over a comma of either kind, where one is next.
     pub(crate) fn skip_comma(&mut self) -> bool
         ensures { Skips result self.old self.new (after_comma (left self.old)) }
     {
@@ -155,7 +155,7 @@ impl<'t, 'a> Parser<'t, 'a> {
         self.skip_if(comma)
     }
 
-    // Passes over a comma of either kind, which has to stand here.
+    // Passes over a comma of either kind, which has to be next.
     pub(crate) fn expect_comma(&mut self) -> Result<(), SyntaxFault>
         ensures { ReadsPast result self.new (comma_at (left self.old)) }
     {

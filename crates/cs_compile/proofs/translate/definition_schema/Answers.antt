@@ -17,10 +17,10 @@ module _ (ns : List (List ℕ)) where
   of_others (r ∷ []) other = absurd (other refl)
   of_others (r ∷ q ∷ ss) other = refl
 
-pub returns-in-len1-clause-value : goal.returns-in-len1-clause-value
-returns-in-len1-clause-value c = λ ns. rw (of_one ns c.args.bodies.now c.body-item.result c.in-len1.len_at_least c.in-len1.len_below c.body-item.is) (c.schema_of.ensures.value ns)
+pub returns-in-len1 : goal.returns-in-len1
+returns-in-len1 c = λ ns. rw (of_one ns c.args.bodies.now c.body-item.result c.in-len1.len_at_least c.in-len1.len_below c.body-item.is) (c.schema_of.ensures ns)
 
-pub returns-in_default-clause-value : goal.returns-in_default-clause-value
-returns-in_default-clause-value c = λ ns.
+pub returns-in_default : goal.returns-in_default
+returns-in_default c = λ ns.
     let other : length c.args.bodies.now ≢ 1 = grind arith in
-    rw (of_others ns c.args.bodies.now other) (c.all_of.ensures.value ns)
+    rw (of_others ns c.args.bodies.now other) (c.all_of.ensures ns)

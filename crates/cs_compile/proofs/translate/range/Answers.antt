@@ -6,15 +6,15 @@ use Rattle.cs_compile.specs.Translation.{from_least}
 use Rattle.cs_compile.proofs.Slots.{made_of_two, made_of_three}
 use Rattle.cs_compile.proofs.translate.range.Goals as goal
 
-pub returns-in-Some-clause-value : goal.returns-in-Some-clause-value
-returns-in-Some-clause-value c =
+pub returns-in-Some : goal.returns-in-Some
+returns-in-Some c =
     let least : to_z w64 (of_z w64 c.args.least) ≡ c.args.least = search rules in
     let greatest : to_z w64 (of_z w64 c.in-Some.greatest) ≡ c.in-Some.greatest = search rules in
-    rw c.in-Some.is (made_of_three c.object.result c.empty.result c.with_type-keywords.result c.with_minimum-keywords.result c.with_maximum.result (codes "integer") (codes "minimum") (codes "maximum") _ _ _
-    c.empty.ensures c.with_type-keywords.ensures c.with_minimum-keywords.ensures c.with_maximum.ensures (ap₂ (λ z l. member (codes "maximum") (integer z) (from_least l)) greatest least) c.object.ensures.value)
+    rw c.in-Some.is (made_of_three c.object.result c.empty.result c.with_type-keywords.result c.with_limit-keywords.result c.with_limit.result (codes "integer") (codes "minimum") (codes "maximum") _ _ _
+    c.empty.ensures c.with_type-keywords.ensures c.with_limit-keywords.ensures c.with_limit.ensures (ap₂ (λ z l. member (codes "maximum") (integer z) (from_least l)) greatest least) c.object.ensures)
 
-pub returns-in-None-clause-value : goal.returns-in-None-clause-value
-returns-in-None-clause-value c =
+pub returns-in-None : goal.returns-in-None
+returns-in-None c =
     let least : to_z w64 (of_z w64 c.args.least) ≡ c.args.least = search rules in
-    rw c.in-None.is (made_of_two c.object-in-None.result c.empty.result c.with_type-keywords.result c.with_minimum-keywords.result (codes "integer") (codes "minimum") _ _
-    c.empty.ensures c.with_type-keywords.ensures c.with_minimum-keywords.ensures (ap (λ l. from_least l) least) c.object-in-None.ensures.value)
+    rw c.in-None.is (made_of_two c.object-in-None.result c.empty.result c.with_type-keywords.result c.with_limit-keywords.result (codes "integer") (codes "minimum") _ _
+    c.empty.ensures c.with_type-keywords.ensures c.with_limit-keywords.ensures (ap (λ l. from_least l) least) c.object-in-None.ensures)

@@ -1,6 +1,7 @@
-use Rattle.std.proofs.Common.{◌≡◌, IfSome, sym, subst}
+use Rattle.std.proofs.Common.{◌≡◌, sym, subst, ◌∙◌}
+use Rattle.std.proofs.lemmas.Option.{same_Some}
 use Rattle.cs_package.specs.Environment.{Names, IsDefinitionName}
-use Rattle.cs_instance.specs.Taken.{IsTakenPackage}
+use Rattle.cs_instance.specs.Exportable.{IsExportablePackage}
 use Rattle.cs_profile.specs.SchemaDocument.{schema_view, document_of}
 use Rattle.cs_compile.specs.Translation.{IsTranslation}
 use Rattle.cs_compile.specs.Whole.{Compiles, reference_to}
@@ -11,16 +12,16 @@ pub new-requires : goal.new-requires
 new-requires c =
     let n = c.in-Some.ensures.found.0 in
     let there = c.in-Some.ensures.found.2 in
-    let spelled : IsDefinitionName n = subst (λ o. IfSome o IsDefinitionName) there c.name.ensures.spelled in
-    let root : schema_view c.in_ok-root.root ≡ reference_to n = refers _ n _ _ _ there c.name.ensures.text c.bare_name.ensures c.in_ok-root.ensures.value in
-    whole c.package-package.result.now n _ root c.in_ok-definitions.ensures.each c.in_ok-definitions.ensures.alone c.in-Some.ensures.found.1.declared spelled
+    let spelled = subst IsDefinitionName (same_Some _ n (sym c.bare_name.ensures.at ∙ there)) c.bare_name.ensures.spelled in
+    let root : schema_view c.in_ok-root.root ≡ reference_to n = refers _ n _ _ there c.bare_name.ensures.at c.in_ok-root.ensures in
+    whole c.package-package.result.now n _ root c.in_ok-definitions.ensures.each c.in_ok-definitions.ensures.nothing_else c.in-Some.ensures.found.1.declared spelled
 
 pub returns-in-Ok-clause-found : goal.returns-in-Ok-clause-found
 returns-in-Ok-clause-found c =
     let n = c.in-Some.ensures.found.0 in
     let names = c.in-Some.ensures.found.1 in
-    let root : schema_view c.in_ok-root.root ≡ reference_to n = refers _ n _ _ _ c.in-Some.ensures.found.2 c.name.ensures.text c.bare_name.ensures c.in_ok-root.ensures.value in
-    let made = compiles c.package-package.result.now n (record { root = c.in_ok-root.root; definitions = c.in_ok-definitions.definitions.entries }) root c.in_ok-definitions.ensures.each c.in_ok-definitions.ensures.alone names.declared in
+    let root : schema_view c.in_ok-root.root ≡ reference_to n = refers _ n _ _ c.in-Some.ensures.found.2 c.bare_name.ensures.at c.in_ok-root.ensures in
+    let made = compiles c.package-package.result.now n (record { root = c.in_ok-root.root; definitions = c.in_ok-definitions.definitions.entries }) root c.in_ok-definitions.ensures.each c.in_ok-definitions.ensures.nothing_else names.declared in
     let kept = c.package-package.ensures.kept in
     (n, subst (λ E. Names E c.args.root.now n) kept names, subst (λ E. Compiles E n c.in-Ok.schema) kept (subst (Compiles c.package-package.result.now n) (sym c.in-Ok.ensures.found) made))
 
@@ -28,9 +29,9 @@ pub returns-in-Ok-clause-translated : goal.returns-in-Ok-clause-translated
 returns-in-Ok-clause-translated c =
     let n = c.in-Some.ensures.found.0 in
     let names = c.in-Some.ensures.found.1 in
-    let root : schema_view c.in_ok-root.root ≡ reference_to n = refers _ n _ _ _ c.in-Some.ensures.found.2 c.name.ensures.text c.bare_name.ensures c.in_ok-root.ensures.value in
-    let made = translates c.package-package.result.now n (record { root = c.in_ok-root.root; definitions = c.in_ok-definitions.definitions.entries }) root c.in_ok-definitions.ensures.each c.in_ok-definitions.ensures.alone names.declared in
+    let root : schema_view c.in_ok-root.root ≡ reference_to n = refers _ n _ _ c.in-Some.ensures.found.2 c.bare_name.ensures.at c.in_ok-root.ensures in
+    let made = translates c.package-package.result.now n (record { root = c.in_ok-root.root; definitions = c.in_ok-definitions.definitions.entries }) root c.in_ok-definitions.ensures.each c.in_ok-definitions.ensures.nothing_else names.declared in
     subst (λ E. IsTranslation E (document_of c.in-Ok.schema)) c.package-package.ensures.kept (subst (λ v. IsTranslation c.package-package.result.now (document_of v)) (sym c.in-Ok.ensures.found) made)
 
 pub definitions-requires : goal.definitions-requires
-definitions-requires c = subst IsTakenPackage (sym c.package-package.ensures.kept) c.requires
+definitions-requires c = subst IsExportablePackage (sym c.package-package.ensures.kept) c.requires

@@ -21,5 +21,5 @@ copy_members-loop-key-preserved t c =
       done = done ++ e ∷ [];
       all = all ∙ sym (append_assoc done (e ∷ []) left);
       same = ap texts grown ∙ texts_more l.copies.entries done e name v l.invariant.same named;
-      values = ap object_view grown ∙ object_view-push l.copies.entries done name v e l.invariant.values named c.in_ok-value.ensures.value;
+      values = ap object_view grown ∙ object_view-push l.copies.entries done name v e l.invariant.values named c.in_ok-value.ensures;
     }

@@ -3,13 +3,13 @@ use Rattle.std.specs.List.{list_all}
 use Rattle.std.proofs.lemmas.List.{take_all}
 use Rattle.cs_package.specs.View.{expression_of, part_of, expressions_of, declarations_of, is_known, is_known_part}
 use Rattle.cs_package.specs.declared.shape.Part.{Part}
-use Rattle.cs_guard.specs.References.{strong, strong_all, strong_under, if_asked}
+use Rattle.cs_guard.specs.References.{strong, strong_all, strong_fields, unless_optional}
 use Rattle.cs_guard.specs.Pushed.{Pushed}
 use Rattle.cs_guard.proofs.Pushes.{PushedAll, on_ok, pushed_next, strong_join, parts_join, pushed_And, pushed_Or, pushed_List, pushed_Struct}
 use Rattle.cs_guard.proofs.references.+references.Goals as goal
 
 abbrev PushedUnder : List ℕ → List ℕ → List Part → Type 0
-PushedUnder a b xs = Pushed a b (λ ns. strong_under (declarations_of (map (part_of ns) xs))) (λ n. list_all (is_known_part n) xs)
+PushedUnder a b xs = Pushed a b (λ ns. strong_fields (declarations_of (map (part_of ns) xs))) (λ n. list_all (is_known_part n) xs)
 
 pub push_strong-returns-in-And : goal.push_strong-returns-in-And
 push_strong-returns-in-And t c =
@@ -42,7 +42,7 @@ push_all-returns t c = subst (PushedAll c.args.numbers.now.items c.loop-shape.nu
 
 pub push_parts-loop-part-preserved : goal.push_parts-loop-part-preserved
 push_parts-loop-part-preserved t c =
-    pushed_next (λ ns xs. strong_under (declarations_of (map (part_of ns) xs))) (λ ns x. if_asked (part_of ns x).mark (strong (part_of ns x).value)) is_known_part (λ ns xs x. parts_join (part_of ns) xs x)
+    pushed_next (λ ns xs. strong_fields (declarations_of (map (part_of ns) xs))) (λ ns x. unless_optional (part_of ns x).mark (strong (part_of ns x).value)) is_known_part (λ ns xs x. parts_join (part_of ns) xs x)
     _ _ _ c.args.parts.now c.loop-part.part-index c.part-item.result c.loop-part-test.true c.part-item.is c.loop-part.invariant c.in_ok-push_part.ensures
 
 pub push_parts-returns : goal.push_parts-returns

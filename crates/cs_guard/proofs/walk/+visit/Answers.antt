@@ -4,7 +4,7 @@ use Rattle.std.proofs.lemmas.List.Sums.{count_by-le-length}
 use Rattle.cs_guard.specs.Chains.{On, Links}
 use Rattle.cs_guard.specs.Graph.{graph_of, Refers}
 use Rattle.cs_guard.specs.Walk.{is_new, is_done}
-use Rattle.cs_guard.specs.declared.walk.Mark.TheVariants.{New, Open, Done}
+use Rattle.cs_guard.specs.declared.walk.VisitState.TheVariants.{New, Open, Done}
 use Rattle.cs_guard.proofs.Places.{on_end, on_get}
 use Rattle.cs_guard.proofs.Paths.{closes, links_push, turned}
 use Rattle.cs_guard.proofs.Marks.{opening, closing, read_at, row_at, keeps_set, keeps_more, keeps_written, count_written, below_more, chain_more, refers_on, same_path, at_set, graph_long, popped}

@@ -2,12 +2,12 @@ use Rattle.std.proofs.Common.{◌≡◌, ◌+◌, [], ◌∷◌, ◌++◌, Some,
 use Rattle.std.proofs.lemmas.List.{length-append}
 use Rattle.cs_guard.specs.Graph.{graph_of, Refers}
 use Rattle.cs_guard.specs.Walk.{State, Keeps, Deep}
-use Rattle.cs_guard.specs.declared.walk.Mark.TheVariants.{Done}
+use Rattle.cs_guard.specs.declared.walk.VisitState.TheVariants.{Done}
 use Rattle.cs_guard.proofs.Paths.{no_cycle, guarded}
 use Rattle.cs_guard.proofs.Marks.{same_path, graph_long}
 use Rattle.cs_guard.proofs.Heights.{done_more, deep_more, falls_of, height_of, written_back}
 use Rattle.cs_guard.proofs.walk.heights.Goals as goal
-use Rattle.cs_guard.proofs.walk.heights.Goals.{then-height-gt-CHAIN_LIMIT, else-height-gt-CHAIN_LIMIT}
+use Rattle.cs_guard.proofs.walk.heights.Goals.{then-height-gt-MOST_REFERENCES, else-height-gt-MOST_REFERENCES}
 
 pub loop-number-preserved : goal.loop-number-preserved
 loop-number-preserved c =
@@ -30,9 +30,9 @@ loop-number-preserved c =
       state = subst (λ l. State G l []) (sym back) (same_path G now c.loop-number.path.items [] inv.path got.state);
       long = ap length grown ∙ length-append hs (h ∷ []) ∙ ap (λ n. n + 1) inv.long;
       done = λ k l. subst (λ M. slice_get M k ≡ Some (Done (get_or new k 0))) (sym back) (done k l);
-      deep = elim c.if-height-gt-CHAIN_LIMIT.branch [
-        | then-height-gt-CHAIN_LIMIT w ↦ subst (λ b. Deep G b new) (sym w.deep-is) (record { start = c.loop-number.number; steps = chain.steps; chain = chain.chain; long = let l = chain.long in omega (arith, l, w.if-height-gt-CHAIN_LIMIT.true) })
-        | else-height-gt-CHAIN_LIMIT w ↦ subst (λ b. Deep G b new) (sym w.deep-is) (subst (λ xs. Deep G c.loop-number.deep xs) (sym grown) (deep_more G c.loop-number.deep hs h inv.deep w.if-height-gt-CHAIN_LIMIT.false))
+      deep = elim c.if-height-gt-MOST_REFERENCES.branch [
+        | then-height-gt-MOST_REFERENCES w ↦ subst (λ b. Deep G b new) (sym w.deep-is) (record { start = c.loop-number.number; steps = chain.steps; chain = chain.chain; long = let l = chain.long in omega (arith, l, w.if-height-gt-MOST_REFERENCES.true) })
+        | else-height-gt-MOST_REFERENCES w ↦ subst (λ b. Deep G b new) (sym w.deep-is) (subst (λ xs. Deep G c.loop-number.deep xs) (sym grown) (deep_more G c.loop-number.deep hs h inv.deep w.if-height-gt-MOST_REFERENCES.false))
       ];
     }
 

@@ -1,7 +1,7 @@
 use Rattle.std.proofs.Common.{◌≡◌, ℕ, ◌<◌, [], Some, get_or, slice_get, length}
 use Rattle.cs_guard.specs.Graph.{graph_of}
 use Rattle.cs_guard.specs.Walk.{State, Deep}
-use Rattle.cs_guard.specs.declared.walk.Mark.TheVariants.{Done}
+use Rattle.cs_guard.specs.declared.walk.VisitState.TheVariants.{Done}
 use Rattle.cs_guard.proofs.walk.heights.Given as goal
 
 abbrev pub invariant-loop-number : goal.invariant-loop-number

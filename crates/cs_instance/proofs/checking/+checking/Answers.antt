@@ -3,9 +3,9 @@ use Rattle.std.specs.List.{list_all}
 use Rattle.cs_document.specs.View.{doc_view}
 use Rattle.cs_package.specs.View.{expression_of}
 use Rattle.cs_package.specs.declared.shape.Shape.{the_lemmas}
-use Rattle.cs_instance.specs.Taken.{AllTaken}
+use Rattle.cs_instance.specs.Exportable.{AllExportable}
 use Rattle.cs_instance.proofs.Shapes.{and-admits, admitted, all-next, all-stops, all-past}
-use Rattle.cs_instance.proofs.Taken.{and-taken, taken-at}
+use Rattle.cs_instance.proofs.Exportable.{and-exportable, exportable-at}
 use Rattle.cs_instance.proofs.checking.+checking.Goals as goal
 
 pub admits-returns-in-And : goal.admits-returns-in-And
@@ -27,12 +27,12 @@ all_admit-returns t c = λ ns E I h.
 pub admits-all_admit-requires : goal.admits-all_admit-requires
 admits-all_admit-requires t c =
     let ns = c.requires.0 in
-    (search (rules, the_lemmas), (ns, subst (λ ss. AllTaken (map (expression_of ns) ss)) (sym c.deref.ensures.value) (and-taken ns c.args.shape.now c.in-And.operands c.in-And.is c.requires.1)))
+    (search (rules, the_lemmas), (ns, subst (λ ss. AllExportable (map (expression_of ns) ss)) (sym c.deref.ensures.value) (and-exportable ns c.args.shape.now c.in-And.operands c.in-And.is c.requires.1)))
 
 pub all_admit-admits-requires : goal.all_admit-admits-requires
 all_admit-admits-requires t c =
     let ns = c.requires.0 in
-    (search (rules, the_lemmas), (ns, taken-at ns c.args.shapes.now c.loop-shape.shape-index c.shape-item.result c.loop-shape-test.true c.shape-item.is c.requires.1))
+    (search (rules, the_lemmas), (ns, exportable-at ns c.args.shapes.now c.loop-shape.shape-index c.shape-item.result c.loop-shape-test.true c.shape-item.is c.requires.1))
 
 pub all_admit-returns-then-not-admits : goal.all_admit-returns-then-not-admits
 all_admit-returns-then-not-admits t c = λ ns E I h.

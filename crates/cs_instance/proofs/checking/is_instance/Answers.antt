@@ -3,10 +3,10 @@ use Rattle.cs_document.specs.Document.{Document}
 use Rattle.cs_document.specs.View.{doc_view}
 use Rattle.cs_package.specs.Environment.{Environment, declared_names, Names}
 use Rattle.cs_instance.specs.Instance.{Rule, definition, IsInstance}
-use Rattle.cs_instance.specs.Taken.{IsTakenPackage}
+use Rattle.cs_instance.specs.Exportable.{IsExportablePackage}
 use Rattle.cs_instance.proofs.Meaning as meaning
 use Rattle.cs_instance.proofs.Shapes.{definition-admits}
-use Rattle.cs_instance.proofs.Taken.{bodies-taken}
+use Rattle.cs_instance.proofs.Exportable.{bodies-exportable}
 use Rattle.cs_instance.proofs.checking.is_instance.Goals as goal
 
 pub returns-in-Some-clause-one_meaning : goal.returns-in-Some-clause-one_meaning
@@ -32,4 +32,4 @@ returns-in-Some-clause-answer c =
 pub all_admit-requires : goal.all_admit-requires
 all_admit-requires c =
     let E = c.package-package.result.now in
-    (declared_names E, bodies-taken E c.in-Some.i _ c.bodies.ensures.at (subst IsTakenPackage (sym c.package-package.ensures.kept) c.requires))
+    (declared_names E, bodies-exportable E c.in-Some.i _ c.bodies.ensures.at (subst IsExportablePackage (sym c.package-package.ensures.kept) c.requires))

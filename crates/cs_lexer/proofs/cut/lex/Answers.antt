@@ -4,7 +4,7 @@ use Rattle.cs_grammar.specs.declared.token.Sort.TheVariants as sorts
 use Rattle.cs_grammar.specs.Cut.{lexeme, line_after, comma_if}
 use Rattle.cs_grammar.specs.View.{lexeme_view, lexemes_view}
 use Rattle.cs_lexer.proofs.Cutting.{comma_front, at_end, turn_blank, turn_line, turn_comment, comment_within, turn_token, turn_none, turn_large, token_within, token_boundary}
-use Rattle.cs_lexer.proofs.Once.{cut_once, stuck_once, cut_not_stuck}
+use Rattle.cs_lexer.proofs.CutUnique.{cut_once, stuck_once, cut_not_stuck}
 use Rattle.cs_lexer.proofs.Slices.{slices}
 use Rattle.cs_lexer.proofs.cut.lex.Goals as goal
 
@@ -38,11 +38,11 @@ text-preserved c =
     ap lexemes_view c.in_ok-push-in-Token.ensures.items ∙ map_push lexeme_view c.text.tokens.items _ ∙ ap (λ t. front ++ lexeme c.in-Token.sort t at ∷ []) text-is in
     record { in_range = token_within bs at len c.text.invariant.in_range c.in-Token.ensures.1; before = rw (line-is, pushed) (turn_token _ _ _ _ c.text.invariant.before len c.in-Token.sort c.in-Token.ensures.0) }
 
-pub returns-in-NoToken-clause-stuck : goal.returns-in-NoToken-clause-stuck
-returns-in-NoToken-clause-stuck c = rw (← c.as_bytes-bytes.ensures.value) (turn_none _ _ _ _ c.text.invariant.before c.in-NoToken.ensures)
+pub returns-in-NoToken-clause-refused : goal.returns-in-NoToken-clause-refused
+returns-in-NoToken-clause-refused c = rw (← c.as_bytes-bytes.ensures.value) (turn_none _ _ _ _ c.text.invariant.before c.in-NoToken.ensures)
 
-pub returns-in-TooLarge-clause-stuck : goal.returns-in-TooLarge-clause-stuck
-returns-in-TooLarge-clause-stuck c = rw (← c.as_bytes-bytes.ensures.value) (turn_large _ _ _ _ c.text.invariant.before _ c.in-TooLarge.ensures.1)
+pub returns-in-TooLarge-clause-refused : goal.returns-in-TooLarge-clause-refused
+returns-in-TooLarge-clause-refused c = rw (← c.as_bytes-bytes.ensures.value) (turn_large _ _ _ _ c.text.invariant.before _ c.in-TooLarge.ensures.1)
 
 pub returns-clause-found : goal.returns-clause-found
 returns-clause-found c =
@@ -54,22 +54,22 @@ returns-clause-found c =
 -- ---- the other clauses follow
 
 pub returns-in-NoToken-clause-only : goal.returns-in-NoToken-clause-only
-returns-in-NoToken-clause-only c ks cut = cut_not_stuck cut (returns-in-NoToken-clause-stuck c)
+returns-in-NoToken-clause-only c ks cut = cut_not_stuck cut (returns-in-NoToken-clause-refused c)
 
-pub returns-in-NoToken-clause-refused : goal.returns-in-NoToken-clause-refused
-returns-in-NoToken-clause-refused c f stuck = stuck_once (returns-in-NoToken-clause-stuck c) stuck
+pub returns-in-NoToken-clause-stuck : goal.returns-in-NoToken-clause-stuck
+returns-in-NoToken-clause-stuck c f stuck = stuck_once (returns-in-NoToken-clause-refused c) stuck
 
 pub returns-in-TooLarge-clause-only : goal.returns-in-TooLarge-clause-only
-returns-in-TooLarge-clause-only c ks cut = cut_not_stuck cut (returns-in-TooLarge-clause-stuck c)
+returns-in-TooLarge-clause-only c ks cut = cut_not_stuck cut (returns-in-TooLarge-clause-refused c)
 
-pub returns-in-TooLarge-clause-refused : goal.returns-in-TooLarge-clause-refused
-returns-in-TooLarge-clause-refused c f stuck = stuck_once (returns-in-TooLarge-clause-stuck c) stuck
+pub returns-in-TooLarge-clause-stuck : goal.returns-in-TooLarge-clause-stuck
+returns-in-TooLarge-clause-stuck c f stuck = stuck_once (returns-in-TooLarge-clause-refused c) stuck
 
 pub returns-clause-only : goal.returns-clause-only
 returns-clause-only c ks cut = cut_once (returns-clause-found c) cut
 
-pub returns-clause-refused : goal.returns-clause-refused
-returns-clause-refused c f stuck = cut_not_stuck (returns-clause-found c) stuck
+pub returns-clause-stuck : goal.returns-clause-stuck
+returns-clause-stuck c f stuck = cut_not_stuck (returns-clause-found c) stuck
 
 pub returns-clause-slices : goal.returns-clause-slices
 returns-clause-slices c = slices c.args.source.now _ (returns-clause-found c)

@@ -1,6 +1,6 @@
-use Rattle.cs_lexer.proofs.Once.{cut_once, stuck_once, cut_not_stuck}
-use Rattle.cs_grammar.specs.declared.line.Line.TheVariants.{Plain}
-use Rattle.cs_lexer.proofs.Always.{cut_or_stuck}
+use Rattle.cs_lexer.proofs.CutUnique.{cut_once, stuck_once, cut_not_stuck}
+use Rattle.cs_grammar.specs.declared.line.LineState.TheVariants.{Plain}
+use Rattle.cs_lexer.proofs.CutExists.{cut_or_stuck}
 use Rattle.cs_lexer.proofs.cut.one_cut.Goals as goal
 
 pub returns-clause-once : goal.returns-clause-once

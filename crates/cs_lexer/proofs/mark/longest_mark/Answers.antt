@@ -1,6 +1,6 @@
 use Rattle.std.proofs.Common.{◌≡◌, ◌≤◌, length, Some, None, sym, ◌∙◌, arith}
 use Rattle.std.proofs.lemmas.Grind.{common_steps}
-use Rattle.cs_lexer.specs.Heads.{mark_of}
+use Rattle.cs_lexer.specs.Pieces.{mark_of}
 use Rattle.cs_lexer.proofs.Marks.{tried, short, longest_3, longest_2, longest_1}
 use Rattle.cs_lexer.proofs.mark.longest_mark.Goals.{then-bytes-ge3+in_default, else-bytes-ge3, then-bytes-ge2+in_default-mark_sort, else-bytes-ge2}
 use Rattle.cs_lexer.proofs.mark.longest_mark.Goals as goal

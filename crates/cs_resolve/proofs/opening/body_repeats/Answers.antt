@@ -12,4 +12,4 @@ loop-file-preserved c =
     let fs = c.deref-file-items.result.now in
     let i = c.loop-file.file-index in
     let more = files_more fs i c.file-item.result c.loop-file-test.true c.file-item.is in
-    subst (λ ns. Repeats c.note_bodies.new.repeats ns) (sym more) (c.in_ok-note_bodies.ensures.noted (named_bodies (flat_map definitions (map file_view (take i fs)))) c.loop-file.invariant)
+    subst (λ ns. Repeats c.note_bodies.new.repeats ns) (sym more) (c.in_ok-note_bodies.ensures (named_bodies (flat_map definitions (map file_view (take i fs)))) c.loop-file.invariant)

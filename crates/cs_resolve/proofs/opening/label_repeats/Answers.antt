@@ -11,4 +11,4 @@ loop-field-preserved c =
     let i = c.loop-field.field-index in
     let x = c.field-item.result in
     let more = named_more xs i x c.loop-field-test.true c.field-item.is c.as_str.result.now c.as_str.ensures.value in
-    subst (λ ns. Repeats c.note.new.repeats ns) (sym more) (c.in_ok-note.ensures.noted (named_fields (fields_view (take i xs))) c.loop-field.invariant)
+    subst (λ ns. Repeats c.note.new.repeats ns) (sym more) (c.in_ok-note.ensures (named_fields (fields_view (take i xs))) c.loop-field.invariant)

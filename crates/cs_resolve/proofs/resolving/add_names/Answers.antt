@@ -47,7 +47,7 @@ loop-definition-preserved c =
     let all = subst (λ es. All (λ (e : DefinitionTree). IsDefinitionName (defined_name e)) (map definition_view es)) (sym c.deref-definition-items.ensures.value) c.requires.spelled in
     let spelled = mapped_at (λ (e : DefinitionTree). IsDefinitionName (defined_name e)) definition_view items i d c.loop-definition-test.true c.definition-item.is all in
     record {
-      table = table-insert old new name written l.invariant.table c.in_ok-written.ensures.text (subst IsDefinitionName (sym same) spelled) c.in_ok-insert.ensures.entries c.in_ok-insert.ensures.unique;
+      table = table-insert old new name written l.invariant.table c.in_ok-written.ensures (subst IsDefinitionName (sym same) spelled) c.in_ok-insert.ensures.entries c.in_ok-insert.ensures.unique;
       added = λ ns is.
           ap names_of c.in_ok-insert.ensures.entries
           ∙ names_insert name written old

@@ -165,7 +165,7 @@ parts_of-returns-in_err-value-clause-parts t c scopes around =
     let l = c.loop-field in
     let own = labels (fields_view c.args.fields.now.items) in
     let inner = own ∷ scopes in
-    let within = entered _ _ _ own scopes c.in_ok-push.ensures.items c.in_ok-own.ensures.found around in
+    let within = entered _ _ _ own scopes c.in_ok-push.ensures.items c.in_ok-own.ensures around in
     let p = err_from_is_err_and c.from_residual-in_err-value.result c.from_residual-in_err-value.ensures.1 in
     let e = c.in_err-value.field-0.0 in
     let still = subst (λ sets. HoldAround sets inner) (sym l.invariant.kept) within in
@@ -194,7 +194,7 @@ parts_of-returns-clause-kept t c = left _ _ _ c.in_ok-own.own (vec_len c.loop-fi
 pub parts_of-returns-clause-parts : goal.parts_of-returns-clause-parts
 parts_of-returns-clause-parts t c scopes around =
     let own = labels (fields_view c.args.fields.now.items) in
-    let within = entered _ _ _ own scopes c.in_ok-push.ensures.items c.in_ok-own.ensures.found around in
+    let within = entered _ _ _ own scopes c.in_ok-push.ensures.items c.in_ok-own.ensures around in
     let of = of_fields c.args.file (names_of c.args.names.now.entries) (own ∷ scopes) in
     let all = all-made of c.loop-field.parts.items _ _ c.loop-field.field-index c.loop-field-test.false c.deref-field-items.ensures.value (c.loop-field.invariant.made (own ∷ scopes) within) in
     (record { same = ap declarations_of all.0 ∙ all_declared c.args.fields.now.items; known = all.1 }, all.2)

@@ -10,4 +10,4 @@ loop-field-preserved c =
     let xs = c.deref-field-items.result.now in
     let i = c.loop-field.field-index in
     let more = labels_more xs i c.field-item.result c.loop-field-test.true c.field-item.is in
-    subst (λ ls. HoldsLabels c.put_label.new.labels ls) (sym more) (c.in_ok-put_label.ensures.put (labels (fields_view (take i xs))) c.loop-field.invariant)
+    subst (λ ls. HoldsLabels c.put_label.new.labels ls) (sym more) (c.in_ok-put_label.ensures (labels (fields_view (take i xs))) c.loop-field.invariant)

@@ -19,7 +19,7 @@ returns-then-names_field c ns scopes around =
 predeclared_alone : (file at : ℕ) (t : List ℕ) (ns : List (List ℕ)) (scopes : List (List Label)) (o : Option Shape) → names_field t scopes ≡ false → option_map (expression_of ns) o ≡ predeclared t → IfSome o (λ s. is_known (length ns) s ≡ true)
     → Resolves (ok_or o (UnknownName file at)) (λ s. IsShapeOf ns s (named t at)) (faults_in file ns (a_name scopes t at ∷ []))
 predeclared_alone file at t ns scopes (Some s) no_field names known = (
-  record { same = ap (λ o. unwrap_or o cue.bottom) names; known = known },
+  record { same = ap (λ o. unwrap_or o (cue.atom cue.bottom)) names; known = known },
   ap₂ (λ b o. map (λ x. (file, x)) (name_faults at b (is_some o) ++ [])) no_field (sym names),
 )
 predeclared_alone file at t ns scopes None no_field names known = ap₂ (λ b o. slice_get (map (λ x. (file, x)) (name_faults at b (is_some o) ++ [])) 0) no_field (sym names)

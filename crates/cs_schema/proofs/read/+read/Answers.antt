@@ -18,8 +18,8 @@ use Rattle.cs_schema.proofs.Walks.{refuses_at, trimmed_members-push, trimmed_bel
 use Rattle.cs_schema.proofs.Slots.{set_found-last}
 use Rattle.cs_schema.proofs.read.+read.Goals as goal
 
-pub read_members-returns-in_err-found-clause-fault : goal.read_members-returns-in_err-found-clause-fault
-read_members-returns-in_err-found-clause-fault t c =
+pub read_members-returns-in_err-found-clause-refused : goal.read_members-returns-in_err-found-clause-refused
+read_members-returns-in_err-found-clause-refused t c =
     let l = c.loop-key in
     let root = c.args.root in
     let place = c.args.place.now in
@@ -27,7 +27,7 @@ read_members-returns-in_err-found-clause-fault t c =
     let d = doc_view c.in-Some.value.now in
     let seen = l.invariant.seen ∙ ap (λ es. first fault_of (member_visits root place (object_view es))) c.in-Some.ensures.steps in
     let named : c.deref.result.now ≡ k = c.deref.ensures in
-    let mine = subst (λ n. Refuses c.in_err-found.field-0.0 (first fault_of (keyword_visits root place n d))) named c.in_err-found.ensures.fault in
+    let mine = subst (λ n. Refuses c.in_err-found.field-0.0 (first fault_of (keyword_visits root place n d))) named c.in_err-found.ensures.refused in
     let whole = refuses_at c.in_err-found.field-0.0 (keyword_visits root place k d) (member_visits root place (object_view c.next.new.self)) _ seen mine in
     search rules
 
@@ -45,8 +45,8 @@ read_members-loop-key-preserved t c =
     let named : c.deref.result.now ≡ k = c.deref.ensures in
     let all : c.args.members.now.entries ≡ done ++ e ∷ left = l.invariant.all ∙ ap (λ es. done ++ es) c.in-Some.ensures.steps in
     let sorted = subst (λ es. IsStrictlySortedBy string_cmp (keys_of es)) all c.into_iter-key-iterator.ensures.into_iter_gives.5 in
-    let right : first fault_of (keyword_visits root place k d) ≡ None = ap (λ n. first fault_of (keyword_visits root place n d)) (sym named) ∙ c.in_ok-found.ensures.right in
-    let value : found_value f ≡ trimmed_value root k d = c.in_ok-found.ensures.value ∙ ap (λ n. trimmed_value root n d) named in
+    let right : first fault_of (keyword_visits root place k d) ≡ None = ap (λ n. first fault_of (keyword_visits root place n d)) (sym named) ∙ c.in_ok-found.ensures.accepted in
+    let value : found_value f ≡ trimmed_value root k d = c.in_ok-found.ensures.found ∙ ap (λ n. trimmed_value root n d) named in
     let name : IsFoundAt f k = subst (λ n. IsFoundAt f n) named c.in_ok-found.ensures.name in
     let below : KeysBelow k (present (slots l.parts)) = subst (KeysBelow k) (sym l.invariant.made) (trimmed_below root done e left sorted) in
     record {
@@ -60,16 +60,16 @@ read_members-loop-key-preserved t c =
       below = λ h. c.with-parts.ensures.below (c.in_ok-found.ensures.below h) ∙ l.invariant.below h;
     }
 
-pub read_map-returns-in_err-schema-clause-fault : goal.read_map-returns-in_err-schema-clause-fault
-read_map-returns-in_err-schema-clause-fault t c =
+pub read_map-returns-in_err-schema-clause-refused : goal.read_map-returns-in_err-schema-clause-refused
+read_map-returns-in_err-schema-clause-refused t c =
     let l = c.loop-key in
     let place = c.args.place.now in
     let k = string_bytes c.in-Some.key.now in
     let d = doc_view c.in-Some.value.now in
     let f = c.in_err-schema.field-0.0 in
-    let at : c.deref-in-loop-key.result.now ≡ key_place place k = c.deref-in-loop-key.ensures ∙ c.in_ok-place.ensures.text ∙ ap (key_place place) c.deref.ensures in
+    let at : c.deref-in-loop-key.result.now ≡ key_place place k = c.deref-in-loop-key.ensures ∙ c.in_ok-place.ensures ∙ ap (key_place place) c.deref.ensures in
     let seen = l.invariant.seen ∙ ap (λ es. first fault_of (named_visits place (object_view es))) c.in-Some.ensures.steps in
-    let mine = subst (λ p. Refuses f (first fault_of (visits false p d))) at c.in_err-schema.ensures.fault in
+    let mine = subst (λ p. Refuses f (first fault_of (visits false p d))) at c.in_err-schema.ensures.refused in
     let whole = refuses_at f (visits false (key_place place k) d) (named_visits place (object_view c.next.new.self)) _ seen mine in
     search rules
 
@@ -84,17 +84,17 @@ read_map-loop-key-preserved t c =
     let d = doc_view e.1 in
     let name = c.in_ok-clone.field-0 in
     let schema = c.in_ok-schema.schema in
-    let at : c.deref-in-loop-key.result.now ≡ key_place place k = c.deref-in-loop-key.ensures ∙ c.in_ok-place.ensures.text ∙ ap (key_place place) c.deref.ensures in
+    let at : c.deref-in-loop-key.result.now ≡ key_place place k = c.deref-in-loop-key.ensures ∙ c.in_ok-place.ensures ∙ ap (key_place place) c.deref.ensures in
     let all : c.args.members.now.entries ≡ done ++ e ∷ left = l.invariant.all ∙ ap (λ es. done ++ es) c.in-Some.ensures.steps in
     let named : string_bytes name ≡ string_bytes e.0 = c.in_ok-clone.ensures.cases in
     let sorted = subst (λ es. IsStrictlySortedBy string_cmp (keys_of es)) all c.into_iter-key-iterator.ensures.into_iter_gives.5 in
     let grown : c.insert.new.self.entries ≡ l.schemas.entries ++ (name, schema) ∷ [] = c.in_ok-insert.ensures.entries ∙ insert_last l.schemas.entries done e left name schema l.invariant.same named sorted in
-    let right : first fault_of (visits false (key_place place k) d) ≡ None = ap (λ p. first fault_of (visits false p d)) (sym at) ∙ c.in_ok-schema.ensures.right in record {
+    let right : first fault_of (visits false (key_place place k) d) ≡ None = ap (λ p. first fault_of (visits false p d)) (sym at) ∙ c.in_ok-schema.ensures.accepted in record {
       done = done ++ e ∷ [];
       all = all ∙ sym (append_assoc done (e ∷ []) left);
       same = ap texts grown ∙ texts_more l.schemas.entries done e name schema l.invariant.same named;
       seen = l.invariant.seen ∙ ap (λ es. first fault_of (named_visits place (object_view es))) c.in-Some.ensures.steps ∙ first_past fault_of (visits false (key_place place k) d) (named_visits place (object_view left)) right;
-      made = ap (λ es. members_of (definitions_view es)) grown ∙ trimmed_named-push l.schemas.entries done name schema e l.invariant.made named c.in_ok-schema.ensures.value;
+      made = ap (λ es. members_of (definitions_view es)) grown ∙ trimmed_named-push l.schemas.entries done name schema e l.invariant.made named c.in_ok-schema.ensures.found;
     }
 
 pub read_list-loop-i-init : goal.read_list-loop-i-init
@@ -103,17 +103,17 @@ read_list-loop-i-init t c = record {
   made = ap (λ xs. documents_of (schemas_view xs)) c.in_ok-schemas.ensures.items;
 }
 
-pub read_list-returns-in_err-read_value-clause-fault : goal.read_list-returns-in_err-read_value-clause-fault
-read_list-returns-in_err-read_value-clause-fault t c =
+pub read_list-returns-in_err-read_value-clause-refused : goal.read_list-returns-in_err-read_value-clause-refused
+read_list-returns-in_err-read_value-clause-refused t c =
     let l = c.loop-i in
     let xs = c.deref-item-items.result.now in
     let place = c.args.place.now in
     let x = c.item-item.result in
     let f = c.in_err-read_value.field-0.0 in
-    let at : c.deref.result.now ≡ index_place place l.i = c.deref.ensures ∙ c.in_ok-place.ensures.text in
+    let at : c.deref.result.now ≡ index_place place l.i = c.deref.ensures ∙ c.in_ok-place.ensures in
     let left : drop l.i xs ≡ x ∷ drop (l.i + 1) xs = drop_at xs l.i x c.loop-i-test.true c.item-item.is in
     let seen = l.invariant.seen ∙ ap (λ es. first fault_of (element_visits place l.i (list_view es))) left in
-    let mine = subst (λ p. Refuses f (first fault_of (visits false p (doc_view x)))) at c.in_err-read_value.ensures.fault in
+    let mine = subst (λ p. Refuses f (first fault_of (visits false p (doc_view x)))) at c.in_err-read_value.ensures.refused in
     let whole = refuses_at f (visits false (index_place place l.i) (doc_view x)) (element_visits place (suc l.i) (list_view (drop (l.i + 1) xs))) _ seen mine in
     search rules
 
@@ -124,39 +124,39 @@ read_list-loop-i-preserved t c =
     let place = c.args.place.now in
     let x = c.item-item.result in
     let s = c.in_ok-read_value.field-0 in
-    let at : c.deref.result.now ≡ index_place place l.i = c.deref.ensures ∙ c.in_ok-place.ensures.text in
+    let at : c.deref.result.now ≡ index_place place l.i = c.deref.ensures ∙ c.in_ok-place.ensures in
     let left : drop l.i xs ≡ x ∷ drop (l.i + 1) xs = drop_at xs l.i x c.loop-i-test.true c.item-item.is in
-    let right : first fault_of (visits false (index_place place l.i) (doc_view x)) ≡ None = ap (λ p. first fault_of (visits false p (doc_view x))) (sym at) ∙ c.in_ok-read_value.ensures.right in
+    let right : first fault_of (visits false (index_place place l.i) (doc_view x)) ≡ None = ap (λ p. first fault_of (visits false p (doc_view x))) (sym at) ∙ c.in_ok-read_value.ensures.accepted in
     let rest = list_view (drop (l.i + 1) xs) in record {
       seen = l.invariant.seen ∙ ap (λ es. first fault_of (element_visits place l.i (list_view es))) left
           ∙ first_past fault_of (visits false (index_place place l.i) (doc_view x)) (element_visits place (suc l.i) rest) right
           ∙ ap (λ n. first fault_of (element_visits place n rest)) (sym (add-one l.i));
       made = ap (λ v. documents_of (schemas_view v)) c.in_ok-push.ensures.items
-          ∙ trimmed_elements-push l.schemas.items (take l.i xs) s x l.invariant.made c.in_ok-read_value.ensures.value
+          ∙ trimmed_elements-push l.schemas.items (take l.i xs) s x l.invariant.made c.in_ok-read_value.ensures.found
           ∙ ap (λ es. trimmed_elements (list_view es)) (sym (take_at xs l.i x c.loop-i-test.true c.item-item.is));
     }
 
-pub read_list-returns-clause-right : goal.read_list-returns-clause-right
-read_list-returns-clause-right t c =
+pub read_list-returns-clause-accepted : goal.read_list-returns-clause-accepted
+read_list-returns-clause-accepted t c =
     let l = c.loop-i in
     l.invariant.seen ∙ ap (λ es. first fault_of (element_visits c.args.place.now l.i (list_view es))) (drop_past c.deref-item-items.result.now l.i c.loop-i-test.false)
 
-pub read_list-returns-clause-value : goal.read_list-returns-clause-value
-read_list-returns-clause-value t c =
+pub read_list-returns-clause-found : goal.read_list-returns-clause-found
+read_list-returns-clause-found t c =
     let l = c.loop-i in
     l.invariant.made ∙ ap (λ es. trimmed_elements (list_view es)) (take_all l.i c.deref-item-items.result.now c.loop-i-test.false ∙ c.deref-item-items.ensures.value)
 
-pub read_some-returns-in_ok-place-in-List-clause-right : goal.read_some-returns-in_ok-place-in-List-clause-right
-read_some-returns-in_ok-place-in-List-clause-right t c =
-    let at : c.deref.result.now ≡ key_place c.args.place.now c.args.key.now = c.deref.ensures ∙ c.in_ok-place-in-List.ensures.text in
+pub read_some-returns-in_ok-place-in-List-clause-accepted : goal.read_some-returns-in_ok-place-in-List-clause-accepted
+read_some-returns-in_ok-place-in-List-clause-accepted t c =
+    let at : c.deref.result.now ≡ key_place c.args.place.now c.args.key.now = c.deref.ensures ∙ c.in_ok-place-in-List.ensures in
     let xs = c.in-List.items.items in
     let v : doc_view c.args.value.now ≡ list (list_view xs) = ap doc_view c.in-List.is ∙ view-List c.in-List.items in
     let some : is_nil xs ≡ false = not_nil xs _ c.in-List.items.ok.0 (sym c.is_empty.ensures ∙ c.if-is_empty.false) in
-    IfOk-weaker c.read_list.result _ _ (λ b h. some_right c.args.place.now c.args.key.now (key_place c.args.place.now c.args.key.now) xs _ v some (subst (λ p. first fault_of (element_visits p 0 (list_view xs)) ≡ None) at h)) c.read_list.ensures.right
+    IfOk-weaker c.read_list.result _ _ (λ b h. some_right c.args.place.now c.args.key.now (key_place c.args.place.now c.args.key.now) xs _ v some (subst (λ p. first fault_of (element_visits p 0 (list_view xs)) ≡ None) at h)) c.read_list.ensures.accepted
 
-pub read_some-returns-in_ok-place-in-List-clause-value : goal.read_some-returns-in_ok-place-in-List-clause-value
-read_some-returns-in_ok-place-in-List-clause-value t c =
+pub read_some-returns-in_ok-place-in-List-clause-found : goal.read_some-returns-in_ok-place-in-List-clause-found
+read_some-returns-in_ok-place-in-List-clause-found t c =
     let xs = c.in-List.items.items in
     let v : doc_view c.args.value.now ≡ list (list_view xs) = ap doc_view c.in-List.is ∙ view-List c.in-List.items in
     let some : is_nil xs ≡ false = not_nil xs _ c.in-List.items.ok.0 (sym c.is_empty.ensures ∙ c.if-is_empty.false) in
-    IfOk-weaker c.read_list.result _ _ (λ b h. some_value b.items xs _ v some h) c.read_list.ensures.value
+    IfOk-weaker c.read_list.result _ _ (λ b h. some_value b.items xs _ v some h) c.read_list.ensures.found

@@ -20,7 +20,7 @@ pub returns-in_err-keywords-in-Object-clause-refused : goal.returns-in_err-keywo
 returns-in_err-keywords-in-Object-clause-refused c =
     let e = c.in_err-keywords-in-Object.field-0.0 in
     let is : doc_view c.args.doc.now ≡ object (object_view c.in-Object.members.entries) = ap doc_view c.in-Object.is ∙ view-Object c.in-Object.members in
-    let whole = refused_by_walk e (doc_view c.args.doc.now) (subst (λ d. Refuses e (walk_fault d)) (sym is) c.in_err-keywords-in-Object.ensures.fault) in
+    let whole = refused_by_walk e (doc_view c.args.doc.now) (subst (λ d. Refuses e (walk_fault d)) (sym is) c.in_err-keywords-in-Object.ensures.refused) in
     search rules
 
 pub returns-in_err-find_reference-in-Object-clause-refused : goal.returns-in_err-find_reference-in-Object-clause-refused
@@ -29,8 +29,8 @@ returns-in_err-find_reference-in-Object-clause-refused c =
     let ms = object_view c.in-Object.members.entries in
     let p = c.in_ok-keywords-in-Object.field-0 in
     let is : doc_view c.args.doc.now ≡ object ms = ap doc_view c.in-Object.is ∙ view-Object c.in-Object.members in
-    let right = c.in_ok-keywords-in-Object.ensures.right in
-    let mine = refused_by_name e (object ms) p.keywords.reference p.definitions.entries right (name_is ms p right c.in_ok-keywords-in-Object.ensures.value) c.in_err-find_reference-in-Object.ensures.fault in
+    let right = c.in_ok-keywords-in-Object.ensures.accepted in
+    let mine = refused_by_name e (object ms) p.keywords.reference p.definitions.entries right (name_is ms p right c.in_ok-keywords-in-Object.ensures.found) c.in_err-find_reference-in-Object.ensures.refused in
     let whole = subst (IsRefusal e) (sym is) mine in
     search rules
 
@@ -38,17 +38,17 @@ pub new-requires-in-Object-2 : goal.new-requires-in-Object-2
 new-requires-in-Object-2 c =
     let ms = object_view c.in-Object.members.entries in
     let p = c.in_ok-keywords-in-Object.field-0 in
-    whole ms p c.in_ok-new-in-Object.field-0 c.in_ok-new-in-Object.ensures.ok c.in_ok-keywords-in-Object.ensures.right c.in_ok-keywords-in-Object.ensures.value c.in_ok-find_reference-in-Object.ensures.right
+    whole ms p c.in_ok-new-in-Object.field-0 c.in_ok-new-in-Object.ensures.ok c.in_ok-keywords-in-Object.ensures.accepted c.in_ok-keywords-in-Object.ensures.found c.in_ok-find_reference-in-Object.ensures.accepted
 
-pub returns-in_ok-new-in-Object-clause-found : goal.returns-in_ok-new-in-Object-clause-found
-returns-in_ok-new-in-Object-clause-found c =
+pub returns-in_ok-new-in-Object-clause-accepted : goal.returns-in_ok-new-in-Object-clause-accepted
+returns-in_ok-new-in-Object-clause-accepted c =
     let ms = object_view c.in-Object.members.entries in
     let p = c.in_ok-keywords-in-Object.field-0 in
     let is : doc_view c.args.doc.now ≡ object ms = ap doc_view c.in-Object.is ∙ view-Object c.in-Object.members in
-    let right = c.in_ok-keywords-in-Object.ensures.right in
+    let right = c.in_ok-keywords-in-Object.ensures.accepted in
     let schema : IsSchema (object ms) = record {
       shaped = right;
-      named = name_is ms p right c.in_ok-keywords-in-Object.ensures.value ∙ c.in_ok-find_reference-in-Object.ensures.right;
+      named = name_is ms p right c.in_ok-keywords-in-Object.ensures.found ∙ c.in_ok-find_reference-in-Object.ensures.accepted;
       no_loop = no_loop (object ms) right;
     } in
     let whole = subst IsSchema (sym is) schema in
@@ -59,8 +59,8 @@ returns-in_ok-new-in-Object-clause-meaning c =
     let ms = object_view c.in-Object.members.entries in
     let p = c.in_ok-keywords-in-Object.field-0 in
     let is : doc_view c.args.doc.now ≡ object ms = ap doc_view c.in-Object.is ∙ view-Object c.in-Object.members in
-    let right = c.in_ok-keywords-in-Object.ensures.right in
-    let named = name_is ms p right c.in_ok-keywords-in-Object.ensures.value ∙ c.in_ok-find_reference-in-Object.ensures.right in
+    let right = c.in_ok-keywords-in-Object.ensures.accepted in
+    let named = name_is ms p right c.in_ok-keywords-in-Object.ensures.found ∙ c.in_ok-find_reference-in-Object.ensures.accepted in
     let whole : KeepsValidity (doc_view c.args.doc.now) = subst KeepsValidity (sym is) (keeps_validity (object ms) right named) in
     search rules
 
@@ -74,6 +74,6 @@ pub returns-in_ok-new-in-Object-clause-one_meaning : goal.returns-in_ok-new-in-O
 returns-in_ok-new-in-Object-clause-one_meaning c =
     let ms = object_view c.in-Object.members.entries in
     let is : doc_view c.args.doc.now ≡ object ms = ap doc_view c.in-Object.is ∙ view-Object c.in-Object.members in
-    let right = c.in_ok-keywords-in-Object.ensures.right in
+    let right = c.in_ok-keywords-in-Object.ensures.accepted in
     let whole : OneMeaning (doc_view c.args.doc.now) = subst OneMeaning (sym is) (meanings.one_meaning (object ms) (no_loop (object ms) right)) in
     search rules

@@ -5,8 +5,8 @@ use Rattle.cs_document.proofs.Views.{object_view-insert_entry}
 use Rattle.cs_schema.specs.Writing.{put_some}
 use Rattle.cs_schema.proofs.write.set.Goals as goal
 
-pub returns-clause-put : goal.returns-clause-put
-returns-clause-put c =
+pub returns : goal.returns
+returns c =
     let old = object_view c.args.members.now.entries in
     ap object_view c.in_ok-insert.ensures.entries
     ∙ object_view-insert_entry c.args.members.now.entries c.in_ok-from_str.field-0 c.in-Some.value

@@ -18,8 +18,8 @@ loop-text-preserved c =
     ∙ mapped_more doc_view text_document l.docs.items (take l.text-index xs) _ x l.invariant (view-Text _ ∙ ap text c.in_ok-clone.ensures.cases)
     ∙ ap (map text_document) (sym (take_at xs l.text-index x c.loop-text-test.true c.text-item.is))
 
-pub returns-clause-value : goal.returns-clause-value
-returns-clause-value c =
+pub returns : goal.returns
+returns c =
     let l = c.loop-text in
     let xs = c.args.texts.now.items in
     let all = take_all l.text-index c.deref-text-items.result.now c.loop-text-test.false ∙ c.deref-text-items.ensures.value in

@@ -10,9 +10,9 @@ use Rattle.cs_schema.proofs.write.to_doc.Goals as goal
 pub returns-in_ok-set-in-Object-2-clause-found : goal.returns-in_ok-set-in-Object-2-clause-found
 returns-in_ok-set-in-Object-2-clause-found c =
     let definitions = option_map doc_view c.in_ok-definitions-in-Object.definitions in
-    let keywords = c.in_ok-members-in-Object.ensures.value ∙ ap (λ k. present (slots_of k)) c.deref.ensures in
-    let more = c.in_ok-set-in-Object.ensures.put ∙ ap (put_some (codes "$defs") definitions) keywords in
+    let keywords = c.in_ok-members-in-Object.ensures ∙ ap (λ k. present (slots_of k)) c.deref.ensures in
+    let more = c.in_ok-set-in-Object.ensures ∙ ap (put_some (codes "$defs") definitions) keywords in
     view-Object c.set-in-Object.new.members
-    ∙ ap object (c.in_ok-set-in-Object-2.ensures.put ∙ ap₂ (λ d ms. put_some (codes "$schema") (Some d) ms) c.in_ok-dialect-in-Object.ensures.value more)
+    ∙ ap object (c.in_ok-set-in-Object-2.ensures ∙ ap₂ (λ d ms. put_some (codes "$schema") (Some d) ms) c.in_ok-dialect-in-Object.ensures more)
     ∙ document_put c.args.schema.now c.in-Object.keywords definitions (sym c.root.ensures ∙ c.in-Object.is)
-    (c.in_ok-definitions-in-Object.ensures.value ∙ ap (λ es. unless_no_map (definitions_view es)) c.definitions.ensures)
+    (c.in_ok-definitions-in-Object.ensures ∙ ap (λ es. unless_no_map (definitions_view es)) c.definitions.ensures)

@@ -16,6 +16,7 @@ use Rattle.cs_tool.specs.Conversions.{of_document, of_schema, of_validate}
 use Rattle.cs_tool.specs.Headline.{IsSchemaText, SchemaTextRefusal, ValidateRefusal}
 use Rattle.cs_tool.specs.declared.fault.Fault.{Fault}
 use Rattle.cs_tool.specs.declared.fault.Fault.TheVariants.{OutOfMemory, SchemaNotJson, NotInteger}
+use Rattle.cs_tool.proofs.SchemaTexts.{answered}
 use Rattle.cs_tool.proofs.calls.validate.Goals as goal
 
 -- what the answer says of the trimmed schema, it says of the schema
@@ -59,7 +60,7 @@ returns-in_err-schema-clause-refused c =
 
 pub returns-in_err-doc-clause-refused : goal.returns-in_err-doc-clause-refused
 returns-in_err-doc-clause-refused c =
-    let is : IsSchemaText c.args.schema.now = record { document = doc_view c.in_ok-schema_text.field-0; read = c.in_ok-schema_text.ensures.found; profile = c.in_ok-schema.ensures.found } in
+    let is : IsSchemaText c.args.schema.now = record { document = doc_view c.in_ok-schema_text.field-0; read = c.in_ok-schema_text.ensures.found; profile = c.in_ok-schema.ensures.accepted } in
     let e = c.in_err-doc.field-0.0 in
     let p = err_from_is_err_and c.from_residual-in_err-doc.result c.from_residual-in_err-doc.ensures.1 in
     rw (p.1, p.2) (by_document c.args.schema.now c.args.doc.now is e (λ h. c.in_err-doc.ensures.not_json (ap Err h)) (λ h. c.in_err-doc.ensures.not_integer (ap Err h)))
@@ -70,16 +71,49 @@ returns-in_err-is_valid-clause-refused c =
     let p = err_from_is_err_and c.from_residual-in_err-is_valid.result c.from_residual-in_err-is_valid.ensures.1 in
     rw (p.1, p.2) (by_judging c.args.schema.now c.args.doc.now e)
 
+pub returns-in_err-schema_text-clause-only : goal.returns-in_err-schema_text-clause-only
+returns-in_err-schema_text-clause-only c = λ d is reads.
+    let s = c.args.schema.now in
+    let t = c.args.doc.now in
+    let e = c.in_err-schema_text.field-0.0 in
+    let p = err_from_is_err_and c.from_residual.result c.from_residual.ensures.1 in
+    rw (p.1, p.2) (answered s t d is reads e (by_schema_text s t e c.in_err-schema_text.ensures.refused))
+
+pub returns-in_err-schema-clause-only : goal.returns-in_err-schema-clause-only
+returns-in_err-schema-clause-only c = λ d is reads.
+    let s = c.args.schema.now in
+    let t = c.args.doc.now in
+    let e = c.in_err-schema.field-0.0 in
+    let p = err_from_is_err_and c.from_residual-in_err-schema.result c.from_residual-in_err-schema.ensures.1 in
+    rw (p.1, p.2) (answered s t d is reads (of_schema e) (by_schema s t (doc_view c.in_ok-schema_text.field-0) c.in_ok-schema_text.ensures.found e c.in_err-schema.ensures.refused))
+
+pub returns-in_err-doc-clause-only : goal.returns-in_err-doc-clause-only
+returns-in_err-doc-clause-only c = λ d is reads.
+    let s = c.args.schema.now in
+    let t = c.args.doc.now in
+    let e = c.in_err-doc.field-0.0 in
+    let is_text : IsSchemaText c.args.schema.now = record { document = doc_view c.in_ok-schema_text.field-0; read = c.in_ok-schema_text.ensures.found; profile = c.in_ok-schema.ensures.accepted } in
+    let p = err_from_is_err_and c.from_residual-in_err-doc.result c.from_residual-in_err-doc.ensures.1 in
+    rw (p.1, p.2) (answered s t d is reads (of_document e) (by_document s t is_text e (λ h. c.in_err-doc.ensures.not_json (ap Err h)) (λ h. c.in_err-doc.ensures.not_integer (ap Err h))))
+
+pub returns-in_err-is_valid-clause-only : goal.returns-in_err-is_valid-clause-only
+returns-in_err-is_valid-clause-only c = λ d is reads.
+    let s = c.args.schema.now in
+    let t = c.args.doc.now in
+    let e = c.in_err-is_valid.field-0.0 in
+    let p = err_from_is_err_and c.from_residual-in_err-is_valid.result c.from_residual-in_err-is_valid.ensures.1 in
+    rw (p.1, p.2) (answered s t d is reads (of_validate e) (by_judging s t e))
+
 pub returns-clause-found : goal.returns-clause-found
 returns-clause-found c =
     let schema = c.in_ok-schema.ensures in
     let answer = c.in_ok-is_valid.field-0 in
     let document = doc_view c.in_ok-doc.doc in
-    let one = subst OneMeaning schema.value c.is_valid.ensures.one_meaning in
-    let judged = subst (λ s. (V : Document → Document → Bool) → IsValidity s V → answer ≡ V s document) schema.value c.in_ok-is_valid.ensures.answer in record {
+    let one = subst OneMeaning schema.found c.is_valid.ensures.one_meaning in
+    let judged = subst (λ s. (V : Document → Document → Bool) → IsValidity s V → answer ≡ V s document) schema.found c.in_ok-is_valid.ensures.answer in record {
       schema = doc_view c.in_ok-schema_text.field-0;
       read_schema = c.in_ok-schema_text.ensures.found;
-      profile = schema.found;
+      profile = schema.accepted;
       document = document;
       read = c.in_ok-doc.ensures.found;
       one_validity = schema.one_meaning;

@@ -47,9 +47,10 @@ returns-clause-found c = λ sources accepted.
     let answered = c.in_ok-is_instance.ensures.answer in record {
       environment = c.args.guarded;
       name = answered.0;
-      declares = record { accepted = accepted; taken = c.requires; named = answered.1 };
+      declares = record { accepted = accepted; exportable = c.requires; named = answered.1 };
       document = doc_view c.in_ok-doc.doc;
       read = c.in_ok-doc.ensures.found;
+      proper = c.in_ok-doc.ensures.document;
       one_instance = c.is_instance.ensures.one_meaning;
       holds = answered.2;
     }

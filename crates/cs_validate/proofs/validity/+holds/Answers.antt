@@ -8,7 +8,8 @@ use Rattle.std.proofs.lemmas.List.{take_all}
 use Rattle.std.proofs.lemmas.List.Folds.{list_all_more}
 use Rattle.cs_validate.specs.Shaped.{IsShaped, AreShaped}
 use Rattle.cs_validate.specs.Asserted.{slot_holds, but_reference}
-use Rattle.cs_validate.proofs.Shapes.{view-Object, object_shaped, but_reference-shaped}
+use Rattle.cs_profile.proofs.Views.{view-Object}
+use Rattle.cs_validate.proofs.Shapes.{object_shaped, but_reference-shaped}
 use Rattle.cs_validate.proofs.Slots.{rest-all, all_of-shaped, below-valid}
 use Rattle.cs_validate.proofs.validity.+holds.Goals as goal
 

@@ -5,7 +5,7 @@ use Rattle.cs_document.specs.View.{doc_view}
 use Rattle.cs_profile.specs.SchemaDocument.{schema_view, slots_of, present, document_of}
 use Rattle.cs_validate.specs.Shaped.{AreShaped}
 use Rattle.cs_validate.specs.Asserted.{unless_absent, slot_holds, but_reference, defined_holds}
-use Rattle.cs_validate.proofs.Shapes.{view-Object}
+use Rattle.cs_profile.proofs.Views.{view-Object}
 use Rattle.cs_validate.proofs.Roots.{root_slots, root_shaped, root-valid}
 use Rattle.cs_validate.proofs.validity.is_valid.Goals as goal
 
@@ -14,7 +14,7 @@ keywords_hold-requires c =
     let v = c.args.schema.now in
     let b = c.in-Object.keywords in
     let seen : schema_view v.root ≡ object (present (slots_of b.value)) = ap schema_view (sym c.root.ensures ∙ c.in-Object.is) ∙ view-Object b in
-    let shaped : AreShaped true (root_slots v b.value) = root_shaped v b.value c.is_whole.ensures.whole seen in
+    let shaped : AreShaped true (root_slots v b.value) = root_shaped v b.value c.whole_law.ensures.whole seen in
     (true, subst (λ k. AreShaped true (but_reference (slots_of k))) (sym c.deref-then-reference_holds.ensures) shaped.1.1.1)
 
 pub returns-then-reference_holds-clause-answer : goal.returns-then-reference_holds-clause-answer

@@ -1,4 +1,4 @@
-use Rattle.cs_syntax.proofs.Whole.{file_once}
+use Rattle.cs_syntax.proofs.FileAnswers.{file_once}
 use Rattle.cs_syntax.proofs.parser.file.one_file.Goals as goal
 
 pub returns : goal.returns

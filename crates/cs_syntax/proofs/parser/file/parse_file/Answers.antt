@@ -2,13 +2,13 @@ use Rattle.std.proofs.lemmas.Result.{err_from_is_err_and}
 use Rattle.cs_grammar.specs.View.{file_view}
 use Rattle.cs_syntax.proofs.Places.{stuck_refused}
 use Rattle.cs_syntax.proofs.QuotedTexts.{cut_quoted}
-use Rattle.cs_syntax.proofs.Whole.{spelled_found, spelled_only, stuck_only, file_refused}
+use Rattle.cs_syntax.proofs.FileAnswers.{spelled_found, spelled_only, stuck_only, file_refused}
 use Rattle.cs_syntax.proofs.parser.file.parse_file.Goals as goal
 
 pub returns-in_err-tokens-clause-only : goal.returns-in_err-tokens-clause-only
 returns-in_err-tokens-clause-only c f s =
     let p = err_from_is_err_and c.from_residual.result c.from_residual.ensures.1 in
-    rw (p.1, p.2) (stuck_only file_view c.args.source.now c.in_err-tokens.field-0.0 c.in_err-tokens.ensures.stuck f s)
+    rw (p.1, p.2) (stuck_only file_view c.args.source.now c.in_err-tokens.field-0.0 c.in_err-tokens.ensures.refused f s)
 
 pub returns-clause-found : goal.returns-clause-found
 returns-clause-found c = spelled_found file_view c.args.source.now c.file_within.result _ c.in_ok-tokens.ensures.found (rw c.deref.ensures.value at c.file_within.ensures)
@@ -19,7 +19,7 @@ returns-clause-only c f s = spelled_only file_view c.args.source.now c.file_with
 pub returns-in_err-tokens-clause-refused : goal.returns-in_err-tokens-clause-refused
 returns-in_err-tokens-clause-refused c =
     let p = err_from_is_err_and c.from_residual.result c.from_residual.ensures.1 in
-    rw (p.1, p.2) (stuck_refused c.args.source.now c.in_err-tokens.field-0.0 c.in_err-tokens.ensures.stuck)
+    rw (p.1, p.2) (stuck_refused c.args.source.now c.in_err-tokens.field-0.0 c.in_err-tokens.ensures.refused)
 
 pub returns-clause-refused : goal.returns-clause-refused
 returns-clause-refused c = file_refused file_view c.args.source.now c.file_within.result _ c.in_ok-tokens.ensures.found (rw c.deref.ensures.value at c.file_within.ensures)

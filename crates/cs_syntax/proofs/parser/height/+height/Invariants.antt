@@ -1,7 +1,7 @@
 use Rattle.std.proofs.Common.{◌≡◌, ◌+◌, ◌*◌, drop}
 use Rattle.std.specs.Prelude.{nat_le}
 use Rattle.cs_grammar.specs.View.{exprs_view, fields_view}
-use Rattle.cs_syntax.specs.Height.{heights, field_heights}
+use Rattle.cs_syntax.specs.Height.{height_all, height_fields}
 use Rattle.cs_syntax.proofs.parser.height.+height.Given as goal
 
 abbrev pub decreases-is_low : goal.decreases-is_low
@@ -17,7 +17,7 @@ abbrev pub decreases-is_low_end : goal.decreases-is_low_end
 decreases-is_low_end l = 2 * l.limit + 1
 
 abbrev pub invariant-are_low-loop-expr : goal.invariant-are_low-loop-expr
-invariant-are_low-loop-expr l = nat_le (heights (exprs_view (drop l.expr-index l.expr-items))) l.limit ≡ nat_le (heights (exprs_view l.expr-items)) l.limit
+invariant-are_low-loop-expr l = nat_le (height_all (exprs_view (drop l.expr-index l.expr-items))) l.limit ≡ nat_le (height_all (exprs_view l.expr-items)) l.limit
 
 abbrev pub invariant-are_low_fields-loop-field : goal.invariant-are_low_fields-loop-field
-invariant-are_low_fields-loop-field l = nat_le (field_heights (fields_view (drop l.field-index l.field-items))) l.limit ≡ nat_le (field_heights (fields_view l.field-items)) l.limit
+invariant-are_low_fields-loop-field l = nat_le (height_fields (fields_view (drop l.field-index l.field-items))) l.limit ≡ nat_le (height_fields (fields_view l.field-items)) l.limit

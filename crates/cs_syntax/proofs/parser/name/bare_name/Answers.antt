@@ -1,6 +1,6 @@
 use Rattle.std.proofs.Common.{None, arith}
 use Rattle.std.proofs.lemmas.Str.Pattern.{strip_prefix_char}
-use Rattle.cs_syntax.proofs.BareNames.{bare_already}
+use Rattle.cs_grammar.proofs.BareNames.{bare_already}
 use Rattle.cs_syntax.proofs.parser.name.bare_name.Goals as goal
 
 pub returns-in-None : goal.returns-in-None

@@ -1,11 +1,11 @@
 use Rattle.std.proofs.Common.{reverse, sym, ap, ◌∙◌}
 use Rattle.std.specs.Prelude.{nat_lt}
-use Rattle.cs_syntax.specs.declared.parser.nesting.Before.TheVariants as before
+use Rattle.cs_syntax.specs.declared.parser.nesting.PrecedingToken.TheVariants as before
 use Rattle.cs_grammar.specs.View.{lexemes_view, words}
 use Rattle.cs_syntax.specs.Counting.{counted_from}
 use Rattle.cs_syntax.specs.Left.{levels_of}
 use Rattle.cs_syntax.proofs.Depths.{high_stops}
-use Rattle.cs_syntax.proofs.Levels.{counted_nesting}
+use Rattle.cs_syntax.proofs.NestingCounts.{counted_nesting}
 use Rattle.cs_syntax.proofs.parser.nesting.is_too_nested.Goals as goal
 
 pub loop-token-init : goal.loop-token-init

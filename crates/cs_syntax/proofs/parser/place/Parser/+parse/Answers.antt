@@ -2,10 +2,11 @@ use Rattle.std.proofs.Common.{◌≡◌, ◌+◌, ◌-◌, ◌<◌, suc, Ok, ref
 use Rattle.std.proofs.lemmas.Result.{err_from_is_err_and}
 use Rattle.cs_grammar.specs.declared.kind.Kind.TheVariants as kinds
 use Rattle.cs_grammar.specs.View.{expr_view, field_view}
+use Rattle.cs_grammar.proofs.Views.{view-And, view-Or}
 use Rattle.cs_syntax.specs.Left.{left}
 use Rattle.cs_syntax.specs.Reading.{inner, field_with, operand_with, conj_with, expr_with, after, another_field, another_element}
 use Rattle.cs_syntax.proofs.WordKinds.{at_end, operand_end}
-use Rattle.cs_syntax.proofs.Reader.{goes_on, ends, out, breaks, fails-of, view-And, view-Or, met, joined}
+use Rattle.cs_syntax.proofs.Reader.{goes_on, ends, out, breaks, fails-of, met, joined}
 use Rattle.cs_syntax.proofs.parser.place.Parser.+parse.Goals as goal
 
 pub fields-returns-in_err-field : goal.fields-returns-in_err-field

@@ -1,0 +1,88 @@
+// The command line.
+#![tactic(auto)]
+
+use clap::{Arg, ArgAction, Command};
+use std::alloc::{AllocError, Global};
+
+/// The program's command: `export`, `vet`, `validate` and `agree` with their words. Sources are the values of `FILE`, in the
+/// order of the words.
+pub fn command<'a>(alloc: Global) -> Result<Command<'a>, AllocError> {
+    let mut commands = Vec::new(alloc);
+    commands.push(export(alloc)?)?;
+    commands.push(vet(alloc)?)?;
+    commands.push(validate(alloc)?)?;
+    commands.push(agree(alloc)?)?;
+    Command::new(alloc, "cue2schema")
+        .about("Compiles CUE definitions to JSON Schema 2020-12, and judges documents by both")
+        .version("0.1.0")
+        .after_help("Example: cue2schema export --root '#Port' port.cue > port.schema.json")
+        .subcommand_required(true)
+        .subcommands(commands)
+}
+
+fn export<'a>(alloc: Global) -> Result<Command<'a>, AllocError> {
+    Command::new(alloc, "export")
+        .about("Writes the JSON Schema of a definition")
+        .after_help("Example: cue2schema export --root '#Port' port.cue > port.schema.json")
+        .arg(root(alloc))?
+        .arg(files(alloc))
+}
+
+fn vet<'a>(alloc: Global) -> Result<Command<'a>, AllocError> {
+    Command::new(alloc, "vet")
+        .about("Says whether a JSON document is an instance of a definition")
+        .after_help("Example: cue2schema vet --root '#Port' --doc port.json port.cue")
+        .arg(root(alloc))?
+        .arg(document(alloc).required(true))?
+        .arg(files(alloc))
+}
+
+fn validate<'a>(alloc: Global) -> Result<Command<'a>, AllocError> {
+    Command::new(alloc, "validate")
+        .about("Says whether a JSON document is valid against a schema")
+        .after_help("Example: cue2schema validate --schema port.schema.json --doc port.json")
+        .arg(schema(alloc))?
+        .arg(document(alloc))
+}
+
+fn agree<'a>(alloc: Global) -> Result<Command<'a>, AllocError> {
+    Command::new(alloc, "agree")
+        .about("Says what `vet` says, judged by the exported schema too")
+        .after_help("Example: cue2schema agree --root '#Port' --doc port.json port.cue")
+        .arg(root(alloc))?
+        .arg(document(alloc).required(true))?
+        .arg(files(alloc))
+}
+
+fn root<'a>(alloc: Global) -> Arg<'a> {
+    Arg::new(alloc, "root")
+        .long("root")
+        .value_name("#NAME")
+        .help("The root definition, with its #")
+        .required(true)
+        .allow_hyphen_values(true)
+        .action(ArgAction::Set)
+}
+
+fn document<'a>(alloc: Global) -> Arg<'a> {
+    Arg::new(alloc, "doc")
+        .long("doc")
+        .value_name("DOCUMENT")
+        .help("The file of the JSON document")
+        .action(ArgAction::Set)
+}
+
+fn schema<'a>(alloc: Global) -> Arg<'a> {
+    Arg::new(alloc, "schema")
+        .long("schema")
+        .value_name("SCHEMA")
+        .help("The file of the JSON Schema")
+        .required(true)
+        .action(ArgAction::Set)
+}
+
+fn files<'a>(alloc: Global) -> Arg<'a> {
+    Arg::new(alloc, "FILE")
+        .help("The files of CUE; standard input where there is none")
+        .action(ArgAction::Append)
+}

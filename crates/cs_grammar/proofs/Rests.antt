@@ -1,0 +1,127 @@
+-- The words that follow a spelling are a rest of those that it begins.
+use Rattle.std.proofs.Common.{ℕ, ◌≤◌, ℤ, Bool, List, ◌∷◌, length, Option, arith}
+use Rattle.cs_grammar.specs.Tree.{Label, Tree, Trees, Fields, End, DefinitionTree}
+use Rattle.cs_grammar.specs.Words.{Word, Words}
+use Rattle.cs_grammar.specs.Spells.{Comma, explicit, inserted, ClosesParen, paren_here, paren_after, ClosesList, list_here, list_after, ClosesStruct, struct_here, struct_after, SpellsNumber, positive, negative, SpellsBound, limit_is, other_number, other_text, other_null, SpellsLabel, bare_label, quoted_label, SpellsMark, regular, optional, required, SpellsOpening, unopened, opened, SpellsValue, long, short, SpellsField, labelled, SpellsExpr, one_conj, disjunction_is, SpellsBars, no_bar, a_bar, SpellsConj, one_operand, conjunction_is, SpellsAmps, no_amp, an_amp, SpellsOperand, top_is, bottom_is, reference_is, name_is, number_is, text_is, bound_is, paren_is, struct_is, list_is, SpellsStruct, no_fields, dots_alone, fields, SpellsFields, no_more_fields, next_field, SpellsList, no_elements, rest_alone, elements, SpellsElements, no_more_elements, next_element, SpellsEnd, closed_is, rest_is, SpellsRest, any_is, each_is, SpellsDefinition, defined, SpellsPackage, no_clause, clause}
+use Rattle.cs_grammar.specs.declared.ast.FieldMark.{FieldMark}
+
+-- the last of some words, from one on
+pub data IsRest : Words → Words → Type 0 where
+  whole : {ts : Words} → IsRest ts ts
+  behind : {w : Word} {r ts : Words} → IsRest r ts → IsRest r (w ∷ ts)
+
+pub then : {s r ts : Words} → IsRest r ts → IsRest s r → IsRest s ts
+then whole k = k
+then (behind h) k = behind (then h k)
+
+pub no_longer : {r ts : Words} → IsRest r ts → length r ≤ length ts
+no_longer whole = omega arith
+no_longer (behind k) = omega (arith, no_longer k)
+
+pub of_comma : {ts r : Words} → Comma ts r → IsRest r ts
+of_comma explicit = behind whole
+of_comma inserted = behind whole
+
+pub of_paren : {ts r : Words} → ClosesParen ts r → IsRest r ts
+of_paren paren_here = behind whole
+of_paren paren_after = behind (behind whole)
+
+pub of_list_end : {ts r : Words} → ClosesList ts r → IsRest r ts
+of_list_end list_here = behind whole
+of_list_end (list_after c) = then (of_comma c) (behind whole)
+
+pub of_struct_end : {ts r : Words} → ClosesStruct ts r → IsRest r ts
+of_struct_end struct_here = behind whole
+of_struct_end (struct_after c) = then (of_comma c) (behind whole)
+
+pub of_number : {z : ℤ} {ts r : Words} → SpellsNumber z ts r → IsRest r ts
+of_number (positive f) = behind whole
+of_number (negative e f) = behind (behind whole)
+
+pub of_bound : {e : Tree} {ts r : Words} → SpellsBound e ts r → IsRest r ts
+of_bound (limit_is n) = behind (of_number n)
+of_bound (other_number n) = behind (of_number n)
+of_bound other_text = behind (behind whole)
+of_bound (other_null e) = behind (behind whole)
+
+pub of_label : {l : Label} {ts r : Words} → SpellsLabel l ts r → IsRest r ts
+of_label bare_label = behind whole
+of_label quoted_label = behind whole
+
+pub of_mark : {m : FieldMark} {ts r : Words} → SpellsMark m ts r → IsRest r ts
+of_mark regular = behind whole
+of_mark optional = behind (behind whole)
+of_mark required = behind (behind whole)
+
+pub of_opening : {b : Bool} {ts r : Words} → SpellsOpening b ts r → IsRest r ts
+of_opening (unopened c) = of_struct_end c
+of_opening (opened c d) = then (of_comma c) (behind (of_struct_end d))
+
+mutual
+  pub of_value : {e : Tree} {ts r : Words} → SpellsValue e ts r → IsRest r ts
+  of_value (long e) = of_expr e
+  of_value (short o f) = of_field f
+
+  pub of_field : {l : Label} {m : FieldMark} {e : Tree} {ts r : Words} → SpellsField l m e ts r → IsRest r ts
+  of_field (labelled l m v) = then (of_label l) (then (of_mark m) (of_value v))
+
+  pub of_expr : {e : Tree} {ts r : Words} → SpellsExpr e ts r → IsRest r ts
+  of_expr (one_conj c) = of_conj c
+  of_expr (disjunction_is c b) = then (of_conj c) (of_bars b)
+
+  pub of_bars : {es : Trees} {ts r : Words} → SpellsBars es ts r → IsRest r ts
+  of_bars no_bar = whole
+  of_bars (a_bar c b) = behind (then (of_conj c) (of_bars b))
+
+  pub of_conj : {e : Tree} {ts r : Words} → SpellsConj e ts r → IsRest r ts
+  of_conj (one_operand o) = of_operand o
+  of_conj (conjunction_is o a) = then (of_operand o) (of_amps a)
+
+  pub of_amps : {es : Trees} {ts r : Words} → SpellsAmps es ts r → IsRest r ts
+  of_amps no_amp = whole
+  of_amps (an_amp o a) = behind (then (of_operand o) (of_amps a))
+
+  pub of_operand : {e : Tree} {ts r : Words} → SpellsOperand e ts r → IsRest r ts
+  of_operand top_is = behind whole
+  of_operand bottom_is = behind whole
+  of_operand reference_is = behind whole
+  of_operand (name_is k e) = behind whole
+  of_operand (number_is n) = of_number n
+  of_operand text_is = behind whole
+  of_operand (bound_is b) = of_bound b
+  of_operand (paren_is e c) = behind (then (of_expr e) (of_paren c))
+  of_operand (struct_is s) = behind (of_struct s)
+  of_operand (list_is l) = behind (of_list l)
+
+  pub of_struct : {fs : Fields} {b : Bool} {ts r : Words} → SpellsStruct fs b ts r → IsRest r ts
+  of_struct no_fields = behind whole
+  of_struct (dots_alone c) = behind (of_struct_end c)
+  of_struct (fields f fs o) = then (of_field f) (then (of_fields fs) (of_opening o))
+
+  pub of_fields : {fs : Fields} {ts r : Words} → SpellsFields fs ts r → IsRest r ts
+  of_fields no_more_fields = whole
+  of_fields (next_field c f fs) = then (of_comma c) (then (of_field f) (of_fields fs))
+
+  pub of_list : {es : Trees} {end : End} {ts r : Words} → SpellsList es end ts r → IsRest r ts
+  of_list no_elements = behind whole
+  of_list (rest_alone e) = behind (of_rest e)
+  of_list (elements e es end) = then (of_expr e) (then (of_elements es) (of_end end))
+
+  pub of_elements : {es : Trees} {ts r : Words} → SpellsElements es ts r → IsRest r ts
+  of_elements no_more_elements = whole
+  of_elements (next_element e es) = behind (then (of_expr e) (of_elements es))
+
+  pub of_end : {end : End} {ts r : Words} → SpellsEnd end ts r → IsRest r ts
+  of_end (closed_is c) = of_list_end c
+  of_end (rest_is e) = behind (behind (of_rest e))
+
+  pub of_rest : {end : End} {ts r : Words} → SpellsRest end ts r → IsRest r ts
+  of_rest (any_is c) = of_list_end c
+  of_rest (each_is e c) = then (of_expr e) (of_list_end c)
+
+pub of_definition : {d : DefinitionTree} {ts r : Words} → SpellsDefinition d ts r → IsRest r ts
+of_definition (defined v) = behind (behind (of_value v))
+
+pub of_package : {c : Option (List ℕ)} {ts r : Words} → SpellsPackage c ts r → IsRest r ts
+of_package no_clause = whole
+of_package (clause e c) = behind (behind (of_comma c))

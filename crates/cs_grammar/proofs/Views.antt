@@ -1,0 +1,64 @@
+-- Expressions, fields and words as the grammar sees them, form by form.
+use Rattle.std.proofs.Common.{◌≡◌, ℕ, Bool, List, refl, ap, rules, string_bytes, Box, Global, String, Vec}
+use Rattle.cs_grammar.specs.Tree as T
+use Rattle.cs_grammar.specs.View.{expr_view, exprs_view, fields_view, field_view, end_view, word_of}
+use Rattle.cs_grammar.specs.Words.{start}
+use Rattle.cs_grammar.specs.declared.ast.Expr as Exprs
+use Rattle.cs_grammar.specs.declared.ast.Expr.{Expr}
+use Rattle.cs_grammar.specs.declared.ast.Field.{Field}
+use Rattle.cs_grammar.specs.declared.ast.ListEnd as Ends
+use Rattle.cs_grammar.specs.declared.ast.ListEnd.{ListEnd}
+use Rattle.cs_grammar.specs.declared.kind.Kind.{Kind}
+use Rattle.cs_grammar.specs.declared.kind.Kind.TheVariants as kinds
+
+pub view-Name : (t : String Global) (at : ℕ) → expr_view (Exprs.Name t at) ≡ T.named (string_bytes t) at
+view-Name t at = search (rules, Exprs.the_lemmas)
+
+pub view-Reference : (t : String Global) (at : ℕ) → expr_view (Exprs.Reference t at) ≡ T.reference (string_bytes t) at
+view-Reference t at = search (rules, Exprs.the_lemmas)
+
+pub view-And : (v : Vec Expr Global) → expr_view (Exprs.And v) ≡ T.conjunction (exprs_view v.items)
+view-And v = search (rules, Exprs.the_lemmas)
+
+pub view-Or : (v : Vec Expr Global) → expr_view (Exprs.Or v) ≡ T.disjunction (exprs_view v.items)
+view-Or v = search (rules, Exprs.the_lemmas)
+
+pub view-Paren : (b : Box Expr Global) → expr_view (Exprs.Paren b) ≡ T.paren (expr_view b.value)
+view-Paren b = search (rules, Exprs.the_lemmas)
+
+pub view-Struct : (at : ℕ) (v : Vec Field Global) (o : Bool) → expr_view (Exprs.Struct at v o) ≡ T.struct at (fields_view v.items) o
+view-Struct at v o = search (rules, Exprs.the_lemmas)
+
+pub view-List : (v : Vec Expr Global) (end : ListEnd) → expr_view (Exprs.List v end) ≡ T.list (exprs_view v.items) (end_view end)
+view-List v end = search (rules, Exprs.the_lemmas)
+
+-- ---- ends of lists
+
+pub view-Closed : end_view Ends.Closed ≡ T.closed
+view-Closed = search (rules, Exprs.the_lemmas)
+
+pub view-Any : end_view Ends.Any ≡ T.any
+view-Any = search (rules, Exprs.the_lemmas)
+
+pub view-Each : (b : Box Expr Global) → end_view (Ends.Each b) ≡ T.each (expr_view b.value)
+view-Each b = search (rules, Exprs.the_lemmas)
+
+-- ---- fields
+
+pub view-value : (f : Field) → (field_view f).value ≡ expr_view f.value
+view-value f = search (rules, Exprs.the_lemmas)
+
+pub view-label : (f : Field) → (field_view f).label ≡ record { text = string_bytes f.label; quotes = f.quoted }
+view-label f = search (rules, Exprs.the_lemmas)
+
+pub view-mark : (f : Field) → (field_view f).mark ≡ f.mark
+view-mark f = search (rules, Exprs.the_lemmas)
+
+pub view-text : (f : Field) → (field_view f).label.text ≡ string_bytes f.label
+view-text f = ap (λ (l : T.Label). l.text) (view-label f)
+
+-- ---- words
+
+pub start_word_of : (k : Kind) (t : List ℕ) (o : ℕ) → start (word_of k t o) ≡ o
+start_word_of kinds.Name t o = refl
+start_word_of k t o = refl

@@ -1,0 +1,163 @@
+-- What a rule asks of a document, both opened once: over any D in place of each rule that it asks of the same
+-- document, any N in place of each expression that it asks of a document inside, and any A in place of each such document.
+use Rattle.std.specs.Prelude.{ℕ, ℤ, Bool, true, false, not, ◌&&◌, ◌||◌, List, [], ◌∷◌, Option, Some, None, int_lt, int_le}
+use Rattle.std.specs.Bool.{beq}
+use Rattle.std.specs.List.{list_all, list_any}
+use Rattle.std.specs.Ordering.{int_eq}
+use Rattle.std.specs.Str.{bytes_eq}
+use Rattle.cs_document.specs.Document.{Entry, under}
+use Rattle.cs_document.specs.Opened.{Opened, a_null, a_boolean, an_integer, a_text, a_list, an_object}
+use Rattle.cs_package.specs.Expression.{Kind, int, number, string, bool, Relation, less, at_most, more, at_least, DeclarationMark, regular, optional, required, Declaration}
+
+-- what stands behind the fixed elements of a list
+pub data Rest (N : Type 0) : Type 0 where
+  nothing anything : Rest N
+  each : N → Rest N
+
+pub data Constraint (D N : Type 0) : Type 0 where
+  -- every document, and none
+  always never : Constraint D N
+  -- one atom
+  the_null : Constraint D N
+  the_boolean : Bool → Constraint D N
+  the_integer : ℤ → Constraint D N
+  the_text : List ℕ → Constraint D N
+  -- atoms of a kind, integers of a range, integers in a relation to one
+  of_kind : Kind → Constraint D N
+  in_range : ℤ → Option ℤ → Constraint D N
+  bounded : Relation → ℤ → Constraint D N
+  -- integers but one, texts but one, everything but null
+  another_integer : ℤ → Constraint D N
+  another_text : List ℕ → Constraint D N
+  not_the_null : Constraint D N
+  -- all of these rules, and some of them
+  all_of any_of : List D → Constraint D N
+  -- a map with these declarations, and whether it may have other keys
+  object_of : List (Declaration N) → Bool → Constraint D N
+  -- a list of these elements, and the rest
+  list_of : List N → Rest N → Constraint D N
+
+-- ---- atoms (CUE language specification, "Values", "Bounds", "Predeclared identifiers")
+
+module _ {A : Type 0} where
+  abbrev pub is_null : Opened A → Bool
+  is_null a_null = true
+  is_null (a_boolean b) = false
+  is_null (an_integer z) = false
+  is_null (a_text s) = false
+  is_null (a_list ys) = false
+  is_null (an_object ms) = false
+
+  abbrev pub is_boolean : (Bool → Bool) → Opened A → Bool
+  is_boolean p a_null = false
+  is_boolean p (a_boolean b) = p b
+  is_boolean p (an_integer z) = false
+  is_boolean p (a_text s) = false
+  is_boolean p (a_list ys) = false
+  is_boolean p (an_object ms) = false
+
+  abbrev pub is_integer : (ℤ → Bool) → Opened A → Bool
+  is_integer p a_null = false
+  is_integer p (a_boolean b) = false
+  is_integer p (an_integer z) = p z
+  is_integer p (a_text s) = false
+  is_integer p (a_list ys) = false
+  is_integer p (an_object ms) = false
+
+  abbrev pub is_text : (List ℕ → Bool) → Opened A → Bool
+  is_text p a_null = false
+  is_text p (a_boolean b) = false
+  is_text p (an_integer z) = false
+  is_text p (a_text s) = p s
+  is_text p (a_list ys) = false
+  is_text p (an_object ms) = false
+
+  -- every number of a document is an integer
+  abbrev pub is_of_kind : Kind → Opened A → Bool
+  is_of_kind int x = is_integer (λ z. true) x
+  is_of_kind number x = is_integer (λ z. true) x
+  is_of_kind string x = is_text (λ s. true) x
+  is_of_kind bool x = is_boolean (λ b. true) x
+
+abbrev pub at_most_or_any : Option ℤ → ℤ → Bool
+at_most_or_any None z = true
+at_most_or_any (Some greatest) z = int_le z greatest
+
+abbrev pub is_within : ℤ → Option ℤ → ℤ → Bool
+is_within least greatest z = int_le least z && at_most_or_any greatest z
+
+abbrev pub is_related : Relation → ℤ → ℤ → Bool
+is_related less n z = int_lt z n
+is_related at_most n z = int_le z n
+is_related more n z = int_lt n z
+is_related at_least n z = int_le n z
+
+-- ---- structs and lists (CUE language specification, "Structs", "Closed structs", "Lists")
+
+-- `inside y e` says whether y, which stands directly inside the document, is an instance of e
+module _ {A N : Type 0} (inside : A → N → Bool) where
+  abbrev pub may_be_absent : DeclarationMark → Bool
+  may_be_absent regular = false
+  may_be_absent optional = true
+  may_be_absent required = false
+
+  -- a declaration, at what stands under its label: the value there is an instance of the declared one, and
+  -- only an optional label may be no key
+  abbrev pub declaration_holds : Declaration N → Option A → Bool
+  declaration_holds d None = may_be_absent d.mark
+  declaration_holds d (Some y) = inside y d.value
+
+  -- each declaration holds, and unless the literal is opened each key is the label of some declaration
+  abbrev pub fields_hold : List (Declaration N) → Bool → List (Entry A) → Bool
+  fields_hold ds opened ms =
+      list_all (λ d. declaration_holds d (under d.label ms)) ds
+      && (opened || list_all (λ m. list_any (λ d. bytes_eq m.0 d.label) ds) ms)
+
+  abbrev pub rest_holds : Rest N → List A → Bool
+  rest_holds nothing [] = true
+  rest_holds nothing (y ∷ ys) = false
+  rest_holds anything ys = true
+  rest_holds (each e) ys = list_all (λ y. inside y e) ys
+
+  -- each fixed element is there and an instance of its place, and the rest holds
+  abbrev pub elements_hold : List N → Rest N → List A → Bool
+  elements_hold [] rest ys = rest_holds rest ys
+  elements_hold (e ∷ es) rest [] = false
+  elements_hold (e ∷ es) rest (y ∷ ys) = inside y e && elements_hold es rest ys
+
+  abbrev pub is_object : List (Declaration N) → Bool → Opened A → Bool
+  is_object ds opened a_null = false
+  is_object ds opened (a_boolean b) = false
+  is_object ds opened (an_integer z) = false
+  is_object ds opened (a_text s) = false
+  is_object ds opened (a_list ys) = false
+  is_object ds opened (an_object ms) = fields_hold ds opened ms
+
+  abbrev pub is_list : List N → Rest N → Opened A → Bool
+  is_list es rest a_null = false
+  is_list es rest (a_boolean b) = false
+  is_list es rest (an_integer z) = false
+  is_list es rest (a_text s) = false
+  is_list es rest (a_list ys) = elements_hold es rest ys
+  is_list es rest (an_object ms) = false
+
+-- ---- all forms
+
+-- whether the document satisfies the constraint; `here r` says whether it is an instance of r
+abbrev pub is_satisfied : {A D N : Type 0} → (D → Bool) → (A → N → Bool) → Constraint D N → Opened A → Bool
+is_satisfied here inside always x = true
+is_satisfied here inside never x = false
+is_satisfied here inside the_null x = is_null x
+is_satisfied here inside (the_boolean b) x = is_boolean (beq b) x
+is_satisfied here inside (the_integer n) x = is_integer (int_eq n) x
+is_satisfied here inside (the_text s) x = is_text (bytes_eq s) x
+is_satisfied here inside (of_kind k) x = is_of_kind k x
+is_satisfied here inside (in_range least greatest) x = is_integer (is_within least greatest) x
+is_satisfied here inside (bounded r n) x = is_integer (is_related r n) x
+is_satisfied here inside (another_integer n) x = is_integer (λ z. not (int_eq n z)) x
+is_satisfied here inside (another_text s) x = is_text (λ t. not (bytes_eq s t)) x
+is_satisfied here inside not_the_null x = not (is_null x)
+is_satisfied here inside (all_of rs) x = list_all here rs
+is_satisfied here inside (any_of rs) x = list_any here rs
+is_satisfied here inside (object_of ds opened) x = is_object inside ds opened x
+is_satisfied here inside (list_of es rest) x = is_list inside es rest x

@@ -1,0 +1,25 @@
+use Rattle.std.proofs.Common.{◌≡◌, ℕ, List, length, is_some, Some, true≢false, sym, ap, ◌∙◌, subst, arith}
+use Rattle.cs_package.specs.Environment.{Environment, name_at, IsDefinitionName}
+use Rattle.cs_package.specs.View.{names_of}
+use Rattle.cs_package.proofs.Environments.{length-is, name-there, spelled-name}
+use Rattle.cs_package.proofs.package.Package.bare_name.Goals as goal
+
+pub unreachable-requires : goal.unreachable-requires
+unreachable-requires c =
+    let inside = c.self.inside in
+    let whole = length-is (names_of inside.names.entries) inside.names.entries inside.bodies.items c.self.invariant.long in
+    let there = c.get_index.ensures.found.1 (omega (arith, c.requires, whole, c.self.invariant.long, ap length c.self.view_is)) in
+    true≢false (sym there ∙ ap is_some c.in-None.is)
+
+pub returns-clause-at : goal.returns-clause-at
+returns-clause-at c =
+    let inside = c.self.inside in
+    let P : Environment → Type 0 = λ E. name_at E c.args.i ≡ Some c.as_str.result.now in
+    subst P c.self.view_is
+    (name-there (names_of inside.names.entries) inside.names.entries inside.bodies.items c.args.i _ _ c.self.invariant.long c.in-Some.ensures.entry ∙ ap Some (sym c.as_str.ensures.value))
+
+pub returns-clause-spelled : goal.returns-clause-spelled
+returns-clause-spelled c =
+    let inside = c.self.inside in
+    let entries = inside.names.entries in
+    subst IsDefinitionName (sym c.as_str.ensures.value) (spelled-name entries c.args.i _ _ c.self.invariant.table.spelled c.in-Some.ensures.entry)

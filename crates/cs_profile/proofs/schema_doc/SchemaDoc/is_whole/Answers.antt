@@ -1,5 +1,0 @@
-use Rattle.cs_profile.proofs.Trimmed.{document_trimmed}
-use Rattle.cs_profile.proofs.schema_doc.SchemaDoc.is_whole.Goals as goal
-
-pub returns-clause-trimmed : goal.returns-clause-trimmed
-returns-clause-trimmed c = document_trimmed c.args.self.now

@@ -1,0 +1,478 @@
+-- What is spelled so is read.
+use Rattle.std.proofs.Common.{◌≡◌, ℕ, zero, suc, ◌<◌, ◌≤◌, ℤ, pos, Bool, true, false, List, [], ◌∷◌, length, Option, Some, None, Ok, refl, ap, arith}
+use Rattle.std.proofs.lemmas.Bool.Decides.{nat_tests}
+use Rattle.std.specs.Prelude.{FitsSigned, neg_ℤ, ◌||◌, max}
+use Rattle.std.specs.Int.{w64}
+use Rattle.std.specs.Option.{unwrap_or}
+use Rattle.cs_grammar.specs.declared.kind.Kind.TheVariants as kinds
+use Rattle.cs_grammar.specs.Atom as atoms
+use Rattle.cs_grammar.specs.Atom.{Relation, top, bottom, integer, text, not_integer, not_text, not_null}
+use Rattle.cs_grammar.specs.declared.ast.FieldMark.{FieldMark}
+use Rattle.cs_grammar.specs.Words.{Words, relation, comma, name, quoted, top_mark, bottom_mark, definition_name, unequal, close_struct, close_list, dots, finish}
+use Rattle.cs_grammar.specs.Tree.{Label, Tree, atom, reference, closed, named, Trees, none, more, Fields, no_field, field, End, DefinitionTree, body, FileTree}
+use Rattle.cs_grammar.specs.View.{trees_of, fields_of, Seen}
+use Rattle.cs_grammar.specs.Spells.{is_reserved, is_null, literal_of, Comma, explicit, inserted, ClosesParen, paren_here, paren_after, ClosesList, list_here, list_after, ClosesStruct, struct_here, struct_after, SpellsNumber, positive, negative, SpellsBound, limit_is, other_number, other_text, other_null, SpellsLabel, bare_label, quoted_label, SpellsMark, regular, optional, required, SpellsOpening, unopened, opened, SpellsValue, long, short, SpellsField, labelled, SpellsExpr, one_conj, disjunction_is, SpellsBars, no_bar, a_bar, SpellsConj, one_operand, conjunction_is, SpellsAmps, no_amp, an_amp, SpellsOperand, top_is, bottom_is, reference_is, name_is, number_is, text_is, bound_is, paren_is, struct_is, list_is, SpellsStruct, no_fields, dots_alone, fields, SpellsFields, no_more_fields, next_field, SpellsList, no_elements, rest_alone, elements, SpellsElements, no_more_elements, next_element, SpellsEnd, closed_is, rest_is, SpellsRest, any_is, each_is, SpellsDefinition, defined, SpellsDefinitions, no_definition, next_definition, SpellsPackage, no_clause, clause, SpellsFile, spelled}
+use Rattle.cs_grammar.proofs.Rests.{no_longer, of_field, of_expr, of_conj, of_operand, of_definition}
+use Rattle.cs_syntax.specs.Reading.{◌>>=◌, Read, after, begins_with, begins_comma, comma_at, close_at, paren_end, goes_on_label, begins_field, another_field, another_element, opening_at, may_end, many, signed, number_at, bound_at, unequal_at, integer_at, unbracketed_at, label_at, mark_at, expected, field_with, fields_with, struct_with, rest_with, end_with, elements_with, list_with, operand_with, amps_with, conj_with, bars_with, expr_with, inner, definition_at, line_at, before_end, definitions_at, clause_at, package_at, file_with, file_at}
+use Rattle.cs_syntax.specs.Nesting.{nesting}
+use Rattle.cs_syntax.proofs.NestingBounds.{inside, inside_all, inside_elements, inside_fields, inside_end, inside_definitions, inside_file, inside_low, max_left, max_right}
+
+-- a comma takes a word
+shorter_comma : {ts r : Words} → Comma ts r → length r < length ts
+shorter_comma explicit = omega arith
+shorter_comma inserted = omega arith
+
+-- ---- what follows an expression
+
+-- no operator goes on here, and no label
+record Quiet (ts : Words) : Type 0 where
+  no_amp_here : after kinds.Amp ts ≡ None
+  no_bar_here : after kinds.Bar ts ≡ None
+  no_label : goes_on_label ts ≡ false
+
+quiet_comma : {ts r : Words} → Comma ts r → Quiet ts
+quiet_comma explicit = record { no_amp_here = refl; no_bar_here = refl; no_label = refl }
+quiet_comma inserted = record { no_amp_here = refl; no_bar_here = refl; no_label = refl }
+
+quiet_closes_paren : {ts r : Words} → ClosesParen ts r → Quiet ts
+quiet_closes_paren paren_here = record { no_amp_here = refl; no_bar_here = refl; no_label = refl }
+quiet_closes_paren paren_after = record { no_amp_here = refl; no_bar_here = refl; no_label = refl }
+
+quiet_closes_list : {ts r : Words} → ClosesList ts r → Quiet ts
+quiet_closes_list list_here = record { no_amp_here = refl; no_bar_here = refl; no_label = refl }
+quiet_closes_list (list_after c) = quiet_comma c
+
+quiet_closes_struct : {ts r : Words} → ClosesStruct ts r → Quiet ts
+quiet_closes_struct struct_here = record { no_amp_here = refl; no_bar_here = refl; no_label = refl }
+quiet_closes_struct (struct_after c) = quiet_comma c
+
+quiet_opening : {b : Bool} {ts r : Words} → SpellsOpening b ts r → Quiet ts
+quiet_opening (unopened c) = quiet_closes_struct c
+quiet_opening (opened c d) = quiet_comma c
+
+quiet_fields : {fs : Fields} {ts r : Words} → SpellsFields fs ts r → Quiet r → Quiet ts
+quiet_fields no_more_fields q = q
+quiet_fields (next_field c f fs) q = quiet_comma c
+
+quiet_end : {end : End} {ts r : Words} → SpellsEnd end ts r → Quiet ts
+quiet_end (closed_is c) = quiet_closes_list c
+quiet_end (rest_is s) = record { no_amp_here = refl; no_bar_here = refl; no_label = refl }
+
+quiet_elements : {es : Trees} {ts r : Words} → SpellsElements es ts r → Quiet r → Quiet ts
+quiet_elements no_more_elements q = q
+quiet_elements (next_element e es) q = record { no_amp_here = refl; no_bar_here = refl; no_label = refl }
+
+-- an operator of the outer level ends the inner one
+no_amp-bars : {es : Trees} {ts r : Words} → SpellsBars es ts r → after kinds.Amp r ≡ None → after kinds.Amp ts ≡ None
+no_amp-bars no_bar h = h
+no_amp-bars (a_bar c b) h = refl
+
+no_label-bars : {es : Trees} {ts r : Words} → SpellsBars es ts r → goes_on_label r ≡ false → goes_on_label ts ≡ false
+no_label-bars no_bar h = h
+no_label-bars (a_bar c b) h = refl
+
+no_label-amps : {es : Trees} {ts r : Words} → SpellsAmps es ts r → goes_on_label r ≡ false → goes_on_label ts ≡ false
+no_label-amps no_amp h = h
+no_label-amps (an_amp o a) h = refl
+
+-- ---- what begins an expression
+
+record IsOpen (ts : Words) : Type 0 where
+  no_list_end : after kinds.CloseList ts ≡ None
+  no_dots : after kinds.Dots ts ≡ None
+  not_list_end : begins_with kinds.CloseList ts ≡ false
+  not_dots : begins_with kinds.Dots ts ≡ false
+  no_comma : begins_comma ts ≡ false
+
+relation_open : (b : Relation) (p : ℕ) (ts : Words) → IsOpen (relation b p ∷ ts)
+relation_open atoms.less p ts = record { no_list_end = refl; no_dots = refl; not_list_end = refl; not_dots = refl; no_comma = refl }
+relation_open atoms.at_most p ts = record { no_list_end = refl; no_dots = refl; not_list_end = refl; not_dots = refl; no_comma = refl }
+relation_open atoms.more p ts = record { no_list_end = refl; no_dots = refl; not_list_end = refl; not_dots = refl; no_comma = refl }
+relation_open atoms.at_least p ts = record { no_list_end = refl; no_dots = refl; not_list_end = refl; not_dots = refl; no_comma = refl }
+
+number_open : {z : ℤ} {ts r : Words} → SpellsNumber z ts r → IsOpen ts
+number_open (positive h) = record { no_list_end = refl; no_dots = refl; not_list_end = refl; not_dots = refl; no_comma = refl }
+number_open (negative e h) = record { no_list_end = refl; no_dots = refl; not_list_end = refl; not_dots = refl; no_comma = refl }
+
+bound_open : {e : Tree} {ts r : Words} → SpellsBound e ts r → IsOpen ts
+bound_open (limit_is {b} {z} {p} {ts} n) = relation_open b p ts
+bound_open (other_number n) = record { no_list_end = refl; no_dots = refl; not_list_end = refl; not_dots = refl; no_comma = refl }
+bound_open other_text = record { no_list_end = refl; no_dots = refl; not_list_end = refl; not_dots = refl; no_comma = refl }
+bound_open (other_null h) = record { no_list_end = refl; no_dots = refl; not_list_end = refl; not_dots = refl; no_comma = refl }
+
+operand_open : {e : Tree} {ts r : Words} → SpellsOperand e ts r → IsOpen ts
+operand_open top_is = record { no_list_end = refl; no_dots = refl; not_list_end = refl; not_dots = refl; no_comma = refl }
+operand_open bottom_is = record { no_list_end = refl; no_dots = refl; not_list_end = refl; not_dots = refl; no_comma = refl }
+operand_open reference_is = record { no_list_end = refl; no_dots = refl; not_list_end = refl; not_dots = refl; no_comma = refl }
+operand_open (name_is h e) = record { no_list_end = refl; no_dots = refl; not_list_end = refl; not_dots = refl; no_comma = refl }
+operand_open (number_is n) = number_open n
+operand_open text_is = record { no_list_end = refl; no_dots = refl; not_list_end = refl; not_dots = refl; no_comma = refl }
+operand_open (bound_is b) = bound_open b
+operand_open (paren_is e c) = record { no_list_end = refl; no_dots = refl; not_list_end = refl; not_dots = refl; no_comma = refl }
+operand_open (struct_is s) = record { no_list_end = refl; no_dots = refl; not_list_end = refl; not_dots = refl; no_comma = refl }
+operand_open (list_is s) = record { no_list_end = refl; no_dots = refl; not_list_end = refl; not_dots = refl; no_comma = refl }
+
+conj_open : {e : Tree} {ts r : Words} → SpellsConj e ts r → IsOpen ts
+conj_open (one_operand o) = operand_open o
+conj_open (conjunction_is o a) = operand_open o
+
+expr_open : {e : Tree} {ts r : Words} → SpellsExpr e ts r → IsOpen ts
+expr_open (one_conj c) = conj_open c
+expr_open (disjunction_is c b) = conj_open c
+
+-- no expression with nothing behind it that goes on a label is a field
+operand_no_field : {e : Tree} {ts r : Words} → SpellsOperand e ts r → goes_on_label r ≡ false → begins_field ts ≡ false
+operand_no_field top_is q = refl
+operand_no_field bottom_is q = refl
+operand_no_field reference_is q = refl
+operand_no_field (name_is h e) q = rw (h, q) refl
+operand_no_field (number_is (positive h)) q = refl
+operand_no_field (number_is (negative e h)) q = refl
+operand_no_field text_is q = rw q refl
+operand_no_field (bound_is (limit_is n)) q = refl
+operand_no_field (bound_is (other_number n)) q = refl
+operand_no_field (bound_is other_text) q = refl
+operand_no_field (bound_is (other_null h)) q = refl
+operand_no_field (paren_is e c) q = refl
+operand_no_field (struct_is s) q = refl
+operand_no_field (list_is s) q = refl
+
+conj_no_field : {e : Tree} {ts r : Words} → SpellsConj e ts r → goes_on_label r ≡ false → begins_field ts ≡ false
+conj_no_field (one_operand o) q = operand_no_field o q
+conj_no_field (conjunction_is o a) q = operand_no_field o (no_label-amps a q)
+
+expr_no_field : {e : Tree} {ts r : Words} → SpellsExpr e ts r → goes_on_label r ≡ false → begins_field ts ≡ false
+expr_no_field (one_conj c) q = conj_no_field c q
+expr_no_field (disjunction_is c b) q = conj_no_field c (no_label-bars b q)
+
+-- ---- marks
+
+comma_is : {ts r : Words} → Comma ts r → comma_at ts ≡ Ok r
+comma_is explicit = refl
+comma_is inserted = refl
+
+paren_end_is : {ts r : Words} → ClosesParen ts r → paren_end ts ≡ Ok r
+paren_end_is paren_here = refl
+paren_end_is paren_after = refl
+
+list_end_is : {ts r : Words} → ClosesList ts r → close_at kinds.CloseList ts ≡ Ok r
+list_end_is list_here = refl
+list_end_is (list_after explicit) = refl
+list_end_is (list_after inserted) = refl
+
+struct_end_is : {ts r : Words} → ClosesStruct ts r → close_at kinds.CloseStruct ts ≡ Ok r
+struct_end_is struct_here = refl
+struct_end_is (struct_after explicit) = refl
+struct_end_is (struct_after inserted) = refl
+
+may_end_is : {ts r : Words} → ClosesList ts r → may_end ts ≡ true
+may_end_is list_here = refl
+may_end_is (list_after explicit) = refl
+may_end_is (list_after inserted) = refl
+
+opening_is : {b : Bool} {ts r : Words} → SpellsOpening b ts r → opening_at ts ≡ Ok (b, r)
+opening_is (unopened struct_here) = refl
+opening_is (unopened (struct_after explicit)) = refl
+opening_is (unopened (struct_after inserted)) = refl
+opening_is (opened explicit d) = rw (struct_end_is d) refl
+opening_is (opened inserted d) = rw (struct_end_is d) refl
+
+-- ---- numbers and bounds
+
+pub positive_signed : (n : ℕ) → FitsSigned w64 (pos n) → signed false n ≡ Some (pos n)
+positive_signed n h = let lt = h.sfits in grind (arith, nat_tests)
+
+pub negative_signed : (z : ℤ) (n : ℕ) → z ≡ neg_ℤ (pos n) → FitsSigned w64 z → signed true n ≡ Some z
+negative_signed z zero e h = ap Some (sym_of e)
+  where
+    sym_of : z ≡ pos 0 → pos 0 ≡ z
+    sym_of k = cc
+negative_signed z (suc n) e h = let lt = (rw e at h).sfits in rw e (grind (arith, nat_tests))
+
+read_number : {z : ℤ} {ts r : Words} → SpellsNumber z ts r → number_at ts ≡ Ok (z, r)
+unfolding number_at
+read_number (positive {n} h) = rw (positive_signed n h) refl
+read_number (negative {z} {n} e h) = rw (negative_signed z n e h) refl
+
+read_unequal_number : {z : ℤ} {ts r : Words} → SpellsNumber z ts r → unequal_at ts ≡ (number_at ts >>= λ y. Ok (atom (not_integer y.0), y.1))
+unfolding unequal_at
+read_unequal_number (positive h) = refl
+read_unequal_number (negative e h) = refl
+
+read_other_text : (s : List ℕ) (p q : ℕ) (r : Words) → unbracketed_at (unequal p ∷ quoted s q ∷ r) ≡ Ok (atom (not_text s), r)
+unfolding unbracketed_at unequal_at
+read_other_text s p q r = refl
+
+read_other_null : (s : List ℕ) (p q : ℕ) (r : Words) → is_null s ≡ true → unbracketed_at (unequal p ∷ name s q ∷ r) ≡ Ok (atom not_null, r)
+unfolding unbracketed_at unequal_at
+read_other_null s p q r h = rw h refl
+
+read_bound : {e : Tree} {ts r : Words} → SpellsBound e ts r → unbracketed_at ts ≡ Ok (e, r)
+unfolding unbracketed_at bound_at
+read_bound (limit_is n) = rw (read_number n) refl
+read_bound (other_number n) = rw (read_unequal_number n, read_number n) refl
+read_bound (other_text {s} {p} {q} {r}) = read_other_text s p q r
+read_bound (other_null {s} {p} {q} {r} h) = read_other_null s p q r h
+
+read_top : (p : ℕ) (r : Words) → unbracketed_at (top_mark p ∷ r) ≡ Ok (atom top, r)
+unfolding unbracketed_at
+read_top p r = refl
+
+read_bottom : (p : ℕ) (r : Words) → unbracketed_at (bottom_mark p ∷ r) ≡ Ok (atom bottom, r)
+unfolding unbracketed_at
+read_bottom p r = refl
+
+read_reference : (s : List ℕ) (p : ℕ) (r : Words) → unbracketed_at (definition_name s p ∷ r) ≡ Ok (reference s p, r)
+unfolding unbracketed_at
+read_reference s p r = refl
+
+read_name : (s : List ℕ) (e : Tree) (p : ℕ) (r : Words) → is_reserved s ≡ false → e ≡ unwrap_or (literal_of s) (named s p) → unbracketed_at (name s p ∷ r) ≡ Ok (e, r)
+unfolding unbracketed_at
+read_name s e p r k is = rw (k, is) refl
+
+read_text : (s : List ℕ) (p : ℕ) (r : Words) → unbracketed_at (quoted s p ∷ r) ≡ Ok (atom (text s), r)
+unfolding unbracketed_at
+read_text s p r = refl
+
+plain_number : {z : ℤ} {ts r : Words} → SpellsNumber z ts r → (r' : Bool → Read Tree) → operand_with r' ts ≡ (number_at ts >>= λ y. Ok (atom (integer y.0), y.1))
+unfolding operand_with unbracketed_at integer_at
+plain_number (positive h) r' = refl
+plain_number (negative e h) r' = refl
+
+plain_bound : {e : Tree} {ts r : Words} → SpellsBound e ts r → (r' : Bool → Read Tree) → operand_with r' ts ≡ unbracketed_at ts
+unfolding operand_with
+plain_bound (limit_is n) r' = refl
+plain_bound (other_number n) r' = refl
+plain_bound other_text r' = refl
+plain_bound (other_null h) r' = refl
+
+-- ---- labels
+
+label_is : {l : Label} {ts us : Words} → SpellsLabel l ts us → label_at ts ≡ Ok (l, us)
+unfolding label_at
+label_is bare_label = refl
+label_is quoted_label = refl
+
+mark_is : {m : FieldMark} {ts us : Words} → SpellsMark m ts us → (mark_at ts).0 ≡ m
+mark_is regular = refl
+mark_is optional = refl
+mark_is required = refl
+
+colon_is : {m : FieldMark} {ts us : Words} → SpellsMark m ts us → expected kinds.Colon (mark_at ts).1 ≡ Ok us
+colon_is regular = refl
+colon_is optional = refl
+colon_is required = refl
+
+label_goes_on : {m : FieldMark} {ts us : Words} → SpellsMark m ts us → goes_on_label ts ≡ true
+label_goes_on regular = refl
+label_goes_on optional = refl
+label_goes_on required = refl
+
+or_true : (b : Bool) → b || true ≡ true
+or_true true = refl
+or_true false = refl
+
+begins_label : {l : Label} {m : FieldMark} {ts us vs : Words} → SpellsLabel l ts us → SpellsMark m us vs → begins_field ts ≡ true
+begins_label (bare_label {s}) m = rw (label_goes_on m) (or_true (is_reserved s))
+begins_label quoted_label m = label_goes_on m
+
+struct_first : (r : Bool → Read Tree) {l : Label} {ts us : Words} → SpellsLabel l ts us → struct_with r ts ≡ (field_with r ts >>= λ f. fields_with r (length f.1) f.1 >>= λ fs. opening_at fs.1 >>= λ b. Ok ((f.0 ∷ fs.0, b.0), b.1))
+unfolding struct_with
+struct_first r bare_label = refl
+struct_first r quoted_label = refl
+
+another_is : {l : Label} {ts us vs : Words} → Comma ts us → SpellsLabel l us vs → another_field ts ≡ Some us
+another_is explicit bare_label = refl
+another_is explicit quoted_label = refl
+another_is inserted bare_label = refl
+another_is inserted quoted_label = refl
+
+no_other_field : {b : Bool} {ts r : Words} → SpellsOpening b ts r → another_field ts ≡ None
+no_other_field (unopened struct_here) = refl
+no_other_field (unopened (struct_after explicit)) = refl
+no_other_field (unopened (struct_after inserted)) = refl
+no_other_field (opened explicit d) = refl
+no_other_field (opened inserted d) = refl
+
+no_other_element : {end : End} {ts r : Words} → SpellsEnd end ts r → another_element ts ≡ None
+no_other_element (closed_is list_here) = refl
+no_other_element (closed_is (list_after explicit)) = refl
+no_other_element (closed_is (list_after inserted)) = refl
+no_other_element (rest_is s) = refl
+
+another_element_is : (p : ℕ) (ts : Words) → IsOpen ts → another_element (comma p ∷ ts) ≡ Some ts
+another_element_is p ts o = rw (o.not_list_end, o.not_dots) refl
+
+list_first : (r : Bool → Read Tree) (ts : Words) → IsOpen ts → list_with r ts ≡ (r false ts >>= λ e. elements_with r (length e.1) e.1 >>= λ es. end_with r es.1 >>= λ x. Ok ((e.0 ∷ es.0, x.0), x.1))
+unfolding list_with
+list_first r ts o = rw (o.no_list_end, o.no_dots) refl
+
+closed_end : (r : Bool → Read Tree) {ts us : Words} → ClosesList ts us → end_with r ts ≡ Ok (closed, us)
+unfolding end_with
+closed_end r list_here = refl
+closed_end r (list_after explicit) = refl
+closed_end r (list_after inserted) = refl
+
+empty_struct : (r : Bool → Read Tree) (p : ℕ) (ts : Words) → struct_with r (close_struct p ∷ ts) ≡ Ok (([], false), ts)
+unfolding struct_with
+empty_struct r p ts = refl
+
+open_alone : (r : Bool → Read Tree) (p : ℕ) {ts us : Words} → ClosesStruct ts us → struct_with r (dots p ∷ ts) ≡ Ok (([], true), us)
+unfolding struct_with
+open_alone r p c = rw (struct_end_is c) refl
+
+empty_list : (r : Bool → Read Tree) (p : ℕ) (ts : Words) → list_with r (close_list p ∷ ts) ≡ Ok (([], closed), ts)
+unfolding list_with
+empty_list r p ts = refl
+
+list_rest_alone : (r : Bool → Read Tree) (ts : Words) (p : ℕ) (end : End) (us : Words) → rest_with r ts ≡ Ok (end, us) → list_with r (dots p ∷ ts) ≡ Ok (([], end), us)
+unfolding list_with
+list_rest_alone r ts p end us e = rw e refl
+
+end_rest : (r : Bool → Read Tree) (ts : Words) (p q : ℕ) (end : End) (us : Words) → rest_with r ts ≡ Ok (end, us) → end_with r (comma p ∷ dots q ∷ ts) ≡ Ok (end, us)
+unfolding end_with
+end_rest r ts p q end us e = e
+
+-- ---- the trees of a spelling, one after the other
+
+abbrev trees_in : Trees → List Tree
+trees_in none = []
+trees_in (more e es) = e ∷ trees_in es
+
+trees_back : (es : Trees) → trees_of (trees_in es) ≡ es
+trees_back none = refl
+trees_back (more e es) = ap (more e) (trees_back es)
+
+abbrev fields_in : Fields → List Seen
+fields_in no_field = []
+fields_in (field l m e fs) = record { label = l; mark = m; value = e } ∷ fields_in fs
+
+fields_back : (fs : Fields) → fields_of (fields_in fs) ≡ fs
+fields_back no_field = refl
+fields_back (field l m e fs) = ap (field l m e) (fields_back fs)
+
+many_end : {A : Type 0} (skip : Words → Option Words) (p : Read A) (n : ℕ) (ts : Words) → skip ts ≡ None → many skip p n ts ≡ Ok ([], ts)
+unfolding many
+many_end skip p zero ts h = refl
+many_end skip p (suc n) ts h = rw h refl
+
+many_next : {A : Type 0} (skip : Words → Option Words) (p : Read A) (n : ℕ) {x : A} {xs : List A} {ts us vs r : Words} → skip ts ≡ Some us → p us ≡ Ok (x, vs) → many skip p n vs ≡ Ok (xs, r) → many skip p (suc n) ts ≡ Ok (x ∷ xs, r)
+unfolding many
+many_next skip p n h k m = rw (h, k, m) refl
+
+-- ---- the whole grammar
+
+mutual
+  unfolding operand_with conj_with expr_with inner field_with rest_with
+
+  read_value : {e : Tree} {ts r : Words} → SpellsValue e ts r → (d : ℕ) → inside e ≤ d → Quiet r → inner (suc d) true ts ≡ Ok (e, r)
+  read_value (long s) d h q = rw (expr_no_field s q.no_label) (read_expr s d h q)
+  read_value (short {e = e} o (labelled l m v)) d h q = rw (begins_label l m, read_field (labelled l m v) d (max_left (suc (inside e)) 0 h) q, o) refl
+
+  read_field : {l : Label} {m : FieldMark} {e : Tree} {ts r : Words} → SpellsField l m e ts r → (d : ℕ) → suc (inside e) ≤ d → Quiet r → field_with (inner d) ts ≡ Ok (record { label = l; mark = m; value = e }, r)
+  read_field (labelled l m v) zero h q = let never : ⊥ = omega (arith, h) in absurd never
+  read_field (labelled l m v) (suc d) h q = rw (label_is l, colon_is m, mark_is m, read_value v d (omega (arith, h)) q) refl
+
+  read_expr : {e : Tree} {ts r : Words} → SpellsExpr e ts r → (d : ℕ) → inside e ≤ d → Quiet r → expr_with (inner d) ts ≡ Ok (e, r)
+  read_expr (one_conj {e} {ts} {r} c) d h q = rw (read_conj c d h q.no_amp_here, many_end (after kinds.Bar) (conj_with (inner d)) (length r) r q.no_bar_here) refl
+  read_expr (disjunction_is {fs = fs} {us = us} c b) d h q = rw (read_conj c d (max_left _ _ h) (no_amp-bars b q.no_amp_here), read_bars b d (length us) (max_right _ _ h) (omega arith) q, trees_back fs) refl
+
+  read_bars : {es : Trees} {ts r : Words} → SpellsBars es ts r → (d n : ℕ) → inside_all es ≤ d → length ts ≤ n → Quiet r → bars_with (inner d) n ts ≡ Ok (trees_in es, r)
+  read_bars (no_bar {r}) d n h k q = many_end (after kinds.Bar) (conj_with (inner d)) n r q.no_bar_here
+  read_bars (a_bar c b) d zero h k q = let never : ⊥ = omega arith in absurd never
+  read_bars (a_bar c b) d (suc n) h k q = many_next (after kinds.Bar) (conj_with (inner d)) n refl (read_conj c d (max_left _ _ h) (no_amp-bars b q.no_amp_here)) (read_bars b d n (max_right _ _ h) (omega (arith, no_longer (of_conj c))) q)
+
+  read_conj : {e : Tree} {ts r : Words} → SpellsConj e ts r → (d : ℕ) → inside e ≤ d → after kinds.Amp r ≡ None → conj_with (inner d) ts ≡ Ok (e, r)
+  read_conj (one_operand {e} {ts} {r} o) d h q = rw (read_operand o d h, many_end (after kinds.Amp) (operand_with (inner d)) (length r) r q) refl
+  read_conj (conjunction_is {fs = fs} {us = us} o a) d h q = rw (read_operand o d (max_left _ _ h), read_amps a d (length us) (max_right _ _ h) (omega arith) q, trees_back fs) refl
+
+  read_amps : {es : Trees} {ts r : Words} → SpellsAmps es ts r → (d n : ℕ) → inside_all es ≤ d → length ts ≤ n → after kinds.Amp r ≡ None → amps_with (inner d) n ts ≡ Ok (trees_in es, r)
+  read_amps (no_amp {r}) d n h k q = many_end (after kinds.Amp) (operand_with (inner d)) n r q
+  read_amps (an_amp o a) d zero h k q = let never : ⊥ = omega arith in absurd never
+  read_amps (an_amp o a) d (suc n) h k q = many_next (after kinds.Amp) (operand_with (inner d)) n refl (read_operand o d (max_left _ _ h)) (read_amps a d n (max_right _ _ h) (omega (arith, no_longer (of_operand o))) q)
+
+  read_operand : {e : Tree} {ts r : Words} → SpellsOperand e ts r → (d : ℕ) → inside e ≤ d → operand_with (inner d) ts ≡ Ok (e, r)
+  read_operand (top_is {p} {r}) d h = read_top p r
+  read_operand (bottom_is {p} {r}) d h = read_bottom p r
+  read_operand (reference_is {s} {p} {r}) d h = read_reference s p r
+  read_operand (name_is {s} {e} {p} {r} k is) d h = read_name s e p r k is
+  read_operand (number_is n) d h = rw (plain_number n (inner d), read_number n) refl
+  read_operand (text_is {s} {p} {r}) d h = read_text s p r
+  read_operand (bound_is b) d h = rw (plain_bound b (inner d)) (read_bound b)
+  read_operand (paren_is e c) zero h = let never : ⊥ = omega (arith, h) in absurd never
+  read_operand (paren_is e c) (suc d) h = rw (read_expr e d (omega (arith, h)) (quiet_closes_paren c), paren_end_is c) refl
+  read_operand (struct_is {fs = fs} s) d h = rw (read_struct s d h, fields_back fs) refl
+  read_operand (list_is {es = es} s) d h = rw (read_list s d h, trees_back es) refl
+
+  read_struct : {fs : Fields} {b : Bool} {ts r : Words} → SpellsStruct fs b ts r → (d : ℕ) → inside_fields fs ≤ d → struct_with (inner d) ts ≡ Ok ((fields_in fs, b), r)
+  read_struct (no_fields {p} {r}) d h = empty_struct (inner d) p r
+  read_struct (dots_alone {p} c) d h = open_alone (inner d) p c
+  read_struct (fields {us = us} (labelled l m v) fs o) d h = rw (struct_first (inner d) l, read_field (labelled l m v) d (max_left _ _ h) (quiet_fields fs (quiet_opening o)), read_fields fs d (length us) (max_right _ _ h) (omega arith) (quiet_opening o) (no_other_field o), opening_is o) refl
+
+  read_fields : {fs : Fields} {ts r : Words} → SpellsFields fs ts r → (d n : ℕ) → inside_fields fs ≤ d → length ts ≤ n → Quiet r → another_field r ≡ None → fields_with (inner d) n ts ≡ Ok (fields_in fs, r)
+  read_fields (no_more_fields {r}) d n h k q e = many_end another_field (field_with (inner d)) n r e
+  read_fields (next_field c f fs) d zero h k q e = let never : ⊥ = omega (arith, shorter_comma c) in absurd never
+  read_fields (next_field c (labelled l m v) fs) d (suc n) h k q e = many_next another_field (field_with (inner d)) n (another_is c l) (read_field (labelled l m v) d (max_left _ _ h) (quiet_fields fs q)) (read_fields fs d n (max_right _ _ h) (omega (arith, shorter_comma c, no_longer (of_field (labelled l m v)))) q e)
+
+  read_list : {es : Trees} {end : End} {ts r : Words} → SpellsList es end ts r → (d : ℕ) → max (inside_elements es) (inside_end end) ≤ d → list_with (inner d) ts ≡ Ok ((trees_in es, end), r)
+  read_list (no_elements {p} {r}) d h = empty_list (inner d) p r
+  read_list (rest_alone {ts = ts} s) d h = list_rest_alone (inner d) ts _ _ _ (read_rest s d (max_right 0 _ h))
+  read_list (elements e es s) zero h = let none_in = max_left _ _ (max_left _ _ h) in let never : ⊥ = omega (arith, none_in) in absurd never
+  read_list (elements {e = x} {ts = ts} {us = us} e es s) (suc d) h =
+      let front = max_left _ _ h in
+      let first : suc (inside x) ≤ suc d = max_left _ _ front in
+      rw (list_first (inner (suc d)) ts (expr_open e), read_expr e d (omega (arith, first)) (quiet_elements es (quiet_end s)), read_elements es (suc d) (length us) (max_right _ _ front) (omega arith) (quiet_end s) (no_other_element s), read_end s (suc d) (max_right _ _ h)) refl
+
+  read_elements : {es : Trees} {ts r : Words} → SpellsElements es ts r → (d n : ℕ) → inside_elements es ≤ d → length ts ≤ n → Quiet r → another_element r ≡ None → elements_with (inner d) n ts ≡ Ok (trees_in es, r)
+  read_elements (no_more_elements {r}) d n h k q e = many_end another_element (inner d false) n r e
+  read_elements (next_element s es) d zero h k q e = let never : ⊥ = omega arith in absurd never
+  read_elements (next_element s es) zero (suc n) h k q e = let none_in = max_left _ _ h in let never : ⊥ = omega (arith, none_in) in absurd never
+  read_elements (next_element {p = p} {e = x} {ts = ts} s es) (suc d) (suc n) h k q e =
+      let first : suc (inside x) ≤ suc d = max_left _ _ h in
+      many_next another_element (inner (suc d) false) n (another_element_is p ts (expr_open s)) (read_expr s d (omega (arith, first)) (quiet_elements es q)) (read_elements es (suc d) n (max_right _ _ h) (omega (arith, no_longer (of_expr s))) q e)
+
+  read_end : {end : End} {ts r : Words} → SpellsEnd end ts r → (d : ℕ) → inside_end end ≤ d → end_with (inner d) ts ≡ Ok (end, r)
+  read_end (closed_is c) d h = closed_end (inner d) c
+  read_end (rest_is {ts = ts} s) d h = end_rest (inner d) ts _ _ _ _ (read_rest s d h)
+
+  read_rest : {end : End} {ts r : Words} → SpellsRest end ts r → (d : ℕ) → inside_end end ≤ d → rest_with (inner d) ts ≡ Ok (end, r)
+  read_rest (any_is c) d h = rw (may_end_is c, list_end_is c) refl
+  read_rest (each_is e c) zero h = let never : ⊥ = omega (arith, h) in absurd never
+  read_rest (each_is {ts = ts} e c) (suc d) h = let o = expr_open e in rw (o.not_list_end, o.no_comma, read_expr e d (omega (arith, h)) (quiet_closes_list c), list_end_is c) refl
+
+-- ---- definitions and files
+
+read_definition : {d : DefinitionTree} {ts r : Words} → SpellsDefinition d ts r → (n : ℕ) → suc (inside (body d)) ≤ n → Quiet r → definition_at n ts ≡ Ok (d, r)
+unfolding definition_at
+read_definition (defined v) zero h q = let never : ⊥ = omega (arith, h) in absurd never
+read_definition (defined v) (suc n) h q = rw (read_value v n (omega (arith, h)) q) refl
+
+read_line : {d : DefinitionTree} {ts us r : Words} → SpellsDefinition d ts us → Comma us r → (n : ℕ) → suc (inside (body d)) ≤ n → line_at n ts ≡ Ok (d, r)
+unfolding line_at
+read_line d c n h = rw (read_definition d n h (quiet_comma c), comma_is c) refl
+
+definition_stands : {d : DefinitionTree} {ts r : Words} → SpellsDefinition d ts r → before_end ts ≡ Some ts
+definition_stands (defined v) = refl
+
+read_definitions : {ds : List DefinitionTree} {ts r : Words} → SpellsDefinitions ds ts r → (d n : ℕ) → inside_definitions ds ≤ d → length ts ≤ n → before_end r ≡ None → definitions_at d n ts ≡ Ok (ds, r)
+read_definitions (no_definition {r}) d n h k e = many_end before_end (line_at d) n r e
+read_definitions (next_definition s c ds) d zero h k e = let never : ⊥ = omega (arith, no_longer (of_definition s), shorter_comma c) in absurd never
+read_definitions (next_definition s c ds) d (suc n) h k e = many_next before_end (line_at d) n (definition_stands s) (read_line s c d (max_left _ _ h)) (read_definitions ds d n (max_right _ _ h) (omega (arith, no_longer (of_definition s), shorter_comma c)) e)
+
+no_package : {ds : List DefinitionTree} {ts : Words} {p : ℕ} → SpellsDefinitions ds ts (finish p ∷ []) → package_at ts ≡ Ok (None, ts)
+unfolding package_at
+no_package no_definition = refl
+no_package (next_definition (defined v) c ds) = refl
+
+read_package : {c : Option (List ℕ)} {ds : List DefinitionTree} {ts us : Words} {p : ℕ} → SpellsPackage c ts us → SpellsDefinitions ds us (finish p ∷ []) → package_at ts ≡ Ok (c, us)
+unfolding package_at clause_at
+read_package no_clause ds = no_package ds
+read_package (clause h c) ds = rw (h, comma_is c) refl
+
+-- with so many values inside one another at most
+pub read_within : {f : FileTree} {ts : Words} (d : ℕ) → SpellsFile f ts → inside_file f ≤ d → file_with d ts ≡ Ok f
+unfolding file_with
+read_within d (spelled {us = us} c ds) h = rw (read_package c ds, read_definitions ds d (length us) h (omega arith) refl) refl
+
+pub read_file : {f : FileTree} {ts : Words} → nesting ts ≤ 28 → SpellsFile f ts → file_at ts ≡ Ok f
+read_file n s = read_within 29 s (inside_low s n)

@@ -1,0 +1,268 @@
+-- How many values of a spelled tree stand inside one another is bounded by how deep its words nest.
+use Rattle.std.proofs.Common.{◌≡◌, ℕ, suc, ◌+◌, ◌≤◌, ℤ, List, [], ◌∷◌, Bool, true, false, Option, Some, None, cond, refl, subst, arith}
+use Rattle.std.proofs.lemmas.Bool.Decides.{nat_tests}
+use Rattle.std.specs.Prelude.{max, codes}
+use Rattle.std.specs.Option.{unwrap_or}
+use Rattle.std.specs.Str.{bytes_eq}
+use Rattle.cs_grammar.specs.declared.ast.FieldMark.{FieldMark}
+use Rattle.cs_grammar.specs.Words.{Word, Words, name, quoted, comma, nl, colon}
+use Rattle.cs_grammar.specs.Tree as T
+use Rattle.cs_grammar.specs.Tree.{Label, Tree, Trees, none, more, Fields, no_field, field, End, DefinitionTree, body, FileTree, definitions}
+use Rattle.cs_grammar.specs.Spells.{is_null, literal_of, Comma, explicit, inserted, ClosesParen, paren_here, paren_after, ClosesList, list_here, list_after, ClosesStruct, struct_here, struct_after, SpellsNumber, positive, negative, SpellsBound, limit_is, other_number, other_text, other_null, SpellsLabel, bare_label, quoted_label, SpellsMark, regular, optional, required, SpellsOpening, unopened, opened, SpellsValue, long, short, SpellsField, labelled, SpellsExpr, one_conj, disjunction_is, SpellsBars, no_bar, a_bar, SpellsConj, one_operand, conjunction_is, SpellsAmps, no_amp, an_amp, SpellsOperand, top_is, bottom_is, reference_is, name_is, number_is, text_is, bound_is, paren_is, struct_is, list_is, SpellsStruct, no_fields, dots_alone, fields, SpellsFields, no_more_fields, next_field, SpellsList, no_elements, rest_alone, elements, SpellsElements, no_more_elements, next_element, SpellsEnd, closed_is, rest_is, SpellsRest, any_is, each_is, defined, SpellsDefinitions, no_definition, next_definition, SpellsPackage, no_clause, clause, SpellsFile, spelled}
+use Rattle.cs_syntax.specs.Nesting.{OpenLevels, is_chained_label, counted_if, behind, nesting_at, nesting_from, nesting}
+use Rattle.cs_syntax.proofs.NestingCounts.{nesting-cons}
+
+-- ---- values inside one another
+
+-- the values that stand inside an expression, one inside the other: of a bracket's content, and of a field
+abbrev mutual
+  pub inside : Tree → ℕ
+  inside (T.conjunction es) = inside_all es
+  inside (T.disjunction es) = inside_all es
+  inside (T.paren e) = suc (inside e)
+  inside (T.struct o fs b) = inside_fields fs
+  inside (T.list es end) = max (inside_elements es) (inside_end end)
+  inside _ = 0
+
+  pub inside_all : Trees → ℕ
+  inside_all none = 0
+  inside_all (more e es) = max (inside e) (inside_all es)
+
+  pub inside_elements : Trees → ℕ
+  inside_elements none = 0
+  inside_elements (more e es) = max (suc (inside e)) (inside_elements es)
+
+  pub inside_fields : Fields → ℕ
+  inside_fields no_field = 0
+  inside_fields (field l m e fs) = max (suc (inside e)) (inside_fields fs)
+
+  pub inside_end : End → ℕ
+  inside_end T.closed = 0
+  inside_end T.any = 0
+  inside_end (T.each e) = suc (inside e)
+
+-- a body is a value itself
+abbrev pub inside_definitions : List DefinitionTree → ℕ
+inside_definitions [] = 0
+inside_definitions (d ∷ ds) = max (suc (inside (body d))) (inside_definitions ds)
+
+abbrev pub inside_file : FileTree → ℕ
+inside_file f = inside_definitions (definitions f)
+
+-- ---- numbers
+
+pub max_left : (m n : ℕ) {k : ℕ} → max m n ≤ k → m ≤ k
+max_left m n h = grind (arith, nat_tests)
+
+pub max_right : (m n : ℕ) {k : ℕ} → max m n ≤ k → n ≤ k
+max_right m n h = grind (arith, nat_tests)
+
+pub max_both : (m n : ℕ) {k : ℕ} → m ≤ k → n ≤ k → max m n ≤ k
+max_both m n h j = grind (arith, nat_tests)
+
+max_plus : (m n a : ℕ) {k : ℕ} → m + a ≤ k → n + a ≤ k → max m n + a ≤ k
+max_plus m n a h j = grind (arith, nat_tests)
+
+-- a level more
+deeper : (m n : ℕ) (ns : OpenLevels) → nesting_at (m ∷ n ∷ ns) ≡ m + nesting_at (n ∷ ns) + 1
+deeper m n ns = omega (arith, nesting-cons m (n ∷ ns), nesting-cons n ns)
+
+-- a short colon more
+longer : (n : ℕ) (ns : OpenLevels) → nesting_at (suc n ∷ ns) ≡ suc (nesting_at (n ∷ ns))
+longer n ns = omega (arith, nesting-cons (suc n) ns, nesting-cons n ns)
+
+-- ---- words that nest at most so deep
+
+record Runs (k : ℕ) (ws : Words) (ns : OpenLevels) (ts : Words) : Type 0 where
+  low : nesting_from ws ns ts ≤ k
+
+here : {k : ℕ} {ws : Words} {ns : OpenLevels} {ts : Words} → Runs k ws ns ts → nesting_at ns ≤ k
+here {ns = ns} {ts = []} h = h.low
+here {ns = ns} {ts = t ∷ ts} h = max_left (nesting_at ns) _ h.low
+
+pass : {k : ℕ} {ws : Words} {ns : OpenLevels} {w : Word} {ts : Words} → Runs k ws ns (w ∷ ts) → Runs k (w ∷ ws) (behind ws w ns) ts
+pass {ns = ns} h = record { low = max_right (nesting_at ns) _ h.low }
+
+-- what follows, behind some words; on that level with some short colons; behind a comma
+abbrev Goes : ℕ → OpenLevels → Words → Type 0
+Goes k ns r = (ws : Words) × Runs k ws ns r
+
+abbrev Leaves : ℕ → OpenLevels → Words → Type 0
+Leaves k ns r = (n : ℕ) × Goes k (n ∷ ns) r
+
+abbrev begins_colon : Words → Bool
+begins_colon (colon p ∷ ws) = true
+begins_colon ws = false
+
+abbrev Fresh : ℕ → OpenLevels → Words → Type 0
+Fresh k ns r = (ws : Words) × (begins_colon ws ≡ false) × Runs k ws (0 ∷ ns) r
+
+abbrev ToValue : ℕ → OpenLevels → Words → Type 0
+ToValue k ns r = (q : ℕ) × (ws : Words) × Runs k (colon q ∷ ws) ns r
+
+-- ---- marks
+
+comma_goes : {k n : ℕ} {ws ts r : Words} {ns : OpenLevels} → Comma ts r → Runs k ws (n ∷ ns) ts → Fresh k ns r
+comma_goes {ws = ws} (explicit {p}) h = (comma p ∷ ws, refl, pass h)
+comma_goes {ws = ws} (inserted {p}) h = (nl p ∷ ws, refl, pass h)
+
+paren_goes : {k m n : ℕ} {ws ts r : Words} {ns : OpenLevels} → ClosesParen ts r → Runs k ws (m ∷ n ∷ ns) ts → Goes k (n ∷ ns) r
+paren_goes paren_here h = (_, pass h)
+paren_goes paren_after h = (_, pass (pass h))
+
+list_goes : {k m n : ℕ} {ws ts r : Words} {ns : OpenLevels} → ClosesList ts r → Runs k ws (m ∷ n ∷ ns) ts → Goes k (n ∷ ns) r
+list_goes list_here h = (_, pass h)
+list_goes (list_after c) h = let f = comma_goes c h in (_, pass f.2)
+
+struct_goes : {k m n : ℕ} {ws ts r : Words} {ns : OpenLevels} → ClosesStruct ts r → Runs k ws (m ∷ n ∷ ns) ts → Goes k (n ∷ ns) r
+struct_goes struct_here h = (_, pass h)
+struct_goes (struct_after c) h = let f = comma_goes c h in (_, pass f.2)
+
+opening_goes : {k m n : ℕ} {b : Bool} {ws ts r : Words} {ns : OpenLevels} → SpellsOpening b ts r → Runs k ws (m ∷ n ∷ ns) ts → Goes k (n ∷ ns) r
+opening_goes (unopened c) h = struct_goes c h
+opening_goes (opened c d) h = let f = comma_goes c h in struct_goes d (pass f.2)
+
+number_goes : {k : ℕ} {z : ℤ} {ws ts r : Words} {ns : OpenLevels} → SpellsNumber z ts r → Runs k ws ns ts → Goes k ns r
+number_goes (positive e) h = (_, pass h)
+number_goes (negative d e) h = (_, pass (pass h))
+
+bound_goes : {k : ℕ} {e : Tree} {ws ts r : Words} {ns : OpenLevels} → SpellsBound e ts r → Runs k ws ns ts → Goes k ns r
+bound_goes (limit_is n) h = number_goes n (pass h)
+bound_goes (other_number n) h = number_goes n (pass h)
+bound_goes other_text h = (_, pass (pass h))
+bound_goes (other_null e) h = (_, pass (pass h))
+
+bound_flat : {e : Tree} {ts r : Words} → SpellsBound e ts r → inside e ≡ 0
+bound_flat (limit_is n) = refl
+bound_flat (other_number n) = refl
+bound_flat other_text = refl
+bound_flat (other_null e) = refl
+
+name_flat : (s : List ℕ) (p : ℕ) → inside (unwrap_or (literal_of s) (T.named s p)) ≡ 0
+name_flat s p = null_or (is_null s)
+  where
+    null_or : (b : Bool) → inside (unwrap_or (cond b (Some (T.atom T.null)) (cond (bytes_eq s (codes "true")) (Some (T.atom (T.boolean true))) (cond (bytes_eq s (codes "false")) (Some (T.atom (T.boolean false))) None))) (T.named s p)) ≡ 0
+    null_or true = refl
+    null_or false = true_or (bytes_eq s (codes "true"))
+      where
+        true_or : (b : Bool) → inside (unwrap_or (cond b (Some (T.atom (T.boolean true))) (cond (bytes_eq s (codes "false")) (Some (T.atom (T.boolean false))) None)) (T.named s p)) ≡ 0
+        true_or true = refl
+        true_or false = false_or (bytes_eq s (codes "false"))
+          where
+            false_or : (b : Bool) → inside (unwrap_or (cond b (Some (T.atom (T.boolean false))) None) (T.named s p)) ≡ 0
+            false_or true = refl
+            false_or false = refl
+
+-- ---- labels
+
+chained_name : (s : List ℕ) (p : ℕ) (ws : Words) → is_chained_label (name s p ∷ ws) ≡ begins_colon ws
+chained_name s p [] = refl
+chained_name s p (colon q ∷ ws) = refl
+chained_name s p (w ∷ ws) = refl
+
+chained_text : (s : List ℕ) (p : ℕ) (ws : Words) → is_chained_label (quoted s p ∷ ws) ≡ begins_colon ws
+chained_text s p [] = refl
+chained_text s p (colon q ∷ ws) = refl
+chained_text s p (w ∷ ws) = refl
+
+counted_runs : {k : ℕ} {ws ts : Words} {b c : Bool} (ns : OpenLevels) → b ≡ c → Runs k ws (counted_if b ns) ts → Runs k ws (counted_if c ns) ts
+counted_runs {k} {ws} {ts} ns e h = subst (λ b. Runs k ws (counted_if b ns) ts) e h
+
+value_begins : {k : ℕ} {l : Label} {m : FieldMark} {ws ts us vs : Words} {ns : OpenLevels} → SpellsLabel l ts us → SpellsMark m us vs → Runs k ws ns ts → ToValue k (counted_if (begins_colon ws) ns) vs
+value_begins {ws = ws} {ns = ns} (bare_label {s} {p}) regular h = (_, _, counted_runs ns (chained_name s p ws) (pass (pass h)))
+value_begins {ws = ws} {ns = ns} (bare_label {s} {p}) optional h = (_, _, counted_runs ns (chained_name s p ws) (pass (pass (pass h))))
+value_begins {ws = ws} {ns = ns} (bare_label {s} {p}) required h = (_, _, counted_runs ns (chained_name s p ws) (pass (pass (pass h))))
+value_begins {ws = ws} {ns = ns} (quoted_label {s} {p}) regular h = (_, _, counted_runs ns (chained_text s p ws) (pass (pass h)))
+value_begins {ws = ws} {ns = ns} (quoted_label {s} {p}) optional h = (_, _, counted_runs ns (chained_text s p ws) (pass (pass (pass h))))
+value_begins {ws = ws} {ns = ns} (quoted_label {s} {p}) required h = (_, _, counted_runs ns (chained_text s p ws) (pass (pass (pass h))))
+
+-- ---- the grammar
+
+abbrev Fits : ℕ → ℕ → OpenLevels → Type 0
+Fits k a ns = a + nesting_at ns ≤ k
+
+flat : {k : ℕ} {ws ts : Words} {ns : OpenLevels} → Runs k ws ns ts → Fits k 0 ns
+flat h = omega (arith, here h)
+
+-- on the level around the one that runs
+around : {k : ℕ} {ws ts : Words} (m n : ℕ) (ns : OpenLevels) → Runs k ws (m ∷ n ∷ ns) ts → Fits k 0 (n ∷ ns)
+around m n ns h = omega (arith, here h, deeper m n ns)
+
+one_in : {k : ℕ} (a n : ℕ) (ns : OpenLevels) → Fits k a (0 ∷ n ∷ ns) → Fits k (suc a) (n ∷ ns)
+one_in a n ns h = omega (arith, h, deeper 0 n ns)
+
+mutual
+  value_low : {k q n : ℕ} {e : Tree} {ws ts r : Words} {ns : OpenLevels} → SpellsValue e ts r → Runs k (colon q ∷ ws) (n ∷ ns) ts → Fits k (inside e) (n ∷ ns) × Leaves k ns r
+  value_low {n = n} (long s) h = let x = expr_low s h in (x.0, (n, x.1))
+  value_low {n = n} {ns = ns} (short o (labelled l m v)) h = let b = value_begins l m h in let x = value_low v b.2 in (max_plus _ 0 _ (omega (arith, x.0, longer n ns)) (flat h), x.1)
+
+  field_low : {k n : ℕ} {l : Label} {m : FieldMark} {e : Tree} {ws ts r : Words} {ns : OpenLevels} → SpellsField l m e ts r → begins_colon ws ≡ false → Runs k ws (n ∷ ns) ts → Fits k (inside e) (n ∷ ns) × Leaves k ns r
+  field_low {n = n} {ns = ns} (labelled l m v) f h = let b = value_begins l m h in value_low v (counted_runs (n ∷ ns) f b.2)
+
+  expr_low : {k n : ℕ} {e : Tree} {ws ts r : Words} {ns : OpenLevels} → SpellsExpr e ts r → Runs k ws (n ∷ ns) ts → Fits k (inside e) (n ∷ ns) × Goes k (n ∷ ns) r
+  expr_low (one_conj c) h = conj_low c h
+  expr_low (disjunction_is c b) h = let x = conj_low c h in let y = bars_low b x.1.1 in (max_plus _ _ _ x.0 y.0, y.1)
+
+  bars_low : {k n : ℕ} {es : Trees} {ws ts r : Words} {ns : OpenLevels} → SpellsBars es ts r → Runs k ws (n ∷ ns) ts → Fits k (inside_all es) (n ∷ ns) × Goes k (n ∷ ns) r
+  bars_low no_bar h = (flat h, (_, h))
+  bars_low (a_bar c b) h = let x = conj_low c (pass h) in let y = bars_low b x.1.1 in (max_plus _ _ _ x.0 y.0, y.1)
+
+  conj_low : {k n : ℕ} {e : Tree} {ws ts r : Words} {ns : OpenLevels} → SpellsConj e ts r → Runs k ws (n ∷ ns) ts → Fits k (inside e) (n ∷ ns) × Goes k (n ∷ ns) r
+  conj_low (one_operand o) h = operand_low o h
+  conj_low (conjunction_is o a) h = let x = operand_low o h in let y = amps_low a x.1.1 in (max_plus _ _ _ x.0 y.0, y.1)
+
+  amps_low : {k n : ℕ} {es : Trees} {ws ts r : Words} {ns : OpenLevels} → SpellsAmps es ts r → Runs k ws (n ∷ ns) ts → Fits k (inside_all es) (n ∷ ns) × Goes k (n ∷ ns) r
+  amps_low no_amp h = (flat h, (_, h))
+  amps_low (an_amp o a) h = let x = operand_low o (pass h) in let y = amps_low a x.1.1 in (max_plus _ _ _ x.0 y.0, y.1)
+
+  operand_low : {k n : ℕ} {e : Tree} {ws ts r : Words} {ns : OpenLevels} → SpellsOperand e ts r → Runs k ws (n ∷ ns) ts → Fits k (inside e) (n ∷ ns) × Goes k (n ∷ ns) r
+  operand_low top_is h = (flat h, (_, pass h))
+  operand_low bottom_is h = (flat h, (_, pass h))
+  operand_low reference_is h = (flat h, (_, pass h))
+  operand_low (name_is {s} {e} {p} j is) h = let none_in : inside e ≡ 0 = rw is (name_flat s p) in (omega (arith, none_in, here h), (_, pass h))
+  operand_low (number_is n) h = (flat h, number_goes n h)
+  operand_low text_is h = (flat h, (_, pass h))
+  operand_low (bound_is b) h = (omega (arith, bound_flat b, here h), bound_goes b h)
+  operand_low {n = n} {ns = ns} (paren_is e c) h = let x = expr_low e (pass h) in (one_in _ n ns x.0, paren_goes c x.1.1)
+  operand_low (struct_is s) h = struct_low s refl (pass h)
+  operand_low (list_is s) h = list_low s (pass h)
+
+  struct_low : {k n : ℕ} {fs : Fields} {b : Bool} {ws ts r : Words} {ns : OpenLevels} → SpellsStruct fs b ts r → begins_colon ws ≡ false → Runs k ws (0 ∷ n ∷ ns) ts → Fits k (inside_fields fs) (n ∷ ns) × Goes k (n ∷ ns) r
+  struct_low {n = n} {ns = ns} no_fields f h = (around 0 n ns h, (_, pass h))
+  struct_low {n = n} {ns = ns} (dots_alone c) f h = (around 0 n ns h, struct_goes c (pass h))
+  struct_low {n = n} {ns = ns} (fields v fs o) f h = let x = field_low v f h in let y = fields_low fs x.1.1.1 in (max_plus _ _ _ (one_in _ n ns x.0) y.0, opening_goes o y.1.1.1)
+
+  fields_low : {k m n : ℕ} {fs : Fields} {ws ts r : Words} {ns : OpenLevels} → SpellsFields fs ts r → Runs k ws (m ∷ n ∷ ns) ts → Fits k (inside_fields fs) (n ∷ ns) × Leaves k (n ∷ ns) r
+  fields_low {m = m} {n = n} {ns = ns} no_more_fields h = (around m n ns h, (m, (_, h)))
+  fields_low {n = n} {ns = ns} (next_field c v fs) h = let g = comma_goes c h in let x = field_low v g.1 g.2 in let y = fields_low fs x.1.1.1 in (max_plus _ _ _ (one_in _ n ns x.0) y.0, y.1)
+
+  list_low : {k n : ℕ} {es : Trees} {end : End} {ws ts r : Words} {ns : OpenLevels} → SpellsList es end ts r → Runs k ws (0 ∷ n ∷ ns) ts → Fits k (max (inside_elements es) (inside_end end)) (n ∷ ns) × Goes k (n ∷ ns) r
+  list_low {n = n} {ns = ns} no_elements h = (around 0 n ns h, (_, pass h))
+  list_low {n = n} {ns = ns} (rest_alone s) h = let x = rest_low s (pass h) in (max_plus 0 _ _ (around 0 n ns h) x.0, x.1)
+  list_low {n = n} {ns = ns} (elements e es s) h = let x = expr_low e h in let y = elements_low es x.1.1 in let z = end_low s y.1.1 in (max_plus _ _ _ (max_plus _ _ _ (one_in _ n ns x.0) y.0) z.0, z.1)
+
+  elements_low : {k n : ℕ} {es : Trees} {ws ts r : Words} {ns : OpenLevels} → SpellsElements es ts r → Runs k ws (0 ∷ n ∷ ns) ts → Fits k (inside_elements es) (n ∷ ns) × Goes k (0 ∷ n ∷ ns) r
+  elements_low {n = n} {ns = ns} no_more_elements h = (around 0 n ns h, (_, h))
+  elements_low {n = n} {ns = ns} (next_element e es) h = let x = expr_low e (pass h) in let y = elements_low es x.1.1 in (max_plus _ _ _ (one_in _ n ns x.0) y.0, y.1)
+
+  end_low : {k n : ℕ} {end : End} {ws ts r : Words} {ns : OpenLevels} → SpellsEnd end ts r → Runs k ws (0 ∷ n ∷ ns) ts → Fits k (inside_end end) (n ∷ ns) × Goes k (n ∷ ns) r
+  end_low {n = n} {ns = ns} (closed_is c) h = (around 0 n ns h, list_goes c h)
+  end_low (rest_is s) h = rest_low s (pass (pass h))
+
+  rest_low : {k n : ℕ} {end : End} {ws ts r : Words} {ns : OpenLevels} → SpellsRest end ts r → Runs k ws (0 ∷ n ∷ ns) ts → Fits k (inside_end end) (n ∷ ns) × Goes k (n ∷ ns) r
+  rest_low {n = n} {ns = ns} (any_is c) h = (around 0 n ns h, list_goes c h)
+  rest_low {n = n} {ns = ns} (each_is e c) h = let x = expr_low e h in (one_in _ n ns x.0, list_goes c x.1.1)
+
+-- ---- definitions and files
+
+definitions_low : {k : ℕ} {ds : List DefinitionTree} {ws ts r : Words} → SpellsDefinitions ds ts r → Runs k ws (0 ∷ []) ts → inside_definitions ds ≤ suc k
+definitions_low no_definition h = omega arith
+definitions_low (next_definition (defined v) c ds) h = let x = value_low v (pass (pass h)) in let g = comma_goes c x.1.1.1 in max_both _ _ (omega (arith, x.0)) (definitions_low ds g.2)
+
+package_goes : {k : ℕ} {c : Option (List ℕ)} {ws ts us : Words} → SpellsPackage c ts us → Runs k ws (0 ∷ []) ts → Goes k (0 ∷ []) us
+package_goes no_clause h = (_, h)
+package_goes (clause e c) h = let g = comma_goes c (pass (pass h)) in (g.0, g.2)
+
+-- words that nest so deep spell no file with more values inside one another: a body, and one for each bracket and each short colon
+pub inside_low : {k : ℕ} {f : FileTree} {ts : Words} → SpellsFile f ts → nesting ts ≤ k → inside_file f ≤ suc k
+inside_low (spelled c ds) h = let g = package_goes c (record { low = h }) in definitions_low ds g.1

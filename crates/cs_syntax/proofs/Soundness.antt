@@ -1,0 +1,432 @@
+-- What is read is spelled so.
+use Rattle.std.proofs.Common.{◌≡◌, ℕ, zero, suc, ◌≤◌, ◌^◌, ℤ, pos, Bool, true, false, cond, List, [], ◌∷◌, length, drop, Option, Some, None, Result, Ok, Err, refl, subst, arith}
+use Rattle.std.proofs.lemmas.Bool.Decides.{nat_tests}
+use Rattle.std.specs.Prelude.{FitsSigned, neg_ℤ, nat_lt, nat_le, ◌&&◌, ◌||◌, not}
+use Rattle.std.specs.Int.{w64}
+use Rattle.cs_grammar.specs.declared.fault.SyntaxFault.{SyntaxFault}
+use Rattle.cs_grammar.specs.declared.kind.Kind.TheVariants as kinds
+use Rattle.cs_grammar.specs.Atom as atoms
+use Rattle.cs_grammar.specs.Words.{Words, name, quoted, definition_name, top_mark, bottom_mark, numeral, open_paren, open_struct, open_list, close_paren, close_struct, close_list, comma, nl, colon, question, bang, amp, bar, dots, relation, unequal, minus, finish}
+use Rattle.cs_grammar.specs.Tree.{Tree, atom, not_integer, End, DefinitionTree, FileTree, file}
+use Rattle.cs_grammar.specs.View.{trees_of, fields_of, Seen}
+use Rattle.cs_grammar.specs.Spells.{is_reserved, is_null, is_package, literal_of, Comma, explicit, inserted, ClosesParen, paren_here, paren_after, ClosesList, list_here, list_after, ClosesStruct, struct_here, struct_after, SpellsNumber, positive, negative, SpellsBound, limit_is, other_number, other_text, other_null, SpellsLabel, bare_label, quoted_label, SpellsMark, regular, optional, required, SpellsOpening, unopened, opened, SpellsValue, long, short, SpellsField, labelled, SpellsExpr, one_conj, disjunction_is, SpellsBars, no_bar, a_bar, SpellsConj, one_operand, conjunction_is, SpellsAmps, no_amp, an_amp, SpellsOperand, top_is, bottom_is, reference_is, name_is, number_is, text_is, bound_is, paren_is, struct_is, list_is, SpellsStruct, no_fields, dots_alone, fields, SpellsFields, no_more_fields, next_field, SpellsList, no_elements, rest_alone, elements, SpellsElements, no_more_elements, next_element, SpellsEnd, closed_is, rest_is, SpellsRest, any_is, each_is, SpellsDefinition, defined, SpellsDefinitions, no_definition, next_definition, SpellsPackage, no_clause, clause, SpellsFile, spelled}
+use Rattle.cs_syntax.specs.Reading.{◌>>=◌, Read, expected, begins_with, behind_if, begins_comma, comma_at, close_at, paren_end, another_field, another_element, opening, opening_if, opening_at, rest_behind, may_end, signed, number_or, number_at, name_or, null_or, bound_at, unequal_at, integer_at, unbracketed_at, or_more, many, label_at, mark_at, field_with, fields_with, struct_with, rest_if, rest_with, end_if, end_with, elements_with, list_with, operand_with, amps_with, conjunction_of, conj_with, bars_with, disjunction_of, expr_with, value_if, begins_field, inner, definition_at, line_at, before_end, definitions_at, clause_at, package_if, package_at, whole, file_with, file_at}
+
+-- P of what was read and of what is left
+abbrev IfRead : {A : Type 0} → (A → Words → Type 0) → Result (A × Words) SyntaxFault → Type 0
+IfRead P (Ok x) = P x.0 x.1
+IfRead P (Err f) = Unit {0}
+
+abbrev IfLeft : (Words → Type 0) → Result Words SyntaxFault → Type 0
+IfLeft P (Ok us) = P us
+IfLeft P (Err f) = Unit {0}
+
+if_bind : {A B : Type 0} (P : A → Words → Type 0) (Q : B → Words → Type 0) (m : Result (A × Words) SyntaxFault) (f : A × Words → Result (B × Words) SyntaxFault)
+    → IfRead P m → ((x : A) (us : Words) → P x us → IfRead Q (f (x, us))) → IfRead Q (m >>= f)
+if_bind P Q (Ok x) f h k = k x.0 x.1 h
+if_bind P Q (Err e) f h k = tt
+
+if_left : {B : Type 0} (P : Words → Type 0) (Q : B → Words → Type 0) (m : Result Words SyntaxFault) (f : Words → Result (B × Words) SyntaxFault)
+    → IfLeft P m → ((us : Words) → P us → IfRead Q (f us)) → IfRead Q (m >>= f)
+if_left P Q (Ok us) f h k = k us h
+if_left P Q (Err e) f h k = tt
+
+-- P of what is passed over to
+abbrev IfBehind : (Words → Type 0) → Option Words → Type 0
+IfBehind P (Some us) = P us
+IfBehind P None = Unit {0}
+
+-- ---- numbers
+
+signed_positive : (n : ℕ) (z : ℤ) → signed false n ≡ Some z → (z ≡ pos n) × FitsSigned w64 (pos n)
+signed_positive n z h = by (nat_lt n (2 ^ 63)) refl h
+  where
+    by : (b : Bool) → nat_lt n (2 ^ 63) ≡ b → cond b (Some (pos n)) None ≡ Some z → (z ≡ pos n) × FitsSigned w64 (pos n)
+    by true e k = (cc, record { sfits = grind (arith, nat_tests) })
+    by false e k = absurd cc
+
+negated_fits : (n : ℕ) → n ≤ 2 ^ 63 → FitsSigned w64 (neg_ℤ (pos n))
+negated_fits zero h = record { sfits = omega arith }
+negated_fits (suc n) h = record { sfits = omega arith }
+
+signed_negative : (n : ℕ) (z : ℤ) → signed true n ≡ Some z → (z ≡ neg_ℤ (pos n)) × FitsSigned w64 z
+signed_negative n z h = by (nat_le n (2 ^ 63)) refl h
+  where
+    by : (b : Bool) → nat_le n (2 ^ 63) ≡ b → cond b (Some (neg_ℤ (pos n))) None ≡ Some z → (z ≡ neg_ℤ (pos n)) × FitsSigned w64 z
+    by true e k = let is : z ≡ neg_ℤ (pos n) = cc in (is, rw is (negated_fits n (grind (arith, nat_tests))))
+    by false e k = absurd cc
+
+positive_of : (n p : ℕ) (ts : Words) (o : Option ℤ) → signed false n ≡ o → IfRead (λ z r. SpellsNumber z (numeral n p ∷ ts) r) (number_or o p ts)
+positive_of n p ts None e = tt
+positive_of n p ts (Some z) e = let h = signed_positive n z e in rw h.0 (positive h.1)
+
+negative_of : (q n p : ℕ) (ts : Words) (o : Option ℤ) → signed true n ≡ o → IfRead (λ z r. SpellsNumber z (minus q ∷ numeral n p ∷ ts) r) (number_or o p ts)
+negative_of q n p ts None e = tt
+negative_of q n p ts (Some z) e = let h = signed_negative n z e in negative h.0 h.1
+
+number_of : (ts : Words) → IfRead (λ z r. SpellsNumber z ts r) (number_at ts)
+unfolding number_at
+number_of (numeral n p ∷ ts) = positive_of n p ts (signed false n) refl
+number_of (minus q ∷ numeral n p ∷ ts) = negative_of q n p ts (signed true n) refl
+number_of (minus q ∷ ts) = tt
+number_of (relation atoms.less p ∷ ts) = tt
+number_of ts = tt
+
+-- ---- marks
+
+comma_if : (b : Bool) (ts : Words) → IfBehind (Comma ts) (behind_if (begins_comma ts && b) ts)
+comma_if true (comma p ∷ ts) = explicit
+comma_if false (comma p ∷ ts) = tt
+comma_if true (nl p ∷ ts) = inserted
+comma_if false (nl p ∷ ts) = tt
+comma_if b (relation atoms.less p ∷ ts) = tt
+comma_if b ts = tt
+
+comma_of : (ts : Words) → IfLeft (Comma ts) (comma_at ts)
+comma_of (comma p ∷ ts) = explicit
+comma_of (nl p ∷ ts) = inserted
+comma_of (relation atoms.less p ∷ ts) = tt
+comma_of ts = tt
+
+-- an explicit comma, or `...`, before the rest
+data Explicit : Words → Words → Type 0 where
+  is_comma : {p : ℕ} {r : Words} → Explicit (comma p ∷ r) r
+
+data Dots : Words → Words → Type 0 where
+  is_dots : {p : ℕ} {r : Words} → Dots (dots p ∷ r) r
+
+explicit_if : (b : Bool) (ts : Words) → IfBehind (Explicit ts) (behind_if (begins_with kinds.Comma ts && b) ts)
+explicit_if true (comma p ∷ ts) = is_comma
+explicit_if false (comma p ∷ ts) = tt
+explicit_if b (relation atoms.less p ∷ ts) = tt
+explicit_if b ts = tt
+
+dots_of : (ts : Words) → IfLeft (Dots ts) (expected kinds.Dots ts)
+dots_of (dots p ∷ ts) = is_dots
+dots_of (relation atoms.less p ∷ ts) = tt
+dots_of ts = tt
+
+closes_paren_of : (ts : Words) → IfLeft (ClosesParen ts) (paren_end ts)
+closes_paren_of (close_paren p ∷ ts) = paren_here
+closes_paren_of (nl p ∷ close_paren q ∷ ts) = paren_after
+closes_paren_of (nl p ∷ relation atoms.less q ∷ ts) = tt
+closes_paren_of (nl p ∷ ts) = tt
+closes_paren_of (relation atoms.less p ∷ ts) = tt
+closes_paren_of ts = tt
+
+closes_list_of : (ts : Words) → IfLeft (ClosesList ts) (close_at kinds.CloseList ts)
+closes_list_of (close_list p ∷ ts) = list_here
+closes_list_of (comma p ∷ close_list q ∷ ts) = list_after explicit
+closes_list_of (comma p ∷ relation atoms.less q ∷ ts) = tt
+closes_list_of (comma p ∷ ts) = tt
+closes_list_of (nl p ∷ close_list q ∷ ts) = list_after inserted
+closes_list_of (nl p ∷ relation atoms.less q ∷ ts) = tt
+closes_list_of (nl p ∷ ts) = tt
+closes_list_of (relation atoms.less p ∷ ts) = tt
+closes_list_of ts = tt
+
+closes_struct_of : (ts : Words) → IfLeft (ClosesStruct ts) (close_at kinds.CloseStruct ts)
+closes_struct_of (close_struct p ∷ ts) = struct_here
+closes_struct_of (comma p ∷ close_struct q ∷ ts) = struct_after explicit
+closes_struct_of (comma p ∷ relation atoms.less q ∷ ts) = tt
+closes_struct_of (comma p ∷ ts) = tt
+closes_struct_of (nl p ∷ close_struct q ∷ ts) = struct_after inserted
+closes_struct_of (nl p ∷ relation atoms.less q ∷ ts) = tt
+closes_struct_of (nl p ∷ ts) = tt
+closes_struct_of (relation atoms.less p ∷ ts) = tt
+closes_struct_of ts = tt
+
+mark_of : (ts : Words) → IfLeft (SpellsMark (mark_at ts).0 ts) (expected kinds.Colon (mark_at ts).1)
+mark_of (colon p ∷ ts) = regular
+mark_of (question p ∷ colon q ∷ ts) = optional
+mark_of (question p ∷ relation atoms.less q ∷ ts) = tt
+mark_of (question p ∷ ts) = tt
+mark_of (bang p ∷ colon q ∷ ts) = required
+mark_of (bang p ∷ relation atoms.less q ∷ ts) = tt
+mark_of (bang p ∷ ts) = tt
+mark_of (relation atoms.less p ∷ ts) = tt
+mark_of ts = tt
+
+label_of : (ts : Words) → IfRead (λ l r. SpellsLabel l ts r) (label_at ts)
+unfolding label_at
+label_of (name s p ∷ ts) = bare_label
+label_of (quoted s p ∷ ts) = quoted_label
+label_of ts = tt
+
+opening_none : (ts : Words) → IfRead (λ b r. SpellsOpening b ts r) (opening_if ts None)
+opening_none ts = if_left (ClosesStruct ts) (λ b r. SpellsOpening b ts r) (close_at kinds.CloseStruct ts) _ (closes_struct_of ts) (λ us c. unopened c)
+
+opened_by : {ts us vs r : Words} → Comma ts us → Dots us vs → ClosesStruct vs r → SpellsOpening true ts r
+opened_by c is_dots d = opened c d
+
+opening_of : (ts : Words) → IfRead (λ b r. SpellsOpening b ts r) (opening_at ts)
+opening_of ts = by (opening ts) (comma_if (begins_with kinds.Dots (drop 1 ts)) ts)
+  where
+    by : (o : Option Words) → IfBehind (Comma ts) o → IfRead (λ b r. SpellsOpening b ts r) (opening_if ts o)
+    by None h = opening_none ts
+    by (Some us) c = if_left (Dots us) (λ b r. SpellsOpening b ts r) (expected kinds.Dots us) _ (dots_of us) (λ vs d. if_left (ClosesStruct vs) (λ b r. SpellsOpening b ts r) (close_at kinds.CloseStruct vs) _ (closes_struct_of vs) (λ ws e. opened_by c d e))
+
+-- ---- operands without brackets
+
+name_of : (s : List ℕ) (p : ℕ) (ts : Words) (b : Bool) → is_reserved s ≡ b → IfRead (λ e r. SpellsOperand e (name s p ∷ ts) r) (name_or b (literal_of s) s p ts)
+name_of s p ts true e = tt
+name_of s p ts false e = name_is e refl
+
+null_of : (q : ℕ) (s : List ℕ) (p : ℕ) (ts : Words) (b : Bool) → is_null s ≡ b → IfRead (λ e r. SpellsBound e (unequal q ∷ name s p ∷ ts) r) (null_or b s p ts)
+null_of q s p ts true e = other_null e
+null_of q s p ts false e = tt
+
+unequal_number : (q : ℕ) (ts : Words) → IfRead (λ e r. SpellsBound e (unequal q ∷ ts) r) (number_at ts >>= λ z. Ok (atom (not_integer z.0), z.1))
+unequal_number q ts = if_bind (λ z r. SpellsNumber z ts r) (λ e r. SpellsBound e (unequal q ∷ ts) r) (number_at ts) _ (number_of ts) (λ z us n. other_number n)
+
+unequal_of : (q : ℕ) (ts : Words) → IfRead (λ e r. SpellsBound e (unequal q ∷ ts) r) (unequal_at ts)
+unfolding unequal_at
+unequal_of q (quoted s p ∷ ts) = other_text
+unequal_of q (name s p ∷ ts) = null_of q s p ts (is_null s) refl
+unequal_of q ts = unequal_number q ts
+
+integer_of : (ts : Words) → IfRead (λ e r. SpellsOperand e ts r) (integer_at ts)
+unfolding integer_at
+integer_of ts = if_bind (λ z r. SpellsNumber z ts r) (λ e r. SpellsOperand e ts r) (number_at ts) _ (number_of ts) (λ z us n. number_is n)
+
+bounded : (ts : Words) (m : Result (Tree × Words) SyntaxFault) → IfRead (λ e r. SpellsBound e ts r) m → IfRead (λ e r. SpellsOperand e ts r) m
+bounded ts (Ok x) h = bound_is h
+bounded ts (Err f) h = tt
+
+plain_of : (ts : Words) → IfRead (λ e r. SpellsOperand e ts r) (unbracketed_at ts)
+unfolding unbracketed_at bound_at
+plain_of (top_mark p ∷ ts) = top_is
+plain_of (bottom_mark p ∷ ts) = bottom_is
+plain_of (definition_name s p ∷ ts) = reference_is
+plain_of (name s p ∷ ts) = name_of s p ts (is_reserved s) refl
+plain_of (quoted s p ∷ ts) = text_is
+plain_of (relation b p ∷ ts) = if_bind (λ z r. SpellsNumber z ts r) (λ e r. SpellsOperand e (relation b p ∷ ts) r) (number_at ts) _ (number_of ts) (λ z us n. bound_is (limit_is n))
+plain_of (unequal p ∷ ts) = bounded (unequal p ∷ ts) (unequal_at ts) (unequal_of p ts)
+plain_of (numeral n p ∷ ts) = integer_of (numeral n p ∷ ts)
+plain_of (minus p ∷ ts) = integer_of (minus p ∷ ts)
+plain_of ts = tt
+
+-- ---- what reads inside, and what is read by it
+
+-- what is read inside is a value or, where no short form may stand, an expression
+record IsSound (r : Bool → Read Tree) : Type 0 where
+  values : (ts : Words) → IfRead (λ e us. SpellsValue e ts us) (r true ts)
+  exprs : (ts : Words) → IfRead (λ e us. SpellsExpr e ts us) (r false ts)
+
+abbrev FieldOf : Words → Seen → Words → Type 0
+FieldOf ts f us = SpellsField f.label f.mark f.value ts us
+
+module _ (r : Bool → Read Tree) (h : IsSound r) where
+  field_of : (ts : Words) → IfRead (FieldOf ts) (field_with r ts)
+  unfolding field_with
+  field_of ts = if_bind (λ l us. SpellsLabel l ts us) (FieldOf ts) (label_at ts) _ (label_of ts) (λ l us s. if_left (SpellsMark (mark_at us).0 us) (FieldOf ts) (expected kinds.Colon (mark_at us).1) _ (mark_of us) (λ vs m. if_bind (λ e ws. SpellsValue e vs ws) (FieldOf ts) (r true vs) _ (h.values vs) (λ e ws v. labelled s m v)))
+
+  abbrev FieldsOf : Words → List Seen → Words → Type 0
+  FieldsOf ts fs us = SpellsFields (fields_of fs) ts us
+
+  many_fields_of : (n : ℕ) (ts : Words) → IfRead (FieldsOf ts) (fields_with r n ts)
+  unfolding many
+  many_fields_of zero ts = no_more_fields
+  many_fields_of (suc n) ts = by (many_fields_of n) (another_field ts) (comma_if (not (begins_with kinds.CloseStruct (drop 1 ts) || begins_with kinds.Dots (drop 1 ts))) ts)
+    where
+      by : ((us : Words) → IfRead (FieldsOf us) (fields_with r n us)) → (o : Option Words) → IfBehind (Comma ts) o → IfRead (FieldsOf ts) (or_more (field_with r) (fields_with r n) ts o)
+      by again None k = no_more_fields
+      by again (Some us) c = if_bind (FieldOf us) (FieldsOf ts) (field_with r us) _ (field_of us) (λ f vs s. if_bind (FieldsOf vs) (FieldsOf ts) (fields_with r n vs) _ (again vs) (λ fs ws t. next_field c s t))
+
+  abbrev StructOf : Words → List Seen × Bool → Words → Type 0
+  StructOf ts x us = SpellsStruct (fields_of x.0) x.1 ts us
+
+  first_field_of : (ts : Words) → IfRead (StructOf ts) (field_with r ts >>= λ f. fields_with r (length f.1) f.1 >>= λ fs. opening_at fs.1 >>= λ b. Ok ((f.0 ∷ fs.0, b.0), b.1))
+  first_field_of ts = if_bind (FieldOf ts) (StructOf ts) (field_with r ts) _ (field_of ts) (λ f us s. if_bind (FieldsOf us) (StructOf ts) (fields_with r (length us) us) _ (many_fields_of (length us) us) (λ fs vs t. if_bind (λ b ws. SpellsOpening b vs ws) (StructOf ts) (opening_at vs) _ (opening_of vs) (λ b ws o. fields s t o)))
+
+  struct_of : (ts : Words) → IfRead (StructOf ts) (struct_with r ts)
+  unfolding struct_with
+  struct_of (close_struct p ∷ ts) = no_fields
+  struct_of (dots p ∷ ts) = if_left (ClosesStruct ts) (StructOf (dots p ∷ ts)) (close_at kinds.CloseStruct ts) _ (closes_struct_of ts) (λ us c. dots_alone c)
+  struct_of (relation atoms.less p ∷ ts) = first_field_of (relation atoms.less p ∷ ts)
+  struct_of ts = first_field_of ts
+
+  rest_of : (ts : Words) → IfRead (λ e us. SpellsRest e ts us) (rest_with r ts)
+  unfolding rest_with
+  rest_of ts = by (may_end ts)
+    where
+      by : (b : Bool) → IfRead (λ e us. SpellsRest e ts us) (rest_if r b ts)
+      by true = if_left (ClosesList ts) (λ e us. SpellsRest e ts us) (close_at kinds.CloseList ts) _ (closes_list_of ts) (λ us c. any_is c)
+      by false = if_bind (λ e us. SpellsExpr e ts us) (λ e us. SpellsRest e ts us) (r false ts) _ (h.exprs ts) (λ e us s. if_left (ClosesList us) (λ e us. SpellsRest e ts us) (close_at kinds.CloseList us) _ (closes_list_of us) (λ vs c. each_is s c))
+
+  rest_by : {ts us vs ws : Words} {e : End} → Explicit ts us → Dots us vs → SpellsRest e vs ws → SpellsEnd e ts ws
+  rest_by is_comma is_dots s = rest_is s
+
+  ended : {ts us vs : Words} → Explicit ts us → Dots us vs → (m : Result (End × Words) SyntaxFault) → IfRead (λ e ws. SpellsRest e vs ws) m → IfRead (λ e ws. SpellsEnd e ts ws) m
+  ended c d (Ok x) s = rest_by c d s
+  ended c d (Err f) s = tt
+
+  end_of : (ts : Words) → IfRead (λ e us. SpellsEnd e ts us) (end_with r ts)
+  unfolding end_with
+  end_of ts = by (rest_behind ts) (explicit_if (begins_with kinds.Dots (drop 1 ts)) ts)
+    where
+      by : (o : Option Words) → IfBehind (Explicit ts) o → IfRead (λ e us. SpellsEnd e ts us) (end_if r ts o)
+      by None k = if_left (ClosesList ts) (λ e us. SpellsEnd e ts us) (close_at kinds.CloseList ts) _ (closes_list_of ts) (λ us c. closed_is c)
+      by (Some us) c = if_left (Dots us) (λ e ws. SpellsEnd e ts ws) (expected kinds.Dots us) _ (dots_of us) (λ vs d. ended c d (rest_with r vs) (rest_of vs))
+
+  abbrev ElementsOf : Words → List Tree → Words → Type 0
+  ElementsOf ts es us = SpellsElements (trees_of es) ts us
+
+  next_by : {ts us vs ws : Words} {e : Tree} (es : List Tree) → Explicit ts us → SpellsExpr e us vs → ElementsOf vs es ws → ElementsOf ts (e ∷ es) ws
+  next_by es is_comma s t = next_element s t
+
+  many_elements_of : (n : ℕ) (ts : Words) → IfRead (ElementsOf ts) (elements_with r n ts)
+  unfolding many
+  many_elements_of zero ts = no_more_elements
+  many_elements_of (suc n) ts = by (many_elements_of n) (another_element ts) (explicit_if (not (begins_with kinds.CloseList (drop 1 ts) || begins_with kinds.Dots (drop 1 ts))) ts)
+    where
+      by : ((us : Words) → IfRead (ElementsOf us) (elements_with r n us)) → (o : Option Words) → IfBehind (Explicit ts) o → IfRead (ElementsOf ts) (or_more (r false) (elements_with r n) ts o)
+      by again None k = no_more_elements
+      by again (Some us) c = if_bind (λ e vs. SpellsExpr e us vs) (ElementsOf ts) (r false us) _ (h.exprs us) (λ e vs s. if_bind (ElementsOf vs) (ElementsOf ts) (elements_with r n vs) _ (again vs) (λ es ws t. next_by es c s t))
+
+  abbrev ListOf : Words → List Tree × End → Words → Type 0
+  ListOf ts x us = SpellsList (trees_of x.0) x.1 ts us
+
+  first_element_of : (ts : Words) → IfRead (ListOf ts) (r false ts >>= λ e. elements_with r (length e.1) e.1 >>= λ es. end_with r es.1 >>= λ x. Ok ((e.0 ∷ es.0, x.0), x.1))
+  first_element_of ts = if_bind (λ e us. SpellsExpr e ts us) (ListOf ts) (r false ts) _ (h.exprs ts) (λ e us s. if_bind (ElementsOf us) (ListOf ts) (elements_with r (length us) us) _ (many_elements_of (length us) us) (λ es vs t. if_bind (λ x ws. SpellsEnd x vs ws) (ListOf ts) (end_with r vs) _ (end_of vs) (λ x ws n. elements s t n)))
+
+  list_of : (ts : Words) → IfRead (ListOf ts) (list_with r ts)
+  unfolding list_with
+  list_of (close_list p ∷ ts) = no_elements
+  list_of (dots p ∷ ts) = if_bind (λ x us. SpellsRest x ts us) (ListOf (dots p ∷ ts)) (rest_with r ts) _ (rest_of ts) (λ x us s. rest_alone s)
+  list_of (relation atoms.less p ∷ ts) = first_element_of (relation atoms.less p ∷ ts)
+  list_of ts = first_element_of ts
+
+  operand_of : (ts : Words) → IfRead (λ e us. SpellsOperand e ts us) (operand_with r ts)
+  unfolding operand_with
+  operand_of (open_paren p ∷ ts) = if_bind (λ e us. SpellsExpr e ts us) (λ e us. SpellsOperand e (open_paren p ∷ ts) us) (r false ts) _ (h.exprs ts) (λ e us s. if_left (ClosesParen us) (λ e us. SpellsOperand e (open_paren p ∷ ts) us) (paren_end us) _ (closes_paren_of us) (λ vs c. paren_is s c))
+  operand_of (open_struct p ∷ ts) = if_bind (StructOf ts) (λ e us. SpellsOperand e (open_struct p ∷ ts) us) (struct_with r ts) _ (struct_of ts) (λ x us s. struct_is s)
+  operand_of (open_list p ∷ ts) = if_bind (ListOf ts) (λ e us. SpellsOperand e (open_list p ∷ ts) us) (list_with r ts) _ (list_of ts) (λ x us s. list_is s)
+  operand_of ts = plain_of ts
+
+  abbrev AmpsOf : Words → List Tree → Words → Type 0
+  AmpsOf ts es us = SpellsAmps (trees_of es) ts us
+
+  amps_of : (n : ℕ) (ts : Words) → IfRead (AmpsOf ts) (amps_with r n ts)
+  unfolding many
+  amps_of zero ts = no_amp
+  amps_of (suc n) (amp o ∷ ts) = if_bind (λ e us. SpellsOperand e ts us) (AmpsOf (amp o ∷ ts)) (operand_with r ts) _ (operand_of ts) (λ e us s. if_bind (AmpsOf us) (AmpsOf (amp o ∷ ts)) (amps_with r n us) _ (amps_of n us) (λ es vs t. an_amp s t))
+  amps_of (suc n) (relation atoms.less p ∷ ts) = no_amp
+  amps_of (suc n) ts = no_amp
+
+  conj_made : {e : Tree} {ts us : Words} (es : List Tree) (ws : Words) → SpellsOperand e ts us → AmpsOf us es ws → SpellsConj (conjunction_of e es) ts ws
+  conj_made [] ws o no_amp = one_operand o
+  conj_made (f ∷ fs) ws o a = conjunction_is o a
+
+  conj_of : (ts : Words) → IfRead (λ e us. SpellsConj e ts us) (conj_with r ts)
+  unfolding conj_with
+  conj_of ts = if_bind (λ e us. SpellsOperand e ts us) (λ e us. SpellsConj e ts us) (operand_with r ts) _ (operand_of ts) (λ e us s. if_bind (AmpsOf us) (λ e us. SpellsConj e ts us) (amps_with r (length us) us) _ (amps_of (length us) us) (λ es vs t. conj_made es vs s t))
+
+  abbrev BarsOf : Words → List Tree → Words → Type 0
+  BarsOf ts es us = SpellsBars (trees_of es) ts us
+
+  bars_of : (n : ℕ) (ts : Words) → IfRead (BarsOf ts) (bars_with r n ts)
+  unfolding many
+  bars_of zero ts = no_bar
+  bars_of (suc n) (bar o ∷ ts) = if_bind (λ e us. SpellsConj e ts us) (BarsOf (bar o ∷ ts)) (conj_with r ts) _ (conj_of ts) (λ e us s. if_bind (BarsOf us) (BarsOf (bar o ∷ ts)) (bars_with r n us) _ (bars_of n us) (λ es vs t. a_bar s t))
+  bars_of (suc n) (relation atoms.less p ∷ ts) = no_bar
+  bars_of (suc n) ts = no_bar
+
+  expr_made : {e : Tree} {ts us : Words} (es : List Tree) (ws : Words) → SpellsConj e ts us → BarsOf us es ws → SpellsExpr (disjunction_of e es) ts ws
+  expr_made [] ws o no_bar = one_conj o
+  expr_made (f ∷ fs) ws o a = disjunction_is o a
+
+  expr_of : (ts : Words) → IfRead (λ e us. SpellsExpr e ts us) (expr_with r ts)
+  unfolding expr_with
+  expr_of ts = if_bind (λ e us. SpellsConj e ts us) (λ e us. SpellsExpr e ts us) (conj_with r ts) _ (conj_of ts) (λ e us s. if_bind (BarsOf us) (λ e us. SpellsExpr e ts us) (bars_with r (length us) us) _ (bars_of (length us) us) (λ es vs t. expr_made es vs s t))
+
+  long_of : (ts : Words) (m : Result (Tree × Words) SyntaxFault) → IfRead (λ e us. SpellsExpr e ts us) m → IfRead (λ e us. SpellsValue e ts us) m
+  long_of ts (Ok x) s = long s
+  long_of ts (Err f) s = tt
+
+  value_of : (b : Bool) (ts : Words) → IfRead (λ e us. SpellsValue e ts us) (value_if r b ts)
+  value_of true ts = if_bind (FieldOf ts) (λ e us. SpellsValue e ts us) (field_with r ts) _ (field_of ts) (λ f us s. short refl s)
+  value_of false ts = long_of ts (expr_with r ts) (expr_of ts)
+
+inner_of : (d : ℕ) → IsSound (inner d)
+unfolding inner
+inner_of zero = record { values = λ ts. tt; exprs = λ ts. tt }
+inner_of (suc d) = record { values = λ ts. value_of (inner d) (inner_of d) (begins_field ts) ts; exprs = λ ts. expr_of (inner d) (inner_of d) ts }
+
+-- ---- definitions and files
+
+definition_of : (d : ℕ) (ts : Words) → IfRead (λ x us. SpellsDefinition x ts us) (definition_at d ts)
+unfolding definition_at
+definition_of d (definition_name s p ∷ colon q ∷ ts) = if_bind (λ e us. SpellsValue e ts us) (λ x us. SpellsDefinition x (definition_name s p ∷ colon q ∷ ts) us) (inner d true ts) _ ((inner_of d).values ts) (λ e us v. defined v)
+definition_of d (definition_name s p ∷ relation atoms.less q ∷ ts) = tt
+definition_of d (definition_name s p ∷ ts) = tt
+definition_of d ts = tt
+
+-- a definition and its comma
+abbrev LineOf : Words → DefinitionTree → Words → Type 0
+LineOf ts x us = (vs : Words) × SpellsDefinition x ts vs × Comma vs us
+
+line_of : (d : ℕ) (ts : Words) → IfRead (LineOf ts) (line_at d ts)
+unfolding line_at
+line_of d ts = if_bind (λ x us. SpellsDefinition x ts us) (LineOf ts) (definition_at d ts) _ (definition_of d ts) (λ x us s. if_left (Comma us) (LineOf ts) (comma_at us) _ (comma_of us) (λ vs c. (us, s, c)))
+
+before_end_of : (ts : Words) → IfBehind (λ us. ts ≡ us) (before_end ts)
+before_end_of ts = by (begins_with kinds.End ts)
+  where
+    by : (b : Bool) → IfBehind (λ us. ts ≡ us) (cond b None (Some ts))
+    by true = tt
+    by false = refl
+
+abbrev DefinitionsOf : Words → List DefinitionTree → Words → Type 0
+DefinitionsOf ts ds us = SpellsDefinitions ds ts us
+
+definitions_of : (d n : ℕ) (ts : Words) → IfRead (DefinitionsOf ts) (definitions_at d n ts)
+unfolding many
+definitions_of d zero ts = no_definition
+definitions_of d (suc n) ts = by (definitions_of d n) (before_end ts) (before_end_of ts)
+  where
+    by : ((us : Words) → IfRead (DefinitionsOf us) (definitions_at d n us)) → (o : Option Words) → IfBehind (λ us. ts ≡ us) o → IfRead (DefinitionsOf ts) (or_more (line_at d) (definitions_at d n) ts o)
+    by again None k = no_definition
+    by again (Some us) k = rw k (if_bind (LineOf us) (DefinitionsOf us) (line_at d us) _ (line_of d us) (λ x vs s. if_bind (DefinitionsOf vs) (DefinitionsOf us) (definitions_at d n vs) _ (again vs) (λ ds ws t. next_definition s.1 s.2 t)))
+
+data NamedLine : List ℕ → Words → Words → Type 0 where
+  named_line : {s : List ℕ} {p : ℕ} {ts r : Words} → Comma ts r → NamedLine s (name s p ∷ ts) r
+
+clause_of : (ts : Words) → IfRead (λ s us. NamedLine s ts us) (clause_at ts)
+unfolding clause_at
+clause_of (name s p ∷ ts) = if_left (Comma ts) (λ x us. NamedLine x (name s p ∷ ts) us) (comma_at ts) _ (comma_of ts) (λ us c. named_line c)
+clause_of ts = tt
+
+package_made : {s t : List ℕ} {p : ℕ} {ts us : Words} → is_package t ≡ true → NamedLine s ts us → SpellsPackage (Some s) (name t p ∷ ts) us
+package_made e (named_line c) = clause e c
+
+package_of : (ts : Words) → IfRead (λ c us. SpellsPackage c ts us) (package_at ts)
+unfolding package_at
+package_of (name t p ∷ ts) = by (is_package t) refl
+  where
+    by : (b : Bool) → is_package t ≡ b → IfRead (λ c vs. SpellsPackage c (name t p ∷ ts) vs) (package_if (name t p ∷ ts) (behind_if b (name t p ∷ ts)))
+    by false e = no_clause
+    by true e = if_bind (λ s us. NamedLine s ts us) (λ c us. SpellsPackage c (name t p ∷ ts) us) (clause_at ts) _ (clause_of ts) (λ s us n. package_made e n)
+package_of ts = no_clause
+
+ok_is : (x y : FileTree) → ◌≡◌ {A = Result FileTree SyntaxFault} (Ok x) (Ok y) → x ≡ y
+ok_is x y e = cc
+
+-- what stands behind the definitions of a file
+end_file : (ts us vs : Words) (c : Option (List ℕ)) (ds : List DefinitionTree) (f : FileTree) → SpellsPackage c ts us → SpellsDefinitions ds us vs → (expected kinds.End vs >>= λ ws. whole (file c ds) ws) ≡ Ok f → SpellsFile f ts
+end_file ts us (finish q ∷ []) c ds f s t e = subst (λ x. SpellsFile x ts) (ok_is (file c ds) f e) (spelled s t)
+end_file ts us (finish q ∷ w ∷ vs) c ds f s t e = absurd cc
+end_file ts us (relation atoms.less p ∷ vs) c ds f s t e = absurd cc
+end_file ts us vs c ds f s t e = absurd cc
+
+pub file_found : (ts : Words) (f : FileTree) → file_at ts ≡ Ok f → SpellsFile f ts
+unfolding file_with
+file_found ts f is = packaged (package_at ts) (package_of ts) is
+  where
+    packaged : (m : Result (Option (List ℕ) × Words) SyntaxFault) → IfRead (λ c r. SpellsPackage c ts r) m → (m >>= λ c. definitions_at 29 (length c.1) c.1 >>= λ ds. expected kinds.End ds.1 >>= λ us. whole (file c.0 ds.0) us) ≡ Ok f → SpellsFile f ts
+    packaged (Ok x) s is = lined (definitions_at 29 (length x.1) x.1) (definitions_of 29 (length x.1) x.1) is
+      where
+        lined : (m : Result (List DefinitionTree × Words) SyntaxFault) → IfRead (λ ds r. SpellsDefinitions ds x.1 r) m → (m >>= λ ds. expected kinds.End ds.1 >>= λ us. whole (file x.0 ds.0) us) ≡ Ok f → SpellsFile f ts
+        lined (Ok y) t is = end_file ts x.1 y.1 x.0 y.0 f s t is
+        lined (Err e) t is = absurd cc
+    packaged (Err e) s is = absurd cc

@@ -1,0 +1,100 @@
+-- Texts that are read as schemas: what can't refuse them.
+use Rattle.std.proofs.Common.{◌≡◌, ℕ, Bool, List, Option, Some, None, inl, inr, refl, sym, ap, ap₂, subst, ◌∙◌, ◌∷◌}
+use Rattle.std.specs.Option.{IsSome, option_and_then}
+use Rattle.cs_document.specs.Document.{Document}
+use Rattle.cs_doc.specs.Texts.{Reads, IsJson, HasOtherNumber}
+use Rattle.cs_package.specs.Environment.{Environment, Names}
+use Rattle.cs_instance.specs.Instance.{definition, IsInstance}
+use Rattle.cs_profile.specs.Profile.{IsSchema}
+use Rattle.cs_profile.specs.Refusal.{IsRefusal}
+use Rattle.cs_profile.specs.Validity.{IsValidity}
+use Rattle.cs_profile.specs.declared.fault.SchemaFault.{SchemaFault}
+use Rattle.cs_profile.specs.declared.fault.SchemaFault.TheVariants as schema
+use Rattle.cs_tool.specs.Accepted.{IsAccepted, IsReady}
+use Rattle.cs_tool.specs.Headline.{IsExport, IsVerdict, IsValidated, IsAgreement, IsNoSchema, IsSchemaText, VetRefusal, ValidateRefusal}
+use Rattle.cs_tool.specs.declared.fault.Fault.{Fault}
+use Rattle.cs_tool.specs.declared.fault.Fault.TheVariants.{OutOfMemory, SchemaNotJson, Keyword, Shape, Reference, Loop, NotJson, NotInteger}
+
+some_before : {A B : Type 0} (f : A → Option B) (o : Option A) (y : B) → option_and_then f o ≡ Some y → IsSome o
+some_before f None y e = cc
+some_before f (Some x) y e = refl
+
+is_json : (b : List ℕ) (d : Document) → Reads b d → IsJson b
+is_json b d reads = (reads.0, some_before _ _ d reads.1)
+
+no_other : (b : List ℕ) (d : Document) → Reads b d → HasOtherNumber b → ⊥
+no_other b d reads other = cc (reads.1, other.1)
+
+-- a text is read as one document
+pub one_document : (b : List ℕ) (d e : Document) → Reads b d → Reads b e → d ≡ e
+one_document b d e reads also = cc (reads.1, also.1)
+
+-- a schema of the profile has no fault
+no_fault : (d : Document) → IsSchema d → (f : SchemaFault) → IsRefusal f d → f ≡ schema.OutOfMemory
+no_fault d is schema.OutOfMemory h = refl
+no_fault d is (schema.Keyword p n) h = let w = is.shaped in cc (w, h)
+no_fault d is (schema.Shape p n) h = let w = is.shaped in cc (w, h)
+no_fault d is (schema.Reference p n) h = let w = is.named in let v = h.1 in cc (w, v)
+no_fault d is (schema.Loop ns) h = absurd (is.no_loop _ h.loop)
+
+is_schema : (s : List ℕ) → IsSchemaText s → (f : SchemaFault) → IsNoSchema s f → f ≡ schema.OutOfMemory
+is_schema s is f h = no_fault h.document (subst IsSchema (one_document s is.document h.document is.read h.read) is.profile) f h.refused
+
+-- only the document's text refuses
+pub by_document : (s t : List ℕ) → IsSchemaText s → (e : Fault) → ValidateRefusal s t e → (P : Fault → Type 0) → P OutOfMemory → (¬ (IsJson t) → P NotJson) → (HasOtherNumber t → P NotInteger) → P e
+by_document s t is OutOfMemory h P memory json integer = memory
+by_document s t is SchemaNotJson h P memory json integer = absurd (h (is_json s is.document is.read))
+by_document s t is (Keyword p n) h P memory json integer = let memory_only = is_schema s is (schema.Keyword p n) h in cc
+by_document s t is (Shape p n) h P memory json integer = let memory_only = is_schema s is (schema.Shape p n) h in cc
+by_document s t is (Reference p n) h P memory json integer = let memory_only = is_schema s is (schema.Reference p n) h in cc
+by_document s t is (Loop ns) h P memory json integer = let memory_only = is_schema s is (schema.Loop ns) h in cc
+by_document s t is NotInteger (inl h) P memory json integer = absurd (no_other s is.document is.read h)
+by_document s t is NotInteger (inr h) P memory json integer = integer h.1
+by_document s t is NotJson h P memory json integer = json h.1
+by_document s t is _ h P memory json integer = absurd h
+
+-- a schema and a document are judged, unless memory runs out
+pub answered : (s t : List ℕ) (d : Document) → IsSchemaText s → Reads t d → (e : Fault) → ValidateRefusal s t e → e ≡ OutOfMemory
+answered s t d is reads e h = by_document s t is e h (λ f. f ≡ OutOfMemory) refl (λ n. absurd (n (is_json t d reads))) (λ other. absurd (no_other t d reads other))
+
+module _ (sources : List (List ℕ)) (root schema_text : List ℕ) (exported : IsExport sources root schema_text) where
+  pub is_schema_text : IsSchemaText schema_text
+  is_schema_text = record { document = exported.schema; read = exported.read; profile = exported.profile }
+
+  pub is_ready : IsReady sources root
+  is_ready = (exported.environment, exported.name, exported.declares)
+
+  -- what refuses judging by the exported text refuses judging by the sources
+  pub refused : (t : List ℕ) (e : Fault) → ValidateRefusal schema_text t e → VetRefusal sources root t e
+  refused t e h = by_document schema_text t is_schema_text e h (VetRefusal sources root t) tt (λ n. (is_ready, n)) (λ other. (is_ready, other))
+
+bare_once : (n m : List ℕ) → (35 ∷ n) ≡ (35 ∷ m) → n ≡ m
+bare_once n m e = cc
+
+one_name : (E : Environment) (root n m : List ℕ) → Names E root n → Names E root m → n ≡ m
+one_name E root n m a b = bare_once n m (sym a.text ∙ b.text)
+
+-- both sides answer the same
+module _ (sources : List (List ℕ)) (root text schema_text : List ℕ) (E : Environment) (one : (F : Environment) → IsAccepted sources F → E ≡ F)
+    (exported : IsExport sources root schema_text) (a b : Bool) (verdict : IsVerdict sources root text a) (validated : IsValidated schema_text text b) where
+  same_environment : exported.environment ≡ verdict.environment
+  same_environment = sym (one exported.environment exported.declares.accepted) ∙ one verdict.environment verdict.declares.accepted
+
+  same_name : exported.name ≡ verdict.name
+  same_name = one_name verdict.environment root exported.name verdict.name (subst (λ F. Names F root exported.name) same_environment exported.declares.named) verdict.declares.named
+
+  pub same_answer : a ≡ b
+  same_answer =
+      let I = exported.one_instance.some.0 in
+      let is_I = exported.one_instance.some.1 in
+      let V = exported.one_validity.some.0 in
+      let is_V = exported.one_validity.some.1 in
+      let x = verdict.document in
+      let schema_is = one_document schema_text exported.schema validated.schema exported.read validated.read_schema in
+      let x_is = one_document text x validated.document verdict.read validated.read in
+      let judged : b ≡ V exported.schema x = validated.holds V (subst (λ s. IsValidity s V) schema_is is_V) ∙ ap₂ V (sym schema_is) (sym x_is) in
+      let held : a ≡ I (definition exported.name) x = verdict.holds I (subst (λ F. IsInstance F I) same_environment is_I) ∙ ap (λ n. I (definition n) x) (sym same_name) in
+      held ∙ sym (exported.admits V I is_V is_I x verdict.proper) ∙ sym judged
+
+  pub agreement : IsAgreement sources root text a
+  agreement = record { verdict = verdict; schema_text = schema_text; exported = exported; validated = subst (IsValidated schema_text text) (sym same_answer) validated }

@@ -1,0 +1,62 @@
+use Rattle.std.proofs.Common.{◌≡◌, ℕ, ◌≤◌, List, Vec, Err, Bor, map, refl, sym, ap, subst, arith}
+use Rattle.std.proofs.lemmas.Result.{IfErr-weaker, IfOk-weaker, err_from_is_err_and}
+use Rattle.std.specs.declared.alloc.Global.{Global}
+use Rattle.cs_document.specs.Document.{Document, depth}
+use Rattle.cs_doc.specs.Texts.{Reads, text_of}
+use Rattle.cs_package.specs.Environment.{Environment, Names}
+use Rattle.cs_package.specs.Height.{IsLow}
+use Rattle.cs_schema.specs.SchemaDocument.{document_of, with_definitions, definitions_view, unless_no_map}
+use Rattle.cs_schema.specs.Trim.{with_dialect}
+use Rattle.cs_compile.specs.declared.fault.CompileFault.{CompileFault}
+use Rattle.cs_compile.specs.declared.fault.CompileFault.TheVariants as compile
+use Rattle.cs_compile.specs.Translation.{IsTranslation}
+use Rattle.cs_tool.specs.Translated.{IsTranslated}
+use Rattle.cs_tool.specs.Accepted.{IsAccepted, IsReady}
+use Rattle.cs_tool.specs.Conversions.{of_compile}
+use Rattle.cs_tool.specs.Headline.{IsExport}
+use Rattle.cs_tool.specs.declared.fault.Fault.TheVariants.{OutOfMemory}
+use Rattle.cs_tool.proofs.Low.{low_files}
+use Rattle.cs_tool.proofs.calls.exported.Goals as goal
+
+low : (sources : List (List ℕ)) (E : Environment) → IsAccepted sources E → IsLow E
+low sources E a = subst IsLow (sym a.declares) (low_files sources a.files a.spelled)
+
+pub returns-clause-found : goal.returns-clause-found
+returns-clause-found c = λ sources accepted.
+    let made = c.in_ok-schema.ensures.found in
+    let schema = document_of c.in_ok-schema.schema in
+    let ds = unless_no_map (definitions_view c.in_ok-schema.schema.definitions) in
+    let nested = made.2.nested (low _ _ accepted) in
+    IfOk-weaker _ (λ (v : Vec ℕ Global). (v.items ≡ text_of schema) × (depth schema ≤ 127 → Reads v.items schema))
+    (λ (v : Vec ℕ Global). IsExport sources c.args.root.now v.items)
+    (λ v h. record {
+      environment = c.args.guarded.now;
+      name = made.0;
+      declares = record { accepted = accepted; exportable = c.requires; named = made.1 };
+      schema = schema;
+      written = h.0;
+      nested = nested;
+      read = h.1 (omega (arith, nested));
+      profile = c.text_of_schema.ensures.profile;
+      trimmed = c.text_of_schema.ensures.trimmed;
+      refers = (ds, ap (λ root. with_dialect (with_definitions ds root)) made.2.root);
+      definitions = made.2.definitions;
+      one_instance = c.one_meaning.ensures;
+      one_validity = c.one_meaning-2.ensures;
+      admits = made.2.meaning;
+    }) c.text_of_schema.ensures.found
+
+-- what the text is read as is the one schema, and the sources declare the one environment
+translation : (sources : List (List ℕ)) (text : List ℕ) (E : Environment) (schema : Document) → ((F : Environment) → IsAccepted sources F → E ≡ F) → Reads text schema → IsTranslation E schema → IsTranslated sources text
+translation sources text E schema one read is F read_as accepted reads =
+    let same : schema ≡ read_as = cc (read.1, reads.1) in
+    subst (λ d. IsTranslation F d) same (subst (λ G. IsTranslation G schema) (one F accepted) is)
+
+pub returns-clause-translated : goal.returns-clause-translated
+returns-clause-translated c = λ sources one accepted.
+    let schema = document_of c.in_ok-schema.schema in
+    let nested = c.in_ok-schema.ensures.found.2.nested (low _ _ accepted) in
+    IfOk-weaker _ (λ (v : Vec ℕ Global). (v.items ≡ text_of schema) × (depth schema ≤ 127 → Reads v.items schema))
+    (λ (v : Vec ℕ Global). IsTranslated sources v.items)
+    (λ v h. translation sources v.items c.args.guarded.now schema one (h.1 (omega (arith, nested))) c.in_ok-schema.ensures.translated)
+    c.text_of_schema.ensures.found

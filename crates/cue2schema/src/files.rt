@@ -1,0 +1,33 @@
+// The files that the words name, read under the limits.
+use cs_tool::{Fault, MOST_BYTES, MOST_INPUT_BYTES, read_up_to};
+use std::fs::File;
+
+/// The bytes of the sources, in the order of their paths. `SourcesTooLong` as soon as they are too long together.
+pub(crate) fn read_sources(rt: &HostRuntime, paths: &[&str]) -> Result<Vec<Vec<u8>>, Fault> {
+    let mut sources = Vec::new(rt.alloc());
+    let mut room = MOST_BYTES;
+    for path in paths {
+        let Some(source) = read_file(rt, path, room)? else {
+            return Err(Fault::SourcesTooLong);
+        };
+        room = room.saturating_sub(source.len());
+        sources.push(source)?;
+    }
+    Ok(sources)
+}
+
+/// The bytes of a schema or a document.
+pub(crate) fn read_input(rt: &HostRuntime, path: &str) -> Result<Vec<u8>, Fault> {
+    match read_file(rt, path, MOST_INPUT_BYTES)? {
+        Some(bytes) => Ok(bytes),
+        None => Err(Fault::InputTooLong),
+    }
+}
+
+/// All bytes of a file, or `None` where it has more than `limit`.
+fn read_file(rt: &HostRuntime, path: &str, limit: usize) -> Result<Option<Vec<u8>>, Fault> {
+    let Ok(mut file) = File::open(rt, path) else {
+        return Err(Fault::ReadFailed);
+    };
+    read_up_to(rt.alloc(), &mut file, limit)
+}

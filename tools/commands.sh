@@ -1,0 +1,266 @@
+#!/bin/sh
+# Runs the program where pipes, rights, special files or little memory are needed, and compares what it prints, what it says
+# on standard error and its status. A line for each run that goes wrong, and a closing count. Takes ten seconds.
+#
+#     tools/commands.sh PROGRAM
+set -eu
+program=$(realpath "$1")
+. "$(dirname "$0")/wanted.sh"
+root=P
+status=-
+
+# run WORD..: the program, a minute at most; its status is kept
+run() {
+    code=0
+    timeout 60 "$program" "$@" || code=$?
+    echo "$code" > "$room/status"
+}
+
+# feed NAME COMMAND..: a pipe of that name, which the command writes, a minute at most
+feed() {
+    mkfifo "$1"
+    timeout 60 sh -c 'name=$1; shift; "$@" > "$name"' sh "$@" &
+}
+
+# obey COMMANDS: runs them in $room/here; one of them is `run`
+obey() {
+    echo none > "$room/status"
+    (cd "$room/here" && eval "$1") > "$room/out" 2> "$room/said" || true
+    status=$(cat "$room/status")
+}
+
+# try WANTED COMMANDS: one case; cases/README.md lists what may be wanted
+try() {
+    obey "$2"
+    judge "commands: $2" "$1"
+}
+
+# try_run STATUS PRINTED SAID COMMANDS: one case, by its status and its texts
+try_run() {
+    obey "$4"
+    if is_run "$1" "$2" "$3"; then count "commands: $4" yes; else count "commands: $4: wanted $1, '$2', '$3'" no; fi
+}
+
+mkdir "$room/here"
+cd "$room/here"
+port='{"P":{"allOf":[{"type":"integer"},{"minimum":1,"type":"number"},{"maximum":65535,"type":"number"}]}}'
+port_text="{\"\$defs\":$port,\"\$ref\":\"#/\$defs/P\",$dialect}"
+printf '#P: int & >=1 & <=65535\n' > port.cue
+printf '#P: int &' > syntax.cue
+printf '%s\n' "$port_text" > port.json
+printf true > true.json
+printf '{"pattern":"x"}' > keyword.json
+printf 80 > one
+printf '[1' > cut.json
+: > empty
+mkdir folder
+printf '#P: int' > "$(printf 'f\374r.cue')"
+# A schema of 95,000 bytes, more than a pipe holds.
+{ printf '#P: int'; yes '&int' | head -n 4999 | tr -d '\n'; } > wide.cue
+# Inputs at the limits, which hold blanks alone, and one byte more; and ten GiB of zeros, which take no room.
+head -c 1048576 /dev/zero | tr '\0' ' ' > source-limit
+{ cat source-limit; printf ' '; } > source-over
+head -c 67108864 /dev/zero | tr '\0' ' ' > input-limit
+{ cat input-limit; printf ' '; } > input-over
+truncate -s 10G zeros
+
+# Paths.
+try 'error 30' 'run export --root "#P" missing.cue'
+try 'error 30' 'run export --root "#P" folder'
+try 'error 30' 'run export --root "#P" port.cue folder'
+try 'error 30' 'run export --root "#P" port.cue/in'
+try 'error 30' 'run export --root "#P" ""'
+try 'error 30' 'run export --root "#P" "$(head -c 5000 /dev/zero | tr "\0" a)"'
+try 'error 30' 'ln -s loop loop; run export --root "#P" loop'
+try 'error 30' 'run vet --root "#P" --doc missing port.cue'
+try 'error 30' 'run vet --root "#P" --doc folder port.cue'
+try 'error 30' 'run vet --root "#P" --doc "" port.cue'
+try 'error 30' 'run validate --schema missing --doc one'
+try 'error 30' 'run validate --schema folder --doc one'
+try 'error 30' 'run validate --schema true.json --doc folder'
+try 'error 30' 'run agree --root "#P" --doc folder port.cue'
+try 'error 30' 'run agree --root "#P" --doc one folder'
+try usage 'run export --root "$(printf "\377")" port.cue'
+try usage 'run export --root "#P" "$(printf "f\374r.cue")"'
+try usage 'run vet --root "#P" --doc "$(printf "\377")" port.cue'
+try usage 'run validate --schema "$(printf "\377")" --doc one'
+try usage 'run agree --root "#P" --doc one "$(printf "\377")"'
+try usage 'run "$(printf "\377")"'
+try "$port" 'ln -s port.cue link; run export --root "#P" link'
+try "$port" 'run export --root "#P" /dev/stdin < port.cue'
+try "$port" 'feed source cat port.cue; run export --root "#P" source'
+try valid 'feed doc cat one; run vet --root "#P" --doc doc port.cue'
+try valid 'feed schema cat port.json; run validate --schema schema < one'
+try valid 'feed both cat port.cue; run agree --root "#P" --doc one both'
+try 'error 13' 'run export --root "#P" /dev/null'
+try 'error 25' 'run vet --root "#P" --doc /dev/null port.cue'
+try 'error 20' 'run validate --schema /dev/null --doc one'
+
+# Standard input.
+try 'error 30' 'run export --root "#P" <&-'
+try 'error 30' 'run vet --root "#P" --doc one <&-'
+try 'error 30' 'run validate --schema true.json <&-'
+try 'error 30' 'run agree --root "#P" --doc one <&-'
+try 'error 30' 'run export --root "#P" < folder'
+try 'error 30' 'run validate --schema true.json < folder'
+try 'error 30' 'run export --root "#P" 0> written'
+try "$port" 'run export --root "#P" port.cue <&-'
+try valid 'run vet --root "#P" --doc one port.cue <&-'
+try valid 'run validate --schema port.json --doc one <&-'
+try valid 'run agree --root "#P" --doc one port.cue <&-'
+try "$port" '(head -c 5 port.cue; sleep 0.2; tail -c +6 port.cue) | run export --root "#P"'
+try valid '(printf 8; sleep 0.2; printf 0) | run validate --schema port.json'
+try_run 0 "$port_text
+3" '' '{ run export --root "#P" port.cue; printf abc | wc -c; } < one'
+# What stands in the input after the run: it isn't read where all is named.
+try_run 0 "$port_text
+80" '' '{ run export --root "#P" port.cue; cat; echo; } < one'
+try_run 0 'valid
+80' '' '{ run vet --root "#P" --doc one port.cue; cat; echo; } < one'
+try_run 0 'valid
+80' '' '{ run validate --schema port.json --doc one; cat; echo; } < one'
+try_run 0 'valid
+80' '' '{ run agree --root "#P" --doc one port.cue; cat; echo; } < one'
+
+# Standard output. A `written` that is full, closed or has no reader takes nothing; the status tells it.
+for words in 'export --root "#P" port.cue' 'vet --root "#P" --doc one port.cue' 'validate --schema port.json --doc one' \
+    'agree --root "#P" --doc one port.cue' 'vet --root "#P" --doc true.json port.cue'; do
+    try 'error 31' "run $words > /dev/full"
+    try 'error 31' "run $words >&-"
+    try 'error 31' "run $words 1< one"
+    try 'error 31' "rm -f gone; mkfifo gone; exec 8<> gone 9> gone 8<&-; run $words >&9"
+done
+try 'error 31' 'run export --root "#P" < port.cue > /dev/full'
+try_run 4 '{' 'error 31' 'run export --root "#P" wide.cue | { head -c 1; echo; }'
+try_run 4 '{' 'error 31' 'run export --root "#P" < wide.cue | { head -c 1; echo; }'
+# A file that may not grow further: what it has is a front of the answer.
+try_run 4 'a front' 'error 31' 'run export --root "#P" wide.cue > whole
+    (trap "" XFSZ; ulimit -f 16; run export --root "#P" wide.cue > part)
+    [ -s part ] && head -c "$(wc -c < part)" whole | cmp - part && echo "a front"'
+# Help and the version are answers too.
+try 'error 31' 'run --help > /dev/full'
+try 'error 31' 'run agree --help >&-'
+try 'error 31' 'run --version > /dev/full'
+# A refusal comes before anything is written.
+try 'error 4 at 9' 'run export --root "#P" syntax.cue > /dev/full'
+try 'error 25' 'run vet --root "#P" --doc cut.json port.cue >&-'
+
+# Standard error: what can't be said changes no status.
+try_run 2 '' '' 'run export --root "#P" syntax.cue 2>&-'
+try_run 2 '' '' 'run export --root "#P" syntax.cue 2> /dev/full'
+try_run 4 '' '' 'run export --root "#P" missing.cue 2>&-'
+try_run 4 '' '' 'run export --root "#P" port.cue > /dev/full 2>&1'
+try_run 3 '' '' 'run paint 2>&-'
+try_run 3 '' '' 'run paint 2> /dev/full'
+try_run 3 '' '' 'run export --root "$(printf "\377")" 2>&-'
+try_run 1 invalid '' 'run vet --root "#P" --doc true.json port.cue 2>&-'
+try "$port" 'run export --root "#P" port.cue 2>&-'
+try "$port" 'run export --root "#P" port.cue <&- 2>&-'
+try_run 4 '' '' 'run export --root "#P" port.cue <&- >&- 2>&-'
+
+# Limits: the greatest input that is read, and one byte more.
+try 'error 13' 'run export --root "#P" source-limit'
+try 'error 13' 'run export --root "#P" < source-limit'
+try 'error 1' 'run export --root "#P" source-over'
+try 'error 1' 'run export --root "#P" < source-over'
+try 'error 13' 'run export --root "#P" source-limit empty'
+try 'error 1' 'run export --root "#P" one source-limit'
+try 'error 1' 'run vet --root "#P" --doc one port.cue source-limit'
+try 'error 1' 'run agree --root "#P" --doc one source-limit port.cue'
+try 'error 25' 'run vet --root "#P" --doc input-limit port.cue'
+try 'error 28' 'run vet --root "#P" --doc input-over port.cue'
+try 'error 25' 'run validate --schema true.json --doc input-limit'
+try 'error 28' 'run validate --schema true.json --doc input-over'
+try 'error 25' 'run validate --schema true.json < input-limit'
+try 'error 28' 'run validate --schema true.json < input-over'
+try 'error 20' 'run validate --schema input-limit --doc one'
+try 'error 28' 'run validate --schema input-over --doc one'
+try 'error 25' 'run agree --root "#P" --doc input-limit port.cue'
+try 'error 28' 'run agree --root "#P" --doc input-over port.cue'
+
+# Inputs without an end, in 400 MB of memory: reading stops at the limit.
+try 'error 1' 'ulimit -v 400000; yes | run export --root "#P"'
+try 'error 1' 'ulimit -v 400000; yes | run export --root "#P" /dev/stdin'
+try 'error 1' 'ulimit -v 400000; run export --root "#P" zeros'
+try 'error 1' 'ulimit -v 400000; run export --root "#P" < zeros'
+try 'error 1' 'ulimit -v 400000; run export --root "#P" /dev/zero'
+try 'error 1' 'ulimit -v 400000; yes | run vet --root "#P" --doc one'
+try 'error 1' 'ulimit -v 400000; yes | run agree --root "#P" --doc one'
+try 'error 1' 'ulimit -v 400000; feed endless yes; run export --root "#P" endless'
+try 'error 28' 'ulimit -v 400000; yes | run vet --root "#P" --doc /dev/stdin port.cue'
+try 'error 28' 'ulimit -v 400000; run vet --root "#P" --doc zeros port.cue'
+try 'error 28' 'ulimit -v 400000; yes | run validate --schema true.json'
+try 'error 28' 'ulimit -v 400000; run validate --schema true.json < zeros'
+try 'error 28' 'ulimit -v 400000; run validate --schema true.json --doc zeros'
+try 'error 28' 'ulimit -v 400000; run validate --schema zeros --doc one'
+try 'error 28' 'ulimit -v 400000; run agree --root "#P" --doc zeros port.cue'
+# At most 4,096 bytes past the limit are taken.
+try_run 2 'yes' 'error 1' '{ run export --root "#P"; [ $(cat | wc -c) -ge $((67108864 - 1048576 - 4096)) ] && echo yes; } < input-limit'
+try_run 2 'yes' 'error 28' '{ run validate --schema true.json; [ $(head -c 9999999 | wc -c) -eq 9999999 ] && echo yes; } < zeros'
+
+# The first of several faults: named files before standard input, sources or a schema before a document, in their order.
+try 'error 1' 'run export --root "#P" source-over missing.cue'
+try 'error 30' 'run export --root "#P" missing.cue source-over'
+try 'error 1' 'run vet --root "#P" --doc missing source-over'
+try 'error 1' 'run vet --root "#P" --doc input-over source-over'
+try 'error 30' 'run vet --root "#P" --doc input-over missing.cue'
+try 'error 28' 'run vet --root "#P" --doc input-over syntax.cue'
+try 'error 28' 'run vet --root "#P" --doc input-over < source-over'
+try 'error 30' 'run vet --root "#P" --doc missing < source-over'
+try 'error 1' 'run vet --root "#P" --doc cut.json < source-over'
+try 'error 28' 'run validate --schema input-over --doc missing'
+try 'error 30' 'run validate --schema missing --doc input-over'
+try 'error 28' 'run validate --schema cut.json --doc input-over'
+try 'error 28' 'run validate --schema keyword.json < input-over'
+try 'error 30' 'run validate --schema keyword.json <&-'
+try 'error 20' 'run validate --schema cut.json < input-limit'
+try 'error 1' 'run agree --root "#P" --doc missing source-over'
+try 'error 28' 'run agree --root "#P" --doc input-over syntax.cue'
+
+# Little memory: each run is refused by 15, or answers all; some of these are refused, and some not.
+refused=0
+answered=0
+for room_for in 6000 8000 10000 12000 14000 16000 20000 50000 200000; do
+    obey "ulimit -v $room_for; code=0; \"\$program\" export --root '#P' wide.cue || code=\$?; echo \$code > \"\$room/status\""
+    if is_run 5 '' 'error 15'; then
+        refused=1
+    elif [ "$status" -eq 0 ] && [ "$(wc -c < "$room/out")" -gt 65536 ] && [ ! -s "$room/said" ]; then
+        answered=1
+    else
+        count "commands: export in $room_for KiB" no
+    fi
+done
+if [ "$refused$answered" = 11 ]; then count 'commands: little memory' yes; else count 'commands: little memory' no; fi
+try 'error 15' 'ulimit -v 50000; run validate --schema true.json --doc input-limit'
+try 'error 15' 'ulimit -v 50000; run validate --schema true.json < input-limit'
+try 'error 15' 'ulimit -v 50000; run vet --root "#P" --doc input-limit port.cue'
+try 'error 15' 'ulimit -v 50000; run agree --root "#P" --doc input-limit port.cue'
+
+# Rights, which the administrator always has: there the program runs as nobody.
+as=
+if [ "$(id -u)" -eq 0 ]; then as='setpriv --reuid=65534 --regid=65534 --clear-groups'; fi
+chmod 755 "$room" "$room/here"
+cp "$program" "$room/program"
+if $as "$room/program" --version > "$room/out" 2> "$room/said"; then
+    program=$room/program
+    run() {
+        code=0
+        timeout 60 $as "$program" "$@" || code=$?
+        echo "$code" > "$room/status"
+    }
+    cp port.cue no-rights
+    cp port.cue folder/port.cue
+    chmod 000 no-rights folder
+    try "$port" 'run export --root "#P" port.cue'
+    try 'error 30' 'run export --root "#P" no-rights'
+    try 'error 30' 'run export --root "#P" port.cue no-rights'
+    try 'error 30' 'run export --root "#P" folder/port.cue'
+    try 'error 30' 'run vet --root "#P" --doc no-rights port.cue'
+    try 'error 30' 'run validate --schema no-rights --doc one'
+    try 'error 30' 'run validate --schema true.json --doc no-rights'
+    try 'error 30' 'run agree --root "#P" --doc one no-rights'
+    chmod 755 folder
+else
+    echo 'commands: rights are not tried, since nobody cannot run the program here'
+fi
+closing

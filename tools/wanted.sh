@@ -1,0 +1,65 @@
+# What cases.sh and commands.sh share: whether a run did what is wanted of it. They set `program`, and after each run `status`;
+# what it printed stands in $room/out and what it said on standard error in $room/said.
+room=$(mktemp -d)
+trap 'rm -rf "$room"' EXIT
+passed=0
+failed=0
+dialect='"$schema":"https://json-schema.org/draft/2020-12/schema"'
+
+# count LABEL WELL: one more case
+count() {
+    if [ "$2" = yes ]; then
+        passed=$((passed + 1))
+    else
+        failed=$((failed + 1))
+        echo "$1: status $status, printed '$(head -c 300 "$room/out")', said '$(head -c 300 "$room/said")'"
+    fi
+}
+
+# closing: the count, and whether all is well
+closing() {
+    echo "$passed passed, $failed failed"
+    [ "$failed" -eq 0 ] && [ "$passed" -gt 0 ]
+}
+
+# is_text FILE TEXT: whether the file is the text and a newline, or empty for no text
+is_text() {
+    if [ -z "$2" ]; then [ ! -s "$1" ]; else printf '%s\n' "$2" | cmp -s - "$1"; fi
+}
+
+# whether the run gave an answer: a schema, or a refusal whose offset is in the source
+is_answered() {
+    if [ "$status" -eq 0 ]; then
+        [ -s "$room/out" ] && [ ! -s "$room/said" ]
+    else
+        [ "$status" -eq 2 ] && [ ! -s "$room/out" ] && [ "$(wc -l < "$room/said")" -eq 1 ] \
+            && awk -v most="$(wc -c < "$room/in")" \
+                '!/^error [0-9]+( at [0-9]+)?$/ || NF == 4 && $4 > most { bad = 1 } END { exit bad }' "$room/said"
+    fi
+}
+
+# is_run STATUS PRINTED SAID: whether the run ended so, with just these texts
+is_run() {
+    [ "$status" -eq "$1" ] && is_text "$room/out" "$2" && is_text "$room/said" "$3"
+}
+
+# is_wanted WANTED: whether the run did what a row wants; cases/README.md lists what that may be
+is_wanted() {
+    case $1 in
+        answered) is_answered ;;
+        valid) is_run 0 valid '' ;;
+        invalid) is_run 1 invalid '' ;;
+        'error 15') is_run 5 '' "$1" ;;
+        'error 30' | 'error 31') is_run 4 '' "$1" ;;
+        'error '*) is_run 2 '' "$1" ;;
+        '{'*) is_run 0 "{\"\$defs\":$1,\"\$ref\":\"#/\$defs/$root\",$dialect}" '' ;;
+        usage) [ "$status" -eq 3 ] && [ ! -s "$room/out" ] && [ -s "$room/said" ] ;;
+        'shows '*) [ "$status" -eq 0 ] && grep -qF -- "${1#shows }" "$room/out" && [ ! -s "$room/said" ] ;;
+        *) false ;;
+    esac
+}
+
+# judge LABEL WANTED: counts the run that was just made
+judge() {
+    if is_wanted "$2"; then count "$1" yes; else count "$1: wanted $2" no; fi
+}
