@@ -4,10 +4,10 @@ program=$1
 folder=$(mktemp -d)
 trap 'rm -rf "$folder"' EXIT
 
-# The nanoseconds of one pass over a source: the least of five means, since other work on the machine only adds.
-time_of() { # source step times
+# The nanoseconds of one pass over a source: the least of five means or more, since other work on the machine only adds.
+time_of() { # source step times [means]
     best=
-    for _ in 1 2 3 4 5; do
+    for _ in $(seq "${4-5}"); do
         begin=$(date +%s%N)
         "$program" "$2" "$3" < "$1" > /dev/null
         end=$(date +%s%N)

@@ -1,25 +1,30 @@
-// Takes the source on standard input through the first steps and prints how many tokens it has (`lex`), how many
-// definitions (`parse`), or how many definitions the package has (`resolve`, and `guard`, which takes that one step
-// further). A number after the word says how many times, for measuring.
+// Takes standard input through one step and prints a count, for measuring. The first word is the step, and the second how
+// many times it is taken:
+// - `lex`, `parse`, `resolve`, `guard`: a source; its tokens, its definitions, or those of its package.
+// - `read`, `flatten`: a JSON text; the values at the top of its document, or all of them. `flatten` reads once.
+// - `fill`: how many items a table has, with 8,192 rules; its judgements.
 #![tactic(auto)]
 
-use cs_guard::guard;
-use cs_resolve::{Package, resolve};
-use cs_syntax::{lex, parse_file};
+mod documents;
+mod sources;
+mod tables;
+
 use std::alloc::Global;
-use std::io;
+use std::io::Read;
+use std::{io, str};
 
 fn main(rt: HostRuntime) -> io::Result<()> {
-    let source = io::read_to_string(rt.alloc(), rt.stdin())?;
+    let mut input = Vec::new(rt.alloc());
+    rt.stdin().read_to_end(&mut input)?;
     let words: Vec<String> = std::env::args(&rt)?.collect(rt.alloc())?;
-    match counted(rt.alloc(), source.as_str(), words.as_slice()) {
+    match counted(rt.alloc(), input.as_slice(), words.as_slice()) {
         Some(count) => println!(rt; "{count}"),
-        None => Err(io::Error::other("no such step, or a source that is refused")),
+        None => Err(io::Error::other("no such step, or an input that is refused")),
     }
 }
 
-/// What the words ask for; nothing where they ask for no step, or the source is refused.
-fn counted(alloc: Global, source: &str, words: &[String]) -> Option<usize> {
+/// What the words ask for; nothing where they ask for no step, or the input is refused.
+fn counted(alloc: Global, input: &[u8], words: &[String]) -> Option<usize> {
     let step = match words.get(1) {
         Some(word) => word.as_str(),
         None => "lex",
@@ -28,54 +33,10 @@ fn counted(alloc: Global, source: &str, words: &[String]) -> Option<usize> {
         Some(word) => word.parse::<u32>().ok()?,
         None => 1,
     };
-    let mut count = 0;
-    for _ in 0..times {
-        count = count_of(alloc, source, step)?;
-    }
-    Some(count)
-}
-
-/// How many tokens a source has, or how many definitions.
-fn count_of(alloc: Global, source: &str, step: &str) -> Option<usize> {
     match step {
-        "lex" => tokens(alloc, source),
-        "parse" => definitions(alloc, source),
-        "resolve" => resolved(alloc, source, false),
-        "guard" => resolved(alloc, source, true),
-        _ => None,
+        "read" => documents::read(alloc, input, times),
+        "flatten" => documents::flattened(alloc, input, times),
+        "fill" => tables::filled(alloc, str::from_utf8(input).ok()?, times),
+        _ => sources::counted(alloc, str::from_utf8(input).ok()?, step, times),
     }
-}
-
-fn tokens(alloc: Global, source: &str) -> Option<usize> {
-    match lex(alloc, source) {
-        Ok(tokens) => Some(tokens.len()),
-        Err(_) => None,
-    }
-}
-
-fn definitions(alloc: Global, source: &str) -> Option<usize> {
-    match parse_file(alloc, source) {
-        Ok(file) => Some(file.definitions.len()),
-        Err(_) => None,
-    }
-}
-
-/// How many definitions the package of the source has, once it is guarded where that is asked for.
-fn resolved(alloc: Global, source: &str, is_guarded: bool) -> Option<usize> {
-    let package = package_of(alloc, source)?;
-    let count = package.count();
-    if is_guarded {
-        guard(alloc, package).ok()?;
-    }
-    Some(count)
-}
-
-/// The package of one source.
-fn package_of(alloc: Global, source: &str) -> Option<Package> {
-    let mut files = Vec::new(alloc);
-    let Ok(file) = parse_file(alloc, source) else {
-        return None;
-    };
-    files.push(file).ok()?;
-    resolve(alloc, files).ok()
 }

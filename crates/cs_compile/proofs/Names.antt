@@ -1,5 +1,5 @@
 -- Definitions that are put under their names, one after the other.
-use Rattle.std.proofs.Common.{◌≡◌, ℕ, suc, zero, ◌+◌, ◌<◌, List, [], ◌∷◌, take, length, Bool, true, false, ◌||◌, Option, Some, None, is_some, Ordering, Less, Equal, Greater, String, Global, string_bytes, string_cmp, nat_cmp, bytes_eq, add-one, refl, sym, ap, ◌∙◌, if◌then◌else◌, arith}
+use Rattle.std.proofs.Common.{◌≡◌, ℕ, suc, zero, ◌+◌, List, [], ◌∷◌, take, length, Bool, true, false, ◌||◌, Option, Some, None, is_some, Ordering, Less, Equal, Greater, String, Global, string_bytes, string_cmp, nat_cmp, bytes_eq, add-one, refl, sym, ap, ◌∙◌, if◌then◌else◌, arith}
 use Rattle.std.specs.Prelude.{option_map}
 use Rattle.std.proofs.Math.Bool.{or-true, or-false}
 use Rattle.std.proofs.lemmas.List.{take_all}

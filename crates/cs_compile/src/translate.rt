@@ -6,10 +6,10 @@ ghost use Rattle.cs_instance.specs.Exportable.{IsExportable, AllExportable};
 ghost use Rattle.cs_profile.specs.SchemaDocument.{schema_view, kind_name};
 ghost use Rattle.cs_compile.specs.Translation.{schema_of, definition_schema, all_of, body_schemas, of_type, type_name, range_keywords, limit_name};
 
-use crate::keywords::{object, with_all_of, with_constant, with_limit, with_type};
+use crate::keywords::{limit_keyword, object};
 use cs_document::Doc;
 use cs_package::{Kind, Relation, Shape};
-use cs_profile::{JsonKind, Keywords, Schema};
+use cs_profile::{JsonKind, Keyword, KeywordValue, Keywords, Schema};
 use std::alloc::{AllocError, Global};
 
 /// The schema of a definition: that of its one body, or `allOf` of those of its bodies in order.
@@ -31,8 +31,20 @@ fn schema_of(alloc: Global, shape: &Shape) -> Result<Schema, AllocError>
     ensures { (ns : List (List ℕ)) → IfOk result (λ s. schema_view s ≡ schema_of (expression_of ns shape.now)) }
 {
     match shape {
-        Shape::Int(n) => object(alloc, with_constant(Keywords::empty(alloc), Doc::Int(*n))),
-        Shape::Kind(kind) => object(alloc, with_type(Keywords::empty(alloc), json_kind(*kind))),
+        Shape::Int(n) => {
+            let value = KeywordValue::Anything(Doc::Int(*n));
+            object(
+                alloc,
+                Keywords::empty(alloc).set(alloc, Keyword::Const, value),
+            )
+        },
+        Shape::Kind(kind) => {
+            let value = KeywordValue::Kind(json_kind(*kind));
+            object(
+                alloc,
+                Keywords::empty(alloc).set(alloc, Keyword::Type, value),
+            )
+        },
         Shape::Range { least, greatest } => range(alloc, *least, *greatest),
         Shape::Bound { relation, limit } => bound(alloc, *relation, *limit),
         Shape::And(operands) => all_of(alloc, operands),
@@ -51,7 +63,11 @@ fn all_of(alloc: Global, operands: &[Shape]) -> Result<Schema, AllocError>
     for operand in operands {
         members.push(schema_of(alloc, operand)?)?;
     }
-    object(alloc, with_all_of(Keywords::empty(alloc), members))
+    let value = KeywordValue::Schemas(members);
+    object(
+        alloc,
+        Keywords::empty(alloc).set(alloc, Keyword::AllOf, value),
+    )
 }
 
 fn json_kind(kind: Kind) -> JsonKind
@@ -68,10 +84,14 @@ fn json_kind(kind: Kind) -> JsonKind
 fn range(alloc: Global, least: i64, greatest: Option<i64>) -> Result<Schema, AllocError>
     ensures { IfOk result (λ s. schema_view s ≡ object (range_keywords least greatest)) }
 {
-    let keywords = with_type(Keywords::empty(alloc), JsonKind::Integer);
-    let keywords = with_limit(keywords, Relation::AtLeast, least);
+    let keywords = Keywords::empty(alloc)
+        .set(alloc, Keyword::Type, KeywordValue::Kind(JsonKind::Integer))
+        .set(alloc, Keyword::Minimum, KeywordValue::Integer(least));
     match greatest {
-        Some(greatest) => object(alloc, with_limit(keywords, Relation::AtMost, greatest)),
+        Some(greatest) => object(
+            alloc,
+            keywords.set(alloc, Keyword::Maximum, KeywordValue::Integer(greatest)),
+        ),
         None => object(alloc, keywords),
     }
 }
@@ -80,6 +100,8 @@ fn bound(alloc: Global, relation: Relation, limit: i64) -> Result<Schema, AllocE
     ensures { IfOk result (λ s. schema_view s ≡ object
         (member (limit_name (relation_of relation)) (integer limit) (of_type (codes "number")))) }
 {
-    let keywords = with_type(Keywords::empty(alloc), JsonKind::Number);
-    object(alloc, with_limit(keywords, relation, limit))
+    let keywords = Keywords::empty(alloc)
+        .set(alloc, Keyword::Type, KeywordValue::Kind(JsonKind::Number))
+        .set(alloc, limit_keyword(relation), KeywordValue::Integer(limit));
+    object(alloc, keywords)
 }

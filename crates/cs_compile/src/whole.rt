@@ -10,11 +10,11 @@ ghost use Rattle.cs_compile.specs.Translation.{definition_schema, IsTranslation}
 ghost use Rattle.cs_compile.specs.Whole.{Compiles, reference_to};
 
 use crate::CompileFault;
-use crate::keywords::{object, with_reference};
+use crate::keywords::object;
 use crate::translate::definition_schema;
 use cs_guard::Guarded;
 use cs_package::Package;
-use cs_profile::{Keywords, Schema, SchemaDoc};
+use cs_profile::{Keyword, KeywordValue, Keywords, Schema, SchemaDoc};
 use std::alloc::{AllocError, Global};
 use std::collections::BTreeMap;
 
@@ -46,7 +46,11 @@ fn reference(alloc: Global, name: &str) -> Result<Schema, AllocError>
     ensures { IfOk result (λ s. schema_view s ≡ reference_to name.now) }
 {
     let name = String::from_str(alloc, name)?;
-    object(alloc, with_reference(Keywords::empty(alloc), name))
+    let value = KeywordValue::Reference(name);
+    object(
+        alloc,
+        Keywords::empty(alloc).set(alloc, Keyword::Ref, value),
+    )
 }
 
 /// The schema of each definition, by its name.

@@ -1,14 +1,22 @@
 -- Documents built a part at a time, and beside their values of JSON.
-use Rattle.std.proofs.Common.{◌≡◌, ℕ, suc, max, ℤ, pos, negsuc, List, [], ◌∷◌, ◌++◌, map, false, Option, Some, None, option_map, String, Global, Less, string_bytes, string_cmp, FitsSigned, w64, refl, ap, ap₂, rules}
+use Rattle.std.proofs.Common.{◌≡◌, ◌≤◌, ℕ, suc, max, ℤ, pos, negsuc, List, [], ◌∷◌, ◌++◌, Option, Some, None, option_map, option_and_then, String, Global, Less, Greater, nat_cmp, string_bytes, string_cmp, FitsSigned, w64, refl, sym, ap, ap₂, ◌∙◌, arith, rules, append-nil}
+use Rattle.std.proofs.lemmas.Cmp.{nat_list_cmp_total}
+use Rattle.std.specs.Cmp.Lexicographic.{slice_cmp}
 use Rattle.std.specs.List.{AllByRecursion}
 use Rattle.std.specs.List.Sorted.{IsStrictlySortedBy}
 use Rattle.std.specs.Map.{keys_of}
+use Rattle.std.specs.Ordering.{ordering_reverse}
+use Rattle.json.specs.Json as json
+use Rattle.json.specs.Lex.{tokens}
+use Rattle.json.specs.Tree as tree
+use Rattle.json.specs.Tree.{json_tokens}
+use Rattle.json.proofs.Printed.Trees.{value-json_tokens}
 use Rattle.serde_json.specs.Data as value
 use Rattle.serde_json.specs.Data.{Data}
 use Rattle.serde_json.specs.Find.{as_i64, of_integer}
-use Rattle.serde_json.specs.Written.{has_float, items_have_float, members_have_float}
-use Rattle.serde_json.specs.View.{view, items_view, members_view}
-use Rattle.serde_json.specs.declared.value.Value.{Value}
+use Rattle.serde_json.specs.Read.{number_of, of_json, of_items, of_members as read_members, max_depth, read}
+use Rattle.serde_json.specs.Written.{number_text, outline, items_outline, members_outline}
+use Rattle.serde_json.proofs.Numbers.{number_of-decimal, number_of-negative}
 use Rattle.cs_document.specs.Document.{Document, null, boolean, integer, text, list, object, Documents, no_documents, document, Members, no_members, member, depth, documents_depth, members_depth, KeysAbove, IsDocument, AreDocuments, AreMembers}
 use Rattle.cs_doc.specs.Texts.{data_of, items_of, values_of, document_of, documents_of, members_of}
 use Rattle.cs_document.specs.View.{doc_view, list_view, object_view}
@@ -75,42 +83,6 @@ AreMembers-of_sorted (e ∷ es) h p = (keys_above e.0 es h.0, p.0, AreMembers-of
 
 -- ---- beside values of JSON
 
-mutual
-  pub has_float-data_of : (d : Document) → has_float (data_of d) ≡ false
-  has_float-data_of null = refl
-  has_float-data_of (boolean b) = refl
-  has_float-data_of (integer (pos n)) = refl
-  has_float-data_of (integer (negsuc n)) = refl
-  has_float-data_of (text s) = refl
-  has_float-data_of (list ds) = has_float-items_of ds
-  has_float-data_of (object ms) = has_float-values_of ms
-
-  has_float-items_of : (ds : Documents) → items_have_float (items_of ds) ≡ false
-  has_float-items_of no_documents = refl
-  has_float-items_of (document d ds) = rw (has_float-data_of d) (has_float-items_of ds)
-
-  has_float-values_of : (ms : Members) → members_have_float (values_of ms) ≡ false
-  has_float-values_of no_members = refl
-  has_float-values_of (member k d ms) = rw (has_float-data_of d) (has_float-values_of ms)
-
-mutual
-  pub depth-data_of : (d : Document) → value.depth (data_of d) ≡ depth d
-  depth-data_of null = refl
-  depth-data_of (boolean b) = refl
-  depth-data_of (integer (pos n)) = refl
-  depth-data_of (integer (negsuc n)) = refl
-  depth-data_of (text s) = refl
-  depth-data_of (list ds) = ap suc (depth-items_of ds)
-  depth-data_of (object ms) = ap suc (depth-values_of ms)
-
-  depth-items_of : (ds : Documents) → value.items_depth (items_of ds) ≡ documents_depth ds
-  depth-items_of no_documents = refl
-  depth-items_of (document d ds) = ap₂ max (depth-data_of d) (depth-items_of ds)
-
-  depth-values_of : (ms : Members) → value.members_depth (values_of ms) ≡ members_depth ms
-  depth-values_of no_members = refl
-  depth-values_of (member k d ms) = ap₂ max (depth-data_of d) (depth-values_of ms)
-
 pub as_i64-of_integer : (z : ℤ) → FitsSigned w64 z → as_i64 (of_integer z) ≡ Some z
 as_i64-of_integer (pos n) h = search (rules, h)
 as_i64-of_integer (negsuc n) h = refl
@@ -146,23 +118,82 @@ pub no_member_before : (r : Option Members) → r ≡ option_map (members_before
 no_member_before None = refl
 no_member_before (Some ms) = refl
 
-pub items_view-list : (vs : List Value) (ds : List Doc) → map view vs ≡ map (λ d. data_of (doc_view d)) ds → items_view vs ≡ items_of (list_view ds)
-items_view-list [] [] is = refl
-items_view-list [] (d ∷ ds) is = cc
-items_view-list (v ∷ vs) [] is = cc
-items_view-list (v ∷ vs) (d ∷ ds) is =
-    let first : view v ≡ data_of (doc_view d) = cc in
-    let rest : map view vs ≡ map (λ x. data_of (doc_view x)) ds = cc in
-    ap₂ value.item first (items_view-list vs ds rest)
+-- ---- the tokens of a document are read as it
 
-pub members_view-push : (found : List (String Global × Value)) (done : List Entry) (name : String Global) (v : Value) (e : Entry)
-    → members_view found ≡ values_of (object_view done) → string_bytes name ≡ string_bytes e.0 → view v ≡ data_of (doc_view e.1)
-    → members_view (found ++ (name, v) ∷ []) ≡ values_of (object_view (done ++ e ∷ []))
-members_view-push [] [] name v e is named seen = rw (named, seen)
-members_view-push [] (d ∷ done) name v e is named seen = cc
-members_view-push (f ∷ found) [] name v e is named seen = cc
-members_view-push (f ∷ found) (d ∷ done) name v e is named seen =
-    let key : string_bytes f.0 ≡ string_bytes d.0 = cc in
-    let first : view f.1 ≡ data_of (doc_view d.1) = cc in
-    let rest : members_view found ≡ values_of (object_view done) = cc in
-    rw (key, first) (ap (value.member (string_bytes d.0) (data_of (doc_view d.1))) (members_view-push found done name v e rest named seen))
+mutual
+  depth-outline : (d : Document) → tree.depth (outline (data_of d)) ≡ depth d
+  depth-outline null = refl
+  depth-outline (boolean b) = refl
+  depth-outline (integer z) = refl
+  depth-outline (text s) = refl
+  depth-outline (list ds) = ap suc (depth-items_outline ds)
+  depth-outline (object ms) = ap suc (depth-members_outline ms)
+
+  depth-items_outline : (ds : Documents) → tree.items_depth (items_outline (items_of ds)) ≡ documents_depth ds
+  depth-items_outline no_documents = refl
+  depth-items_outline (document d ds) = ap₂ max (depth-outline d) (depth-items_outline ds)
+
+  depth-members_outline : (ms : Members) → tree.members_depth (members_outline (values_of ms)) ≡ members_depth ms
+  depth-members_outline no_members = refl
+  depth-members_outline (member k d ms) = ap₂ max (depth-outline d) (depth-members_outline ms)
+
+number_of-integer : (z : ℤ) → FitsSigned w64 z → number_of (number_text (of_integer z)) ≡ Some (of_integer z)
+number_of-integer (pos n) h = number_of-decimal n (omega (arith, h))
+number_of-integer (negsuc n) h = number_of-negative n (omega (arith, h))
+
+-- members behind others
+abbrev followed_by : value.Members → value.Members → value.Members
+followed_by value.no_members ms = ms
+followed_by (value.member k d found) ms = value.member k d (followed_by found ms)
+
+-- each key of some members is below those of others
+abbrev AreBelow : value.Members → Members → Type 0
+AreBelow value.no_members ms = Unit {0}
+AreBelow (value.member k d found) ms = KeysAbove k ms × AreBelow found ms
+
+put_last : (found : value.Members) (k : List ℕ) (v : Data) (d : Document) (ms : Members) → AreBelow found (member k d ms) → value.put k v found ≡ followed_by found (value.member k v value.no_members)
+put_last value.no_members k v d ms h = refl
+put_last (value.member l x found) k v d ms h =
+    let above : slice_cmp nat_cmp k l ≡ Greater = nat_list_cmp_total.antisymm k l ∙ ap ordering_reverse h.0.0 in
+    rw above (ap (value.member l x) (put_last found k v d ms h.1))
+
+AreBelow-last : (found : value.Members) (k : List ℕ) (v : Data) (d : Document) (ms : Members) → AreBelow found (member k d ms) → KeysAbove k ms → AreBelow (followed_by found (value.member k v value.no_members)) ms
+AreBelow-last value.no_members k v d ms h above = (above, tt)
+AreBelow-last (value.member l x found) k v d ms h above = (h.0.1, AreBelow-last found k v d ms h.1 above)
+
+followed_by-last : (found : value.Members) (k : List ℕ) (v : Data) (ms : value.Members) → followed_by (followed_by found (value.member k v value.no_members)) ms ≡ followed_by found (value.member k v ms)
+followed_by-last value.no_members k v ms = refl
+followed_by-last (value.member l x found) k v ms = ap (value.member l x) (followed_by-last found k v ms)
+
+followed_by-none : (found : value.Members) → found ≡ followed_by found value.no_members
+followed_by-none value.no_members = refl
+followed_by-none (value.member k d found) = ap (value.member k d) (followed_by-none found)
+
+mutual
+  of_json-outline : (d : Document) → IsDocument d → of_json (outline (data_of d)) ≡ Some (data_of d)
+  of_json-outline null h = refl
+  of_json-outline (boolean b) h = refl
+  of_json-outline (integer z) h = ap (option_map value.number) (number_of-integer z h)
+  of_json-outline (text s) h = refl
+  of_json-outline (list ds) h = ap (option_map value.array) (of_items-outline ds h)
+  of_json-outline (object ms) h = ap (option_map value.object) (of_members-outline ms value.no_members tt h)
+
+  of_items-outline : (ds : Documents) → AreDocuments ds → of_items (items_outline (items_of ds)) ≡ Some (items_of ds)
+  of_items-outline no_documents h = refl
+  of_items-outline (document d ds) h = rw (of_json-outline d h.0, of_items-outline ds h.1)
+
+  of_members-outline : (ms : Members) (found : value.Members) → AreBelow found ms → AreMembers ms → read_members (members_outline (values_of ms)) found ≡ Some (followed_by found (values_of ms))
+  of_members-outline no_members found below h = ap Some (followed_by-none found)
+  of_members-outline (member k d ms) found below h =
+      let v = data_of d in
+      ap (option_and_then (λ x. read_members (members_outline (values_of ms)) (value.put k x found))) (of_json-outline d h.1)
+      ∙ ap (read_members (members_outline (values_of ms))) (put_last found k v d ms below)
+      ∙ of_members-outline ms (followed_by found (value.member k v value.no_members)) (AreBelow-last found k v d ms below h.0) h.2
+      ∙ ap Some (followed_by-last found k v (values_of ms))
+
+pub reads_back : (d : Document) (bytes : List ℕ) → IsDocument d → depth d ≤ max_depth → tokens bytes ≡ json_tokens (outline (data_of d)) → option_and_then document_of (read bytes) ≡ Some d
+reads_back d bytes h shallow is =
+    let j = outline (data_of d) in
+    let whole : json.value max_depth (tokens bytes) ≡ Some (j, []) = ap (json.value max_depth) (is ∙ sym (append-nil _)) ∙ value-json_tokens j max_depth [] (omega (arith, depth-outline d)) in
+    ap (λ o. option_and_then document_of (option_and_then of_json (option_and_then (λ p. json.if_last p.0 p.1) o))) whole
+    ∙ ap (option_and_then document_of) (of_json-outline d h) ∙ document_of-data_of d h

@@ -1,9 +1,11 @@
-// The texts of documents, as `serde_json` reads and writes them. The documents themselves are those of `cs_document`.
+// The texts of documents, as `serde_json` reads and writes them. The documents themselves are those of `cs_document`, and
+// the lists of their values those of `cs_flat`.
 #![tactic(auto)]
 
 mod read;
 mod write;
 
 pub use cs_document::{Doc, DocFault};
+pub use cs_flat::{Flat, Item, flatten};
 pub use read::read_doc;
 pub use write::write_doc;

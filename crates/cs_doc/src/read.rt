@@ -18,39 +18,40 @@ pub fn read_doc(alloc: Global, text: &[u8]) -> Result<Doc, DocFault>
     ensures not_integer { IsErrOf result DocFault.NotInteger → HasOtherNumber text.now }
 {
     match Value::from_slice(alloc, text) {
-        Ok(value) => doc_of(alloc, &value),
+        Ok(value) => doc_of(alloc, value),
         Err(e) if e.is_memory() => Err(DocFault::OutOfMemory),
         Err(_) => Err(DocFault::NotJson),
     }
 }
 
+/// The document that a value of JSON is. Its texts and keys are moved, since one may be as long as the whole text.
 #[cycle(read)]
-fn doc_of(alloc: Global, value: &Value) -> Result<Doc, DocFault>
-    ensures value { IfOk result (λ d. document_of (view value.now) ≡ Some (doc_view d)) }
+fn doc_of(alloc: Global, value: Value) -> Result<Doc, DocFault>
+    ensures value { IfOk result (λ d. document_of (view value) ≡ Some (doc_view d)) }
     ensures document { IfOk result (λ d. IsDocument (doc_view d)) }
-    ensures not_integer { IsErrOf result DocFault.NotInteger → document_of (view value.now) ≡ None }
+    ensures not_integer { IsErrOf result DocFault.NotInteger → document_of (view value) ≡ None }
     ensures never_not_json { ¬ (IsErrOf result DocFault.NotJson) }
 {
     match value {
         Value::Null => Ok(Doc::Null),
-        Value::Bool(b) => Ok(Doc::Bool(*b)),
+        Value::Bool(b) => Ok(Doc::Bool(b)),
         Value::Number(n) => match n.as_i64() {
             Some(z) => Ok(Doc::Int(z)),
             None => Err(DocFault::NotInteger),
         },
-        Value::String(text) => Ok(Doc::Text(text.clone()?)),
+        Value::String(text) => Ok(Doc::Text(text)),
         Value::Array(items) => Ok(Doc::List(docs_of(alloc, items)?)),
         Value::Object(members) => Ok(Doc::Object(members_of(alloc, members)?)),
     }
 }
 
 #[cycle(read)]
-fn docs_of(alloc: Global, items: &Vec<Value>) -> Result<Vec<Doc>, DocFault>
+fn docs_of(alloc: Global, items: Vec<Value>) -> Result<Vec<Doc>, DocFault>
     ensures value { IfOk result
-        (λ v. documents_of (items_view items.now.items) ≡ Some (list_view v.items)) }
+        (λ v. documents_of (items_view items.items) ≡ Some (list_view v.items)) }
     ensures document { IfOk result (λ v. AreDocuments (list_view v.items)) }
     ensures not_integer { IsErrOf result DocFault.NotInteger
-        → documents_of (items_view items.now.items) ≡ None }
+        → documents_of (items_view items.items) ≡ None }
     ensures never_not_json { ¬ (IsErrOf result DocFault.NotJson) }
 {
     let mut found = Vec::with_capacity(alloc, items.len())?;
@@ -61,22 +62,18 @@ fn docs_of(alloc: Global, items: &Vec<Value>) -> Result<Vec<Doc>, DocFault>
 }
 
 #[cycle(read)]
-fn members_of(
-    alloc: Global,
-    members: &Map<String, Value>,
-) -> Result<BTreeMap<String, Doc>, DocFault>
+fn members_of(alloc: Global, members: Map<String, Value>) -> Result<BTreeMap<String, Doc>, DocFault>
     ensures value { IfOk result
-        (λ m. members_of (members_view members.now.entries) ≡ Some (object_view m.entries)) }
+        (λ m. members_of (members_view members.entries) ≡ Some (object_view m.entries)) }
     ensures document { IfOk result (λ m. AreMembers (object_view m.entries)) }
     ensures not_integer { IsErrOf result DocFault.NotInteger
-        → members_of (members_view members.now.entries) ≡ None }
+        → members_of (members_view members.entries) ≡ None }
     ensures never_not_json { ¬ (IsErrOf result DocFault.NotJson) }
 {
     let mut found = BTreeMap::new(alloc);
     for (key, member) in members {
-        let name = key.clone()?;
         let doc = doc_of(alloc, member)?;
-        drop(found.insert(name, doc)?);
+        drop(found.insert(key, doc)?);
     }
     Ok(found)
 }

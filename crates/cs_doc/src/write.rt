@@ -1,12 +1,13 @@
-ghost use Rattle.std.specs.Prelude.{◌≡◌, ◌≤◌, IfOk, OnOk, IsOkUnless};
+ghost use Rattle.std.specs.Prelude.{◌≡◌, ◌≤◌, ◌++◌, IfOk, OnOk, IsOkUnless};
+ghost use Rattle.json.specs.Tree.{json_tokens, items_tokens, members_tokens};
 ghost use Rattle.serde_json.specs.Read.{max_depth};
-ghost use Rattle.serde_json.specs.View.{view, items_view, members_view};
+ghost use Rattle.serde_json.specs.Written.{outline, items_outline, members_outline};
 ghost use Rattle.cs_document.specs.Document.{depth, IsDocument, AreDocuments, AreMembers};
 ghost use Rattle.cs_doc.specs.Texts.{data_of, items_of, values_of, Reads, text_of};
 ghost use Rattle.cs_document.specs.View.{doc_view, list_view, object_view};
 
 use crate::{Doc, DocFault};
-use serde_json::{Map, Value};
+use json::Writer;
 use std::alloc::{AllocError, Global};
 use std::collections::BTreeMap;
 
@@ -19,48 +20,60 @@ pub fn write_doc(alloc: Global, doc: &Doc) -> Result<Vec<u8>, DocFault>
         (λ b. depth (doc_view doc.now) ≤ max_depth → Reads b.items (doc_view doc.now)) }
     ensures memory { IsOkUnless result DocFault.OutOfMemory }
 {
-    let value = value_of(alloc, doc)?;
-    Ok(value.to_vec(alloc)?)
+    let mut out = Writer::new(Vec::new(alloc));
+    write(doc, &mut out)?;
+    Ok(out.into_inner())
 }
 
+/// Writes the tokens of a document. The writer borrows texts and keys, so none stands in memory twice.
 #[cycle(write)]
-fn value_of(alloc: Global, doc: &Doc) -> Result<Value, AllocError>
-    ensures value { IfOk result (λ v. view v ≡ data_of (doc_view doc.now)) }
+fn write(doc: &Doc, out: &mut Writer) -> Result<(), AllocError>
+    ensures tokens { OnOk result (out.new.tokens
+        ≡ out.old.tokens ++ json_tokens (outline (data_of (doc_view doc.now)))) }
+    ensures before { out.new.before ≡ out.old.before }
     ensures document { OnOk result (IsDocument (doc_view doc.now)) }
 {
     match doc {
-        Doc::Null => Ok(Value::Null),
-        Doc::Bool(b) => Ok(Value::Bool(*b)),
-        Doc::Int(n) => Ok(Value::from(*n)),
-        Doc::Text(text) => Ok(Value::String(text.clone()?)),
-        Doc::List(items) => Ok(Value::Array(values_of(alloc, items)?)),
-        Doc::Object(members) => Ok(Value::Object(map_of(alloc, members)?)),
+        Doc::Null => out.null(),
+        Doc::Bool(b) => out.boolean(*b),
+        Doc::Int(n) => out.i64(*n),
+        Doc::Text(text) => out.string(text.as_str()),
+        Doc::List(items) => {
+            out.begin_array()?;
+            write_items(items, out)
+        }
+        Doc::Object(members) => {
+            out.begin_object()?;
+            write_members(members, out)
+        }
     }
 }
 
+/// Writes the elements of a list, and its end.
 #[cycle(write)]
-fn values_of(alloc: Global, items: &Vec<Doc>) -> Result<Vec<Value>, AllocError>
-    ensures value { IfOk result (λ v. items_view v.items ≡ items_of (list_view items.now.items)) }
+fn write_items(items: &Vec<Doc>, out: &mut Writer) -> Result<(), AllocError>
+    ensures tokens { OnOk result (out.new.tokens
+        ≡ out.old.tokens ++ items_tokens (items_outline (items_of (list_view items.now.items)))) }
+    ensures before { out.new.before ≡ out.old.before }
     ensures document { OnOk result (AreDocuments (list_view items.now.items)) }
 {
-    let mut found = Vec::with_capacity(alloc, items.len())?;
     for item in items {
-        found.push(value_of(alloc, item)?)?;
+        write(item, out)?;
     }
-    Ok(found)
+    out.end_array()
 }
 
+/// Writes the members of a map, and its end.
 #[cycle(write)]
-fn map_of(alloc: Global, members: &BTreeMap<String, Doc>) -> Result<Map<String, Value>, AllocError>
-    ensures value { IfOk result
-        (λ m. members_view m.entries ≡ values_of (object_view members.now.entries)) }
+fn write_members(members: &BTreeMap<String, Doc>, out: &mut Writer) -> Result<(), AllocError>
+    ensures tokens { OnOk result (out.new.tokens ≡ out.old.tokens
+        ++ members_tokens (members_outline (values_of (object_view members.now.entries)))) }
+    ensures before { out.new.before ≡ out.old.before }
     ensures document { OnOk result (AreMembers (object_view members.now.entries)) }
 {
-    let mut found = Map::new(alloc);
     for (key, member) in members {
-        let name = key.clone()?;
-        let value = value_of(alloc, member)?;
-        drop(found.insert(name, value)?);
+        out.key(key.as_str())?;
+        write(member, out)?;
     }
-    Ok(found)
+    out.end_object()
 }

@@ -1,7 +1,8 @@
 -- Documents, worked by the definitions. A wrong expectation stops the check here.
 use Rattle.std.proofs.Common.{◌≡◌, ℕ, pos, neg_ℤ, true, false, if◌then◌else◌, suc, List, [], ◌∷◌, map, codes, Some, None, refl, arith, rules}
+use Rattle.std.specs.List.{AllByRecursion}
 use Rattle.cs_document.specs.Document.{Document, null, boolean, integer, text, Members, no_members, IsDocument, document_eq, depth, put, under, get_member, entries}
-use Rattle.cs_document.specs.Opened.{opened, a_null, a_boolean, an_integer, a_text, a_list, an_object}
+use Rattle.cs_document.specs.Opened.{opened, map_opened, InsideBelow, a_null, a_boolean, an_integer, a_text, a_list, an_object}
 use Rattle.cs_document.proofs.SampleDocuments.{number, array, members, map_of}
 
 -- ---- short forms
@@ -96,3 +97,18 @@ by_order = refl
 levels : map opened (null ∷ boolean true ∷ boolean false ∷ number 5 ∷ text a ∷ array (null ∷ array [] ∷ []) ∷ map_of ((a, null) ∷ (b, map_of []) ∷ []) ∷ [])
     ≡ a_null ∷ a_boolean true ∷ a_boolean false ∷ an_integer (pos 5) ∷ a_text a ∷ a_list (null ∷ array [] ∷ []) ∷ an_object ((a, null) ∷ (b, map_of []) ∷ []) ∷ []
 levels = refl
+
+-- with one more than each number inside
+one_more : map (map_opened suc) (a_null ∷ a_boolean true ∷ an_integer (pos 5) ∷ a_text a ∷ a_list [] ∷ a_list (0 ∷ 7 ∷ []) ∷ an_object ((a, 3) ∷ (b, 1) ∷ []) ∷ [])
+    ≡ a_null ∷ a_boolean true ∷ an_integer (pos 5) ∷ a_text a ∷ a_list [] ∷ a_list (1 ∷ 8 ∷ []) ∷ an_object ((a, 4) ∷ (b, 2) ∷ []) ∷ []
+one_more = refl
+
+-- numbers below 4, and one that is 4
+below : AllByRecursion (InsideBelow 4) (a_null ∷ a_boolean true ∷ an_integer (pos 5) ∷ a_text a ∷ a_list [] ∷ a_list (3 ∷ 0 ∷ 3 ∷ []) ∷ an_object ((a, 3) ∷ (b, 0) ∷ []) ∷ [])
+below = search rules
+
+not_below : InsideBelow 4 (a_list (3 ∷ 4 ∷ [])) → ⊥
+not_below h = let l = h.1.0 in omega (arith, l)
+
+not_below_in_a_map : InsideBelow 4 (an_object ((a, 3) ∷ (b, 4) ∷ [])) → ⊥
+not_below_in_a_map h = let l = h.1.0 in omega (arith, l)

@@ -4,7 +4,8 @@ use Rattle.std.proofs.lemmas.List.{get_or_read_under}
 use Rattle.std.proofs.lemmas.Option.{IfSome_then}
 use Rattle.cs_package.specs.Environment.{Environment, name_at}
 use Rattle.cs_guard.specs.References.{strong_of, RefersStrongly}
-use Rattle.cs_guard.specs.Chains.{NoCycle, most_references}
+use Rattle.cs_graph.specs.Chains.{NoCycle}
+use Rattle.cs_guard.specs.Limits.{most_references}
 use Rattle.cs_guard.specs.Guarded.{Chain, IsGuarded, IsHeight}
 use Rattle.cs_guard.specs.Ranks.{AreRanks}
 

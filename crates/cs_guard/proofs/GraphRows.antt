@@ -11,8 +11,8 @@ use Rattle.cs_package.specs.Environment.{Environment, declared_names, bodies, bo
 use Rattle.cs_package.specs.View.{expression_of, expressions_of, is_known}
 use Rattle.cs_package.specs.declared.shape.Shape.{Shape}
 use Rattle.cs_guard.specs.References.{strong, strong_all, strong_of}
-use Rattle.cs_guard.specs.Chains.{On}
-use Rattle.cs_guard.specs.Graph.{Graph, graph_of}
+use Rattle.cs_graph.specs.Chains.{On}
+use Rattle.cs_graph.specs.Graph.{Graph, graph_of}
 use Rattle.cs_guard.specs.Numbered.{name_of}
 use Rattle.cs_guard.specs.Pushed.{named}
 use Rattle.cs_guard.proofs.Pushes.{PushedAll}

@@ -1,58 +1,54 @@
--- The heights found so far.
-use Rattle.std.proofs.Common.{◌≡◌, ℕ, zero, suc, ◌+◌, ◌<◌, ◌≤◌, Bool, true, false, List, [], ◌∷◌, ◌++◌, inl, inr, Some, length, slice_get, get_or, take, drop, refl, sym, ap, ap₂, ◌∙◌, arith}
-use Rattle.std.proofs.Math.ListN.{get_or-append}
-use Rattle.std.proofs.Math.Seq.{get_or-append_seam}
-use Rattle.std.proofs.lemmas.List.{append-nil, take_all, drop_all}
+-- Heights, beside how long chains may be.
+use Rattle.std.proofs.Common.{ℕ, zero, suc, ◌<◌, ◌≤◌, List, [], ◌∷◌, ◌⊎◌, inl, inr, length, get_or, arith}
+use Rattle.std.specs.List.{All}
+use Rattle.std.proofs.lemmas.List.Elements.{All-nil}
 use Rattle.std.proofs.lemmas.Option.{slice_get_within}
-use Rattle.cs_guard.specs.Chains.{IsHeight, most_references}
-use Rattle.cs_guard.specs.Graph.{Graph, Refers}
-use Rattle.cs_guard.specs.Walk.{State, Keeps, Deep}
-use Rattle.cs_guard.specs.declared.walk.VisitState.{VisitState}
-use Rattle.cs_guard.specs.declared.walk.VisitState.TheVariants.{Done}
-use Rattle.cs_guard.proofs.Paths.{chain_short}
-use Rattle.cs_guard.proofs.Marks.{same_or}
+use Rattle.cs_graph.specs.Chains.{Chain, NoCycle}
+use Rattle.cs_graph.specs.Graph.{Graph, Refers, AreHeights}
+use Rattle.cs_graph.proofs.Marks.{up_to}
+use Rattle.cs_guard.specs.Limits.{IsGuarded, IsTooDeep, LongChain, most_references}
 
-pub done_more : (M N : List VisitState) (hs new : List ℕ) (n h : ℕ) → length hs ≡ n → new ≡ hs ++ h ∷ [] → Keeps M N → ((k : ℕ) → k < n → slice_get M k ≡ Some (Done (get_or hs k 0))) → slice_get N n ≡ Some (Done h) → (k : ℕ) → k < n + 1 → slice_get N k ≡ Some (Done (get_or new k 0))
-done_more M N hs new n h long grown kept before at k l = elim (same_or k n) [
-  | inl e ↦ ap (slice_get N) e ∙ at ∙ ap (λ x. Some (Done x)) (sym (get_or-append_seam hs h [] 0) ∙ ap₂ (λ xs i. get_or xs i 0) (sym grown) (long ∙ sym e))
-  | inr ne ↦ (let low : k < n = below_or k n ne l in
-      kept k (Done (get_or hs k 0)) (before k low) refl ∙ ap (λ x. Some (Done x)) (sym (get_or-append hs (h ∷ []) 0 k (omega (arith, long, low))) ∙ ap (λ xs. get_or xs k 0) (sym grown)))
+-- heights that chains may have
+abbrev pub AreShort : List ℕ → Type 0
+AreShort hs = All (λ h. h ≤ most_references) hs
+
+-- the place of one that no chain may have
+abbrev HasLong : List ℕ → Type 0
+HasLong hs = (k : ℕ) × (k < length hs) × (most_references < get_or hs k 0)
+
+short_or_long : (hs : List ℕ) → AreShort hs ⊎ HasLong hs
+short_or_long [] = inl (All-nil (λ h. h ≤ most_references))
+short_or_long (h ∷ hs) = elim (up_to h most_references) [
+  | inr over ↦ inr (0, omega arith, over)
+  | inl low ↦ elim (short_or_long hs) [
+    | inl all ↦ inl (both h hs low all)
+    | inr far ↦ inr (suc far.0, (let l = far.1 in omega arith), far.2)
+  ]
 ]
   where
-    below_or : (k n : ℕ) → (k ≡ n → ⊥) → k < n + 1 → k < n
-    below_or zero zero ne l = absurd (ne refl)
-    below_or zero (suc n) ne l = omega arith
-    below_or (suc k) zero ne l = absurd (omega arith)
-    below_or (suc k) (suc n) ne l = let r = below_or k n (λ e. ne (ap suc e)) (omega arith) in omega arith
+    both : (h : ℕ) (hs : List ℕ) → h ≤ most_references → AreShort hs → AreShort (h ∷ hs)
+    both h hs low all zero d l = low
+    both h hs low all (suc k) d l = all k d (omega arith)
 
-pub deep_more : (G : Graph) (d : Bool) (hs : List ℕ) (h : ℕ) → Deep G d hs → h ≤ most_references → Deep G d (hs ++ h ∷ [])
-deep_more G true hs h s l = s
-deep_more G false hs h s l = low hs s
-  where
-    low : (hs : List ℕ) → ((n : ℕ) → get_or hs n 0 ≤ most_references) → (n : ℕ) → get_or (hs ++ h ∷ []) n 0 ≤ most_references
-    low [] s zero = l
-    low [] s (suc n) = omega arith
-    low (x ∷ xs) s zero = s zero
-    low (x ∷ xs) s (suc n) = low xs (λ k. s (suc k)) n
+module _ (G : Graph) (hs : List ℕ) (are : AreHeights G hs) (none : NoCycle (Refers G)) where
+  pub guarded_of : AreShort hs → IsGuarded (Refers G)
+  guarded_of short = record { no_cycle = none; short = chain }
+    where
+      chain : (n : ℕ) (ns : List ℕ) → Chain (Refers G) n ns → length ns ≤ most_references
+      chain n [] c = omega arith
+      chain n (m ∷ ns) c =
+          let r = c.0 in
+          let inside : n < length G = slice_get_within G n r.row r.found in
+          let top = (are.each n inside).longest (m ∷ ns) c in
+          let low = short n 0 (omega (arith, inside, are.long)) in
+          omega (arith, top, low)
 
--- the heights fall along references
-pub falls_of : (G : Graph) (M : List VisitState) (hs : List ℕ) (c : ℕ) → State G M [] → length G ≤ c → ((k : ℕ) → k < c → slice_get M k ≡ Some (Done (get_or hs k 0))) → (n m : ℕ) → Refers G n m → get_or hs m 0 < get_or hs n 0
-falls_of G M hs c s all done n m r =
-    let n_in : n < length G = slice_get_within G n r.row r.found in
-    let b = (s.settled n (get_or hs n 0) (done n (omega (arith, all)))).low m r in
-    let m_in : m < length M = slice_get_within M m (Done b.height) b.done in
-    let e : Some (Done b.height) ≡ Some (Done (get_or hs m 0)) = sym b.done ∙ done m (omega (arith, s.long, all)) in
-    let same : b.height ≡ get_or hs m 0 = cc in
-    let less = b.less in omega (arith, less, same)
-
--- a number that is done has its height
-pub height_of : (G : Graph) (M : List VisitState) (hs : List ℕ) (c : ℕ) → State G M [] → ((k : ℕ) → k < c → slice_get M k ≡ Some (Done (get_or hs k 0))) → ((n m : ℕ) → Refers G n m → get_or hs m 0 < get_or hs n 0) → (n : ℕ) → n < c → IsHeight (Refers G) n (get_or hs n 0)
-height_of G M hs c s done falls n l =
-    let chain = (s.settled n (get_or hs n 0) (done n l)).chain in
-    record { steps = chain.steps; chain = chain.chain; long = chain.long; longest = chain_short (Refers G) (λ k. get_or hs k 0) falls n }
-
--- a slice of the whole, as written
-pub written_back : {X : Type 0} (old new : List X) (n : ℕ) → n ≡ length old → length new ≡ length old → take n (new ++ drop (length new) old) ≡ new
-written_back old new n long same =
-    let none : drop (length new) old ≡ [] = drop_all (length new) old (omega arith) in
-    rw none (rw append-nil (take_all n new (omega arith)))
+  pub too_deep_of : (AreShort hs → ⊥) → IsTooDeep (Refers G)
+  too_deep_of long = (
+    none,
+    elim (short_or_long hs) as (λ _. LongChain (Refers G)) [
+      | inl short ↦ absurd (long short)
+      | inr far ↦ (let at = are.each far.0 (let l = far.1 in omega (arith, are.long)) in
+          record { start = far.0; steps = at.steps; chain = at.chain; long = let over = far.2 in omega (arith, at.long, over) })
+    ],
+  )

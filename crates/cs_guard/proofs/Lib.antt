@@ -1,8 +1,4 @@
 pub mod Chains
-pub mod Places
-pub mod Paths
-pub mod Turning
-pub mod Marks
 pub mod Heights
 pub mod Numbers
 pub mod Pushes

@@ -13,10 +13,11 @@ use Rattle.cs_package.specs.Environment.{Environment, declared_names, bodies, na
 use Rattle.cs_guard.specs.References.{strong, strong_of, RefersStrongly}
 use Rattle.cs_guard.specs.Ranks.{AreRanks}
 use Rattle.cs_guard.specs.Cycles as refused
-use Rattle.cs_guard.specs.Chains.{On, Distinct, Chain, NoCycle, IsGuarded, IsTooDeep, IsHeight, most_references}
-use Rattle.cs_guard.specs.Graph.{Graph, Refers, IsLowestFirst, IsLowestCycle, AreHeights}
+use Rattle.cs_graph.specs.Chains.{On, Distinct, Chain, NoCycle, IsHeight}
+use Rattle.cs_graph.specs.Graph.{Graph, Refers, IsLowestFirst, IsLowestCycle, AreHeights}
+use Rattle.cs_guard.specs.Limits.{IsGuarded, IsTooDeep, most_references}
 use Rattle.cs_guard.specs.Numbered.{name_of, IsGraphOf}
-use Rattle.cs_guard.proofs.Places.{on_left, on_end}
+use Rattle.cs_graph.proofs.Places.{on_left, on_end}
 
 -- ---- what stands in a list
 
@@ -159,9 +160,9 @@ module _ (E : Environment) (G : Graph) (is : IsGraphOf E G) (once : IsDistinct b
   guarded_by_name g = record { no_cycle = no_cycle_by_name g.no_cycle; short = short_by_name E G is g.short }
 
   -- heights by numbers are the ranks of the definitions
-  pub ranks_by_name : (hs : List ℕ) → AreHeights G hs → AreRanks E hs
-  ranks_by_name hs h = record {
-    guarded = guarded_by_name h.guarded;
+  pub ranks_by_name : (hs : List ℕ) → AreHeights G hs → IsGuarded (Refers G) → AreRanks E hs
+  ranks_by_name hs h g = record {
+    guarded = guarded_by_name g;
     long = h.long ∙ is.long;
     heights = λ i n at. height_by_name E G is i n (get_or hs i 0) at (h.each i (let l = named_within E i n at in omega (arith, is.long)));
   }

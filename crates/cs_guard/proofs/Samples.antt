@@ -8,8 +8,10 @@ use Rattle.cs_package.specs.Expression.{Expression, Declarations, no_declaration
 use Rattle.cs_package.specs.View.{expressions_of}
 use Rattle.cs_package.specs.Environment.{Environment, name_at, written}
 use Rattle.cs_guard.specs.References.{direct, strong, strong_of, RefersStrongly}
-use Rattle.cs_guard.specs.Chains as general
-use Rattle.cs_guard.specs.Chains.{Chain, NoCycle, IsTooDeep, most_references}
+use Rattle.cs_graph.specs.Chains as general
+use Rattle.cs_graph.specs.Chains.{Chain, NoCycle}
+use Rattle.cs_guard.specs.Limits as limits
+use Rattle.cs_guard.specs.Limits.{IsTooDeep, most_references}
 use Rattle.cs_guard.specs.Guarded.{IsGuarded, IsHeight}
 use Rattle.cs_guard.specs.Cycles.{IsCycle, IsRefusal}
 use Rattle.cs_guard.specs.declared.fault.GuardFault.TheVariants.{Cycle, ChainTooLong}
@@ -144,7 +146,7 @@ no_cycle_up_to : (k : ℕ) → NoCycle (ToNext k)
 no_cycle_up_to k x xs c = let h = ends_above k x x xs c in omega (arith, h)
 
 -- up to 64 the longest chain has 64 references, which may be
-chain_of_64 : general.IsGuarded (ToNext 64)
+chain_of_64 : limits.IsGuarded (ToNext 64)
 chain_of_64 = record { no_cycle = no_cycle_up_to 64; short = short }
   where
     short : (x : ℕ) (xs : List ℕ) → Chain (ToNext 64) x xs → length xs ≤ 64
@@ -152,7 +154,7 @@ chain_of_64 = record { no_cycle = no_cycle_up_to 64; short = short }
     short x (y ∷ ys) c = let h = climbs 64 x (y ∷ ys) (omega (arith, c.0.0, c.0.1)) c in omega (arith, h)
 
 -- up to 65 there is a chain of 65, which is too long
-chain_of_65 : general.IsGuarded (ToNext 65) → ⊥
+chain_of_65 : limits.IsGuarded (ToNext 65) → ⊥
 chain_of_65 h = let l = h.short 0 (up_from 0 65) (climbing 65 0 65 (omega arith)) in omega (arith, l)
 
 too_deep_at_65 : IsTooDeep (ToNext 65)

@@ -4,7 +4,8 @@ use Rattle.std.specs.Prelude.{◌≡◌, ℕ, ◌≤◌, List, [], ◌∷◌, So
 use Rattle.std.specs.List.{IsDistinct}
 use Rattle.std.specs.Str.{bytes_eq}
 use Rattle.cs_package.specs.Environment.{Environment, name_at, written}
-use Rattle.cs_guard.specs.Chains as general
+use Rattle.cs_graph.specs.Chains as general
+use Rattle.cs_guard.specs.Limits as limits
 use Rattle.cs_guard.specs.References.{RefersStrongly}
 use Rattle.cs_guard.specs.declared.fault.GuardFault.{GuardFault}
 use Rattle.cs_guard.specs.declared.fault.GuardFault.TheVariants.{OutOfMemory, Cycle, ChainTooLong}
@@ -22,7 +23,7 @@ pub record IsCycle (E : Environment) (ns : List (List ℕ)) : Type 0 where
 
 -- there is no cycle, and a chain of more strong references than may be
 abbrev pub IsTooDeep : Environment → Type 0
-IsTooDeep E = general.IsTooDeep (RefersStrongly E)
+IsTooDeep E = limits.IsTooDeep (RefersStrongly E)
 
 -- what is refused: a cycle, told by its names as CUE writes them, or a chain that is too long where there is no cycle
 abbrev pub IsRefusal : GuardFault → Environment → Type 0

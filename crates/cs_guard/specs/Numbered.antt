@@ -2,7 +2,7 @@
 use Rattle.std.specs.Prelude.{◌≡◌, ℕ, List, [], Some, map, length, slice_get}
 use Rattle.std.specs.Option.{unwrap_or}
 use Rattle.cs_package.specs.Environment.{Environment, name_at}
-use Rattle.cs_guard.specs.Graph.{Graph, Within}
+use Rattle.cs_graph.specs.Graph.{Graph, Within}
 use Rattle.cs_guard.specs.References.{strong_of}
 
 -- the name of that number

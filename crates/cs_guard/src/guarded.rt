@@ -1,17 +1,21 @@
 // A guarded package.
-ghost use Rattle.std.specs.Prelude.{◌≡◌, ◌<◌, ℕ, List, map, length, string_bytes, All, Contains, IfOk, IfErr, OnOk, IfSome, IsOkUnless};
+ghost use Rattle.std.specs.Prelude.{◌≡◌, ◌<◌, ◌≤◌, ◌↔◌, ℕ, List, map, length, string_bytes, All, Contains, IsTrue, IfOk, IfErr, OnOk, IfSome, IsOkUnless};
 ghost use Rattle.cs_package.specs.Environment.{name_at, written};
 ghost use Rattle.cs_guard.specs.Numbered.{name_of};
 ghost use Rattle.cs_guard.specs.Cycles.{IsRefusal};
 ghost use Rattle.cs_guard.specs.References.{strong_of};
+ghost use Rattle.cs_guard.specs.Limits.{most_references};
 ghost use Rattle.cs_guard.specs.Guarded.{IsGuarded, IsHeight};
 
 use crate::GuardFault;
 use crate::references::graph_of_package;
-use crate::walk::{WalkFault, heights};
+use cs_graph::{GraphFault, heights};
 use cs_package::Package;
 use std::alloc::{AllocError, Global};
 use std::marker::Model;
+
+/// The most references that a chain may have.
+const MOST_REFERENCES: usize = 64;
 
 /// A package without a cycle of strong references and without a chain of more than 64 of them.
 #[derive(Drop)]
@@ -69,14 +73,25 @@ pub fn guard(alloc: Global, package: Package) -> Result<Guarded, GuardFault>
 {
     let graph = graph_of_package(alloc, &package)?;
     match heights(alloc, &graph) {
-        Ok(ranks) => Ok(Guarded { package, ranks }),
-        Err(WalkFault::OutOfMemory) => Err(GuardFault::OutOfMemory),
-        Err(WalkFault::Cycle { numbers }) => {
+        Ok(ranks) => {
+            if !are_within_limit(&ranks) {
+                return Err(GuardFault::ChainTooLong);
+            }
+            Ok(Guarded { package, ranks })
+        }
+        Err(GraphFault::OutOfMemory) => Err(GuardFault::OutOfMemory),
+        Err(GraphFault::Cycle { numbers }) => {
             let names = names_of(alloc, &package, &numbers)?;
             Err(GuardFault::Cycle { names })
         }
-        Err(WalkFault::TooDeep) => Err(GuardFault::ChainTooLong),
     }
+}
+
+/// Whether each chain is as short as it has to be, by the lengths of the longest ones.
+fn are_within_limit(ranks: &[usize]) -> bool
+    ensures { IsTrue result ↔ All (λ r. r ≤ most_references) ranks.now }
+{
+    ranks.iter().all(|rank| *rank <= MOST_REFERENCES)
 }
 
 /// The names of definitions, as CUE writes them.

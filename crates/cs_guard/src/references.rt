@@ -6,7 +6,7 @@ ghost use Rattle.std.specs.Str.{bytes_eq};
 ghost use Rattle.cs_package.specs.Environment.{declared_names};
 ghost use Rattle.cs_package.specs.View.{expression_of, part_of, expressions_of, declarations_of, is_known, is_known_part};
 ghost use Rattle.cs_guard.specs.References.{strong, strong_all, strong_fields, unless_optional};
-ghost use Rattle.cs_guard.specs.Graph.{graph_of};
+ghost use Rattle.cs_graph.specs.Graph.{graph_of};
 ghost use Rattle.cs_guard.specs.Numbered.{IsGraphOf};
 ghost use Rattle.cs_guard.specs.Pushed.{Pushed};
 

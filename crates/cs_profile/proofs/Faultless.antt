@@ -3,9 +3,13 @@ use Rattle.std.proofs.Common.{◌≡◌, ℕ, suc, Bool, true, false, List, [], 
 use Rattle.std.proofs.lemmas.Slice.Eq.{bytes_eq-Decides}
 use Rattle.std.specs.Option.{option_and_then}
 use Rattle.cs_document.specs.Document.{Document, null, boolean, integer, text, list, object, Documents, no_documents, document, Members, no_members, member, under}
-use Rattle.cs_profile.specs.Keywords.{Keyword, Dialect, Definitions, Refers, HasType, Equals, OneOf, Minimum, Maximum, Above, Below, Requires, Properties, Additional, Prefix, Items, MinItems, AllOf, AnyOf, Not, Note, keywords}
+use Rattle.cs_profile.specs.Keywords.{keywords}
+use Rattle.cs_profile.specs.declared.keyword.Keyword.{Keyword}
+use Rattle.cs_profile.specs.declared.keyword.Keyword.TheVariants as keyword
 use Rattle.cs_profile.specs.Loops.{by_keyword, value_names, direct_names, keyword_names, list_names, each_names}
-use Rattle.cs_profile.specs.Shapes.{Form, the_dialect, a_reference, a_kind, anything, an_array, an_integer, a_count, distinct_texts, a_text, a_schema, some_schemas, named_schemas, Row, row, row_of, has_form, is_kept, by_form}
+use Rattle.cs_profile.specs.Shapes.{form_at, form_in, has_form, keeping, is_kept, by_form}
+use Rattle.cs_profile.specs.declared.keyword.Form.{Form}
+use Rattle.cs_profile.specs.declared.keyword.Form.TheVariants as form
 use Rattle.cs_profile.specs.Places.{at_key, at_index}
 use Rattle.cs_profile.specs.Profile.{Visit, first, or_else, fault_of, shape_fault, visits, member_visits, keyword_visits, list_visits, element_visits, map_visits, named_visits, undefined_at, reference_fault, within, value_visits}
 use Rattle.cs_profile.specs.Trim.{trimmed, trimmed_members, trimmed_list, trimmed_elements, trimmed_map, trimmed_named, trimmed_as, value_trims, with_member}
@@ -33,7 +37,7 @@ left f v = by_form f (value_trims v)
 abbrev pub inside : Form → List ℕ → Document → List Visit
 inside f place v = by_form f (value_visits place v)
 
-some_left : (v : Document) → has_form some_schemas (trimmed_list v) ≡ has_form some_schemas v
+some_left : (v : Document) → has_form form.Schemas (trimmed_list v) ≡ has_form form.Schemas v
 some_left null = refl
 some_left (boolean b) = refl
 some_left (integer z) = refl
@@ -42,7 +46,7 @@ some_left (list no_documents) = refl
 some_left (list (document d ds)) = refl
 some_left (object ms) = refl
 
-named_left : (v : Document) → has_form named_schemas (trimmed_map v) ≡ has_form named_schemas v
+named_left : (v : Document) → has_form form.NamedSchemas (trimmed_map v) ≡ has_form form.NamedSchemas v
 named_left null = refl
 named_left (boolean b) = refl
 named_left (integer z) = refl
@@ -51,55 +55,55 @@ named_left (list ds) = refl
 named_left (object ms) = refl
 
 pub form_left : (f : Form) (v : Document) → has_form f (left f v) ≡ has_form f v
-form_left the_dialect v = refl
-form_left a_reference v = refl
-form_left a_kind v = refl
-form_left anything v = refl
-form_left an_array v = refl
-form_left an_integer v = refl
-form_left a_count v = refl
-form_left distinct_texts v = refl
-form_left a_text v = refl
-form_left a_schema v = refl
-form_left some_schemas v = some_left v
-form_left named_schemas v = named_left v
+form_left form.Dialect v = refl
+form_left form.Reference v = refl
+form_left form.Kind v = refl
+form_left form.Anything v = refl
+form_left form.Array v = refl
+form_left form.Integer v = refl
+form_left form.Count v = refl
+form_left form.Texts v = refl
+form_left form.Text v = refl
+form_left form.Schema v = refl
+form_left form.Schemas v = some_left v
+form_left form.NamedSchemas v = named_left v
 
 inside_left : (f : Form) (place : List ℕ) (v : Document)
     → (Faultless (visits false place v) → Faultless (visits false place (trimmed false v)))
     → (Faultless (list_visits place v) → Faultless (list_visits place (trimmed_list v)))
     → (Faultless (map_visits place v) → Faultless (map_visits place (trimmed_map v)))
     → Faultless (inside f place v) → Faultless (inside f place (left f v))
-inside_left the_dialect place v a b c h = h
-inside_left a_reference place v a b c h = h
-inside_left a_kind place v a b c h = h
-inside_left anything place v a b c h = h
-inside_left an_array place v a b c h = h
-inside_left an_integer place v a b c h = h
-inside_left a_count place v a b c h = h
-inside_left distinct_texts place v a b c h = h
-inside_left a_text place v a b c h = h
-inside_left a_schema place v a b c h = a h
-inside_left some_schemas place v a b c h = b h
-inside_left named_schemas place v a b c h = c h
+inside_left form.Dialect place v a b c h = h
+inside_left form.Reference place v a b c h = h
+inside_left form.Kind place v a b c h = h
+inside_left form.Anything place v a b c h = h
+inside_left form.Array place v a b c h = h
+inside_left form.Integer place v a b c h = h
+inside_left form.Count place v a b c h = h
+inside_left form.Texts place v a b c h = h
+inside_left form.Text place v a b c h = h
+inside_left form.Schema place v a b c h = a h
+inside_left form.Schemas place v a b c h = b h
+inside_left form.NamedSchemas place v a b c h = c h
 
-member_kept : (root : Bool) (place k : List ℕ) (v : Document) (ns : Members) (r : Row) (keep : Bool) → row root k ≡ Some r
-    → (Faultless (inside r.0 (at_key place k) v) → Faultless (inside r.0 (at_key place k) (left r.0 v)))
-    → or_else (shape_fault place k (has_form r.0 v)) (first fault_of (inside r.0 (at_key place k) v)) ≡ None → Faultless (member_visits root place ns)
-    → Faultless (member_visits root place (with_member (if keep then Some (left r.0 v) else None) k ns))
+member_kept : (root : Bool) (place k : List ℕ) (v : Document) (ns : Members) (r : Form) (keep : Bool) → form_at root k ≡ Some r
+    → (Faultless (inside r (at_key place k) v) → Faultless (inside r (at_key place k) (left r v)))
+    → or_else (shape_fault place k (has_form r v)) (first fault_of (inside r (at_key place k) v)) ≡ None → Faultless (member_visits root place ns)
+    → Faultless (member_visits root place (with_member (if keep then Some (left r v) else None) k ns))
 member_kept root place k v ns r false e kept h rest = rest
 member_kept root place k v ns r true e kept h rest =
-    let parts = or_else_none (shape_fault place k (has_form r.0 v)) (first fault_of (inside r.0 (at_key place k) v)) h in
-    let shaped : shape_fault place k (has_form r.0 (left r.0 v)) ≡ None = ap (shape_fault place k) (form_left r.0 v) ∙ parts.0 in
-    joined fault_of (keyword_visits root place k (left r.0 v)) (member_visits root place ns) (rw e (ap₂ or_else shaped (kept parts.1))) rest
+    let parts = or_else_none (shape_fault place k (has_form r v)) (first fault_of (inside r (at_key place k) v)) h in
+    let shaped : shape_fault place k (has_form r (left r v)) ≡ None = ap (shape_fault place k) (form_left r v) ∙ parts.0 in
+    joined fault_of (keyword_visits root place k (left r v)) (member_visits root place ns) (rw e (ap₂ or_else shaped (kept parts.1))) rest
 
-member_trimmed : (root : Bool) (place k : List ℕ) (v : Document) (ns : Members) (r : Option Row) → row root k ≡ r
+member_trimmed : (root : Bool) (place k : List ℕ) (v : Document) (ns : Members) (r : Option Form) → form_at root k ≡ r
     → (Faultless (visits false (at_key place k) v) → Faultless (visits false (at_key place k) (trimmed false v)))
     → (Faultless (list_visits (at_key place k) v) → Faultless (list_visits (at_key place k) (trimmed_list v)))
     → (Faultless (map_visits (at_key place k) v) → Faultless (map_visits (at_key place k) (trimmed_map v)))
     → Faultless (keyword_visits root place k v) → Faultless (member_visits root place ns)
     → Faultless (member_visits root place (with_member (trimmed_as r v (value_trims v)) k ns))
 member_trimmed root place k v ns None e a b c h rest = let fault = rw e at h in cc
-member_trimmed root place k v ns (Some r) e a b c h rest = member_kept root place k v ns r (is_kept r.1 v) e (inside_left r.0 (at_key place k) v a b c) (rw e at h) rest
+member_trimmed root place k v ns (Some r) e a b c h rest = member_kept root place k v ns r (is_kept (keeping r) v) e (inside_left r (at_key place k) v a b c) (rw e at h) rest
 
 mutual
   pub faultless_trimmed : (root : Bool) (place : List ℕ) (d : Document) → Faultless (visits root place d) → Faultless (visits root place (trimmed root d))
@@ -114,7 +118,7 @@ mutual
   faultless_members root place no_members h = refl
   faultless_members root place (member k v ms) h =
       let parts = parted fault_of (keyword_visits root place k v) (member_visits root place ms) h in
-      member_trimmed root place k v (trimmed_members root ms) (row root k) refl (faultless_trimmed false (at_key place k) v) (faultless_list (at_key place k) v) (faultless_map (at_key place k) v) parts.0 (faultless_members root place ms parts.1)
+      member_trimmed root place k v (trimmed_members root ms) (form_at root k) refl (faultless_trimmed false (at_key place k) v) (faultless_list (at_key place k) v) (faultless_map (at_key place k) v) parts.0 (faultless_members root place ms parts.1)
 
   faultless_list : (place : List ℕ) (d : Document) → Faultless (list_visits place d) → Faultless (list_visits place (trimmed_list d))
   faultless_list place null h = h
@@ -147,14 +151,14 @@ mutual
 -- ---- references below the root
 
 -- which keyword `$ref` is
-pub not_reference : (k : List ℕ) (w : Keyword) → under k keywords ≡ Some w → (w ≡ Refers → ⊥) → bytes_eq k (codes "$ref") ≡ false
+pub not_reference : (k : List ℕ) (w : Keyword) → under k keywords ≡ Some w → (w ≡ keyword.Ref → ⊥) → bytes_eq k (codes "$ref") ≡ false
 not_reference k w e h = by_test (bytes_eq k (codes "$ref")) refl
   where
     by_test : (t : Bool) → bytes_eq k (codes "$ref") ≡ t → t ≡ false
     by_test false s = refl
     by_test true s =
         let is : k ≡ codes "$ref" = (bytes_eq-Decides k (codes "$ref")).0 s in
-        let same : Some w ≡ Some Refers = sym e ∙ ap (λ n. under n keywords) is in
+        let same : Some w ≡ Some keyword.Ref = sym e ∙ ap (λ n. under n keywords) is in
         absurd (h cc)
 
 module _ (known : List ℕ → Bool) where
@@ -165,46 +169,34 @@ module _ (known : List ℕ → Bool) where
   abbrev AtKeyword : List ℕ → List ℕ → Document → Type 0
   AtKeyword place k v = (first (undefined_at known) (keyword_visits false place k v) ≡ None) × (by_keyword (under k keywords) (value_names v) ≡ [])
 
-  plain : (place k : List ℕ) (v : Document) (w : Keyword) → under k keywords ≡ Some w → (w ≡ Refers → ⊥)
-      → first (undefined_at known) (within (row_of false w) (value_visits (at_key place k) v)) ≡ None
+  plain : (place k : List ℕ) (v : Document) (w : Keyword) → under k keywords ≡ Some w → (w ≡ keyword.Ref → ⊥)
+      → first (undefined_at known) (within (form_in false w) (value_visits (at_key place k) v)) ≡ None
       → by_keyword (Some w) (value_names v) ≡ [] → AtKeyword place k v
   plain place k v w e n none names = (
     ap₂ or_else (ap (λ t. if t then reference_fault known place v else None) (not_reference k w e n))
-        (ap (λ o. first (undefined_at known) (within (option_and_then (row_of false) o) (value_visits (at_key place k) v))) e ∙ none),
+        (ap (λ o. first (undefined_at known) (within (option_and_then (form_in false) o) (value_visits (at_key place k) v))) e ∙ none),
     ap (λ o. by_keyword o (value_names v)) e ∙ names,
   )
 
   -- a key that is none of the keywords below the root
-  none_such : (place k : List ℕ) (v : Document) (o : Option Keyword) → under k keywords ≡ o → option_and_then (row_of false) o ≡ None → Faultless (keyword_visits false place k v) → ⊥
+  none_such : (place k : List ℕ) (v : Document) (o : Option Keyword) → under k keywords ≡ o → option_and_then (form_in false) o ≡ None → Faultless (keyword_visits false place k v) → ⊥
   none_such place k v o e r h =
-      let none : row false k ≡ None = ap (option_and_then (row_of false)) e ∙ r in
+      let none : form_at false k ≡ None = ap (option_and_then (form_in false)) e ∙ r in
       let fault = rw none at h in cc
 
   at_keyword : (place k : List ℕ) (v : Document) (o : Option Keyword) → under k keywords ≡ o → Unreferring (list_visits (at_key place k) v) (list_names v) → Faultless (keyword_visits false place k v) → AtKeyword place k v
-  at_keyword place k v None e i h = absurd (none_such place k v None e refl h)
-  at_keyword place k v (Some Dialect) e i h = absurd (none_such place k v (Some Dialect) e refl h)
-  at_keyword place k v (Some Definitions) e i h = absurd (none_such place k v (Some Definitions) e refl h)
-  at_keyword place k v (Some Refers) e i h = absurd (none_such place k v (Some Refers) e refl h)
-  at_keyword place k v (Some OneOf) e i h = absurd (none_such place k v (Some OneOf) e refl h)
-  at_keyword place k v (Some Requires) e i h = absurd (none_such place k v (Some Requires) e refl h)
-  at_keyword place k v (Some Properties) e i h = absurd (none_such place k v (Some Properties) e refl h)
-  at_keyword place k v (Some Additional) e i h = absurd (none_such place k v (Some Additional) e refl h)
-  at_keyword place k v (Some Prefix) e i h = absurd (none_such place k v (Some Prefix) e refl h)
-  at_keyword place k v (Some Items) e i h = absurd (none_such place k v (Some Items) e refl h)
-  at_keyword place k v (Some MinItems) e i h = absurd (none_such place k v (Some MinItems) e refl h)
-  at_keyword place k v (Some AnyOf) e i h = absurd (none_such place k v (Some AnyOf) e refl h)
-  at_keyword place k v (Some Not) e i h = absurd (none_such place k v (Some Not) e refl h)
-  at_keyword place k v (Some Note) e i h = absurd (none_such place k v (Some Note) e refl h)
-  at_keyword place k v (Some HasType) e i h = plain place k v HasType e (λ s. cc) refl refl
-  at_keyword place k v (Some Equals) e i h = plain place k v Equals e (λ s. cc) refl refl
-  at_keyword place k v (Some Minimum) e i h = plain place k v Minimum e (λ s. cc) refl refl
-  at_keyword place k v (Some Maximum) e i h = plain place k v Maximum e (λ s. cc) refl refl
-  at_keyword place k v (Some Above) e i h = plain place k v Above e (λ s. cc) refl refl
-  at_keyword place k v (Some Below) e i h = plain place k v Below e (λ s. cc) refl refl
-  at_keyword place k v (Some AllOf) e i h =
-      let mine : or_else (shape_fault place k (has_form some_schemas v)) (first fault_of (list_visits (at_key place k) v)) ≡ None = rw e at h in
-      let below = i (or_else_none (shape_fault place k (has_form some_schemas v)) (first fault_of (list_visits (at_key place k) v)) mine).1 in
-      plain place k v AllOf e (λ s. cc) below.0 below.1
+  at_keyword place k v (Some keyword.Type) e i h = plain place k v keyword.Type e (λ s. cc) refl refl
+  at_keyword place k v (Some keyword.Const) e i h = plain place k v keyword.Const e (λ s. cc) refl refl
+  at_keyword place k v (Some keyword.Minimum) e i h = plain place k v keyword.Minimum e (λ s. cc) refl refl
+  at_keyword place k v (Some keyword.Maximum) e i h = plain place k v keyword.Maximum e (λ s. cc) refl refl
+  at_keyword place k v (Some keyword.ExclusiveMinimum) e i h = plain place k v keyword.ExclusiveMinimum e (λ s. cc) refl refl
+  at_keyword place k v (Some keyword.ExclusiveMaximum) e i h = plain place k v keyword.ExclusiveMaximum e (λ s. cc) refl refl
+  at_keyword place k v (Some keyword.AllOf) e i h =
+      let mine : or_else (shape_fault place k (has_form form.Schemas v)) (first fault_of (list_visits (at_key place k) v)) ≡ None = rw e at h in
+      let below = i (or_else_none (shape_fault place k (has_form form.Schemas v)) (first fault_of (list_visits (at_key place k) v)) mine).1 in
+      plain place k v keyword.AllOf e (λ s. cc) below.0 below.1
+  -- the others do not stand there
+  at_keyword place k v o e i h = absurd (none_such place k v o e refl h)
 
   both : (xs ys : List Visit) (ns ms : List (List ℕ)) → (first (undefined_at known) xs ≡ None) × (ns ≡ []) → (first (undefined_at known) ys ≡ None) × (ms ≡ []) → (first (undefined_at known) (xs ++ ys) ≡ None) × (ns ++ ms ≡ [])
   both xs ys ns ms a b = (joined (undefined_at known) xs ys a.0 b.0, ap₂ (λ ps qs. ps ++ qs) a.1 b.1)

@@ -5,6 +5,7 @@ pub mod Meanings
 pub mod Unfolded
 pub mod Rows
 pub mod Samples
+pub mod Names
 pub mod Walks
 pub mod Slots
 pub mod Definitions

@@ -9,7 +9,9 @@ use Rattle.cs_document.specs.Opened.{opened}
 use Rattle.cs_document.proofs.Each.{each_of, each_append, each_front, each_back}
 use Rattle.cs_document.proofs.Children.{children, each_within, by_children}
 use Rattle.cs_document.proofs.OneMeaning.{some, only}
-use Rattle.cs_profile.specs.Keywords.{Keyword, Refers, HasType, OneOf, Minimum, Maximum, Above, Below, Requires, Properties, Prefix, MinItems, AllOf, AnyOf, Not, keywords, Kind, kinds, reference_start, text_after, elements_of, defined}
+use Rattle.cs_profile.specs.Keywords.{keywords, Kind, kinds, reference_start, text_after, elements_of, defined}
+use Rattle.cs_profile.specs.declared.keyword.Keyword.{Keyword}
+use Rattle.cs_profile.specs.declared.keyword.Keyword.TheVariants as keyword
 use Rattle.cs_profile.specs.Constraint.{nothing, has_kind, assertion, assertion_at, constraint_of}
 use Rattle.cs_profile.specs.Validity.{is_satisfied, OneMeaning}
 use Rattle.cs_profile.specs.Loops.{by_keyword, value_names, direct_names, keyword_names, list_names, each_names, NoLoop}
@@ -30,24 +32,24 @@ module _ (R : Document) (P : Document → Document → Type 0) (step : (s x : Do
       through_keyword : (beside : List (Entry Document)) (k : Option Keyword) (v : Document) → (Each Q (direct_names v) → P v x) → (Each Q (list_names v) → Each (λ p. P p x) (elements_of v))
           → Each Q (by_keyword k (value_names v))
           → Each (λ p. P p x) (here_of (option_map_or (λ k. assertion R beside k v) k nothing))
-      through_keyword beside (Some Refers) (text t) itself listed d = through_name (text_after reference_start t) d
-      through_keyword beside (Some Not) v itself listed d = (itself d, tt)
-      through_keyword beside (Some AllOf) (list ss) itself listed d = listed d
-      through_keyword beside (Some AnyOf) (list ss) itself listed d = listed d
-      through_keyword beside (Some HasType) (text t) itself listed d = no_part (under t kinds)
+      through_keyword beside (Some keyword.Ref) (text t) itself listed d = through_name (text_after reference_start t) d
+      through_keyword beside (Some keyword.Not) v itself listed d = (itself d, tt)
+      through_keyword beside (Some keyword.AllOf) (list ss) itself listed d = listed d
+      through_keyword beside (Some keyword.AnyOf) (list ss) itself listed d = listed d
+      through_keyword beside (Some keyword.Type) (text t) itself listed d = no_part (under t kinds)
         where
           no_part : (o : Option Kind) → Each (λ p. P p x) (here_of {I = Document} (option_map_or has_kind o nothing))
           no_part None = tt
           no_part (Some k) = tt
-      through_keyword beside (Some OneOf) (list vs) itself listed d = tt
-      through_keyword beside (Some Minimum) (integer l) itself listed d = tt
-      through_keyword beside (Some Maximum) (integer l) itself listed d = tt
-      through_keyword beside (Some Above) (integer l) itself listed d = tt
-      through_keyword beside (Some Below) (integer l) itself listed d = tt
-      through_keyword beside (Some Requires) (list ts) itself listed d = tt
-      through_keyword beside (Some Properties) (object ss) itself listed d = tt
-      through_keyword beside (Some Prefix) (list ss) itself listed d = tt
-      through_keyword beside (Some MinItems) (integer (pos n)) itself listed d = tt
+      through_keyword beside (Some keyword.Enum) (list vs) itself listed d = tt
+      through_keyword beside (Some keyword.Minimum) (integer l) itself listed d = tt
+      through_keyword beside (Some keyword.Maximum) (integer l) itself listed d = tt
+      through_keyword beside (Some keyword.ExclusiveMinimum) (integer l) itself listed d = tt
+      through_keyword beside (Some keyword.ExclusiveMaximum) (integer l) itself listed d = tt
+      through_keyword beside (Some keyword.Required) (list ts) itself listed d = tt
+      through_keyword beside (Some keyword.Properties) (object ss) itself listed d = tt
+      through_keyword beside (Some keyword.PrefixItems) (list ss) itself listed d = tt
+      through_keyword beside (Some keyword.MinItems) (integer (pos n)) itself listed d = tt
       through_keyword beside _ _ itself listed d = tt
 
       mutual

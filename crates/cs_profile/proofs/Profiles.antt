@@ -12,7 +12,9 @@ use Rattle.cs_document.specs.Document.{Document, null, boolean, integer, text, l
 use Rattle.cs_document.proofs.Each.{each_append}
 use Rattle.cs_profile.specs.Keywords.{listed_under, entries_of, defined, text_after, reference_start}
 use Rattle.cs_profile.specs.Loops.{direct_names, RefersDirectly, NoLoop}
-use Rattle.cs_profile.specs.Shapes.{Form, the_dialect, a_reference, a_kind, anything, an_array, an_integer, a_count, distinct_texts, a_text, a_schema, some_schemas, named_schemas, Row, row, has_form, dialect}
+use Rattle.cs_profile.specs.Shapes.{form_at, has_form, dialect}
+use Rattle.cs_profile.specs.declared.keyword.Form.{Form}
+use Rattle.cs_profile.specs.declared.keyword.Form.TheVariants as form
 use Rattle.cs_profile.specs.Places.{at_key}
 use Rattle.cs_profile.specs.Profile.{Fault, undefined, keyword_at, first, or_else, fault_of, shape_fault, visits, member_visits, keyword_visits, map_visits, named_visits, undefined_at, reference_fault, unless_defined, within, value_visits, walk_fault, name_fault, IsSchema}
 use Rattle.cs_profile.specs.Trim.{trim, trimmed, trimmed_members, trimmed_named, trimmed_value, with_member}
@@ -52,7 +54,7 @@ one_plain place k v false e h = tt
 one_plain place k v true e h =
     let is = (bytes_eq-Decides (codes "$defs") k).0 e in
     let mine : Faultless (keyword_visits true place (codes "$defs") v) = subst (λ n. Faultless (keyword_visits true place n v)) (sym is) h in
-    map_plain (at_key place (codes "$defs")) v (or_else_none (shape_fault place (codes "$defs") (has_form named_schemas v)) (first fault_of (map_visits (at_key place (codes "$defs")) v)) mine).1
+    map_plain (at_key place (codes "$defs")) v (or_else_none (shape_fault place (codes "$defs") (has_form form.NamedSchemas v)) (first fault_of (map_visits (at_key place (codes "$defs")) v)) mine).1
 
 definitions_plain : (place : List ℕ) (ms : Members) → Faultless (member_visits true place ms) → Each HasNoName (listed_under (codes "$defs") (entries ms))
 definitions_plain place no_members h = tt
@@ -108,23 +110,23 @@ module _ (known : List ℕ → Bool) where
   none_in_map place (object ms) h = none_named place ms h
 
   none_inside : (f : Form) (place : List ℕ) (v : Document) → Faultless (inside f place v) → first (undefined_at known) (inside f place v) ≡ None
-  none_inside the_dialect place v h = refl
-  none_inside a_reference place v h = refl
-  none_inside a_kind place v h = refl
-  none_inside anything place v h = refl
-  none_inside an_array place v h = refl
-  none_inside an_integer place v h = refl
-  none_inside a_count place v h = refl
-  none_inside distinct_texts place v h = refl
-  none_inside a_text place v h = refl
-  none_inside a_schema place v h = (none_referring known place v h).0
-  none_inside some_schemas place v h = (none_in_list known place v h).0
-  none_inside named_schemas place v h = none_in_map place v h
+  none_inside form.Dialect place v h = refl
+  none_inside form.Reference place v h = refl
+  none_inside form.Kind place v h = refl
+  none_inside form.Anything place v h = refl
+  none_inside form.Array place v h = refl
+  none_inside form.Integer place v h = refl
+  none_inside form.Count place v h = refl
+  none_inside form.Texts place v h = refl
+  none_inside form.Text place v h = refl
+  none_inside form.Schema place v h = (none_referring known place v h).0
+  none_inside form.Schemas place v h = (none_in_list known place v h).0
+  none_inside form.NamedSchemas place v h = none_in_map place v h
 
-  none_within : (r : Option Row) (place : List ℕ) (v : Document) → Faultless (within r (value_visits place v))
+  none_within : (r : Option Form) (place : List ℕ) (v : Document) → Faultless (within r (value_visits place v))
       → first (undefined_at known) (within r (value_visits place v)) ≡ None
   none_within None place v h = refl
-  none_within (Some r) place v h = none_inside r.0 place v h
+  none_within (Some r) place v h = none_inside r place v h
 
   or_else-None : (o : Option Fault) → or_else o None ≡ o
   or_else-None None = refl
@@ -134,8 +136,8 @@ module _ (known : List ℕ → Bool) where
   roots_alone no_members h = refl
   roots_alone (member k v ms) h =
       let parts = parted fault_of (keyword_visits true [] k v) (member_visits true [] ms) h in
-      let in_value = within (row true k) (value_visits (at_key [] k) v) in
-      let none = none_within (row true k) (at_key [] k) v (or_else_none (fault_of (keyword_at true [] k v)) (first fault_of in_value) parts.0).1 in
+      let in_value = within (form_at true k) (value_visits (at_key [] k) v) in
+      let none = none_within (form_at true k) (at_key [] k) v (or_else_none (fault_of (keyword_at true [] k v)) (first fault_of in_value) parts.0).1 in
       first-append (undefined_at known) (keyword_visits true [] k v) (member_visits true [] ms)
       ∙ ap₂ or_else (ap (or_else (undefined_at known (keyword_at true [] k v))) none ∙ or_else-None (undefined_at known (keyword_at true [] k v))) (roots_alone ms parts.1)
 

@@ -1,7 +1,7 @@
 -- Schemas with documents that they validate and documents that they do not, by computation.
 use Rattle.std.proofs.Common.{◌≡◌, ℕ, negsuc, Bool, true, false, List, [], ◌∷◌, ◌++◌, codes, refl}
 use Rattle.std.specs.List.{list_all, list_any}
-use Rattle.cs_document.specs.Document.{Document, null, boolean, integer, text, object}
+use Rattle.cs_document.specs.Document.{Document, null, boolean, integer, text}
 use Rattle.cs_document.proofs.SampleDocuments.{number as n, string as t, array as l, named_map as o}
 use Rattle.cs_profile.specs.Validity.{IsValidity}
 use Rattle.cs_profile.specs.Loops.{IsLoop}

@@ -5,9 +5,13 @@ use Rattle.std.specs.List.{list_all, list_any}
 use Rattle.cs_document.specs.Document.{Document, null, boolean, integer, text, list, under}
 use Rattle.cs_document.specs.View.{doc_view, list_view}
 use Rattle.cs_document.proofs.SampleDocuments.{number as n, string as t, array as l, named_map as o}
-use Rattle.cs_profile.specs.Keywords.{Keyword, keywords, kinds, reference_start, text_after}
-use Rattle.cs_profile.specs.Keywords as keyword
-use Rattle.cs_profile.specs.Shapes.{Form, the_dialect, a_reference, a_kind, anything, an_array, an_integer, a_count, distinct_texts, a_text, a_schema, some_schemas, named_schemas, kept, left_out, left_out_if_empty, Row, row, is_name_code, is_name, has_form, is_kept, by_form}
+use Rattle.cs_profile.specs.Keywords.{keywords, kinds, reference_start, text_after}
+use Rattle.cs_profile.specs.declared.keyword.Keyword.{Keyword}
+use Rattle.cs_profile.specs.declared.keyword.Keyword.TheVariants as keyword
+use Rattle.cs_profile.specs.Keywords as schema
+use Rattle.cs_profile.specs.Shapes.{kept, left_out, left_out_if_empty, keeping, form_at, is_name_code, is_name, has_form, is_kept, by_form}
+use Rattle.cs_profile.specs.declared.keyword.Form.{Form}
+use Rattle.cs_profile.specs.declared.keyword.Form.TheVariants as form
 use Rattle.cs_profile.specs.Places.{at_key, at_index}
 use Rattle.cs_profile.specs.Profile.{unknown, misshapen, undefined, walk_fault, name_fault}
 use Rattle.cs_profile.specs.Trim.{trim}
@@ -25,13 +29,13 @@ abbrev named : List String → List (Option Keyword)
 named ks = map (λ k. under (codes k) keywords) ks
 
 of_core : named ("$schema" ∷ "$defs" ∷ "$ref" ∷ "allOf" ∷ "anyOf" ∷ "not" ∷ "prefixItems" ∷ "items" ∷ "properties" ∷ "additionalProperties" ∷ "$comment" ∷ [])
-    ≡ Some keyword.Dialect ∷ Some keyword.Definitions ∷ Some keyword.Refers ∷ Some keyword.AllOf ∷ Some keyword.AnyOf ∷ Some keyword.Not ∷ Some keyword.Prefix ∷ Some keyword.Items
-    ∷ Some keyword.Properties ∷ Some keyword.Additional ∷ Some keyword.Note ∷ []
+    ≡ Some keyword.Schema ∷ Some keyword.Defs ∷ Some keyword.Ref ∷ Some keyword.AllOf ∷ Some keyword.AnyOf ∷ Some keyword.Not ∷ Some keyword.PrefixItems ∷ Some keyword.Items
+    ∷ Some keyword.Properties ∷ Some keyword.AdditionalProperties ∷ Some keyword.Comment ∷ []
 of_core = refl
 
 of_validation : named ("type" ∷ "enum" ∷ "const" ∷ "maximum" ∷ "exclusiveMaximum" ∷ "minimum" ∷ "exclusiveMinimum" ∷ "minItems" ∷ "required" ∷ "title" ∷ "description" ∷ [])
-    ≡ Some keyword.HasType ∷ Some keyword.OneOf ∷ Some keyword.Equals ∷ Some keyword.Maximum ∷ Some keyword.Below ∷ Some keyword.Minimum ∷ Some keyword.Above ∷ Some keyword.MinItems
-    ∷ Some keyword.Requires ∷ Some keyword.Note ∷ Some keyword.Note ∷ []
+    ≡ Some keyword.Type ∷ Some keyword.Enum ∷ Some keyword.Const ∷ Some keyword.Maximum ∷ Some keyword.ExclusiveMaximum ∷ Some keyword.Minimum ∷ Some keyword.ExclusiveMinimum ∷ Some keyword.MinItems
+    ∷ Some keyword.Required ∷ Some keyword.Title ∷ Some keyword.Description ∷ []
 of_validation = refl
 
 -- keywords of the standard that are none of the profile, and names that are almost keywords
@@ -40,40 +44,40 @@ left_outside : named ("$id" ∷ "$anchor" ∷ "oneOf" ∷ "maxItems" ∷ "patter
 left_outside = refl
 
 by_kind : map (λ k. under (codes k) kinds) ("null" ∷ "boolean" ∷ "object" ∷ "array" ∷ "number" ∷ "string" ∷ "integer" ∷ "int" ∷ "Null" ∷ "" ∷ [])
-    ≡ Some keyword.Null ∷ Some keyword.Boolean ∷ Some keyword.Object ∷ Some keyword.Array ∷ Some keyword.Number ∷ Some keyword.String ∷ Some keyword.Integer ∷ None ∷ None ∷ None ∷ []
+    ≡ Some schema.Null ∷ Some schema.Boolean ∷ Some schema.Object ∷ Some schema.Array ∷ Some schema.Number ∷ Some schema.String ∷ Some schema.Integer ∷ None ∷ None ∷ None ∷ []
 by_kind = refl
 
 kind_names : map kind_name (kind.Null ∷ kind.Boolean ∷ kind.Object ∷ kind.Array ∷ kind.Number ∷ kind.String ∷ kind.Integer ∷ [])
     ≡ map codes ("null" ∷ "boolean" ∷ "object" ∷ "array" ∷ "number" ∷ "string" ∷ "integer" ∷ [])
 kind_names = refl
 
--- ---- rows
+-- ---- the forms of their values
 
-abbrev rows : Bool → List String → List (Option Row)
-rows root ks = map (λ k. row root (codes k)) ks
+abbrev forms : Bool → List String → List (Option Form)
+forms root ks = map (λ k. form_at root (codes k)) ks
 
-of_root : rows true ("$schema" ∷ "$defs" ∷ "$ref" ∷ []) ≡ Some (the_dialect, left_out) ∷ Some (named_schemas, left_out_if_empty) ∷ Some (a_reference, kept) ∷ []
+of_root : forms true ("$schema" ∷ "$defs" ∷ "$ref" ∷ []) ≡ Some form.Dialect ∷ Some form.NamedSchemas ∷ Some form.Reference ∷ []
 of_root = refl
 
-of_root_alone : rows false ("$schema" ∷ "$defs" ∷ []) ≡ None ∷ None ∷ []
+of_root_alone : forms false ("$schema" ∷ "$defs" ∷ []) ≡ None ∷ None ∷ []
 of_root_alone = refl
 
-of_each : (root : Bool) → rows root ("type" ∷ "const" ∷ "minimum" ∷ "maximum" ∷ "exclusiveMinimum" ∷ "exclusiveMaximum" ∷ "allOf" ∷ [])
-    ≡ Some (a_kind, kept) ∷ Some (anything, kept) ∷ Some (an_integer, kept) ∷ Some (an_integer, kept) ∷ Some (an_integer, kept) ∷ Some (an_integer, kept) ∷ Some (some_schemas, kept) ∷ []
+of_each : (root : Bool) → forms root ("type" ∷ "const" ∷ "minimum" ∷ "maximum" ∷ "exclusiveMinimum" ∷ "exclusiveMaximum" ∷ "allOf" ∷ [])
+    ≡ Some form.Kind ∷ Some form.Anything ∷ Some form.Integer ∷ Some form.Integer ∷ Some form.Integer ∷ Some form.Integer ∷ Some form.Schemas ∷ []
 of_each true = refl
 of_each false = refl
 
-of_none : (root : Bool) → rows root ("$id" ∷ "pattern" ∷ "oneOf" ∷ "" ∷ []) ≡ None ∷ None ∷ None ∷ None ∷ []
+of_none : (root : Bool) → forms root ("$id" ∷ "pattern" ∷ "oneOf" ∷ "" ∷ []) ≡ None ∷ None ∷ None ∷ None ∷ []
 of_none true = refl
 of_none false = refl
 
 -- keywords that the reader does not take yet
-not_yet : (root : Bool) → rows root ("enum" ∷ "required" ∷ "properties" ∷ "additionalProperties" ∷ "prefixItems" ∷ "items" ∷ "minItems" ∷ "anyOf" ∷ "not" ∷ "title" ∷ "description" ∷ "$comment" ∷ [])
+not_yet : (root : Bool) → forms root ("enum" ∷ "required" ∷ "properties" ∷ "additionalProperties" ∷ "prefixItems" ∷ "items" ∷ "minItems" ∷ "anyOf" ∷ "not" ∷ "title" ∷ "description" ∷ "$comment" ∷ [])
     ≡ None ∷ None ∷ None ∷ None ∷ None ∷ None ∷ None ∷ None ∷ None ∷ None ∷ None ∷ None ∷ []
 not_yet true = refl
 not_yet false = refl
 
-not_yet_below : row false (codes "$ref") ≡ None
+not_yet_below : form_at false (codes "$ref") ≡ None
 not_yet_below = refl
 
 -- ---- names in a `$ref`
@@ -106,56 +110,56 @@ record Shaped (form : Form) (right wrong : List Document) : Type 0 where
   none : fits_one form wrong ≡ false
 
 -- the dialect's text (Core, section 8.1.1)
-dialect_text : Shaped the_dialect
+dialect_text : Shaped form.Dialect
     (t "https://json-schema.org/draft/2020-12/schema" ∷ [])
     (t "https://json-schema.org/draft/2020-12/schema#" ∷ t "http://json-schema.org/draft/2020-12/schema" ∷ t "https://json-schema.org/draft/2019-09/schema" ∷ t "http://json-schema.org/draft-07/schema#" ∷ t "" ∷ null ∷ [])
 dialect_text = record { each = refl; none = refl }
 
-reference_text : Shaped a_reference
+reference_text : Shaped form.Reference
     (t "#/$defs/P" ∷ t "#/$defs/a.b-C_$9" ∷ [])
     (t "#/$defs/" ∷ t "#/$defs/a/b" ∷ t "#/$defs/a~0b" ∷ t "#/properties/a" ∷ t "#P" ∷ t "#" ∷ t "P" ∷ t "" ∷ n 1 ∷ o [] ∷ [])
 reference_text = record { each = refl; none = refl }
 
-kind_text : Shaped a_kind
+kind_text : Shaped form.Kind
     (t "null" ∷ t "boolean" ∷ t "object" ∷ t "array" ∷ t "number" ∷ t "string" ∷ t "integer" ∷ [])
     (t "int" ∷ t "" ∷ null ∷ l (t "string" ∷ []) ∷ [])
 kind_text = record { each = refl; none = refl }
 
-any_value : Shaped anything (null ∷ boolean false ∷ n 0 ∷ t "" ∷ l [] ∷ o [] ∷ []) []
+any_value : Shaped form.Anything (null ∷ boolean false ∷ n 0 ∷ t "" ∷ l [] ∷ o [] ∷ []) []
 any_value = record { each = refl; none = refl }
 
-array : Shaped an_array (l [] ∷ l (null ∷ []) ∷ []) (o [] ∷ t "" ∷ n 0 ∷ null ∷ boolean true ∷ [])
+array : Shaped form.Array (l [] ∷ l (null ∷ []) ∷ []) (o [] ∷ t "" ∷ n 0 ∷ null ∷ boolean true ∷ [])
 array = record { each = refl; none = refl }
 
-whole_number : Shaped an_integer
+whole_number : Shaped form.Integer
     (n 0 ∷ n 9223372036854775807 ∷ integer (negsuc 0) ∷ integer (negsuc 9223372036854775807) ∷ [])
     (t "0" ∷ null ∷ boolean true ∷ l (n 0 ∷ []) ∷ o [] ∷ [])
 whole_number = record { each = refl; none = refl }
 
-count : Shaped a_count (n 0 ∷ n 1 ∷ n 9223372036854775807 ∷ []) (integer (negsuc 0) ∷ integer (negsuc 9223372036854775807) ∷ t "1" ∷ null ∷ [])
+count : Shaped form.Count (n 0 ∷ n 1 ∷ n 9223372036854775807 ∷ []) (integer (negsuc 0) ∷ integer (negsuc 9223372036854775807) ∷ t "1" ∷ null ∷ [])
 count = record { each = refl; none = refl }
 
-different_texts : Shaped distinct_texts
+different_texts : Shaped form.Texts
     (l [] ∷ l (t "" ∷ []) ∷ l (t "a" ∷ t "b" ∷ t "A" ∷ []) ∷ [])
     (l (t "a" ∷ t "a" ∷ []) ∷ l (t "a" ∷ t "b" ∷ t "a" ∷ []) ∷ l (t "" ∷ t "" ∷ []) ∷ l (t "a" ∷ n 1 ∷ []) ∷ l (null ∷ []) ∷ t "a" ∷ o [] ∷ [])
 different_texts = record { each = refl; none = refl }
 
-one_text : Shaped a_text (t "" ∷ t "x" ∷ []) (n 1 ∷ null ∷ l (t "x" ∷ []) ∷ o [] ∷ [])
+one_text : Shaped form.Text (t "" ∷ t "x" ∷ []) (n 1 ∷ null ∷ l (t "x" ∷ []) ∷ o [] ∷ [])
 one_text = record { each = refl; none = refl }
 
 -- whether a value is a schema is told where it stands
-one_schema : Shaped a_schema (boolean true ∷ o [] ∷ n 1 ∷ null ∷ []) []
+one_schema : Shaped form.Schema (boolean true ∷ o [] ∷ n 1 ∷ null ∷ []) []
 one_schema = record { each = refl; none = refl }
 
-schemas : Shaped some_schemas (l (boolean true ∷ []) ∷ l (n 1 ∷ o [] ∷ []) ∷ []) (l [] ∷ o [] ∷ boolean true ∷ null ∷ [])
+schemas : Shaped form.Schemas (l (boolean true ∷ []) ∷ l (n 1 ∷ o [] ∷ []) ∷ []) (l [] ∷ o [] ∷ boolean true ∷ null ∷ [])
 schemas = record { each = refl; none = refl }
 
-schemas_by_name : Shaped named_schemas (o [] ∷ says "a" (boolean true) ∷ says "a" (n 1) ∷ []) (l [] ∷ l (o [] ∷ []) ∷ boolean true ∷ null ∷ [])
+schemas_by_name : Shaped form.NamedSchemas (o [] ∷ says "a" (boolean true) ∷ says "a" (n 1) ∷ []) (l [] ∷ l (o [] ∷ []) ∷ boolean true ∷ null ∷ [])
 schemas_by_name = record { each = refl; none = refl }
 
 -- which schemas a value of a shape holds: 0 for none, 1 for itself, 2 for its elements, 3 for its members
 holds : map {B = ℕ} (λ form. by_form form (record { none = 0; itself = 1; elements = 2; members = 3 }))
-    (the_dialect ∷ a_reference ∷ a_kind ∷ anything ∷ an_array ∷ an_integer ∷ a_count ∷ distinct_texts ∷ a_text ∷ a_schema ∷ some_schemas ∷ named_schemas ∷ [])
+    (form.Dialect ∷ form.Reference ∷ form.Kind ∷ form.Anything ∷ form.Array ∷ form.Integer ∷ form.Count ∷ form.Texts ∷ form.Text ∷ form.Schema ∷ form.Schemas ∷ form.NamedSchemas ∷ [])
     ≡ 0 ∷ 0 ∷ 0 ∷ 0 ∷ 0 ∷ 0 ∷ 0 ∷ 0 ∷ 0 ∷ 1 ∷ 2 ∷ 3 ∷ []
 holds = refl
 
@@ -207,7 +211,11 @@ references_named = refl
 
 -- ---- trimming
 
-keeps : map (λ keeping. map (is_kept keeping) (o [] ∷ l [] ∷ says "a" null ∷ l (null ∷ []) ∷ t "" ∷ null ∷ [])) (kept ∷ left_out ∷ left_out_if_empty ∷ [])
+by_its_form : map keeping (form.Dialect ∷ form.Reference ∷ form.Kind ∷ form.Anything ∷ form.Array ∷ form.Integer ∷ form.Count ∷ form.Texts ∷ form.Text ∷ form.Schema ∷ form.Schemas ∷ form.NamedSchemas ∷ [])
+    ≡ left_out ∷ kept ∷ kept ∷ kept ∷ kept ∷ kept ∷ kept ∷ left_out_if_empty ∷ left_out ∷ kept ∷ kept ∷ left_out_if_empty ∷ []
+by_its_form = refl
+
+keeps : map (λ k. map (is_kept k) (o [] ∷ l [] ∷ says "a" null ∷ l (null ∷ []) ∷ t "" ∷ null ∷ [])) (kept ∷ left_out ∷ left_out_if_empty ∷ [])
     ≡ (true ∷ true ∷ true ∷ true ∷ true ∷ true ∷ []) ∷ (false ∷ false ∷ false ∷ false ∷ false ∷ false ∷ []) ∷ (false ∷ false ∷ true ∷ true ∷ true ∷ true ∷ []) ∷ []
 keeps = refl
 

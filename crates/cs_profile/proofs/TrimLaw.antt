@@ -9,39 +9,22 @@ use Rattle.std.specs.Option.{option_map, option_and_then, option_map_or}
 use Rattle.std.specs.Ordering.{match_ordering}
 use Rattle.cs_document.specs.Document.{Document, null, boolean, integer, text, list, object, Documents, no_documents, document, Members, no_members, member, Entry, entries, under, put}
 use Rattle.cs_document.specs.Opened.{opened}
-use Rattle.cs_profile.specs.Keywords.{Keyword, Dialect, Definitions, Refers, HasType, Equals, OneOf, Minimum, Maximum, Above, Below, Requires, Properties, Additional, Prefix, Items, MinItems, AllOf, AnyOf, Not, Note, keywords, elements_of, entries_of, listed_under, defined, text_after, reference_start}
+use Rattle.cs_profile.specs.Keywords.{keywords, elements_of, entries_of, listed_under, defined, text_after, reference_start}
+use Rattle.cs_profile.specs.declared.keyword.Keyword.{Keyword}
+use Rattle.cs_profile.specs.declared.keyword.Keyword.TheVariants as keyword
 use Rattle.cs_profile.specs.Constraint.{Assertion, nothing, valid_by, places_taken, assertion, assertion_at, at_other_keys, behind, conjunction, constraint_of}
 use Rattle.cs_profile.specs.Validity.{holds, is_satisfied, IsValidity}
 use Rattle.cs_profile.specs.Profile.{walk_fault, name_fault}
-use Rattle.cs_profile.specs.Shapes.{row_of, is_empty, dialect}
+use Rattle.cs_profile.specs.Shapes.{form_in, is_empty, dialect}
 use Rattle.cs_profile.specs.Trim.{trim, trimmed, trimmed_members, trimmed_list, trimmed_elements, trimmed_map, trimmed_as, value_trims, with_member, KeepsValidity}
 use Rattle.cs_profile.proofs.Meanings as meanings
 use Rattle.cs_profile.proofs.Profiles.{defined_trimmed, trimmed_schema}
 
 -- ---- below the root nothing is taken
 
-one_below : (k : List ℕ) (v : Document) (ms ns : Members) (o : Option Keyword) → under k keywords ≡ o → trimmed_list v ≡ v → ns ≡ ms → with_member (trimmed_as (option_and_then (row_of false) o) v (value_trims v)) k ns ≡ member k v ms
-one_below k v ms ns None e h r = ap (member k v) r
-one_below k v ms ns (Some Dialect) e h r = ap (member k v) r
-one_below k v ms ns (Some Definitions) e h r = ap (member k v) r
-one_below k v ms ns (Some Refers) e h r = ap (member k v) r
-one_below k v ms ns (Some HasType) e h r = ap (member k v) r
-one_below k v ms ns (Some Equals) e h r = ap (member k v) r
-one_below k v ms ns (Some OneOf) e h r = ap (member k v) r
-one_below k v ms ns (Some Minimum) e h r = ap (member k v) r
-one_below k v ms ns (Some Maximum) e h r = ap (member k v) r
-one_below k v ms ns (Some Above) e h r = ap (member k v) r
-one_below k v ms ns (Some Below) e h r = ap (member k v) r
-one_below k v ms ns (Some Requires) e h r = ap (member k v) r
-one_below k v ms ns (Some Properties) e h r = ap (member k v) r
-one_below k v ms ns (Some Additional) e h r = ap (member k v) r
-one_below k v ms ns (Some Prefix) e h r = ap (member k v) r
-one_below k v ms ns (Some Items) e h r = ap (member k v) r
-one_below k v ms ns (Some MinItems) e h r = ap (member k v) r
-one_below k v ms ns (Some AllOf) e h r = ap₂ (member k) h r
-one_below k v ms ns (Some AnyOf) e h r = ap (member k v) r
-one_below k v ms ns (Some Not) e h r = ap (member k v) r
-one_below k v ms ns (Some Note) e h r = ap (member k v) r
+one_below : (k : List ℕ) (v : Document) (ms ns : Members) (o : Option Keyword) → under k keywords ≡ o → trimmed_list v ≡ v → ns ≡ ms → with_member (trimmed_as (option_and_then (form_in false) o) v (value_trims v)) k ns ≡ member k v ms
+one_below k v ms ns (Some keyword.AllOf) e h r = ap₂ (member k) h r
+one_below k v ms ns _ e h r = ap (member k v) r
 
 mutual
   below : (d : Document) → trimmed false d ≡ d
@@ -83,7 +66,7 @@ module _ (R R' : Document) (same : (n : List ℕ) → defined R' n ≡ defined R
   named_alike None = refl
   named_alike (Some n) = same n
 
-  refers_alike : (beside : List (Entry Document)) (v : Document) → assertion R' beside Refers v ≡ assertion R beside Refers v
+  refers_alike : (beside : List (Entry Document)) (v : Document) → assertion R' beside keyword.Ref v ≡ assertion R beside keyword.Ref v
   refers_alike beside null = refl
   refers_alike beside (boolean b) = refl
   refers_alike beside (integer z) = refl
@@ -92,27 +75,8 @@ module _ (R R' : Document) (same : (n : List ℕ) → defined R' n ≡ defined R
   refers_alike beside (object ms) = refl
 
   assertion_alike : (beside : List (Entry Document)) (v : Document) (o : Option Keyword) → option_map_or (λ k. assertion R' beside k v) o nothing ≡ option_map_or (λ k. assertion R beside k v) o nothing
-  assertion_alike beside v None = refl
-  assertion_alike beside v (Some Dialect) = refl
-  assertion_alike beside v (Some Definitions) = refl
-  assertion_alike beside v (Some Refers) = refers_alike beside v
-  assertion_alike beside v (Some HasType) = refl
-  assertion_alike beside v (Some Equals) = refl
-  assertion_alike beside v (Some OneOf) = refl
-  assertion_alike beside v (Some Minimum) = refl
-  assertion_alike beside v (Some Maximum) = refl
-  assertion_alike beside v (Some Above) = refl
-  assertion_alike beside v (Some Below) = refl
-  assertion_alike beside v (Some Requires) = refl
-  assertion_alike beside v (Some Properties) = refl
-  assertion_alike beside v (Some Additional) = refl
-  assertion_alike beside v (Some Prefix) = refl
-  assertion_alike beside v (Some Items) = refl
-  assertion_alike beside v (Some MinItems) = refl
-  assertion_alike beside v (Some AllOf) = refl
-  assertion_alike beside v (Some AnyOf) = refl
-  assertion_alike beside v (Some Not) = refl
-  assertion_alike beside v (Some Note) = refl
+  assertion_alike beside v (Some keyword.Ref) = refers_alike beside v
+  assertion_alike beside v _ = refl
 
   assertions_alike : (beside es : List (Entry Document)) → map (assertion_at R' beside) es ≡ map (assertion_at R beside) es
   assertions_alike beside [] = refl
@@ -135,8 +99,8 @@ still_valid R V h s x = h s x ∙ ap (λ a. is_satisfied (λ p. V p x) (λ y p. 
 
 -- keywords that assert nothing
 abbrev Silent : Keyword → Type 0
-Silent Dialect = Unit {0}
-Silent Definitions = Unit {0}
+Silent keyword.Schema = Unit {0}
+Silent keyword.Defs = Unit {0}
 Silent _ = ⊥
 
 not_key : (k n : List ℕ) (w u : Keyword) → under k keywords ≡ Some w → under n keywords ≡ Some u → (w ≡ u → ⊥) → bytes_eq n k ≡ false
@@ -160,28 +124,11 @@ module _ {B : Type 0} (F : List (Entry Document) → B) (g : Entry Document → 
   without k w e s (Some u) v ms ns h = more (k, u) (entries ns) ∙ silent k u (F (entries ns)) w e s ∙ h ∙ sym (silent k v (F (entries ms)) w e s) ∙ sym (more (k, v) (entries ms))
 
   one_trimmed : (k : List ℕ) (v : Document) (ms ns : Members) (o : Option Keyword) → under k keywords ≡ o → F (entries ns) ≡ F (entries ms)
-      → F (entries (with_member (trimmed_as (option_and_then (row_of true) o) v (value_trims v)) k ns)) ≡ F (entries (member k v ms))
-  one_trimmed k v ms ns None e h = same k v ms ns h
-  one_trimmed k v ms ns (Some Dialect) e h = without k Dialect e tt None v ms ns h
-  one_trimmed k v ms ns (Some Definitions) e h = without k Definitions e tt (if not (is_empty v) then Some (trimmed_map v) else None) v ms ns h
-  one_trimmed k v ms ns (Some Refers) e h = same k v ms ns h
-  one_trimmed k v ms ns (Some HasType) e h = same k v ms ns h
-  one_trimmed k v ms ns (Some Equals) e h = same k v ms ns h
-  one_trimmed k v ms ns (Some OneOf) e h = same k v ms ns h
-  one_trimmed k v ms ns (Some Minimum) e h = same k v ms ns h
-  one_trimmed k v ms ns (Some Maximum) e h = same k v ms ns h
-  one_trimmed k v ms ns (Some Above) e h = same k v ms ns h
-  one_trimmed k v ms ns (Some Below) e h = same k v ms ns h
-  one_trimmed k v ms ns (Some Requires) e h = same k v ms ns h
-  one_trimmed k v ms ns (Some Properties) e h = same k v ms ns h
-  one_trimmed k v ms ns (Some Additional) e h = same k v ms ns h
-  one_trimmed k v ms ns (Some Prefix) e h = same k v ms ns h
-  one_trimmed k v ms ns (Some Items) e h = same k v ms ns h
-  one_trimmed k v ms ns (Some MinItems) e h = same k v ms ns h
-  one_trimmed k v ms ns (Some AllOf) e h = ap (λ u. F (entries (member k u ns))) (below_list v) ∙ same k v ms ns h
-  one_trimmed k v ms ns (Some AnyOf) e h = same k v ms ns h
-  one_trimmed k v ms ns (Some Not) e h = same k v ms ns h
-  one_trimmed k v ms ns (Some Note) e h = same k v ms ns h
+      → F (entries (with_member (trimmed_as (option_and_then (form_in true) o) v (value_trims v)) k ns)) ≡ F (entries (member k v ms))
+  one_trimmed k v ms ns (Some keyword.Schema) e h = without k keyword.Schema e tt None v ms ns h
+  one_trimmed k v ms ns (Some keyword.Defs) e h = without k keyword.Defs e tt (if not (is_empty v) then Some (trimmed_map v) else None) v ms ns h
+  one_trimmed k v ms ns (Some keyword.AllOf) e h = ap (λ u. F (entries (member k u ns))) (below_list v) ∙ same k v ms ns h
+  one_trimmed k v ms ns _ e h = same k v ms ns h
 
   all_trimmed : (ms : Members) → F (entries (trimmed_members true ms)) ≡ F (entries ms)
   all_trimmed no_members = refl
@@ -200,17 +147,17 @@ module _ {B : Type 0} (F : List (Entry Document) → B) (g : Entry Document → 
   all_put k w is s d (member m e ms) = put_by_order k m w is s d e ms (all_put k w is s d ms) (slice_cmp nat_cmp k m) refl
 
   gathered : (ms : Members) → F (entries (put (codes "$schema") (text dialect) (trimmed_members true ms))) ≡ F (entries ms)
-  gathered ms = all_put (codes "$schema") Dialect refl tt (text dialect) (trimmed_members true ms) ∙ all_trimmed ms
+  gathered ms = all_put (codes "$schema") keyword.Schema refl tt (text dialect) (trimmed_members true ms) ∙ all_trimmed ms
 
 -- the keywords beside one
 no_properties : (k : List ℕ) (v : Document) (b : List (Entry Document)) (w : Keyword) → under k keywords ≡ Some w → Silent w → ((if bytes_eq (codes "properties") k then entries_of v else []) ++ b) ≡ b
-no_properties k v b Dialect e s = ap (λ t. (if t then entries_of v else []) ++ b) (not_key k (codes "properties") Dialect Properties e refl (λ c. cc))
-no_properties k v b Definitions e s = ap (λ t. (if t then entries_of v else []) ++ b) (not_key k (codes "properties") Definitions Properties e refl (λ c. cc))
+no_properties k v b keyword.Schema e s = ap (λ t. (if t then entries_of v else []) ++ b) (not_key k (codes "properties") keyword.Schema keyword.Properties e refl (λ c. cc))
+no_properties k v b keyword.Defs e s = ap (λ t. (if t then entries_of v else []) ++ b) (not_key k (codes "properties") keyword.Defs keyword.Properties e refl (λ c. cc))
 no_properties k v b _ e s = absurd s
 
 no_prefix : (k : List ℕ) (v : Document) (b : ℕ) (w : Keyword) → under k keywords ≡ Some w → Silent w → (if bytes_eq (codes "prefixItems") k then max (length (elements_of v)) b else b) ≡ b
-no_prefix k v b Dialect e s = ap (λ t. if t then max (length (elements_of v)) b else b) (not_key k (codes "prefixItems") Dialect Prefix e refl (λ c. cc))
-no_prefix k v b Definitions e s = ap (λ t. if t then max (length (elements_of v)) b else b) (not_key k (codes "prefixItems") Definitions Prefix e refl (λ c. cc))
+no_prefix k v b keyword.Schema e s = ap (λ t. if t then max (length (elements_of v)) b else b) (not_key k (codes "prefixItems") keyword.Schema keyword.PrefixItems e refl (λ c. cc))
+no_prefix k v b keyword.Defs e s = ap (λ t. if t then max (length (elements_of v)) b else b) (not_key k (codes "prefixItems") keyword.Defs keyword.PrefixItems e refl (λ c. cc))
 no_prefix k v b _ e s = absurd s
 
 properties_alike : (ms : Members) → listed_under (codes "properties") (entries (put (codes "$schema") (text dialect) (trimmed_members true ms))) ≡ listed_under (codes "properties") (entries ms)
@@ -221,27 +168,9 @@ places_alike ms = gathered places_taken (λ e b. if bytes_eq (codes "prefixItems
 
 module _ (R : Document) (b c : List (Entry Document)) (properties : listed_under (codes "properties") b ≡ listed_under (codes "properties") c) (places : places_taken b ≡ places_taken c) where
   beside_alike : (v : Document) (o : Option Keyword) → option_map_or (λ k. assertion R b k v) o nothing ≡ option_map_or (λ k. assertion R c k v) o nothing
-  beside_alike v None = refl
-  beside_alike v (Some Dialect) = refl
-  beside_alike v (Some Definitions) = refl
-  beside_alike v (Some Refers) = refl
-  beside_alike v (Some HasType) = refl
-  beside_alike v (Some Equals) = refl
-  beside_alike v (Some OneOf) = refl
-  beside_alike v (Some Minimum) = refl
-  beside_alike v (Some Maximum) = refl
-  beside_alike v (Some Above) = refl
-  beside_alike v (Some Below) = refl
-  beside_alike v (Some Requires) = refl
-  beside_alike v (Some Properties) = refl
-  beside_alike v (Some Additional) = ap (λ es. at_other_keys (map (λ e. e.0) es) v) properties
-  beside_alike v (Some Prefix) = refl
-  beside_alike v (Some Items) = ap (λ n. behind n v) places
-  beside_alike v (Some MinItems) = refl
-  beside_alike v (Some AllOf) = refl
-  beside_alike v (Some AnyOf) = refl
-  beside_alike v (Some Not) = refl
-  beside_alike v (Some Note) = refl
+  beside_alike v (Some keyword.AdditionalProperties) = ap (λ es. at_other_keys (map (λ e. e.0) es) v) properties
+  beside_alike v (Some keyword.Items) = ap (λ n. behind n v) places
+  beside_alike v _ = refl
 
   all_beside_alike : (es : List (Entry Document)) → map (assertion_at R b) es ≡ map (assertion_at R c) es
   all_beside_alike [] = refl
@@ -252,8 +181,8 @@ module _ (R : Document) (here : Document → Bool) (inside : Document → Docume
   all_hold beside es = list_all (λ a. holds here inside a x (opened x)) (map (assertion_at R beside) es)
 
   asserts_nothing : (beside : List (Entry Document)) (k : List ℕ) (v : Document) (b : Bool) (w : Keyword) → under k keywords ≡ Some w → Silent w → (holds here inside (assertion_at R beside (k, v)) x (opened x) && b) ≡ b
-  asserts_nothing beside k v b Dialect e s = ap (λ o. holds here inside (option_map_or (λ q. assertion R beside q v) o nothing) x (opened x) && b) e
-  asserts_nothing beside k v b Definitions e s = ap (λ o. holds here inside (option_map_or (λ q. assertion R beside q v) o nothing) x (opened x) && b) e
+  asserts_nothing beside k v b keyword.Schema e s = ap (λ o. holds here inside (option_map_or (λ q. assertion R beside q v) o nothing) x (opened x) && b) e
+  asserts_nothing beside k v b keyword.Defs e s = ap (λ o. holds here inside (option_map_or (λ q. assertion R beside q v) o nothing) x (opened x) && b) e
   asserts_nothing beside k v b _ e s = absurd s
 
   root_alike : (ms : Members) → is_satisfied here inside (constraint_of R (trim (object ms))) x (opened x) ≡ is_satisfied here inside (constraint_of R (object ms)) x (opened x)

@@ -4,7 +4,9 @@ use Rattle.std.specs.Prelude.{ℕ, ℤ, pos, max, List, [], ◌∷◌, map, leng
 use Rattle.std.specs.Option.{option_map_or}
 use Rattle.std.specs.Str.{bytes_eq}
 use Rattle.cs_document.specs.Document.{Document, boolean, integer, text, list, object, Entry, elements, entries, under}
-use Rattle.cs_profile.specs.Keywords.{Keyword, Refers, HasType, Equals, OneOf, Minimum, Maximum, Above, Below, Requires, Properties, Additional, Prefix, Items, MinItems, AllOf, AnyOf, Not, keywords, Kind, kinds, reference_start, text_after, elements_of, listed_under, defined}
+use Rattle.cs_profile.specs.Keywords.{keywords, Kind, kinds, reference_start, text_after, elements_of, listed_under, defined}
+use Rattle.cs_profile.specs.declared.keyword.Keyword.{Keyword}
+use Rattle.cs_profile.specs.declared.keyword.Keyword.TheVariants as keyword
 
 -- what a keyword asserts, with an H for each schema that it asks of the document itself, and an I for each
 -- schema that it asks of documents directly inside
@@ -53,23 +55,23 @@ places_taken (e ∷ es) = if bytes_eq (codes "prefixItems") e.0 then max (length
 -- a value without the keyword's shape asserts nothing, and so does a key that names no keyword
 module _ (R : Document) (beside : List (Entry Document)) where
   abbrev pub assertion : Keyword → Document → Assertion Document Document
-  assertion Refers (text t) = valid_by (named R t)
-  assertion HasType (text t) = option_map_or has_kind (under t kinds) nothing
-  assertion Equals v = equals v
-  assertion OneOf (list vs) = is_among (elements vs)
-  assertion Minimum (integer l) = at_least l
-  assertion Maximum (integer l) = at_most l
-  assertion Above (integer l) = above l
-  assertion Below (integer l) = below l
-  assertion Requires (list ts) = has_keys (texts_in (elements ts))
-  assertion Properties (object ss) = at_keys (entries ss)
-  assertion Additional s = at_other_keys (map (λ e. e.0) (listed_under (codes "properties") beside)) s
-  assertion Prefix (list ss) = in_front (elements ss)
-  assertion Items s = behind (places_taken beside) s
-  assertion MinItems (integer (pos n)) = at_least_long n
-  assertion AllOf (list ss) = valid_by_all (elements ss)
-  assertion AnyOf (list ss) = valid_by_any (elements ss)
-  assertion Not s = not_valid_by s
+  assertion keyword.Ref (text t) = valid_by (named R t)
+  assertion keyword.Type (text t) = option_map_or has_kind (under t kinds) nothing
+  assertion keyword.Const v = equals v
+  assertion keyword.Enum (list vs) = is_among (elements vs)
+  assertion keyword.Minimum (integer l) = at_least l
+  assertion keyword.Maximum (integer l) = at_most l
+  assertion keyword.ExclusiveMinimum (integer l) = above l
+  assertion keyword.ExclusiveMaximum (integer l) = below l
+  assertion keyword.Required (list ts) = has_keys (texts_in (elements ts))
+  assertion keyword.Properties (object ss) = at_keys (entries ss)
+  assertion keyword.AdditionalProperties s = at_other_keys (map (λ e. e.0) (listed_under (codes "properties") beside)) s
+  assertion keyword.PrefixItems (list ss) = in_front (elements ss)
+  assertion keyword.Items s = behind (places_taken beside) s
+  assertion keyword.MinItems (integer (pos n)) = at_least_long n
+  assertion keyword.AllOf (list ss) = valid_by_all (elements ss)
+  assertion keyword.AnyOf (list ss) = valid_by_any (elements ss)
+  assertion keyword.Not s = not_valid_by s
   assertion _ _ = nothing
 
   abbrev pub assertion_at : Entry Document → Assertion Document Document

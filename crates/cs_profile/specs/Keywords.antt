@@ -1,22 +1,46 @@
 -- The keywords of a schema (JSON Schema Core 2020-12, sections 8 and 10; Validation 2020-12, sections 6 and 9).
-use Rattle.std.specs.Prelude.{ℕ, List, [], ◌∷◌, if◌then◌else◌, ◌==◌, Option, Some, None, codes}
+use Rattle.std.specs.Prelude.{ℕ, List, [], ◌∷◌, map, if◌then◌else◌, ◌==◌, Option, Some, None, codes}
 use Rattle.std.specs.Str.{bytes_eq}
 use Rattle.std.specs.List.{flat_map}
 use Rattle.cs_document.specs.Document.{Document, list, object, Entry, elements, entries, under}
+use Rattle.cs_profile.specs.declared.keyword.Keyword.{Keyword}
+use Rattle.cs_profile.specs.declared.keyword.Keyword.TheVariants as keyword
 
-pub data Keyword : Type 0 where
-  Dialect Definitions Refers HasType Equals OneOf Minimum Maximum Above Below Requires Properties Additional Prefix Items MinItems AllOf AnyOf Not Note : Keyword
+-- their names
+abbrev pub name_of : Keyword → List ℕ
+name_of keyword.Comment = codes "$comment"
+name_of keyword.Defs = codes "$defs"
+name_of keyword.Ref = codes "$ref"
+name_of keyword.Schema = codes "$schema"
+name_of keyword.AdditionalProperties = codes "additionalProperties"
+name_of keyword.AllOf = codes "allOf"
+name_of keyword.AnyOf = codes "anyOf"
+name_of keyword.Const = codes "const"
+name_of keyword.Description = codes "description"
+name_of keyword.Enum = codes "enum"
+name_of keyword.ExclusiveMaximum = codes "exclusiveMaximum"
+name_of keyword.ExclusiveMinimum = codes "exclusiveMinimum"
+name_of keyword.Items = codes "items"
+name_of keyword.Maximum = codes "maximum"
+name_of keyword.MinItems = codes "minItems"
+name_of keyword.Minimum = codes "minimum"
+name_of keyword.Not = codes "not"
+name_of keyword.PrefixItems = codes "prefixItems"
+name_of keyword.Properties = codes "properties"
+name_of keyword.Required = codes "required"
+name_of keyword.Title = codes "title"
+name_of keyword.Type = codes "type"
+
+-- all of them, in the byte order of their names
+abbrev pub all_keywords : List Keyword
+all_keywords =
+    keyword.Comment ∷ keyword.Defs ∷ keyword.Ref ∷ keyword.Schema ∷ keyword.AdditionalProperties ∷ keyword.AllOf ∷ keyword.AnyOf ∷ keyword.Const ∷ keyword.Description
+    ∷ keyword.Enum ∷ keyword.ExclusiveMaximum ∷ keyword.ExclusiveMinimum ∷ keyword.Items ∷ keyword.Maximum ∷ keyword.MinItems ∷ keyword.Minimum ∷ keyword.Not
+    ∷ keyword.PrefixItems ∷ keyword.Properties ∷ keyword.Required ∷ keyword.Title ∷ keyword.Type ∷ []
 
 -- the keywords by their names
 abbrev pub keywords : List (Entry Keyword)
-keywords =
-    (codes "$schema", Dialect) ∷ (codes "$defs", Definitions) ∷ (codes "$ref", Refers)
-    ∷ (codes "type", HasType) ∷ (codes "const", Equals) ∷ (codes "enum", OneOf)
-    ∷ (codes "minimum", Minimum) ∷ (codes "maximum", Maximum) ∷ (codes "exclusiveMinimum", Above) ∷ (codes "exclusiveMaximum", Below)
-    ∷ (codes "required", Requires) ∷ (codes "properties", Properties) ∷ (codes "additionalProperties", Additional)
-    ∷ (codes "prefixItems", Prefix) ∷ (codes "items", Items) ∷ (codes "minItems", MinItems)
-    ∷ (codes "allOf", AllOf) ∷ (codes "anyOf", AnyOf) ∷ (codes "not", Not)
-    ∷ (codes "title", Note) ∷ (codes "description", Note) ∷ (codes "$comment", Note) ∷ []
+keywords = map (λ w. (name_of w, w)) all_keywords
 
 -- the kinds that `type` names (Validation, section 6.1.1)
 pub data Kind : Type 0 where

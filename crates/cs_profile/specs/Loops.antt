@@ -1,10 +1,12 @@
 -- Definitions that reach themselves without going into a document (JSON Schema Core 2020-12, section 9.4.1).
-use Rattle.std.specs.Prelude.{ℕ, List, [], ◌∷◌, ◌++◌, Option, Some, None, option_to_list, IsTrue}
+use Rattle.std.specs.Prelude.{ℕ, List, [], ◌∷◌, ◌++◌, Option, Some, option_to_list, IsTrue}
 use Rattle.std.specs.Option.{option_map_or}
 use Rattle.std.specs.Str.{bytes_eq}
 use Rattle.std.specs.List.{list_any}
 use Rattle.cs_document.specs.Document.{Document, text, list, object, Documents, no_documents, document, Members, no_members, member, under}
-use Rattle.cs_profile.specs.Keywords.{Keyword, Dialect, Definitions, Refers, HasType, Equals, OneOf, Minimum, Maximum, Above, Below, Requires, Properties, Additional, Prefix, Items, MinItems, AllOf, AnyOf, Not, Note, keywords, reference_start, text_after, defined}
+use Rattle.cs_profile.specs.Keywords.{keywords, reference_start, text_after, defined}
+use Rattle.cs_profile.specs.declared.keyword.Keyword.{Keyword}
+use Rattle.cs_profile.specs.declared.keyword.Keyword.TheVariants as keyword
 
 -- the name in the value of a `$ref`
 abbrev pub name_in : Document → List (List ℕ)
@@ -19,27 +21,12 @@ pub record ByReach : Type 0 where
   pub elements : List (List ℕ)
 
 abbrev pub by_keyword : Option Keyword → ByReach → List (List ℕ)
-by_keyword (Some Refers) names = names.name
-by_keyword (Some Not) names = names.itself
-by_keyword (Some AllOf) names = names.elements
-by_keyword (Some AnyOf) names = names.elements
-by_keyword (Some Dialect) names = []
-by_keyword (Some Definitions) names = []
-by_keyword (Some HasType) names = []
-by_keyword (Some Equals) names = []
-by_keyword (Some OneOf) names = []
-by_keyword (Some Minimum) names = []
-by_keyword (Some Maximum) names = []
-by_keyword (Some Above) names = []
-by_keyword (Some Below) names = []
-by_keyword (Some Requires) names = []
-by_keyword (Some Properties) names = []
-by_keyword (Some Additional) names = []
-by_keyword (Some Prefix) names = []
-by_keyword (Some Items) names = []
-by_keyword (Some MinItems) names = []
-by_keyword (Some Note) names = []
-by_keyword None names = []
+by_keyword (Some keyword.Ref) names = names.name
+by_keyword (Some keyword.Not) names = names.itself
+by_keyword (Some keyword.AllOf) names = names.elements
+by_keyword (Some keyword.AnyOf) names = names.elements
+-- every other keyword asks schemas of documents inside, or none
+by_keyword _ names = []
 
 abbrev mutual
   -- the names that a schema refers to directly, through `$ref`, `allOf`, `anyOf` and `not` alone

@@ -3,7 +3,8 @@ use Rattle.std.specs.Prelude.{◌≡◌, ℕ, suc, Bool, true, false, List, [], 
 use Rattle.std.specs.Str.{bytes_eq}
 use Rattle.cs_document.specs.Document.{Document, null, boolean, integer, text, list, object, Documents, no_documents, document, Members, no_members, member}
 use Rattle.cs_profile.specs.Keywords.{reference_start, text_after, defined}
-use Rattle.cs_profile.specs.Shapes.{Form, Row, row, has_form, BySchemas, by_form}
+use Rattle.cs_profile.specs.Shapes.{form_at, has_form, BySchemas, by_form}
+use Rattle.cs_profile.specs.declared.keyword.Form.{Form}
 use Rattle.cs_profile.specs.Places.{at_key, at_index}
 use Rattle.cs_profile.specs.Loops.{NoLoop}
 
@@ -20,9 +21,9 @@ pub data Visit : Type 0 where
   keyword_at : Bool → List ℕ → List ℕ → Document → Visit
 
 -- what the walk meets inside a keyword's value
-abbrev pub within : Option Row → BySchemas (List Visit) → List Visit
+abbrev pub within : Option Form → BySchemas (List Visit) → List Visit
 within None walks = []
-within (Some r) walks = by_form r.0 walks
+within (Some f) walks = by_form f walks
 
 -- what the walk meets, in its order: the keys in their order, and the schemas under a key before the next key
 abbrev mutual
@@ -37,7 +38,7 @@ abbrev mutual
   pub member_visits : Bool → List ℕ → Members → List Visit
   member_visits root place no_members = []
   member_visits root place (member k v ms) =
-      (keyword_at root place k v ∷ within (row root k) (record {
+      (keyword_at root place k v ∷ within (form_at root k) (record {
         none = [];
         itself = visits false (at_key place k) v;
         elements = list_visits (at_key place k) v;
@@ -72,7 +73,7 @@ value_visits place v = record {
 
 -- a keyword with what stands inside its value; for private contracts alone
 abbrev pub keyword_visits : Bool → List ℕ → List ℕ → Document → List Visit
-keyword_visits root place k v = keyword_at root place k v ∷ within (row root k) (value_visits (at_key place k) v)
+keyword_visits root place k v = keyword_at root place k v ∷ within (form_at root k) (value_visits (at_key place k) v)
 
 -- the first answer of a function over a list
 abbrev pub or_else : {A : Type 0} → Option A → Option A → Option A
@@ -87,9 +88,9 @@ first f (x ∷ xs) = or_else (f x) (first f xs)
 abbrev pub shape_fault : List ℕ → List ℕ → Bool → Option Fault
 shape_fault place name ok = if ok then None else Some (misshapen place name)
 
-abbrev pub row_fault : List ℕ → List ℕ → Document → Option Row → Option Fault
-row_fault place name v None = Some (unknown place name)
-row_fault place name v (Some r) = shape_fault place name (has_form r.0 v)
+abbrev pub form_fault : List ℕ → List ℕ → Document → Option Form → Option Fault
+form_fault place name v None = Some (unknown place name)
+form_fault place name v (Some f) = shape_fault place name (has_form f v)
 
 abbrev pub is_truth : Document → Bool
 is_truth (boolean b) = true
@@ -97,9 +98,9 @@ is_truth _ = false
 
 abbrev pub fault_of : Visit → Option Fault
 fault_of (value_at place d) = shape_fault place [] (is_truth d)
-fault_of (keyword_at root place k v) = row_fault place k v (row root k)
+fault_of (keyword_at root place k v) = form_fault place k v (form_at root k)
 
--- the fault of a keyword whose row has this shape, and of what stands inside; for private contracts alone
+-- the fault of a keyword whose value is to have this form, and of what stands inside; for private contracts alone
 abbrev pub value_fault : List ℕ → List ℕ → Form → Document → List Visit → Option Fault
 value_fault place name form v inside = or_else (shape_fault place name (has_form form v)) (first fault_of inside)
 

@@ -10,6 +10,10 @@ use Rattle.cs_profile.specs.Profile.{IsSchema}
 use Rattle.cs_profile.specs.declared.schema.Schema.{Schema, fold-Schema}
 use Rattle.cs_profile.specs.declared.schema.Schema.TheOpen.{Schema-F, Keywords-F}
 use Rattle.cs_profile.specs.declared.schema.Keywords.{Keywords, fold-Keywords}
+use Rattle.cs_profile.specs.declared.schema.KeywordValue.{KeywordValue}
+use Rattle.cs_profile.specs.declared.schema.KeywordValue.TheVariants as value
+use Rattle.cs_profile.specs.declared.keyword.Form.{Form}
+use Rattle.cs_profile.specs.declared.keyword.Form.TheVariants as form
 use Rattle.cs_profile.specs.declared.schema.JsonKind.{JsonKind}
 use Rattle.cs_profile.specs.declared.schema.JsonKind.TheVariants as kind
 
@@ -31,7 +35,7 @@ abbrev pub present : List Slot → Members
 present [] = no_members
 present (s ∷ ss) = with_member s.1 s.0 (present ss)
 
--- a keyword's value is set; for private contracts alone
+-- a keyword's value is set
 abbrev pub set_slot : List ℕ → Option Document → List Slot → List Slot
 set_slot k o [] = []
 set_slot k o (s ∷ ss) = if bytes_eq k s.0 then (s.0, o) ∷ ss else s ∷ set_slot k o ss
@@ -84,12 +88,26 @@ schema_view = fold-Schema Document (List Slot) schema_step keyword_slots
 abbrev pub slots_of : Keywords → List Slot
 slots_of = fold-Keywords Document (List Slot) schema_step keyword_slots
 
--- for private contracts alone
 abbrev pub schemas_view : List Schema → List Document
 schemas_view = map schema_view
 
 abbrev pub definitions_view : List (String Global × Schema) → List (String Global × Document)
 definitions_view = map (λ m. (m.0, schema_view m.1))
+
+-- the document that the value of a keyword of a form stands for, if one stands
+abbrev pub value_at : Form → KeywordValue → Option Document
+value_at form.Reference (value.Reference s) = Some (reference_document s)
+value_at form.Kind (value.Kind k) = Some (text (kind_name k))
+value_at form.Anything (value.Anything d) = Some (doc_view d)
+value_at form.Array (value.Array v) = Some (list (list_view v.items))
+value_at form.Integer (value.Integer z) = Some (integer z)
+value_at form.Count (value.Integer z) = Some (integer z)
+value_at form.Texts (value.Texts v) = unless_no_list (map text_document v.items)
+value_at form.Schema (value.Schema s) = Some (schema_view s)
+value_at form.Schemas (value.Schemas v) = unless_no_list (schemas_view v.items)
+value_at form.NamedSchemas (value.NamedSchemas m) = unless_no_map (definitions_view m.entries)
+-- a text says nothing, and what does not have the form
+value_at _ _ = None
 
 -- a root with its definitions
 pub record SchemaValue : Type 0 where

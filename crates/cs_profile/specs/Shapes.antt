@@ -1,50 +1,79 @@
--- The shape of each keyword's value, and what trimming does with the keyword (the profile: own rule).
-use Rattle.std.specs.Prelude.{ℕ, pos, List, [], ◌∷◌, ◌++◌, Bool, true, false, not, ◌&&◌, ◌||◌, nat_eq, leb, Option, Some, None, is_some, option_and_then, codes}
+-- The form of each keyword's value, where the keyword may stand, and what trimming does with it (the profile: own rule).
+use Rattle.std.specs.Prelude.{ℕ, pos, List, [], ◌∷◌, ◌++◌, Bool, true, false, not, ◌&&◌, ◌||◌, nat_eq, leb, Option, Some, None, is_some, option_and_then, codes, if◌then◌else◌}
 use Rattle.std.specs.Str.{bytes_eq}
 use Rattle.std.specs.List.{list_any, list_all}
 use Rattle.cs_document.specs.Document.{Document, integer, text, list, object, Documents, no_documents, document, no_members, under}
-use Rattle.cs_profile.specs.Keywords.{Keyword, Dialect, Definitions, Refers, HasType, Equals, OneOf, Minimum, Maximum, Above, Below, Requires, Properties, Additional, Prefix, Items, MinItems, AllOf, AnyOf, Not, Note, keywords, kinds, reference_start, text_after}
+use Rattle.cs_profile.specs.Keywords.{keywords, kinds, reference_start, text_after}
+use Rattle.cs_profile.specs.declared.keyword.Keyword.{Keyword}
+use Rattle.cs_profile.specs.declared.keyword.Keyword.TheVariants as keyword
+use Rattle.cs_profile.specs.declared.keyword.Form.{Form}
+use Rattle.cs_profile.specs.declared.keyword.Form.TheVariants as form
 
-pub data Form : Type 0 where
-  the_dialect a_reference a_kind anything an_array an_integer a_count distinct_texts a_text a_schema some_schemas named_schemas : Form
+-- the form of a keyword's value
+abbrev pub form_of : Keyword → Form
+form_of keyword.Schema = form.Dialect
+form_of keyword.Defs = form.NamedSchemas
+form_of keyword.Ref = form.Reference
+form_of keyword.Type = form.Kind
+form_of keyword.Const = form.Anything
+form_of keyword.Enum = form.Array
+form_of keyword.Minimum = form.Integer
+form_of keyword.Maximum = form.Integer
+form_of keyword.ExclusiveMinimum = form.Integer
+form_of keyword.ExclusiveMaximum = form.Integer
+form_of keyword.MinItems = form.Count
+form_of keyword.Required = form.Texts
+form_of keyword.Properties = form.NamedSchemas
+form_of keyword.AdditionalProperties = form.Schema
+form_of keyword.PrefixItems = form.Schemas
+form_of keyword.Items = form.Schema
+form_of keyword.AllOf = form.Schemas
+form_of keyword.AnyOf = form.Schemas
+form_of keyword.Not = form.Schema
+form_of keyword.Title = form.Text
+form_of keyword.Description = form.Text
+form_of keyword.Comment = form.Text
+
+-- whether the profile has a keyword in the root, or below it
+abbrev pub stands : Bool → Keyword → Bool
+stands root keyword.Schema = root
+stands root keyword.Defs = root
+stands root keyword.Ref = root
+stands root keyword.Type = true
+stands root keyword.Const = true
+stands root keyword.Minimum = true
+stands root keyword.Maximum = true
+stands root keyword.ExclusiveMinimum = true
+stands root keyword.ExclusiveMaximum = true
+stands root keyword.AllOf = true
+-- keywords that the reader does not take yet
+stands root _ = false
+
+abbrev pub form_in : Bool → Keyword → Option Form
+form_in root w = if stands root w then Some (form_of w) else None
+
+-- the form of what stands under a key, in the root or below it
+abbrev pub form_at : Bool → List ℕ → Option Form
+form_at root k = option_and_then (form_in root) (under k keywords)
 
 -- what trimming does with a keyword
 pub data Keeping : Type 0 where
   kept left_out left_out_if_empty : Keeping
 
-abbrev pub Row : Type 0
-Row = Form × Keeping
-
--- the keywords of the profile, in the root or below it
-abbrev pub row_of : Bool → Keyword → Option Row
-row_of true Dialect = Some (the_dialect, left_out)
-row_of false Dialect = None
-row_of true Definitions = Some (named_schemas, left_out_if_empty)
-row_of false Definitions = None
-row_of true Refers = Some (a_reference, kept)
-row_of root HasType = Some (a_kind, kept)
-row_of root Equals = Some (anything, kept)
-row_of root Minimum = Some (an_integer, kept)
-row_of root Maximum = Some (an_integer, kept)
-row_of root Above = Some (an_integer, kept)
-row_of root Below = Some (an_integer, kept)
-row_of root AllOf = Some (some_schemas, kept)
--- keywords that the reader does not take yet
-row_of false Refers = None
-row_of root OneOf = None
-row_of root Requires = None
-row_of root Properties = None
-row_of root Additional = None
-row_of root Prefix = None
-row_of root Items = None
-row_of root MinItems = None
-row_of root AnyOf = None
-row_of root Not = None
-row_of root Note = None
-
--- the row of a key, in the root or below it
-abbrev pub row : Bool → List ℕ → Option Row
-row root k = option_and_then (row_of root) (under k keywords)
+-- by the form of its value
+abbrev pub keeping : Form → Keeping
+keeping form.Dialect = left_out
+keeping form.Reference = kept
+keeping form.Kind = kept
+keeping form.Anything = kept
+keeping form.Array = kept
+keeping form.Integer = kept
+keeping form.Count = kept
+keeping form.Texts = left_out_if_empty
+keeping form.Text = left_out
+keeping form.Schema = kept
+keeping form.Schemas = kept
+keeping form.NamedSchemas = left_out_if_empty
 
 -- the text of `$schema` (JSON Schema Core 2020-12, section 8.1.1)
 abbrev pub dialect : List ℕ
@@ -72,18 +101,18 @@ are_distinct_texts seen (document _ ds) = false
 
 -- whether a value has the shape; a value that is to be a schema is looked at where it stands
 abbrev pub has_form : Form → Document → Bool
-has_form the_dialect (text s) = bytes_eq s dialect
-has_form a_reference (text s) = names_definition (text_after reference_start s)
-has_form a_kind (text s) = is_some (under s kinds)
-has_form anything d = true
-has_form an_array (list ds) = true
-has_form an_integer (integer z) = true
-has_form a_count (integer (pos n)) = true
-has_form distinct_texts (list ds) = are_distinct_texts [] ds
-has_form a_text (text s) = true
-has_form a_schema d = true
-has_form some_schemas (list (document d ds)) = true
-has_form named_schemas (object ms) = true
+has_form form.Dialect (text s) = bytes_eq s dialect
+has_form form.Reference (text s) = names_definition (text_after reference_start s)
+has_form form.Kind (text s) = is_some (under s kinds)
+has_form form.Anything d = true
+has_form form.Array (list ds) = true
+has_form form.Integer (integer z) = true
+has_form form.Count (integer (pos n)) = true
+has_form form.Texts (list ds) = are_distinct_texts [] ds
+has_form form.Text (text s) = true
+has_form form.Schema d = true
+has_form form.Schemas (list (document d ds)) = true
+has_form form.NamedSchemas (object ms) = true
 has_form _ _ = false
 
 abbrev pub is_empty : Document → Bool
@@ -105,15 +134,15 @@ pub record BySchemas (A : Type 0) : Type 0 where
   pub members : A
 
 abbrev pub by_form : {A : Type 0} → Form → BySchemas A → A
-by_form the_dialect answers = answers.none
-by_form a_reference answers = answers.none
-by_form a_kind answers = answers.none
-by_form anything answers = answers.none
-by_form an_array answers = answers.none
-by_form an_integer answers = answers.none
-by_form a_count answers = answers.none
-by_form distinct_texts answers = answers.none
-by_form a_text answers = answers.none
-by_form a_schema answers = answers.itself
-by_form some_schemas answers = answers.elements
-by_form named_schemas answers = answers.members
+by_form form.Dialect answers = answers.none
+by_form form.Reference answers = answers.none
+by_form form.Kind answers = answers.none
+by_form form.Anything answers = answers.none
+by_form form.Array answers = answers.none
+by_form form.Integer answers = answers.none
+by_form form.Count answers = answers.none
+by_form form.Texts answers = answers.none
+by_form form.Text answers = answers.none
+by_form form.Schema answers = answers.itself
+by_form form.Schemas answers = answers.elements
+by_form form.NamedSchemas answers = answers.members

@@ -1,7 +1,8 @@
 -- A schema without the keywords that say nothing of validity (own rule).
 use Rattle.std.specs.Prelude.{◌≡◌, ℕ, Bool, true, false, List, Option, Some, None, codes, if◌then◌else◌}
 use Rattle.cs_document.specs.Document.{Document, null, boolean, integer, text, list, object, Documents, no_documents, document, Members, no_members, member, put}
-use Rattle.cs_profile.specs.Shapes.{Row, row, is_kept, BySchemas, by_form, dialect}
+use Rattle.cs_profile.specs.Shapes.{form_at, keeping, is_kept, BySchemas, by_form, dialect}
+use Rattle.cs_profile.specs.declared.keyword.Form.{Form}
 use Rattle.cs_profile.specs.Validity.{IsValidity}
 
 abbrev pub with_member : Option Document → List ℕ → Members → Members
@@ -9,9 +10,9 @@ with_member None k ms = ms
 with_member (Some v) k ms = member k v ms
 
 -- what becomes of a keyword's value
-abbrev pub trimmed_as : Option Row → Document → BySchemas Document → Option Document
+abbrev pub trimmed_as : Option Form → Document → BySchemas Document → Option Document
 trimmed_as None v trims = Some v
-trimmed_as (Some r) v trims = if is_kept r.1 v then Some (by_form r.0 trims) else None
+trimmed_as (Some f) v trims = if is_kept (keeping f) v then Some (by_form f trims) else None
 
 abbrev mutual
   pub trimmed : Bool → Document → Document
@@ -25,7 +26,7 @@ abbrev mutual
   pub trimmed_members : Bool → Members → Members
   trimmed_members root no_members = no_members
   trimmed_members root (member k v ms) =
-      with_member (trimmed_as (row root k) v (record { none = v; itself = trimmed false v; elements = trimmed_list v; members = trimmed_map v })) k (trimmed_members root ms)
+      with_member (trimmed_as (form_at root k) v (record { none = v; itself = trimmed false v; elements = trimmed_list v; members = trimmed_map v })) k (trimmed_members root ms)
 
   pub trimmed_list : Document → Document
   trimmed_list (list ds) = list (trimmed_elements ds)
@@ -54,7 +55,7 @@ value_trims v = record {
 
 -- a keyword's value, if it is kept; for private contracts alone
 abbrev pub trimmed_value : Bool → List ℕ → Document → Option Document
-trimmed_value root k v = trimmed_as (row root k) v (value_trims v)
+trimmed_value root k v = trimmed_as (form_at root k) v (value_trims v)
 
 -- an object as root gets `$schema`
 abbrev pub with_dialect : Document → Document

@@ -2,11 +2,13 @@
 #![tactic(auto)]
 
 mod fault;
+mod keyword;
 mod laws;
 mod schema;
 mod schema_doc;
 
 pub use fault::SchemaFault;
+pub use keyword::{Form, Keyword};
 pub use laws::one_meaning;
-pub use schema::{JsonKind, Keywords, Schema};
+pub use schema::{JsonKind, KeywordValue, Keywords, Schema};
 pub use schema_doc::SchemaDoc;

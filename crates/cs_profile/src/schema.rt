@@ -1,3 +1,4 @@
+use crate::Keyword;
 use cs_document::Doc;
 use std::alloc::Global;
 use std::collections::BTreeMap;
@@ -63,10 +64,30 @@ pub struct Keywords {
     pub reference: Option<String>,
 }
 
+/// A keyword's value, by its form.
+#[derive(Drop)]
+pub enum KeywordValue {
+    /// What says nothing of validity: a dialect, a text.
+    Nothing,
+    /// The name that a `$ref` refers to.
+    Reference(String),
+    Kind(JsonKind),
+    Anything(Doc),
+    Array(Vec<Doc>),
+    /// An integer or a count.
+    Integer(i64),
+    Texts(Vec<String>),
+    Schema(Schema),
+    Schemas(Vec<Schema>),
+    NamedSchemas(BTreeMap<String, Schema>),
+}
+
 impl Keywords {
     ghost use Rattle.std.specs.Prelude.{◌≡◌};
     ghost use Rattle.cs_document.specs.Document.{no_members};
-    ghost use Rattle.cs_profile.specs.SchemaDocument.{slots_of, present};
+    ghost use Rattle.cs_profile.specs.Keywords.{name_of};
+    ghost use Rattle.cs_profile.specs.Shapes.{form_of};
+    ghost use Rattle.cs_profile.specs.SchemaDocument.{slots_of, present, set_slot, value_at};
 
     /// The schema object without a keyword, which validates every document.
     pub fn empty(alloc: Global) -> Keywords
@@ -90,6 +111,179 @@ impl Keywords {
             all_of: Vec::new(alloc),
             any_of: Vec::new(alloc),
             reference: None,
+        }
+    }
+    /// The keywords with a value for one of them; an empty list or map of schemas leaves it out, and so does a value
+    /// that doesn't have the keyword's form. `$schema`, `$defs` and the texts for readers change nothing.
+    pub fn set(self, alloc: Global, keyword: Keyword, value: KeywordValue) -> Keywords
+        ensures { slots_of result ≡ set_slot (name_of keyword) (value_at (form_of keyword) value) (slots_of self) }
+    {
+        match keyword {
+            Keyword::Ref => Keywords {
+                reference: value.reference(),
+                ..self
+            },
+            Keyword::AdditionalProperties => Keywords {
+                additional: value.schema(),
+                ..self
+            },
+            Keyword::AllOf => Keywords {
+                all_of: value.schemas(alloc),
+                ..self
+            },
+            Keyword::AnyOf => Keywords {
+                any_of: value.schemas(alloc),
+                ..self
+            },
+            Keyword::Const => Keywords {
+                equal: value.anything(),
+                ..self
+            },
+            Keyword::Enum => Keywords {
+                one_of: value.array(),
+                ..self
+            },
+            Keyword::ExclusiveMaximum => Keywords {
+                below: value.integer(),
+                ..self
+            },
+            Keyword::ExclusiveMinimum => Keywords {
+                above: value.integer(),
+                ..self
+            },
+            Keyword::Items => Keywords {
+                rest: value.schema(),
+                ..self
+            },
+            Keyword::Maximum => Keywords {
+                maximum: value.integer(),
+                ..self
+            },
+            Keyword::MinItems => Keywords {
+                min_items: value.integer(),
+                ..self
+            },
+            Keyword::Minimum => Keywords {
+                minimum: value.integer(),
+                ..self
+            },
+            Keyword::Not => Keywords {
+                negated: value.schema(),
+                ..self
+            },
+            Keyword::PrefixItems => Keywords {
+                prefix: value.schemas(alloc),
+                ..self
+            },
+            Keyword::Properties => Keywords {
+                properties: value.named_schemas(alloc),
+                ..self
+            },
+            Keyword::Required => Keywords {
+                required: value.texts(alloc),
+                ..self
+            },
+            Keyword::Type => Keywords {
+                kind: value.kind(),
+                ..self
+            },
+            // these have no field
+            Keyword::Comment
+            | Keyword::Defs
+            | Keyword::Description
+            | Keyword::Schema
+            | Keyword::Title => self,
+        }
+    }
+}
+
+impl KeywordValue {
+    ghost use Rattle.std.specs.Prelude.{◌≡◌, option_map, map};
+    ghost use Rattle.cs_document.specs.Document.{integer, text, list};
+    ghost use Rattle.cs_document.specs.View.{doc_view, list_view};
+    ghost use Rattle.cs_profile.specs.declared.keyword.Form.TheVariants as form;
+    ghost use Rattle.cs_profile.specs.SchemaDocument.{value_at, reference_document, text_document, kind_name, schema_view, schemas_view, definitions_view, unless_no_list, unless_no_map};
+
+    fn reference(self) -> Option<String>
+        ensures { option_map reference_document result ≡ value_at form.Reference self }
+    {
+        match self {
+            KeywordValue::Reference(name) => Some(name),
+            _ => None,
+        }
+    }
+
+    fn kind(self) -> Option<JsonKind>
+        ensures { option_map (λ k. text (kind_name k)) result ≡ value_at form.Kind self }
+    {
+        match self {
+            KeywordValue::Kind(kind) => Some(kind),
+            _ => None,
+        }
+    }
+
+    fn anything(self) -> Option<Doc>
+        ensures { option_map doc_view result ≡ value_at form.Anything self }
+    {
+        match self {
+            KeywordValue::Anything(doc) => Some(doc),
+            _ => None,
+        }
+    }
+
+    fn array(self) -> Option<Vec<Doc>>
+        ensures { option_map (λ v. list (list_view v.items)) result ≡ value_at form.Array self }
+    {
+        match self {
+            KeywordValue::Array(docs) => Some(docs),
+            _ => None,
+        }
+    }
+
+    fn integer(self) -> Option<i64>
+        ensures integer { option_map integer result ≡ value_at form.Integer self }
+        ensures count { option_map integer result ≡ value_at form.Count self }
+    {
+        match self {
+            KeywordValue::Integer(n) => Some(n),
+            _ => None,
+        }
+    }
+
+    fn texts(self, alloc: Global) -> Vec<String>
+        ensures { unless_no_list (map text_document result.items) ≡ value_at form.Texts self }
+    {
+        match self {
+            KeywordValue::Texts(texts) => texts,
+            _ => Vec::new(alloc),
+        }
+    }
+
+    fn schema(self) -> Option<Schema>
+        ensures { option_map schema_view result ≡ value_at form.Schema self }
+    {
+        match self {
+            KeywordValue::Schema(schema) => Some(schema),
+            _ => None,
+        }
+    }
+
+    fn schemas(self, alloc: Global) -> Vec<Schema>
+        ensures { unless_no_list (schemas_view result.items) ≡ value_at form.Schemas self }
+    {
+        match self {
+            KeywordValue::Schemas(schemas) => schemas,
+            _ => Vec::new(alloc),
+        }
+    }
+
+    /// The schemas by their names; none where it is no such value.
+    pub fn named_schemas(self, alloc: Global) -> BTreeMap<String, Schema>
+        ensures { unless_no_map (definitions_view result.entries) ≡ value_at form.NamedSchemas self }
+    {
+        match self {
+            KeywordValue::NamedSchemas(schemas) => schemas,
+            _ => BTreeMap::new(alloc),
         }
     }
 }

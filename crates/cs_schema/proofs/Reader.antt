@@ -6,8 +6,9 @@ use Rattle.std.specs.Map.{lookup}
 use Rattle.cs_document.specs.Document.{Document, boolean, object, text, Members, entries, under, put}
 use Rattle.cs_profile.specs.Keywords.{listed_under, defined}
 use Rattle.cs_profile.specs.Shapes.{dialect}
-use Rattle.cs_profile.specs.Profile.{Fault, undefined, Visit, value_at, keyword_at, first, fault_of, or_else, shape_fault, row_fault, is_truth, visits, member_visits, walk_fault, name_fault, IsSchema}
-use Rattle.cs_profile.specs.Shapes.{Row, row, has_form}
+use Rattle.cs_profile.specs.Profile.{Fault, undefined, Visit, value_at, keyword_at, first, fault_of, or_else, shape_fault, form_fault, is_truth, visits, member_visits, walk_fault, name_fault, IsSchema}
+use Rattle.cs_profile.specs.Shapes.{form_at, has_form}
+use Rattle.cs_profile.specs.declared.keyword.Form.{Form}
 use Rattle.cs_profile.specs.Trim.{trim, trimmed, trimmed_members, with_member, with_dialect}
 use Rattle.cs_profile.specs.SchemaDocument.{Slot, present, slots_of, schema_view, definitions_view, unless_no_map, reference_document, document_of, with_definitions, IsWhole}
 use Rattle.cs_schema.specs.Reading.{Refuses, undefined_name, slots}
@@ -80,9 +81,9 @@ name_is ms p h made =
 
 -- ---- refusals
 
-row_never : (place k : List ℕ) (v : Document) (r : Option Row) (p n : List ℕ) → row_fault place k v r ≡ Some (undefined p n) → ⊥
-row_never place k v None p n h = cc
-row_never place k v (Some r) p n h = shape_never place k (has_form r.0 v) p n h
+form_never : (place k : List ℕ) (v : Document) (r : Option Form) (p n : List ℕ) → form_fault place k v r ≡ Some (undefined p n) → ⊥
+form_never place k v None p n h = cc
+form_never place k v (Some r) p n h = shape_never place k (has_form r v) p n h
   where
     shape_never : (place k : List ℕ) (b : Bool) (p n : List ℕ) → shape_fault place k b ≡ Some (undefined p n) → ⊥
     shape_never place k true p n h = cc
@@ -94,7 +95,7 @@ visit_never (value_at place d) p n h = by_test (is_truth d) h
     by_test : (b : Bool) → shape_fault place [] b ≡ Some (undefined p n) → ⊥
     by_test true h = cc
     by_test false h = cc
-visit_never (keyword_at root place k v) p n h = row_never place k v (row root k) p n h
+visit_never (keyword_at root place k v) p n h = form_never place k v (form_at root k) p n h
 
 never_first : (v : Visit) (rest : Option Fault) (p n : List ℕ) → (rest ≡ Some (undefined p n) → ⊥) → (o : Option Fault) → fault_of v ≡ o → or_else o rest ≡ Some (undefined p n) → ⊥
 never_first v rest p n more None e h = more h

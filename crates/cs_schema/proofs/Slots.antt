@@ -6,12 +6,15 @@ use Rattle.std.specs.Cmp.Lexicographic.{slice_cmp}
 use Rattle.std.specs.Ordering.{nat_cmp, ordering_reverse}
 use Rattle.cs_document.specs.Document.{Document, no_members, member}
 use Rattle.cs_profile.specs.Trim.{with_member}
-use Rattle.cs_profile.specs.SchemaDocument.{Slot, present, set_slot}
-use Rattle.cs_schema.specs.Reading.{set_found, found_value, IsFoundAt, slots}
+use Rattle.cs_profile.specs.SchemaDocument.{Slot, present, set_slot, value_at}
+use Rattle.cs_schema.specs.Reading.{slots}
 use Rattle.cs_schema.specs.declared.parts.Parts.{Parts}
 use Rattle.cs_profile.specs.declared.schema.Schema.{the_lemmas}
-use Rattle.cs_schema.specs.declared.parts.Found.{Found}
-use Rattle.cs_schema.specs.declared.parts.Found.TheVariants as found
+use Rattle.cs_profile.specs.Keywords.{name_of}
+use Rattle.cs_profile.specs.Shapes.{form_of}
+use Rattle.cs_profile.specs.declared.keyword.Keyword.{Keyword}
+use Rattle.cs_profile.specs.declared.keyword.Keyword.TheVariants as keyword
+use Rattle.cs_profile.specs.declared.schema.KeywordValue.{KeywordValue}
 use Rattle.cs_profile.proofs.Slots.{Above, Ordered, has_slot}
 use Rattle.cs_schema.proofs.Walks.{join, join-nil, KeysBelow}
 
@@ -50,24 +53,47 @@ set_slot-last k v (s ∷ ss) o h b = by_test k v s ss o b (set_slot-last k v ss 
 
 -- ---- the slots of an object
 
--- what the slots of an object keep to
 pub ordered : (p : Parts) → Ordered (slots p)
 ordered p = search (rules, the_lemmas)
 
--- a keyword that says nothing sets none
-nothing_set : (p : Parts) → present (set_found found.Nothing (slots p)) ≡ present (slots p)
-nothing_set p = search (rules, the_lemmas)
+-- the keywords that have a slot
+abbrev is_kept_keyword : Keyword → Bool
+is_kept_keyword keyword.Schema = false
+is_kept_keyword keyword.Title = false
+is_kept_keyword keyword.Description = false
+is_kept_keyword keyword.Comment = false
+is_kept_keyword _ = true
+
+has_its_slot : (w : Keyword) (p : Parts) → is_kept_keyword w ≡ true → has_slot (name_of w) (slots p) ≡ true
+has_its_slot keyword.Schema p h = cc
+has_its_slot keyword.Title p h = cc
+has_its_slot keyword.Description p h = cc
+has_its_slot keyword.Comment p h = cc
+has_its_slot _ p h = search (rules, the_lemmas)
+
+no_slot : (w : Keyword) (o : Option Document) (p : Parts) → is_kept_keyword w ≡ false → set_slot (name_of w) o (slots p) ≡ slots p
+no_slot keyword.Schema o p h = search (rules, the_lemmas)
+no_slot keyword.Title o p h = search (rules, the_lemmas)
+no_slot keyword.Description o p h = search (rules, the_lemmas)
+no_slot keyword.Comment o p h = search (rules, the_lemmas)
+no_slot _ o p h = cc
+
+-- their values stand for no document
+nothing_said : (w : Keyword) (v : KeywordValue) → is_kept_keyword w ≡ false → value_at (form_of w) v ≡ None
+nothing_said keyword.Schema v h = refl
+nothing_said keyword.Title v h = refl
+nothing_said keyword.Description v h = refl
+nothing_said keyword.Comment v h = refl
+nothing_said _ v h = cc
 
 -- what a keyword says goes last
-pub set_found-last : (f : Found) (p : Parts) (k : List ℕ) → IsFoundAt f k → KeysBelow k (present (slots p))
-    → present (set_found f (slots p)) ≡ join (present (slots p)) (with_member (found_value f) k no_members)
-set_found-last found.Nothing p k h b = nothing_set p ∙ sym (join-nil (present (slots p)))
-set_found-last (found.Definitions m) p k h b = rw h (set_slot-last _ (found_value (found.Definitions m)) (slots p) (ordered p) (search (rules, the_lemmas)) (rw h at b))
-set_found-last (found.Reference s) p k h b = rw h (set_slot-last _ (found_value (found.Reference s)) (slots p) (ordered p) (search (rules, the_lemmas)) (rw h at b))
-set_found-last (found.Kind j) p k h b = rw h (set_slot-last _ (found_value (found.Kind j)) (slots p) (ordered p) (search (rules, the_lemmas)) (rw h at b))
-set_found-last (found.Equal d) p k h b = rw h (set_slot-last _ (found_value (found.Equal d)) (slots p) (ordered p) (search (rules, the_lemmas)) (rw h at b))
-set_found-last (found.Minimum z) p k h b = rw h (set_slot-last _ (found_value (found.Minimum z)) (slots p) (ordered p) (search (rules, the_lemmas)) (rw h at b))
-set_found-last (found.Maximum z) p k h b = rw h (set_slot-last _ (found_value (found.Maximum z)) (slots p) (ordered p) (search (rules, the_lemmas)) (rw h at b))
-set_found-last (found.Above z) p k h b = rw h (set_slot-last _ (found_value (found.Above z)) (slots p) (ordered p) (search (rules, the_lemmas)) (rw h at b))
-set_found-last (found.Below z) p k h b = rw h (set_slot-last _ (found_value (found.Below z)) (slots p) (ordered p) (search (rules, the_lemmas)) (rw h at b))
-set_found-last (found.AllOf v) p k h b = rw h (set_slot-last _ (found_value (found.AllOf v)) (slots p) (ordered p) (search (rules, the_lemmas)) (rw h at b))
+pub set-last : (w : Keyword) (v : KeywordValue) (p : Parts) → KeysBelow (name_of w) (present (slots p))
+    → present (set_slot (name_of w) (value_at (form_of w) v) (slots p)) ≡ join (present (slots p)) (with_member (value_at (form_of w) v) (name_of w) no_members)
+set-last w v p b = by_kept (is_kept_keyword w) refl
+  where
+    by_kept : (t : Bool) → is_kept_keyword w ≡ t → present (set_slot (name_of w) (value_at (form_of w) v) (slots p)) ≡ join (present (slots p)) (with_member (value_at (form_of w) v) (name_of w) no_members)
+    by_kept true e = set_slot-last (name_of w) (value_at (form_of w) v) (slots p) (ordered p) (has_its_slot w p e) b
+    by_kept false e =
+        ap present (no_slot w (value_at (form_of w) v) p e)
+        ∙ sym (join-nil (present (slots p)))
+        ∙ ap (λ o. join (present (slots p)) (with_member o (name_of w) no_members)) (sym (nothing_said w v e))

@@ -10,7 +10,7 @@ use Rattle.cs_document.specs.View.{doc_view, list_view, object_view, documents_o
 use Rattle.cs_document.specs.declared.doc.Doc.{Doc}
 use Rattle.cs_document.proofs.Entries.{Entry}
 use Rattle.cs_profile.specs.Profile.{Fault, Visit, first, fault_of, element_visits, value_fault, list_visits}
-use Rattle.cs_profile.specs.Shapes.{some_schemas}
+use Rattle.cs_profile.specs.declared.keyword.Form.TheVariants as form
 use Rattle.cs_profile.specs.Trim.{trimmed, trimmed_members, trimmed_elements, trimmed_named, trimmed_value, with_member, trimmed_list}
 use Rattle.cs_profile.specs.SchemaDocument.{schema_view, schemas_view, definitions_view, unless_no_list}
 use Rattle.cs_schema.specs.Reading.{Refuses}
@@ -97,7 +97,7 @@ is_nil (x ∷ xs) = false
 
 -- an array of schemas with an element
 pub some_right : (place name below : List ℕ) (xs : List Doc) (v : Document) → v ≡ list (list_view xs) → is_nil xs ≡ false → first fault_of (element_visits below 0 (list_view xs)) ≡ None
-    → value_fault place name some_schemas v (list_visits below v) ≡ None
+    → value_fault place name form.Schemas v (list_visits below v) ≡ None
 some_right place name below [] v e h r = cc
 some_right place name below (x ∷ xs) v e h r = rw e r
 

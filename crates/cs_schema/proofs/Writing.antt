@@ -1,20 +1,20 @@
 -- Keywords that are put in their order stand in that order.
-use Rattle.std.proofs.Common.{◌≡◌, ◌↔◌, IsTrue, length, ℕ, zero, suc, Bool, false, List, [], ◌∷◌, ◌++◌, map, take, drop, Option, Some, None, option_map, String, Global, Box, Less, Greater, nat_cmp, string_bytes, codes, refl, sym, ap, ap₂, ◌∙◌, rules}
+use Rattle.std.proofs.Common.{◌≡◌, ◌↔◌, IsTrue, length, ℕ, Bool, false, List, [], ◌∷◌, ◌++◌, map, Option, Some, None, String, Global, Box, Less, Greater, nat_cmp, string_bytes, codes, refl, sym, ap, ◌∙◌, rules}
 use Rattle.std.proofs.lemmas.Cmp.{nat_list_cmp_total}
-use Rattle.std.proofs.Math.Seq.{drop-nil}
 use Rattle.std.specs.Cmp.Lexicographic.{slice_cmp}
 use Rattle.std.specs.Ordering.{ordering_reverse}
-use Rattle.cs_document.specs.Document.{Document, Members, no_members, member, integer, text, list, object, put}
+use Rattle.cs_document.specs.Document.{Document, Members, no_members, member, text, list, object, put}
 use Rattle.cs_document.specs.View.{doc_view, object_view, documents_of, members_of}
 use Rattle.cs_document.specs.declared.doc.Doc.{Doc}
 use Rattle.cs_document.proofs.Entries.{Entry, entries-push}
 pub use Rattle.cs_document.proofs.Maps.{map_more as mapped_more}
 use Rattle.cs_profile.specs.Shapes.{dialect}
 use Rattle.cs_profile.specs.Trim.{with_member, with_dialect}
-use Rattle.cs_profile.specs.SchemaDocument.{Slot, present, slots_of, schema_view, schemas_view, text_document, kind_name, definitions_view, unless_no_list, unless_no_map, SchemaValue, with_definitions, document_of}
-use Rattle.cs_schema.specs.Writing.{put_some, put_all}
+use Rattle.cs_profile.specs.SchemaDocument.{Slot, present, slots_of, schema_view, definitions_view, unless_no_list, unless_no_map, SchemaValue, with_definitions, document_of}
+use Rattle.cs_profile.specs.Keywords.{all_keywords}
+use Rattle.cs_schema.specs.Writing.{put_some, put_all, slots_for}
 use Rattle.cs_profile.specs.declared.schema.Schema.{Schema, Object, the_lemmas}
-use Rattle.cs_profile.specs.declared.schema.Keywords.{Keywords, out-Keywords}
+use Rattle.cs_profile.specs.declared.schema.Keywords.{Keywords}
 use Rattle.cs_profile.proofs.Slots.{Above, Ordered}
 use Rattle.cs_profile.proofs.Views.{view-Object}
 use Rattle.cs_schema.proofs.Walks.{join, join-nil, KeysBelow, is_nil}
@@ -59,32 +59,17 @@ above_none : (ss : List Slot) → AllAbove no_members ss
 above_none [] = tt
 above_none (s ∷ ss) = (tt, above_none ss)
 
--- in parts
-put_all-split : (n : ℕ) (ss : List Slot) (ms : Members) → put_all (drop n ss) (put_all (take n ss) ms) ≡ put_all ss ms
-put_all-split zero ss ms = refl
-put_all-split (suc n) [] ms = refl
-put_all-split (suc n) (s ∷ ss) ms = put_all-split n ss (put_some s.0 s.1 ms)
+-- in the order of the keywords
+all_ordered : (ss : List Slot) → Ordered (slots_for ss all_keywords)
+all_ordered ss = search rules
 
-drop_four : (n : ℕ) (ss : List Slot) → drop n (drop 4 ss) ≡ drop (suc (suc (suc (suc n)))) ss
-drop_four n [] = drop-nil n
-drop_four n (a ∷ []) = drop-nil n
-drop_four n (a ∷ b ∷ []) = drop-nil n
-drop_four n (a ∷ b ∷ c ∷ []) = drop-nil n
-drop_four n (a ∷ b ∷ c ∷ d ∷ ss) = refl
+-- each keyword of an object is one of them
+all_present : (k : Keywords) → present (slots_for (slots_of k) all_keywords) ≡ present (slots_of k)
+all_present k = search (rules, the_lemmas)
 
-four_parts : (ss : List Slot) (ms : Members) → put_all (drop 12 ss) (put_all (take 4 (drop 8 ss)) (put_all (take 4 (drop 4 ss)) (put_all (take 4 ss) ms))) ≡ put_all ss ms
-four_parts ss ms =
-    let a = put_all (take 4 ss) ms in
-    let b = put_all (take 4 (drop 4 ss)) a in
-    ap₂ (λ x y. put_all x (put_all (take 4 y) b)) (sym (drop_four 8 ss)) (sym (drop_four 4 ss))
-    ∙ ap (λ x. put_all x (put_all (take 4 (drop 4 (drop 4 ss))) b)) (sym (drop_four 4 (drop 4 ss)))
-    ∙ put_all-split 4 (drop 4 (drop 4 ss)) b ∙ put_all-split 4 (drop 4 ss) a ∙ put_all-split 4 ss ms
-
-keywords_ordered : (k : Keywords) → Ordered (slots_of k)
-keywords_ordered k = search (rules, the_lemmas)
-
-pub keywords_put : (k : Keywords) → put_all (drop 12 (slots_of k)) (put_all (take 4 (drop 8 (slots_of k))) (put_all (take 4 (drop 4 (slots_of k))) (put_all (take 4 (slots_of k)) no_members))) ≡ present (slots_of k)
-keywords_put k = four_parts (slots_of k) no_members ∙ put_all-last (slots_of k) no_members (keywords_ordered k) (above_none (slots_of k))
+pub all_put : (k : Keywords) → put_all (slots_for (slots_of k) all_keywords) no_members ≡ present (slots_of k)
+all_put k =
+    put_all-last (slots_for (slots_of k) all_keywords) no_members (all_ordered (slots_of k)) (above_none (slots_for (slots_of k) all_keywords)) ∙ all_present k
 
 -- a name below the others goes first
 put_some-first : (k : List ℕ) (o : Option Document) (ss : List Slot) → Above k ss → put_some k o (present ss) ≡ with_member o k (present ss)
@@ -126,16 +111,3 @@ pub document_put : (v : SchemaValue) (k : Box Keywords Global) (o : Option Docum
 document_put v k o root is =
     ap (λ ms. object (put (codes "$schema") (text dialect) ms)) (definitions_put k.value o ∙ ap (λ d. with_member d (codes "$defs") (present (slots_of k.value))) is)
     ∙ ap (λ d. with_dialect (with_definitions (unless_no_map (definitions_view v.definitions)) d)) (sym (ap schema_view root ∙ view-Object k))
-
--- ---- the values of some keywords
-
-pub from_items : (k : Keywords) → take 4 (drop 8 (slots_of k))
-    ≡ (codes "items", option_map schema_view (out-Keywords k).rest) ∷ (codes "maximum", option_map integer (out-Keywords k).maximum)
-    ∷ (codes "minItems", option_map integer (out-Keywords k).min_items) ∷ (codes "minimum", option_map integer (out-Keywords k).minimum) ∷ []
-from_items k = search (rules, the_lemmas)
-
-pub from_not : (k : Keywords) → drop 12 (slots_of k)
-    ≡ (codes "not", option_map schema_view (out-Keywords k).negated) ∷ (codes "prefixItems", unless_no_list (schemas_view (out-Keywords k).prefix.items))
-    ∷ (codes "properties", unless_no_map (definitions_view (out-Keywords k).properties.entries)) ∷ (codes "required", unless_no_list (map text_document (out-Keywords k).required.items))
-    ∷ (codes "type", option_map (λ j. text (kind_name j)) (out-Keywords k).kind) ∷ []
-from_not k = search (rules, the_lemmas)

@@ -1,86 +1,38 @@
--- What the reader makes of a keyword, and where it puts it.
-use Rattle.std.specs.Prelude.{◌≡◌, ℕ, List, [], ◌∷◌, Option, Some, None, codes, map, String, string_bytes, is_some, if◌then◌else◌}
-use Rattle.cs_document.specs.Document.{Document, integer, text, under}
-use Rattle.cs_document.specs.View.{doc_view}
-use Rattle.cs_profile.specs.Shapes.{Row, the_dialect, a_reference, a_kind, anything, an_integer, some_schemas, named_schemas, kept, left_out, left_out_if_empty}
-use Rattle.cs_profile.specs.Profile.{Fault, unknown, misshapen, undefined}
-use Rattle.cs_profile.specs.SchemaDocument.{Slot, set_slot, slots_of, kind_name, unless_no_list, unless_no_map, reference_document, schema_view, schemas_view, definitions_view}
+-- What the reader makes of a keyword's value, and of an object.
+use Rattle.std.specs.Prelude.{◌≡◌, ℕ, Bool, true, false, List, [], ◌∷◌, Option, Some, None, codes, map, String, string_bytes, is_some, if◌then◌else◌}
+use Rattle.cs_document.specs.Document.{Document, under}
+use Rattle.cs_profile.specs.Shapes.{keeping, is_kept, by_form}
+use Rattle.cs_profile.specs.Profile.{Fault, unknown, misshapen, undefined, Visit, value_visits}
+use Rattle.cs_profile.specs.Trim.{value_trims}
+use Rattle.cs_profile.specs.SchemaDocument.{Slot, slots_of, unless_no_map, schema_view, definitions_view}
+use Rattle.cs_profile.specs.declared.keyword.Form.{Form}
+use Rattle.cs_profile.specs.declared.keyword.Form.TheVariants as form
 use Rattle.cs_profile.specs.declared.schema.Schema.{Schema}
 use Rattle.std.specs.declared.alloc.Global.{Global}
 use Rattle.cs_profile.specs.declared.fault.SchemaFault.{SchemaFault}
 use Rattle.cs_profile.specs.declared.fault.SchemaFault.TheVariants as fault
-use Rattle.cs_schema.specs.declared.words.Word.{Word}
-use Rattle.cs_schema.specs.declared.words.Word.TheVariants.{Dialect, Definitions, Reference, Kind, Equal, Minimum, Maximum, Above, Below, AllOf}
 use Rattle.cs_schema.specs.declared.parts.Parts.{Parts}
-use Rattle.cs_schema.specs.declared.parts.Found.{Found}
-use Rattle.cs_schema.specs.declared.parts.Found.TheVariants as found
 
--- the row of each keyword that the reader tells apart
-abbrev pub word_row : Word → Row
-word_row Dialect = (the_dialect, left_out)
-word_row Definitions = (named_schemas, left_out_if_empty)
-word_row Reference = (a_reference, kept)
-word_row Kind = (a_kind, kept)
-word_row Equal = (anything, kept)
-word_row Minimum = (an_integer, kept)
-word_row Maximum = (an_integer, kept)
-word_row Above = (an_integer, kept)
-word_row Below = (an_integer, kept)
-word_row AllOf = (some_schemas, kept)
+-- what the walk meets inside a value of a form
+abbrev pub inside : Form → List ℕ → Document → List Visit
+inside f place v = by_form f (value_visits place v)
 
--- and its name
-abbrev pub Names : Word → List ℕ → Type 0
-Names Dialect k = k ≡ codes "$schema"
-Names Definitions k = k ≡ codes "$defs"
-Names Reference k = k ≡ codes "$ref"
-Names Kind k = k ≡ codes "type"
-Names Equal k = k ≡ codes "const"
-Names Minimum k = k ≡ codes "minimum"
-Names Maximum k = k ≡ codes "maximum"
-Names Above k = k ≡ codes "exclusiveMinimum"
-Names Below k = k ≡ codes "exclusiveMaximum"
-Names AllOf k = k ≡ codes "allOf"
+-- what trimming leaves of a value of a form
+abbrev pub kept_value : Form → Document → Option Document
+kept_value f v = if is_kept (keeping f) v then Some (by_form f (value_trims v)) else None
+
+-- the forms of the keywords that the reader takes
+abbrev pub is_read : Form → Bool
+is_read form.Array = false
+is_read form.Count = false
+is_read form.Texts = false
+is_read form.Text = false
+is_read form.Schema = false
+is_read _ = true
 
 -- the keywords of an object with its definitions
 abbrev pub slots : Parts → List Slot
 slots p = (codes "$defs", unless_no_map (definitions_view p.definitions.entries)) ∷ slots_of p.keywords
-
--- what a keyword says, as its value
-abbrev pub found_value : Found → Option Document
-found_value found.Nothing = None
-found_value (found.Definitions m) = unless_no_map (definitions_view m.entries)
-found_value (found.Reference s) = Some (reference_document s)
-found_value (found.Kind k) = Some (text (kind_name k))
-found_value (found.Equal d) = Some (doc_view d)
-found_value (found.Minimum z) = Some (integer z)
-found_value (found.Maximum z) = Some (integer z)
-found_value (found.Above z) = Some (integer z)
-found_value (found.Below z) = Some (integer z)
-found_value (found.AllOf v) = unless_no_list (schemas_view v.items)
-
--- the keyword that says it
-abbrev pub found_name : Found → List ℕ
-found_name found.Nothing = []
-found_name (found.Definitions m) = codes "$defs"
-found_name (found.Reference s) = codes "$ref"
-found_name (found.Kind k) = codes "type"
-found_name (found.Equal d) = codes "const"
-found_name (found.Minimum z) = codes "minimum"
-found_name (found.Maximum z) = codes "maximum"
-found_name (found.Above z) = codes "exclusiveMinimum"
-found_name (found.Below z) = codes "exclusiveMaximum"
-found_name (found.AllOf v) = codes "allOf"
-
-abbrev pub IsFoundAt : Found → List ℕ → Type 0
-IsFoundAt found.Nothing k = Unit {0}
-IsFoundAt f k = k ≡ found_name f
-
-abbrev pub IsNoDefinitions : Found → Type 0
-IsNoDefinitions (found.Definitions m) = ⊥
-IsNoDefinitions _ = Unit {0}
-
-abbrev pub set_found : Found → List Slot → List Slot
-set_found f ss = set_slot (found_name f) (found_value f) ss
 
 -- the fault of a root that refers to what is not defined
 abbrev pub undefined_name : Option (String Global) → List (String Global × Schema) → Option Fault

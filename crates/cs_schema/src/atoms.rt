@@ -3,7 +3,8 @@ ghost use Rattle.std.specs.Prelude.{◌≡◌, Some, None, false, true, IfSome, 
 ghost use Rattle.std.specs.List.{list_all};
 ghost use Rattle.cs_document.specs.Document.{text, integer};
 ghost use Rattle.cs_document.specs.View.{doc_view};
-ghost use Rattle.cs_profile.specs.Shapes.{has_form, a_reference, a_kind, an_integer, the_dialect, is_name as text_is_name, is_name_code as code_is_name};
+ghost use Rattle.cs_profile.specs.Shapes.{has_form, is_name as text_is_name, is_name_code as code_is_name};
+ghost use Rattle.cs_profile.specs.declared.keyword.Form.TheVariants as form;
 ghost use Rattle.cs_profile.specs.SchemaDocument.{kind_name, reference_document};
 
 use crate::JsonKind;
@@ -13,7 +14,7 @@ use std::alloc::{AllocError, Global};
 /// The kind that a value names.
 pub(crate) fn kind_of(value: &Doc) -> Option<JsonKind>
     ensures some { IfSome result (λ k. doc_view value.now ≡ text (kind_name k)) }
-    ensures none { result ≡ None → has_form a_kind (doc_view value.now) ≡ false }
+    ensures none { result ≡ None → has_form form.Kind (doc_view value.now) ≡ false }
 {
     match value {
         Doc::Text(name) => kind_named(name),
@@ -23,7 +24,7 @@ pub(crate) fn kind_of(value: &Doc) -> Option<JsonKind>
 
 fn kind_named(name: &str) -> Option<JsonKind>
     ensures some { IfSome result (λ k. name.now ≡ kind_name k) }
-    ensures none { result ≡ None → has_form a_kind (text name.now) ≡ false }
+    ensures none { result ≡ None → has_form form.Kind (text name.now) ≡ false }
 {
     match name {
         "null" => Some(JsonKind::Null),
@@ -55,7 +56,7 @@ pub(crate) fn name_of(kind: JsonKind) -> &'static str
 /// The integer that a value is.
 pub(crate) fn integer_of(value: &Doc) -> Option<i64>
     ensures some { IfSome result (λ z. doc_view value.now ≡ integer z) }
-    ensures none { result ≡ None → has_form an_integer (doc_view value.now) ≡ false }
+    ensures none { result ≡ None → has_form form.Integer (doc_view value.now) ≡ false }
 {
     match value {
         Doc::Int(n) => Some(*n),
@@ -65,7 +66,7 @@ pub(crate) fn integer_of(value: &Doc) -> Option<i64>
 
 /// Whether a value is the text of the dialect.
 pub(crate) fn is_dialect(value: &Doc) -> bool
-    ensures { result ≡ has_form the_dialect (doc_view value.now) }
+    ensures { result ≡ has_form form.Dialect (doc_view value.now) }
 {
     match value {
         Doc::Text(name) => name.as_str() == "https://json-schema.org/draft/2020-12/schema",
@@ -76,8 +77,8 @@ pub(crate) fn is_dialect(value: &Doc) -> bool
 /// The name that the value of a `$ref` refers to.
 pub(crate) fn reference_of(alloc: Global, value: &Doc) -> Result<Option<String>, AllocError>
     ensures some { IfOk result (λ o. IfSome o (λ n. doc_view value.now ≡ reference_document n)) }
-    ensures accepted { IfOk result (λ o. IfSome o (λ n. has_form a_reference (doc_view value.now) ≡ true)) }
-    ensures none { IfOk result (λ o. o ≡ None → has_form a_reference (doc_view value.now) ≡ false) }
+    ensures accepted { IfOk result (λ o. IfSome o (λ n. has_form form.Reference (doc_view value.now) ≡ true)) }
+    ensures none { IfOk result (λ o. o ≡ None → has_form form.Reference (doc_view value.now) ≡ false) }
 {
     match value {
         Doc::Text(text) => match text.strip_prefix("#/$defs/") {

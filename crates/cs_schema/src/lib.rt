@@ -5,9 +5,10 @@ mod atoms;
 mod parts;
 mod places;
 mod read;
-mod words;
 mod write;
 
-pub use cs_profile::{JsonKind, Keywords, Schema, SchemaDoc, SchemaFault, one_meaning};
+pub use cs_profile::{
+    JsonKind, Keyword, KeywordValue, Keywords, Schema, SchemaDoc, SchemaFault, one_meaning,
+};
 pub use read::read_schema;
 pub use write::to_doc;

@@ -1,8 +1,6 @@
-use crate::{JsonKind, Keywords, Schema};
-use cs_document::Doc;
+use crate::{Keyword, KeywordValue, Keywords, Schema};
 use std::alloc::Global;
 use std::collections::BTreeMap;
-use std::mem::replace;
 
 /// The keywords of an object, with its definitions where it is the root.
 #[derive(Drop)]
@@ -11,26 +9,13 @@ pub(crate) struct Parts {
     pub(crate) definitions: BTreeMap<String, Schema>,
 }
 
-/// What a keyword says, where it says something of validity.
-#[derive(Drop)]
-pub(crate) enum Found {
-    Nothing,
-    Definitions(BTreeMap<String, Schema>),
-    Reference(String),
-    Kind(JsonKind),
-    Equal(Doc),
-    Minimum(i64),
-    Maximum(i64),
-    Above(i64),
-    Below(i64),
-    AllOf(Vec<Schema>),
-}
-
 impl Parts {
-    ghost use Rattle.std.specs.Prelude.{◌≡◌, []};
+    ghost use Rattle.std.specs.Prelude.{◌≡◌, [], false, true};
     ghost use Rattle.cs_document.specs.Document.{no_members};
-    ghost use Rattle.cs_profile.specs.SchemaDocument.{present};
-    ghost use Rattle.cs_schema.specs.Reading.{slots, set_found, IsNoDefinitions};
+    ghost use Rattle.cs_profile.specs.Keywords.{name_of};
+    ghost use Rattle.cs_profile.specs.Shapes.{form_of, stands};
+    ghost use Rattle.cs_profile.specs.SchemaDocument.{present, set_slot, value_at};
+    ghost use Rattle.cs_schema.specs.Reading.{slots};
 
     /// No keywords and no definitions.
     pub(crate) fn new(alloc: Global) -> Parts
@@ -55,25 +40,20 @@ impl Parts {
         keywords
     }
 
-    /// The parts, with what a keyword says.
-    pub(crate) fn with(self, found: Found) -> Parts
-        ensures slots { slots result ≡ set_found found (slots self) }
-        ensures below { IsNoDefinitions found → result.definitions.entries ≡ self.definitions.entries }
+    /// The parts with a value for a keyword.
+    pub(crate) fn set(self, alloc: Global, keyword: Keyword, value: KeywordValue) -> Parts
+        ensures slots { slots result ≡ set_slot (name_of keyword) (value_at (form_of keyword) value) (slots self) }
+        ensures below { stands false keyword ≡ true → result.definitions.entries ≡ self.definitions.entries }
     {
-        // `replace` and no assignment: the prover does not take one of a part of an owned value here.
-        let mut parts = self;
-        match found {
-            Found::Nothing => (),
-            Found::Definitions(definitions) => drop(replace(&mut parts.definitions, definitions)),
-            Found::Reference(name) => drop(parts.keywords.reference.replace(name)),
-            Found::Kind(kind) => drop(parts.keywords.kind.replace(kind)),
-            Found::Equal(doc) => drop(parts.keywords.equal.replace(doc)),
-            Found::Minimum(n) => drop(parts.keywords.minimum.replace(n)),
-            Found::Maximum(n) => drop(parts.keywords.maximum.replace(n)),
-            Found::Above(n) => drop(parts.keywords.above.replace(n)),
-            Found::Below(n) => drop(parts.keywords.below.replace(n)),
-            Found::AllOf(all_of) => drop(replace(&mut parts.keywords.all_of, all_of)),
+        match keyword {
+            Keyword::Defs => Parts {
+                definitions: value.named_schemas(alloc),
+                ..self
+            },
+            _ => Parts {
+                keywords: self.keywords.set(alloc, keyword, value),
+                definitions: self.definitions,
+            },
         }
-        parts
     }
 }

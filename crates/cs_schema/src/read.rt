@@ -1,22 +1,24 @@
 // The reader: one walk over the document, key by key.
-ghost use Rattle.std.specs.Prelude.{◌≡◌, None, Some, IfOk, OnOk, IfErr, [], false};
+ghost use Rattle.std.specs.Prelude.{◌≡◌, None, Some, IfOk, IfSome, OnOk, IfErr, IsTrue, [], false, true};
 ghost use Rattle.cs_document.specs.Document.{object};
 ghost use Rattle.cs_document.specs.View.{doc_view, list_view, object_view, documents_of, members_of};
-ghost use Rattle.cs_profile.specs.Shapes.{some_schemas, named_schemas};
+ghost use Rattle.cs_profile.specs.declared.keyword.Form.TheVariants as forms;
+ghost use Rattle.cs_profile.specs.Keywords.{name_of};
+ghost use Rattle.cs_profile.specs.Shapes.{form_of, form_at, stands};
 ghost use Rattle.cs_profile.specs.Profile.{first, fault_of, value_fault, visits, list_visits, map_visits, member_visits, keyword_visits, element_visits, named_visits, IsSchema};
 ghost use Rattle.cs_profile.specs.Refusal.{IsRefusal};
 ghost use Rattle.cs_profile.specs.Places.{at_key as key_place};
 ghost use Rattle.cs_profile.specs.Trim.{trim, KeepsValidity, trimmed, trimmed_members, trimmed_elements, trimmed_named, trimmed_value, trimmed_list, trimmed_map};
 ghost use Rattle.cs_profile.specs.Validity.{OneMeaning};
-ghost use Rattle.cs_profile.specs.SchemaDocument.{schema_view, schemas_view, definitions_view, unless_no_list, present, document_of};
-ghost use Rattle.cs_schema.specs.Reading.{Refuses, undefined_name, slots, found_value, IsFoundAt, IsNoDefinitions};
+ghost use Rattle.cs_profile.specs.SchemaDocument.{schema_view, schemas_view, definitions_view, unless_no_list, present, document_of, value_at};
+ghost use Rattle.cs_schema.specs.Reading.{Refuses, undefined_name, slots, inside, kept_value, is_read};
 
 use crate::atoms::{copied, integer_of, is_dialect, kind_of, reference_of};
-use crate::parts::{Found, Parts};
+use crate::parts::Parts;
 use crate::places::{at_index, at_key, misshapen, undefined, unknown};
-use crate::words::{Word, word_of};
-use crate::{Keywords, Schema, SchemaDoc, SchemaFault};
+use crate::{Keyword, KeywordValue, Schema, SchemaDoc, SchemaFault};
 use cs_document::Doc;
+use cs_profile::Form;
 use std::alloc::Global;
 use std::collections::BTreeMap;
 
@@ -104,13 +106,13 @@ fn read_members(
 {
     let mut parts = Parts::new(alloc);
     for (key, value) in members {
-        let found = read_keyword(alloc, root, place, key, value)?;
-        parts = parts.with(found);
+        let (keyword, value) = read_keyword(alloc, root, place, key, value)?;
+        parts = parts.set(alloc, keyword, value);
     }
     Ok(parts)
 }
 
-/// What a keyword says.
+/// The keyword that a key is, with its value.
 #[cycle(read)]
 fn read_keyword(
     alloc: Global,
@@ -118,62 +120,90 @@ fn read_keyword(
     place: &str,
     key: &str,
     value: &Doc,
-) -> Result<Found, SchemaFault>
+) -> Result<(Keyword, KeywordValue), SchemaFault>
     ensures accepted { OnOk result
         (first fault_of (keyword_visits root place.now key.now (doc_view value.now)) ≡ None) }
     ensures found { IfOk result
-        (λ f. found_value f ≡ trimmed_value root key.now (doc_view value.now)) }
-    ensures name { IfOk result (λ f. IsFoundAt f key.now) }
-    ensures below { IfOk result (λ f. root ≡ false → IsNoDefinitions f) }
+        (λ t. value_at (form_of t.0) t.1 ≡ trimmed_value root key.now (doc_view value.now)) }
+    ensures name { IfOk result (λ t. name_of t.0 ≡ key.now) }
+    ensures stands { IfOk result (λ t. stands root t.0 ≡ true) }
     ensures refused { IfErr result (λ e. Refuses e
         (first fault_of (keyword_visits root place.now key.now (doc_view value.now)))) }
 {
-    match word_of(root, key) {
-        None => Err(unknown(alloc, place, key)),
-        Some(Word::Dialect) => if is_dialect(value) {
-            Ok(Found::Nothing)
+    let Some(keyword) = keyword_at(root, key) else {
+        return Err(unknown(alloc, place, key));
+    };
+    let value = read_form(alloc, keyword.form(), place, key, value)?;
+    Ok((keyword, value))
+}
+
+/// The keyword that a key is, in the root or below it.
+fn keyword_at(root: bool, key: &str) -> Option<Keyword>
+    ensures form { IfSome result (λ w. form_at root key.now ≡ Some (form_of w)) }
+    ensures name { IfSome result (λ w. name_of w ≡ key.now) }
+    ensures stands { IfSome result (λ w. stands root w ≡ true) }
+    ensures none { result ≡ None → form_at root key.now ≡ None }
+{
+    let keyword = Keyword::named(key)?;
+    if keyword.stands(root) {
+        Some(keyword)
+    } else {
+        None
+    }
+}
+
+/// A keyword's value, by its form.
+#[cycle(read)]
+fn read_form(
+    alloc: Global,
+    form: Form,
+    place: &str,
+    key: &str,
+    value: &Doc,
+) -> Result<KeywordValue, SchemaFault>
+    requires { IsTrue (is_read form) }
+    ensures accepted { OnOk result (value_fault place.now key.now form (doc_view value.now)
+        (inside form (key_place place.now key.now) (doc_view value.now)) ≡ None) }
+    ensures found { IfOk result (λ v. value_at form v ≡ kept_value form (doc_view value.now)) }
+    ensures refused { IfErr result (λ e. Refuses e
+        (value_fault place.now key.now form (doc_view value.now)
+        (inside form (key_place place.now key.now) (doc_view value.now)))) }
+{
+    match form {
+        Form::Dialect => if is_dialect(value) {
+            Ok(KeywordValue::Nothing)
         } else {
             Err(misshapen(alloc, place, key))
         },
-        Some(Word::Definitions) => Ok(Found::Definitions(read_named(alloc, place, key, value)?)),
-        Some(Word::Reference) => match reference_of(alloc, value)? {
-            Some(name) => Ok(Found::Reference(name)),
+        Form::Reference => match reference_of(alloc, value)? {
+            Some(name) => Ok(KeywordValue::Reference(name)),
             None => Err(misshapen(alloc, place, key)),
         },
-        Some(Word::Kind) => match kind_of(value) {
-            Some(kind) => Ok(Found::Kind(kind)),
+        Form::Kind => match kind_of(value) {
+            Some(kind) => Ok(KeywordValue::Kind(kind)),
             None => Err(misshapen(alloc, place, key)),
         },
-        Some(Word::Equal) => Ok(Found::Equal(copied(alloc, value)?)),
-        Some(Word::Minimum) => match integer_of(value) {
-            Some(n) => Ok(Found::Minimum(n)),
+        Form::Anything => Ok(KeywordValue::Anything(copied(alloc, value)?)),
+        Form::Integer => match integer_of(value) {
+            Some(n) => Ok(KeywordValue::Integer(n)),
             None => Err(misshapen(alloc, place, key)),
         },
-        Some(Word::Maximum) => match integer_of(value) {
-            Some(n) => Ok(Found::Maximum(n)),
-            None => Err(misshapen(alloc, place, key)),
-        },
-        Some(Word::Above) => match integer_of(value) {
-            Some(n) => Ok(Found::Above(n)),
-            None => Err(misshapen(alloc, place, key)),
-        },
-        Some(Word::Below) => match integer_of(value) {
-            Some(n) => Ok(Found::Below(n)),
-            None => Err(misshapen(alloc, place, key)),
-        },
-        Some(Word::AllOf) => Ok(Found::AllOf(read_some(alloc, place, key, value)?)),
+        Form::Schemas => Ok(KeywordValue::Schemas(read_some(alloc, place, key, value)?)),
+        Form::NamedSchemas => Ok(KeywordValue::NamedSchemas(read_named(alloc, place, key, value)?)),
+        // of keywords that the reader doesn't take yet
+        Form::Array | Form::Count | Form::Texts | Form::Text | Form::Schema => unreachable!(),
     }
 }
 
 /// The schemas of a nonempty array under a key.
 #[cycle(read)]
 fn read_some(alloc: Global, place: &str, key: &str, value: &Doc) -> Result<Vec<Schema>, SchemaFault>
-    ensures accepted { OnOk result (value_fault place.now key.now some_schemas (doc_view value.now)
+    ensures accepted { OnOk result (value_fault place.now key.now forms.Schemas (doc_view value.now)
         (list_visits (key_place place.now key.now) (doc_view value.now)) ≡ None) }
     ensures found { IfOk result (λ v. unless_no_list (schemas_view v.items)
         ≡ Some (trimmed_list (doc_view value.now))) }
     ensures refused { IfErr result (λ e. Refuses e
-        (value_fault place.now key.now some_schemas (doc_view value.now)
+        (value_fault place.now key.now forms.Schemas (doc_view value.now)
         (list_visits (key_place place.now key.now) (doc_view value.now)))) }
 {
     match value {
@@ -195,12 +225,12 @@ fn read_named(
     key: &str,
     value: &Doc,
 ) -> Result<BTreeMap<String, Schema>, SchemaFault>
-    ensures accepted { OnOk result (value_fault place.now key.now named_schemas (doc_view value.now)
+    ensures accepted { OnOk result (value_fault place.now key.now forms.NamedSchemas (doc_view value.now)
         (map_visits (key_place place.now key.now) (doc_view value.now)) ≡ None) }
     ensures found { IfOk result (λ m. object (members_of (definitions_view m.entries))
         ≡ trimmed_map (doc_view value.now)) }
     ensures refused { IfErr result (λ e. Refuses e
-        (value_fault place.now key.now named_schemas (doc_view value.now)
+        (value_fault place.now key.now forms.NamedSchemas (doc_view value.now)
         (map_visits (key_place place.now key.now) (doc_view value.now)))) }
 {
     match value {

@@ -1,14 +1,15 @@
 // The writer: the keywords of each object, in the byte order of their names.
-ghost use Rattle.std.specs.Prelude.{◌≡◌, IfOk, OnOk, IsOkUnless, Some, None, map, option_map, take, drop};
+ghost use Rattle.std.specs.Prelude.{◌≡◌, IfOk, OnOk, IsOkUnless, Some, None, map, option_map};
 ghost use Rattle.cs_document.specs.Document.{text as a_text, integer, list};
 ghost use Rattle.cs_document.specs.View.{doc_view, list_view, object_view};
 ghost use Rattle.cs_profile.specs.Profile.{IsSchema};
 ghost use Rattle.cs_profile.specs.Trim.{trim};
 ghost use Rattle.cs_profile.specs.SchemaDocument.{kind_name, schema_view, schemas_view, definitions_view, slots_of, present, unless_no_list, unless_no_map, reference_document, text_document, document_of};
-ghost use Rattle.cs_schema.specs.Writing.{put_some, put_all};
+ghost use Rattle.cs_profile.specs.Keywords.{name_of};
+ghost use Rattle.cs_schema.specs.Writing.{put_some, slot_value};
 
 use crate::atoms::{copied, name_of};
-use crate::{JsonKind, Keywords, Schema, SchemaDoc, SchemaFault};
+use crate::{JsonKind, Keyword, Keywords, Schema, SchemaDoc, SchemaFault};
 use cs_document::Doc;
 use std::alloc::{AllocError, Global};
 use std::collections::BTreeMap;
@@ -73,84 +74,47 @@ fn keywords_doc(alloc: Global, keywords: &Keywords) -> Result<Members, AllocErro
     ensures { IfOk result (λ m. object_view m.entries ≡ present (slots_of keywords.now)) }
 {
     let mut members = BTreeMap::new(alloc);
-    set_to_any_of(alloc, keywords, &mut members)?;
-    set_to_above(alloc, keywords, &mut members)?;
-    set_to_minimum(alloc, keywords, &mut members)?;
-    set_to_kind(alloc, keywords, &mut members)?;
+    for keyword in Keyword::ALL {
+        let value = keyword_doc(alloc, keywords, keyword)?;
+        set(alloc, &mut members, keyword.name(), value)?;
+    }
     Ok(members)
 }
 
-/// Puts the keywords from `$ref` to `anyOf`, in byte order.
+/// The value of a keyword, if it has one.
 #[cycle(write)]
-fn set_to_any_of(
+fn keyword_doc(
     alloc: Global,
     keywords: &Keywords,
-    members: &mut Members,
-) -> Result<(), AllocError>
-    ensures { OnOk result (object_view members.new.entries
-        ≡ put_all (take 4 (slots_of keywords.now)) (object_view members.old.entries)) }
+    keyword: Keyword,
+) -> Result<Option<Doc>, AllocError>
+    ensures { IfOk result (λ o. option_map doc_view o ≡ slot_value (name_of keyword) (slots_of keywords.now)) }
 {
-    let reference = reference_doc(alloc, &keywords.reference)?;
-    set(alloc, members, "$ref", reference)?;
-    let additional = option_doc(alloc, &keywords.additional)?;
-    set(alloc, members, "additionalProperties", additional)?;
-    let all_of = list_doc(alloc, &keywords.all_of)?;
-    set(alloc, members, "allOf", all_of)?;
-    let any_of = list_doc(alloc, &keywords.any_of)?;
-    set(alloc, members, "anyOf", any_of)
-}
-
-/// Puts the keywords from `const` to `exclusiveMinimum`, in byte order.
-fn set_to_above(alloc: Global, keywords: &Keywords, members: &mut Members) -> Result<(), AllocError>
-    ensures { OnOk result (object_view members.new.entries
-        ≡ put_all (take 4 (drop 4 (slots_of keywords.now))) (object_view members.old.entries)) }
-{
-    let equal = equal_doc(alloc, &keywords.equal)?;
-    set(alloc, members, "const", equal)?;
-    let one_of = one_of_doc(alloc, &keywords.one_of)?;
-    set(alloc, members, "enum", one_of)?;
-    let below = integer_doc(keywords.below);
-    set(alloc, members, "exclusiveMaximum", below)?;
-    let above = integer_doc(keywords.above);
-    set(alloc, members, "exclusiveMinimum", above)
-}
-
-/// Puts the keywords from `items` to `minimum`, in byte order.
-#[cycle(write)]
-fn set_to_minimum(
-    alloc: Global,
-    keywords: &Keywords,
-    members: &mut Members,
-) -> Result<(), AllocError>
-    ensures { OnOk result (object_view members.new.entries
-        ≡ put_all (take 4 (drop 8 (slots_of keywords.now))) (object_view members.old.entries)) }
-{
-    let rest = option_doc(alloc, &keywords.rest)?;
-    set(alloc, members, "items", rest)?;
-    let maximum = integer_doc(keywords.maximum);
-    set(alloc, members, "maximum", maximum)?;
-    let min_items = integer_doc(keywords.min_items);
-    set(alloc, members, "minItems", min_items)?;
-    let minimum = integer_doc(keywords.minimum);
-    set(alloc, members, "minimum", minimum)
-}
-
-/// Puts the keywords from `not` to `type`, in byte order.
-#[cycle(write)]
-fn set_to_kind(alloc: Global, keywords: &Keywords, members: &mut Members) -> Result<(), AllocError>
-    ensures { OnOk result (object_view members.new.entries
-        ≡ put_all (drop 12 (slots_of keywords.now)) (object_view members.old.entries)) }
-{
-    let negated = option_doc(alloc, &keywords.negated)?;
-    set(alloc, members, "not", negated)?;
-    let prefix = list_doc(alloc, &keywords.prefix)?;
-    set(alloc, members, "prefixItems", prefix)?;
-    let properties = map_doc(alloc, &keywords.properties)?;
-    set(alloc, members, "properties", properties)?;
-    let required = texts_doc(alloc, &keywords.required)?;
-    set(alloc, members, "required", required)?;
-    let kind = kind_doc(alloc, keywords.kind)?;
-    set(alloc, members, "type", kind)
+    match keyword {
+        Keyword::Ref => reference_doc(alloc, &keywords.reference),
+        Keyword::AdditionalProperties => option_doc(alloc, &keywords.additional),
+        Keyword::AllOf => list_doc(alloc, &keywords.all_of),
+        Keyword::AnyOf => list_doc(alloc, &keywords.any_of),
+        Keyword::Const => equal_doc(alloc, &keywords.equal),
+        Keyword::Enum => one_of_doc(alloc, &keywords.one_of),
+        Keyword::ExclusiveMaximum => Ok(integer_doc(keywords.below)),
+        Keyword::ExclusiveMinimum => Ok(integer_doc(keywords.above)),
+        Keyword::Items => option_doc(alloc, &keywords.rest),
+        Keyword::Maximum => Ok(integer_doc(keywords.maximum)),
+        Keyword::MinItems => Ok(integer_doc(keywords.min_items)),
+        Keyword::Minimum => Ok(integer_doc(keywords.minimum)),
+        Keyword::Not => option_doc(alloc, &keywords.negated),
+        Keyword::PrefixItems => list_doc(alloc, &keywords.prefix),
+        Keyword::Properties => map_doc(alloc, &keywords.properties),
+        Keyword::Required => texts_doc(alloc, &keywords.required),
+        Keyword::Type => kind_doc(alloc, keywords.kind),
+        // these are none of the keywords that an object keeps
+        Keyword::Comment
+        | Keyword::Defs
+        | Keyword::Description
+        | Keyword::Schema
+        | Keyword::Title => Ok(None),
+    }
 }
 
 /// A schema, where there is one.

@@ -6,7 +6,8 @@ use Rattle.std.proofs.lemmas.List.Folds.{list_all-map}
 use Rattle.cs_document.specs.Document.{Document, integer, text, list, object, Entry, elements, entries, document_eq}
 use Rattle.cs_document.specs.Opened.{Opened, a_null, a_boolean, an_integer, a_text, a_list, an_object, opened}
 use Rattle.cs_document.specs.View.{doc_view, list_view, documents_of}
-use Rattle.cs_profile.specs.Shapes.{Row, row}
+use Rattle.cs_profile.specs.Shapes.{form_at}
+use Rattle.cs_profile.specs.declared.keyword.Form.{Form}
 use Rattle.cs_profile.specs.Constraint.{assertion_at}
 use Rattle.cs_profile.specs.Validity.{is_of_kind, if_number, holds, IsValidity}
 use Rattle.cs_profile.specs.SchemaDocument.{Slot, reference_document, text_document, unless_no_map, definitions_view, present, schema_view, schemas_view, slots_of, unless_no_list, kind_name}
@@ -44,7 +45,7 @@ slots_are k = search (rules, the_lemmas)
 
 abbrev taken : Bool → List Slot → List Slot
 taken root [] = []
-taken root (s ∷ ss) = if is_some (row root s.0) then s ∷ taken root ss else taken root ss
+taken root (s ∷ ss) = if is_some (form_at root s.0) then s ∷ taken root ss else taken root ss
 
 abbrev taken_of : Keywords → List Slot
 taken_of k =
@@ -62,7 +63,7 @@ are_taken true k = refl
 are_taken false k = refl
 
 -- a keyword without a row does not stand
-absent : (root : Bool) (k : List ℕ) (o : Option Document) → row root k ≡ None → IsFaultless root (k, o) → o ≡ None
+absent : (root : Bool) (k : List ℕ) (o : Option Document) → form_at root k ≡ None → IsFaultless root (k, o) → o ≡ None
 absent root k None e h = refl
 absent root k (Some v) e h = let f = rw e at h.1 in cc
 
@@ -80,14 +81,14 @@ module _ (R : Document) (V : Document → Document → Bool) (beside : List (Ent
   present-all (s ∷ ss) = slot-all s ss (present-all ss)
 
   -- those of the profile, and all of them
-  by_row : (root : Bool) (s : Slot) (ss : List Slot) → IsFaultless root s → list_all said ss ≡ list_all said (taken root ss) → (r : Option Row) → row root s.0 ≡ r
+  by_row : (root : Bool) (s : Slot) (ss : List Slot) → IsFaultless root s → list_all said ss ≡ list_all said (taken root ss) → (r : Option Form) → form_at root s.0 ≡ r
       → list_all said (s ∷ ss) ≡ list_all said (if is_some r then s ∷ taken root ss else taken root ss)
   by_row root s ss h rest (Some r) e = ap (λ b. said s && b) rest
   by_row root s ss h rest None e = ap (λ o. said (s.0, o) && list_all said ss) (absent root s.0 s.1 e h) ∙ rest
 
   taken-all : (root : Bool) (ss : List Slot) → AreShaped root ss → list_all said ss ≡ list_all said (taken root ss)
   taken-all root [] h = refl
-  taken-all root (s ∷ ss) h = by_row root s ss h.0 (taken-all root ss h.1) (row root s.0) refl
+  taken-all root (s ∷ ss) h = by_row root s ss h.0 (taken-all root ss h.1) (form_at root s.0) refl
 
   -- one of them, by what it asserts where it stands
   mapped : {A : Type 0} (k : List ℕ) (f : A → Document) (p : A → Bool) → ((a : A) → said (k, Some (f a)) ≡ p a) → (o : Option A) → said (k, option_map f o) ≡ unless_absent p o

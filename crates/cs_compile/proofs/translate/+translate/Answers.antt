@@ -21,12 +21,12 @@ pub schema_of-returns-in-Int : goal.schema_of-returns-in-Int
 schema_of-returns-in-Int t c = λ ns.
     let seen : expression_of ns c.args.shape.now ≡ cue.atom (cue.integer c.in-Int.n) = rw c.in-Int.is (search (rules, the_lemmas)) in
     let back : to_z w64 (of_z w64 c.in-Int.n) ≡ c.in-Int.n = search rules in
-    rw seen (made_of_one c.object.result c.empty.result c.with_constant.result (codes "const") _ _ c.empty.ensures c.with_constant.ensures (ap (λ d. member (codes "const") d no_members) (view-Int _ ∙ ap integer back)) c.object.ensures)
+    rw seen (made_of_one c.object.result c.empty.result c.set.result (codes "const") _ _ c.empty.ensures c.set.ensures (ap (λ d. member (codes "const") d no_members) (view-Int _ ∙ ap integer back)) c.object.ensures)
 
 pub schema_of-returns-in-Kind : goal.schema_of-returns-in-Kind
 schema_of-returns-in-Kind t c = λ ns.
     let seen : expression_of ns c.args.shape.now ≡ cue.kind (kind_of c.in-Kind.kind) = rw c.in-Kind.is (search (rules, the_lemmas)) in
-    rw seen (made_of_one c.object-in-Kind.result c.empty-in-Kind.result c.with_type.result (codes "type") (Some (text (kind_name c.json_kind.result))) _ c.empty-in-Kind.ensures c.with_type.ensures (ap (λ n. of_type n) c.json_kind.ensures) c.object-in-Kind.ensures)
+    rw seen (made_of_one c.object-in-Kind.result c.empty-in-Kind.result c.set-in-Kind.result (codes "type") (Some (text (kind_name c.json_kind.result))) _ c.empty-in-Kind.ensures c.set-in-Kind.ensures (ap (λ n. of_type n) c.json_kind.ensures) c.object-in-Kind.ensures)
 
 pub schema_of-all_of-requires : goal.schema_of-all_of-requires
 schema_of-all_of-requires t c =
@@ -52,4 +52,4 @@ all_of-returns t c = λ ns.
     let xs = c.args.operands.now in
     let whole : documents_of (map schema_view l.members.items) ≡ body_schemas (map (expression_of ns) xs) =
     documents_of-body_schemas l.members.items (map (expression_of ns) xs) (l.invariant ns ∙ ap (map (λ s. schema_of (expression_of ns s))) (take_all l.operand-index xs c.loop-operand-test.false) ∙ map_of_map schema_of (expression_of ns) xs) in
-    made_of_one c.object.result c.empty.result c.with_all_of.result (codes "allOf") (unless_no_list (schemas_view l.members.items)) _ c.empty.ensures c.with_all_of.ensures (all_of-slots (schemas_view l.members.items) ∙ ap all_of whole) c.object.ensures
+    made_of_one c.object.result c.empty.result c.set.result (codes "allOf") (unless_no_list (schemas_view l.members.items)) _ c.empty.ensures c.set.ensures (all_of-slots (schemas_view l.members.items) ∙ ap all_of whole) c.object.ensures

@@ -1,8 +1,10 @@
 use Rattle.std.specs.Prelude.{codes}
-use Rattle.std.proofs.Common.{◌≡◌, w64, ap, ◌∙◌, rules}
+use Rattle.std.proofs.Common.{◌≡◌, w64, ap, ap₂, ◌∙◌, rules}
 use mir.Val.{to_z, of_z}
 use Rattle.cs_document.specs.Document.{integer, member}
 use Rattle.cs_package.specs.View.{relation_of}
+use Rattle.cs_profile.specs.SchemaDocument.{set_slot, slots_of, value_at}
+use Rattle.cs_profile.specs.declared.schema.KeywordValue.TheVariants as value
 use Rattle.cs_compile.specs.Translation.{limit_name, of_type}
 use Rattle.cs_compile.proofs.Slots.{limit_first, made_of_two}
 use Rattle.cs_compile.proofs.translate.bound.Goals as goal
@@ -11,5 +13,6 @@ pub returns : goal.returns
 returns c =
     let relation = relation_of c.args.relation in
     let back : to_z w64 (of_z w64 c.args.limit) ≡ c.args.limit = search rules in
-    made_of_two c.object.result c.empty.result c.with_type-keywords.result c.with_limit.result (codes "number") (limit_name relation) _ _ c.empty.ensures c.with_type-keywords.ensures c.with_limit.ensures
+    made_of_two c.object.result c.empty.result c.set.result c.set-keywords.result (codes "number") (limit_name relation) _ _ c.empty.ensures c.set.ensures
+    (c.set-keywords.ensures ∙ ap₂ (λ n f. set_slot n (value_at f (value.Integer (to_z w64 (of_z w64 c.args.limit)))) (slots_of c.set.result)) c.limit_keyword.ensures.name c.limit_keyword.ensures.form)
     (limit_first relation _ ∙ ap (λ z. member (limit_name relation) (integer z) (of_type (codes "number"))) back) c.object.ensures

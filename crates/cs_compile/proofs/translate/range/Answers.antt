@@ -10,11 +10,11 @@ pub returns-in-Some : goal.returns-in-Some
 returns-in-Some c =
     let least : to_z w64 (of_z w64 c.args.least) ≡ c.args.least = search rules in
     let greatest : to_z w64 (of_z w64 c.in-Some.greatest) ≡ c.in-Some.greatest = search rules in
-    rw c.in-Some.is (made_of_three c.object.result c.empty.result c.with_type-keywords.result c.with_limit-keywords.result c.with_limit.result (codes "integer") (codes "minimum") (codes "maximum") _ _ _
-    c.empty.ensures c.with_type-keywords.ensures c.with_limit-keywords.ensures c.with_limit.ensures (ap₂ (λ z l. member (codes "maximum") (integer z) (from_least l)) greatest least) c.object.ensures)
+    rw c.in-Some.is (made_of_three c.object.result c.empty.result c.set.result c.set-keywords.result c.set-in-Some.result (codes "integer") (codes "minimum") (codes "maximum") _ _ _
+    c.empty.ensures c.set.ensures c.set-keywords.ensures c.set-in-Some.ensures (ap₂ (λ z l. member (codes "maximum") (integer z) (from_least l)) greatest least) c.object.ensures)
 
 pub returns-in-None : goal.returns-in-None
 returns-in-None c =
     let least : to_z w64 (of_z w64 c.args.least) ≡ c.args.least = search rules in
-    rw c.in-None.is (made_of_two c.object-in-None.result c.empty.result c.with_type-keywords.result c.with_limit-keywords.result (codes "integer") (codes "minimum") _ _
-    c.empty.ensures c.with_type-keywords.ensures c.with_limit-keywords.ensures (ap (λ l. from_least l) least) c.object-in-None.ensures)
+    rw c.in-None.is (made_of_two c.object-in-None.result c.empty.result c.set.result c.set-keywords.result (codes "integer") (codes "minimum") _ _
+    c.empty.ensures c.set.ensures c.set-keywords.ensures (ap (λ l. from_least l) least) c.object-in-None.ensures)

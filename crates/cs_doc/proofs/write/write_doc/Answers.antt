@@ -1,22 +1,24 @@
-use Rattle.std.proofs.Common.{◌≤◌, sym, ap, ◌∙◌, subst}
-use Rattle.std.specs.Prelude.{option_and_then}
-use Rattle.serde_json.specs.Data as value
-use Rattle.serde_json.specs.Read.{max_depth}
-use Rattle.serde_json.specs.Written.{compact_text, has_float}
-use Rattle.cs_doc.specs.Texts.{document_of}
+use Rattle.std.proofs.Common.{◌≡◌, ◌++◌, IsUtf8, sym, ap, ◌∙◌, subst}
+use Rattle.json.specs.Lex.{tokens}
+use Rattle.json.specs.Print.{print}
+use Rattle.json.specs.Tree.{json_tokens}
+use Rattle.serde_json.specs.Written.{outline}
+use Rattle.serde_json.proofs.Texts.{print-outline}
+use Rattle.cs_doc.specs.Texts.{data_of}
 use Rattle.cs_document.specs.View.{doc_view}
-use Rattle.cs_doc.proofs.Documents.{has_float-data_of, depth-data_of, document_of-data_of}
+use Rattle.cs_doc.proofs.Documents.{reads_back}
 use Rattle.cs_doc.proofs.write.write_doc.Goals as goal
 
 pub returns-clause-text : goal.returns-clause-text
 returns-clause-text c =
     let d = doc_view c.args.doc.now in
-    let made = c.in_ok-value.ensures.value in
-    c.in_ok-to_vec.ensures.text (ap has_float made ∙ has_float-data_of d) ∙ ap compact_text made
+    let made : c.write.new.out.tokens ≡ json_tokens (outline (data_of d)) = c.in_ok-write.ensures.tokens ∙ ap (λ ts. ts ++ json_tokens (outline (data_of d))) c.new-out.ensures.tokens in
+    c.into_inner.ensures.items ∙ ap (λ b. b ++ print c.write.new.out.tokens) (c.write.ensures.before ∙ c.new-out.ensures.before ∙ c.new.ensures.items) ∙ ap print made ∙ print-outline (data_of d)
 
 pub returns-clause-reads : goal.returns-clause-reads
 returns-clause-reads c shallow =
     let d = doc_view c.args.doc.now in
-    let made = c.in_ok-value.ensures.value in
-    let shallower = subst (λ n. n ≤ max_depth) (sym (ap value.depth made ∙ depth-data_of d)) shallow in
-    (c.in_ok-to_vec.ensures.utf8, ap (option_and_then document_of) (c.in_ok-to_vec.ensures.reads_back shallower) ∙ ap document_of made ∙ document_of-data_of d c.in_ok-value.ensures.document)
+    let ts = c.write.new.out.tokens in
+    let made : ts ≡ json_tokens (outline (data_of d)) = c.in_ok-write.ensures.tokens ∙ ap (λ us. us ++ json_tokens (outline (data_of d))) c.new-out.ensures.tokens in
+    let text : c.into_inner.result.items ≡ print ts = c.into_inner.ensures.items ∙ ap (λ b. b ++ print ts) (c.write.ensures.before ∙ c.new-out.ensures.before ∙ c.new.ensures.items) in
+    (subst IsUtf8 (sym text) c.into_inner.ensures.utf8, reads_back d c.into_inner.result.items c.in_ok-write.ensures.document shallow (ap tokens text ∙ c.into_inner.ensures.reads_back ∙ made))

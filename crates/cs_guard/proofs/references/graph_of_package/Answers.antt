@@ -1,6 +1,6 @@
 use Rattle.std.proofs.Common.{◌≡◌, ◌+◌, ◌<◌, ◌++◌, [], ◌∷◌, length, ap, ◌∙◌, arith}
 use Rattle.std.proofs.lemmas.List.{length-append}
-use Rattle.cs_guard.proofs.Marks.{graph_long}
+use Rattle.cs_graph.proofs.Marks.{graph_long}
 use Rattle.cs_guard.proofs.GraphRows.{IsRow, row_of, rows_more}
 use Rattle.cs_guard.proofs.references.graph_of_package.Goals as goal
 

@@ -1,5 +1,5 @@
 use Rattle.std.proofs.Common.{◌≡◌, ℕ, List, Some, length, slice_get}
-use Rattle.cs_guard.specs.Graph.{graph_of}
+use Rattle.cs_graph.specs.Graph.{graph_of}
 use Rattle.cs_guard.proofs.GraphRows.{IsRow}
 use Rattle.cs_guard.proofs.references.graph_of_package.Given as goal
 

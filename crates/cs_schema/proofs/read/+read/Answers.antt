@@ -1,4 +1,4 @@
-use Rattle.std.proofs.Common.{◌≡◌, suc, add-one, ◌+◌, false, [], ◌∷◌, ◌++◌, None, take, drop, string_bytes, string_cmp, sym, ap, ◌∙◌, subst, append_assoc, rules}
+use Rattle.std.proofs.Common.{◌≡◌, suc, add-one, ◌+◌, true, false, [], ◌∷◌, ◌++◌, None, take, drop, string_bytes, string_cmp, sym, ap, ◌∙◌, subst, append_assoc, rules}
 use Rattle.std.proofs.lemmas.List.{take_all}
 use Rattle.std.specs.List.Sorted.{IsStrictlySortedBy}
 use Rattle.std.specs.Map.{keys_of}
@@ -11,15 +11,17 @@ use Rattle.cs_document.proofs.Maps.{texts, insert_last, texts_more, drop_at, dro
 use Rattle.cs_profile.specs.Profile.{first, fault_of, visits, member_visits, keyword_visits, element_visits, named_visits}
 use Rattle.cs_profile.specs.Places.{at_key as key_place, at_index as index_place}
 use Rattle.cs_profile.specs.Trim.{trimmed_elements, trimmed_value, with_member}
-use Rattle.cs_profile.specs.SchemaDocument.{schemas_view, definitions_view, present}
-use Rattle.cs_schema.specs.Reading.{slots, found_value, IsFoundAt, Refuses}
+use Rattle.cs_profile.specs.SchemaDocument.{schemas_view, definitions_view, present, value_at}
+use Rattle.cs_profile.specs.Keywords.{name_of}
+use Rattle.cs_profile.specs.Shapes.{stands, form_of}
+use Rattle.cs_schema.specs.Reading.{slots, Refuses}
 use Rattle.cs_profile.proofs.Walks.{first_past}
 use Rattle.cs_schema.proofs.Walks.{refuses_at, trimmed_members-push, trimmed_below, trimmed_named-push, trimmed_elements-push, join, KeysBelow, is_nil, not_nil, some_right, some_value}
-use Rattle.cs_schema.proofs.Slots.{set_found-last}
+use Rattle.cs_schema.proofs.Slots.{set-last}
 use Rattle.cs_schema.proofs.read.+read.Goals as goal
 
-pub read_members-returns-in_err-found-clause-refused : goal.read_members-returns-in_err-found-clause-refused
-read_members-returns-in_err-found-clause-refused t c =
+pub read_members-returns-in_err-keyword-clause-refused : goal.read_members-returns-in_err-keyword-clause-refused
+read_members-returns-in_err-keyword-clause-refused t c =
     let l = c.loop-key in
     let root = c.args.root in
     let place = c.args.place.now in
@@ -27,8 +29,8 @@ read_members-returns-in_err-found-clause-refused t c =
     let d = doc_view c.in-Some.value.now in
     let seen = l.invariant.seen ∙ ap (λ es. first fault_of (member_visits root place (object_view es))) c.in-Some.ensures.steps in
     let named : c.deref.result.now ≡ k = c.deref.ensures in
-    let mine = subst (λ n. Refuses c.in_err-found.field-0.0 (first fault_of (keyword_visits root place n d))) named c.in_err-found.ensures.refused in
-    let whole = refuses_at c.in_err-found.field-0.0 (keyword_visits root place k d) (member_visits root place (object_view c.next.new.self)) _ seen mine in
+    let mine = subst (λ n. Refuses c.in_err-keyword.field-0.0 (first fault_of (keyword_visits root place n d))) named c.in_err-keyword.ensures.refused in
+    let whole = refuses_at c.in_err-keyword.field-0.0 (keyword_visits root place k d) (member_visits root place (object_view c.next.new.self)) _ seen mine in
     search rules
 
 pub read_members-loop-key-preserved : goal.read_members-loop-key-preserved
@@ -41,23 +43,25 @@ read_members-loop-key-preserved t c =
     let d = doc_view e.1 in
     let root = c.args.root in
     let place = c.args.place.now in
-    let f = c.in_ok-found.found in
+    let w = c.in_ok-keyword.keyword in
+    let f = c.in_ok-keyword.value in
     let named : c.deref.result.now ≡ k = c.deref.ensures in
     let all : c.args.members.now.entries ≡ done ++ e ∷ left = l.invariant.all ∙ ap (λ es. done ++ es) c.in-Some.ensures.steps in
     let sorted = subst (λ es. IsStrictlySortedBy string_cmp (keys_of es)) all c.into_iter-key-iterator.ensures.into_iter_gives.5 in
-    let right : first fault_of (keyword_visits root place k d) ≡ None = ap (λ n. first fault_of (keyword_visits root place n d)) (sym named) ∙ c.in_ok-found.ensures.accepted in
-    let value : found_value f ≡ trimmed_value root k d = c.in_ok-found.ensures.found ∙ ap (λ n. trimmed_value root n d) named in
-    let name : IsFoundAt f k = subst (λ n. IsFoundAt f n) named c.in_ok-found.ensures.name in
+    let right : first fault_of (keyword_visits root place k d) ≡ None = ap (λ n. first fault_of (keyword_visits root place n d)) (sym named) ∙ c.in_ok-keyword.ensures.accepted in
+    let value : value_at (form_of w) f ≡ trimmed_value root k d = c.in_ok-keyword.ensures.found ∙ ap (λ n. trimmed_value root n d) named in
+    let name : name_of w ≡ k = c.in_ok-keyword.ensures.name ∙ named in
     let below : KeysBelow k (present (slots l.parts)) = subst (KeysBelow k) (sym l.invariant.made) (trimmed_below root done e left sorted) in
     record {
       done = done ++ e ∷ [];
       all = all ∙ sym (append_assoc done (e ∷ []) left);
       seen = l.invariant.seen ∙ ap (λ es. first fault_of (member_visits root place (object_view es))) c.in-Some.ensures.steps ∙ first_past fault_of (keyword_visits root place k d) (member_visits root place (object_view left)) right;
-      made = ap present c.with-parts.ensures.slots ∙ set_found-last f l.parts k name below
+      made = ap present c.set-parts.ensures.slots ∙ set-last w f l.parts (subst (λ n. KeysBelow n (present (slots l.parts))) (sym name) below)
+          ∙ ap (λ n. join (present (slots l.parts)) (with_member (value_at (form_of w) f) n no_members)) name
           ∙ ap (λ o. join (present (slots l.parts)) (with_member o k no_members)) value
           ∙ ap (λ ms. join ms (with_member (trimmed_value root k d) k no_members)) l.invariant.made
           ∙ sym (trimmed_members-push root done e);
-      below = λ h. c.with-parts.ensures.below (c.in_ok-found.ensures.below h) ∙ l.invariant.below h;
+      below = λ h. c.set-parts.ensures.below (subst (λ b. stands b w ≡ true) h c.in_ok-keyword.ensures.stands) ∙ l.invariant.below h;
     }
 
 pub read_map-returns-in_err-schema-clause-refused : goal.read_map-returns-in_err-schema-clause-refused

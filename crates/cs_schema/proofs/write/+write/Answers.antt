@@ -1,5 +1,4 @@
-use Rattle.std.proofs.Common.{◌≡◌, ap₂, codes, [], ◌∷◌, ◌++◌, Some, String, Global, string_bytes, string_cmp, map, take, drop, sym, ap, ◌∙◌, subst, append_assoc, append-nil}
-use Rattle.std.proofs.lemmas.Result.{on_ok_weaker}
+use Rattle.std.proofs.Common.{◌≡◌, ◌+◌, add-one, drop-cons, get_or, refl, ap₂, [], ◌∷◌, ◌++◌, Some, String, Global, string_bytes, string_cmp, map, take, drop, sym, ap, ◌∙◌, subst, append_assoc, append-nil}
 use Rattle.std.proofs.lemmas.List.{take_all}
 use Rattle.std.specs.List.Sorted.{IsStrictlySortedBy}
 use Rattle.std.specs.Map.{keys_of}
@@ -8,21 +7,30 @@ use Rattle.cs_document.specs.View.{doc_view, object_view, documents_of, members_
 use Rattle.cs_document.proofs.Views.{view-List, view-Object}
 use Rattle.cs_document.proofs.Maps.{texts, insert_last, texts_more, take_at}
 use Rattle.cs_profile.specs.SchemaDocument.{schema_view, definitions_view, slots_of}
-use Rattle.cs_schema.specs.Writing.{put_some, put_all}
+use Rattle.cs_profile.specs.Keywords.{all_keywords}
+use Rattle.cs_profile.specs.declared.keyword.Keyword.TheVariants as keyword
+use Rattle.cs_schema.specs.Writing.{put_some, put_all, slots_for}
 use Rattle.cs_profile.specs.declared.schema.Schema.{Schema}
 use Rattle.cs_schema.proofs.Walks.{not_nil}
-use Rattle.cs_schema.proofs.Writing.{keywords_put, from_items, from_not, mapped_more, some_listed, members_of-push, some_named, not_empty}
+use Rattle.cs_schema.proofs.Writing.{all_put, mapped_more, some_listed, members_of-push, some_named, not_empty}
 use Rattle.cs_schema.proofs.write.+write.Goals as goal
 
-pub keywords_doc-returns : goal.keywords_doc-returns
-keywords_doc-returns t c =
+pub keywords_doc-loop-keyword-init : goal.keywords_doc-loop-keyword-init
+keywords_doc-loop-keyword-init t c =
     let ss = slots_of c.args.keywords.now in
-    c.in_ok-set_to_kind.ensures
-    ∙ ap (put_all (drop 12 ss)) (c.in_ok-set_to_minimum.ensures
-    ∙ ap (put_all (take 4 (drop 8 ss))) (c.in_ok-set_to_above.ensures
-    ∙ ap (put_all (take 4 (drop 4 ss))) (c.in_ok-set_to_any_of.ensures
-    ∙ ap (λ es. put_all (take 4 ss) (object_view es)) c.new-members.ensures.empty)))
-    ∙ keywords_put c.args.keywords.now
+    ap (λ es. put_all (slots_for ss all_keywords) (object_view es)) c.new-members.ensures.empty ∙ all_put c.args.keywords.now
+
+pub keywords_doc-loop-keyword-preserved : goal.keywords_doc-loop-keyword-preserved
+keywords_doc-loop-keyword-preserved t c =
+    let l = c.loop-keyword in
+    let i = l.keyword-index in
+    let ss = slots_of c.args.keywords.now in
+    let w = get_or all_keywords i keyword.Comment in
+    let left : drop i all_keywords ≡ w ∷ drop (i + 1) all_keywords = rw (add-one, drop-cons all_keywords i keyword.Comment c.loop-keyword-test.true) refl in
+    let rest = slots_for ss (drop (i + 1) all_keywords) in
+    let old = object_view l.members.entries in
+    ap (put_all rest) (c.in_ok-set.ensures ∙ ap₂ (λ n o. put_some n o old) c.name.ensures c.in_ok-value.ensures)
+    ∙ sym (ap (λ ws. put_all (slots_for ss ws) old) left) ∙ l.invariant
 
 pub list_doc-loop-schema-preserved : goal.list_doc-loop-schema-preserved
 list_doc-loop-schema-preserved t c =
@@ -65,22 +73,3 @@ map_doc-returns t c =
     let all : c.args.schemas.now.entries ≡ l.invariant.done = l.invariant.all ∙ ap (λ es. l.invariant.done ++ es) c.in-None.ensures.steps.0 ∙ append-nil l.invariant.done in
     ap Some (view-Object l.docs ∙ ap object (l.invariant.made ∙ ap (λ es. members_of (definitions_view es)) (sym all)))
     ∙ sym (some_named c.args.schemas.now.entries (not_empty c.is_empty.result c.args.schemas.now.entries c.is_empty.ensures c.if-is_empty.false))
-
-pub set_to_minimum-returns : goal.set_to_minimum-returns
-set_to_minimum-returns t c =
-    let old = object_view c.args.members.now.entries in
-    let items = c.in_ok-set.ensures ∙ ap (λ o. put_some (codes "items") o old) c.in_ok-rest.ensures in
-    let maximum = c.in_ok-set-2.ensures ∙ ap₂ (put_some (codes "maximum")) c.integer_doc-maximum.ensures items in
-    let min_items = c.in_ok-set-3.ensures ∙ ap₂ (put_some (codes "minItems")) c.integer_doc-min_items.ensures maximum in
-    let minimum = ap₂ (put_some (codes "minimum")) c.integer_doc-minimum.ensures min_items ∙ ap (λ ss. put_all ss old) (sym (from_items c.args.keywords.now)) in
-    on_ok_weaker c.set-4.result (λ h. h ∙ minimum) c.set-4.ensures
-
-pub set_to_kind-returns : goal.set_to_kind-returns
-set_to_kind-returns t c =
-    let old = object_view c.args.members.now.entries in
-    let negated = c.in_ok-set.ensures ∙ ap (λ o. put_some (codes "not") o old) c.in_ok-negated.ensures in
-    let prefix = c.in_ok-set-2.ensures ∙ ap₂ (put_some (codes "prefixItems")) c.in_ok-prefix.ensures negated in
-    let properties = c.in_ok-set-3.ensures ∙ ap₂ (put_some (codes "properties")) c.in_ok-properties.ensures prefix in
-    let required = c.in_ok-set-4.ensures ∙ ap₂ (put_some (codes "required")) c.in_ok-required.ensures properties in
-    let kind = ap₂ (put_some (codes "type")) c.in_ok-kind.ensures required ∙ ap (λ ss. put_all ss old) (sym (from_not c.args.keywords.now)) in
-    on_ok_weaker c.set-5.result (λ h. h ∙ kind) c.set-5.ensures

@@ -1,0 +1,32 @@
+// Documents, read from a text and as the list of their values.
+use cs_doc::{Doc, flatten, read_doc};
+use std::alloc::Global;
+
+/// Reads a text so many times: how many elements or members the document has, or 1 where it is neither list nor map.
+pub fn read(alloc: Global, text: &[u8], times: u32) -> Option<usize> {
+    let mut count = 0;
+    for _ in 0..times {
+        let doc = read_doc(alloc, text).ok()?;
+        count = width(&doc);
+    }
+    Some(count)
+}
+
+fn width(doc: &Doc) -> usize {
+    match doc {
+        Doc::List(items) => items.len(),
+        Doc::Object(members) => members.len(),
+        Doc::Null | Doc::Bool(_) | Doc::Int(_) | Doc::Text(_) => 1,
+    }
+}
+
+/// Reads a text once and flattens its document so many times: how many values it has.
+pub fn flattened(alloc: Global, text: &[u8], times: u32) -> Option<usize> {
+    let doc = read_doc(alloc, text).ok()?;
+    let mut count = 0;
+    for _ in 0..times {
+        let flat = flatten(alloc, &doc).ok()?;
+        count = flat.len();
+    }
+    Some(count)
+}

@@ -1,0 +1,4 @@
+pub mod Places
+pub mod Laws
+pub mod Pushes
+mod Samples

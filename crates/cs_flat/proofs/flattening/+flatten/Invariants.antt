@@ -1,0 +1,21 @@
+use Rattle.std.proofs.Common.{◌≡◌, ◌++◌, drop, length, map}
+use Rattle.cs_document.specs.View.{list_view, object_view}
+use Rattle.cs_flat.specs.Items.{element_numbers, member_numbers, element_items, member_items}
+use Rattle.cs_flat.specs.View.{item_view, entry_of}
+use Rattle.cs_flat.proofs.flattening.+flatten.Given as goal
+
+abbrev pub invariant-push_elements-loop-doc : goal.invariant-push_elements-loop-doc
+invariant-push_elements-loop-doc l =
+    let old = l.initial.items.items in
+    let rest = list_view (drop l.doc-index l.doc-items) in record {
+      items : map item_view old ++ element_items (length old) (list_view l.doc-items) ≡ map item_view l.items.items ++ element_items (length l.items.items) rest;
+      numbers : element_numbers (length old) (list_view l.doc-items) ≡ l.numbers.items ++ element_numbers (length l.items.items) rest;
+    }
+
+abbrev pub invariant-push_members-loop-key : goal.invariant-push_members-loop-key
+invariant-push_members-loop-key l =
+    let old = l.initial.items.items in
+    let rest = object_view l.key-iterator in record {
+      items : map item_view old ++ member_items (length old) (object_view l.members.entries) ≡ map item_view l.items.items ++ member_items (length l.items.items) rest;
+      numbers : member_numbers (length old) (object_view l.members.entries) ≡ map entry_of l.entries.items ++ member_numbers (length l.items.items) rest;
+    }

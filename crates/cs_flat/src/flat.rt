@@ -1,0 +1,66 @@
+// A document as a list of its values.
+use cs_document::Doc;
+use std::marker::Model;
+
+/// A value of a document, opened once: a value directly inside it is named by its number, which is the place of its
+/// item in the list. An object has its keys in byte order. Texts and keys are those of the document.
+#[derive(Drop)]
+pub enum Item<'a> {
+    Null,
+    Bool(bool),
+    Int(i64),
+    Text(&'a str),
+    List(Vec<usize>),
+    Object(Vec<(&'a str, usize)>),
+}
+
+/// A document with its items, one for each of its values (RFC 8259, section 3): those directly inside a value stand
+/// before it, elements in their order, members in the order of their keys, and the document last.
+#[derive(Drop)]
+pub struct Flat<'a> {
+    pub(crate) doc: &'a Doc,
+    pub(crate) items: Vec<Item<'a>>,
+}
+
+impl<'a> Model for Flat<'a> {
+    ghost use Rattle.cs_document.specs.Document.{Document};
+    ghost use Rattle.cs_document.specs.Code.{coded_document};
+
+    ghost Value = { Document };
+
+    ghost coded = { coded_document };
+
+    ghost use Rattle.std.specs.Prelude.{◌≡◌, map};
+    ghost use Rattle.cs_document.specs.View.{doc_view};
+    ghost use Rattle.cs_flat.specs.Items.{items as items_of};
+    ghost use Rattle.cs_flat.specs.View.{item_view};
+
+    ghost view = { λ f. doc_view f.doc.now };
+
+    ghost invariant = { λ f. map item_view f.items.items ≡ items_of (doc_view f.doc.now) };
+}
+
+impl Flat<'_> {
+    ghost use Rattle.std.specs.Prelude.{◌≡◌, ◌<◌, suc, length, slice_get, Some};
+    ghost use Rattle.cs_flat.specs.Nodes.{nodes, node_at};
+    ghost use Rattle.cs_flat.specs.Items.{inside, items, AreItems};
+    ghost use Rattle.cs_flat.specs.View.{item_view};
+
+    /// How many items there are: as many as values, at least one. The last one is the document.
+    pub fn len(&self) -> usize
+        ensures count { result ≡ length (nodes self.now) }
+        ensures items { AreItems (nodes self.now) (items self.now) }
+        ensures whole { length (nodes self.now) ≡ suc (inside self.now) }
+        ensures last { node_at (nodes self.now) (inside self.now) ≡ self.now }
+    {
+        self.items.len()
+    }
+
+    /// The item at a place, which is below [`Flat::len`].
+    pub fn item(&self, i: usize) -> &Item<'_>
+        requires { i < length (nodes self.now) }
+        ensures { slice_get (items self.now) i ≡ Some (item_view result.now) }
+    {
+        &self.items[i]
+    }
+}

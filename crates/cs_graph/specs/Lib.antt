@@ -1,0 +1,5 @@
+pub mod Chains
+pub mod Graph
+-- for contracts of private functions and proofs alone
+pub mod Paths
+pub mod Walk

@@ -1,0 +1,20 @@
+-- The path of a walk, and the cycle that it closes.
+use Rattle.std.specs.Prelude.{◌≡◌, ℕ, List, [], ◌∷◌, ◌++◌, drop, ◌==◌}
+use Rattle.std.specs.List.{position_or_len}
+use Rattle.cs_graph.specs.Chains.{Chain}
+
+-- each refers to the next
+abbrev pub Links : {X : Type 0} → (X → X → Type 0) → List X → Type 0
+Links R [] = Unit {0}
+Links R (x ∷ xs) = Chain R x xs
+
+-- the list from the first place of a number on
+abbrev pub tail_from : ℕ → List ℕ → List ℕ
+tail_from n ns = drop (position_or_len (λ m. m == n) ns) ns
+
+-- the front of the one stands behind in the other
+pub record IsTurned (old new : List ℕ) : Type 0 where
+  pub front : List ℕ
+  pub back : List ℕ
+  pub before : old ≡ front ++ back
+  pub after : new ≡ back ++ front

@@ -1,0 +1,146 @@
+// A walk along references: each number is entered once, and each reference passed once. The numbers that are open stand
+// on a path of its own, so that long chains take no stack of the machine.
+
+ghost use Rattle.std.specs.Prelude.{◌≡◌, ◌<◌, ◌++◌, [], ◌∷◌, Some, IfOk, IfErr, OnOk, IsOkUnless, length, map, slice_get, slice_set};
+ghost use Rattle.cs_graph.specs.Chains.{NoCycle};
+ghost use Rattle.cs_graph.specs.Graph.{graph_of, Refers, Within, AreHeights, FallAlong, IsRefusal};
+ghost use Rattle.cs_graph.specs.Walk.{State, Marked, Passed, Walking, Stopped, Stepped, Walked, frame_of, height_of};
+
+use crate::GraphFault;
+use crate::cycle::cycle_from;
+use std::alloc::{AllocError, Global};
+
+/// What the walk knows of a number: its height once it is done.
+#[derive(Clone, Copy, Debug)]
+pub(crate) enum VisitState {
+    New,
+    Open,
+    Done(usize),
+}
+
+/// A number that is open, how many of its references are passed, and how high it is by these.
+#[derive(Clone, Copy, Debug)]
+pub(crate) struct Frame {
+    pub(crate) number: usize,
+    passed: usize,
+    height: usize,
+}
+
+/// Opens a number that is new.
+fn enter(marks: &mut [VisitState], path: &mut Vec<Frame>, number: usize) -> Result<(), AllocError>
+    requires { number < length marks.old }
+    ensures marks { marks.new ≡ slice_set marks.old number VisitState.Open }
+    ensures path { OnOk result (path.new.items ≡ path.old.items ++ frame_of number ∷ []) }
+{
+    marks[number] = VisitState::Open;
+    path.push(Frame {
+        number,
+        passed: 0,
+        height: 0,
+    })?;
+    Ok(())
+}
+
+/// Passes the references of an open number up to the first one that isn't done, which is the answer.
+fn pass_done(graph: &[Vec<usize>], marks: &[VisitState], frame: &mut Frame) -> Option<usize>
+    requires inside { frame.old.number < length graph.now }
+    requires within { Within (graph_of graph.now) }
+    requires marked { Marked (graph_of graph.now) marks.now }
+    requires passed { Passed (graph_of graph.now) marks.now frame.old }
+    ensures { Stopped (graph_of graph.now) marks.now frame.old.number frame.new result }
+{
+    let references = graph[frame.number].as_slice();
+    while frame.passed < references.len() {
+        let next = references[frame.passed];
+        let VisitState::Done(below) = marks[next] else {
+            return Some(next);
+        };
+        frame.passed += 1;
+        frame.height = frame.height.max(below + 1);
+    }
+    None
+}
+
+/// Goes on from the last number of the path, which was taken off: it is done, or it is put back and a number that it
+/// refers to is entered.
+fn step(
+    alloc: Global,
+    graph: &[Vec<usize>],
+    marks: &mut [VisitState],
+    path: &mut Vec<Frame>,
+    last: Frame,
+) -> Result<(), GraphFault>
+    requires within { Within (graph_of graph.now) }
+    requires walking { Walking (graph_of graph.now) marks.old (path.old.items ++ last ∷ []) }
+    ensures { Stepped (graph_of graph.now) marks.old marks.new path.old.items path.new.items result }
+{
+    let mut frame = last;
+    let Some(next) = pass_done(graph, marks, &mut frame) else {
+        marks[frame.number] = VisitState::Done(frame.height);
+        return Ok(());
+    };
+    path.push(frame)?;
+    if let VisitState::New = marks[next] {
+        enter(marks, path, next)?;
+        return Ok(());
+    }
+    let numbers = cycle_from(alloc, path, next)?;
+    Err(GraphFault::Cycle { numbers })
+}
+
+/// Walks from a number that is new: then it is done, and so is all that it reaches.
+fn walk_from(
+    alloc: Global,
+    graph: &[Vec<usize>],
+    marks: &mut [VisitState],
+    number: usize,
+) -> Result<(), GraphFault>
+    requires within { Within (graph_of graph.now) }
+    requires state { State (graph_of graph.now) marks.old [] }
+    requires new { slice_get marks.old number ≡ Some VisitState.New }
+    ensures { Walked (graph_of graph.now) marks.old marks.new number result }
+{
+    let mut path = Vec::new(alloc);
+    enter(marks, &mut path, number)?;
+    while let Some(last) = path.pop() {
+        step(alloc, graph, marks, &mut path, last)?;
+    }
+    Ok(())
+}
+
+/// The heights of numbers that are done.
+fn heights_of(alloc: Global, marks: &[VisitState]) -> Result<Vec<usize>, AllocError>
+    ensures { IfOk result (λ v. v.items ≡ map height_of marks.now) }
+{
+    marks
+        .iter()
+        .map(|mark| match mark {
+            VisitState::Done(height) => *height,
+            VisitState::New | VisitState::Open => 0,
+        })
+        .collect(alloc)
+}
+
+/// The height of each number of a graph: the length of the longest chain of references from it. `graph` has, for each
+/// number, the numbers that it refers to, all of which are below `graph.len()`. Its time is linear in the numbers and
+/// references, and a long chain takes no stack.
+///
+/// # Errors
+/// `Cycle`, with numbers of which each refers to the next and the last to the first; none comes twice, and the lowest
+/// comes first.
+pub fn heights(alloc: Global, graph: &[Vec<usize>]) -> Result<Vec<usize>, GraphFault>
+    requires { Within (graph_of graph.now) }
+    ensures found { IfOk result (λ v. AreHeights (graph_of graph.now) v.items) }
+    ensures falls { IfOk result (λ v. FallAlong (graph_of graph.now) v.items) }
+    ensures acyclic { OnOk result (NoCycle (Refers (graph_of graph.now))) }
+    ensures refused { IfErr result (λ e. IsRefusal e (graph_of graph.now)) }
+    ensures only { NoCycle (Refers (graph_of graph.now)) → IsOkUnless result GraphFault.OutOfMemory }
+{
+    let mut marks = vec![in alloc; VisitState::New; graph.len()]?;
+    for number in 0..graph.len() {
+        if let VisitState::New = marks[number] {
+            walk_from(alloc, graph, &mut marks, number)?;
+        }
+    }
+    Ok(heights_of(alloc, &marks)?)
+}

@@ -1,0 +1,58 @@
+-- A verdict given keeps the earlier ones, and a judge has one table.
+use Rattle.std.proofs.Common.{◌≡◌, ℕ, zero, suc, ◌<◌, ◌≤◌, ◌+◌, ◌*◌, ⊎_elim, inl, inr, Bool, false, [], ◌∷◌, ◌++◌, length, sym, ◌∙◌, subst, arith}
+use Rattle.std.proofs.lemmas.List.{get_or_push, get_or_append_left}
+use Rattle.cs_table.specs.Judged.{Verdict, Judgement, IsEarlier, AgreeBefore, LooksBack, IsJudged, Table, verdicts}
+
+pub earlier_trans : (a b j q i r : ℕ) → IsEarlier a b j q → IsEarlier j q i r → IsEarlier a b i r
+earlier_trans a b j q i r (inl l) (inl m) = inl (omega arith)
+earlier_trans a b j q i r (inl l) (inr m) = inl (let n = m.0 in omega arith)
+earlier_trans a b j q i r (inr l) (inl m) = inl (let n = l.0 in omega arith)
+earlier_trans a b j q i r (inr l) (inr m) = inr (l.0 ∙ m.0, let x = l.1 in let y = m.1 in omega arith)
+
+mul-suc : (i n : ℕ) → (i + 1) * n ≡ i * n + n
+mul-suc i n = grind arith
+
+mul-mono : (j i n : ℕ) → j ≤ i → j * n ≤ i * n
+mul-mono j i n l = grind arith
+
+-- the place of an earlier pair is lower
+place_falls : (j q i r n : ℕ) → q < n → IsEarlier j q i r → j * n + q < i * n + r
+place_falls j q i r n m (inl l) = let a = mul-suc j n in let b = mul-mono (j + 1) i n (omega arith) in omega arith
+place_falls j q i r n m (inr l) = let b = l.1 in subst (λ k. j * n + q < k * n + r) l.0 (omega arith)
+
+-- a verdict more leaves the earlier ones as they are
+module _ (t : Table) (v : Bool) (i r : ℕ) (full : length t.given ≡ i * t.rules + r) where
+  abbrev pub more : Table
+  more = record t { given = t.given ++ v ∷ [] }
+
+  pub others : AgreeBefore t.rules i r (verdicts more) (verdicts t)
+  others j q m e = get_or_append_left t.given (v ∷ []) false (j * t.rules + q) (let l = place_falls j q i r t.rules m e in omega arith)
+
+  pub here : verdicts more i r ≡ v
+  here = get_or_push t.given v false (i * t.rules + r) full
+
+module _ (rules : ℕ) (judge : Judgement) (back : LooksBack rules judge) where
+  module _ (f f' : Verdict) (i r : ℕ) (same : AgreeBefore rules i r f' f) where
+    -- an earlier verdict is still the judge's
+    pub kept : (j q : ℕ) → q < rules → IsEarlier j q i r → f j q ≡ judge j q f → f' j q ≡ judge j q f'
+    kept j q m e h = same j q m e ∙ h ∙ back j q f f' (λ a b l n. sym (same a b l (earlier_trans a b j q i r n e)))
+
+    -- and so is the one that was given
+    pub given : f' i r ≡ judge i r f → f' i r ≡ judge i r f'
+    given h = h ∙ back i r f f' (λ a b l m. sym (same a b l m))
+
+  -- two tables of one judge are one
+  module _ (items : ℕ) (f g : Verdict) (jf : IsJudged items rules judge f) (jg : IsJudged items rules judge g) where
+    cells : (i : ℕ) → i < items → ((j q : ℕ) → j < i → q < rules → f j q ≡ g j q) → (n r : ℕ) → r < n → r < rules → f i r ≡ g i r
+    cells i l before zero r m k = absurd (omega arith)
+    cells i l before (suc n) r m k =
+        jf i r l k
+        ∙ back i r f g (λ j q u e. ⊎_elim (λ (a : j < i). before j q a u) (λ (a : (j ≡ i) × (q < r)). subst (λ x. f x q ≡ g x q) (sym a.0) (cells i l before n q (let b = a.1 in omega arith) u)) e)
+        ∙ sym (jg i r l k)
+
+    rows : (n i r : ℕ) → i < n → i < items → r < rules → f i r ≡ g i r
+    rows zero i r m l k = absurd (omega arith)
+    rows (suc n) i r m l k = cells i l (λ j q a u. rows n j q (omega arith) (omega arith) u) (suc r) r (omega arith) k
+
+    pub only_table : (i r : ℕ) → i < items → r < rules → f i r ≡ g i r
+    only_table i r l k = rows (suc i) i r (omega arith) l k

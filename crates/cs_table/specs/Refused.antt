@@ -1,0 +1,10 @@
+-- When there is no table.
+use Rattle.std.specs.Prelude.{ℕ, ◌<◌, ◌*◌}
+use Rattle.cs_table.specs.Judged.{most_pairs}
+use Rattle.cs_table.specs.declared.fault.TableFault.{TableFault}
+use Rattle.cs_table.specs.declared.fault.TableFault.TheVariants.{OutOfMemory, TooManyPairs}
+
+-- memory may run out at any time; that there are too many pairs is said only where there are
+abbrev pub IsRefused : ℕ → ℕ → TableFault → Type 0
+IsRefused items rules OutOfMemory = Unit {0}
+IsRefused items rules TooManyPairs = most_pairs < items * rules

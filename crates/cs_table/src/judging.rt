@@ -1,0 +1,35 @@
+// Judges of items by rules.
+ghost use Rattle.std.specs.Prelude.{◌≡◌, ℕ, ◌<◌};
+ghost use Rattle.cs_table.specs.Judged.{Judgement, LooksBack, verdicts};
+
+use crate::Verdicts;
+
+/// Judges items by rules, where the verdicts of earlier pairs are known. Pairs are ordered by item, then by rule.
+pub trait Judge {
+    /// How many items there are, and how many rules.
+    ghost item_count: { Self → ℕ };
+
+    ghost rule_count: { Self → ℕ };
+
+    /// What the judge answers for a pair, where a table gives the other verdicts.
+    ghost answer: { Self → Judgement };
+
+    /// How many items there are.
+    fn items(&self) -> usize
+        ensures { result ≡ item_count self.now };
+
+    /// How many rules there are.
+    fn rules(&self) -> usize
+        ensures { result ≡ rule_count self.now };
+
+    /// The verdict of a pair. `done` has the judge's sizes, and the verdicts of earlier pairs.
+    fn judge(&self, item: usize, rule: usize, done: &Verdicts) -> bool
+        requires item { item < item_count self.now }
+        requires rule { rule < rule_count self.now }
+        requires items { done.now.items ≡ item_count self.now }
+        requires rules { done.now.rules ≡ rule_count self.now }
+        ensures { result ≡ answer self.now item rule (verdicts done.now) };
+
+    /// Law: any two tables that agree on the earlier pairs give the same answer.
+    ghost looks_back: { (s : Self) → LooksBack (rule_count s) (answer s) };
+}

@@ -1,0 +1,12 @@
+// Tables of verdicts, filled from below: each by the verdicts before it.
+#![tactic(auto)]
+
+mod fault;
+mod filling;
+mod judging;
+mod verdicts;
+
+pub use fault::TableFault;
+pub use filling::fill;
+pub use judging::Judge;
+pub use verdicts::Verdicts;
