@@ -5,7 +5,8 @@
 # make edits      the edits that the gate doesn't try; CRATES="cs_x cs_y" for those of some crates
 # make memory     runs each command with each of its first 40 allocations refused in turn, half an hour
 # make bench      times the lexer and the parser on 1 MiB of source in four shapes each, packages at their limits, documents
-#                 of 5 MB and the largest table, and says how much memory the last two take
+#                 of 50 MB and the largest table, and says how much memory the last two take; then whole runs of `vet`
+#                 against few and many rules
 # make install    copies the program to $(PREFIX)/bin
 # JOBS=4 works on four crates or runs at once; there are as many as processors where it isn't given
 PREFIX ?= /usr/local
@@ -40,16 +41,18 @@ cases: bin/cue2schema
 	@$(call try,bin/cue2schema)
 
 edits: | toolchain
+	tools/edits_apply.sh
 	JOBS=$(JOBS) tools/edits.sh $(CRATES)
 
 memory: | toolchain
 	JOBS=$(JOBS) tools/memory.sh
 
-bench: | toolchain
+bench: bin/cue2schema | toolchain
 	cd crates/cs_bench && rt run < stdin > /dev/null
 	sh bench/front.sh crates/cs_bench/out/cs_bench
 	sh bench/packages.sh crates/cs_bench/out/cs_bench
 	sh bench/documents.sh crates/cs_bench/out/cs_bench
+	sh bench/judges.sh crates/cs_bench/out/cs_bench bin/cue2schema
 
 install: bin/cue2schema
 	install -D -m 755 bin/cue2schema $(DESTDIR)$(PREFIX)/bin/cue2schema

@@ -82,9 +82,11 @@ measure() { # step shape size unit
 }
 
 printf '%-8s %-6s %20s %9s %10s %7s %11s\n' step shape size ms speed ratio 'memory each'
-measure read short 5000000 byte
-measure read long 5000000 byte
-# A tenth of this document is already more than the processor keeps near it; the program takes a GB.
+# A tenth of these documents is already more than the processor keeps near it, so that both sizes wait for memory alike.
+# That isn't so of 0.5 MB: 5 MB take ten times as many instructions to read, and up to 16 times as long. The largest run
+# takes a GB.
+measure read short 50000000 byte
+measure read long 50000000 byte
 measure flatten short 50000000 value
 measure fill table 8192 judgement
 exit $failed

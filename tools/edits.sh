@@ -14,11 +14,25 @@ done
 scratch=$(mktemp -d)
 trap 'rm -rf "$scratch"' EXIT
 
-# The tree as it is here, with each crate's kept work, and the edits in place of those that the gate tries.
+# The crates, and those that they stand on, by crates.txt.
+needed=$(awk -v named="$*" '/^[a-z]/ { crate = $1; sub(":", "", crate); below[crate] = $0; sub("[^:]*:", "", below[crate]) }
+    function need(crate,    count, i, names) {
+        if (!(crate in below) || crate in done) return
+        done[crate]
+        print crate
+        count = split(below[crate], names, " ")
+        for (i = 1; i <= count; i++) need(names[i])
+    }
+    END { count = split(named, wanted, " "); for (i = 1; i <= count; i++) need(wanted[i]) }' crates.txt)
+
+# The tree as it is here with these crates alone, each with its kept work, and the edits in place of those that the gate tries.
 git ls-files -co --exclude-standard -z | tar -c --null --ignore-failed-read -T - 2> /dev/null | tar -x -C "$scratch"
-for crate in crates/*/; do
-    rm -rf "$scratch/${crate}must-fail"
-    if [ -d "${crate}out" ]; then cp -r "${crate}out" "$scratch/${crate}out"; fi
+for crate in crates/*; do
+    rm -rf "$scratch/$crate/must-fail"
+    if ! echo "$needed" | grep -qx "${crate#crates/}"; then
+        sed -i "/^${crate#crates/}:/d" "$scratch/crates.txt"
+        rm -rf "${scratch:?}/$crate"
+    elif [ -d "$crate/out" ]; then cp -r "$crate/out" "$scratch/$crate/out"; fi
 done
 for crate in "$@"; do cp -r "edits/$crate" "$scratch/crates/$crate/must-fail"; done
 cd "$scratch"

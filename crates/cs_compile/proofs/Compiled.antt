@@ -1,8 +1,8 @@
 -- A root that refers to one of its definitions, together with the definitions of a package, is the package's schema.
-use Rattle.std.proofs.Common.{◌≡◌, ℕ, List, Bool, Option, Some, None, IsSome, refl, sym, ap, ◌∙◌, subst}
+use Rattle.std.proofs.Common.{◌≡◌, ℕ, List, [], Bool, false, Option, Some, None, IsSome, refl, sym, ap, ◌∙◌, subst}
 use Rattle.std.proofs.lemmas.Option.{same_Some}
 use Rattle.std.specs.Prelude.{◌↔◌, option_map, ◌≤◌}
-use Rattle.cs_document.specs.Document.{Document, entries, under, depth, IsDocument}
+use Rattle.cs_document.specs.Document.{Document, boolean, entries, under, depth, IsDocument}
 use Rattle.cs_document.specs.View.{members_of}
 use Rattle.cs_package.specs.Environment.{Environment, bodies, IsDefinitionName}
 use Rattle.cs_instance.specs.Instance.{Rule, definition, IsInstance}
@@ -13,7 +13,10 @@ use Rattle.cs_profile.specs.Validity.{IsValidity}
 use Rattle.cs_compile.specs.Translation.{definition_schema, IsTranslation}
 use Rattle.cs_compile.specs.Definitions.{definition_entries, AreDefinitions}
 use Rattle.cs_compile.specs.Whole.{Compiles, reference_to}
-use Rattle.cs_compile.proofs.Agreement.{definition_agrees}
+use Rattle.cs_guard.specs.Guarded.{IsGuarded}
+use Rattle.cs_guard.specs.Reachable.{Reaches}
+use Rattle.std.specs.Option.{option_map_or}
+use Rattle.cs_compile.proofs.Covered.{agreement}
 use Rattle.cs_compile.proofs.Declared.{definition_under}
 use Rattle.cs_compile.proofs.Depths.{root_of-depth}
 use Rattle.cs_compile.proofs.NameCodes.{definition_name}
@@ -47,23 +50,24 @@ module _ (E : Environment) (n : List ℕ) (s : SchemaValue) (root : schema_view 
     bare = λ b is. cc;
   }
 
-  valid : (V : Document → Document → Bool) (I : Rule → Document → Bool) → IsValidity (root_of (members_of (definitions_view s.definitions)) n) V → IsInstance E I
+  valid : IsGuarded E → (V : Document → Document → Bool) (I : Rule → Document → Bool) → IsValidity (root_of (members_of (definitions_view s.definitions)) n) V → IsInstance E I
       → (x : Document) → V (root_of (members_of (definitions_view s.definitions)) n) x ≡ I (definition n) x
-  valid V I g h x =
+  valid guarded V I g h x =
       let ms = members_of (definitions_view s.definitions) in
       let found = some_value (under n (entries ms)) there in
       let own = definition_under E n ms found.0 are found.1 in
+      let written : (m : List ℕ) → Reaches E n m → defined (root_of ms n) m ≡ option_map definition_schema (bodies E m) = λ m r. defined-root_of ms n m ∙ each m in
       valid-root_of ms n found.0 V g found.1 x
-      ∙ ap (λ d. V d x) own.schema
-      ∙ definition_agrees E (root_of ms n) I V h g n own.operands own.declared own.exportable x
+      ∙ ap (λ d. V d x) (own.schema ∙ sym (ap (λ o. option_map_or definition_schema o (boolean false)) own.declared))
+      ∙ agreement E n guarded (root_of ms n) written V g I h (definition n) x (record { steps = []; chain = tt; last = refl })
 
   pub translates : IsTranslation E (document_of s)
   translates = λ m. ap (λ d. defined d m) is_root ∙ defined-root_of (members_of (definitions_view s.definitions)) n m ∙ each m
 
-  pub compiles : Compiles E n s
-  compiles = record {
+  pub compiles : IsGuarded E → Compiles E n s
+  compiles guarded = record {
     root = root;
     definitions = λ m. subst (λ (o : Option Document). IsSome o ↔ IsSome (bodies E m)) (sym (translates m)) (some_map definition_schema (bodies E m));
-    meaning = λ V I. subst (λ d. IsValidity d V → IsInstance E I → (x : Document) → IsDocument x → V d x ≡ I (definition n) x) (sym is_root) (λ g h x is. valid V I g h x);
+    meaning = λ V I. subst (λ d. IsValidity d V → IsInstance E I → (x : Document) → IsDocument x → V d x ≡ I (definition n) x) (sym is_root) (λ g h x is. valid guarded V I g h x);
     nested = λ low. subst (λ d. depth d ≤ 114) (sym is_root) (root_of-depth E (members_of (definitions_view s.definitions)) n low are);
   }

@@ -1,35 +1,162 @@
 -- How deep a compiled schema nests: at most four levels for each level of the expression, but two.
-use Rattle.std.proofs.Common.{ℕ, suc, ◌+◌, ◌*◌, ◌≤◌, List, [], ◌∷◌, Some, None, sym, subst, arith}
+use Rattle.std.proofs.Common.{◌≡◌, ℕ, zero, suc, ◌+◌, ◌*◌, ◌≤◌, List, [], ◌∷◌, ◌++◌, map, Bool, true, false, Option, Some, None, Ordering, Less, Equal, Greater, nat_cmp, bytes_eq, codes, refl, sym, ap, subst, if◌then◌else◌, arith}
+use Rattle.std.specs.Option.{option_map_or}
+use Rattle.std.specs.Ordering.{match_ordering}
+use Rattle.std.specs.Cmp.Lexicographic.{slice_cmp}
 use Rattle.std.specs.Prelude.{max}
 use Rattle.std.proofs.Math.Nat.{le-max_left, le-max_right, max-le}
-use Rattle.cs_document.specs.Document.{depth, documents_depth, members_depth, Members, no_members, member}
+use Rattle.cs_document.specs.Document.{Document, text, Documents, no_documents, document, depth, documents_depth, members_depth, Members, no_members, member, put}
+use Rattle.cs_document.specs.View.{documents_of}
+use Rattle.cs_profile.specs.SchemaDocument.{unless_no_list}
+use Rattle.cs_profile.specs.Trim.{with_member}
 use Rattle.cs_package.specs.Expression as cue
-use Rattle.cs_package.specs.Expression.{Expression, Expressions, less, at_most, more, at_least}
+use Rattle.cs_package.specs.Expression.{Expression, Expressions, Declaration, Declarations, DeclarationMark}
 use Rattle.cs_package.specs.Environment.{Environment}
-use Rattle.cs_compile.specs.Translation.{schema_of, schemas_of, body_schemas, definition_schema}
+use Rattle.cs_compile.specs.Translation.{schema_of, schemas_of, declared_schemas, rest_schema, definition_schema, one_or_all, members_at, labels_of, values_of, properties_of, required_of, unless_empty, closing, struct_schema, fixed, list_schema, of_type}
 use Rattle.cs_compile.specs.Definitions.{AreDefinitions}
-use Rattle.cs_package.specs.Height.{height, height_all, heights, IsLow}
+use Rattle.cs_package.specs.Height.{height, height_all, height_fields, height_rest, heights, IsLow}
 use Rattle.cs_compile.proofs.Root.{root_of}
 
 max-times : (a b c d : ℕ) → a ≤ 4 * c → b ≤ 4 * d → max a b ≤ 4 * max c d
 max-times a b c d h k = max-le (omega (arith, le-max_left c d)) (omega (arith, le-max_right c d))
 
+two-more : (a b k : ℕ) → a + 2 ≤ k → b + 2 ≤ k → max a b + 2 ≤ k
+two-more a b zero h l = absurd (let no : a + 2 ≤ 0 = h in omega arith)
+two-more a b (suc zero) h l = absurd (let no : a + 2 ≤ 1 = h in omega arith)
+two-more a b (suc (suc k)) h l = let m : max a b ≤ k = max-le (omega arith) (omega arith) in omega arith
+
 -- an object of a list
 two-levels : (d k : ℕ) → d + 2 ≤ k → suc (max (suc d) 0) ≤ k
 two-levels d k h = let one : max (suc d) 0 ≤ suc d = max-le (omega arith) (omega arith) in omega arith
 
+-- what is put under a key is as deep as it is
+put-depth : (k : List ℕ) (d : Document) (ms : Members) (b : ℕ) → depth d ≤ b → members_depth ms ≤ b → members_depth (put k d ms) ≤ b
+put-depth k d no_members b h m = max-le h (omega arith)
+put-depth k d (member l e ms) b h m = go (slice_cmp nat_cmp k l) (put-depth k d ms b h (omega (arith, le-max_right (depth e) (members_depth ms))))
+  where
+    go : (o : Ordering) → members_depth (put k d ms) ≤ b → members_depth (match_ordering o (member k d (member l e ms)) (member l d ms) (member l e (put k d ms))) ≤ b
+    go Less more = max-le h m
+    go Equal more = max-le h (omega (arith, le-max_right (depth e) (members_depth ms)))
+    go Greater more = max-le (omega (arith, le-max_left (depth e) (members_depth ms))) more
+
+members_at-depth : (ls : List (List ℕ)) (schema : List ℕ → Document) (b : ℕ) → ((l : List ℕ) → depth (schema l) ≤ b) → members_depth (members_at ls schema) ≤ b
+members_at-depth [] schema b h = omega arith
+members_at-depth (l ∷ ls) schema b h = put-depth l (schema l) (members_at ls schema) b (h l) (members_at-depth ls schema b h)
+
+-- the deepest of some documents
+abbrev deepest : List Document → ℕ
+deepest [] = 0
+deepest (d ∷ ds) = max (depth d) (deepest ds)
+
+documents_of-depth : (ds : List Document) → documents_depth (documents_of ds) ≡ deepest ds
+documents_of-depth [] = refl
+documents_of-depth (d ∷ ds) = ap (max (depth d)) (documents_of-depth ds)
+
+one_or_all-depth : (ds : List Document) (b : ℕ) → deepest ds ≤ b → depth (one_or_all ds) ≤ b + 2
+one_or_all-depth [] b h = omega arith
+one_or_all-depth (d ∷ []) b h = omega (arith, le-max_left (depth d) 0)
+one_or_all-depth (d ∷ e ∷ ds) b h =
+    let same : documents_depth (documents_of (d ∷ e ∷ ds)) ≡ deepest (d ∷ e ∷ ds) = documents_of-depth (d ∷ e ∷ ds) in
+    two-levels (documents_depth (documents_of (d ∷ e ∷ ds))) (b + 2) (omega (arith, same))
+
+-- the values of a label are among all
+values_of-depth : (l : List ℕ) (ds : List (Declaration Document)) (b : ℕ) → deepest (map (λ d. d.value) ds) ≤ b → deepest (values_of l ds) ≤ b
+values_of-depth l [] b h = omega arith
+values_of-depth l (d ∷ ds) b h = go (bytes_eq l d.label) (values_of-depth l ds b (omega (arith, le-max_right (depth d.value) (deepest (map (λ d. d.value) ds)))))
+  where
+    go : (c : Bool) → deepest (values_of l ds) ≤ b → deepest ((if c then d.value ∷ [] else []) ++ values_of l ds) ≤ b
+    go true more = max-le (omega (arith, le-max_left (depth d.value) (deepest (map (λ d. d.value) ds)))) more
+    go false more = more
+
+texts-depth : (ls : List (List ℕ)) → documents_depth (documents_of (map text ls)) ≤ 0
+texts-depth [] = omega arith
+texts-depth (l ∷ ls) = max-le (omega arith) (texts-depth ls)
+
+-- a keyword that may be left out, before the others
+with-depth : (o : Option Document) (k : List ℕ) (ms : Members) (b : ℕ) → option_map_or depth o 0 ≤ b → members_depth ms ≤ b → members_depth (with_member o k ms) ≤ b
+with-depth None k ms b h m = m
+with-depth (Some v) k ms b h m = max-le h m
+
+struct_schema-depth : (ds : List (Declaration Document)) (o : Bool) (b : ℕ) → deepest (map (λ d. d.value) ds) ≤ b → depth (struct_schema ds o) ≤ b + 4
+struct_schema-depth ds o b h =
+    let inside : members_depth (properties_of ds) ≤ b + 2 = members_at-depth (labels_of ds) (λ l. one_or_all (values_of l ds)) (b + 2) (λ l. one_or_all-depth (values_of l ds) b (values_of-depth l ds b h)) in
+    let of_labels : members_depth (with_member (unless_no_list (map text (required_of ds))) (codes "required") (of_type (codes "object"))) ≤ b + 3 =
+    with-depth (unless_no_list (map text (required_of ds))) (codes "required") (of_type (codes "object")) (b + 3) (labels-depth (required_of ds)) (omega arith) in
+    let of_properties : members_depth (with_member (unless_empty (properties_of ds)) (codes "properties") (with_member (unless_no_list (map text (required_of ds))) (codes "required") (of_type (codes "object")))) ≤ b + 3 =
+    with-depth (unless_empty (properties_of ds)) (codes "properties") (with_member (unless_no_list (map text (required_of ds))) (codes "required") (of_type (codes "object"))) (b + 3) (properties-depth (properties_of ds) inside) of_labels in
+    let whole = with-depth (closing o) (codes "additionalProperties") (with_member (unless_empty (properties_of ds)) (codes "properties") (with_member (unless_no_list (map text (required_of ds))) (codes "required") (of_type (codes "object")))) (b + 3) (closing-depth o) of_properties in
+    omega (arith, whole)
+  where
+    closing-depth : (o : Bool) → option_map_or depth (closing o) 0 ≤ b + 3
+    closing-depth true = omega arith
+    closing-depth false = omega arith
+
+    properties-depth : (ms : Members) → members_depth ms ≤ b + 2 → option_map_or depth (unless_empty ms) 0 ≤ b + 3
+    properties-depth no_members h = omega arith
+    properties-depth (member k d ms) h = omega (arith, h)
+
+    labels-depth : (ls : List (List ℕ)) → option_map_or depth (unless_no_list (map text ls)) 0 ≤ b + 3
+    labels-depth [] = omega arith
+    labels-depth (l ∷ ls) = omega (arith, texts-depth (l ∷ ls))
+
+list_schema-depth : (front : Documents) (rest : Option Document) (b : ℕ) → documents_depth front ≤ b → option_map_or depth rest 0 ≤ b → depth (list_schema front rest) ≤ b + 2
+list_schema-depth front rest b h r =
+    let inside : members_depth (fixed front (of_type (codes "array"))) ≤ b + 1 = fixed-depth front h in
+    let whole = with-depth rest (codes "items") (fixed front (of_type (codes "array"))) (b + 1) (omega (arith, r)) inside in
+    omega (arith, whole)
+  where
+    fixed-depth : (ds : Documents) → documents_depth ds ≤ b → members_depth (fixed ds (of_type (codes "array"))) ≤ b + 1
+    fixed-depth no_documents h = omega arith
+    fixed-depth (document d ds) h = max-le (omega arith) (max-le (omega (arith, h)) (omega arith))
+
+-- the values of declarations nest two levels less than that
+abbrev IsLower : List (Declaration Document) → ℕ → Type 0
+IsLower [] k = Unit {0}
+IsLower (d ∷ ds) k = deepest (map (λ e. e.value) (d ∷ ds)) + 2 ≤ 4 * k
+
+lower : (ds : List (Declaration Document)) (h k : ℕ) → IsLower ds k → 2 ≤ 4 * h → deepest (map (λ d. d.value) ds) + 2 ≤ 4 * max h k
+lower [] h k l b = omega (arith, b, le-max_left h k)
+lower (d ∷ ds) h k l b = omega (arith, l, le-max_right h k)
+
+of_struct : (ds : List (Declaration Document)) (o : Bool) (k : ℕ) → IsLower ds k → depth (struct_schema ds o) ≤ deepest (map (λ d. d.value) ds) + 4 → depth (struct_schema ds o) + 2 ≤ 4 * (1 + k)
+of_struct [] true k l h = omega arith
+of_struct [] false k l h = omega arith
+of_struct (d ∷ ds) o k l h = omega (arith, l, h)
+
+-- an object of one list
+of_list : (all k : ℕ) → all ≤ 4 * k → suc (max (suc all) 0) + 2 ≤ 4 * (1 + k)
+of_list all k h = let two : suc (max (suc all) 0) ≤ all + 2 = two-levels all (all + 2) (omega arith) in omega arith
+
 mutual
   schema_of-depth : (e : Expression) → depth (schema_of e) + 2 ≤ 4 * height e
-  schema_of-depth (cue.atom (cue.integer n)) = omega arith
   schema_of-depth (cue.range least None) = omega arith
   schema_of-depth (cue.range least (Some greatest)) = omega arith
   schema_of-depth (cue.conjunction cue.no_expressions) = omega arith
-  schema_of-depth (cue.conjunction (cue.expression e es)) =
-      let all = documents_depth (schemas_of (cue.expression e es)) in
-      let h : all ≤ 4 * height_all (cue.expression e es) = schemas_of-depth (cue.expression e es) in
-      let two : suc (max (suc all) 0) ≤ all + 2 = two-levels all (all + 2) (omega arith) in
-      omega arith
-  schema_of-depth _ = omega arith
+  schema_of-depth (cue.conjunction (cue.expression e es)) = of_list (documents_depth (schemas_of (cue.expression e es))) (height_all (cue.expression e es)) (schemas_of-depth (cue.expression e es))
+  schema_of-depth (cue.disjunction cue.no_expressions) = omega arith
+  schema_of-depth (cue.disjunction (cue.expression e es)) = of_list (documents_depth (schemas_of (cue.expression e es))) (height_all (cue.expression e es)) (schemas_of-depth (cue.expression e es))
+  schema_of-depth (cue.struct ds o) =
+      let all = declared_schemas ds in
+      let h : depth (struct_schema all o) ≤ deepest (map (λ d. d.value) all) + 4 = struct_schema-depth all o (deepest (map (λ d. d.value) all)) (omega arith) in
+      of_struct (declared_schemas ds) o (height_fields ds) (declared-depth ds) h
+  schema_of-depth (cue.list es rest) =
+      let b = 4 * max (height_all es) (height_rest rest) in
+      let front : documents_depth (schemas_of es) ≤ b = omega (arith, schemas_of-depth es, le-max_left (height_all es) (height_rest rest)) in
+      let behind : option_map_or depth (rest_schema rest) 0 ≤ b = omega (arith, rest-depth rest, le-max_right (height_all es) (height_rest rest)) in
+      let h = list_schema-depth (schemas_of es) (rest_schema rest) b front behind in
+      omega (arith, h)
+  schema_of-depth (cue.atom cue.top) = omega arith
+  schema_of-depth (cue.atom cue.bottom) = omega arith
+  schema_of-depth (cue.atom cue.null) = omega arith
+  schema_of-depth (cue.atom (cue.boolean b)) = omega arith
+  schema_of-depth (cue.atom (cue.integer n)) = omega arith
+  schema_of-depth (cue.atom (cue.text s)) = omega arith
+  schema_of-depth (cue.atom (cue.bound r n)) = omega arith
+  schema_of-depth (cue.atom (cue.not_integer n)) = omega arith
+  schema_of-depth (cue.atom (cue.not_text s)) = omega arith
+  schema_of-depth (cue.atom cue.not_null) = omega arith
+  schema_of-depth (cue.kind k) = omega arith
+  schema_of-depth (cue.reference n) = omega arith
 
   schemas_of-depth : (es : Expressions) → documents_depth (schemas_of es) ≤ 4 * height_all es
   schemas_of-depth cue.no_expressions = omega arith
@@ -37,16 +164,28 @@ mutual
       let h = schema_of-depth e in
       max-times (depth (schema_of e)) (documents_depth (schemas_of es)) (height e) (height_all es) (omega arith) (schemas_of-depth es)
 
-body_schemas-depth : (es : List Expression) → heights es ≤ 28 → documents_depth (body_schemas es) ≤ 110
+  -- the declared values, two levels lower, or none
+  declared-depth : (ds : Declarations) → IsLower (declared_schemas ds) (height_fields ds)
+  declared-depth cue.no_declarations = tt
+  declared-depth (cue.declaration l m e ds) =
+      let h = schema_of-depth e in
+      two-more (depth (schema_of e)) (deepest (map (λ d. d.value) (declared_schemas ds))) (4 * max (height e) (height_fields ds))
+      (omega (arith, h, le-max_left (height e) (height_fields ds)))
+      (lower (declared_schemas ds) (height e) (height_fields ds) (declared-depth ds) (omega (arith, h)))
+
+  rest-depth : (rest : cue.Rest) → option_map_or depth (rest_schema rest) 0 ≤ 4 * height_rest rest
+  rest-depth cue.closed = omega arith
+  rest-depth cue.any = omega arith
+  rest-depth (cue.each e) = let h = schema_of-depth e in omega arith
+
+body_schemas-depth : (es : List Expression) → heights es ≤ 28 → deepest (map schema_of es) ≤ 110
 body_schemas-depth [] low = omega arith
 body_schemas-depth (e ∷ es) low =
     let h = schema_of-depth e in
     max-le (omega (arith, le-max_left (height e) (heights es))) (body_schemas-depth es (omega (arith, le-max_right (height e) (heights es))))
 
 definition_schema-depth : (es : List Expression) → heights es ≤ 28 → depth (definition_schema es) ≤ 112
-definition_schema-depth [] low = omega arith
-definition_schema-depth (e ∷ []) low = let h = schema_of-depth e in omega (arith, le-max_left (height e) 0)
-definition_schema-depth (e ∷ f ∷ es) low = let h = body_schemas-depth (e ∷ f ∷ es) low in two-levels (documents_depth (body_schemas (e ∷ f ∷ es))) 112 (omega arith)
+definition_schema-depth es low = one_or_all-depth (map schema_of es) 110 (body_schemas-depth es low)
 
 definitions-depth : (E : Environment) (ms : Members) → IsLow E → AreDefinitions E ms → members_depth ms ≤ 112
 definitions-depth E no_members low h = omega arith

@@ -1,10 +1,15 @@
 pub mod Agreement
+pub mod Asserted
 pub mod Compiled
+pub mod Covered
 pub mod Declared
 pub mod Depths
+pub mod Lists
 pub mod NameCodes
+pub mod Labels
 pub mod Names
 pub mod Root
 pub mod Samples
 pub mod Slots
+pub mod Structs
 pub mod Visited

@@ -1,11 +1,18 @@
--- The schema of each form of expression that is exported so far, a row for each form (own rule; the keywords are those of
--- JSON Schema Validation 2020-12, section 6, and Core, section 10). Keys stand in byte order.
-use Rattle.std.specs.Prelude.{◌≡◌, ℕ, ℤ, List, [], ◌∷◌, Option, Some, None, option_map, false, codes}
-use Rattle.cs_document.specs.Document.{Document, boolean, integer, text, list, object, Documents, no_documents, document, Members, no_members, member}
+-- The schema of each form of expression, a row for each form (own rule; the keywords are those of JSON Schema Validation
+-- 2020-12, section 6, and Core, sections 8.2.3.1 and 10). Keys stand in byte order.
+use Rattle.std.specs.Prelude.{◌≡◌, ℕ, suc, ℤ, pos, List, [], ◌∷◌, ◌++◌, map, filter, flat_map, length, Bool, true, false, not, ◌&&◌, Option, Some, None, option_map, codes, if◌then◌else◌}
+use Rattle.std.specs.List.{list_any}
+use Rattle.std.specs.Str.{bytes_eq}
+use Rattle.cs_document.specs.Document.{Document, null, boolean, integer, text, list, object, Documents, no_documents, document, elements, Members, no_members, member, put}
+use Rattle.cs_document.specs.View.{documents_of}
 use Rattle.cs_package.specs.Expression as cue
-use Rattle.cs_package.specs.Expression.{Expression, Expressions, Kind, int, number, string, bool, Relation, less, at_most, more, at_least}
+use Rattle.cs_package.specs.Expression.{Expression, Expressions, Kind, int, number, string, bool, Relation, less, at_most, more, at_least, DeclarationMark, regular, optional, required, Declaration, Declarations, Rest}
 use Rattle.cs_package.specs.Environment.{Environment, bodies}
-use Rattle.cs_profile.specs.Keywords.{defined}
+use Rattle.cs_profile.specs.Keywords.{defined, reference_start}
+use Rattle.cs_profile.specs.SchemaDocument.{unless_no_list}
+use Rattle.cs_profile.specs.Trim.{with_member}
+
+-- ---- forms without parts
 
 -- `int`, `number`, `string`, `bool`
 abbrev pub type_name : Kind → List ℕ
@@ -33,44 +40,129 @@ abbrev pub range_keywords : ℤ → Option ℤ → Members
 range_keywords least None = from_least least
 range_keywords least (Some greatest) = member (codes "maximum") (integer greatest) (from_least least)
 
+-- one value alone, and all but one among those of some other keywords
+abbrev pub constant : Document → Document
+constant v = object (member (codes "const") v no_members)
+
+abbrev pub but : Document → Members → Members
+but v ms = member (codes "not") (constant v) ms
+
+-- a schema that refers to the definition n alone (JSON Schema Core 2020-12, section 8.2.3.1)
+abbrev pub reference_to : List ℕ → Document
+reference_to n = object (member (codes "$ref") (text (reference_start ++ n)) no_members)
+
+-- ---- operands, and definitions with several bodies
+
 -- the schemas of a conjunction's operands; without any it asks nothing
 abbrev pub all_of : Documents → Members
 all_of no_documents = no_members
 all_of (document d ds) = member (codes "allOf") (list (document d ds)) no_members
 
+-- the schemas of a disjunction's operands; without any it admits nothing
+abbrev pub any_of : Documents → Document
+any_of no_documents = boolean false
+any_of (document d ds) = object (member (codes "anyOf") (list (document d ds)) no_members)
+
+-- one schema as it is, several as a conjunction in their order
+abbrev pub one_or_all : List Document → Document
+one_or_all (d ∷ []) = d
+one_or_all ds = object (all_of (documents_of ds))
+
+-- ---- structs, by the schemas of the declared values
+
+-- the schemas that are declared for a label, in order
+abbrev pub values_of : List ℕ → List (Declaration Document) → List Document
+values_of l ds = flat_map (λ d. if bytes_eq l d.label then d.value ∷ [] else []) ds
+
+-- under each label its schema, in byte order
+abbrev pub members_at : List (List ℕ) → (List ℕ → Document) → Members
+members_at [] schema = no_members
+members_at (l ∷ ls) schema = put l (schema l) (members_at ls schema)
+
+abbrev pub labels_of : List (Declaration Document) → List (List ℕ)
+labels_of ds = map (λ d. d.label) ds
+
+abbrev pub properties_of : List (Declaration Document) → Members
+properties_of ds = members_at (labels_of ds) (λ l. one_or_all (values_of l ds))
+
+abbrev pub unless_empty : Members → Option Document
+unless_empty no_members = None
+unless_empty (member k d ms) = Some (object (member k d ms))
+
+-- each label once, where it comes first
+abbrev pub firsts : List (List ℕ) → List (List ℕ)
+firsts [] = []
+firsts (l ∷ ls) = l ∷ filter (λ m. not (bytes_eq l m)) (firsts ls)
+
+abbrev pub must_be_there : DeclarationMark → Bool
+must_be_there regular = true
+must_be_there optional = false
+must_be_there required = true
+
+-- the labels that some declaration asks for, in the order in which labels are first declared
+abbrev pub required_of : List (Declaration Document) → List (List ℕ)
+required_of ds = filter (λ l. list_any (λ d. bytes_eq l d.label && must_be_there d.mark) ds) (firsts (labels_of ds))
+
+abbrev pub closing : Bool → Option Document
+closing opened = if opened then None else Some (boolean false)
+
+abbrev pub struct_schema : List (Declaration Document) → Bool → Document
+struct_schema ds opened = object (
+    with_member (closing opened) (codes "additionalProperties") (
+    with_member (unless_empty (properties_of ds)) (codes "properties") (
+    with_member (unless_no_list (map text (required_of ds))) (codes "required") (of_type (codes "object")))))
+
+-- ---- lists, by the schemas of the fixed elements and of the rest
+
+abbrev pub fixed : Documents → Members → Members
+fixed no_documents ms = ms
+fixed (document d ds) ms = member (codes "minItems") (integer (pos (suc (length (elements ds))))) (member (codes "prefixItems") (list (document d ds)) ms)
+
+abbrev pub list_schema : Documents → Option Document → Document
+list_schema front rest = object (with_member rest (codes "items") (fixed front (of_type (codes "array"))))
+
+-- ---- the table
+
 abbrev mutual
   pub schema_of : Expression → Document
-  schema_of (cue.atom (cue.integer n)) = object (member (codes "const") (integer n) no_members)
+  schema_of (cue.atom cue.top) = boolean true
+  schema_of (cue.atom cue.bottom) = boolean false
+  schema_of (cue.atom cue.null) = constant null
+  schema_of (cue.atom (cue.boolean b)) = constant (boolean b)
+  schema_of (cue.atom (cue.integer n)) = constant (integer n)
+  schema_of (cue.atom (cue.text s)) = constant (text s)
   schema_of (cue.kind k) = object (of_type (type_name k))
   schema_of (cue.range least greatest) = object (range_keywords least greatest)
   schema_of (cue.atom (cue.bound r n)) = object (member (limit_name r) (integer n) (of_type (codes "number")))
+  schema_of (cue.atom (cue.not_integer n)) = object (but (integer n) (of_type (codes "number")))
+  schema_of (cue.atom (cue.not_text s)) = object (but (text s) (of_type (codes "string")))
+  schema_of (cue.atom cue.not_null) = object (but null no_members)
   schema_of (cue.conjunction es) = object (all_of (schemas_of es))
-  -- the forms that are not exported yet: no call writes these rows
-  schema_of (cue.atom cue.top) = boolean false
-  schema_of (cue.atom cue.bottom) = boolean false
-  schema_of (cue.atom cue.null) = boolean false
-  schema_of (cue.atom (cue.boolean b)) = boolean false
-  schema_of (cue.atom (cue.text s)) = boolean false
-  schema_of (cue.reference n) = boolean false
-  schema_of (cue.atom (cue.not_integer n)) = boolean false
-  schema_of (cue.atom (cue.not_text s)) = boolean false
-  schema_of (cue.atom cue.not_null) = boolean false
-  schema_of (cue.disjunction es) = boolean false
-  schema_of (cue.struct ds opened) = boolean false
-  schema_of (cue.list es rest) = boolean false
+  schema_of (cue.disjunction es) = any_of (schemas_of es)
+  schema_of (cue.reference n) = reference_to n
+  schema_of (cue.struct ds opened) = struct_schema (declared_schemas ds) opened
+  schema_of (cue.list es rest) = list_schema (schemas_of es) (rest_schema rest)
 
   pub schemas_of : Expressions → Documents
   schemas_of cue.no_expressions = no_documents
   schemas_of (cue.expression e es) = document (schema_of e) (schemas_of es)
 
+  pub declared_schemas : Declarations → List (Declaration Document)
+  declared_schemas cue.no_declarations = []
+  declared_schemas (cue.declaration l m e ds) = record { label = l; mark = m; value = schema_of e } ∷ declared_schemas ds
+
+  -- nothing, anything, or what each element is
+  pub rest_schema : Rest → Option Document
+  rest_schema cue.closed = Some (boolean false)
+  rest_schema cue.any = None
+  rest_schema (cue.each e) = Some (schema_of e)
+
 abbrev pub body_schemas : List Expression → Documents
-body_schemas [] = no_documents
-body_schemas (e ∷ es) = document (schema_of e) (body_schemas es)
+body_schemas es = documents_of (map schema_of es)
 
 -- the schema of a definition, by its bodies
 abbrev pub definition_schema : List Expression → Document
-definition_schema (e ∷ []) = schema_of e
-definition_schema es = object (all_of (body_schemas es))
+definition_schema es = one_or_all (map schema_of es)
 
 -- the document defines each declared name, by the schema of its bodies, and no other name
 abbrev pub IsTranslation : Environment → Document → Type 0

@@ -1,16 +1,13 @@
 -- The schema of a package at a root definition, and what it says.
-use Rattle.std.specs.Prelude.{◌≡◌, ◌↔◌, ℕ, ◌≤◌, List, ◌++◌, Bool, IsSome, codes}
-use Rattle.cs_document.specs.Document.{Document, text, object, no_members, member, IsDocument, depth}
+use Rattle.std.specs.Prelude.{◌≡◌, ◌↔◌, ℕ, ◌≤◌, List, Bool, IsSome}
+use Rattle.cs_document.specs.Document.{Document, IsDocument, depth}
 use Rattle.cs_package.specs.Environment.{Environment, bodies}
 use Rattle.cs_package.specs.Height.{IsLow}
 use Rattle.cs_instance.specs.Instance.{Rule, definition, IsInstance}
-use Rattle.cs_profile.specs.Keywords.{reference_start, defined}
+pub use Rattle.cs_compile.specs.Translation.{reference_to}
+use Rattle.cs_profile.specs.Keywords.{defined}
 use Rattle.cs_profile.specs.SchemaDocument.{SchemaValue, document_of, schema_view}
 use Rattle.cs_profile.specs.Validity.{IsValidity}
-
--- a schema that refers to the definition n alone (JSON Schema Core 2020-12, section 8.2.3.1)
-abbrev pub reference_to : List ℕ → Document
-reference_to n = object (member (codes "$ref") (text (reference_start ++ n)) no_members)
 
 -- the schema of the environment at its definition n: it refers to that definition, defines just the declared names, and
 -- validates just the instances of n; where no body is higher than 28, it nests at most 114 deep

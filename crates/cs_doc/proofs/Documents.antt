@@ -1,10 +1,7 @@
 -- Documents built a part at a time, and beside their values of JSON.
-use Rattle.std.proofs.Common.{◌≡◌, ◌≤◌, ℕ, suc, max, ℤ, pos, negsuc, List, [], ◌∷◌, ◌++◌, Option, Some, None, option_map, option_and_then, String, Global, Less, Greater, nat_cmp, string_bytes, string_cmp, FitsSigned, w64, refl, sym, ap, ap₂, ◌∙◌, arith, rules, append-nil}
+use Rattle.std.proofs.Common.{◌≡◌, ◌≤◌, ℕ, suc, max, ℤ, pos, negsuc, List, [], ◌∷◌, ◌++◌, Option, Some, None, option_map, option_and_then, Greater, nat_cmp, string_bytes, FitsSigned, w64, refl, sym, ap, ap₂, ◌∙◌, arith, rules, append-nil}
 use Rattle.std.proofs.lemmas.Cmp.{nat_list_cmp_total}
 use Rattle.std.specs.Cmp.Lexicographic.{slice_cmp}
-use Rattle.std.specs.List.{AllByRecursion}
-use Rattle.std.specs.List.Sorted.{IsStrictlySortedBy}
-use Rattle.std.specs.Map.{keys_of}
 use Rattle.std.specs.Ordering.{ordering_reverse}
 use Rattle.json.specs.Json as json
 use Rattle.json.specs.Lex.{tokens}
@@ -62,24 +59,6 @@ members_before-more es e (Some rest) = ap Some (members_before-push es e rest)
 pub AreDocuments-push : (ds : List Doc) (d : Doc) → AreDocuments (list_view ds) → IsDocument (doc_view d) → AreDocuments (list_view (ds ++ d ∷ []))
 AreDocuments-push [] d p q = (q, tt)
 AreDocuments-push (x ∷ ds) d p q = (p.0, AreDocuments-push ds d p.1 q)
-
--- each member's document is in the profile
-abbrev pub ValuesFit : List Entry → Type 0
-ValuesFit [] = Unit {0}
-ValuesFit (e ∷ es) = IsDocument (doc_view e.1) × ValuesFit es
-
-pub ValuesFit-push : (es : List Entry) (e : Entry) → ValuesFit es → IsDocument (doc_view e.1) → ValuesFit (es ++ e ∷ [])
-ValuesFit-push [] e p q = (q, tt)
-ValuesFit-push (x ∷ es) e p q = (p.0, ValuesFit-push es e p.1 q)
-
-keys_above : (k : String Global) (es : List Entry) → AllByRecursion (λ y. string_cmp k y ≡ Less) (keys_of es) → KeysAbove (string_bytes k) (object_view es)
-keys_above k [] h = tt
-keys_above k (e ∷ es) h = (h.0, keys_above k es h.1)
-
-pub AreMembers-of_sorted : (es : List Entry) → IsStrictlySortedBy string_cmp (keys_of es) → ValuesFit es → AreMembers (object_view es)
-unfolding IsStrictlySortedBy
-AreMembers-of_sorted [] h p = tt
-AreMembers-of_sorted (e ∷ es) h p = (keys_above e.0 es h.0, p.0, AreMembers-of_sorted es h.1 p.1)
 
 -- ---- beside values of JSON
 

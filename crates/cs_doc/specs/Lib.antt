@@ -1,6 +1,7 @@
 pub use Rattle.cs_document.specs.Document
 pub use Rattle.cs_document.specs.Opened
 pub use Rattle.cs_document.specs.View
+pub use Rattle.cs_document.specs.Order
 pub use Rattle.cs_flat.specs.Nodes
 pub use Rattle.cs_flat.specs.Items
 pub use Rattle.cs_flat.specs.View as FlatView

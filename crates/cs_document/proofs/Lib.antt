@@ -4,5 +4,6 @@ pub mod OneMeaning
 pub mod Entries
 pub mod Maps
 pub mod Views
+pub mod Halving
 pub mod SampleDocuments
 mod Samples

@@ -1,8 +1,10 @@
 -- Documents, worked by the definitions. A wrong expectation stops the check here.
-use Rattle.std.proofs.Common.{◌≡◌, ℕ, pos, neg_ℤ, true, false, if◌then◌else◌, suc, List, [], ◌∷◌, map, codes, Some, None, refl, arith, rules}
-use Rattle.std.specs.List.{AllByRecursion}
+use Rattle.std.proofs.Common.{◌≡◌, ℕ, pos, neg_ℤ, Bool, true, false, if◌then◌else◌, suc, List, [], ◌∷◌, map, codes, Some, None, ◌&&◌, refl, arith, rules}
+use Rattle.std.specs.List.{AllByRecursion, list_all}
+use Rattle.std.specs.Ordering.{is_lt, is_eq, is_gt}
 use Rattle.cs_document.specs.Document.{Document, null, boolean, integer, text, Members, no_members, IsDocument, document_eq, depth, put, under, get_member, entries}
-use Rattle.cs_document.specs.Opened.{opened, map_opened, InsideBelow, a_null, a_boolean, an_integer, a_text, a_list, an_object}
+use Rattle.cs_document.specs.Order.{document_cmp}
+use Rattle.cs_document.specs.Opened.{opened, map_opened, InsideBelow, AscendsInside, a_null, a_boolean, an_integer, a_text, a_list, an_object}
 use Rattle.cs_document.proofs.SampleDocuments.{number, array, members, map_of}
 
 -- ---- short forms
@@ -66,6 +68,24 @@ each_itself : map (λ d. places_of d forms 0) forms
     ≡ (0 ∷ []) ∷ (1 ∷ []) ∷ (2 ∷ []) ∷ (3 ∷ []) ∷ (4 ∷ []) ∷ (5 ∷ []) ∷ (6 ∷ []) ∷ (7 ∷ []) ∷ (8 ∷ []) ∷ (9 ∷ []) ∷ (10 ∷ []) ∷ (11 ∷ []) ∷ (12 ∷ []) ∷ (13 ∷ []) ∷ (14 ∷ []) ∷ (15 ∷ []) ∷ (16 ∷ []) ∷ []
 each_itself = refl
 
+-- ---- the order
+
+-- two or more of each kind, by the order's rules
+abbrev rising : List Document
+rising = null ∷ boolean false ∷ boolean true ∷ integer (neg_ℤ (pos 9223372036854775808)) ∷ integer (neg_ℤ (pos 1)) ∷ number 0 ∷ number 9223372036854775807
+    ∷ text (codes "") ∷ text (codes "B") ∷ text a ∷ text (codes "aa") ∷ text b ∷ text (codes "é")
+    ∷ array [] ∷ array (null ∷ []) ∷ array (null ∷ number 7 ∷ []) ∷ array (null ∷ array [] ∷ []) ∷ array (number 1 ∷ []) ∷ array (number 1 ∷ null ∷ []) ∷ array (number 2 ∷ []) ∷ array (map_of [] ∷ [])
+    ∷ map_of [] ∷ map_of ((codes "", array []) ∷ []) ∷ map_of ((a, null) ∷ []) ∷ map_of ((a, null) ∷ (b, null) ∷ []) ∷ map_of ((a, null) ∷ (codes "c", null) ∷ [])
+    ∷ map_of ((a, number 1) ∷ []) ∷ map_of ((a, number 1) ∷ (codes "aa", null) ∷ []) ∷ map_of ((b, null) ∷ []) ∷ []
+
+-- each is the same as itself, below all behind it, and they above it
+abbrev rises : List Document → Bool
+rises [] = true
+rises (d ∷ ds) = is_eq (document_cmp d d) && list_all (λ e. is_lt (document_cmp d e) && is_gt (document_cmp e d)) ds && rises ds
+
+in_order_of_rules : rises rising ≡ true
+in_order_of_rules = refl
+
 -- ---- maps
 
 -- a map with the keys `b` and `d`
@@ -112,3 +132,16 @@ not_below h = let l = h.1.0 in omega (arith, l)
 
 not_below_in_a_map : InsideBelow 4 (an_object ((a, 3) ∷ (b, 4) ∷ [])) → ⊥
 not_below_in_a_map h = let l = h.1.0 in omega (arith, l)
+
+-- keys in byte order, and two that aren't
+ascending : AllByRecursion (AscendsInside {A = ℕ}) (a_null ∷ a_boolean true ∷ an_integer (pos 5) ∷ a_text a ∷ a_list (3 ∷ 0 ∷ []) ∷ an_object [] ∷ an_object ((codes "", 7) ∷ (codes "B", 3) ∷ (a, 1) ∷ (codes "aa", 1) ∷ (b, 0) ∷ []) ∷ [])
+ascending = search rules
+
+a_key_twice : AscendsInside {A = ℕ} (an_object ((a, 3) ∷ (a, 4) ∷ [])) → ⊥
+a_key_twice h = let e = h.0.0 in cc
+
+the_last_key_first : AscendsInside {A = ℕ} (an_object ((b, 3) ∷ (codes "c", 4) ∷ (a, 5) ∷ [])) → ⊥
+the_last_key_first h = let e = h.0.1.0 in cc
+
+descending_inside : AscendsInside {A = ℕ} (an_object ((codes "", 3) ∷ (b, 4) ∷ (a, 5) ∷ [])) → ⊥
+descending_inside h = let e = h.1.0.0 in cc

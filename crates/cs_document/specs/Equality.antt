@@ -1,8 +1,8 @@
 -- The equality of documents is an equivalence, and is `≡`.
-use Rattle.std.specs.Prelude.{◌≡◌, ℤ, List, Bool, true, false, ◌&&◌, refl}
+use Rattle.std.specs.Prelude.{◌≡◌, Bool, true, false, ◌&&◌, refl}
 use Rattle.std.specs.Bool.{Decides}
 use Rattle.std.specs.Cmp.{IsPartialEquivalence, both_ways}
-use Rattle.std.proofs.Common.{bytes_eq, int_eq, sym, ◌∙◌, ap, ap₂, subst}
+use Rattle.std.proofs.Common.{bytes_eq, ap, ap₂, subst}
 use Rattle.std.proofs.lemmas.Bool.Decides.{Decides-int_eq}
 use Rattle.std.proofs.lemmas.Slice.Eq.{bytes_eq-Decides}
 use Rattle.cs_document.specs.Document.{Document, null, boolean, integer, text, list, object, Documents, no_documents, document, Members, no_members, member, document_eq, documents_eq, members_eq}

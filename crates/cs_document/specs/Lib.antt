@@ -1,6 +1,9 @@
 pub mod Document
 pub mod Opened
 pub mod View
+pub mod Order
 -- for contracts of private functions and proofs alone
 pub mod Equality
+pub mod TotalOrder
+pub mod Sorted
 pub mod Code

@@ -1,6 +1,9 @@
 -- A document opened once: one level of it, with an A in place of each document directly inside.
-use Rattle.std.specs.Prelude.{ℕ, ◌<◌, ℤ, List, Bool, map}
+use Rattle.std.specs.Prelude.{◌≡◌, ℕ, ◌<◌, ℤ, List, [], ◌∷◌, Bool, map}
 use Rattle.std.specs.List.{AllByRecursion}
+use Rattle.std.specs.Ordering.{nat_cmp}
+use Rattle.std.specs.declared.cmp.Ordering.TheVariants.{Less}
+use Rattle.std.specs.Cmp.Lexicographic.{slice_cmp}
 use Rattle.cs_document.specs.Document.{Document, null, boolean, integer, text, list, object, Entry, elements, entries}
 
 pub data Opened (A : Type 0) : Type 0 where
@@ -39,3 +42,17 @@ InsideBelow n (an_integer z) = Unit {0}
 InsideBelow n (a_text s) = Unit {0}
 InsideBelow n (a_list ys) = AllByRecursion (λ y. y < n) ys
 InsideBelow n (an_object ms) = AllByRecursion (λ (m : Entry ℕ). m.1 < n) ms
+
+-- each key is above those before it, in byte order
+abbrev pub KeysAscend : {A : Type 0} → List (Entry A) → Type 0
+KeysAscend [] = Unit {0}
+KeysAscend {A} (e ∷ es) = AllByRecursion (λ (m : Entry A). slice_cmp nat_cmp e.0 m.0 ≡ Less) es × KeysAscend es
+
+-- those of a map do
+abbrev pub AscendsInside : {A : Type 0} → Opened A → Type 0
+AscendsInside a_null = Unit {0}
+AscendsInside (a_boolean b) = Unit {0}
+AscendsInside (an_integer z) = Unit {0}
+AscendsInside (a_text s) = Unit {0}
+AscendsInside (a_list ys) = Unit {0}
+AscendsInside (an_object ms) = KeysAscend ms

@@ -5,6 +5,9 @@ mod copy;
 mod doc;
 mod equal;
 mod fault;
+mod order;
+mod set;
 
 pub use doc::Doc;
 pub use fault::DocFault;
+pub use set::DocSet;

@@ -1,8 +1,10 @@
 // Documents as lists of their values, for judges that go from a value's parts to the value.
 #![tactic(auto)]
 
+mod entries;
 mod flat;
 mod flattening;
 
+pub use entries::number_under;
 pub use flat::{Flat, Item};
 pub use flattening::flatten;

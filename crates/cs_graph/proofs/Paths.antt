@@ -4,7 +4,7 @@ use Rattle.std.proofs.Math.Numerals.{one-add}
 use Rattle.std.proofs.lemmas.Bool.Decides.{nat_tests}
 use Rattle.std.proofs.lemmas.List.{append-nil}
 use Rattle.std.specs.List.{position_or_len}
-use Rattle.cs_graph.specs.Chains.{On, Distinct, Chain, IsCycle, NoCycle}
+use Rattle.cs_graph.specs.Chains.{On, Distinct, Chain, IsClosed, IsCycle, NoCycle, IsHeight}
 use Rattle.cs_graph.specs.Paths.{Links, tail_from, IsTurned}
 use Rattle.cs_graph.proofs.Places.{distinct_turned}
 
@@ -40,7 +40,7 @@ pub turned : (R : ℕ → ℕ → Type 0) (old new : List ℕ) → IsTurned old 
 turned R old new t c = subst (IsCycle R) (sym t.after) (cycle_turned R t.front t.back (subst (IsCycle R) t.before c))
 
 module _ {X : Type 0} (R : X → X → Type 0) where
-  chain_push : (x y z : X) (xs : List X) → Chain R x (xs ++ y ∷ []) → R y z → Chain R x ((xs ++ y ∷ []) ++ z ∷ [])
+  pub chain_push : (x y z : X) (xs : List X) → Chain R x (xs ++ y ∷ []) → R y z → Chain R x ((xs ++ y ∷ []) ++ z ∷ [])
   chain_push x y z [] c r = (c.0, (r, tt))
   chain_push x y z (w ∷ xs) c r = (c.0, chain_push w y z xs c.1 r)
 
@@ -77,3 +77,14 @@ module _ {X : Type 0} (R : X → X → Type 0) (rank : X → ℕ) (falls : (x y 
   -- ranks that fall along references exclude a cycle
   pub no_cycle : NoCycle R
   no_cycle x xs c = let h = rank_below x x xs c in omega (arith, h)
+
+-- where there is no cycle, no list is a closed chain
+pub none_closed : {X : Type 0} (R : X → X → Type 0) → NoCycle R → (xs : List X) → IsClosed R xs → ⊥
+none_closed R none [] c = c
+none_closed R none (x ∷ xs) c = none x xs c
+
+-- what refers to another is higher
+pub height_falls : {X : Type 0} (R : X → X → Type 0) (x y : X) (h k : ℕ) → IsHeight R x h → R x y → IsHeight R y k → k < h
+height_falls R x y h k high refers low =
+    let longer = high.longest (y ∷ low.steps) (refers, low.chain) in
+    omega (arith, longer, low.long)

@@ -88,22 +88,24 @@ fn step(
     Err(GraphFault::Cycle { numbers })
 }
 
-/// Walks from a number that is new: then it is done, and so is all that it reaches.
+/// Walks from a number that is new: then it is done, and so is all that it reaches. The path is empty before and after.
 fn walk_from(
     alloc: Global,
     graph: &[Vec<usize>],
     marks: &mut [VisitState],
+    path: &mut Vec<Frame>,
     number: usize,
 ) -> Result<(), GraphFault>
     requires within { Within (graph_of graph.now) }
     requires state { State (graph_of graph.now) marks.old [] }
     requires new { slice_get marks.old number ≡ Some VisitState.New }
-    ensures { Walked (graph_of graph.now) marks.old marks.new number result }
+    requires path { path.old.items ≡ [] }
+    ensures walked { Walked (graph_of graph.now) marks.old marks.new number result }
+    ensures path { OnOk result (path.new.items ≡ []) }
 {
-    let mut path = Vec::new(alloc);
-    enter(marks, &mut path, number)?;
+    enter(marks, path, number)?;
     while let Some(last) = path.pop() {
-        step(alloc, graph, marks, &mut path, last)?;
+        step(alloc, graph, marks, path, last)?;
     }
     Ok(())
 }
@@ -137,9 +139,10 @@ pub fn heights(alloc: Global, graph: &[Vec<usize>]) -> Result<Vec<usize>, GraphF
     ensures only { NoCycle (Refers (graph_of graph.now)) → IsOkUnless result GraphFault.OutOfMemory }
 {
     let mut marks = vec![in alloc; VisitState::New; graph.len()]?;
+    let mut path = Vec::new(alloc);
     for number in 0..graph.len() {
         if let VisitState::New = marks[number] {
-            walk_from(alloc, graph, &mut marks, number)?;
+            walk_from(alloc, graph, &mut marks, &mut path, number)?;
         }
     }
     Ok(heights_of(alloc, &marks)?)

@@ -5,15 +5,10 @@ use Rattle.std.proofs.lemmas.Option.{IfSome_then}
 use Rattle.cs_package.specs.Environment.{Environment, name_at}
 use Rattle.cs_guard.specs.References.{strong_of, RefersStrongly}
 use Rattle.cs_graph.specs.Chains.{NoCycle}
+use Rattle.cs_graph.proofs.Paths.{height_falls}
 use Rattle.cs_guard.specs.Limits.{most_references}
 use Rattle.cs_guard.specs.Guarded.{Chain, IsGuarded, IsHeight}
 use Rattle.cs_guard.specs.Ranks.{AreRanks}
-
--- a definition is higher than each one that it refers to strongly
-pub height-falls : (E : Environment) (n m : List ℕ) (h k : ℕ) → IsHeight E n h → RefersStrongly E n m → IsHeight E m k → k < h
-height-falls E n m h k high refers low =
-    let longer = high.longest (m ∷ low.steps) (refers, low.chain) in
-    omega (arith, longer, low.long)
 
 no_element : {X : Type 0} (xs : List X) (x : X) → xs ≡ [] → Contains xs x → ⊥
 no_element xs x e h = let l : h.0 < length xs = h.1 in omega (arith, ap length e, l)
@@ -51,4 +46,4 @@ module _ (E : Environment) (i : ℕ) where
       by (Some n) q = subst (IsHeight E n) same (are.heights i n q)
 
   pub height-above : (r : ℕ) → HasHeight r → IfSome (name_at E i) (λ n. (m : List ℕ) (h : ℕ) → Contains (strong_of E n) m → IsHeight E m h → h < r)
-  height-above r high = IfSome_then (name_at E i) high (λ n at m h refers low. height-falls E n m r h at refers low)
+  height-above r high = IfSome_then (name_at E i) high (λ n at m h refers low. height_falls (RefersStrongly E) n m r h at refers low)

@@ -1,4 +1,4 @@
--- The rows of a package's graph.
+-- The numbers that were read from definitions' bodies, and the rows of a package's graph.
 use Rattle.std.specs.Prelude.{IsTrue}
 use Rattle.std.proofs.Common.{◌≡◌, ℕ, zero, suc, ◌<◌, List, [], ◌∷◌, ◌++◌, ◌⊎◌, inl, inr, map, length, Option, Some, IfSome, slice_get, get_or, Vec, Global, refl, sym, ap, ◌∙◌, subst}
 use Rattle.std.specs.List.{flat_map, list_all, All}
@@ -8,19 +8,21 @@ use Rattle.std.proofs.lemmas.List.Elements.{All-nil}
 use Rattle.std.proofs.lemmas.Option.{same_Some}
 use Rattle.cs_package.specs.Expression.{Expression}
 use Rattle.cs_package.specs.Environment.{Environment, declared_names, bodies, bodies_at, name_at}
-use Rattle.cs_package.specs.View.{expression_of, expressions_of, is_known}
+use Rattle.cs_package.specs.View.{expression_of, is_known}
 use Rattle.cs_package.specs.declared.shape.Shape.{Shape}
-use Rattle.cs_guard.specs.References.{strong, strong_all, strong_of}
+use Rattle.cs_guard.specs.Taken.{taken, taken_of}
+use Rattle.cs_guard.specs.declared.references.Followed.{Followed}
 use Rattle.cs_graph.specs.Chains.{On}
 use Rattle.cs_graph.specs.Graph.{Graph, graph_of}
 use Rattle.cs_guard.specs.Numbered.{name_of}
 use Rattle.cs_guard.specs.Pushed.{named}
+use Rattle.cs_guard.proofs.Takes.{all_is}
 use Rattle.cs_guard.proofs.Pushes.{PushedAll}
 use Rattle.cs_guard.proofs.Numbers.{name_within, on_contains}
 
--- the numbers stand for what the definition refers to strongly, and each is one of the environment
-pub record IsRow (E : Environment) (i : ℕ) (row : List ℕ) : Type 0 where
-  pub names : map (name_of E) row ≡ strong_of E (name_of E i)
+-- the numbers stand for what a walk takes from the definition, and each is one of the environment
+pub record IsRow (f : Followed) (E : Environment) (i : ℕ) (row : List ℕ) : Type 0 where
+  pub names : map (name_of E) row ≡ taken_of f E (name_of E i)
   pub within : (m : ℕ) → On m row → m < length E
 
 name_is : (E : Environment) (i : ℕ) → name_of E i ≡ get_or (declared_names E) i []
@@ -32,19 +34,15 @@ names_are : (E : Environment) (row : List ℕ) → map (name_of E) row ≡ named
 names_are E [] = refl
 names_are E (i ∷ row) = λ k. name_is E i k ∷ names_are E row k
 
-all_is : (es : List Expression) → strong_all (expressions_of es) ≡ flat_map strong es
-all_is [] = refl
-all_is (e ∷ es) = ap (λ ns. strong e ++ ns) (all_is es)
-
 on_all : (P : ℕ → Type 0) (m : ℕ) (xs : List ℕ) → On m xs → All P xs → P m
 on_all P m xs o h = let c = on_contains m xs o in subst P c.2 (h c.0 m c.1)
 
 -- what was read from a definition's bodies is its row
-pub row_of : (E : Environment) (i : ℕ) (row : List ℕ) (ss : List Shape) → i < length E → bodies_at E i ≡ Some (map (expression_of (declared_names E)) ss) → IfSome (name_at E i) (λ n. bodies E n ≡ bodies_at E i) → IsTrue (list_all (is_known (length E)) ss) → PushedAll [] row ss → IsRow E i row
-row_of E i row ss l at same known p =
+pub row_of : (f : Followed) (E : Environment) (i : ℕ) (row : List ℕ) (ss : List Shape) → i < length E → bodies_at E i ≡ Some (map (expression_of (declared_names E)) ss) → IfSome (name_at E i) (λ n. bodies E n ≡ bodies_at E i) → IsTrue (list_all (is_known (length E)) ss) → PushedAll f [] row ss → IsRow f E i row
+row_of f E i row ss l at same known p =
     let here : bodies E (name_of E i) ≡ bodies_at E i = subst (λ o. IfSome o (λ n. bodies E n ≡ bodies_at E i)) (name_within E i l) same in
     let es = map (expression_of (declared_names E)) ss in record {
-      names = names_are E row ∙ p.behind (declared_names E) ∙ all_is es ∙ sym (ap (λ (o : Option (List Expression)). flat_map strong (unwrap_or o [])) (here ∙ at));
+      names = names_are E row ∙ p.behind (declared_names E) ∙ all_is f es ∙ sym (ap (λ (o : Option (List Expression)). flat_map (taken f) (unwrap_or o [])) (here ∙ at));
       within = λ m o. on_all (λ k. k < length E) m row o (p.within (length E) known (All-nil (λ k. k < length E)));
     }
 

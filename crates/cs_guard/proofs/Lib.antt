@@ -1,6 +1,9 @@
 pub mod Chains
 pub mod Heights
 pub mod Numbers
+pub mod Takes
 pub mod Pushes
 pub mod GraphRows
+pub mod Finds
+pub mod Walks
 pub mod Samples

@@ -1,13 +1,12 @@
 -- What the graph of an environment says by numbers, said by names.
-use Rattle.std.proofs.Common.{◌≡◌, ℕ, zero, suc, ◌<◌, ◌≤◌, Bool, true, false, cond, List, [], ◌∷◌, ◌++◌, inl, inr, map, length, Contains, Option, Some, None, slice_get, get_or, refl, sym, ap, ◌∙◌, subst, arith}
+use Rattle.std.proofs.Common.{◌≡◌, ℕ, zero, suc, ◌<◌, ◌≤◌, Bool, true, false, cond, List, [], ◌∷◌, inl, inr, map, length, Contains, Option, Some, None, slice_get, get_or, refl, sym, ap, ◌∙◌, subst, arith}
 use Rattle.std.specs.List.{flat_map, IsDistinct, AllByRecursion}
 use Rattle.std.specs.Option.{unwrap_or}
 use Rattle.std.specs.Str.{bytes_eq}
-use Rattle.std.proofs.lemmas.Map.Keys.{IsDistinct-head, IsDistinct-tail, IsDistinct-cons}
+use Rattle.std.proofs.lemmas.Map.Keys.{IsDistinct-head, IsDistinct-tail}
 use Rattle.std.proofs.lemmas.Option.{slice_get-get_or, same_Some}
 use Rattle.std.proofs.lemmas.Slice.Eq.{bytes_eq-Decides}
 use Rattle.std.proofs.Math.ListN.{length-map}
-use Rattle.std.proofs.lemmas.List.{map-append}
 use Rattle.cs_package.specs.Expression.{Expression}
 use Rattle.cs_package.specs.Environment.{Environment, declared_names, bodies, name_at}
 use Rattle.cs_guard.specs.References.{strong, strong_of, RefersStrongly}
@@ -17,7 +16,8 @@ use Rattle.cs_graph.specs.Chains.{On, Distinct, Chain, NoCycle, IsHeight}
 use Rattle.cs_graph.specs.Graph.{Graph, Refers, IsLowestFirst, IsLowestCycle, AreHeights}
 use Rattle.cs_guard.specs.Limits.{IsGuarded, IsTooDeep, most_references}
 use Rattle.cs_guard.specs.Numbered.{name_of, IsGraphOf}
-use Rattle.cs_graph.proofs.Places.{on_left, on_end}
+use Rattle.cs_graph.proofs.Paths.{none_closed}
+use Rattle.cs_graph.proofs.Named.{StandsFor, on_map, map_on, chain_along, chain_back, height_named, no_cycle_named, closed_named, closed_inside, distinct_named, distinct_by}
 
 -- ---- what stands in a list
 
@@ -26,23 +26,13 @@ on_contains x [] o = absurd o
 on_contains x (y ∷ xs) (inl e) = (0, omega arith, sym e)
 on_contains x (y ∷ xs) (inr o) = let c = on_contains x xs o in (suc c.0, (let l = c.1 in omega arith), c.2)
 
-contains_on : {X : Type 0} (x : X) (xs : List X) → Contains xs x → On x xs
+pub contains_on : {X : Type 0} (x : X) (xs : List X) → Contains xs x → On x xs
 contains_on x xs c = by xs c.0 c.1 c.2
   where
     by : {X : Type 0} {x : X} (xs : List X) (k : ℕ) → k < length xs → get_or xs k x ≡ x → On x xs
     by [] k l e = absurd (omega arith)
     by (y ∷ xs) zero l e = inl (sym e)
     by (y ∷ xs) (suc k) l e = inr (by xs k (omega arith) e)
-
-on_map : {X Y : Type 0} (f : X → Y) (x : X) (xs : List X) → On x xs → On (f x) (map f xs)
-on_map f x [] o = absurd o
-on_map f x (y ∷ xs) (inl e) = inl (ap f e)
-on_map f x (y ∷ xs) (inr o) = inr (on_map f x xs o)
-
-map_on : {X Y : Type 0} (f : X → Y) (y : Y) (xs : List X) → On y (map f xs) → (x : X) × On x xs × (f x ≡ y)
-map_on f y [] o = absurd o
-map_on f y (x ∷ xs) (inl e) = (x, inl refl, sym e)
-map_on f y (x ∷ xs) (inr o) = let r = map_on f y xs o in (r.0, inr r.1, r.2)
 
 -- ---- names and numbers
 
@@ -86,9 +76,16 @@ one_number (x ∷ E) n zero (suc j) d a b = absurd (differs n E j (subst (λ y. 
 one_number (x ∷ E) n (suc i) zero d a b = absurd (differs n E i (subst (λ y. AllByRecursion (λ z. bytes_eq y z ≡ false) (declared_names E)) (same_Some x.0 n b) (IsDistinct-head bytes_eq x.0 (declared_names E) d)) a)
 one_number (x ∷ E) n (suc i) (suc j) d a b = ap suc (one_number E n i j (IsDistinct-tail bytes_eq x.0 (declared_names E) d) a b)
 
-none_distinct : IsDistinct bytes_eq []
-unfolding IsDistinct
-none_distinct = tt
+-- numbers of which none stands twice have names of which none does
+pub distinct_by_name : (E : Environment) → IsDistinct bytes_eq (declared_names E) → (js : List ℕ) → ((j : ℕ) → On j js → j < length E) → Distinct js → IsDistinct bytes_eq (map (name_of E) js)
+distinct_by_name E once js in_E d = distinct_by bytes_eq (λ n m e. (bytes_eq-Decides n m).0 e) (map (name_of E) js) (names js in_E d)
+  where
+    names : (is : List ℕ) → ((i : ℕ) → On i is → i < length E) → Distinct is → Distinct (map (name_of E) is)
+    names [] l d = tt
+    names (i ∷ is) l d = ((λ o. elsewhere (map_on (name_of E) (name_of E i) is o)), names is (λ k o. l k (inr o)) d.1)
+      where
+        elsewhere : (x : ℕ) × On x is × (name_of E x ≡ name_of E i) → ⊥
+        elsewhere r = d.0 (subst (λ k. On k is) (one_number E (name_of E i) r.0 i once (name_within E r.0 (l r.0 (inr r.1)) ∙ ap Some r.2) (name_within E i (l i (inl refl)))) r.1)
 
 -- ---- chains
 
@@ -109,62 +106,40 @@ module _ (E : Environment) (G : Graph) (is : IsGraphOf E G) where
       let r : Refers G i o.0 = record { row = row; found = found; on = o.1 } in
       (o.0, r, name_within E o.0 (inside i o.0 r) ∙ ap Some o.2)
 
-  pub chain_along : (i : ℕ) (js : List ℕ) → Chain (Refers G) i js → Chain (RefersStrongly E) (name_of E i) (map (name_of E) js)
-  chain_along i [] c = tt
-  chain_along i (j ∷ js) c = (along i j c.0, chain_along j js c.1)
-
-  chain_back : (i : ℕ) (n : List ℕ) (ms : List (List ℕ)) → name_at E i ≡ Some n → Chain (RefersStrongly E) n ms → (js : List ℕ) × Chain (Refers G) i js × (length js ≡ length ms)
-  chain_back i n [] at c = ([], tt, refl)
-  chain_back i n (m ∷ ms) at c =
-      let r = back i n m at c.0 in
-      let next = chain_back r.0 m ms r.2 c.1 in
-      (r.0 ∷ next.0, (r.1, next.1), ap suc next.2)
-
-  -- a chain up to a name, as one up to a number of that name
-  pub upto_back : (i : ℕ) (n m : List ℕ) (ms : List (List ℕ)) → name_at E i ≡ Some n → Chain (RefersStrongly E) n (ms ++ m ∷ []) → (js : List ℕ) × (j : ℕ) × Chain (Refers G) i (js ++ j ∷ []) × (name_at E j ≡ Some m)
-  upto_back i n m [] at c = let r = back i n m at c.0 in ([], r.0, (r.1, tt), r.2)
-  upto_back i n m (o ∷ ms) at c =
-      let r = back i n o at c.0 in
-      let next = upto_back r.0 o m ms r.2 c.1 in
-      (r.0 ∷ next.0, next.1, (r.1, next.2), next.3)
-
-  pub height_by_name : (i : ℕ) (n : List ℕ) (h : ℕ) → name_at E i ≡ Some n → IsHeight (Refers G) i h → IsHeight (RefersStrongly E) n h
-  height_by_name i n h at high = record {
-    steps = map (name_of E) high.steps;
-    chain = subst (λ o. Chain (RefersStrongly E) (unwrap_or o []) (map (name_of E) high.steps)) at (chain_along i high.steps high.chain);
-    long = length-map high.steps (name_of E) ∙ high.long;
-    longest = λ ns c. let b = chain_back i n ns at c in let top = high.longest b.0 b.1 in omega (arith, b.2);
+module _ (E : Environment) (G : Graph) (is : IsGraphOf E G) (once : IsDistinct bytes_eq (declared_names E)) where
+  pub stands_for : StandsFor (RefersStrongly E) G (name_of E)
+  stands_for = record {
+    within = is.within;
+    along = along E G is;
+    back = λ i m l c. let r = back E G is i (name_of E i) m (name_within E i (omega (arith, l, is.long))) c in (r.0, r.1, ap (λ o. unwrap_or o []) r.2);
+    begins = λ n m c. let at = referring E n m c in (at.0, (let l = named_within E at.0 n at.1 in omega (arith, l, is.long)), ap (λ o. unwrap_or o []) at.1);
+    once = λ i j a b e. one_number E (name_of E i) i j once (name_within E i (omega (arith, a, is.long))) (name_within E j (omega (arith, b, is.long)) ∙ ap Some (sym e));
   }
 
-  pub short_by_name : ((i : ℕ) (js : List ℕ) → Chain (Refers G) i js → length js ≤ most_references) → (n : List ℕ) (ns : List (List ℕ)) → Chain (RefersStrongly E) n ns → length ns ≤ most_references
+  height_by_name : (i : ℕ) (n : List ℕ) (h : ℕ) → name_at E i ≡ Some n → IsHeight (Refers G) i h → IsHeight (RefersStrongly E) n h
+  height_by_name i n h at high =
+      subst (λ o. IsHeight (RefersStrongly E) (unwrap_or o []) h) at (height_named (RefersStrongly E) G (name_of E) stands_for i h (let l = named_within E i n at in omega (arith, l, is.long)) high)
+
+  short_by_name : ((i : ℕ) (js : List ℕ) → Chain (Refers G) i js → length js ≤ most_references) → (n : List ℕ) (ns : List (List ℕ)) → Chain (RefersStrongly E) n ns → length ns ≤ most_references
   short_by_name short n [] c = omega arith
   short_by_name short n (m ∷ ms) c =
-      let at = referring E n m c.0 in
-      let b = chain_back at.0 n (m ∷ ms) at.1 c in
+      let at = stands_for.begins n m c.0 in
+      let b = chain_back (RefersStrongly E) G (name_of E) stands_for at.0 (m ∷ ms) at.1 (subst (λ x. Chain (RefersStrongly E) x (m ∷ ms)) (sym at.2) c) in
       let s = short at.0 b.0 b.1 in
-      let long = b.2 in omega arith
+      let long = b.2 in omega (arith, s, long)
 
--- what begins a chain has a number
-beginning : (E : Environment) (n m : List ℕ) (ns : List (List ℕ)) → Chain (RefersStrongly E) n (ns ++ m ∷ []) → (i : ℕ) × (name_at E i ≡ Some n)
-beginning E n m [] c = referring E n m c.0
-beginning E n m (o ∷ ns) c = referring E n o c.0
-
-module _ (E : Environment) (G : Graph) (is : IsGraphOf E G) (once : IsDistinct bytes_eq (declared_names E)) where
   no_cycle_by_name : NoCycle (Refers G) → NoCycle (RefersStrongly E)
-  no_cycle_by_name none n ns c =
-      let at = beginning E n n ns c in
-      let b = upto_back E G is at.0 n n ns at.1 c in
-      none at.0 b.0 (subst (λ k. Chain (Refers G) at.0 (b.0 ++ k ∷ [])) (one_number E n b.1 at.0 once b.3 at.1) b.2)
+  no_cycle_by_name none = no_cycle_named (RefersStrongly E) G (name_of E) stands_for none
 
   guarded_by_name : IsGuarded (Refers G) → IsGuarded (RefersStrongly E)
-  guarded_by_name g = record { no_cycle = no_cycle_by_name g.no_cycle; short = short_by_name E G is g.short }
+  guarded_by_name g = record { no_cycle = no_cycle_by_name g.no_cycle; short = short_by_name g.short }
 
   -- heights by numbers are the ranks of the definitions
   pub ranks_by_name : (hs : List ℕ) → AreHeights G hs → IsGuarded (Refers G) → AreRanks E hs
   ranks_by_name hs h g = record {
     guarded = guarded_by_name g;
     long = h.long ∙ is.long;
-    heights = λ i n at. height_by_name E G is i n (get_or hs i 0) at (h.each i (let l = named_within E i n at in omega (arith, is.long)));
+    heights = λ i n at. height_by_name i n (get_or hs i 0) at (h.each i (let l = named_within E i n at in omega (arith, is.long)));
   }
 
   pub too_deep_by_name : IsTooDeep (Refers G) → IsTooDeep (RefersStrongly E)
@@ -173,30 +148,12 @@ module _ (E : Environment) (G : Graph) (is : IsGraphOf E G) (once : IsDistinct b
     record {
       start = name_of E d.1.start;
       steps = map (name_of E) d.1.steps;
-      chain = chain_along E G is d.1.start d.1.steps d.1.chain;
+      chain = chain_along (RefersStrongly E) G (name_of E) stands_for d.1.start d.1.steps d.1.chain;
       long = let l = d.1.long in omega (arith, length-map d.1.steps (name_of E));
     },
   )
 
   -- ---- a cycle
-
-  all_inside : (i : ℕ) (js : List ℕ) → Chain (Refers G) i js → (j : ℕ) → On j js → j < length E
-  all_inside i [] c j o = absurd o
-  all_inside i (k ∷ js) c j (inl e) = subst (λ m. m < length E) (sym e) (inside E G is i k c.0)
-  all_inside i (k ∷ js) c j (inr o) = all_inside k js c.1 j o
-
-  apart_by_name : (i : ℕ) (js : List ℕ) → i < length E → ((j : ℕ) → On j js → j < length E) → (On i js → ⊥) → AllByRecursion (λ y. bytes_eq (name_of E i) y ≡ false) (map (name_of E) js)
-  apart_by_name i [] l in_E h = tt
-  apart_by_name i (j ∷ js) l in_E h = (by (bytes_eq (name_of E i) (name_of E j)) refl, apart_by_name i js l (λ k o. in_E k (inr o)) (λ o. h (inr o)))
-    where
-      by : (b : Bool) → bytes_eq (name_of E i) (name_of E j) ≡ b → b ≡ false
-      by false q = refl
-      by true q = absurd (h (inl (one_number E (name_of E j) i j once (name_within E i l ∙ ap Some ((bytes_eq-Decides (name_of E i) (name_of E j)).0 q)) (name_within E j (in_E j (inl refl))))))
-
-  distinct_by_name : (js : List ℕ) → ((j : ℕ) → On j js → j < length E) → Distinct js → IsDistinct bytes_eq (map (name_of E) js)
-  distinct_by_name [] in_E d = none_distinct
-  distinct_by_name (j ∷ js) in_E d =
-      IsDistinct-cons bytes_eq (name_of E j) (map (name_of E) js) (apart_by_name j js (in_E j (inl refl)) (λ k o. in_E k (inr o)) d.0) (distinct_by_name js (λ k o. in_E k (inr o)) d.1)
 
   earliest_by_name : (i : ℕ) (js : List ℕ) → i < length E → ((j : ℕ) → On j js → j < length E) → IsLowestFirst (i ∷ js) → refused.IsEarliestFirst E (map (name_of E) (i ∷ js))
   earliest_by_name i js l in_E low = λ a b m c at bt.
@@ -208,25 +165,22 @@ module _ (E : Environment) (G : Graph) (is : IsGraphOf E G) (once : IsDistinct b
 
   -- the numbers of a cycle are those of definitions
   pub cycle_inside : (js : List ℕ) → IsLowestCycle G js → (j : ℕ) → On j js → j < length E
-  cycle_inside [] c = absurd c.cycle.0
-  cycle_inside (i ∷ js) c = λ j o.
-      let all = all_inside i (js ++ i ∷ []) c.cycle.0 in
-      elim o as (λ _. j < length E) [ inl e ↦ subst (λ m. m < length E) (sym e) (all i (on_end i js)) | inr o' ↦ all j (on_left j js (i ∷ []) o') ]
+  cycle_inside js c j o = let l = closed_inside (RefersStrongly E) G (name_of E) stands_for js c.cycle.0 j o in omega (arith, l, is.long)
 
   pub cycle_by_name : (js : List ℕ) → IsLowestCycle G js → refused.IsCycle E (map (name_of E) js)
   cycle_by_name [] c = absurd c.cycle.0
   cycle_by_name (i ∷ js) c =
-      let in_E = cycle_inside (i ∷ js) c in record {
-        closed = subst (Chain (RefersStrongly E) (name_of E i)) (map-append (name_of E) js (i ∷ [])) (chain_along E G is i (js ++ i ∷ []) c.cycle.0);
-        distinct = distinct_by_name (i ∷ js) in_E c.cycle.1;
+      let in_E = cycle_inside (i ∷ js) c in
+      let in_G = closed_inside (RefersStrongly E) G (name_of E) stands_for (i ∷ js) c.cycle.0 in record {
+        closed = closed_named (RefersStrongly E) G (name_of E) stands_for (i ∷ js) c.cycle.0;
+        distinct = distinct_by bytes_eq (λ n m e. (bytes_eq-Decides n m).0 e) (map (name_of E) (i ∷ js)) (distinct_named (RefersStrongly E) G (name_of E) stands_for (i ∷ js) in_G c.cycle.1);
         earliest = earliest_by_name i js (in_E i (inl refl)) (λ j o. in_E j (inr o)) c.lowest;
       }
 
 -- ---- what is guarded isn't refused
 
 pub guarded_no_cycle : (E : Environment) (ns : List (List ℕ)) → IsGuarded (RefersStrongly E) → refused.IsCycle E ns → ⊥
-guarded_no_cycle E [] g c = c.closed
-guarded_no_cycle E (n ∷ ns) g c = g.no_cycle n ns c.closed
+guarded_no_cycle E ns g c = none_closed (RefersStrongly E) g.no_cycle ns c.closed
 
 pub guarded_not_deep : (E : Environment) → IsGuarded (RefersStrongly E) → IsTooDeep (RefersStrongly E) → ⊥
 guarded_not_deep E g d = let c = d.1 in let most = g.short c.start c.steps c.chain in let long = c.long in omega arith

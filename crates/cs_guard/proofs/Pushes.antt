@@ -6,13 +6,14 @@ use Rattle.std.proofs.lemmas.List.{map-append, append-nil}
 use Rattle.std.proofs.lemmas.List.Folds.{list_all_more}
 use Rattle.std.proofs.lemmas.Bool.{and_parts}
 use Rattle.cs_package.specs.Expression.{Expression, Declaration}
-use Rattle.cs_package.specs.View.{expression_of, part_of, expressions_of, declarations_of, is_known, is_known_end, is_known_part}
+use Rattle.cs_package.specs.View.{expression_of, part_of, rest_of, expressions_of, declarations_of, is_known, is_known_end, is_known_part}
 use Rattle.cs_package.proofs.Views.{of-And, of-Or, of-Struct, of-List, known-And, known-Or, known-Struct, known-List}
 use Rattle.cs_package.specs.declared.shape.Shape as Shapes
 use Rattle.cs_package.specs.declared.shape.Shape.{Shape}
 use Rattle.cs_package.specs.declared.shape.ShapeEnd.{ShapeEnd}
 use Rattle.cs_package.specs.declared.shape.Part.{Part}
-use Rattle.cs_guard.specs.References.{strong, strong_all, strong_fields, unless_optional}
+use Rattle.cs_guard.specs.Taken.{of_field, taken, taken_all, taken_fields, taken_rest}
+use Rattle.cs_guard.specs.declared.references.Followed.{Followed}
 use Rattle.cs_guard.specs.Pushed.{Pushed, named}
 
 -- ---- what was pushed
@@ -45,40 +46,54 @@ module _ {X : Type 0} (names : List (List ℕ) → List X → List (List ℕ)) (
       (λ n e. ap (λ y. list_all (known n) (take i xs) && known n y) is ∙ sym (list_all_more (known n) xs i x l) ∙ e)
       (pushed_more a b c (λ ns. names ns (take i xs)) (λ ns. here ns x) (λ n. list_all (known n) (take i xs)) (λ n. known n x) p q)
 
-all_join : (es : List Expression) (e : Expression) → strong_all (expressions_of (es ++ e ∷ [])) ≡ strong_all (expressions_of es) ++ strong e
-all_join [] e = append-nil (strong e)
-all_join (d ∷ es) e = ap (λ ns. strong d ++ ns) (all_join es e) ∙ sym (append_assoc (strong d) (strong_all (expressions_of es)) (strong e))
+-- ---- what a walk takes, where it follows these references
 
-pub strong_join : {X : Type 0} (f : X → Expression) (xs : List X) (x : X) → strong_all (expressions_of (map f (xs ++ x ∷ []))) ≡ strong_all (expressions_of (map f xs)) ++ strong (f x)
-strong_join f xs x = ap (λ es. strong_all (expressions_of es)) (map-append f xs (x ∷ [])) ∙ all_join (map f xs) (f x)
+module _ (f : Followed) where
+  all_join : (es : List Expression) (e : Expression) → taken_all f (expressions_of (es ++ e ∷ [])) ≡ taken_all f (expressions_of es) ++ taken f e
+  all_join [] e = append-nil (taken f e)
+  all_join (d ∷ es) e = ap (λ ns. taken f d ++ ns) (all_join es e) ∙ sym (append_assoc (taken f d) (taken_all f (expressions_of es)) (taken f e))
 
-under_join : (ds : List (Declaration Expression)) (d : Declaration Expression) → strong_fields (declarations_of (ds ++ d ∷ [])) ≡ strong_fields (declarations_of ds) ++ unless_optional d.mark (strong d.value)
-under_join [] d = append-nil (unless_optional d.mark (strong d.value))
-under_join (c ∷ ds) d = ap (λ ns. unless_optional c.mark (strong c.value) ++ ns) (under_join ds d) ∙ sym (append_assoc (unless_optional c.mark (strong c.value)) (strong_fields (declarations_of ds)) (unless_optional d.mark (strong d.value)))
+  pub shapes_join : {X : Type 0} (v : X → Expression) (xs : List X) (x : X) → taken_all f (expressions_of (map v (xs ++ x ∷ []))) ≡ taken_all f (expressions_of (map v xs)) ++ taken f (v x)
+  shapes_join v xs x = ap (λ es. taken_all f (expressions_of es)) (map-append v xs (x ∷ [])) ∙ all_join (map v xs) (v x)
 
-pub parts_join : {X : Type 0} (f : X → Declaration Expression) (xs : List X) (x : X) → strong_fields (declarations_of (map f (xs ++ x ∷ []))) ≡ strong_fields (declarations_of (map f xs)) ++ unless_optional (f x).mark (strong (f x).value)
-parts_join f xs x = ap (λ ds. strong_fields (declarations_of ds)) (map-append f xs (x ∷ [])) ∙ under_join (map f xs) (f x)
+  abbrev here : Declaration Expression → List (List ℕ)
+  here d = of_field d.mark f (taken f d.value)
 
--- ---- each form of shape
+  under_join : (ds : List (Declaration Expression)) (d : Declaration Expression) → taken_fields f (declarations_of (ds ++ d ∷ [])) ≡ taken_fields f (declarations_of ds) ++ here d
+  under_join [] d = append-nil (here d)
+  under_join (c ∷ ds) d = ap (λ ns. here c ++ ns) (under_join ds d) ∙ sym (append_assoc (here c) (taken_fields f (declarations_of ds)) (here d))
 
--- the numbers of operands, as those of the shape that has them
-abbrev pub PushedAll : List ℕ → List ℕ → List Shape → Type 0
-PushedAll a b xs = Pushed a b (λ ns. strong_all (expressions_of (map (expression_of ns) xs))) (λ n. list_all (is_known n) xs)
+  pub parts_join : {X : Type 0} (v : X → Declaration Expression) (xs : List X) (x : X) → taken_fields f (declarations_of (map v (xs ++ x ∷ []))) ≡ taken_fields f (declarations_of (map v xs)) ++ here (v x)
+  parts_join v xs x = ap (λ ds. taken_fields f (declarations_of ds)) (map-append v xs (x ∷ [])) ∙ under_join (map v xs) (v x)
 
-abbrev pub PushedOf : List ℕ → List ℕ → Shape → Type 0
-PushedOf a b s = Pushed a b (λ ns. strong (expression_of ns s)) (λ n. is_known n s)
+  -- ---- each form of shape
 
-pushed_operands : (a b : List ℕ) (xs : List Shape) (s : Shape) → ((ns : List (List ℕ)) → strong (expression_of ns s) ≡ strong_all (expressions_of (map (expression_of ns) xs))) → ((n : ℕ) → is_known n s ≡ true → list_all (is_known n) xs ≡ true) → PushedAll a b xs → PushedOf a b s
-pushed_operands a b xs s same known p = pushed_as a b _ _ _ _ (λ ns. sym (same ns)) known p
+  -- the numbers of operands, as those of the shape that has them
+  abbrev pub PushedAll : List ℕ → List ℕ → List Shape → Type 0
+  PushedAll a b xs = Pushed a b (λ ns. taken_all f (expressions_of (map (expression_of ns) xs))) (λ n. list_all (is_known n) xs)
 
-pub pushed_And : (a b : List ℕ) (s : Shape) (v : Vec Shape Global) → s ≡ Shapes.And v → PushedAll a b v.items → PushedOf a b s
-pushed_And a b s v is p = pushed_operands a b v.items s (λ ns. ap strong (ap (expression_of ns) is ∙ of-And ns v)) (λ n e. sym (ap (is_known n) is ∙ known-And n v) ∙ e) p
+  abbrev pub PushedParts : List ℕ → List ℕ → List Part → Type 0
+  PushedParts a b xs = Pushed a b (λ ns. taken_fields f (declarations_of (map (part_of ns) xs))) (λ n. list_all (is_known_part n) xs)
 
-pub pushed_Or : (a b : List ℕ) (s : Shape) (v : Vec Shape Global) → s ≡ Shapes.Or v → PushedAll a b v.items → PushedOf a b s
-pushed_Or a b s v is p = pushed_operands a b v.items s (λ ns. ap strong (ap (expression_of ns) is ∙ of-Or ns v)) (λ n e. sym (ap (is_known n) is ∙ known-Or n v) ∙ e) p
+  abbrev pub PushedEnd : List ℕ → List ℕ → ShapeEnd → Type 0
+  PushedEnd a b end = Pushed a b (λ ns. taken_rest f (rest_of ns end)) (λ n. is_known_end n end)
 
-pub pushed_List : (a b : List ℕ) (s : Shape) (v : Vec Shape Global) (end : ShapeEnd) → s ≡ Shapes.List v end → PushedAll a b v.items → PushedOf a b s
-pushed_List a b s v end is p = pushed_operands a b v.items s (λ ns. ap strong (ap (expression_of ns) is ∙ of-List ns v end)) (λ n e. (and_parts (list_all (is_known n) v.items) (is_known_end n end) (sym (ap (is_known n) is ∙ known-List n v end) ∙ e)).0) p
+  abbrev pub PushedOf : List ℕ → List ℕ → Shape → Type 0
+  PushedOf a b s = Pushed a b (λ ns. taken f (expression_of ns s)) (λ n. is_known n s)
 
-pub pushed_Struct : (a b : List ℕ) (s : Shape) (v : Vec Part Global) (opened : Bool) → s ≡ Shapes.Struct v opened → Pushed a b (λ ns. strong_fields (declarations_of (map (part_of ns) v.items))) (λ n. list_all (is_known_part n) v.items) → PushedOf a b s
-pushed_Struct a b s v opened is p = pushed_as a b _ _ _ _ (λ ns. sym (ap strong (ap (expression_of ns) is ∙ of-Struct ns v opened))) (λ n e. sym (ap (is_known n) is ∙ known-Struct n v opened) ∙ e) p
+  pushed_operands : (a b : List ℕ) (xs : List Shape) (s : Shape) → ((ns : List (List ℕ)) → taken f (expression_of ns s) ≡ taken_all f (expressions_of (map (expression_of ns) xs))) → ((n : ℕ) → is_known n s ≡ true → list_all (is_known n) xs ≡ true) → PushedAll a b xs → PushedOf a b s
+  pushed_operands a b xs s same known p = pushed_as a b _ _ _ _ (λ ns. sym (same ns)) known p
+
+  pub pushed_And : (a b : List ℕ) (s : Shape) (v : Vec Shape Global) → s ≡ Shapes.And v → PushedAll a b v.items → PushedOf a b s
+  pushed_And a b s v is p = pushed_operands a b v.items s (λ ns. ap (taken f) (ap (expression_of ns) is ∙ of-And ns v)) (λ n e. sym (ap (is_known n) is ∙ known-And n v) ∙ e) p
+
+  pub pushed_Or : (a b : List ℕ) (s : Shape) (v : Vec Shape Global) → s ≡ Shapes.Or v → PushedAll a b v.items → PushedOf a b s
+  pushed_Or a b s v is p = pushed_operands a b v.items s (λ ns. ap (taken f) (ap (expression_of ns) is ∙ of-Or ns v)) (λ n e. sym (ap (is_known n) is ∙ known-Or n v) ∙ e) p
+
+  pub pushed_List : (a b c : List ℕ) (s : Shape) (v : Vec Shape Global) (end : ShapeEnd) → s ≡ Shapes.List v end → PushedAll a b v.items → PushedEnd b c end → PushedOf a c s
+  pushed_List a b c s v end is p q =
+      pushed_as a c _ _ _ _ (λ ns. sym (ap (taken f) (ap (expression_of ns) is ∙ of-List ns v end))) (λ n e. sym (ap (is_known n) is ∙ known-List n v end) ∙ e)
+      (pushed_more a b c (λ ns. taken_all f (expressions_of (map (expression_of ns) v.items))) (λ ns. taken_rest f (rest_of ns end)) (λ n. list_all (is_known n) v.items) (λ n. is_known_end n end) p q)
+
+  pub pushed_Struct : (a b : List ℕ) (s : Shape) (v : Vec Part Global) (opened : Bool) → s ≡ Shapes.Struct v opened → PushedParts a b v.items → PushedOf a b s
+  pushed_Struct a b s v opened is p = pushed_as a b _ _ _ _ (λ ns. sym (ap (taken f) (ap (expression_of ns) is ∙ of-Struct ns v opened))) (λ n e. sym (ap (is_known n) is ∙ known-Struct n v opened) ∙ e) p

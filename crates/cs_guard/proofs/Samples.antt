@@ -1,5 +1,5 @@
 -- Definitions, each with the names that it refers to strongly, in order. A wrong expectation stops the check here.
-use Rattle.std.proofs.Common.{◌≡◌, ℕ, zero, suc, ◌+◌, ◌≤◌, ◌<◌, pos, true, false, List, [], ◌∷◌, ◌++◌, length, map, codes, cond, Some, None, Contains, get_or, refl, ap, arith, String, Vec, Global, string_bytes, sym, ◌∙◌, subst}
+use Rattle.std.proofs.Common.{◌≡◌, ℕ, zero, suc, ◌+◌, ◌≤◌, ◌<◌, pos, true, false, List, [], ◌∷◌, ◌++◌, length, map, codes, cond, Some, None, Contains, get_or, inl, inr, refl, ap, arith, String, Vec, Global, string_bytes, sym, ◌∙◌, subst}
 use Rattle.std.specs.List.{flat_map, IsDistinct}
 use Rattle.std.specs.Option.{unwrap_or}
 use Rattle.std.specs.Str.{bytes_eq}
@@ -9,13 +9,16 @@ use Rattle.cs_package.specs.View.{expressions_of}
 use Rattle.cs_package.specs.Environment.{Environment, name_at, written}
 use Rattle.cs_guard.specs.References.{direct, strong, strong_of, RefersStrongly}
 use Rattle.cs_graph.specs.Chains as general
-use Rattle.cs_graph.specs.Chains.{Chain, NoCycle}
+use Rattle.cs_graph.specs.Chains.{On, Chain, NoCycle}
 use Rattle.cs_guard.specs.Limits as limits
 use Rattle.cs_guard.specs.Limits.{IsTooDeep, most_references}
 use Rattle.cs_guard.specs.Guarded.{IsGuarded, IsHeight}
 use Rattle.cs_guard.specs.Cycles.{IsCycle, IsRefusal}
 use Rattle.cs_guard.specs.declared.fault.GuardFault.TheVariants.{Cycle, ChainTooLong}
+use Rattle.cs_guard.specs.Reachable.{referred, referred_of, RefersTo, Reaches, AreReachable}
 use Rattle.cs_guard.proofs.Chains.{alone-guarded}
+use Rattle.cs_guard.proofs.Numbers.{on_contains, contains_on}
+use Rattle.cs_guard.proofs.Walks.{reaches_within}
 
 -- ---- short forms
 
@@ -264,3 +267,88 @@ not_zero h = let l = h.longest (B ∷ []) (first_of B [], tt) in omega (arith, l
 
 not_two : IsHeight one_step A 2 → ⊥
 not_two h = let l = height_is_one.longest h.steps h.chain in omega (arith, l, h.long)
+
+-- ---- all references
+
+referred_names : map referred forms ≡ (A ∷ []) ∷ (A ∷ B ∷ []) ∷ (A ∷ B ∷ []) ∷ (A ∷ T ∷ B ∷ []) ∷ (A ∷ []) ∷ (A ∷ B ∷ []) ∷ (A ∷ B ∷ []) ∷ (A ∷ B ∷ T ∷ []) ∷ (A ∷ []) ∷ (A ∷ B ∷ []) ∷ (A ∷ B ∷ []) ∷ []
+referred_names = refl
+
+without_references : map referred atoms ≡ [] ∷ [] ∷ [] ∷ [] ∷ [] ∷ [] ∷ [] ∷ [] ∷ [] ∷ [] ∷ [] ∷ [] ∷ []
+without_references = refl
+
+undeclared_refers_to_none : referred_of ((T, cue.reference A ∷ []) ∷ []) A ≡ []
+undeclared_refers_to_none = refl
+
+-- ---- what is reachable
+
+-- #T: {kids?: [...#T]} and #T: {a?: #A}, #A: int, and #B: #A
+abbrev several : Environment
+several =
+    (T, literal (optional (codes "kids") (cue.list cue.no_expressions (cue.each (cue.reference T))) no_declarations) ∷ literal (optional (codes "a") (cue.reference A) no_declarations) ∷ [])
+    ∷ (A, int ∷ []) ∷ (B, cue.reference A ∷ []) ∷ []
+
+both_bodies : referred_of several T ≡ T ∷ A ∷ []
+both_bodies = refl
+
+abbrev t_and_a : List (List ℕ)
+t_and_a = T ∷ A ∷ []
+
+stays : (n m : List ℕ) → On n t_and_a → RefersTo several n m → On m t_and_a
+stays n m (inl e) r = contains_on m t_and_a (subst (λ k. RefersTo several k m) e r)
+stays n m (inr (inl e)) r = absurd (contains_on m [] (subst (λ k. RefersTo several k m) e r))
+stays n m (inr (inr o)) r = absurd o
+
+reached_from_t : (m : List ℕ) → Reaches several T m → On m t_and_a
+reached_from_t m r = subst (λ k. On k t_and_a) r.last (reaches_within several (λ k. On k t_and_a) stays T r.steps (inl refl) r.chain)
+
+from_t : AreReachable several T t_and_a
+unfolding IsDistinct
+from_t = record { each = λ m. ((λ c. to m (contains_on m t_and_a c)), λ r. on_contains m t_and_a (reached_from_t m r)); distinct = ((refl, tt), (tt, tt)); first = refl }
+  where
+    to : (m : List ℕ) → On m t_and_a → Reaches several T m
+    to m (inl e) = record { steps = []; chain = tt; last = sym e }
+    to m (inr (inl e)) = record { steps = A ∷ []; chain = ((1, omega arith, refl), tt); last = sym e }
+    to m (inr (inr o)) = absurd o
+
+-- #A reaches itself alone
+from_a : AreReachable several A (A ∷ [])
+unfolding IsDistinct
+from_a = record { each = λ m. ((λ c. to m (contains_on m (A ∷ []) c)), λ r. on_contains m (A ∷ []) (alone m r)); distinct = (tt, tt); first = refl }
+  where
+    to : (m : List ℕ) → On m (A ∷ []) → Reaches several A m
+    to m (inl e) = record { steps = []; chain = tt; last = sym e }
+    to m (inr o) = absurd o
+
+    none : (n m : List ℕ) → On n (A ∷ []) → RefersTo several n m → On m (A ∷ [])
+    none n m (inl e) r = absurd (contains_on m [] (subst (λ k. RefersTo several k m) e r))
+    none n m (inr o) r = absurd o
+
+    alone : (m : List ℕ) → Reaches several A m → On m (A ∷ [])
+    alone m r = subst (λ k. On k (A ∷ [])) r.last (reaches_within several (λ k. On k (A ∷ [])) none A r.steps (inl refl) r.chain)
+
+-- by one reference
+b_reaches_a : Reaches several B A
+b_reaches_a = record { steps = A ∷ []; chain = (first_of A [], tt); last = refl }
+
+-- #B refers to #A and isn't reached from #T
+b_among_them : AreReachable several T (T ∷ A ∷ B ∷ []) → ⊥
+b_among_them h = not_b (reached_from_t B ((h.each B).0 (2, omega arith, refl)))
+  where
+    not_b : On B t_and_a → ⊥
+    not_b (inl e) = omega (arith, ap first_byte e)
+    not_b (inr (inl e)) = omega (arith, ap first_byte e)
+    not_b (inr (inr o)) = o
+
+t_alone : AreReachable several T (T ∷ []) → ⊥
+t_alone h = not_a (contains_on A (T ∷ []) ((h.each A).1 ((from_t.each A).0 (1, omega arith, refl))))
+  where
+    not_a : On A (T ∷ []) → ⊥
+    not_a (inl e) = omega (arith, ap first_byte e)
+    not_a (inr o) = o
+
+a_twice : AreReachable several A (A ∷ A ∷ []) → ⊥
+unfolding IsDistinct
+a_twice h = let e = h.distinct.0.0 in cc
+
+t_last : AreReachable several T (A ∷ T ∷ []) → ⊥
+t_last h = omega (arith, ap (λ o. first_byte (unwrap_or o [])) h.first)

@@ -2,7 +2,10 @@ pub mod References
 pub mod Limits
 pub mod Guarded
 pub mod Cycles
+pub mod Numbered
+pub mod Reachable
 -- for contracts of private functions and proofs alone
 pub mod Ranks
-pub mod Numbered
 pub mod Pushed
+pub mod Taken
+pub mod Found

@@ -9,7 +9,7 @@ use Rattle.cs_guard.specs.References.{strong_of}
 abbrev pub name_of : Environment → ℕ → List ℕ
 name_of E i = unwrap_or (name_at E i) []
 
--- for each definition, the numbers of those that its bodies refer to strongly
+-- for each definition, the numbers of those that its bodies refer to strongly; for private contracts alone
 pub record IsGraphOf (E : Environment) (G : Graph) : Type 0 where
   pub long : length G ≡ length E
   pub within : Within G

@@ -1,76 +1,114 @@
-// The graph of a package: for each definition, the numbers of those that its bodies refer to strongly.
+// The graph of a package: for each definition, the numbers of those that its bodies refer to strongly. The walk over
+// their shapes also takes every reference, for what is reachable.
 
 ghost use Rattle.std.specs.Prelude.{OnOk, IfOk, map, []};
 ghost use Rattle.std.specs.List.{list_all, IsDistinct};
 ghost use Rattle.std.specs.Str.{bytes_eq};
 ghost use Rattle.cs_package.specs.Environment.{declared_names};
-ghost use Rattle.cs_package.specs.View.{expression_of, part_of, expressions_of, declarations_of, is_known, is_known_part};
-ghost use Rattle.cs_guard.specs.References.{strong, strong_all, strong_fields, unless_optional};
+ghost use Rattle.cs_package.specs.View.{expression_of, part_of, rest_of, expressions_of, declarations_of, is_known, is_known_part, is_known_end};
+ghost use Rattle.cs_guard.specs.Taken.{of_field, taken, taken_all, taken_fields, taken_rest};
 ghost use Rattle.cs_graph.specs.Graph.{graph_of};
 ghost use Rattle.cs_guard.specs.Numbered.{IsGraphOf};
 ghost use Rattle.cs_guard.specs.Pushed.{Pushed};
 
-use cs_package::{FieldMark, Package, Part, Shape};
+use cs_package::{FieldMark, Package, Part, Shape, ShapeEnd};
 use std::alloc::{AllocError, Global};
 
-/// Pushes the numbers that a shape refers to strongly: through `&`, `|`, regular and required fields and fixed list
-/// elements. A number that is referred to again is pushed again.
+/// Which references a walk takes.
+#[derive(Clone, Copy)]
+pub(crate) enum Followed {
+    /// Those through `&`, `|`, regular and required fields and fixed list elements.
+    Strong,
+    /// Those at any depth.
+    Every,
+}
+
+/// Pushes the numbers that a shape refers to. A number that is referred to again is pushed again.
 #[cycle(references)]
-fn push_strong(shape: &Shape, numbers: &mut Vec<usize>) -> Result<(), AllocError>
+fn push_shape(followed: Followed, shape: &Shape, numbers: &mut Vec<usize>) -> Result<(), AllocError>
     ensures { OnOk result (Pushed numbers.old.items numbers.new.items
-        (λ ns. strong (expression_of ns shape.now)) (λ count. is_known count shape.now)) }
+        (λ ns. taken followed (expression_of ns shape.now)) (λ count. is_known count shape.now)) }
 {
     match shape {
         Shape::Definition(number) => Ok(numbers.push(*number)?),
-        Shape::And(operands) | Shape::Or(operands) => push_all(operands, numbers),
-        Shape::Struct { parts, .. } => push_parts(parts, numbers),
-        Shape::List { front, .. } => push_all(front, numbers),
+        Shape::And(operands) | Shape::Or(operands) => push_all(followed, operands, numbers),
+        Shape::Struct { parts, .. } => push_parts(followed, parts, numbers),
+        Shape::List { front, end } => {
+            push_all(followed, front, numbers)?;
+            push_end(followed, end, numbers)
+        }
         // The others have no parts.
         _ => Ok(()),
     }
 }
 
 #[cycle(references)]
-fn push_all(shapes: &[Shape], numbers: &mut Vec<usize>) -> Result<(), AllocError>
+fn push_all(
+    followed: Followed,
+    shapes: &[Shape],
+    numbers: &mut Vec<usize>,
+) -> Result<(), AllocError>
     ensures { OnOk result (Pushed numbers.old.items numbers.new.items
-        (λ ns. strong_all (expressions_of (map (expression_of ns) shapes.now))) (λ count. list_all (is_known count) shapes.now)) }
+        (λ ns. taken_all followed (expressions_of (map (expression_of ns) shapes.now))) (λ count. list_all (is_known count) shapes.now)) }
 {
     for shape in shapes {
-        push_strong(shape, numbers)?;
+        push_shape(followed, shape, numbers)?;
     }
     Ok(())
 }
 
 #[cycle(references)]
-fn push_parts(parts: &[Part], numbers: &mut Vec<usize>) -> Result<(), AllocError>
+fn push_parts(
+    followed: Followed,
+    parts: &[Part],
+    numbers: &mut Vec<usize>,
+) -> Result<(), AllocError>
     ensures { OnOk result (Pushed numbers.old.items numbers.new.items
-        (λ ns. strong_fields (declarations_of (map (part_of ns) parts.now))) (λ count. list_all (is_known_part count) parts.now)) }
+        (λ ns. taken_fields followed (declarations_of (map (part_of ns) parts.now))) (λ count. list_all (is_known_part count) parts.now)) }
 {
     for part in parts {
-        push_part(part, numbers)?;
+        push_part(followed, part, numbers)?;
     }
     Ok(())
 }
 
-/// An optional field asks nothing of its own, so its value isn't looked into.
+/// An optional field asks nothing of its own, so its references aren't strong.
 #[cycle(references)]
-fn push_part(part: &Part, numbers: &mut Vec<usize>) -> Result<(), AllocError>
+fn push_part(followed: Followed, part: &Part, numbers: &mut Vec<usize>) -> Result<(), AllocError>
     ensures { OnOk result (Pushed numbers.old.items numbers.new.items
-        (λ ns. unless_optional (part_of ns part.now).mark (strong (part_of ns part.now).value)) (λ count. is_known_part count part.now)) }
+        (λ ns. of_field (part_of ns part.now).mark followed (taken followed (part_of ns part.now).value)) (λ count. is_known_part count part.now)) }
 {
-    match part.mark {
-        FieldMark::Optional => Ok(()),
-        FieldMark::Regular | FieldMark::Required => push_strong(&part.value, numbers),
+    match (part.mark, followed) {
+        (FieldMark::Optional, Followed::Strong) => Ok(()),
+        (FieldMark::Optional, Followed::Every) | (FieldMark::Regular | FieldMark::Required, _) => {
+            push_shape(followed, &part.value, numbers)
+        }
     }
 }
 
-/// The numbers that a definition's bodies refer to strongly.
-fn references_of(alloc: Global, bodies: &[Shape]) -> Result<Vec<usize>, AllocError>
+/// The elements behind a list's front may be none, so their references aren't strong.
+#[cycle(references)]
+fn push_end(followed: Followed, end: &ShapeEnd, numbers: &mut Vec<usize>) -> Result<(), AllocError>
+    ensures { OnOk result (Pushed numbers.old.items numbers.new.items
+        (λ ns. taken_rest followed (rest_of ns end.now)) (λ count. is_known_end count end.now)) }
+{
+    match (followed, end) {
+        (Followed::Every, ShapeEnd::Each(shape)) => push_shape(followed, shape, numbers),
+        (Followed::Every, ShapeEnd::Closed | ShapeEnd::Any) | (Followed::Strong, _) => Ok(()),
+    }
+}
+
+/// The numbers that a definition's bodies refer to.
+pub(crate) fn references_of(
+    alloc: Global,
+    followed: Followed,
+    bodies: &[Shape],
+) -> Result<Vec<usize>, AllocError>
     ensures { IfOk result (λ v. Pushed [] v.items
-        (λ ns. strong_all (expressions_of (map (expression_of ns) bodies.now))) (λ count. list_all (is_known count) bodies.now)) }
+        (λ ns. taken_all followed (expressions_of (map (expression_of ns) bodies.now))) (λ count. list_all (is_known count) bodies.now)) }
 {
     let mut numbers = Vec::new(alloc);
-    push_all(bodies, &mut numbers)?;
+    push_all(followed, bodies, &mut numbers)?;
     Ok(numbers)
 }
 
@@ -85,7 +123,8 @@ pub(crate) fn graph_of_package(
     let count = package.count();
     let mut graph = Vec::with_capacity(alloc, count)?;
     for number in 0..count {
-        graph.push(references_of(alloc, package.bodies(number))?)?;
+        let row = references_of(alloc, Followed::Strong, package.bodies(number))?;
+        graph.push(row)?;
     }
     Ok(graph)
 }

@@ -23,7 +23,7 @@ Short E zero n = ⊥
 Short E (suc k) n = (bs : List Expression) → bodies E n ≡ Some bs → Each (λ b. Each (Short E k) (direct b)) bs
 
 mutual
-  direct-strong : (e : Expression) (m : List ℕ) → Contains (direct e) m → Contains (strong e) m
+  pub direct-strong : (e : Expression) (m : List ℕ) → Contains (direct e) m → Contains (strong e) m
   direct-strong (cue.reference n) m c = c
   direct-strong (cue.conjunction es) m c = direct-strong_all es m c
   direct-strong (cue.disjunction es) m c = direct-strong_all es m c

@@ -94,13 +94,13 @@ is_related at_least n z = int_le n z
 
 -- ---- structs and lists (CUE language specification, "Structs", "Closed structs", "Lists")
 
+abbrev pub may_be_absent : DeclarationMark → Bool
+may_be_absent regular = false
+may_be_absent optional = true
+may_be_absent required = false
+
 -- `inside y e` says whether y, which stands directly inside the document, is an instance of e
 module _ {A N : Type 0} (inside : A → N → Bool) where
-  abbrev pub may_be_absent : DeclarationMark → Bool
-  may_be_absent regular = false
-  may_be_absent optional = true
-  may_be_absent required = false
-
   -- a declaration, at what stands under its label: the value there is an instance of the declared one, and
   -- only an optional label may be no key
   abbrev pub declaration_holds : Declaration N → Option A → Bool

@@ -1,3 +1,15 @@
 pub mod Constraint
 pub mod Instance
+pub mod Numbering
+pub mod Rules
+pub mod Judging
+pub mod Refusal
 pub mod Exportable
+-- for contracts of private functions and proofs alone
+pub mod Steps
+pub mod Props
+pub mod Looks
+pub mod Placing
+pub mod Ranked
+pub mod Rooted
+pub mod Faults

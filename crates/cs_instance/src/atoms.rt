@@ -1,38 +1,55 @@
-// What a shape without parts asks of a document.
-ghost use Rattle.std.specs.Prelude.{◌≡◌};
+// What a rule without parts asks of a value.
+ghost use Rattle.std.specs.Prelude.{◌≡◌, not};
 ghost use Rattle.std.specs.Ordering.{int_eq};
-ghost use Rattle.cs_document.specs.Opened.{opened};
-ghost use Rattle.cs_document.specs.View.{doc_view};
+ghost use Rattle.cs_flat.specs.View.{item_view};
 ghost use Rattle.cs_package.specs.View.{kind_of, relation_of};
 ghost use Rattle.cs_instance.specs.Constraint as constraint;
 
-use cs_document::Doc;
+use cs_flat::Item;
 use cs_package::{Kind, Relation};
 
-pub(crate) fn is_of_kind(kind: Kind, doc: &Doc) -> bool
-    ensures { result ≡ constraint.is_of_kind (kind_of kind) (opened (doc_view doc.now)) }
+pub(crate) fn is_of_kind(kind: Kind, value: &Item<'_>) -> bool
+    ensures { result ≡ constraint.is_of_kind (kind_of kind) (item_view value.now) }
 {
     match kind {
-        Kind::Int | Kind::Number => matches!(doc, Doc::Int(_)),
-        Kind::Text => matches!(doc, Doc::Text(_)),
-        Kind::Bool => matches!(doc, Doc::Bool(_)),
+        Kind::Int | Kind::Number => matches!(value, Item::Int(_)),
+        Kind::Text => matches!(value, Item::Text(_)),
+        Kind::Bool => matches!(value, Item::Bool(_)),
     }
 }
 
-pub(crate) fn is_integer(n: i64, doc: &Doc) -> bool
-    ensures { result ≡ constraint.is_integer (int_eq n) (opened (doc_view doc.now)) }
+pub(crate) fn is_integer(n: i64, value: &Item<'_>) -> bool
+    ensures { result ≡ constraint.is_integer (int_eq n) (item_view value.now) }
 {
-    match doc {
-        Doc::Int(m) => n == *m,
+    match value {
+        Item::Int(m) => n == *m,
         _ => false,
     }
 }
 
-pub(crate) fn is_in_range(least: i64, greatest: Option<i64>, doc: &Doc) -> bool
-    ensures { result ≡ constraint.is_integer (constraint.is_within least greatest) (opened (doc_view doc.now)) }
+pub(crate) fn is_another_integer(n: i64, value: &Item<'_>) -> bool
+    ensures { result ≡ constraint.is_integer (λ z. not (int_eq n z)) (item_view value.now) }
 {
-    match doc {
-        Doc::Int(n) => is_within(least, greatest, *n),
+    match value {
+        Item::Int(m) => n != *m,
+        _ => false,
+    }
+}
+
+pub(crate) fn is_in_range(least: i64, greatest: Option<i64>, value: &Item<'_>) -> bool
+    ensures { result ≡ constraint.is_integer (constraint.is_within least greatest) (item_view value.now) }
+{
+    match value {
+        Item::Int(n) => is_within(least, greatest, *n),
+        _ => false,
+    }
+}
+
+pub(crate) fn is_bounded(relation: Relation, limit: i64, value: &Item<'_>) -> bool
+    ensures { result ≡ constraint.is_integer (constraint.is_related (relation_of relation) limit) (item_view value.now) }
+{
+    match value {
+        Item::Int(n) => is_related(relation, limit, *n),
         _ => false,
     }
 }
@@ -43,15 +60,6 @@ fn is_within(least: i64, greatest: Option<i64>, n: i64) -> bool
     match greatest {
         Some(limit) => least <= n && n <= limit,
         None => least <= n,
-    }
-}
-
-pub(crate) fn is_bounded(relation: Relation, limit: i64, doc: &Doc) -> bool
-    ensures { result ≡ constraint.is_integer (constraint.is_related (relation_of relation) limit) (opened (doc_view doc.now)) }
-{
-    match doc {
-        Doc::Int(n) => is_related(relation, limit, *n),
-        _ => false,
     }
 }
 

@@ -2,10 +2,19 @@
 #![tactic(auto)]
 
 mod atoms;
-mod checking;
+mod definitions;
 mod fault;
+mod inner;
+mod judge;
+mod judging;
 mod laws;
+mod numbering;
+mod rooted;
+mod rules;
+mod steps;
+mod waiting;
 
-pub use checking::is_instance;
 pub use fault::InstanceFault;
+pub use judge::InstanceJudge;
+pub use judging::{instance_judge, instance_table, is_instance};
 pub use laws::one_meaning;

@@ -5,9 +5,15 @@ use Rattle.std.specs.Option.{option_map_or}
 use Rattle.std.specs.Str.{bytes_eq}
 use Rattle.std.specs.List.{list_any, AllByRecursion as Each}
 use Rattle.std.proofs.lemmas.Slice.Eq.{bytes_eq-Decides}
+use Rattle.cs_graph.specs.Chains.{Chain}
+use Rattle.cs_graph.proofs.Paths.{chain_push, none_closed}
 use Rattle.cs_document.specs.Document.{Document, Entry, under}
 use Rattle.cs_profile.specs.Keywords.{defined, listed_under, entries_of}
-use Rattle.cs_profile.specs.Loops.{direct_names, RefersDirectly, IsChain, NoLoop}
+use Rattle.cs_profile.specs.Loops.{direct_names, RefersDirectly, IsLoop, NoLoop}
+
+-- where no definition reaches itself, no names are a loop
+pub none_loop : (R : Document) → NoLoop R → (ns : List (List ℕ)) → IsLoop R ns → ⊥
+none_loop R none ns l = none_closed (RefersDirectly R) none ns l
 
 -- each chain of direct references that begins at n goes through fewer than k definitions
 abbrev pub Short : Document → ℕ → List ℕ → Type 0
@@ -41,11 +47,6 @@ is_in-without n q (m ∷ ms) h = at_first (is_in-without n q ms) (bytes_eq n m) 
     at_first more false true e f h = inl (ap (λ c. c || is_in q (without n ms)) f)
     at_first more false false e f h = elim (more h) [ inl w ↦ inl (ap (λ c. c || is_in q (without n ms)) f ∙ w) | inr w ↦ inr w ]
 
--- a chain that goes on to one more name
-chain_more : (R : Document) (q : List ℕ) (ns : List (List ℕ)) (n m : List ℕ) → IsChain R q (ns ++ n ∷ []) → RefersDirectly R n m → IsChain R q ((ns ++ n ∷ []) ++ m ∷ [])
-chain_more R q [] n m c r = (c.0, (r, tt))
-chain_more R q (p ∷ ps) n m c r = (c.0, chain_more R p ps n m c.1 r)
-
 abbrev names_of : List (Entry Document) → List (List ℕ)
 names_of [] = []
 names_of (e ∷ es) = e.0 ∷ names_of es
@@ -78,7 +79,7 @@ most_steps R = suc (suc (length (defined_names R)))
 module _ (R : Document) (no_loop : NoLoop R) where
   -- q comes to n by direct references
   abbrev Leads : List ℕ → List ℕ → Type 0
-  Leads q n = (ns : List (List ℕ)) × IsChain R q (ns ++ n ∷ [])
+  Leads q n = (ns : List (List ℕ)) × Chain (RefersDirectly R) q (ns ++ n ∷ [])
 
   -- each definition is still to be gone through, or is n or leads to it
   abbrev Left : List (List ℕ) → List ℕ → Type 0
@@ -89,7 +90,7 @@ module _ (R : Document) (no_loop : NoLoop R) where
     | inl w ↦ elim (is_in-without m q left w) [ inl v ↦ inl v | inr v ↦ inr (inl v) ]
     | inr w ↦ elim w [
       | inl v ↦ inr (inr ([], (subst (λ p. RefersDirectly R p m) (sym v) r, tt)))
-      | inr v ↦ inr (inr (v.0 ++ n ∷ [], chain_more R q v.0 n m v.1 r))
+      | inr v ↦ inr (inr (v.0 ++ n ∷ [], chain_push (RefersDirectly R) q n m v.0 v.1 r))
     ]
   ]
 
@@ -98,8 +99,8 @@ module _ (R : Document) (no_loop : NoLoop R) where
   is_left left n m t r h f = elim (h m t f) [
     | inl w ↦ w
     | inr w ↦ absurd (elim w [
-      | inl v ↦ no_loop (n ∷ []) (subst (λ p. RefersDirectly R n p) v r, tt)
-      | inr v ↦ no_loop (m ∷ v.0 ++ n ∷ []) (chain_more R m v.0 n m v.1 r)
+      | inl v ↦ no_loop n [] (subst (λ p. RefersDirectly R n p) v r, tt)
+      | inr v ↦ no_loop m (v.0 ++ n ∷ []) (chain_push (RefersDirectly R) m n m v.0 v.1 r)
     ])
   ]
 

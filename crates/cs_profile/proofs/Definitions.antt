@@ -1,5 +1,5 @@
 -- What a schema document has in its `$defs`.
-use Rattle.std.proofs.Common.{◌≡◌, ℕ, Bool, true, false, ◌||◌, List, [], ◌∷◌, ◌++◌, map, Option, Some, None, option_map, String, Global, Ordering, Less, Equal, Greater, string_bytes, nat_cmp, bytes_eq, cond, codes, Bor, is_eq, refl, sym, ap, ◌∙◌, subst, append-nil, if◌then◌else◌, rules}
+use Rattle.std.proofs.Common.{◌≡◌, ℕ, Bool, true, false, ◌||◌, List, [], ◌∷◌, ◌++◌, map, Option, Some, None, option_map, String, Global, Ordering, Less, Equal, Greater, string_bytes, nat_cmp, bytes_eq, codes, Bor, is_eq, refl, sym, ap, ◌∙◌, subst, append-nil, if◌then◌else◌, rules}
 use Rattle.std.proofs.lemmas.Map.Text.{is_eq-slice_cmp}
 use Rattle.std.proofs.lemmas.Slice.Eq.{bytes_eq-Decides}
 use Rattle.std.specs.Cmp.Lexicographic.{slice_cmp}
@@ -9,6 +9,7 @@ use Rattle.std.specs.BTreeMap.{is_at}
 use Rattle.cs_document.specs.Document.{Document, boolean, object, text, Members, no_members, member, entries, under, put, Entry}
 use Rattle.cs_document.specs.View.{members_of}
 use Rattle.cs_profile.specs.Keywords.{listed_under, entries_of, defined}
+use Rattle.cs_profile.specs.Numbered.{by_text}
 use Rattle.cs_profile.specs.Shapes.{dialect}
 use Rattle.cs_profile.specs.Trim.{with_dialect, with_member}
 use Rattle.cs_profile.specs.SchemaDocument.{Slot, present, slots_of, schema_view, schema_step, keyword_slots, SchemaValue, IsWhole, document_of, definition_of, definitions_view, with_definitions, unless_no_map}
@@ -16,6 +17,7 @@ use Rattle.cs_profile.specs.declared.schema.Schema.{Schema, out-Schema, the_lemm
 use Rattle.cs_profile.specs.declared.schema.Schema.TheOpen.{Schema-F}
 use Rattle.cs_profile.specs.declared.schema.Schema.TheFolds.{fold_out-Schema, map-Schema}
 use Rattle.cs_profile.specs.declared.schema.Keywords.{Keywords}
+use Rattle.cs_profile.proofs.Pushes.{looked_up}
 use Rattle.cs_profile.proofs.Slots.{has_slot}
 
 -- ---- a schema is a truth value or an object of keywords
@@ -29,20 +31,19 @@ by_case P f g s = subst P (sym (fold_out-Schema Document (List Slot) schema_step
 
 -- ---- a look-up in the map is one by the text
 
--- entries by the text of their keys
-abbrev pub by_text : List (String Global × Document) → List (Entry Document)
-by_text es = map (λ m. (string_bytes m.0, m.1)) es
-
 abbrev pub named : {X : Type 0} → (X → Document) → List (String Global × X) → List (Entry Document)
 named f es = map (λ m. (string_bytes m.0, f m.1)) es
 
-at_test : {X : Type 0} (f : X → Document) (x : X) (rest : Option X) (more : Option Document) → option_map f rest ≡ more → (t : Bool) → option_map f (cond t (Some x) rest) ≡ (if t then Some (f x) else more)
-at_test f x rest more e true = refl
-at_test f x rest more e false = e
+mapped_under : {X : Type 0} (f : X → Document) (n : List ℕ) (es : List (String Global × X)) → option_map f (under n (by_text es)) ≡ under n (named f es)
+mapped_under f n [] = refl
+mapped_under f n (e ∷ es) = by (bytes_eq n (string_bytes e.0)) (mapped_under f n es)
+  where
+    by : (t : Bool) → option_map f (under n (by_text es)) ≡ under n (named f es) → option_map f (if t then Some e.1 else under n (by_text es)) ≡ (if t then Some (f e.1) else under n (named f es))
+    by true h = refl
+    by false h = h
 
 pub found : {X : Type 0} (f : X → Document) (n : List ℕ) (es : List (String Global × X)) → option_map f (lookup (is_at (λ k. slice_cmp nat_cmp n (string_bytes k))) es) ≡ under n (named f es)
-found f n [] = refl
-found f n (e ∷ es) = rw (is_eq-slice_cmp n (string_bytes e.0)) (at_test f e.1 _ _ (found f n es) (bytes_eq n (string_bytes e.0)))
+found f n es = ap (option_map f) (looked_up n es) ∙ mapped_under f n es
 
 copied : {X Y : Type 0} (f : X → Y) (r : Option (Bor X)) → option_map (λ x. f x.now) r ≡ option_map f (option_map (λ x. x.now) r)
 copied f None = refl
@@ -88,11 +89,15 @@ with_defs (e ∷ es) ms h = ap (λ r. entries (members_of (e ∷ es)) ++ r) h �
 pub no_definitions : (k : Keywords) → has_slot (codes "$defs") (slots_of k) ≡ false
 no_definitions k = search (rules, the_lemmas)
 
-pub defined_definition : (v : SchemaValue) → IsWhole v → (n : List ℕ) → defined (document_of v) n ≡ definition_of v n
-defined_definition v h n =
+-- where a truth value has no definitions
+pub defined_bare : (v : SchemaValue) → ((b : Bool) → schema_view v.root ≡ boolean b → v.definitions ≡ []) → (n : List ℕ) → defined (document_of v) n ≡ definition_of v n
+defined_bare v bare n =
     ap (under n) (by_case (λ d. ((b : Bool) → d ≡ boolean b → v.definitions ≡ []) → listed_under (codes "$defs") (entries_of (with_dialect (with_definitions (unless_no_map (definitions_view v.definitions)) d))) ≡ named schema_view v.definitions)
     (λ b bare. rw (bare b refl) refl)
     (λ k bare. not_put (codes "$defs") (codes "$schema") (text dialect) (with_member (unless_no_map (definitions_view v.definitions)) (codes "$defs") (present (slots_of k))) refl
     ∙ with_defs (definitions_view v.definitions) (present (slots_of k)) (not_present (codes "$defs") (slots_of k) (no_definitions k))
     ∙ viewed v.definitions)
-    v.root h.bare)
+    v.root bare)
+
+pub defined_definition : (v : SchemaValue) → IsWhole v → (n : List ℕ) → defined (document_of v) n ≡ definition_of v n
+defined_definition v h n = defined_bare v h.bare n

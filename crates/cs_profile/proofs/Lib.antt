@@ -4,12 +4,16 @@ pub mod Chains
 pub mod Meanings
 pub mod Unfolded
 pub mod Rows
-pub mod Samples
 pub mod Names
 pub mod Walks
 pub mod Slots
+pub mod Pushes
+pub mod Numbers
 pub mod Definitions
 pub mod Trimmed
 pub mod Faultless
+pub mod Defined
+pub mod Ranked
 pub mod Profiles
 pub mod TrimLaw
+pub mod Samples

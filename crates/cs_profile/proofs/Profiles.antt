@@ -83,9 +83,8 @@ none_refers R h n m r =
     let none : list_any (bytes_eq m) [] ≡ true = subst (λ ns. list_any (bytes_eq m) ns ≡ true) (no_direct_name R h n) r in cc
 
 pub no_loop : (R : Document) → walk_fault R ≡ None → NoLoop R
-no_loop R h [] l = l
-no_loop R h (n ∷ []) l = none_refers R h n n l.0
-no_loop R h (n ∷ m ∷ ns) l = none_refers R h n m l.0
+no_loop R h n [] l = none_refers R h n n l.0
+no_loop R h n (m ∷ ns) l = none_refers R h n m l.0
 
 -- ---- the first reference to what is not known
 

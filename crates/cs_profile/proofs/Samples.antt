@@ -1,7 +1,8 @@
 -- What the definitions say of single keywords, names, values, places, trimmings and loops, by computation.
-use Rattle.std.proofs.Common.{◌≡◌, ℕ, negsuc, Bool, true, false, List, [], ◌∷◌, map, Option, Some, None, option_map, codes, refl}
+use Rattle.std.proofs.Common.{◌≡◌, ℕ, negsuc, ◌<◌, Bool, true, false, List, [], ◌∷◌, inl, inr, map, length, Option, Some, None, option_map, Vec, Global, String as Text, string_bytes, bytes_eq, codes, refl, sym, subst, if◌then◌else◌, arith}
 use Rattle.std.specs.Fmt.{digits}
-use Rattle.std.specs.List.{list_all, list_any}
+use Rattle.std.specs.Option.{option_map_or}
+use Rattle.std.specs.List.{list_all, list_any, IsDistinct}
 use Rattle.cs_document.specs.Document.{Document, null, boolean, integer, text, list, under}
 use Rattle.cs_document.specs.View.{doc_view, list_view}
 use Rattle.cs_document.proofs.SampleDocuments.{number as n, string as t, array as l, named_map as o}
@@ -15,11 +16,15 @@ use Rattle.cs_profile.specs.declared.keyword.Form.TheVariants as form
 use Rattle.cs_profile.specs.Places.{at_key, at_index}
 use Rattle.cs_profile.specs.Profile.{unknown, misshapen, undefined, walk_fault, name_fault}
 use Rattle.cs_profile.specs.Trim.{trim}
-use Rattle.cs_profile.specs.Loops.{direct_names, IsLoop}
-use Rattle.cs_profile.specs.Refusal.{LeastFirst}
+use Rattle.cs_graph.specs.Chains.{Chain}
+use Rattle.cs_graph.proofs.Paths.{chain_short, no_cycle}
+use Rattle.cs_profile.specs.Loops.{direct_names, RefersDirectly, IsLoop, NoLoop, IsRank}
+use Rattle.cs_profile.specs.Refusal.{LeastFirst, IsLeastLoop, IsLoopRefusal}
+use Rattle.cs_profile.specs.declared.fault.SchemaFault.TheVariants as fault
 use Rattle.cs_profile.specs.SchemaDocument.{Slot, kind_name, keyword_slots, reference_document, text_document, unless_no_list, unless_no_map}
 use Rattle.cs_profile.specs.declared.schema.Schema.TheOpen.{Keywords-F}
 use Rattle.cs_profile.specs.declared.schema.JsonKind.TheVariants as kind
+use Rattle.cs_profile.proofs.Ranked.{on_any}
 use Rattle.cs_profile.proofs.Rows.{says}
 use Prim.Native.String.{String}
 
@@ -280,6 +285,72 @@ no_loop_of_two h = let back = h.1 in cc
 
 no_loop_of_none : ¬ (IsLoop (defining (("A", to "#/$defs/A") ∷ [])) [])
 no_loop_of_none h = h
+
+-- told from the least name on, and no name twice
+abbrev turning : Document
+turning = defining (("A", says "not" (to "#/$defs/B")) ∷ ("B", says "not" (to "#/$defs/A")) ∷ [])
+
+told : IsLeastLoop turning (codes "A" ∷ codes "B" ∷ [])
+unfolding IsDistinct
+told = record { loop = (refl, (refl, tt)); distinct = ((refl, tt), (tt, tt)); least = (refl, tt) }
+
+told_from_the_other : ¬ (IsLeastLoop turning (codes "B" ∷ codes "A" ∷ []))
+told_from_the_other h = let first = h.least.0 in cc
+
+told_twice : ¬ (IsLeastLoop turning (codes "A" ∷ codes "B" ∷ codes "A" ∷ codes "B" ∷ []))
+unfolding IsDistinct
+told_twice h = let twice = h.distinct.0.1.0 in cc
+
+loop_refused : (v : Vec (Text Global) Global) → map string_bytes v.items ≡ codes "A" ∷ codes "B" ∷ [] → IsLoopRefusal (fault.Loop v) turning
+loop_refused v e = subst (IsLeastLoop turning) (sym e) told
+
+memory_refused : IsLoopRefusal fault.OutOfMemory turning
+memory_refused = tt
+
+-- ---- ranks: A refers to B and C, and B to C
+
+abbrev falling : Document
+falling = defining (("A", says "allOf" (l (to "#/$defs/B" ∷ says "not" (to "#/$defs/C") ∷ []))) ∷ ("B", to "#/$defs/C") ∷ ("C", says "properties" (says "a" (to "#/$defs/A"))) ∷ [])
+
+abbrev rank_in : List ℕ → ℕ
+rank_in n = if bytes_eq n (codes "A") then 2 else if bytes_eq n (codes "B") then 1 else 0
+
+falls : (n m : List ℕ) → RefersDirectly falling n m → rank_in m < rank_in n
+falls n m r = by (bytes_eq n (codes "A")) (bytes_eq n (codes "B")) (bytes_eq n (codes "C")) r
+  where
+    by : (a b c : Bool)
+        → list_any (bytes_eq m) (option_map_or direct_names (if a then Some (says "allOf" (l (to "#/$defs/B" ∷ says "not" (to "#/$defs/C") ∷ []))) else if b then Some (to "#/$defs/C") else if c then Some (says "properties" (says "a" (to "#/$defs/A"))) else None) []) ≡ true
+        → rank_in m < (if a then 2 else if b then 1 else 0)
+    by true b c r = elim (on_any m (codes "B" ∷ codes "C" ∷ []) r) as (λ _. rank_in m < 2) [
+      | inl e ↦ subst (λ k. rank_in k < 2) (sym e) (omega arith)
+      | inr o ↦ elim o as (λ _. rank_in m < 2) [ inl e ↦ subst (λ k. rank_in k < 2) (sym e) (omega arith) | inr none ↦ absurd none ]
+    ]
+    by false true c r = elim (on_any m (codes "C" ∷ []) r) as (λ _. rank_in m < 1) [ inl e ↦ subst (λ k. rank_in k < 1) (sym e) (omega arith) | inr none ↦ absurd none ]
+    by false false true r = cc
+    by false false false r = cc
+
+ranked : (n : List ℕ) (ns : List (List ℕ)) → Chain (RefersDirectly falling) n ns → length ns ≡ rank_in n → IsRank falling n (rank_in n)
+ranked n ns c e = record { steps = ns; chain = c; long = e; longest = chain_short (RefersDirectly falling) rank_in falls n }
+
+first_rank : IsRank falling (codes "A") 2
+first_rank = ranked (codes "A") (codes "B" ∷ codes "C" ∷ []) (refl, (refl, tt)) refl
+
+second_rank : IsRank falling (codes "B") 1
+second_rank = ranked (codes "B") (codes "C" ∷ []) (refl, tt) refl
+
+-- what it refers to inside documents counts for nothing
+last_rank : IsRank falling (codes "C") 0
+last_rank = ranked (codes "C") [] tt refl
+
+-- the longest chain counts
+not_the_shortest : ¬ (IsRank falling (codes "A") 1)
+not_the_shortest h = let long = h.longest (codes "B" ∷ codes "C" ∷ []) (refl, (refl, tt)) in omega (arith, long)
+
+acyclic : NoLoop falling
+acyclic = no_cycle (RefersDirectly falling) rank_in falls
+
+not_acyclic : ¬ (NoLoop turning)
+not_acyclic none = none (codes "A") (codes "B" ∷ []) (refl, (refl, tt))
 
 -- the least name first
 least : LeastFirst (codes "A" ∷ codes "C" ∷ codes "B" ∷ [])

@@ -8,3 +8,5 @@ pub mod Profile
 pub mod Trim
 pub mod SchemaDocument
 pub mod Refusal
+-- for contracts of private functions and proofs alone
+pub mod Numbered

@@ -1,8 +1,9 @@
 -- Definitions that reach themselves without going into a document (JSON Schema Core 2020-12, section 9.4.1).
-use Rattle.std.specs.Prelude.{ℕ, List, [], ◌∷◌, ◌++◌, Option, Some, option_to_list, IsTrue}
+use Rattle.std.specs.Prelude.{ℕ, List, [], ◌++◌, Option, Some, option_to_list, IsTrue}
 use Rattle.std.specs.Option.{option_map_or}
 use Rattle.std.specs.Str.{bytes_eq}
 use Rattle.std.specs.List.{list_any}
+use Rattle.cs_graph.specs.Chains.{IsClosed, NoCycle, IsHeight}
 use Rattle.cs_document.specs.Document.{Document, text, list, object, Documents, no_documents, document, Members, no_members, member, under}
 use Rattle.cs_profile.specs.Keywords.{keywords, reference_start, text_after, defined}
 use Rattle.cs_profile.specs.declared.keyword.Keyword.{Keyword}
@@ -58,16 +59,14 @@ value_names v = record {
 abbrev pub RefersDirectly : Document → List ℕ → List ℕ → Type 0
 RefersDirectly R n m = IsTrue (list_any (bytes_eq m) (option_map_or direct_names (defined R n) []))
 
--- n refers directly to the first of the names, and each of them to the next
-abbrev pub IsChain : Document → List ℕ → List (List ℕ) → Type 0
-IsChain R n [] = Unit {0}
-IsChain R n (m ∷ ms) = RefersDirectly R n m × IsChain R m ms
-
 -- each of the names refers directly to the next, and the last one to the first
 abbrev pub IsLoop : Document → List (List ℕ) → Type 0
-IsLoop R [] = ⊥
-IsLoop R (n ∷ ns) = IsChain R n (ns ++ n ∷ [])
+IsLoop R = IsClosed (RefersDirectly R)
 
 -- no definition reaches itself directly
 abbrev pub NoLoop : Document → Type 0
-NoLoop R = (ns : List (List ℕ)) → ¬ (IsLoop R ns)
+NoLoop R = NoCycle (RefersDirectly R)
+
+-- the longest chain of direct references from n has this length
+abbrev pub IsRank : Document → List ℕ → ℕ → Type 0
+IsRank R = IsHeight (RefersDirectly R)

@@ -16,13 +16,25 @@ abbrev pub LeastFirst : List (List ℕ) → Type 0
 LeastFirst [] = Unit {0}
 LeastFirst (n ∷ ns) = AllByRecursion (λ m. slice_cmp nat_cmp n m ≡ Less) ns
 
--- the names are those of definitions of which each refers directly to the next, and the last to the first
-pub record IsLoopOf (d : Document) (names : List (List ℕ)) : Type 0 where
-  pub shaped : walk_fault d ≡ None
-  pub named : name_fault d ≡ None
+-- each of the names refers directly to the next and the last to the first, no name stands twice, and the least stands first
+pub record IsLeastLoop (d : Document) (names : List (List ℕ)) : Type 0 where
   pub loop : IsLoop d names
   pub distinct : IsDistinct bytes_eq names
   pub least : LeastFirst names
+
+-- there is no fault of a keyword, a value or a name, and the names are a loop
+pub record IsLoopOf (d : Document) (names : List (List ℕ)) : Type 0 where
+  pub shaped : walk_fault d ≡ None
+  pub named : name_fault d ≡ None
+  pub told : IsLeastLoop d names
+
+-- the refusal of what has no other fault
+abbrev pub IsLoopRefusal : SchemaFault → Document → Type 0
+IsLoopRefusal fault.OutOfMemory d = Unit {0}
+IsLoopRefusal (fault.Loop ns) d = IsLeastLoop d (map string_bytes ns.items)
+IsLoopRefusal (fault.Keyword p n) d = ⊥
+IsLoopRefusal (fault.Shape p n) d = ⊥
+IsLoopRefusal (fault.Reference p n) d = ⊥
 
 -- the refusal tells the first fault: of a keyword or a value, then of a name, then a loop; memory may run
 -- out at any time

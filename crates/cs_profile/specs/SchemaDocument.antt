@@ -6,7 +6,7 @@ use Rattle.cs_document.specs.Document.{Document, boolean, integer, text, list, o
 use Rattle.cs_document.specs.View.{doc_view, list_view, documents_of, members_of}
 use Rattle.cs_profile.specs.Keywords.{reference_start}
 use Rattle.cs_profile.specs.Trim.{with_member, with_dialect}
-use Rattle.cs_profile.specs.Profile.{IsSchema}
+use Rattle.cs_profile.specs.Profile.{walk_fault, name_fault, IsSchema}
 use Rattle.cs_profile.specs.declared.schema.Schema.{Schema, fold-Schema}
 use Rattle.cs_profile.specs.declared.schema.Schema.TheOpen.{Schema-F, Keywords-F}
 use Rattle.cs_profile.specs.declared.schema.Keywords.{Keywords, fold-Keywords}
@@ -126,6 +126,12 @@ document_of s = with_dialect (with_definitions (unless_no_map (definitions_view 
 -- a schema document: what it stands for is a schema of the profile, and a truth value has no definitions
 pub record IsWhole (v : SchemaValue) : Type 0 where
   pub profile : IsSchema (document_of v)
+  pub bare : (b : Bool) → schema_view v.root ≡ boolean b → v.definitions ≡ []
+
+-- a schema document, but for loops
+pub record IsWellFormed (v : SchemaValue) : Type 0 where
+  pub shaped : walk_fault (document_of v) ≡ None
+  pub named : name_fault (document_of v) ≡ None
   pub bare : (b : Bool) → schema_view v.root ≡ boolean b → v.definitions ≡ []
 
 -- the definition of a name, as its document

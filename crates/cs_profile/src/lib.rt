@@ -4,6 +4,7 @@
 mod fault;
 mod keyword;
 mod laws;
+mod references;
 mod schema;
 mod schema_doc;
 

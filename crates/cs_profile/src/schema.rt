@@ -113,6 +113,7 @@ impl Keywords {
             reference: None,
         }
     }
+
     /// The keywords with a value for one of them; an empty list or map of schemas leaves it out, and so does a value
     /// that doesn't have the keyword's form. `$schema`, `$defs` and the texts for readers change nothing.
     pub fn set(self, alloc: Global, keyword: Keyword, value: KeywordValue) -> Keywords

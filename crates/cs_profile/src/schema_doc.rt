@@ -1,9 +1,13 @@
-ghost use Rattle.std.specs.Prelude.{◌≡◌, option_map, IfOk, IsOkUnless};
+ghost use Rattle.std.specs.Prelude.{◌≡◌, ◌<◌, ◌↔◌, ℕ, List, option_map, IsSome, IfSome, IfOk, IfErr, OnOk, IsOkUnless};
 ghost use Rattle.cs_profile.specs.Keywords.{defined};
 ghost use Rattle.cs_profile.specs.Trim.{trim};
-ghost use Rattle.cs_profile.specs.SchemaDocument.{schema_view, document_of, definition_of, IsWhole};
+ghost use Rattle.cs_profile.specs.SchemaDocument.{schema_view, document_of, definition_of, IsWhole, IsWellFormed};
+ghost use Rattle.cs_profile.specs.Loops.{RefersDirectly, NoLoop, IsRank};
+ghost use Rattle.cs_profile.specs.Refusal.{IsLoopRefusal};
 
+use crate::references::{Numbers, graph_of_definitions, names_of_numbers, numbers_of_definitions};
 use crate::{Schema, SchemaFault};
+use cs_graph::{GraphFault, heights};
 use std::alloc::Global;
 use std::collections::BTreeMap;
 use std::marker::Model;
@@ -14,10 +18,14 @@ use std::marker::Model;
 pub struct SchemaDoc {
     root: Schema,
     definitions: BTreeMap<String, Schema>,
+    numbers: Numbers,
+    /// The rank of each definition, by its number.
+    ranks: Vec<usize>,
 }
 
 impl Model for SchemaDoc {
-    ghost use Rattle.cs_profile.specs.SchemaDocument.{SchemaValue, IsWhole};
+    ghost use Rattle.cs_profile.specs.SchemaDocument.{SchemaValue};
+    ghost use Rattle.cs_profile.specs.Numbered.{AreRanks};
 
     ghost Value = { SchemaValue };
 
@@ -28,13 +36,13 @@ impl Model for SchemaDoc {
 
     ghost view = { λ s. record { root = s.root; definitions = s.definitions.entries } };
 
-    ghost invariant = { λ s. IsWhole (record { root = s.root; definitions = s.definitions.entries }) };
+    ghost invariant = { λ s. AreRanks (record { root = s.root; definitions = s.definitions.entries }) s.numbers.entries s.ranks.items };
 }
 
 impl SchemaDoc {
     /// The schema document of a root and its definitions. Only memory can run out.
     pub fn new(
-        _alloc: Global,
+        alloc: Global,
         root: Schema,
         definitions: BTreeMap<String, Schema>,
     ) -> Result<SchemaDoc, SchemaFault>
@@ -42,7 +50,52 @@ impl SchemaDoc {
         ensures found { IfOk result (λ s. s ≡ record { root = root; definitions = definitions.entries }) }
         ensures memory { IsOkUnless result SchemaFault.OutOfMemory }
     {
-        Ok(SchemaDoc { root, definitions })
+        SchemaDoc::checked(alloc, root, definitions)
+    }
+
+    /// The schema document of a root and its definitions, where no definition reaches itself directly.
+    ///
+    /// # Errors
+    /// `Loop`, with the names of definitions of which each refers directly to the next and the last to the first; no
+    /// name comes twice, and the least in byte order comes first.
+    pub fn checked(
+        alloc: Global,
+        root: Schema,
+        definitions: BTreeMap<String, Schema>,
+    ) -> Result<SchemaDoc, SchemaFault>
+        requires { IsWellFormed (record { root = root; definitions = definitions.entries }) }
+        ensures found { IfOk result (λ s. s ≡ record { root = root; definitions = definitions.entries }) }
+        ensures acyclic { OnOk result (NoLoop (document_of (record { root = root; definitions = definitions.entries }))) }
+        ensures refused { IfErr result (λ e. IsLoopRefusal e (document_of (record { root = root; definitions = definitions.entries }))) }
+        ensures only { NoLoop (document_of (record { root = root; definitions = definitions.entries })) → IsOkUnless result SchemaFault.OutOfMemory }
+    {
+        let numbers = numbers_of_definitions(alloc, &definitions)?;
+        let graph = graph_of_definitions(alloc, &definitions, &numbers)?;
+        match heights(alloc, &graph) {
+            Ok(ranks) => Ok(SchemaDoc {
+                root,
+                definitions,
+                numbers,
+                ranks,
+            }),
+            Err(GraphFault::OutOfMemory) => Err(SchemaFault::OutOfMemory),
+            Err(GraphFault::Cycle { numbers: cycle }) => {
+                let names = names_of_numbers(alloc, &definitions, &cycle)?;
+                Err(SchemaFault::Loop { names })
+            },
+        }
+    }
+
+    /// The rank of a definition: the length of the longest chain of direct references from it. So it is above the rank
+    /// of each definition that it refers to directly.
+    pub fn rank(&self, name: &str) -> Option<usize>
+        ensures declared { IsSome result ↔ IsSome (definition_of self.now name.now) }
+        ensures height { IfSome result (λ r. IsRank (document_of self.now) name.now r) }
+        ensures falls { IfSome result (λ r. (m : List ℕ) (q : ℕ)
+            → RefersDirectly (document_of self.now) name.now m → IsRank (document_of self.now) m q → q < r) }
+    {
+        let number = self.numbers.get(name)?;
+        Some(self.ranks[*number])
     }
 
     /// The root schema.

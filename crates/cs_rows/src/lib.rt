@@ -8,6 +8,8 @@ mod documents;
 #[cfg(test)]
 mod examples;
 #[cfg(test)]
+mod instances;
+#[cfg(test)]
 mod refusals;
 #[cfg(test)]
 mod requests;

@@ -25,7 +25,7 @@ fn is_exported(
     is_told(alloc, &export(alloc, sources, root).err(), wanted)
 }
 
-/// Whether `vet` and `agree` answer so.
+/// Whether `vet` answers so.
 fn is_vetted(
     alloc: Global,
     sources: &[&[u8]],
@@ -33,9 +33,26 @@ fn is_vetted(
     doc: &str,
     wanted: &str,
 ) -> Result<bool, AllocError> {
-    let vetted = vet(alloc, sources, root, doc.as_bytes()).err();
-    let agreed = agree(alloc, sources, root, doc.as_bytes()).err();
-    Ok(is_told(alloc, &vetted, wanted)? && is_told(alloc, &agreed, wanted)?)
+    is_told(
+        alloc,
+        &vet(alloc, sources, root, doc.as_bytes()).err(),
+        wanted,
+    )
+}
+
+/// Whether `agree` answers so.
+fn is_agreed(
+    alloc: Global,
+    sources: &[&[u8]],
+    root: &str,
+    doc: &str,
+    wanted: &str,
+) -> Result<bool, AllocError> {
+    is_told(
+        alloc,
+        &agree(alloc, sources, root, doc.as_bytes()).err(),
+        wanted,
+    )
 }
 
 /// Whether `validate` answers so.
@@ -47,8 +64,8 @@ fn is_validated(alloc: Global, schema: &str, doc: &str, wanted: &str) -> Result<
     )
 }
 
-/// Sources, which `%` parts and whose `;` are newlines, a root, and what `export` answers. A package that is accepted and
-/// has forms that aren't exported yet is refused by 5 at 0.
+/// Sources, which `%` parts and whose `;` are newlines, a root, and what `export` and `agree` answer, and `vet` where it
+/// answers otherwise. A package that is accepted and has forms that aren't exported yet is refused by 5 at 0, but by `vet`.
 const PACKAGES: &str = r##"#P: int => #P => 0 in 0 at 0
 #P: int => #Q => 13 in 0 at 0
 #P: int => P => 13 in 0 at 0
@@ -57,8 +74,8 @@ const PACKAGES: &str = r##"#P: int => #P => 0 in 0 at 0
  => #A => 13 in 0 at 0
 // c => #A => 13 in 0 at 0
 #P: int % #Q: string => #R => 13 in 0 at 0
-#P: {a: int} => #P => 5 in 0 at 0
-#P: {} => #Q => 5 in 0 at 0
+#P: {a: int} => #P => 5 in 0 at 0 => 0 in 0 at 0
+#P: {} => #Q => 5 in 0 at 0 => 13 in 0 at 0
 #P: int & >= => #P => 4 in 0 at 12
 #P: i => #P => 9 in 0 at 4
 #A0: #A1 & => #P => 4 in 0 at 10
@@ -76,21 +93,28 @@ const PACKAGES: &str = r##"#P: int => #P => 0 in 0 at 0
 #B: {k: string};#C: #B & {k: "x"} => #C => 11 in 0 at 25
 #A: {x: 1} % #A: {y: 1, ...} => #A => 11 in 0 at 4
 #A: {x: 1, ...} % #B: int % #A: {y: 1} => #A => 11 in 2 at 4
-package p;#A: {x: #B} % package p;#B: int8 => #A => 5 in 0 at 0
+package p;#A: {x: #B} % package p;#B: int8 => #A => 5 in 0 at 0 => 0 in 0 at 0
 package p;#A: {x: #B} % package q;#B: int8 => #A => 8 in 1 at 0
 package p;#A: int % #B: zzz % package q => #A => 8 in 2 at 0
 #A: zzz % package p % package q => #A => 8 in 2 at 0
 package p;#A: {x: #B} => #A => 9 in 0 at 18
 #A: {next: #A} => #Q => 12 in 0 at 0
 #A: #B % #B: #A => #A => 12 in 0 at 0
-#T: {v: int, kids?: [...#T]} => #Q => 5 in 0 at 0"##;
+#T: {v: int, kids?: [...#T]} => #Q => 5 in 0 at 0 => 13 in 0 at 0"##;
 
-/// Whether `export` and `vet` answer so.
+/// Whether `export` and `agree` answer the first, and `vet` the second, or the first too where that is empty.
 fn are_answered(alloc: Global, text: &str, root: &str, wanted: &str) -> Result<bool, AllocError> {
     let sources = sources_of(alloc, text)?;
+    let (exported, vetted) = cell(wanted);
+    let vetted = if vetted.is_empty() {
+        exported
+    } else {
+        vetted.trim()
+    };
     Ok(
-        is_exported(alloc, &sources, root, wanted)?
-            && is_vetted(alloc, &sources, root, "1", wanted)?,
+        is_exported(alloc, &sources, root, exported)?
+            && is_agreed(alloc, &sources, root, "1", exported)?
+            && is_vetted(alloc, &sources, root, "1", vetted)?,
     )
 }
 
@@ -99,7 +123,7 @@ pub(crate) fn is_answered(alloc: Global, row: &str) -> Result<bool, AllocError> 
     let (text, rest) = cell(row);
     let (root, wanted) = cell(rest);
     let text = text.replace(alloc, ';', "\n")?;
-    are_answered(alloc, &text, root, wanted.trim())
+    are_answered(alloc, &text, root, wanted)
 }
 
 #[test]
@@ -107,7 +131,8 @@ fn packages_are_answered_or_refused(rt: HostRuntime) -> Result<(), Fail> {
     check(rt.alloc(), PACKAGES, Row::Package)
 }
 
-/// Schemas, documents, and what `validate` answers. Where the schema is `true`, `vet` answers the same for `#P: int`.
+/// Schemas, documents, and what `validate` answers. Where the schema is `true`, `vet` and `agree` answer the same for
+/// `#P: int`.
 const DOCUMENTS: &str = r##"true => 1.0 => 26 in 0 at 0
 true => 1e3 => 26 in 0 at 0
 true => 9223372036854775808 => 26 in 0 at 0
@@ -120,21 +145,30 @@ true => 1 => 0 in 0 at 0
 {"minimum":"x"} => 1 => 22 in 0 at 0
 {"$ref":"#/$defs/A"} => 1 => 23 in 0 at 0"##;
 
-/// Whether `validate` answers the row as it says, and `vet`.
+/// Whether `vet` and `agree` answer so for `#P: int`.
+fn are_both(alloc: Global, root: &str, doc: &str, wanted: &str) -> Result<bool, AllocError> {
+    let sources: &[&[u8]] = &[b"#P: int"];
+    Ok(
+        is_vetted(alloc, sources, root, doc, wanted)?
+            && is_agreed(alloc, sources, root, doc, wanted)?,
+    )
+}
+
+/// Whether `validate` answers the row as it says, and the other two.
 pub(crate) fn is_judged(alloc: Global, row: &str) -> Result<bool, AllocError> {
     let (schema, rest) = cell(row);
     let (doc, wanted) = cell(rest);
     let wanted = wanted.trim();
     Ok(
         is_validated(alloc, schema, doc, wanted)?
-            && (schema != "true" || is_vetted(alloc, &[b"#P: int"], "#P", doc, wanted)?),
+            && (schema != "true" || are_both(alloc, "#P", doc, wanted)?),
     )
 }
 
 #[test]
 fn documents_and_schemas_are_answered_or_refused(rt: HostRuntime) -> Result<(), Fail> {
     check(rt.alloc(), DOCUMENTS, Row::Document)?;
-    assert!(rt; is_vetted(rt.alloc(), &[b"#P: int"], "#Q", "[1", "13 in 0 at 0")?);
+    assert!(rt; are_both(rt.alloc(), "#Q", "[1", "13 in 0 at 0")?);
     Ok(())
 }
 
@@ -193,6 +227,34 @@ fn packages_have_a_size(rt: HostRuntime) -> Result<(), Fail> {
     let operands = "_ & ".repeat(rt.alloc(), 24_998)?;
     let source = format!(in rt.alloc(); "#A: {operands}_")?;
     assert!(rt; are_half(rt.alloc(), &source)?);
+    Ok(())
+}
+
+/// Whether the document has too many pairs with the definition.
+fn has_many_pairs(alloc: Global, source: &str, doc: &str) -> Result<bool, AllocError> {
+    let sources: &[&[u8]] = &[source.as_bytes()];
+    Ok(
+        is_vetted(alloc, sources, "#P", doc, "27 in 0 at 0")?
+            && is_agreed(alloc, sources, "#P", doc, "27 in 0 at 0")?,
+    )
+}
+
+/// Whether 3,001 values are too many for a definition of 25,000 nodes, and told after a number that isn't an integer.
+fn are_pairs_counted(alloc: Global) -> Result<bool, AllocError> {
+    let operands = "int & ".repeat(alloc, 24_998)?;
+    let source = format!(in alloc; "#P: {operands}int")?;
+    let items = "0,".repeat(alloc, 2_999)?;
+    let many = format!(in alloc; "[{items}0]")?;
+    let other = format!(in alloc; "[{items}0.5]")?;
+    Ok(
+        has_many_pairs(alloc, &source, &many)?
+            && is_vetted(alloc, &[source.as_bytes()], "#P", &other, "26 in 0 at 0")?,
+    )
+}
+
+#[test]
+fn pairs_have_a_limit(rt: HostRuntime) -> Result<(), Fail> {
+    assert!(rt; are_pairs_counted(rt.alloc())?);
     Ok(())
 }
 

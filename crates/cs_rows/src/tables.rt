@@ -1,5 +1,5 @@
 // Tables of examples: a row a line, its cells parted by `=>`.
-use crate::{commands, documents, examples, refusals, requests, schemas};
+use crate::{commands, documents, examples, instances, refusals, requests, schemas};
 use std::alloc::{AllocError, Global};
 use std::test::Fail;
 
@@ -14,7 +14,9 @@ pub(crate) enum Row {
     Verdicts,
     /// Sources, the schemas of their definitions, documents that are valid and documents that aren't.
     Example,
-    /// Sources, a root and what `export` and `vet` answer.
+    /// Sources, a root, documents that are instances of it and documents that aren't.
+    Instances,
+    /// Sources, a root and what `export`, `agree` and `vet` answer.
     Package,
     /// A schema, a document and what `validate` answers.
     Document,
@@ -40,6 +42,7 @@ fn holds(alloc: Global, row: &str, rows: Row) -> Result<bool, Fail> {
         Row::Schema => schemas::is_read(alloc, row),
         Row::Verdicts => schemas::are_judged(alloc, row),
         Row::Example => Ok(examples::is_held(alloc, row)?),
+        Row::Instances => Ok(instances::is_held(alloc, row)?),
         Row::Package => Ok(refusals::is_answered(alloc, row)?),
         Row::Document => Ok(refusals::is_judged(alloc, row)?),
         Row::Request => Ok(requests::is_run(alloc, row)?),

@@ -1,5 +1,6 @@
 // The items of a document, through the calls of `cs_doc`.
-use cs_doc::{Flat, Item, flatten, read_doc};
+use cs_doc::{Doc, DocFault, DocSet, Flat, Item, flatten, number_under, read_doc};
+use std::alloc::Global;
 use std::test::Fail;
 
 /// Whether the item is the one of that number of `[1,[2],{"k":"v"}]`: the number of a value comes after those inside it.
@@ -29,5 +30,60 @@ fn items_name_those_inside(rt: HostRuntime) -> Result<(), Fail> {
     let doc = read_doc(rt.alloc(), b"[1,[2],{\"k\":\"v\"}]")?;
     let flat = flatten(rt.alloc(), &doc)?;
     assert!(rt; has_items(&flat));
+    Ok(())
+}
+
+/// Whether each map of the document has that number under the key, and there is one.
+fn all_have(flat: &Flat<'_>, key: &str, number: Option<usize>) -> bool {
+    let mut found = false;
+    for i in 0..flat.len() {
+        if let Item::Object(entries) = flat.item(i) {
+            if number_under(entries.as_slice(), key) != number {
+                return false;
+            }
+            found = true;
+        }
+    }
+    found
+}
+
+#[test]
+fn keys_are_looked_up(rt: HostRuntime) -> Result<(), Fail> {
+    let doc = read_doc(rt.alloc(), b"{\"b\":[1],\"d\":2,\"c\":null,\"\":\"e\"}")?;
+    let flat = flatten(rt.alloc(), &doc)?;
+    assert!(rt; all_have(&flat, "", Some(0)));
+    assert!(rt; all_have(&flat, "b", Some(2)));
+    assert!(rt; all_have(&flat, "d", Some(4)));
+    assert!(rt; all_have(&flat, "a", None));
+    assert!(rt; all_have(&flat, "bb", None));
+    assert!(rt; all_have(&flat, "e", None));
+    Ok(())
+}
+
+/// How many values of the document, itself among them, are elements of the list.
+fn count_among(alloc: Global, flat: &Flat<'_>, list: &Doc) -> Result<usize, DocFault> {
+    let Doc::List(docs) = list else {
+        return Ok(0);
+    };
+    let set = DocSet::new(alloc, docs.as_slice())?;
+    let mut count: usize = 0;
+    for i in 0..flat.len() {
+        if set.contains(flat.value(i)) {
+            count = count.saturating_add(1);
+        }
+    }
+    Ok(count)
+}
+
+#[test]
+fn values_are_looked_up(rt: HostRuntime) -> Result<(), Fail> {
+    let doc = read_doc(rt.alloc(), b"[1,[2],{\"k\":[2]},true,null,\"k\"]")?;
+    let flat = flatten(rt.alloc(), &doc)?;
+    let list = read_doc(
+        rt.alloc(),
+        b"[\"k\",{\"k\":[3]},[2],7,[2],false,{\"k\":[2]},[]]",
+    )?;
+    // the two lists `[2]`, the map and the last text
+    assert!(rt; count_among(rt.alloc(), &flat, &list)? == 4);
     Ok(())
 }

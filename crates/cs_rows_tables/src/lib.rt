@@ -4,4 +4,10 @@
 #[cfg(test)]
 mod fillings;
 #[cfg(test)]
+mod instances;
+#[cfg(test)]
 mod items;
+#[cfg(test)]
+mod never;
+#[cfg(test)]
+mod tables;

@@ -25,7 +25,6 @@ pub fn to_doc(alloc: Global, schema: &SchemaDoc) -> Result<Doc, SchemaFault>
     ensures trimmed { trim (document_of schema.now) ≡ document_of schema.now }
     ensures memory { IsOkUnless result SchemaFault.OutOfMemory }
 {
-    // for the proof: what every schema document is
     schema.whole_law(); // for the proof: the document is a schema of the profile, and trimmed
     match schema.root() {
         Schema::Always(b) => Ok(Doc::Bool(*b)),

@@ -1,7 +1,7 @@
 -- A verdict given keeps the earlier ones, and a judge has one table.
 use Rattle.std.proofs.Common.{◌≡◌, ℕ, zero, suc, ◌<◌, ◌≤◌, ◌+◌, ◌*◌, ⊎_elim, inl, inr, Bool, false, [], ◌∷◌, ◌++◌, length, sym, ◌∙◌, subst, arith}
 use Rattle.std.proofs.lemmas.List.{get_or_push, get_or_append_left}
-use Rattle.cs_table.specs.Judged.{Verdict, Judgement, IsEarlier, AgreeBefore, LooksBack, IsJudged, Table, verdicts}
+use Rattle.cs_table.specs.Judged.{AllVerdicts, Judgement, IsEarlier, AgreeBefore, LooksBack, IsJudged, Table, verdicts}
 
 pub earlier_trans : (a b j q i r : ℕ) → IsEarlier a b j q → IsEarlier j q i r → IsEarlier a b i r
 earlier_trans a b j q i r (inl l) (inl m) = inl (omega arith)
@@ -32,7 +32,7 @@ module _ (t : Table) (v : Bool) (i r : ℕ) (full : length t.given ≡ i * t.rul
   here = get_or_push t.given v false (i * t.rules + r) full
 
 module _ (rules : ℕ) (judge : Judgement) (back : LooksBack rules judge) where
-  module _ (f f' : Verdict) (i r : ℕ) (same : AgreeBefore rules i r f' f) where
+  module _ (f f' : AllVerdicts) (i r : ℕ) (same : AgreeBefore rules i r f' f) where
     -- an earlier verdict is still the judge's
     pub kept : (j q : ℕ) → q < rules → IsEarlier j q i r → f j q ≡ judge j q f → f' j q ≡ judge j q f'
     kept j q m e h = same j q m e ∙ h ∙ back j q f f' (λ a b l n. sym (same a b l (earlier_trans a b j q i r n e)))
@@ -42,7 +42,7 @@ module _ (rules : ℕ) (judge : Judgement) (back : LooksBack rules judge) where
     given h = h ∙ back i r f f' (λ a b l m. sym (same a b l m))
 
   -- two tables of one judge are one
-  module _ (items : ℕ) (f g : Verdict) (jf : IsJudged items rules judge f) (jg : IsJudged items rules judge g) where
+  module _ (items : ℕ) (f g : AllVerdicts) (jf : IsJudged items rules judge f) (jg : IsJudged items rules judge g) where
     cells : (i : ℕ) → i < items → ((j q : ℕ) → j < i → q < rules → f j q ≡ g j q) → (n r : ℕ) → r < n → r < rules → f i r ≡ g i r
     cells i l before zero r m k = absurd (omega arith)
     cells i l before (suc n) r m k =

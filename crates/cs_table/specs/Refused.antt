@@ -5,6 +5,6 @@ use Rattle.cs_table.specs.declared.fault.TableFault.{TableFault}
 use Rattle.cs_table.specs.declared.fault.TableFault.TheVariants.{OutOfMemory, TooManyPairs}
 
 -- memory may run out at any time; that there are too many pairs is said only where there are
-abbrev pub IsRefused : ℕ → ℕ → TableFault → Type 0
-IsRefused items rules OutOfMemory = Unit {0}
-IsRefused items rules TooManyPairs = most_pairs < items * rules
+abbrev pub IsRefusal : ℕ → ℕ → TableFault → Type 0
+IsRefusal items rules OutOfMemory = Unit {0}
+IsRefusal items rules TooManyPairs = most_pairs < items * rules

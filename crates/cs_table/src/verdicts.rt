@@ -29,7 +29,7 @@ impl Model for Verdicts {
 impl Verdicts {
     ghost use Rattle.std.specs.Prelude.{◌≡◌, ◌<◌, ◌≤◌, ◌*◌, ◌++◌, [], ◌∷◌, length, IfOk, IfErr, OnOk};
     ghost use Rattle.cs_table.specs.Judged.{verdicts, most_pairs};
-    ghost use Rattle.cs_table.specs.Refused.{IsRefused};
+    ghost use Rattle.cs_table.specs.Refused.{IsRefusal};
 
     /// How many items the table has.
     pub fn items(&self) -> usize
@@ -69,7 +69,7 @@ impl Verdicts {
     pub(crate) fn empty(alloc: Global, items: usize, rules: usize) -> Result<Verdicts, TableFault>
         ensures found { IfOk result (λ t. (t.items ≡ items) × (t.rules ≡ rules) × (t.given ≡ [])) }
         ensures within { OnOk result (items * rules ≤ most_pairs) }
-        ensures refused { IfErr result (IsRefused items rules) }
+        ensures refused { IfErr result (IsRefusal items rules) }
     {
         let Some(pairs) = items.checked_mul(rules) else {
             return Err(TableFault::TooManyPairs);

@@ -75,14 +75,14 @@ module _ (names : Vec (String Global) Global) (place name : String Global) where
   by_recursion : map of_guard (guard.OutOfMemory ∷ guard.Cycle names ∷ guard.ChainTooLong ∷ []) ≡ OutOfMemory ∷ Cycle names ∷ ChainTooLong ∷ []
   by_recursion = refl
 
-  by_root : (map of_instance (instance.OutOfMemory ∷ instance.UnknownRoot ∷ []) ≡ OutOfMemory ∷ UnknownRoot ∷ []) × (map of_compile (compile.OutOfMemory ∷ compile.UnknownRoot ∷ []) ≡ OutOfMemory ∷ UnknownRoot ∷ [])
+  by_root : (map of_instance (instance.OutOfMemory ∷ instance.UnknownRoot ∷ instance.TooManyPairs ∷ []) ≡ OutOfMemory ∷ UnknownRoot ∷ TooManyPairs ∷ []) × (map of_compile (compile.OutOfMemory ∷ compile.UnknownRoot ∷ []) ≡ OutOfMemory ∷ UnknownRoot ∷ [])
   by_root = (refl, refl)
 
   by_schema : map of_schema (schema.OutOfMemory ∷ schema.Keyword place name ∷ schema.Shape place name ∷ schema.Reference place name ∷ schema.Loop names ∷ [])
       ≡ OutOfMemory ∷ Keyword place name ∷ Shape place name ∷ Reference place name ∷ Loop names ∷ []
   by_schema = refl
 
-  by_document : (map of_document (doc.OutOfMemory ∷ doc.NotJson ∷ doc.NotInteger ∷ []) ≡ OutOfMemory ∷ NotJson ∷ NotInteger ∷ []) × (of_validate validate.OutOfMemory ≡ OutOfMemory)
+  by_document : (map of_document (doc.OutOfMemory ∷ doc.NotJson ∷ doc.NotInteger ∷ []) ≡ OutOfMemory ∷ NotJson ∷ NotInteger ∷ []) × (map of_validate (validate.OutOfMemory ∷ []) ≡ OutOfMemory ∷ [])
   by_document = (refl, refl)
 
 -- ---- lines

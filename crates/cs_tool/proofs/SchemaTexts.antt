@@ -8,10 +8,11 @@ use Rattle.cs_instance.specs.Instance.{definition, IsInstance}
 use Rattle.cs_profile.specs.Profile.{IsSchema}
 use Rattle.cs_profile.specs.Refusal.{IsRefusal}
 use Rattle.cs_profile.specs.Validity.{IsValidity}
+use Rattle.cs_profile.proofs.Chains.{none_loop}
 use Rattle.cs_profile.specs.declared.fault.SchemaFault.{SchemaFault}
 use Rattle.cs_profile.specs.declared.fault.SchemaFault.TheVariants as schema
-use Rattle.cs_tool.specs.Accepted.{IsAccepted, IsReady}
-use Rattle.cs_tool.specs.Headline.{IsExport, IsVerdict, IsValidated, IsAgreement, IsNoSchema, IsSchemaText, VetRefusal, ValidateRefusal}
+use Rattle.cs_tool.specs.Accepted.{IsAccepted, IsReadyToExport}
+use Rattle.cs_tool.specs.Headline.{IsExport, IsVerdict, IsValidated, IsAgreement, IsNoSchema, IsSchemaText, IsReadyToValidate, ValidateRefusal, AgreeRefusal}
 use Rattle.cs_tool.specs.declared.fault.Fault.{Fault}
 use Rattle.cs_tool.specs.declared.fault.Fault.TheVariants.{OutOfMemory, SchemaNotJson, Keyword, Shape, Reference, Loop, NotJson, NotInteger}
 
@@ -19,10 +20,10 @@ some_before : {A B : Type 0} (f : A → Option B) (o : Option A) (y : B) → opt
 some_before f None y e = cc
 some_before f (Some x) y e = refl
 
-is_json : (b : List ℕ) (d : Document) → Reads b d → IsJson b
+pub is_json : (b : List ℕ) (d : Document) → Reads b d → IsJson b
 is_json b d reads = (reads.0, some_before _ _ d reads.1)
 
-no_other : (b : List ℕ) (d : Document) → Reads b d → HasOtherNumber b → ⊥
+pub no_other : (b : List ℕ) (d : Document) → Reads b d → HasOtherNumber b → ⊥
 no_other b d reads other = cc (reads.1, other.1)
 
 -- a text is read as one document
@@ -35,13 +36,14 @@ no_fault d is schema.OutOfMemory h = refl
 no_fault d is (schema.Keyword p n) h = let w = is.shaped in cc (w, h)
 no_fault d is (schema.Shape p n) h = let w = is.shaped in cc (w, h)
 no_fault d is (schema.Reference p n) h = let w = is.named in let v = h.1 in cc (w, v)
-no_fault d is (schema.Loop ns) h = absurd (is.no_loop _ h.loop)
+no_fault d is (schema.Loop ns) h = absurd (none_loop d is.no_loop _ h.told.loop)
 
 is_schema : (s : List ℕ) → IsSchemaText s → (f : SchemaFault) → IsNoSchema s f → f ≡ schema.OutOfMemory
 is_schema s is f h = no_fault h.document (subst IsSchema (one_document s is.document h.document is.read h.read) is.profile) f h.refused
 
 -- only the document's text refuses
-pub by_document : (s t : List ℕ) → IsSchemaText s → (e : Fault) → ValidateRefusal s t e → (P : Fault → Type 0) → P OutOfMemory → (¬ (IsJson t) → P NotJson) → (HasOtherNumber t → P NotInteger) → P e
+pub by_document : (s t : List ℕ) → IsSchemaText s → (e : Fault) → ValidateRefusal s t e → (P : Fault → Type 0)
+    → P OutOfMemory → (¬ (IsJson t) → P NotJson) → (HasOtherNumber t → P NotInteger) → P e
 by_document s t is OutOfMemory h P memory json integer = memory
 by_document s t is SchemaNotJson h P memory json integer = absurd (h (is_json s is.document is.read))
 by_document s t is (Keyword p n) h P memory json integer = let memory_only = is_schema s is (schema.Keyword p n) h in cc
@@ -54,24 +56,28 @@ by_document s t is NotJson h P memory json integer = json h.1
 by_document s t is _ h P memory json integer = absurd h
 
 -- a schema and a document are judged, unless memory runs out
-pub answered : (s t : List ℕ) (d : Document) → IsSchemaText s → Reads t d → (e : Fault) → ValidateRefusal s t e → e ≡ OutOfMemory
-answered s t d is reads e h = by_document s t is e h (λ f. f ≡ OutOfMemory) refl (λ n. absurd (n (is_json t d reads))) (λ other. absurd (no_other t d reads other))
+pub answered : (s t : List ℕ) → IsReadyToValidate s t → (e : Fault) → ValidateRefusal s t e → e ≡ OutOfMemory
+answered s t is e h =
+    by_document s t (record { document = is.schema; read = is.read_schema; profile = is.profile }) e h (λ f. f ≡ OutOfMemory) refl
+    (λ n. absurd (n (is_json t is.document is.read)))
+    (λ other. absurd (no_other t is.document is.read other))
 
 module _ (sources : List (List ℕ)) (root schema_text : List ℕ) (exported : IsExport sources root schema_text) where
-  pub is_schema_text : IsSchemaText schema_text
+  is_schema_text : IsSchemaText schema_text
   is_schema_text = record { document = exported.schema; read = exported.read; profile = exported.profile }
 
-  pub is_ready : IsReady sources root
+  pub is_ready : IsReadyToExport sources root
   is_ready = (exported.environment, exported.name, exported.declares)
 
-  -- what refuses judging by the exported text refuses judging by the sources
-  pub refused : (t : List ℕ) (e : Fault) → ValidateRefusal schema_text t e → VetRefusal sources root t e
-  refused t e h = by_document schema_text t is_schema_text e h (VetRefusal sources root t) tt (λ n. (is_ready, n)) (λ other. (is_ready, other))
+  -- what refuses judging by the exported text refuses judging by both
+  pub refused : (t : List ℕ) (e : Fault) → ValidateRefusal schema_text t e → AgreeRefusal sources root t e
+  refused t e h =
+      by_document schema_text t is_schema_text e h (AgreeRefusal sources root t) tt (λ n. (is_ready, n)) (λ other. (is_ready, other))
 
 bare_once : (n m : List ℕ) → (35 ∷ n) ≡ (35 ∷ m) → n ≡ m
 bare_once n m e = cc
 
-one_name : (E : Environment) (root n m : List ℕ) → Names E root n → Names E root m → n ≡ m
+pub one_name : (E : Environment) (root n m : List ℕ) → Names E root n → Names E root m → n ≡ m
 one_name E root n m a b = bare_once n m (sym a.text ∙ b.text)
 
 -- both sides answer the same

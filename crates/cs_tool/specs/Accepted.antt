@@ -45,8 +45,13 @@ pub record IsAccepted (sources : List (List ℕ)) (E : Environment) : Type 0 whe
   pub declares : E ≡ environment_of_files files
   pub guarded : IsGuarded E
 
--- the sources are accepted and declare the environment E, whose forms are exportable, and the root is its definition n
+-- the sources are accepted and declare the environment E, and the root is its definition n
 pub record DeclaresRoot (sources : List (List ℕ)) (root : List ℕ) (E : Environment) (n : List ℕ) : Type 0 where
+  pub accepted : IsAccepted sources E
+  pub named : Names E root n
+
+-- the same, and the forms of the environment are exportable
+pub record ExportsRoot (sources : List (List ℕ)) (root : List ℕ) (E : Environment) (n : List ℕ) : Type 0 where
   pub accepted : IsAccepted sources E
   pub exportable : IsExportablePackage E
   pub named : Names E root n
@@ -54,6 +59,10 @@ pub record DeclaresRoot (sources : List (List ℕ)) (root : List ℕ) (E : Envir
 -- the sources declare the root
 abbrev pub IsReady : List (List ℕ) → List ℕ → Type 0
 IsReady sources root = (E : Environment) × (n : List ℕ) × DeclaresRoot sources root E n
+
+-- the same, and their forms are exportable
+abbrev pub IsReadyToExport : List (List ℕ) → List ℕ → Type 0
+IsReadyToExport sources root = (E : Environment) × (n : List ℕ) × ExportsRoot sources root E n
 
 -- ---- each condition, where it is the first that fails
 
@@ -105,15 +114,20 @@ pub record IsNotExportable (sources : List (List ℕ)) : Type 0 where
   pub accepted : IsAccepted sources environment
   pub other : ¬ (IsExportablePackage environment)
 
--- the sources are accepted and their forms exportable, and they don't declare the root
+-- the sources are accepted, and don't declare the root
 pub record IsUnknownRoot (sources : List (List ℕ)) (root : List ℕ) : Type 0 where
+  pub environment : Environment
+  pub accepted : IsAccepted sources environment
+  pub unknown : (n : List ℕ) → ¬ (Names environment root n)
+
+-- the sources are accepted and their forms exportable, and they don't declare the root
+pub record IsUnknownExport (sources : List (List ℕ)) (root : List ℕ) : Type 0 where
   pub environment : Environment
   pub accepted : IsAccepted sources environment
   pub exportable : IsExportablePackage environment
   pub unknown : (n : List ℕ) → ¬ (Names environment root n)
 
--- the fault tells the first condition that the sources fail, whatever the root is; a form of expression that isn't exported
--- yet is told as one that is left out, at the first byte of the first source, after all else
+-- the fault tells the first condition that the sources fail, whatever the root is
 abbrev pub SourcesFault : List (List ℕ) → Fault → Type 0
 SourcesFault sources SourcesTooLong = most_bytes < bytes_of sources
 SourcesFault sources (NotUtf8 number) = (bytes_of sources ≤ most_bytes) × IsFirstOther sources number
@@ -121,7 +135,7 @@ SourcesFault sources (NoToken number offset) = IsMisspelled sources (NoToken num
 SourcesFault sources (Syntax number offset) = IsMisspelled sources (Syntax number offset)
 SourcesFault sources (IntegerRange number offset) = IsMisspelled sources (IntegerRange number offset)
 SourcesFault sources (TooHigh number) = IsMisspelled sources (TooHigh number)
-SourcesFault sources (LeftOut number offset) = IsMisspelled sources (LeftOut number offset) ⊎ ((number ≡ 0) × (offset ≡ 0) × IsNotExportable sources)
+SourcesFault sources (LeftOut number offset) = IsMisspelled sources (LeftOut number offset)
 SourcesFault sources (PackageName number) = IsNoPackage sources (PackageName number)
 SourcesFault sources TooLarge = IsNoPackage sources TooLarge
 SourcesFault sources (UnknownName number offset) = IsNoPackage sources (UnknownName number offset)
@@ -134,6 +148,14 @@ SourcesFault sources _ = ⊥
 -- the fault tells the first condition that the sources and the root fail: the root comes after the sources
 abbrev pub First : List (List ℕ) → List ℕ → Fault → Type 0
 First sources root f = SourcesFault sources f ⊎ ((f ≡ UnknownRoot) × IsUnknownRoot sources root)
+
+-- the same for an export: a form of expression that isn't exported yet is told as one that is left out, at the first byte
+-- of the first source, after all else of the sources
+abbrev pub FormsFault : List (List ℕ) → Fault → Type 0
+FormsFault sources f = SourcesFault sources f ⊎ ((f ≡ LeftOut 0 0) × IsNotExportable sources)
+
+abbrev pub FirstOfExport : List (List ℕ) → List ℕ → Fault → Type 0
+FirstOfExport sources root f = FormsFault sources f ⊎ ((f ≡ UnknownRoot) × IsUnknownExport sources root)
 
 -- ---- the parts, where memory may run out at any time; for private contracts alone
 
@@ -150,3 +172,7 @@ FilesRefusal sources f = IsFirstMisspelled sources f
 abbrev pub SourcesRefusal : List (List ℕ) → Fault → Type 0
 SourcesRefusal sources OutOfMemory = Unit {0}
 SourcesRefusal sources f = SourcesFault sources f
+
+abbrev pub FormsRefusal : List (List ℕ) → Fault → Type 0
+FormsRefusal sources OutOfMemory = Unit {0}
+FormsRefusal sources f = FormsFault sources f

@@ -1,7 +1,7 @@
 -- What the refusals of each crate are among those of the tool.
 use Rattle.std.specs.Prelude.{ℕ}
 use Rattle.cs_tool.specs.declared.fault.Fault.{Fault}
-use Rattle.cs_tool.specs.declared.fault.Fault.TheVariants.{NoToken, Syntax, LeftOut, IntegerRange, TooHigh, PackageName, UnknownName, FieldReference, NotOpened, Cycle, UnknownRoot, TooLarge, OutOfMemory, ChainTooLong, Keyword, Shape, Reference, Loop, NotJson, NotInteger}
+use Rattle.cs_tool.specs.declared.fault.Fault.TheVariants.{NoToken, Syntax, LeftOut, IntegerRange, TooHigh, PackageName, UnknownName, FieldReference, NotOpened, Cycle, UnknownRoot, TooLarge, OutOfMemory, ChainTooLong, Keyword, Shape, Reference, Loop, NotJson, NotInteger, TooManyPairs}
 use Rattle.cs_grammar.specs.declared.fault.SyntaxFault.{SyntaxFault}
 use Rattle.cs_grammar.specs.declared.fault.SyntaxFault.TheVariants as syntax
 use Rattle.cs_resolve.specs.declared.fault.ResolveFault.{ResolveFault}
@@ -44,6 +44,7 @@ of_guard guard.ChainTooLong = ChainTooLong
 abbrev pub of_instance : InstanceFault → Fault
 of_instance instance.OutOfMemory = OutOfMemory
 of_instance instance.UnknownRoot = UnknownRoot
+of_instance instance.TooManyPairs = TooManyPairs
 
 abbrev pub of_compile : CompileFault → Fault
 of_compile compile.OutOfMemory = OutOfMemory

@@ -5,6 +5,7 @@ use Rattle.cs_doc.specs.Texts.{Reads, IsJson, HasOtherNumber, text_of}
 use Rattle.cs_package.specs.Environment.{Environment, bodies}
 use Rattle.cs_instance.specs.Instance.{Rule, definition, IsInstance}
 use Rattle.cs_instance.specs.Instance as instance
+use Rattle.cs_instance.specs.Rules.{HasManyPairs}
 use Rattle.cs_schema.specs.Keywords.{defined}
 use Rattle.cs_schema.specs.Profile.{IsSchema}
 use Rattle.cs_schema.specs.SchemaDocument.{with_definitions}
@@ -15,16 +16,16 @@ use Rattle.cs_schema.specs.Refusal as schema
 use Rattle.cs_profile.specs.declared.fault.SchemaFault.{SchemaFault}
 use Rattle.cs_profile.specs.declared.fault.SchemaFault.TheVariants as schema_fault
 use Rattle.cs_compile.specs.Whole.{reference_to}
-use Rattle.cs_tool.specs.Accepted.{DeclaresRoot, IsReady, First}
+use Rattle.cs_tool.specs.Accepted.{DeclaresRoot, ExportsRoot, IsReady, IsReadyToExport, First, FirstOfExport}
 use Rattle.cs_tool.specs.declared.fault.Fault.{Fault}
-use Rattle.cs_tool.specs.declared.fault.Fault.TheVariants.{OutOfMemory, SchemaNotJson, Keyword, Shape, Reference, Loop, NotJson, NotInteger}
+use Rattle.cs_tool.specs.declared.fault.Fault.TheVariants.{OutOfMemory, SchemaNotJson, Keyword, Shape, Reference, Loop, NotJson, NotInteger, TooManyPairs}
 
 -- the text is the schema of the root definition that the sources spell
 pub record IsExport (sources : List (List ℕ)) (root text : List ℕ) : Type 0 where
   -- the sources are accepted, their forms exportable, and they declare the root
   pub environment : Environment
   pub name : List ℕ
-  pub declares : DeclaresRoot sources root environment name
+  pub declares : ExportsRoot sources root environment name
   -- the text is the compact text of a schema of the profile, nests at most 114 deep and is read as that schema
   pub schema : Document
   pub written : text ≡ text_of schema
@@ -49,6 +50,8 @@ pub record IsVerdict (sources : List (List ℕ)) (root text : List ℕ) (answer 
   pub document : Document
   pub read : Reads text document
   pub proper : IsDocument document
+  -- the document has no more pairs with the rules of the root than a table may have
+  pub within : ¬ (HasManyPairs environment name document)
   pub one_instance : instance.OneMeaning environment
   pub holds : (I : Rule → Document → Bool) → IsInstance environment I → answer ≡ I (definition name) document
 
@@ -70,17 +73,53 @@ pub record IsAgreement (sources : List (List ℕ)) (root text : List ℕ) (answe
   pub exported : IsExport sources root schema_text
   pub validated : IsValidated schema_text text answer
 
+-- ---- what is answered, unless memory runs out
+
+-- the sources declare the root, and the text is read as a document that has no more pairs with the root's rules than a
+-- table may have
+pub record IsReadyToVet (sources : List (List ℕ)) (root text : List ℕ) : Type 0 where
+  pub environment : Environment
+  pub name : List ℕ
+  pub declares : DeclaresRoot sources root environment name
+  pub document : Document
+  pub read : Reads text document
+  pub within : ¬ (HasManyPairs environment name document)
+
+-- the one text is read as a schema of the profile, and the other as a document
+pub record IsReadyToValidate (schema_text text : List ℕ) : Type 0 where
+  pub schema : Document
+  pub read_schema : Reads schema_text schema
+  pub profile : IsSchema schema
+  pub document : Document
+  pub read : Reads text document
+
+-- the text can be judged by the root, whose forms are exportable
+pub record IsReadyToAgree (sources : List (List ℕ)) (root text : List ℕ) : Type 0 where
+  pub exported : IsReadyToExport sources root
+  pub vetted : IsReadyToVet sources root text
+
 -- ---- refusals; memory may run out at any time
 
 abbrev pub ExportRefusal : List (List ℕ) → List ℕ → Fault → Type 0
 ExportRefusal sources root OutOfMemory = Unit {0}
-ExportRefusal sources root f = First sources root f
+ExportRefusal sources root f = FirstOfExport sources root f
 
--- the document's text comes after the sources and the root
+-- the text is read as a document that has more pairs with the rules of the root that the sources declare than a table may
+-- have
+pub record RootHasManyPairs (sources : List (List ℕ)) (root text : List ℕ) : Type 0 where
+  pub environment : Environment
+  pub name : List ℕ
+  pub declares : DeclaresRoot sources root environment name
+  pub document : Document
+  pub read : Reads text document
+  pub many : HasManyPairs environment name document
+
+-- the document's text comes after the sources and the root, and the pairs come last
 abbrev pub VetRefusal : List (List ℕ) → List ℕ → List ℕ → Fault → Type 0
 VetRefusal sources root text OutOfMemory = Unit {0}
 VetRefusal sources root text NotJson = IsReady sources root × ¬ (IsJson text)
 VetRefusal sources root text NotInteger = IsReady sources root × HasOtherNumber text
+VetRefusal sources root text TooManyPairs = RootHasManyPairs sources root text
 VetRefusal sources root text f = First sources root f
 
 -- the schema's text is read as a document, which is no schema of the profile by this fault
@@ -107,7 +146,24 @@ ValidateRefusal schema_text text NotInteger = HasOtherNumber schema_text ⊎ (Is
 ValidateRefusal schema_text text NotJson = IsSchemaText schema_text × ¬ (IsJson text)
 ValidateRefusal schema_text text _ = ⊥
 
--- for private contracts alone
+-- the conditions of an export come first, then the document's text, and last its pairs with the root's rules
+abbrev pub AgreeRefusal : List (List ℕ) → List ℕ → List ℕ → Fault → Type 0
+AgreeRefusal sources root text OutOfMemory = Unit {0}
+AgreeRefusal sources root text NotJson = IsReadyToExport sources root × ¬ (IsJson text)
+AgreeRefusal sources root text NotInteger = IsReadyToExport sources root × HasOtherNumber text
+AgreeRefusal sources root text TooManyPairs = IsReadyToExport sources root × RootHasManyPairs sources root text
+AgreeRefusal sources root text f = FirstOfExport sources root f
+
+-- ---- the parts, for private contracts alone
+
+-- a text is judged by a definition of an environment
+abbrev pub VerdictRefusal : Environment → List ℕ → List ℕ → Fault → Type 0
+VerdictRefusal E name text OutOfMemory = Unit {0}
+VerdictRefusal E name text NotJson = ¬ (IsJson text)
+VerdictRefusal E name text NotInteger = HasOtherNumber text
+VerdictRefusal E name text TooManyPairs = (d : Document) × Reads text d × HasManyPairs E name d
+VerdictRefusal E name text _ = ⊥
+
 abbrev pub SchemaTextRefusal : List ℕ → Fault → Type 0
 SchemaTextRefusal schema_text OutOfMemory = Unit {0}
 SchemaTextRefusal schema_text SchemaNotJson = ¬ (IsJson schema_text)

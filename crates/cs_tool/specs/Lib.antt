@@ -1,8 +1,8 @@
 pub mod Refusals
 pub mod Conversions
 pub mod Accepted
-pub mod Headline
 pub mod Translated
+pub mod Headline
 pub mod Streams
 pub mod Runs
 -- for contracts of private functions and proofs alone

@@ -1,15 +1,13 @@
 -- What a run answers, writes and leaves.
-use Rattle.std.specs.Prelude.{◌≡◌, ℕ, ◌≤◌, ◌⊎◌, List, [], ◌∷◌, ◌++◌, length, map, Bool, true, false, Option, Some, None, Vec, String, string_bytes, codes}
+use Rattle.std.specs.Prelude.{◌≡◌, ℕ, ◌≤◌, ◌⊎◌, List, [], ◌∷◌, ◌++◌, length, map, Bool, true, false, Option, Some, None, Vec, string_bytes, codes}
 use Rattle.std.specs.declared.alloc.Global.{Global}
 use Rattle.std.specs.Io.KnownBytes.{Keeps}
-use Rattle.cs_document.specs.Document.{Document}
-use Rattle.cs_doc.specs.Texts.{Reads}
 use Rattle.cs_tool.specs.declared.fault.Fault.{Fault}
 use Rattle.cs_tool.specs.declared.fault.Fault.TheVariants.{OutOfMemory, SourcesTooLong, InputTooLong, ReadFailed, WriteFailed}
 use Rattle.cs_tool.specs.declared.request.Request.{Request}
 use Rattle.cs_tool.specs.declared.request.Request.TheVariants.{Export, Vet, Validate, Agree}
-use Rattle.cs_tool.specs.Accepted.{most_bytes, IsReady}
-use Rattle.cs_tool.specs.Headline.{IsExport, IsVerdict, IsValidated, IsAgreement, IsSchemaText, ExportRefusal, VetRefusal, ValidateRefusal}
+use Rattle.cs_tool.specs.Accepted.{most_bytes, IsReadyToExport}
+use Rattle.cs_tool.specs.Headline.{IsExport, IsVerdict, IsValidated, IsAgreement, IsReadyToVet, IsReadyToValidate, IsReadyToAgree, ExportRefusal, VetRefusal, ValidateRefusal, AgreeRefusal}
 use Rattle.cs_tool.specs.Streams.{IsWholeInput, IsLonger, AppendsFront}
 
 -- ---- the call that a request makes
@@ -73,18 +71,14 @@ abbrev pub IsCallRefusal : Call → Fault → Type 0
 IsCallRefusal (export sources root) fault = ExportRefusal sources root fault
 IsCallRefusal (vet sources root doc) fault = VetRefusal sources root doc fault
 IsCallRefusal (validate schema doc) fault = ValidateRefusal schema doc fault
-IsCallRefusal (agree sources root doc) fault = VetRefusal sources root doc fault
-
--- the text is read as a document
-abbrev pub IsDocumentText : List ℕ → Type 0
-IsDocumentText text = (d : Document) × Reads text d
+IsCallRefusal (agree sources root doc) fault = AgreeRefusal sources root doc fault
 
 -- a call that is answered, unless memory runs out
 abbrev pub IsReadyCall : Call → Type 0
-IsReadyCall (export sources root) = IsReady sources root
-IsReadyCall (vet sources root doc) = IsReady sources root × IsDocumentText doc
-IsReadyCall (validate schema doc) = IsSchemaText schema × IsDocumentText doc
-IsReadyCall (agree sources root doc) = IsReady sources root × IsDocumentText doc
+IsReadyCall (export sources root) = IsReadyToExport sources root
+IsReadyCall (vet sources root doc) = IsReadyToVet sources root doc
+IsReadyCall (validate schema doc) = IsReadyToValidate schema doc
+IsReadyCall (agree sources root doc) = IsReadyToAgree sources root doc
 
 -- ---- what a run answers
 

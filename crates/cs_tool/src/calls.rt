@@ -5,15 +5,16 @@ ghost use Rattle.cs_doc.specs.Texts.{Reads, text_of};
 ghost use Rattle.cs_document.specs.View.{doc_view};
 ghost use Rattle.cs_package.specs.Environment.{Environment, Names};
 ghost use Rattle.cs_instance.specs.Exportable.{IsExportablePackage};
+ghost use Rattle.cs_instance.specs.Rules.{HasManyPairs};
 ghost use Rattle.cs_schema.specs.Profile.{IsSchema};
 ghost use Rattle.cs_schema.specs.SchemaDocument.{document_of};
 ghost use Rattle.cs_schema.specs.Trim.{trim};
-ghost use Rattle.cs_tool.specs.Accepted.{IsAccepted, IsReady};
+ghost use Rattle.cs_tool.specs.Accepted.{IsAccepted, IsReadyToExport};
 ghost use Rattle.cs_tool.specs.Translated.{IsTranslated};
-ghost use Rattle.cs_tool.specs.Headline.{IsExport, IsVerdict, IsValidated, IsAgreement, IsSchemaText, ExportRefusal, VetRefusal, ValidateRefusal, SchemaTextRefusal};
+ghost use Rattle.cs_tool.specs.Headline.{IsExport, IsVerdict, IsValidated, IsAgreement, IsReadyToVet, IsReadyToValidate, IsReadyToAgree, ExportRefusal, VetRefusal, ValidateRefusal, AgreeRefusal, VerdictRefusal, SchemaTextRefusal};
 
 use crate::Fault;
-use crate::packages::package_of;
+use crate::packages::{exportable_package_of, package_of};
 use cs_compile::compile;
 use cs_doc::{Doc, DocFault, read_doc, write_doc};
 use cs_guard::Guarded;
@@ -25,7 +26,7 @@ use std::alloc::Global;
 /// The text of the schema that admits the documents that the root definition of the sources admits,
 /// without a newline. The root is named with its `#`.
 ///
-/// A refusal reports the first condition that the sources and the root fail, in the order of `First`
+/// A refusal reports the first condition that the sources and the root fail, in the order of `FirstOfExport`
 /// (`specs/Accepted.antt`).
 pub fn export(alloc: Global, sources: &[&[u8]], root: &str) -> Result<Vec<u8>, Fault>
     ensures found { IfOk result
@@ -33,9 +34,9 @@ pub fn export(alloc: Global, sources: &[&[u8]], root: &str) -> Result<Vec<u8>, F
     ensures translated { IfOk result (λ text. IsTranslated (map (λ s. s.now) sources.now) text.items) }
     ensures refused { IfErr result
         (λ e. ExportRefusal (map (λ s. s.now) sources.now) root.now e) }
-    ensures only { IsReady (map (λ s. s.now) sources.now) root.now → IsOkUnless result Fault.OutOfMemory }
+    ensures only { IsReadyToExport (map (λ s. s.now) sources.now) root.now → IsOkUnless result Fault.OutOfMemory }
 {
-    let guarded = package_of(alloc, sources)?;
+    let guarded = exportable_package_of(alloc, sources)?;
     exported(alloc, &guarded, root)
 }
 
@@ -70,14 +71,14 @@ fn text_of_schema(alloc: Global, schema: &SchemaDoc) -> Result<Vec<u8>, Fault>
 
 /// Whether the document is an instance of the root definition of the sources.
 ///
-/// Refusals in order: those of `export`; then `NotJson` and `NotInteger`, of the document.
+/// Refusals in order: the first condition that the sources and the root fail, as `First` has them (`specs/Accepted.antt`);
+/// `NotJson` and `NotInteger`, of the document; then `TooManyPairs`, of the document and the rules of the root.
 pub fn vet(alloc: Global, sources: &[&[u8]], root: &str, doc: &[u8]) -> Result<bool, Fault>
     ensures found { IfOk result
         (λ b. IsVerdict (map (λ s. s.now) sources.now) root.now doc.now b) }
     ensures refused { IfErr result
         (λ e. VetRefusal (map (λ s. s.now) sources.now) root.now doc.now e) }
-    ensures only { (d : Document) → IsReady (map (λ s. s.now) sources.now) root.now → Reads doc.now d
-        → IsOkUnless result Fault.OutOfMemory }
+    ensures only { IsReadyToVet (map (λ s. s.now) sources.now) root.now doc.now → IsOkUnless result Fault.OutOfMemory }
 {
     let guarded = package_of(alloc, sources)?;
     if guarded.package().find(root).is_none() {
@@ -88,13 +89,11 @@ pub fn vet(alloc: Global, sources: &[&[u8]], root: &str, doc: &[u8]) -> Result<b
 
 /// Whether the document is an instance of the root definition, which the package declares.
 fn verdict(alloc: Global, guarded: Guarded, root: &str, doc: &[u8]) -> Result<bool, Fault>
-    requires { IsExportablePackage guarded }
     ensures found { (sources : List (List ℕ)) → IsAccepted sources guarded
         → IfOk result (λ b. IsVerdict sources root.now doc.now b) }
-    ensures refused { (sources : List (List ℕ)) → IsReady sources root.now
-        → ((E : Environment) → IsAccepted sources E → guarded ≡ E)
-        → IfErr result (λ e. VetRefusal sources root.now doc.now e) }
-    ensures only { (n : List ℕ) (d : Document) → Names guarded root.now n → Reads doc.now d
+    ensures refused { (n : List ℕ) → Names guarded root.now n
+        → IfErr result (λ e. VerdictRefusal guarded n doc.now e) }
+    ensures only { (n : List ℕ) (d : Document) → Names guarded root.now n → Reads doc.now d → ¬ HasManyPairs guarded n d
         → IsOkUnless result Fault.OutOfMemory }
 {
     let doc = read_doc(alloc, doc)?;
@@ -108,7 +107,7 @@ fn verdict(alloc: Global, guarded: Guarded, root: &str, doc: &[u8]) -> Result<bo
 pub fn validate(alloc: Global, schema: &[u8], doc: &[u8]) -> Result<bool, Fault>
     ensures found { IfOk result (λ b. IsValidated schema.now doc.now b) }
     ensures refused { IfErr result (λ e. ValidateRefusal schema.now doc.now e) }
-    ensures only { (d : Document) → IsSchemaText schema.now → Reads doc.now d → IsOkUnless result Fault.OutOfMemory }
+    ensures only { IsReadyToValidate schema.now doc.now → IsOkUnless result Fault.OutOfMemory }
 {
     let schema = read_schema(alloc, &schema_text(alloc, schema)?)?;
     let doc = read_doc(alloc, doc)?;
@@ -130,16 +129,16 @@ fn schema_text(alloc: Global, text: &[u8]) -> Result<Doc, Fault>
 /// Whether the document is an instance of the root definition of the sources, judged on both sides: by the definition
 /// itself, and by the exported schema, which is read again from its text. Both answer the same.
 ///
-/// Refusals are those of `vet`.
+/// Refusals in order: those of `export`; `NotJson` and `NotInteger`, of the document; then `TooManyPairs`, of the document
+/// and the rules of the root.
 pub fn agree(alloc: Global, sources: &[&[u8]], root: &str, doc: &[u8]) -> Result<bool, Fault>
     ensures found { IfOk result
         (λ b. IsAgreement (map (λ s. s.now) sources.now) root.now doc.now b) }
     ensures refused { IfErr result
-        (λ e. VetRefusal (map (λ s. s.now) sources.now) root.now doc.now e) }
-    ensures only { (d : Document) → IsReady (map (λ s. s.now) sources.now) root.now → Reads doc.now d
-        → IsOkUnless result Fault.OutOfMemory }
+        (λ e. AgreeRefusal (map (λ s. s.now) sources.now) root.now doc.now e) }
+    ensures only { IsReadyToAgree (map (λ s. s.now) sources.now) root.now doc.now → IsOkUnless result Fault.OutOfMemory }
 {
-    let guarded = package_of(alloc, sources)?;
+    let guarded = exportable_package_of(alloc, sources)?;
     let schema = exported(alloc, &guarded, root)?;
     let is_instance = verdict(alloc, guarded, root, doc)?;
     let is_valid = validate(alloc, &schema, doc)?;

@@ -73,6 +73,7 @@ impl From<InstanceFault> for Fault {
         match fault {
             InstanceFault::OutOfMemory => Fault::OutOfMemory,
             InstanceFault::UnknownRoot => Fault::UnknownRoot,
+            InstanceFault::TooManyPairs => Fault::TooManyPairs,
         }
     }
 }

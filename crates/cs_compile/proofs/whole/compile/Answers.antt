@@ -1,6 +1,7 @@
 use Rattle.std.proofs.Common.{◌≡◌, sym, subst, ◌∙◌}
 use Rattle.std.proofs.lemmas.Option.{same_Some}
 use Rattle.cs_package.specs.Environment.{Names, IsDefinitionName}
+use Rattle.cs_guard.specs.Guarded.{IsGuarded}
 use Rattle.cs_instance.specs.Exportable.{IsExportablePackage}
 use Rattle.cs_profile.specs.SchemaDocument.{schema_view, document_of}
 use Rattle.cs_compile.specs.Translation.{IsTranslation}
@@ -21,7 +22,7 @@ returns-in-Ok-clause-found c =
     let n = c.in-Some.ensures.found.0 in
     let names = c.in-Some.ensures.found.1 in
     let root : schema_view c.in_ok-root.root ≡ reference_to n = refers _ n _ _ c.in-Some.ensures.found.2 c.bare_name.ensures.at c.in_ok-root.ensures in
-    let made = compiles c.package-package.result.now n (record { root = c.in_ok-root.root; definitions = c.in_ok-definitions.definitions.entries }) root c.in_ok-definitions.ensures.each c.in_ok-definitions.ensures.nothing_else names.declared in
+    let made = compiles c.package-package.result.now n (record { root = c.in_ok-root.root; definitions = c.in_ok-definitions.definitions.entries }) root c.in_ok-definitions.ensures.each c.in_ok-definitions.ensures.nothing_else names.declared (subst IsGuarded (sym c.package-package.ensures.kept) c.package-package.ensures.guarded) in
     let kept = c.package-package.ensures.kept in
     (n, subst (λ E. Names E c.args.root.now n) kept names, subst (λ E. Compiles E n c.in-Ok.schema) kept (subst (Compiles c.package-package.result.now n) (sym c.in-Ok.ensures.found) made))
 

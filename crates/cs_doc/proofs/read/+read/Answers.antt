@@ -9,8 +9,8 @@ use Rattle.cs_doc.specs.Texts.{documents_of, members_of}
 use Rattle.cs_document.specs.Document.{AreDocuments}
 use Rattle.cs_document.specs.View.{list_view}
 use Rattle.cs_document.proofs.Maps.{texts, insert_last, texts_more}
-use Rattle.cs_document.proofs.Entries.{Entry}
-use Rattle.cs_doc.proofs.Documents.{documents_before, documents_before-end, members_before, members_before-end, documents_of-turn, members_of-turn, no_member_before, AreDocuments-push, ValuesFit, ValuesFit-push, AreMembers-of_sorted}
+use Rattle.cs_document.proofs.Entries.{Entry, ValuesFit, ValuesFit-push, AreMembers-of_sorted}
+use Rattle.cs_doc.proofs.Documents.{documents_before, documents_before-end, members_before, members_before-end, documents_of-turn, members_of-turn, no_member_before, AreDocuments-push}
 use Rattle.cs_doc.proofs.read.+read.Goals as goal
 
 pub docs_of-loop-item-preserved : goal.docs_of-loop-item-preserved

@@ -8,7 +8,8 @@ use Rattle.cs_document.specs.Document.{AreDocuments}
 use Rattle.cs_doc.specs.Texts.{documents_of, members_of}
 use Rattle.cs_document.specs.View.{list_view}
 use Rattle.cs_document.proofs.Maps.{texts}
-use Rattle.cs_doc.proofs.Documents.{documents_before, members_before, ValuesFit}
+use Rattle.cs_document.proofs.Entries.{ValuesFit}
+use Rattle.cs_doc.proofs.Documents.{documents_before, members_before}
 use Rattle.cs_doc.proofs.read.+read.Given as goal
 
 abbrev pub invariant-docs_of-loop-item : goal.invariant-docs_of-loop-item

@@ -7,8 +7,7 @@ use Rattle.cs_document.specs.Document.{AreDocuments}
 use Rattle.cs_doc.specs.Texts.{data_of, items_of, values_of}
 use Rattle.cs_document.specs.View.{doc_view, list_view, object_view}
 use Rattle.cs_document.proofs.Maps.{drop_at, drop_past}
-use Rattle.cs_document.proofs.Entries.{Entry}
-use Rattle.cs_doc.proofs.Documents.{ValuesFit, AreMembers-of_sorted}
+use Rattle.cs_document.proofs.Entries.{Entry, ValuesFit, AreMembers-of_sorted}
 use Rattle.cs_doc.proofs.write.+write.Goals as goal
 
 -- a key's token, and those of its value, before the rest

@@ -4,7 +4,7 @@ use Rattle.serde_json.specs.Written.{items_outline, members_outline}
 use Rattle.cs_document.specs.Document.{AreDocuments}
 use Rattle.cs_doc.specs.Texts.{items_of, values_of}
 use Rattle.cs_document.specs.View.{list_view, object_view}
-use Rattle.cs_doc.proofs.Documents.{ValuesFit}
+use Rattle.cs_document.proofs.Entries.{ValuesFit}
 use Rattle.cs_doc.proofs.write.+write.Given as goal
 
 -- what is written, with what is left, is the whole

@@ -17,20 +17,20 @@ loop-number-preserved c =
     let M = c.loop-number.marks.items in
     let n = c.loop-number.number in
     let P : List VisitState → Type 0 = λ N. State G N [] × ((k : ℕ) → k < n + 1 → IsDone N k) in
-    let both : P c.match-index.marks.items = elim c.match-index.branch [
+    let both : P c.match-index.marks.items × (c.match-index.path.items ≡ []) = elim c.match-index.branch [
       | in-New+in_ok-walk_from w ↦
-          let got = w.in_ok-walk_from.ensures in
+          let got = w.in_ok-walk_from.ensures.walked in
           let N = w.walk_from.new.marks in
           let before : w.deref_mut.result.now ≡ M = w.deref_mut.ensures.value in
           let back = written_back M N c.loop-number.marks.len (omega arith) (w.walk_from.auto.marks ∙ ap length before) in
           let same : c.match-index.marks.items ≡ N = ap (λ v. v.items) w.marks-is ∙ back in
           let kept = subst (λ K. Keeps K N) before got.kept in
-          subst P (sym same) (got.state, one_more M N n kept inv.done got.done)
+          (subst P (sym same) (got.state, one_more M N n kept inv.done got.done), ap (λ v. v.items) w.path-is ∙ w.in_ok-walk_from.ensures.path)
       | in_default w ↦
           let same : c.match-index.marks.items ≡ M = ap (λ v. v.items) w.marks-is in
           let here = done_of G M n inv.state (λ e. w.in_default.not-New (c.index.ensures ∙ get_or_from_slice_get M n New c.index.result.now e)) (let s = inv.state in omega (arith, s.marked.long, graph_long c.args.graph.now, c.loop-number-test.true)) in
-          subst P (sym same) (inv.state, one_more M M n (keeps_same M) inv.done here)
-    ] in record { state = both.0; done = both.1 }
+          (subst P (sym same) (inv.state, one_more M M n (keeps_same M) inv.done here), ap (λ v. v.items) w.path-is ∙ inv.path)
+    ] in record { state = both.0.0; path = both.1; done = both.0.1 }
 
 pub returns-clause-found : goal.returns-clause-found
 returns-clause-found c =

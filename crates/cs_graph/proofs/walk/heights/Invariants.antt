@@ -1,4 +1,4 @@
-use Rattle.std.proofs.Common.{ℕ, ◌<◌, []}
+use Rattle.std.proofs.Common.{◌≡◌, ℕ, ◌<◌, []}
 use Rattle.cs_graph.specs.Graph.{graph_of}
 use Rattle.cs_graph.specs.Walk.{State, IsDone}
 use Rattle.cs_graph.proofs.walk.heights.Given as goal
@@ -6,5 +6,6 @@ use Rattle.cs_graph.proofs.walk.heights.Given as goal
 abbrev pub invariant-loop-number : goal.invariant-loop-number
 invariant-loop-number l = record {
   state : State (graph_of l.graph) l.marks.items [];
+  path : l.path.items ≡ [];
   done : (k : ℕ) → k < l.number → IsDone l.marks.items k;
 }

@@ -19,15 +19,18 @@ loop-last-init c =
     let n = c.args.number in
     let N = set M n Open in
     let marks : c.enter.new.marks ≡ N = c.enter.ensures.marks in
-    let path : c.enter.new.path.items ≡ frame_of n ∷ [] = c.in_ok-enter.ensures.path ∙ ap (λ s. s ++ frame_of n ∷ []) c.new-path.ensures.items in
+    let path : c.enter.new.path.items ≡ frame_of n ∷ [] = c.in_ok-enter.ensures.path ∙ ap (λ s. s ++ frame_of n ∷ []) c.requires.path in
     let written = at_set M n Open (slice_get_within M n New c.requires.new) in record {
       walking = subst (λ S. Walking G c.enter.new.marks S) (sym path) (subst (λ K. Walking G K (frame_of n ∷ [])) (sym marks) (starting G M n c.requires.state c.requires.new));
       kept = subst (Keeps M) (sym marks) (keeps_set M n New Open c.requires.new new_done open_new);
       entered = λ e. let f : Some Open ≡ Some New = sym written ∙ sym (ap (λ K. slice_get K n) marks) ∙ e in cc;
     }
 
-pub returns : goal.returns
-returns c =
+pub returns-clause-path : goal.returns-clause-path
+returns-clause-path c = none_left c.pop.new.self.items (omega (arith, c.in_default.ensures.cases.1))
+
+pub returns-clause-walked : goal.returns-clause-walked
+returns-clause-walked c =
     let G = graph_of c.args.graph.now in
     let N = c.loop-last.marks in
     let inv = c.loop-last.invariant in

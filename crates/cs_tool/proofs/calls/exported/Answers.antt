@@ -1,20 +1,16 @@
-use Rattle.std.proofs.Common.{◌≡◌, ℕ, ◌≤◌, List, Vec, Err, Bor, map, refl, sym, ap, subst, arith}
-use Rattle.std.proofs.lemmas.Result.{IfErr-weaker, IfOk-weaker, err_from_is_err_and}
+use Rattle.std.proofs.Common.{◌≡◌, ℕ, ◌≤◌, List, Vec, sym, ap, subst, arith}
+use Rattle.std.proofs.lemmas.Result.{IfOk-weaker}
 use Rattle.std.specs.declared.alloc.Global.{Global}
 use Rattle.cs_document.specs.Document.{Document, depth}
 use Rattle.cs_doc.specs.Texts.{Reads, text_of}
-use Rattle.cs_package.specs.Environment.{Environment, Names}
+use Rattle.cs_package.specs.Environment.{Environment}
 use Rattle.cs_package.specs.Height.{IsLow}
 use Rattle.cs_schema.specs.SchemaDocument.{document_of, with_definitions, definitions_view, unless_no_map}
 use Rattle.cs_schema.specs.Trim.{with_dialect}
-use Rattle.cs_compile.specs.declared.fault.CompileFault.{CompileFault}
-use Rattle.cs_compile.specs.declared.fault.CompileFault.TheVariants as compile
 use Rattle.cs_compile.specs.Translation.{IsTranslation}
 use Rattle.cs_tool.specs.Translated.{IsTranslated}
-use Rattle.cs_tool.specs.Accepted.{IsAccepted, IsReady}
-use Rattle.cs_tool.specs.Conversions.{of_compile}
+use Rattle.cs_tool.specs.Accepted.{IsAccepted}
 use Rattle.cs_tool.specs.Headline.{IsExport}
-use Rattle.cs_tool.specs.declared.fault.Fault.TheVariants.{OutOfMemory}
 use Rattle.cs_tool.proofs.Low.{low_files}
 use Rattle.cs_tool.proofs.calls.exported.Goals as goal
 

@@ -72,37 +72,37 @@ returns-in_err-is_valid-clause-refused c =
     rw (p.1, p.2) (by_judging c.args.schema.now c.args.doc.now e)
 
 pub returns-in_err-schema_text-clause-only : goal.returns-in_err-schema_text-clause-only
-returns-in_err-schema_text-clause-only c = λ d is reads.
+returns-in_err-schema_text-clause-only c = λ is.
     let s = c.args.schema.now in
     let t = c.args.doc.now in
     let e = c.in_err-schema_text.field-0.0 in
     let p = err_from_is_err_and c.from_residual.result c.from_residual.ensures.1 in
-    rw (p.1, p.2) (answered s t d is reads e (by_schema_text s t e c.in_err-schema_text.ensures.refused))
+    rw (p.1, p.2) (answered s t is e (by_schema_text s t e c.in_err-schema_text.ensures.refused))
 
 pub returns-in_err-schema-clause-only : goal.returns-in_err-schema-clause-only
-returns-in_err-schema-clause-only c = λ d is reads.
+returns-in_err-schema-clause-only c = λ is.
     let s = c.args.schema.now in
     let t = c.args.doc.now in
     let e = c.in_err-schema.field-0.0 in
     let p = err_from_is_err_and c.from_residual-in_err-schema.result c.from_residual-in_err-schema.ensures.1 in
-    rw (p.1, p.2) (answered s t d is reads (of_schema e) (by_schema s t (doc_view c.in_ok-schema_text.field-0) c.in_ok-schema_text.ensures.found e c.in_err-schema.ensures.refused))
+    rw (p.1, p.2) (answered s t is (of_schema e) (by_schema s t (doc_view c.in_ok-schema_text.field-0) c.in_ok-schema_text.ensures.found e c.in_err-schema.ensures.refused))
 
 pub returns-in_err-doc-clause-only : goal.returns-in_err-doc-clause-only
-returns-in_err-doc-clause-only c = λ d is reads.
+returns-in_err-doc-clause-only c = λ is.
     let s = c.args.schema.now in
     let t = c.args.doc.now in
     let e = c.in_err-doc.field-0.0 in
     let is_text : IsSchemaText c.args.schema.now = record { document = doc_view c.in_ok-schema_text.field-0; read = c.in_ok-schema_text.ensures.found; profile = c.in_ok-schema.ensures.accepted } in
     let p = err_from_is_err_and c.from_residual-in_err-doc.result c.from_residual-in_err-doc.ensures.1 in
-    rw (p.1, p.2) (answered s t d is reads (of_document e) (by_document s t is_text e (λ h. c.in_err-doc.ensures.not_json (ap Err h)) (λ h. c.in_err-doc.ensures.not_integer (ap Err h))))
+    rw (p.1, p.2) (answered s t is (of_document e) (by_document s t is_text e (λ h. c.in_err-doc.ensures.not_json (ap Err h)) (λ h. c.in_err-doc.ensures.not_integer (ap Err h))))
 
 pub returns-in_err-is_valid-clause-only : goal.returns-in_err-is_valid-clause-only
-returns-in_err-is_valid-clause-only c = λ d is reads.
+returns-in_err-is_valid-clause-only c = λ is.
     let s = c.args.schema.now in
     let t = c.args.doc.now in
     let e = c.in_err-is_valid.field-0.0 in
     let p = err_from_is_err_and c.from_residual-in_err-is_valid.result c.from_residual-in_err-is_valid.ensures.1 in
-    rw (p.1, p.2) (answered s t d is reads (of_validate e) (by_judging s t e))
+    rw (p.1, p.2) (answered s t is (of_validate e) (by_judging s t e))
 
 pub returns-clause-found : goal.returns-clause-found
 returns-clause-found c =

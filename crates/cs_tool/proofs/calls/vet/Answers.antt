@@ -1,8 +1,12 @@
 use Rattle.std.proofs.Common.{◌≡◌, ℕ, true, false, List, Option, Some, None, IfSome, IfNone, Bor, map, sym, subst, ◌∙◌}
 use Rattle.std.specs.Option.{is_some}
 use Rattle.cs_package.specs.Environment.{Environment, Names, name_at}
-use Rattle.cs_instance.specs.Exportable.{IsExportablePackage}
-use Rattle.cs_tool.specs.Accepted.{IsAccepted, IsReady}
+use Rattle.cs_instance.specs.Rules.{HasManyPairs}
+use Rattle.std.proofs.lemmas.Result.{IfErr-weaker, err_from_is_err_and}
+use Rattle.cs_tool.specs.Accepted.{IsAccepted, DeclaresRoot}
+use Rattle.cs_tool.specs.Headline.{IsReadyToVet, VerdictRefusal, VetRefusal}
+use Rattle.cs_tool.specs.declared.fault.Fault.{Fault}
+use Rattle.cs_tool.specs.declared.fault.Fault.TheVariants.{OutOfMemory, NotJson, NotInteger, TooManyPairs}
 use Rattle.cs_tool.proofs.calls.vet.Goals as goal
 
 none_known : {X : Type 0} (o : Option X) (P : Type 0) → is_some o ≡ false → IfNone o P → P
@@ -14,23 +18,37 @@ some_known None P is h = cc
 some_known (Some x) P is h = (x, h)
 
 module _ (sources : List (List ℕ)) (root : List ℕ) (E : Environment) where
-  ready : IsAccepted sources E → IsExportablePackage E → (n : List ℕ) → Names E root n → IsReady sources root
-  ready accepted exportable n named = (E, n, record { accepted = accepted; exportable = exportable; named = named })
+  -- what refuses the verdict refuses the call
+  by_verdict : (n text : List ℕ) → DeclaresRoot sources root E n → (e : Fault) → VerdictRefusal E n text e → VetRefusal sources root text e
+  by_verdict n text declares OutOfMemory h = tt
+  by_verdict n text declares NotJson h = ((E, n, declares), h)
+  by_verdict n text declares NotInteger h = ((E, n, declares), h)
+  by_verdict n text declares TooManyPairs h = record { environment = E; name = n; declares = declares; document = h.0; read = h.1; many = h.2 }
+  by_verdict n text declares _ h = absurd h
 
-  -- a root that is declared isn't unknown
-  declared : ((F : Environment) → IsAccepted sources F → E ≡ F) → ((n : List ℕ) → Names E root n → ⊥) → IsReady sources root → ⊥
-  declared one unknown r = unknown r.1 (subst (λ F. Names F root r.1) (sym (one r.0 r.2.accepted)) r.2.named)
+  -- the one environment of the sources
+  module _ (one : (F : Environment) → IsAccepted sources F → E ≡ F) (text : List ℕ) (r : IsReadyToVet sources root text) where
+    same : r.environment ≡ E
+    same = sym (one r.environment r.declares.accepted)
+
+    declared : Names E root r.name
+    declared = subst (λ F. Names F root r.name) same r.declares.named
+
+    within : ¬ (HasManyPairs E r.name r.document)
+    within = subst (λ F. ¬ (HasManyPairs F r.name r.document)) same r.within
+
+pub returns-in_err-guarded-clause-only : goal.returns-in_err-guarded-clause-only
+returns-in_err-guarded-clause-only c = λ r.
+    let p = err_from_is_err_and c.from_residual.result c.from_residual.ensures.1 in
+    rw (p.1, p.2) (c.in_err-guarded.ensures.only r.environment r.declares.accepted)
 
 pub returns-then-is_none-clause-only : goal.returns-then-is_none-clause-only
-returns-then-is_none-clause-only c = λ d r reads.
+returns-then-is_none-clause-only c = λ r.
     let now : Bor (List ℕ) → List ℕ = λ s. s.now in
     let root = c.args.root.now in
     let E = c.package.result.now in
     let unknown = none_known c.find.result ((n : List ℕ) → Names E root n → ⊥) c.if-is_none.ensures c.find.ensures.unknown in
-    absurd (declared (map now c.args.sources.now) root E (λ F accepted. c.package.ensures.kept ∙ c.in_ok-guarded.ensures.unique F accepted) unknown r)
-
-pub verdict-requires : goal.verdict-requires
-verdict-requires c = c.in_ok-guarded.ensures.exportable
+    absurd (unknown r.name (declared (map now c.args.sources.now) root E (λ F accepted. c.package.ensures.kept ∙ c.in_ok-guarded.ensures.unique F accepted) c.args.doc.now r))
 
 pub returns-clause-found : goal.returns-clause-found
 returns-clause-found c =
@@ -42,14 +60,18 @@ returns-clause-refused c =
     let now : Bor (List ℕ) → List ℕ = λ s. s.now in
     let sources = map now c.args.sources.now in
     let root = c.args.root.now in
-    let E = c.package.result.now in
-    let kept = sym c.package.ensures.kept in
-    let found = some_known c.find.result (λ i. (n : List ℕ) × Names E root n × (name_at E i ≡ Some n)) c.if-is_none.ensures c.find.ensures.found in
-    let accepted = subst (IsAccepted sources) kept c.in_ok-guarded.ensures.accepted in
-    let exportable = subst IsExportablePackage kept c.in_ok-guarded.ensures.exportable in
-    c.verdict.ensures.refused sources (ready sources root E accepted exportable found.1.0 found.1.1) c.in_ok-guarded.ensures.unique
+    let text = c.args.doc.now in
+    let E = c.in_ok-guarded.guarded in
+    let found = some_known c.find.result (λ i. (n : List ℕ) × Names c.package.result.now root n × (name_at c.package.result.now i ≡ Some n)) c.if-is_none.ensures c.find.ensures.found in
+    let n = found.1.0 in
+    let named = subst (λ F. Names F root n) c.package.ensures.kept found.1.1 in
+    IfErr-weaker _ (VerdictRefusal E n text) (VetRefusal sources root text) (by_verdict sources root E n text (record { accepted = c.in_ok-guarded.ensures.accepted; named = named })) (c.verdict.ensures.refused n named)
 
 pub returns-clause-only : goal.returns-clause-only
-returns-clause-only c = λ d r reads.
-    let same = sym (c.in_ok-guarded.ensures.unique r.0 r.2.accepted) in
-    c.verdict.ensures.only r.1 d (subst (λ F. Names F c.args.root.now r.1) same r.2.named) reads
+returns-clause-only c = λ r.
+    let now : Bor (List ℕ) → List ℕ = λ s. s.now in
+    let sources = map now c.args.sources.now in
+    let root = c.args.root.now in
+    let E = c.in_ok-guarded.guarded in
+    let one = c.in_ok-guarded.ensures.unique in
+    c.verdict.ensures.only r.name r.document (declared sources root E one c.args.doc.now r) r.read (within sources root E one c.args.doc.now r)

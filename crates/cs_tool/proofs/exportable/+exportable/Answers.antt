@@ -1,7 +1,6 @@
 use Rattle.std.proofs.Common.{◌≡◌, ℕ, ◌+◌, ◌<◌, List, [], ◌∷◌, ◌++◌, map, take, length, get_or, sym, ap, ◌∙◌, subst, rules}
 use Rattle.std.proofs.lemmas.Bool.{false≢true}
 use Rattle.std.proofs.lemmas.List.{map-append, take_more, take_all}
-use Rattle.cs_package.specs.Expression as cue
 use Rattle.cs_package.specs.Expression.{Expression}
 use Rattle.cs_package.specs.View.{expression_of, expressions_of}
 use Rattle.cs_package.specs.declared.shape.Shape.{Shape}

@@ -1,5 +1,4 @@
-use Rattle.std.proofs.Common.{◌≡◌, ℕ, List, [], ◌∷◌, Bor, map, inr, refl, sym, ap, subst, ◌∙◌}
-use Rattle.std.proofs.lemmas.Bool.{false≢true}
+use Rattle.std.proofs.Common.{◌≡◌, ℕ, List, [], ◌∷◌, Bor, map, refl, sym, ap, subst, ◌∙◌}
 use Rattle.std.proofs.lemmas.List.Elements.{All-from_recursion}
 use Rattle.std.proofs.lemmas.Result.{err_from_is_err_and}
 use Rattle.std.specs.List.{AllByRecursion}
@@ -12,7 +11,6 @@ use Rattle.cs_guard.specs.Cycles.{IsRefusal}
 use Rattle.cs_guard.specs.Guarded.{IsGuarded}
 use Rattle.cs_guard.specs.declared.fault.GuardFault.{GuardFault}
 use Rattle.cs_guard.specs.declared.fault.GuardFault.TheVariants as guard
-use Rattle.cs_instance.specs.Exportable.{IsExportablePackage}
 use Rattle.cs_tool.specs.Accepted.{AreTexts, AreFiles, IsAccepted, IsUnguarded, SourcesRefusal}
 use Rattle.cs_tool.specs.Conversions.{of_guard}
 use Rattle.cs_tool.specs.declared.fault.Fault.{Fault}
@@ -58,19 +56,6 @@ returns-in_err-package-clause-refused c =
     let refused = subst (IsRefusal e) c.in_ok-resolve.ensures.found c.in_err-package.ensures.refused in
     let p = err_from_is_err_and c.from_residual-in_err-package.result c.from_residual-in_err-package.ensures.1 in
     rw (p.1, p.2) (by_guard sources texts files spelled c.in_ok-resolve.ensures.accepted e refused)
-
-pub returns-then-not-is_exportable-clause-refused : goal.returns-then-not-is_exportable-clause-refused
-returns-then-not-is_exportable-clause-refused c =
-    let now : Bor (List ℕ) → List ℕ = λ s. s.now in
-    let sources = map now c.args.sources.now in
-    let texts : AreTexts sources = record { within = c.if-not-fits.ensures.0 refl; utf8 = c.in_ok-texts.ensures.utf8 } in
-    let files = map file_view c.in_ok-files.files.items in
-    let same = ap (map now) c.deref.ensures.value ∙ c.in_ok-texts.ensures.texts in
-    let spelled = subst (λ ss. AreFiles ss files) same c.in_ok-files.ensures.spelled in
-    let found = c.in_ok-package.ensures.found in
-    let is = accepted sources texts files spelled c.in_ok-resolve.ensures.accepted _ _ found c.in_ok-resolve.ensures.found c.in_ok-package.ensures.guarded in
-    let other : IsExportablePackage c.in_ok-package.package → ⊥ = λ h. false≢true (c.if-not-is_exportable.ensures.1 (subst IsExportablePackage (sym c.package-2.ensures.kept) h)) in
-    subst (SourcesRefusal sources) (sym c.not_exportable.ensures) (inr (refl, refl, record { environment = c.in_ok-package.package; accepted = is; other = other }))
 
 pub returns-clause-accepted : goal.returns-clause-accepted
 returns-clause-accepted c =

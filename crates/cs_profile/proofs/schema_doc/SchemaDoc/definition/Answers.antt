@@ -12,4 +12,4 @@ returns-clause-found c =
     (c.get.ensures.value ∙ ap (λ v. lookup (is_at (λ k. slice_cmp nat_cmp c.args.name.now (string_bytes k))) v.definitions) c.self.view_is)
 
 pub returns-clause-defined : goal.returns-clause-defined
-returns-clause-defined c = defined_definition c.args.self.now (subst IsWhole c.self.view_is c.self.invariant) c.args.name.now
+returns-clause-defined c = defined_definition c.args.self.now (subst IsWhole c.self.view_is c.self.invariant.whole) c.args.name.now

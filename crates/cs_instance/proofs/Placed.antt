@@ -1,0 +1,209 @@
+-- Rules one after another: each new one is that of one more rule.
+use Rattle.std.proofs.Common.{◌≡◌, ℕ, zero, suc, ◌+◌, ◌<◌, ◌≤◌, ◌⊎◌, inl, inr, ⊎_elim, List, [], ◌∷◌, ◌++◌, Some, Result, map, length, slice_index, Bor, refl, sym, ap, ap₂, ◌∙◌, subst, append_assoc, append-nil, length-append, lt_of_lt_of_le, arith}
+use Rattle.std.specs.Prelude.{slice_get, IfOk}
+use Rattle.std.specs.List.{AllByRecursion as Each}
+use Rattle.std.specs.declared.alloc.AllocError.{AllocError}
+use Rattle.std.proofs.lemmas.List.{get_or_push, get_or_append_left}
+use Rattle.std.proofs.lemmas.Result.{IfOk-weaker}
+use Rattle.cs_document.proofs.Each.{each_map}
+use Rattle.cs_package.specs.Expression as cue
+use Rattle.cs_package.specs.Expression.{Expression, Expressions, Declaration, operands, declarations}
+use Rattle.cs_package.specs.Environment.{Environment}
+use Rattle.cs_package.specs.View.{expressions_of, declarations_of}
+use Rattle.cs_package.specs.declared.shape.Shape.{Shape}
+use Rattle.cs_guard.specs.References.{direct}
+use Rattle.cs_instance.specs.Constraint.{Rest, nothing, anything, each, Constraint, always, never, the_null, the_boolean, the_integer, the_text, of_kind, in_range, bounded, another_integer, another_text, not_the_null, all_of, any_of, object_of, list_of}
+use Rattle.cs_instance.specs.Instance.{Rule, definition, node, constraint_of}
+use Rattle.cs_instance.specs.Numbering.{map_declaration, map_rest, map_constraint, PartsBelow, RestBelow, rule_at}
+use Rattle.cs_instance.specs.declared.rules.Rule.{Rule as Coded}
+use Rattle.cs_instance.specs.Steps.{asked_of}
+use Rattle.cs_instance.specs.Placing.{waiting, expression_at, AreNumbered, AreAt, placed_by, left_by, IsKnown, Places}
+
+pub got_push : {X : Type 0} (xs : List X) (x y : X) (r : ℕ) → slice_get (xs ++ x ∷ []) r ≡ Some y → ((r < length xs) × (slice_get xs r ≡ Some y)) ⊎ ((r ≡ length xs) × (x ≡ y))
+got_push [] x y zero e = inr (refl, cc)
+got_push [] x y (suc r) e = cc
+got_push (z ∷ zs) x y zero e = inl (omega arith, e)
+got_push (z ∷ zs) x y (suc r) e = ⊎_elim (λ (l : (r < length zs) × (slice_get zs r ≡ Some y)). let a = l.0 in inl (omega arith, l.1)) (λ (l : (r ≡ length zs) × (x ≡ y)). inr (ap suc l.0, l.1)) (got_push zs x y r e)
+
+pub got_front : {X : Type 0} (xs more : List X) (i : ℕ) (d : X) → slice_get xs i ≡ Some d → slice_get (xs ++ more) i ≡ Some d
+got_front [] more i d e = cc
+got_front (x ∷ xs) more zero d e = e
+got_front (x ∷ xs) more (suc i) d e = got_front xs more i d e
+
+-- other names that agree below n and m
+module _ {D N : Type 0} (n m : ℕ) (f f' : ℕ → D) (g g' : ℕ → N) (h : (d : ℕ) → d < n → f d ≡ f' d) (k : (p : ℕ) → p < m → g p ≡ g' p) where
+  numbers_same : {X : Type 0} (n : ℕ) (f f' : ℕ → X) → ((d : ℕ) → d < n → f d ≡ f' d) → (ds : List ℕ) → Each (λ d. d < n) ds → map f ds ≡ map f' ds
+  numbers_same n f f' h [] b = refl
+  numbers_same n f f' h (d ∷ ds) b = ap₂ ◌∷◌ (h d b.0) (numbers_same n f f' h ds b.1)
+
+  declarations_same : (ds : List (Declaration ℕ)) → Each (λ (d : Declaration ℕ). d.value < m) ds → map (map_declaration g) ds ≡ map (map_declaration g') ds
+  declarations_same [] b = refl
+  declarations_same (d ∷ ds) b = ap₂ ◌∷◌ (ap (λ v. record { label = d.label; mark = d.mark; value = v }) (k d.value b.0)) (declarations_same ds b.1)
+
+  rest_same : (r : Rest ℕ) → RestBelow m r → map_rest g r ≡ map_rest g' r
+  rest_same nothing b = refl
+  rest_same anything b = refl
+  rest_same (each p) b = ap each (k p b)
+
+  pub names_same : (a : Constraint ℕ ℕ) → PartsBelow n m a → map_constraint f g a ≡ map_constraint f' g' a
+  names_same (all_of ds) b = ap all_of (numbers_same n f f' h ds b)
+  names_same (any_of ds) b = ap any_of (numbers_same n f f' h ds b)
+  names_same (object_of ds o) b = ap (λ fs. object_of fs o) (declarations_same ds b)
+  names_same (list_of es rest) b = ap₂ list_of (numbers_same m g g' k es b.0) (rest_same rest b.1)
+  names_same always b = refl
+  names_same never b = refl
+  names_same the_null b = refl
+  names_same (the_boolean t) b = refl
+  names_same (the_integer z) b = refl
+  names_same (the_text s) b = refl
+  names_same (of_kind q) b = refl
+  names_same (in_range l u) b = refl
+  names_same (bounded r l) b = refl
+  names_same (another_integer z) b = refl
+  names_same (another_text s) b = refl
+  names_same not_the_null b = refl
+
+rest_weaker : (m m' : ℕ) → m ≤ m' → (r : Rest ℕ) → RestBelow m r → RestBelow m' r
+rest_weaker m m' l nothing b = tt
+rest_weaker m m' l anything b = tt
+rest_weaker m m' l (each p) b = lt_of_lt_of_le b l
+
+pub parts_weaker : (n m m' : ℕ) → m ≤ m' → (a : Constraint ℕ ℕ) → PartsBelow n m a → PartsBelow n m' a
+parts_weaker n m m' l (all_of ds) b = b
+parts_weaker n m m' l (any_of ds) b = b
+parts_weaker n m m' l (object_of ds o) b = each_map (λ (d : Declaration ℕ). d.value < m) (λ (d : Declaration ℕ). d.value < m') (λ d c. lt_of_lt_of_le c l) ds b
+parts_weaker n m m' l (list_of es rest) b = (each_map (λ p. p < m) (λ p. p < m') (λ p c. lt_of_lt_of_le c l) es b.0, rest_weaker m m' l rest b.1)
+parts_weaker n m m' l always b = tt
+parts_weaker n m m' l never b = tt
+parts_weaker n m m' l the_null b = tt
+parts_weaker n m m' l (the_boolean t) b = tt
+parts_weaker n m m' l (the_integer z) b = tt
+parts_weaker n m m' l (the_text s) b = tt
+parts_weaker n m m' l (of_kind q) b = tt
+parts_weaker n m m' l (in_range u v) b = tt
+parts_weaker n m m' l (bounded r q) b = tt
+parts_weaker n m m' l (another_integer z) b = tt
+parts_weaker n m m' l (another_text s) b = tt
+parts_weaker n m m' l not_the_null b = tt
+
+pub at_front : (xs ys : List Rule) (d : ℕ) → d < length xs → rule_at xs d ≡ rule_at (xs ++ ys) d
+at_front xs ys d l = sym (get_or_append_left xs ys (node (cue.atom cue.top)) d l)
+
+pub expression_front : (xs ys : List Expression) (d : ℕ) → d < length xs → expression_at xs d ≡ expression_at (xs ++ ys) d
+expression_front xs ys d l = sym (get_or_append_left xs ys (cue.atom cue.top) d l)
+
+module _ (E : Environment) (placed : List Rule) (inner : List Expression) (rules : List Coded) (n : AreNumbered E placed inner rules) where
+  -- one rule more
+  pub push : (s : Rule) (rule : Coded) → constraint_of E s ≡ map_constraint (rule_at placed) (expression_at inner) (asked_of rule) → PartsBelow (length placed) (length inner) (asked_of rule) → AreNumbered E (placed ++ s ∷ []) inner (rules ++ rule ∷ [])
+  push s rule is below = record {
+    sizes = length-append rules (rule ∷ []) ∙ ap (λ k. k + 1) n.sizes ∙ sym (length-append placed (s ∷ []));
+    asks = λ r x e. asks r x (got_push rules rule x r e);
+    parts = λ r x e. parts r x (got_push rules rule x r e);
+  }
+    where
+      asks : (r : ℕ) (x : Coded) → ((r < length rules) × (slice_get rules r ≡ Some x)) ⊎ ((r ≡ length rules) × (rule ≡ x)) → constraint_of E (rule_at (placed ++ s ∷ []) r) ≡ map_constraint (rule_at (placed ++ s ∷ [])) (expression_at inner) (asked_of x)
+      asks r x (inl l) =
+          ap (constraint_of E) (sym (at_front placed (s ∷ []) r (subst (λ k. r < k) n.sizes l.0))) ∙ n.asks r x l.1
+          ∙ names_same r (length inner) (rule_at placed) (rule_at (placed ++ s ∷ [])) (expression_at inner) (expression_at inner) (λ d b. at_front placed (s ∷ []) d (let u = l.0 in let v = n.sizes in omega arith)) (λ p b. refl) (asked_of x) (n.parts r x l.1)
+      asks r x (inr l) =
+          ap (constraint_of E) (get_or_push placed s (node (cue.atom cue.top)) r (sym n.sizes ∙ sym l.0)) ∙ is
+          ∙ names_same (length placed) (length inner) (rule_at placed) (rule_at (placed ++ s ∷ [])) (expression_at inner) (expression_at inner) (λ d b. at_front placed (s ∷ []) d b) (λ p b. refl) (asked_of rule) below
+          ∙ ap (λ y. map_constraint (rule_at (placed ++ s ∷ [])) (expression_at inner) (asked_of y)) l.1
+
+      parts : (r : ℕ) (x : Coded) → ((r < length rules) × (slice_get rules r ≡ Some x)) ⊎ ((r ≡ length rules) × (rule ≡ x)) → PartsBelow r (length inner) (asked_of x)
+      parts r x (inl l) = n.parts r x l.1
+      parts r x (inr l) = subst (λ y. PartsBelow r (length inner) (asked_of y)) l.1 (subst (λ k. PartsBelow k (length inner) (asked_of rule)) (sym n.sizes ∙ sym l.0) below)
+
+  -- more expressions wait
+  pub wait : (more : List Expression) → AreNumbered E placed (inner ++ more) rules
+  wait more =
+      let longer : length inner ≤ length (inner ++ more) = omega (arith, length-append inner more) in record {
+        sizes = n.sizes;
+        asks = λ r x e. n.asks r x e ∙ names_same r (length inner) (rule_at placed) (rule_at placed) (expression_at inner) (expression_at (inner ++ more)) (λ d b. refl) (λ p b. expression_front inner more p b) (asked_of x) (n.parts r x e);
+        parts = λ r x e. parts_weaker r (length inner) (length (inner ++ more)) longer (asked_of x) (n.parts r x e);
+      }
+
+-- the rule of an expression that may be pushed now: what it asks of the same document has its rules, and what it asks of
+-- documents inside waits
+pub record IsReady (E : Environment) (placed : List Rule) (e : Expression) (pending : List Expression) (old : List Coded) (asked : Constraint ℕ ℕ) : Type 0 where
+  pub more : List Rule
+  pub rules : placed_by e ≡ more ++ node e ∷ []
+  pub numbered : AreNumbered E (placed ++ more) pending old
+  pub asks : constraint_of E (node e) ≡ map_constraint (rule_at (placed ++ more)) (expression_at pending) asked
+  pub parts : PartsBelow (length (placed ++ more)) (length pending) asked
+
+-- what a pushed rule gives
+pub ready_placed : (E : Environment) (placed : List Rule) (e : Expression) (pending : List Expression) (old new : List Coded) (rule : Coded) (k : ℕ) → k ≡ length old → new ≡ old ++ rule ∷ [] → IsReady E placed e pending old (asked_of rule)
+    → AreNumbered E (placed ++ placed_by e) pending new × AreAt (placed ++ placed_by e) (k ∷ []) (e ∷ [])
+ready_placed E placed e pending old new rule k is grown r =
+    let all : (placed ++ r.more) ++ node e ∷ [] ≡ placed ++ placed_by e = append_assoc placed r.more (node e ∷ []) ∙ ap (λ ss. placed ++ ss) (sym r.rules) in
+    let numbered = push E (placed ++ r.more) pending old r.numbered (node e) rule r.asks r.parts in
+    let place : length (placed ++ r.more) ≡ k = sym r.numbered.sizes ∙ sym is in
+    let found : rule_at (placed ++ placed_by e) k ≡ node e = ap (λ ss. rule_at ss k) (sym all) ∙ get_or_push (placed ++ r.more) (node e) (node (cue.atom cue.top)) k place in
+    let bound : k < length (placed ++ placed_by e) = subst (λ ss. k < length ss) all (omega (arith, length-append (placed ++ r.more) (node e ∷ []), place)) in (
+      subst (λ ss. AreNumbered E ss pending new) all (subst (λ rs. AreNumbered E ((placed ++ r.more) ++ node e ∷ []) pending rs) (sym grown) numbered),
+      (ap (λ s. s ∷ []) found, (bound, tt)),
+    )
+
+-- what the numbering of an expression ensures, where all but its own rule is ready
+pub finish : (result : Result ℕ AllocError) (numbers : List ℕ) (first old new : List Coded) (rule : Coded) (before after : List (Bor Shape)) (e : List (List ℕ) → Expression)
+    → IfOk result (λ k. (k ≡ length old) × (new ≡ old ++ rule ∷ []))
+    → ((names : List (List ℕ)) → waiting names after ≡ waiting names before ++ left_by (e names))
+    → ((names : List (List ℕ)) (E : Environment) (placed : List Rule) → AreNumbered E placed (waiting names before) first → Each (IsKnown names numbers placed) (direct (e names)) → IsReady E placed (e names) (waiting names after) old (asked_of rule))
+    → IfOk result (Places numbers first new before after e)
+finish result numbers first old new rule before after e done waits ready =
+    IfOk-weaker result (λ k. (k ≡ length old) × (new ≡ old ++ rule ∷ [])) (Places numbers first new before after e)
+    (λ k d names. (waits names, λ E placed n refs. ready_placed E placed (e names) (waiting names after) old new rule k d.0 d.1 (ready names E placed n refs))) done
+
+-- an expression that asks nothing of the same document, where more waits
+pub alone : (E : Environment) (placed : List Rule) (e : Expression) (before more : List Expression) (after : List Expression) (old : List Coded) (asked : Constraint ℕ ℕ) → AreNumbered E placed before old → after ≡ before ++ more → placed_by e ≡ node e ∷ []
+    → constraint_of E (node e) ≡ map_constraint (rule_at placed) (expression_at after) asked → PartsBelow (length placed) (length after) asked → IsReady E placed e after old asked
+alone E placed e before more after old asked n w s asks parts =
+    let same : placed ≡ placed ++ [] = sym (append-nil placed) in record {
+      more = [];
+      rules = s;
+      numbered = subst (λ ss. AreNumbered E ss after old) same (subst (λ xs. AreNumbered E placed xs old) (sym w) (wait E placed before old n more));
+      asks = subst (λ ss. constraint_of E (node e) ≡ map_constraint (rule_at ss) (expression_at after) asked) same asks;
+      parts = subst (λ ss. PartsBelow (length ss) (length after) asked) same parts;
+    }
+
+-- an expression without parts
+pub leaf : (result : Result ℕ AllocError) (numbers : List ℕ) (old new : List Coded) (rule : Coded) (before : List (Bor Shape)) (e : Expression)
+    → IfOk result (λ k. (k ≡ length old) × (new ≡ old ++ rule ∷ [])) → placed_by e ≡ node e ∷ [] → left_by e ≡ []
+    → ((E : Environment) (f : ℕ → Rule) (g : ℕ → Expression) → constraint_of E (node e) ≡ map_constraint f g (asked_of rule)) → ((n m : ℕ) → PartsBelow n m (asked_of rule))
+    → IfOk result (Places numbers old new before before (λ names. e))
+leaf result numbers old new rule before e done s l asks parts =
+    let waits = λ (names : List (List ℕ)). sym (append-nil (waiting names before)) ∙ ap (λ xs. waiting names before ++ xs) (sym l) in
+    finish result numbers old old new rule before before (λ names. e) done waits
+    (λ names E placed n refs. alone E placed e (waiting names before) (left_by e) (waiting names before) old (asked_of rule) n (waits names) s (asks E (rule_at placed) (expression_at (waiting names before))) (parts (length placed) (length (waiting names before))))
+
+-- the same, of an equal expression
+pub same_places : (result : Result ℕ AllocError) (numbers : List ℕ) (old new : List Coded) (before after : List (Bor Shape)) (e e' : List (List ℕ) → Expression) → ((names : List (List ℕ)) → e names ≡ e' names)
+    → IfOk result (Places numbers old new before after e') → IfOk result (Places numbers old new before after e)
+same_places result numbers old new before after e e' same h =
+    IfOk-weaker result (Places numbers old new before after e') (Places numbers old new before after e)
+    (λ k d names. subst (λ x. (waiting names after ≡ waiting names before ++ left_by x) × ((E : Environment) (placed : List Rule) → AreNumbered E placed (waiting names before) old → Each (IsKnown names numbers placed) (direct x) → AreNumbered E (placed ++ placed_by x) (waiting names after) new × AreAt (placed ++ placed_by x) (k ∷ []) (x ∷ []))) (sym (same names)) (d names)) h
+
+-- a known definition stays known
+pub known_more : (names : List (List ℕ)) (numbers : List ℕ) (placed more : List Rule) (n : List ℕ) → IsKnown names numbers placed n → IsKnown names numbers (placed ++ more) n
+known_more names numbers placed more n h i e = let k = h i e in (k.0, got_front placed more (slice_index numbers i) (definition n) k.1)
+
+pub operands_of : (es : List Expression) → operands (expressions_of es) ≡ es
+operands_of [] = refl
+operands_of (e ∷ es) = ap (λ r. e ∷ r) (operands_of es)
+
+pub declarations_back : (ds : List (Declaration Expression)) → declarations (declarations_of ds) ≡ ds
+declarations_back [] = refl
+declarations_back (d ∷ ds) = ap (λ r. d ∷ r) (declarations_back ds)
+
+pub each_push : {X : Type 0} (P : X → Type 0) (xs : List X) (x : X) → Each P xs → P x → Each P (xs ++ x ∷ [])
+each_push P [] x h p = (p, tt)
+each_push P (y ∷ ys) x h p = (h.0, each_push P ys x h.1 p)
+
+pub rules_kept : (a b : List Rule) (ps : List ℕ) → Each (λ p. p < length a) ps → map (rule_at (a ++ b)) ps ≡ map (rule_at a) ps
+rules_kept a b [] h = refl
+rules_kept a b (p ∷ ps) h = ap₂ ◌∷◌ (sym (at_front a b p h.0)) (rules_kept a b ps h.1)
+
+pub expressions_kept : (a b : List Expression) (ps : List ℕ) → Each (λ p. p < length a) ps → map (expression_at (a ++ b)) ps ≡ map (expression_at a) ps
+expressions_kept a b [] h = refl
+expressions_kept a b (p ∷ ps) h = ap₂ ◌∷◌ (sym (expression_front a b p h.0)) (expressions_kept a b ps h.1)

@@ -1,0 +1,95 @@
+-- The instance relation is the table of its judge.
+use Rattle.std.proofs.Common.{◌≡◌, ℕ, ◌*◌, ◌<◌, ◌≤◌, Bool, List, map, length, get_or, slice_index, refl, sym, ap, ap₂, ◌∙◌, subst, arith}
+use Rattle.std.proofs.lemmas.Option.{slice_get-get_or}
+use Rattle.std.proofs.lemmas.List.{length-map}
+use Rattle.std.proofs.lemmas.List.Sorted.{length_permutation}
+use Rattle.cs_document.specs.Document.{Document}
+use Rattle.cs_document.specs.Opened.{a_null, opened, map_opened}
+use Rattle.cs_flat.specs.Nodes.{nodes, node_at}
+use Rattle.cs_flat.specs.Items.{items, AreItems}
+use Rattle.cs_table.specs.Judged.{AllVerdicts, Judgement, IsJudged, Table, verdicts, most_pairs}
+use Rattle.cs_table.specs.Refused as limits
+use Rattle.cs_table.specs.declared.fault.TableFault.{TableFault}
+use Rattle.cs_table.specs.declared.fault.TableFault.TheVariants as table
+use Rattle.cs_package.specs.Environment.{Environment, Names, written}
+use Rattle.cs_instance.specs.Constraint.{always, is_satisfied}
+use Rattle.cs_instance.specs.Instance.{Rule, node, constraint_of, IsInstance}
+use Rattle.cs_instance.specs.Numbering.{map_constraint, rule_at}
+use Rattle.cs_instance.specs.Rules.{rules_of, HasManyPairs}
+use Rattle.cs_instance.specs.Judging.{IsJudge, IsTable}
+use Rattle.cs_instance.specs.Refusal.{IsRefusal}
+use Rattle.cs_instance.specs.Faults.{fault_of}
+use Rattle.cs_instance.specs.declared.rules.Rule.{Rule as Coded}
+use Rattle.cs_instance.specs.Steps.{asked_of, numbered, answer}
+use Rattle.cs_instance.specs.Rooted.{IsRooted}
+use Rattle.cs_instance.proofs.Judged.{answer_is}
+use Rattle.cs_instance.proofs.Satisfied.{named, at_documents}
+use Rattle.cs_instance.proofs.Wholes.{coded_found, rules_count}
+
+pub judge_of : (E : Environment) (n : List ℕ) (d : Document) (root : ℕ) (rules : List Coded) (inner : List ℕ) → IsRooted E n rules inner root → IsJudge E n d root (length (nodes d)) (length rules) (answer rules inner (items d))
+judge_of E n d root rules inner h = record {
+  all = h.all;
+  are = h.are;
+  asked = map (numbered inner) rules;
+  numbering = h.numbering;
+  item_count = refl;
+  rule_count = sym (length-map rules (numbered inner)) ∙ h.numbering.count;
+  found = h.root;
+  answers = λ f i r c x e k.
+      let y = coded_found rules inner r c e in
+      answer_is rules inner (items d) i r f y.0 x y.1 k ∙ sym (named (λ q. q) (slice_index inner) (f i) f (asked_of y.0) x) ∙ ap (λ a. is_satisfied (f i) f a x) y.2;
+}
+
+module _ (E : Environment) (n : List ℕ) (d : Document) (root ic rc : ℕ) (judge : Judgement) (j : IsJudge E n d root ic rc judge) (are : AreItems (nodes d) (items d)) where
+  module _ (I : Rule → Document → Bool) (h : IsInstance E I) where
+    abbrev table_of : AllVerdicts
+    table_of i r = I (rule_at j.all r) (node_at (nodes d) i)
+
+    step_is : (rule : Rule) (x : Document) → I rule x ≡ is_satisfied (λ q. I q x) (λ y q. I q y) (map_constraint (λ p. p) node (constraint_of E rule)) (opened x)
+    step_is rule x = h rule x ∙ sym (named (λ p. p) node (λ q. I q x) (λ y q. I q y) (constraint_of E rule) (opened x))
+
+    pub is_judged : IsJudged ic rc judge table_of
+    is_judged i r l m =
+        let within : r < length j.asked = omega (arith, m, j.rule_count, j.numbering.count) in
+        let inside : i < length (items d) = omega (arith, l, j.item_count, are.count) in
+        let c = get_or j.asked r always in
+        let o = get_or (items d) i a_null in
+        let e = slice_get-get_or j.asked r always within in
+        let k = slice_get-get_or (items d) i a_null inside in
+        let x = node_at (nodes d) i in
+        step_is (rule_at j.all r) x
+        ∙ ap₂ (is_satisfied (λ q. I q x) (λ y q. I q y)) (j.numbering.asks r c e) (are.node i o k)
+        ∙ named (rule_at j.all) (rule_at j.all) (λ q. I q x) (λ y q. I q y) c (map_opened (node_at (nodes d)) o)
+        ∙ at_documents (node_at (nodes d)) (λ q. I (rule_at j.all q) x) (λ y q. I (rule_at j.all q) y) c o
+        ∙ sym (j.answers table_of i r c o e k)
+
+  pub is_table : (t : Table) → t.items ≡ ic → t.rules ≡ rc → length t.given ≡ ic * rc → ((f : AllVerdicts) → IsJudged ic rc judge f → (i r : ℕ) → i < ic → r < rc → verdicts t i r ≡ f i r) → IsTable E n d root t
+  is_table t a b given only = record {
+    all = j.all;
+    are = j.are;
+    item_count = a ∙ j.item_count;
+    rule_count = b ∙ j.rule_count;
+    count = given ∙ ap₂ ◌*◌ j.item_count j.rule_count;
+    found = j.found;
+    verdict = λ I h i r l m. only (table_of I h) (is_judged I h) i r (subst (λ k. i < k) (sym j.item_count) l) (subst (λ k. r < k) (sym j.rule_count) m);
+  }
+
+  pairs : ic * rc ≡ length (nodes d) * length (rules_of E j.are.names)
+  pairs = ap₂ ◌*◌ j.item_count (j.rule_count ∙ length_permutation (rules_of E j.are.names) j.all j.are.same)
+
+  pub few_pairs : ic * rc ≤ most_pairs → HasManyPairs E n d → ⊥
+  few_pairs l h =
+      let same : length (nodes d) * length (rules_of E h.names) ≡ ic * rc = ap (λ k. length (nodes d) * k) (rules_count E n j.are.names h.names j.are.reachable h.reachable) ∙ sym pairs in
+      let many : most_pairs < ic * rc = subst (λ k. most_pairs < k) same h.many in
+      omega (arith, l, many)
+
+  pub many_pairs : most_pairs < ic * rc → HasManyPairs E n d
+  many_pairs l = record { names = j.are.names; reachable = j.are.reachable; many = subst (λ k. most_pairs < k) pairs l }
+
+  pub refused : (root : List ℕ) → Names E root n → (e : TableFault) → limits.IsRefusal ic rc e → IsRefusal (fault_of e) E root d
+  refused root names table.OutOfMemory h = tt
+  refused root names table.TooManyPairs h = (n, names, many_pairs h)
+
+-- a text names one definition
+pub one_name : (E : Environment) (t n m : List ℕ) → Names E t n → Names E t m → m ≡ n
+one_name E t n m a b = (let e : written m ≡ written n = sym b.text ∙ a.text in cc)

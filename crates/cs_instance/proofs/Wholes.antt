@@ -1,0 +1,272 @@
+-- The rules of all that a root reaches, with their numbers.
+use Rattle.std.proofs.Common.{◌≡◌, ℕ, zero, suc, ◌<◌, inl, inr, Bool, true, false, List, [], ◌∷◌, ◌++◌, Option, Some, None, map, length, take, drop, slice_index, Bor, refl, sym, ap, ap₂, ◌∙◌, subst, append-nil, arith, option_map}
+use Rattle.std.specs.Prelude.{slice_get, Contains}
+use Rattle.std.specs.List.{flat_map, IsDistinct, AllByRecursion as Each}
+use Rattle.std.specs.List.Sorted.{IsPermutation}
+use Rattle.std.specs.Option.{unwrap_or}
+use Rattle.std.specs.Str.{bytes_eq}
+use Rattle.std.proofs.lemmas.Slice.Eq.{bytes_eq-Decides}
+use Rattle.std.proofs.lemmas.Simd.{map-map}
+use Rattle.std.proofs.lemmas.Option.{slice_get-map}
+use Rattle.std.proofs.lemmas.List.{length-map}
+use Rattle.std.proofs.lemmas.List.Sorted.{IsPermutation-map, IsPermutation-sym, Contains-permutation, length_permutation}
+use Rattle.std.proofs.lemmas.Map.Keys.{IsDistinct-IsPermutation}
+use Rattle.cs_document.proofs.Each.{each_member, each_append}
+use Rattle.cs_package.specs.Expression.{Expression, Declaration}
+use Rattle.cs_package.specs.Environment.{Environment, bodies, declared_names}
+use Rattle.cs_package.specs.View.{expressions_of}
+use Rattle.cs_package.specs.declared.shape.Shape.{Shape}
+use Rattle.cs_graph.specs.Chains.{On, Distinct, Chain}
+use Rattle.cs_guard.specs.Reachable.{referred, referred_all, referred_of, RefersTo, Reaches, AreReachable, last_of}
+use Rattle.cs_guard.specs.Numbered.{name_of}
+use Rattle.cs_guard.proofs.Numbers.{on_contains, contains_on}
+use Rattle.cs_instance.specs.Constraint.{Rest, nothing, anything, each, Constraint, always, never, the_null, the_boolean, the_integer, the_text, of_kind, in_range, bounded, another_integer, another_text, not_the_null, all_of, any_of, object_of, list_of}
+use Rattle.cs_instance.specs.Instance.{Rule, definition, node}
+use Rattle.cs_instance.specs.Numbering.{map_declaration, map_rest, map_constraint, PartsBelow, RestBelow, rule_at, IsNumbering}
+use Rattle.cs_instance.specs.Rules.{rules_of, rules_of_one}
+use Rattle.cs_instance.specs.declared.rules.Rule.{Rule as Coded}
+use Rattle.cs_instance.specs.Steps.{asked_of, numbered, ArePlaced}
+use Rattle.cs_instance.specs.Placing.{waiting, expression_at, AreNumbered, AreAt, IsKnown, PlacesWaiting, placed_with, left_with, bodies_of, rules_in}
+use Rattle.cs_instance.specs.Ranked.{ArePlacedBy, names_in}
+use Rattle.cs_instance.specs.Rooted.{IsRooted}
+use Rattle.cs_instance.proofs.Placed.{names_same, got_front}
+use Rattle.cs_instance.proofs.Counted.{then, equal, whole_of, gathered}
+use Rattle.cs_instance.proofs.Ordered.{distinct_of, each_found, names_at}
+use Rattle.cs_instance.proofs.Waited.{Referred, left_known_all}
+
+-- ---- what is reached
+
+chain_more : (E : Environment) (n : List ℕ) (ns : List (List ℕ)) (m : List ℕ) → Chain (RefersTo E) n ns → RefersTo E (last_of n ns) m → Chain (RefersTo E) n (ns ++ m ∷ [])
+chain_more E n [] m c r = (r, tt)
+chain_more E n (k ∷ ns) m c r = (c.0, chain_more E k ns m c.1 r)
+
+last_more : (n : List ℕ) (ns : List (List ℕ)) (m : List ℕ) → last_of n (ns ++ m ∷ []) ≡ m
+last_more n [] m = refl
+last_more n (k ∷ ns) m = last_more k ns m
+
+reaches_more : (E : Environment) (n m k : List ℕ) → Reaches E n m → RefersTo E m k → Reaches E n k
+reaches_more E n m k r s = record {
+  steps = r.steps ++ k ∷ [];
+  chain = chain_more E n r.steps k r.chain (subst (λ x. RefersTo E x k) (sym r.last) s);
+  last = last_more n r.steps k;
+}
+
+pub closed_in : (E : Environment) (root : List ℕ) (names ns : List (List ℕ)) → AreReachable E root names → IsPermutation names ns → (n m : List ℕ) → On n ns → Contains (referred_of E n) m → On m ns
+closed_in E root names ns r p n m o c =
+    let back = Contains-permutation ns names n (IsPermutation-sym names ns p) (on_contains n ns o) in
+    contains_on m ns (Contains-permutation names ns m p ((r.each m).1 (reaches_more E root n m ((r.each n).0 back) c)))
+
+bytes_flip : (x y : List ℕ) → bytes_eq x y ≡ bytes_eq y x
+bytes_flip x y = by (bytes_eq x y) (bytes_eq y x) refl refl
+  where
+    by : (a b : Bool) → bytes_eq x y ≡ a → bytes_eq y x ≡ b → a ≡ b
+    by true true e f = refl
+    by false false e f = refl
+    by true false e f = sym (sym f ∙ (bytes_eq-Decides y x).1 (sym ((bytes_eq-Decides x y).0 e)))
+    by false true e f = sym e ∙ (bytes_eq-Decides x y).1 (sym ((bytes_eq-Decides y x).0 f))
+
+distinct_same : (names ns : List (List ℕ)) → IsPermutation names ns → IsDistinct bytes_eq names → Distinct ns
+distinct_same names ns p d = distinct_of ns (IsDistinct-IsPermutation bytes_eq bytes_flip names ns p d)
+
+-- the rules of names in another order
+rules_same : (E : Environment) (names ns : List (List ℕ)) → IsPermutation names ns → IsDistinct bytes_eq names → IsPermutation (rules_of E names) (rules_of E ns)
+rules_same E names ns p d =
+    gathered (rules_of_one E) names ns (distinct_of names d) (distinct_same names ns p d)
+    (λ x o. contains_on x ns (Contains-permutation names ns x p (on_contains x names o))) (λ x o. contains_on x names (Contains-permutation ns names x (IsPermutation-sym names ns p) (on_contains x ns o)))
+
+-- there are as many, however the names are listed
+pub rules_count : (E : Environment) (n : List ℕ) (names ns : List (List ℕ)) → AreReachable E n names → AreReachable E n ns → length (rules_of E ns) ≡ length (rules_of E names)
+rules_count E n names ns a b =
+    length_permutation (rules_of E names) (rules_of E ns) (gathered (rules_of_one E) names ns (distinct_of names a.distinct) (distinct_of ns b.distinct)
+    (λ x o. contains_on x ns ((b.each x).1 ((a.each x).0 (on_contains x names o)))) (λ x o. contains_on x names ((a.each x).1 ((b.each x).0 (on_contains x ns o)))))
+
+-- ---- what waits refers to definitions that have numbers
+
+all_referred : (bs : List Expression) → referred_all (expressions_of bs) ≡ flat_map referred bs
+all_referred [] = refl
+all_referred (b ∷ bs) = ap (λ xs. referred b ++ xs) (all_referred bs)
+
+waiting_known : (E : Environment) (Q : List ℕ → Type 0) (all : List (List ℕ)) → Each Q all → ((n m : List ℕ) → On n all → Contains (referred_of E n) m → On m all) → (ns : List (List ℕ)) → ((n : List ℕ) → On n ns → On n all) → Each (Referred Q) (flat_map (left_with E) ns)
+waiting_known E Q all known closed [] inside = tt
+waiting_known E Q all known closed (n ∷ ns) inside =
+    let bs = unwrap_or (bodies E n) [] in
+    let here : Each Q (referred_all (bodies_of E n)) = subst (Each Q) (sym (all_referred bs)) (each_member Q (flat_map referred bs) (λ m c. each_found Q all m known (closed n m (inside n (inl refl)) c))) in
+    each_append (Referred Q) (left_with E n) (flat_map (left_with E) ns) (left_known_all Q (bodies_of E n) here) (waiting_known E Q all known closed ns (λ k o. inside k (inr o)))
+
+pub first_known : (E : Environment) (ns : List (List ℕ)) (numbers : List ℕ) (rules : List Coded) (pending : List (Bor Shape)) → ((n m : List ℕ) → On n ns → Contains (referred_of E n) m → On m ns) → ArePlacedBy E ns numbers rules pending
+    → Each (λ e. Each (IsKnown (declared_names E) numbers (flat_map (placed_with E) ns)) (referred e)) (waiting (declared_names E) pending)
+first_known E ns numbers rules pending closed p =
+    let Q = IsKnown (declared_names E) numbers (flat_map (placed_with E) ns) in
+    subst (Each (Referred Q)) (sym p.waits) (waiting_known E Q ns p.known closed ns (λ n o. o))
+
+-- ---- places of what waited are numbers now
+
+module _ {D D' D'' N N' N'' : Type 0} (f' : D' → D'') (g' : N' → N'') (f : D → D') (g : N → N') where
+  declarations_twice : (ds : List (Declaration N)) → map (map_declaration g') (map (map_declaration g) ds) ≡ map (map_declaration (λ x. g' (g x))) ds
+  declarations_twice [] = refl
+  declarations_twice (d ∷ ds) = ap (λ xs. record { label = d.label; mark = d.mark; value = g' (g d.value) } ∷ xs) (declarations_twice ds)
+
+  rest_twice : (r : Rest N) → map_rest g' (map_rest g r) ≡ map_rest (λ x. g' (g x)) r
+  rest_twice nothing = refl
+  rest_twice anything = refl
+  rest_twice (each e) = refl
+
+  pub twice : (a : Constraint D N) → map_constraint f' g' (map_constraint f g a) ≡ map_constraint (λ x. f' (f x)) (λ x. g' (g x)) a
+  twice always = refl
+  twice never = refl
+  twice the_null = refl
+  twice (the_boolean b) = refl
+  twice (the_integer z) = refl
+  twice (the_text s) = refl
+  twice (of_kind k) = refl
+  twice (in_range l u) = refl
+  twice (bounded r z) = refl
+  twice (another_integer z) = refl
+  twice (another_text s) = refl
+  twice not_the_null = refl
+  twice (all_of rs) = ap all_of (map-map f' f rs)
+  twice (any_of rs) = ap any_of (map-map f' f rs)
+  twice (object_of ds o) = ap (λ xs. object_of xs o) (declarations_twice ds)
+  twice (list_of es r) = ap₂ list_of (map-map g' g es) (rest_twice r)
+
+each_lower : (Q : ℕ → Type 0) (inner : List ℕ) → Each Q inner → (p : ℕ) → p < length inner → Q (slice_index inner p)
+each_lower Q [] h p l = absurd (omega (arith, l))
+each_lower Q (x ∷ inner) h zero l = h.0
+each_lower Q (x ∷ inner) h (suc p) l = each_lower Q inner h.1 p (omega (arith, l))
+
+module _ (g : ℕ → ℕ) (m k : ℕ) (lower : (p : ℕ) → p < m → g p < k) where
+  below_each : (ps : List ℕ) → Each (λ p. p < m) ps → Each (λ p. p < k) (map g ps)
+  below_each [] h = tt
+  below_each (p ∷ ps) h = (lower p h.0, below_each ps h.1)
+
+  below_fields : (ds : List (Declaration ℕ)) → Each (λ (d : Declaration ℕ). d.value < m) ds → Each (λ (d : Declaration ℕ). d.value < k) (map (map_declaration g) ds)
+  below_fields [] h = tt
+  below_fields (d ∷ ds) h = (lower d.value h.0, below_fields ds h.1)
+
+  below_rest : (r : Rest ℕ) → RestBelow m r → RestBelow k (map_rest g r)
+  below_rest nothing h = tt
+  below_rest anything h = tt
+  below_rest (each p) h = lower p h
+
+  kept_each : (n : ℕ) (rs : List ℕ) → Each (λ r. r < n) rs → Each (λ r. r < n) (map (λ r. r) rs)
+  kept_each n [] h = tt
+  kept_each n (r ∷ rs) h = (h.0, kept_each n rs h.1)
+
+  pub numbers_below : (n : ℕ) (a : Constraint ℕ ℕ) → PartsBelow n m a → PartsBelow n k (map_constraint (λ r. r) g a)
+  numbers_below n always h = tt
+  numbers_below n never h = tt
+  numbers_below n the_null h = tt
+  numbers_below n (the_boolean b) h = tt
+  numbers_below n (the_integer z) h = tt
+  numbers_below n (the_text s) h = tt
+  numbers_below n (of_kind q) h = tt
+  numbers_below n (in_range l u) h = tt
+  numbers_below n (bounded r z) h = tt
+  numbers_below n (another_integer z) h = tt
+  numbers_below n (another_text s) h = tt
+  numbers_below n not_the_null h = tt
+  numbers_below n (all_of rs) h = kept_each n rs h
+  numbers_below n (any_of rs) h = kept_each n rs h
+  numbers_below n (object_of ds o) h = below_fields ds h
+  numbers_below n (list_of es r) h = (below_each es h.0, below_rest r h.1)
+
+rule_of_place : (rules : List Rule) (W : List Expression) (inner : List ℕ) → map (rule_at rules) inner ≡ map node W → (p : ℕ) → p < length W → rule_at rules (slice_index inner p) ≡ node (expression_at W p)
+rule_of_place rules [] inner e p l = absurd (omega (arith, l))
+rule_of_place rules (w ∷ W) [] e p l = let k = ap length e in absurd (omega (arith, k))
+rule_of_place rules (w ∷ W) (x ∷ inner) e zero l = first e
+  where
+    first : rule_at rules x ∷ map (rule_at rules) inner ≡ node w ∷ map node W → rule_at rules x ≡ node w
+    first q = cc
+rule_of_place rules (w ∷ W) (x ∷ inner) e (suc p) l = rule_of_place rules W inner (ap tail e) p (omega (arith, l))
+  where
+    tail : List Rule → List Rule
+    tail [] = []
+    tail (y ∷ ys) = ys
+
+coded_at : (rules : List Coded) (inner : List ℕ) (r : ℕ) (c : Constraint ℕ ℕ) (o : Option Coded) → slice_get rules r ≡ o → slice_get (map (numbered inner) rules) r ≡ Some c → (x : Coded) × (slice_get rules r ≡ Some x) × (numbered inner x ≡ c)
+coded_at rules inner r c None e h = let k : option_map (numbered inner) None ≡ Some c = sym (slice_get-map (numbered inner) rules r ∙ ap (option_map (numbered inner)) e) ∙ h in cc
+coded_at rules inner r c (Some x) e h = (x, e, (let k : Some (numbered inner x) ≡ Some c = sym (slice_get-map (numbered inner) rules r ∙ ap (option_map (numbered inner)) e) ∙ h in cc))
+
+pub coded_found : (rules : List Coded) (inner : List ℕ) (r : ℕ) (c : Constraint ℕ ℕ) → slice_get (map (numbered inner) rules) r ≡ Some c → (x : Coded) × (slice_get rules r ≡ Some x) × (numbered inner x ≡ c)
+coded_found rules inner r c h = coded_at rules inner r c (slice_get rules r) refl h
+
+module _ (E : Environment) (all : List Rule) (W : List Expression) (rules : List Coded) (inner : List ℕ) (n : AreNumbered E all W rules) (at : AreAt all inner W) where
+  long : length inner ≡ length W
+  long = sym (length-map inner (rule_at all)) ∙ ap length at.0 ∙ length-map W node
+
+  pub are_placed : ArePlaced rules inner
+  are_placed = record {
+    parts = λ r x e. subst (λ k. PartsBelow r k (asked_of x)) (sym long) (n.parts r x e);
+    inside = subst (λ k. Each (λ q. q < k) inner) (sym n.sizes) at.1;
+  }
+
+  pub is_numbering : IsNumbering E all (map (numbered inner) rules)
+  is_numbering = record {
+    count = length-map rules (numbered inner) ∙ n.sizes;
+    asks = λ r c h.
+        let x = coded_found rules inner r c h in
+        let a = asked_of x.0 in
+        ap (map_constraint (λ p. p) node) (n.asks r x.0 x.1) ∙ twice (λ p. p) node (rule_at all) (expression_at W) a
+        ∙ names_same r (length W) (rule_at all) (rule_at all) (λ p. node (expression_at W p)) (λ p. rule_at all (slice_index inner p)) (λ d l. refl) (λ p l. sym (rule_of_place all W inner at.0 p l)) a (n.parts r x.0 x.1)
+        ∙ sym (twice (rule_at all) (rule_at all) (λ k. k) (slice_index inner) a) ∙ ap (map_constraint (rule_at all) (rule_at all)) x.2;
+    below = λ r c h.
+        let x = coded_found rules inner r c h in
+        subst (PartsBelow r (length all)) x.2
+        (numbers_below (slice_index inner) (length W) (length all) (λ p l. each_lower (λ q. q < length all) inner at.1 p (subst (λ k. p < k) (sym long) l)) r (asked_of x.0) (n.parts r x.0 x.1));
+  }
+
+-- ---- the whole
+
+pub names_perm : (E : Environment) (order : List ℕ) (ds : List (ℕ × ℕ)) → IsPermutation order (map (λ (d : ℕ × ℕ). d.1) ds) → IsPermutation (map (name_of E) order) (names_in E ds)
+names_perm E order ds p = subst (IsPermutation (map (name_of E) order)) (map-map (name_of E) (λ (d : ℕ × ℕ). d.1) ds) (IsPermutation-map (name_of E) order (map (λ (d : ℕ × ℕ). d.1) ds) p)
+
+all_taken : {X : Type 0} (xs : List X) (k : ℕ) → k ≡ length xs → take k xs ≡ xs
+all_taken [] zero e = refl
+all_taken [] (suc k) e = refl
+all_taken (x ∷ xs) zero e = absurd (omega (arith, e))
+all_taken (x ∷ xs) (suc k) e = ap (λ ys. x ∷ ys) (all_taken xs k (let f = e in omega (arith, f)))
+
+none_left : {X : Type 0} (xs : List X) (k : ℕ) → k ≡ length xs → drop k xs ≡ []
+none_left [] zero e = refl
+none_left [] (suc k) e = refl
+none_left (x ∷ xs) zero e = absurd (omega (arith, e))
+none_left (x ∷ xs) (suc k) e = none_left xs k (let f = e in omega (arith, f))
+
+module _ (E : Environment) (i : ℕ) (names : List (List ℕ)) (ns : List (List ℕ)) (numbers : List ℕ) (r0 r1 : List Coded) (b0 b1 : List (Bor Shape)) (inner : List ℕ)
+    (reach : AreReachable E (name_of E i) names) (perm : IsPermutation names ns) (p : ArePlacedBy E ns numbers r0 b0) (long : length inner ≡ length b1)
+    (w : PlacesWaiting E (declared_names E) numbers (flat_map (placed_with E) ns) (waiting (declared_names E) b0) r1 b1 inner) where
+  abbrev placed : List Rule
+  placed = flat_map (placed_with E) ns
+
+  abbrev W : List Expression
+  W = waiting (declared_names E) b1
+
+  wide : length inner ≡ length W
+  wide = long ∙ sym (length-map b1 _)
+
+  at_all : AreAt (placed ++ w.more) inner W
+  at_all = subst (AreAt (placed ++ w.more) inner) (all_taken W (length inner) wide) w.inside
+
+  pub placed_all : ArePlaced r1 inner
+  placed_all = are_placed E (placed ++ w.more) W r1 inner w.numbered at_all
+
+  counted : IsPermutation (rules_of E names) (placed ++ w.more)
+  counted =
+      let R = rules_in (flat_map (left_with E) ns) in
+      then (rules_same E names ns perm reach.distinct) (then (IsPermutation-sym (placed ++ R) (rules_of E ns) (whole_of E ns))
+      (then (equal _ _ (ap (λ es. placed ++ rules_in es) (sym p.waits))) (then w.same
+      (equal _ _ (ap (λ es. (placed ++ w.more) ++ rules_in es) (none_left W (length inner) wide) ∙ append-nil (placed ++ w.more))))))
+
+  itself : Reaches E (name_of E i) (name_of E i)
+  itself = record { steps = []; chain = tt; last = refl }
+
+  pub rooted : IsRooted E (name_of E i) r1 inner (slice_index numbers i)
+  rooted =
+      let here : On (name_of E i) ns = contains_on (name_of E i) ns (Contains-permutation names ns (name_of E i) perm ((reach.each (name_of E i)).1 itself)) in
+      let known = each_found (IsKnown (declared_names E) numbers placed) ns (name_of E i) p.known here in
+      record {
+        all = placed ++ w.more;
+        are = record { names = names; reachable = reach; same = counted };
+        numbering = is_numbering E (placed ++ w.more) W r1 inner w.numbered at_all;
+        root = got_front placed w.more (slice_index numbers i) (definition (name_of E i)) (known i (names_at E i)).1;
+      }

@@ -1,0 +1,87 @@
+// Whether documents are instances of a package's definitions.
+ghost use Rattle.std.specs.Prelude.{◌≡◌, ◌<◌, ℕ, List, Bool, IfOk, IfErr, OnOk, IsErrOf};
+ghost use Rattle.cs_document.specs.Document.{Document};
+ghost use Rattle.cs_document.specs.View.{doc_view};
+ghost use Rattle.cs_package.specs.Environment.{Names};
+ghost use Rattle.cs_instance.specs.Instance.{Rule, definition, IsInstance, OneMeaning};
+ghost use Rattle.cs_instance.specs.Rules.{HasManyPairs};
+ghost use Rattle.cs_instance.specs.Judging.{IsJudge, IsTable};
+ghost use Rattle.cs_instance.specs.Refusal.{IsRefusal};
+
+use crate::rooted::numbering_of;
+use crate::{InstanceFault, InstanceJudge};
+use cs_document::Doc;
+use cs_flat::{Flat, flatten};
+use cs_guard::Guarded;
+use cs_table::{Judge, Verdicts, fill};
+use std::alloc::Global;
+
+/// The judge of a document's values by the definitions that the root reaches and the expressions in their bodies, with
+/// the number of the root's rule (CUE, values).
+///
+/// # Errors
+/// `UnknownRoot` exactly where the package doesn't declare the root.
+pub fn instance_judge<'a>(
+    alloc: Global,
+    package: &'a Guarded,
+    root: &str,
+    flat: &'a Flat<'a>,
+) -> Result<(InstanceJudge<'a>, usize), InstanceFault>
+    ensures found { IfOk result (λ t. (n : List ℕ) × Names «package».now root.now n
+        × IsJudge «package».now n flat.now t.1 (⟦<InstanceJudge<'a> as Judge>⟧.item_count t.0) (⟦<InstanceJudge<'a> as Judge>⟧.rule_count t.0) (⟦<InstanceJudge<'a> as Judge>⟧.answer t.0)) }
+    ensures refused { IfErr result (λ e. IsRefusal e «package».now root.now flat.now) }
+    ensures fits { IsErrOf result InstanceFault.TooManyPairs → ⊥ }
+{
+    let Some(i) = package.package().find(root) else {
+        return Err(InstanceFault::UnknownRoot);
+    };
+    let (numbering, number) = numbering_of(alloc, package, i)?;
+    Ok((InstanceJudge::over(numbering, flat), number))
+}
+
+/// Whether each value of a document is an instance of each definition that the root reaches and of each expression in
+/// their bodies, with the number of the root's rule (CUE, values).
+///
+/// # Errors
+/// `UnknownRoot` exactly where the package doesn't declare the root, `TooManyPairs` exactly where there are more than
+/// 67,108,864 pairs of a value and a rule.
+pub fn instance_table(
+    alloc: Global,
+    package: &Guarded,
+    root: &str,
+    flat: &Flat<'_>,
+) -> Result<(Verdicts, usize), InstanceFault>
+    ensures found { IfOk result (λ t. (n : List ℕ) × Names «package».now root.now n × IsTable «package».now n flat.now t.1 t.0) }
+    ensures within { OnOk result ((n : List ℕ) → Names «package».now root.now n → ¬ HasManyPairs «package».now n flat.now) }
+    ensures refused { IfErr result (λ e. IsRefusal e «package».now root.now flat.now) }
+{
+    let _count = flat.len(); // for the proof: the items are the values
+    let (judge, number) = instance_judge(alloc, package, root, flat)?;
+    let table = fill(alloc, &judge)?;
+    Ok((table, number))
+}
+
+/// Whether the document is an instance of the root, a definition of the package named with its `#` (CUE, values).
+///
+/// # Errors
+/// `UnknownRoot` exactly where the package doesn't declare the root, `TooManyPairs` exactly where the values of the
+/// document and the rules that the root reaches make more than 67,108,864 pairs.
+pub fn is_instance(
+    alloc: Global,
+    package: &Guarded,
+    root: &str,
+    doc: &Doc,
+) -> Result<bool, InstanceFault>
+    ensures one_meaning { OneMeaning «package».now }
+    ensures answer { IfOk result (λ b. (n : List ℕ) × Names «package».now root.now n
+        × ((I : Rule → Document → Bool) → IsInstance «package».now I → b ≡ I (definition n) (doc_view doc.now))) }
+    ensures within { OnOk result ((n : List ℕ) → Names «package».now root.now n → ¬ HasManyPairs «package».now n (doc_view doc.now)) }
+    ensures refused { IfErr result (λ e. IsRefusal e «package».now root.now (doc_view doc.now)) }
+{
+    let _package = package.package(); // for the proof: the package is guarded
+    let Ok(flat) = flatten(alloc, doc) else {
+        return Err(InstanceFault::OutOfMemory);
+    };
+    let (table, number) = instance_table(alloc, package, root, &flat)?;
+    Ok(table.get(flat.len() - 1, number))
+}

@@ -1,0 +1,31 @@
+// The numbering of what a root reaches.
+ghost use Rattle.std.specs.Prelude.{◌<◌, length, IfOk};
+ghost use Rattle.cs_guard.specs.Numbered.{name_of};
+ghost use Rattle.cs_instance.specs.Rooted.{IsRooted};
+
+use crate::definitions::{Placement, by_rank, place_definitions};
+use crate::inner::place_waiting;
+use crate::judge::Numbering;
+use cs_guard::{Guarded, reachable};
+use std::alloc::{AllocError, Global};
+
+/// The rules of all that a definition reaches, each after those that it asks of the same document, and its own number.
+pub(crate) fn numbering_of<'a>(
+    alloc: Global,
+    package: &'a Guarded,
+    root: usize,
+) -> Result<(Numbering<'a>, usize), AllocError>
+    requires { root < length «package».now }
+    ensures { IfOk result (λ t. IsRooted «package».now (name_of «package».now root) t.0.rules.items t.0.inner.items t.1) }
+{
+    let order = reachable(alloc, package.package(), root)?;
+    let ranked = by_rank(alloc, package, &order)?;
+    let Placement {
+        numbers,
+        mut rules,
+        mut pending,
+    } = place_definitions(alloc, package, &ranked)?;
+    let inner = place_waiting(alloc, &numbers, &mut rules, &mut pending)?;
+    let number = numbers[root];
+    Ok((Numbering { rules, inner }, number))
+}

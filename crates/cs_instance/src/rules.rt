@@ -1,0 +1,52 @@
+// What rules ask, by the numbers of their parts.
+use cs_package::{FieldMark, Kind, Relation};
+
+/// What a definition or an expression asks of a document. A rule asked of the same document is named by its number, and
+/// one asked of a document inside by its place in a list of such rules.
+#[derive(Drop)]
+pub(crate) enum Rule<'a> {
+    Always,
+    Never,
+    Null,
+    Bool(bool),
+    Int(i64),
+    Text(&'a str),
+    Kind(Kind),
+    Range {
+        least: i64,
+        greatest: Option<i64>,
+    },
+    Bound {
+        relation: Relation,
+        limit: i64,
+    },
+    NotInt(i64),
+    NotText(&'a str),
+    NotNull,
+    All(Vec<usize>),
+    Any(Vec<usize>),
+    Struct {
+        fields: Vec<Field<'a>>,
+        opened: bool,
+    },
+    List {
+        front: Vec<usize>,
+        end: Ending,
+    },
+}
+
+/// A declaration of a struct literal, with the place of its value's rule.
+#[derive(Drop)]
+pub(crate) struct Field<'a> {
+    pub(crate) label: &'a str,
+    pub(crate) mark: FieldMark,
+    pub(crate) value: usize,
+}
+
+/// What follows the fixed elements of a list: nothing, anything, or instances of the rule at a place.
+#[derive(Drop)]
+pub(crate) enum Ending {
+    Closed,
+    Any,
+    Each(usize),
+}

@@ -1,0 +1,178 @@
+// Tables of documents and the rules of packages, through the calls of `cs_instance`.
+use crate::never::answer_by_refusals;
+use crate::tables::{Row, cell, check};
+use cs_doc::{Flat, flatten, read_doc};
+use cs_guard::{Guarded, guard};
+use cs_instance::{InstanceFault, instance_judge, instance_table, is_instance};
+use cs_resolve::resolve;
+use cs_syntax::parse_file;
+use std::alloc::{AllocError, Global};
+use std::test::Fail;
+
+/// Packages, whose `;` are newlines, roots, documents, how many judgements their tables have, and the verdicts. A
+/// document's values and the rules that the root reaches are counted by hand.
+const TABLES: &str = r##"#T: {v: int, kids?: [...#T]} => #T => {"v":1,"kids":[{"v":2}]} => 25 true
+#T: {v: int, kids?: [...#T]} => #T => {"v":1,"kids":[{}]} => 20 false
+#P: int => #P => 1 => 2 true
+#P: int;#Q: string => #P => "a" => 2 false
+#Q: string;#P: int => #Q => "a" => 2 true
+#A: [...] => #A => [1,"a"] => 6 true
+#S: a: b?: int => #S => {"a":{}} => 8 true
+#A: {a?: #B};#B: int => #A => {} => 5 true
+#A: {a: #B, ...};#B: [int, ...#C];#C: "x" => #A => {"a":[1,"x"],"z":0} => 45 true
+#A: {a: #B, ...};#B: [int, ...#C];#C: "x" => #A => {"a":[1,"y"],"z":0} => 45 false
+#A: {b: #B};#B: int;#B: >2 => #A => {"b":3} => 12 true
+#A: {b: #B};#B: int;#B: >2 => #A => {"b":2} => 12 false
+#A: {b: #B};#B: >2;#B: int => #A => {"b":2} => 12 false
+#N: (1) | ((2) & #M);#M: int => #N => 2 => 8 true
+#E: {l?: #E, r?: [#E]};#F: #E => #E => {"l":{"r":[{}]},"r":[{"l":{}}]} => 35 true
+#E: {l?: #E, r?: [#E]} => #E => {"l":{"r":[{}]},"r":[{"l":1}]} => 35 false"##;
+
+/// The guarded package of a source.
+fn guarded_of(alloc: Global, source: &str) -> Result<Guarded, Fail> {
+    let mut files = Vec::new(alloc);
+    files.push(parse_file(alloc, source)?)?;
+    Ok(guard(alloc, resolve(alloc, files)?)?)
+}
+
+/// How many judgements the table of a document has, and the verdict of the document by the root.
+fn counted(alloc: Global, source: &str, root: &str, text: &str) -> Result<(u64, bool), Fail> {
+    let package = guarded_of(alloc, source)?;
+    let doc = read_doc(alloc, text.as_bytes())?;
+    let flat = flatten(alloc, &doc)?;
+    let (table, rule) = instance_table(alloc, &package, root, &flat)?;
+    Ok((table.judged(), table.get(flat.len() - 1, rule)))
+}
+
+/// Whether the row's document is judged as it says.
+pub(crate) fn is_judged(alloc: Global, row: &str) -> Result<bool, Fail> {
+    let (text, rest) = cell(row);
+    let (root, rest) = cell(rest);
+    let (doc, wanted) = cell(rest);
+    let source = text.replace(alloc, ';', "\n")?;
+    let (judged, verdict) = counted(alloc, &source, root, doc)?;
+    let answer = format!(in alloc; "{judged} {verdict}")?;
+    Ok(answer.as_str() == wanted.trim())
+}
+
+#[test]
+fn documents_are_judged_by_the_rules_that_the_root_reaches(rt: HostRuntime) -> Result<(), Fail> {
+    check(rt.alloc(), TABLES, Row::Package)
+}
+
+/// `#A0: #A1 & #A1` and so on, with the last of them `int`.
+fn doubling(alloc: Global, last: usize) -> Result<String, AllocError> {
+    let mut source = format!(in alloc; "#A{last}: int")?;
+    for number in 0..last {
+        let next = number + 1;
+        source.push_str(&format!(in alloc; "\n#A{number}: #A{next} & #A{next}")?)?;
+    }
+    Ok(source)
+}
+
+/// Whether 7 is an instance of the first of the definitions, after so many judgements.
+fn is_doubled(alloc: Global, last: usize, judgements: u64) -> Result<bool, Fail> {
+    let source = doubling(alloc, last)?;
+    Ok(counted(alloc, &source, "#A0", "7")? == (judgements, true))
+}
+
+#[test]
+fn definitions_that_double_are_judged_once(rt: HostRuntime) -> Result<(), Fail> {
+    assert!(rt; is_doubled(rt.alloc(), 40, 162)?);
+    assert!(rt; is_doubled(rt.alloc(), 64, 258)?);
+    Ok(())
+}
+
+/// What the judge says of the document by a table in which every verdict is no.
+fn judged_by_refusals(
+    alloc: Global,
+    package: &Guarded,
+    root: &str,
+    flat: &Flat<'_>,
+) -> Result<Option<bool>, Fail> {
+    let (judge, rule) = instance_judge(alloc, package, root, flat)?;
+    Ok(answer_by_refusals(alloc, &judge, rule)?)
+}
+
+/// The same of a document's text and a source.
+fn by_refusals(alloc: Global, source: &str, root: &str, text: &str) -> Result<Option<bool>, Fail> {
+    let package = guarded_of(alloc, source)?;
+    let doc = read_doc(alloc, text.as_bytes())?;
+    let flat = flatten(alloc, &doc)?;
+    judged_by_refusals(alloc, &package, root, &flat)
+}
+
+#[test]
+fn a_judge_goes_by_the_table(rt: HostRuntime) -> Result<(), Fail> {
+    let source = "#T: {v: int, kids?: [...#T]}";
+    let text = r#"{"v":1,"kids":[{"v":2}]}"#;
+    assert!(rt; by_refusals(rt.alloc(), source, "#T", text)? == Some(false));
+    Ok(())
+}
+
+/// What `is_instance` answers; nothing where there are too many pairs.
+fn verdict(alloc: Global, source: &str, root: &str, text: &str) -> Result<Option<bool>, Fail> {
+    let package = guarded_of(alloc, source)?;
+    let doc = read_doc(alloc, text.as_bytes())?;
+    match is_instance(alloc, &package, root, &doc) {
+        Ok(verdict) => Ok(Some(verdict)),
+        Err(InstanceFault::TooManyPairs) => Ok(None),
+        Err(fault) => Err(Fail::from(fault)),
+    }
+}
+
+/// A list of so many zeros, and one more.
+fn zeros(alloc: Global, count: usize) -> Result<String, AllocError> {
+    let before = "0,".repeat(alloc, count)?;
+    format!(in alloc; "[{before}0]")
+}
+
+#[test]
+fn pairs_have_a_limit(rt: HostRuntime) -> Result<(), Fail> {
+    let operands = "_ & ".repeat(rt.alloc(), 8_189)?;
+    let source = format!(in rt.alloc(); "#A: {operands}_")?;
+    assert!(rt; verdict(rt.alloc(), &source, "#A", &zeros(rt.alloc(), 8_190)?)? == Some(true));
+    assert!(rt; verdict(rt.alloc(), &source, "#A", &zeros(rt.alloc(), 8_191)?)?.is_none());
+    Ok(())
+}
+
+#[test]
+fn a_list_is_no_instance_of_other_integers(rt: HostRuntime) -> Result<(), Fail> {
+    let operands = "!=1 & ".repeat(rt.alloc(), 4_999)?;
+    let source = format!(in rt.alloc(); "#A: {operands}!=1")?;
+    assert!(rt; verdict(rt.alloc(), &source, "#A", &zeros(rt.alloc(), 7_999)?)? == Some(false));
+    Ok(())
+}
+
+/// Whether there is no judge of a document for the root.
+fn has_no_judge(alloc: Global, package: &Guarded, root: &str, flat: &Flat<'_>) -> bool {
+    let judge = instance_judge(alloc, package, root, flat);
+    matches!(judge, Err(InstanceFault::UnknownRoot))
+}
+
+/// Whether there is no judge, no table and no verdict.
+fn has_no_verdict(alloc: Global, package: &Guarded, root: &str) -> Result<bool, Fail> {
+    let doc = read_doc(alloc, b"1")?;
+    let flat = flatten(alloc, &doc)?;
+    let table = instance_table(alloc, package, root, &flat);
+    let verdict = is_instance(alloc, package, root, &doc);
+    Ok(
+        matches!(table, Err(InstanceFault::UnknownRoot))
+            && matches!(verdict, Err(InstanceFault::UnknownRoot))
+            && has_no_judge(alloc, package, root, &flat),
+    )
+}
+
+/// Whether the root is refused by each call.
+fn is_unknown(alloc: Global, source: &str, root: &str) -> Result<bool, Fail> {
+    let package = guarded_of(alloc, source)?;
+    has_no_verdict(alloc, &package, root)
+}
+
+#[test]
+fn the_root_is_declared(rt: HostRuntime) -> Result<(), Fail> {
+    assert!(rt; is_unknown(rt.alloc(), "#A: int", "#B")?);
+    assert!(rt; is_unknown(rt.alloc(), "#A: int", "A")?);
+    assert!(rt; is_unknown(rt.alloc(), "", "#A")?);
+    Ok(())
+}
