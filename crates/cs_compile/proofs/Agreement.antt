@@ -1,22 +1,21 @@
 -- The schema of an expression validates just the instances of the expression, and that of a definition just its instances.
-use Rattle.std.proofs.Common.{◌≡◌, ℕ, ℤ, List, [], ◌∷◌, ◌++◌, map, flat_map, unwrap_or, Contains, Bool, true, false, not, ◌&&◌, ◌||◌, Option, Some, None, bytes_eq, int_le, refl, sym, ap, ap₂, ◌∙◌, subst}
+use Rattle.std.proofs.Common.{◌≡◌, ℕ, ℤ, List, [], ◌∷◌, map, Bool, true, false, not, ◌&&◌, ◌||◌, Option, Some, None, bytes_eq, int_le, refl, sym, ap, ap₂, ◌∙◌}
 use Rattle.std.specs.Prelude.{option_map}
 use Rattle.std.specs.Option.{option_map_or}
 use Rattle.std.proofs.Math.Bool.{and-true}
-use Rattle.std.specs.List.{list_all, list_any, AllByRecursion as Each}
+use Rattle.std.specs.List.{list_all, list_any}
 use Rattle.cs_document.specs.Document.{Document, null, boolean, integer, text, list, object, elements, Entry, under, entries}
 use Rattle.cs_document.specs.Opened.{opened}
-use Rattle.cs_document.proofs.Each.{all_same, each_of, each_map, each_over, each_under, each_front, each_back, each_member}
-use Rattle.cs_document.proofs.Children.{children, each_within}
+use Rattle.cs_document.proofs.Each.{all_same, each_of}
 use Rattle.cs_profile.specs.Keywords.{defined}
 use Rattle.cs_profile.specs.Validity.{IsValidity}
 use Rattle.cs_package.specs.Expression as cue
 use Rattle.cs_package.specs.Expression.{Expression, Expressions, operands, Kind, int, number, string, bool, Relation, less, at_most, more, at_least, Declaration, Declarations, declarations}
 use Rattle.cs_package.specs.Environment.{Environment, bodies}
-use Rattle.cs_instance.specs.Constraint.{Rest, nothing, anything, each, is_satisfied, declaration_holds, rest_holds, elements_hold, may_be_absent}
-use Rattle.cs_instance.specs.Instance.{IsInstance, Rule, node, definition, constraint_of, rest_of, all_bodies}
+use Rattle.cs_instance.specs.Constraint.{Rest, nothing, anything, each, is_satisfied, declaration_holds, rest_holds, elements_hold}
+use Rattle.cs_instance.specs.Instance.{Rule, node, definition, constraint_of, rest_of, all_bodies}
 use Rattle.cs_compile.specs.Translation.{schema_of, schemas_of, declared_schemas, rest_schema, definition_schema}
-use Rattle.cs_compile.proofs.Asserted.{valid_object, valid_all_of, valid_any_of, valid_one_or_all, valid_false}
+use Rattle.cs_compile.proofs.Asserted.{valid_all_of, valid_any_of, valid_one_or_all, valid_false}
 use Rattle.cs_compile.proofs.Structs.{struct_holds}
 use Rattle.cs_compile.proofs.Lists.{list_holds, rest_by, nothing_behind}
 

@@ -1,16 +1,16 @@
 -- What schema objects assert, keyword by keyword.
-use Rattle.std.proofs.Common.{◌≡◌, ℕ, List, [], ◌∷◌, ◌++◌, map, Bool, true, false, ◌&&◌, Option, Some, None, codes, refl, sym, ap, ap₂, ◌∙◌}
+use Rattle.std.proofs.Common.{◌≡◌, ℕ, List, [], ◌∷◌, Bool, true, false, ◌&&◌, Option, Some, None, refl, sym, ap, ◌∙◌}
 use Rattle.std.specs.Option.{option_map_or}
 use Rattle.std.specs.List.{list_all, list_any}
 use Rattle.std.proofs.Math.Bool.{and-true}
 use Rattle.std.proofs.lemmas.List.Folds.{list_all-map}
-use Rattle.cs_document.specs.Document.{Document, boolean, text, list, object, Documents, no_documents, document, elements, Entry, Members, no_members, member, entries}
-use Rattle.cs_document.specs.Opened.{Opened, opened}
+use Rattle.cs_document.specs.Document.{Document, boolean, object, Documents, no_documents, document, elements, Entry, Members, entries}
+use Rattle.cs_document.specs.Opened.{opened}
 use Rattle.cs_document.specs.View.{documents_of}
 use Rattle.cs_profile.specs.Constraint.{assertion_at}
 use Rattle.cs_profile.specs.Trim.{with_member}
 use Rattle.cs_profile.specs.Validity.{IsValidity, holds}
-use Rattle.cs_compile.specs.Translation.{all_of, any_of, one_or_all, constant}
+use Rattle.cs_compile.specs.Translation.{all_of, any_of, one_or_all}
 
 -- a keyword that may be left out, before the others
 pub all_with : (p : Entry Document → Bool) (o : Option Document) (k : List ℕ) (ms : Members) → list_all p (entries (with_member o k ms)) ≡ (option_map_or (λ v. p (k, v)) o true && list_all p (entries ms))

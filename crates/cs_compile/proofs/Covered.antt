@@ -1,6 +1,6 @@
 -- Where the definitions that a root reaches are written, the schema of each rule that it reaches validates just the rule's
 -- instances.
-use Rattle.std.proofs.Common.{◌≡◌, ℕ, List, [], ◌∷◌, ◌++◌, map, flat_map, unwrap_or, Contains, Bool, Option, Some, None, refl, sym, ap, ◌∙◌, subst}
+use Rattle.std.proofs.Common.{◌≡◌, ℕ, List, [], ◌∷◌, ◌++◌, flat_map, unwrap_or, Contains, Bool, Option, Some, None, refl, sym, ◌∙◌, subst}
 use Rattle.std.specs.Prelude.{option_map}
 use Rattle.std.specs.List.{AllByRecursion as Each}
 use Rattle.std.proofs.lemmas.List.Elements.{Contains-append_left, Contains-append_right}
@@ -12,7 +12,7 @@ use Rattle.cs_package.specs.Expression as cue
 use Rattle.cs_package.specs.Expression.{Expression, Expressions, Declarations, operands, declarations}
 use Rattle.cs_package.specs.Environment.{Environment, bodies}
 use Rattle.cs_guard.specs.Guarded.{IsGuarded}
-use Rattle.cs_guard.specs.Reachable.{referred, referred_all, referred_fields, referred_rest, referred_of, RefersTo, Reaches}
+use Rattle.cs_guard.specs.Reachable.{referred, referred_all, referred_fields, referred_rest, RefersTo, Reaches}
 use Rattle.cs_guard.proofs.Walks.{reaches_more}
 use Rattle.cs_instance.specs.Instance.{IsInstance, Rule, node, definition, constraint_of, rest_of, all_bodies}
 use Rattle.cs_instance.proofs.Induction.{guarded-induction}

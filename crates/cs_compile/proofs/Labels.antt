@@ -1,12 +1,12 @@
 -- What is asked label by label, in the order of labels and with each label once, is what is asked declaration by declaration.
-use Rattle.std.proofs.Common.{◌≡◌, ℕ, zero, suc, List, [], ◌∷◌, ◌++◌, map, filter, flat_map, Bool, true, false, not, ◌&&◌, ◌||◌, Option, Some, None, is_some, Ordering, Less, Equal, Greater, nat_cmp, bytes_eq, refl, sym, ap, ap₂, ◌∙◌, subst, if◌then◌else◌}
+use Rattle.std.proofs.Common.{◌≡◌, ℕ, List, [], ◌∷◌, ◌++◌, filter, Bool, true, false, not, ◌&&◌, ◌||◌, Ordering, Less, Equal, Greater, nat_cmp, bytes_eq, refl, sym, ap, ap₂, ◌∙◌, subst, if◌then◌else◌}
 use Rattle.std.proofs.lemmas.Bool.{and_parts}
 use Rattle.std.specs.List.{list_all, list_any, AllByRecursion as Each}
 use Rattle.std.specs.Ordering.{match_ordering, is_eq}
 use Rattle.std.specs.Cmp.Lexicographic.{slice_cmp}
 use Rattle.std.proofs.lemmas.Map.Text.{is_eq-slice_cmp}
 use Rattle.std.proofs.lemmas.Slice.Eq.{bytes_eq-Decides}
-use Rattle.cs_document.specs.Document.{Document, Entry, Members, no_members, member, entries, under, put}
+use Rattle.cs_document.specs.Document.{Document, Entry, Members, no_members, member, entries, put}
 use Rattle.cs_document.proofs.Each.{all_same, all_true, each_map, each_over, each_under}
 use Rattle.cs_package.specs.Expression.{Declaration}
 use Rattle.cs_compile.specs.Translation.{members_at, labels_of, values_of, firsts, required_of, must_be_there}

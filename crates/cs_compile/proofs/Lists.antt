@@ -1,12 +1,11 @@
 -- The schema of a list validates just the instances of the list.
-use Rattle.std.proofs.Common.{◌≡◌, ℕ, suc, zero, max, List, [], ◌∷◌, Bool, true, false, ◌&&◌, Option, Some, None, codes, nat_le, length, drop, pos, refl, sym, ap, ap₂, ◌∙◌, arith}
+use Rattle.std.proofs.Common.{◌≡◌, ℕ, suc, max, List, [], ◌∷◌, Bool, true, false, ◌&&◌, Option, Some, None, codes, nat_le, length, drop, pos, refl, ap, ◌∙◌, arith}
 use Rattle.std.specs.Option.{option_map_or}
 use Rattle.std.specs.List.{list_all}
 use Rattle.std.proofs.Math.Bool.{and-true}
 use Rattle.std.proofs.Math.Dec.{leb-zero, leb-suc-zero, leb-suc-suc}
-use Rattle.cs_document.specs.Document.{Document, null, boolean, integer, text, list, object, Documents, no_documents, document, elements, Entry, Members, member, entries}
+use Rattle.cs_document.specs.Document.{Document, null, boolean, integer, text, list, object, Documents, no_documents, document, elements, Members, entries}
 use Rattle.cs_document.specs.Opened.{opened}
-use Rattle.cs_document.proofs.Each.{all_same, each_of}
 use Rattle.cs_instance.specs.Constraint.{Rest, nothing, anything, each, is_list, rest_holds, elements_hold}
 use Rattle.cs_profile.specs.Trim.{with_member}
 use Rattle.cs_profile.specs.Validity.{IsValidity, front_holds}

@@ -3,10 +3,9 @@ use Rattle.std.proofs.Common.{◌≡◌, ℕ, List, [], ◌∷◌, ◌++◌, map
 use Rattle.std.specs.Option.{option_map_or}
 use Rattle.std.specs.List.{list_all, list_any}
 use Rattle.std.proofs.lemmas.List.{append-nil}
-use Rattle.cs_document.specs.Document.{Document, null, boolean, integer, text, list, object, elements, Entry, Members, no_members, member, entries, under}
+use Rattle.cs_document.specs.Document.{Document, null, boolean, integer, text, list, object, Entry, Members, no_members, member, entries, under}
 use Rattle.cs_document.specs.Opened.{opened}
-use Rattle.cs_document.specs.View.{documents_of}
-use Rattle.cs_document.proofs.Each.{all_same, any_same, each_of}
+use Rattle.cs_document.proofs.Each.{all_same, each_of}
 use Rattle.cs_package.specs.Expression.{Declaration, DeclarationMark, regular, optional, required}
 use Rattle.cs_instance.specs.Constraint.{is_object, declaration_holds, may_be_absent}
 use Rattle.cs_profile.specs.Constraint.{texts_in}

@@ -1,11 +1,11 @@
 -- The rules of small packages and their numbers, worked by computation.
-use Rattle.std.proofs.Common.{◌≡◌, ℕ, zero, suc, ◌<◌, pos, true, false, List, [], ◌∷◌, length, Some, None, codes, refl, arith, subst}
+use Rattle.std.proofs.Common.{◌≡◌, ℕ, zero, suc, pos, true, false, List, [], ◌∷◌, length, Some, codes, refl, arith, subst}
 use Rattle.std.specs.Prelude.{slice_get}
 use Rattle.std.proofs.lemmas.Option.{same_Some}
 use Rattle.cs_package.specs.Expression as cue
 use Rattle.cs_package.specs.Expression.{Expression, Declaration, optional, regular}
 use Rattle.cs_package.specs.Environment.{Environment}
-use Rattle.cs_instance.specs.Constraint.{Constraint, nothing, each, of_kind, all_of, any_of, object_of, list_of}
+use Rattle.cs_instance.specs.Constraint.{Constraint, each, of_kind, all_of, object_of, list_of}
 use Rattle.cs_instance.specs.Instance.{Rule, definition, node, constraint_of}
 use Rattle.cs_instance.specs.Numbering.{map_constraint, PartsBelow, rule_at, IsNumbering}
 use Rattle.cs_instance.specs.Rules.{subexpressions, rules_of}
