@@ -6,7 +6,7 @@
 # make memory     runs each command with each of its first 40 allocations refused in turn, half an hour
 # make bench      times the lexer and the parser on 1 MiB of source in four shapes each, packages at their limits, documents
 #                 of 50 MB and the largest table, and says how much memory the last two take; then whole runs of `vet`
-#                 against few and many rules
+#                 and `validate` against few and many rules, and of `export` near the limits of packages
 # make install    copies the program to $(PREFIX)/bin
 # JOBS=4 works on four crates or runs at once; there are as many as processors where it isn't given
 PREFIX ?= /usr/local
@@ -53,6 +53,7 @@ bench: bin/cue2schema | toolchain
 	sh bench/packages.sh crates/cs_bench/out/cs_bench
 	sh bench/documents.sh crates/cs_bench/out/cs_bench
 	sh bench/judges.sh crates/cs_bench/out/cs_bench bin/cue2schema
+	sh bench/exports.sh bin/cue2schema
 
 install: bin/cue2schema
 	install -D -m 755 bin/cue2schema $(DESTDIR)$(PREFIX)/bin/cue2schema

@@ -1,8 +1,9 @@
 #!/bin/sh
-# Times the judge of instances by whole runs of the program: `vet` of documents against few and many rules, and packages
-# that double or are long. A line for each: the size of the document; what the run takes beyond the program's start, and as a
-# multiple of reading the document; the nanoseconds for each pair of a value and a rule; the most memory. Fails where a run
-# takes longer than the line allows, which other work on the machine can make it do.
+# Times the judges by whole runs of the program: `vet` and `validate` of documents against few and many rules, packages and
+# schemas that double or are long, and large keywords. A line for each: the size of the texts whose reading it is compared
+# with; what the run takes beyond the program's start, and as a multiple of that reading; the megabytes of these texts in a
+# second; the nanoseconds for each pair of a value and a rule; the most memory. Fails where a run takes longer than the line
+# allows, which other work on the machine can make it do.
 # usage: judges.sh BENCH PROGRAM, the program for measuring, which takes `read`, and the program `cue2schema`
 set -eu
 
@@ -62,6 +63,57 @@ operands() { # count
     }'
 }
 
+# A schema of those records, with so many members of `allOf` more, of two rules each, that each record is asked.
+record_schema() { # more
+    awk -v more="$1" 'BEGIN {
+        printf "{\"$defs\":{\"L\":{\"items\":{\"$ref\":\"#/$defs/R\"},\"type\":\"array\"},\"R\":{\"additionalProperties\":false,"
+        for (i = 0; i < more; i++) printf "%s{\"not\":{\"const\":null}}", (i ? "," : "\"allOf\":[")
+        if (more) printf "],"
+        printf "\"properties\":{\"id\":{\"type\":\"integer\"},\"name\":{\"type\":\"string\"},\"on\":{\"type\":\"boolean\"},"
+        printf "\"size\":{\"items\":{\"maximum\":99999},\"type\":\"array\"},\"tags\":{\"items\":{\"type\":\"string\"},\"type\":\"array\"}},"
+        printf "\"required\":[\"id\",\"name\",\"on\",\"size\",\"tags\"],\"type\":\"object\"}},\"$ref\":\"#/$defs/L\"}\n"
+    }'
+}
+
+# The definitions `A0` to `A40` and so on, each with twice the next one.
+doubling_schema() { # last
+    awk -v last="$1" 'BEGIN {
+        printf "{\"$defs\":{"
+        for (i = 0; i < last; i++) printf "\"A%d\":{\"allOf\":[{\"$ref\":\"#/$defs/A%d\"},{\"$ref\":\"#/$defs/A%d\"}]},", i, i + 1, i + 1
+        printf "\"A%d\":{\"type\":\"integer\"}},\"$ref\":\"#/$defs/A0\"}\n", last
+    }'
+}
+
+# So many definitions, each a reference to the one after it or before it; or in a loop.
+chain_schema() { # count after|before|loop
+    awk -v count="$1" -v way="$2" 'BEGIN {
+        last = way == "after" ? count - 1 : (way == "before" ? 0 : -1)
+        printf "{\"$defs\":{"
+        for (i = 0; i < count; i++) {
+            printf "%s\"d%06d\":", (i ? "," : ""), i
+            if (i == last) printf "{\"type\":\"integer\"}"
+            else printf "{\"$ref\":\"#/$defs/d%06d\"}", (way == "before" ? i - 1 : (i + 1) % count)
+        }
+        printf "},\"$ref\":\"#/$defs/d%06d\"}\n", (way == "before" ? count - 1 : 0)
+    }'
+}
+
+# A schema of so many properties with three small keywords each.
+keyword_schema() { # count
+    awk -v count="$1" 'BEGIN {
+        printf "{\"properties\":{"
+        for (i = 0; i < count; i++) printf "%s\"p%06d\":{\"maximum\":9,\"minimum\":1,\"type\":\"integer\"}", (i ? "," : ""), i
+        print "}}"
+    }'
+}
+
+# Numbers below 500,000, each once, in order or shuffled, as `before NUMBER after` with commas between them.
+numbers() { # in-order|shuffled before after
+    awk -v order="$1" -v before="$2" -v after="$3" 'BEGIN {
+        for (i = 0; i < 500000; i++) printf "%s%s%06d%s", (i ? "," : ""), before, (order == "shuffled" ? i * 123457 % 500000 : i), after
+    }'
+}
+
 # How the most memory that a run takes is found: by GNU's time, where it is there.
 if [ "$(/usr/bin/time -f %M true 2>&1 || true)" -gt 0 ] 2> /dev/null; then
     peak_of() { # words
@@ -78,41 +130,79 @@ echo null > "$folder/null"
 echo true > "$folder/true"
 start=$(run_time 20 validate --schema "$folder/true" --doc "$folder/null")
 
-# A line: what a run takes, which may be at most so many times what reading the document takes, or so many milliseconds.
-measure() { # name pairs unit most words
-    name=$1 pairs=$2 unit=$3 most=$4
-    shift 4
+# A line: what a run takes, which may be at most so many times what reading those texts of the folder takes, or so many
+# milliseconds, or any time.
+measure() { # name pairs times|ms|any most texts words
+    name=$1 pairs=$2 unit=$3 most=$4 texts=$5
+    shift 5
     taken=$(($(run_time 7 "$@") - start))
-    reading=$(($(time_of "$folder/document" read 1) - $(time_of "$folder/null" read 1)))
+    reading=0
+    bytes=0
+    for text in $texts; do
+        reading=$((reading + $(time_of "$folder/$text" read 1) - $(time_of "$folder/null" read 1)))
+        bytes=$((bytes + $(wc -c < "$folder/$text")))
+    done
     peak=$(peak_of "$@")
-    awk -v name="$name" -v pairs="$pairs" -v unit="$unit" -v most="$most" -v bytes="$(wc -c < "$folder/document")" -v taken="$taken" -v reading="$reading" -v peak="$peak" 'BEGIN {
+    awk -v name="$name" -v pairs="$pairs" -v unit="$unit" -v most="$most" -v bytes="$bytes" -v taken="$taken" -v reading="$reading" -v peak="$peak" 'BEGIN {
         share = reading > 0 ? taken / reading : 0
+        speed = taken > 0 ? bytes * 1e3 / taken : 0
         fault = (unit == "times" && share > most) || (unit == "ms" && taken > most * 1e6) ? "  more than " most " " unit : ""
-        printf "%-28s %10d %10d %9.2f %7.1f %8.2f %8d%s\n", name, bytes, pairs, taken / 1e6, share, (pairs ? taken / pairs : 0), peak, fault
+        printf "%-28s %10d %10d %9.2f %7.1f %7.1f %8.2f %8d%s\n", name, bytes, pairs, taken / 1e6, share, speed, (pairs ? taken / pairs : 0), peak, fault
         exit (fault != "")
     }' || failed=1
 }
 
-vet() { # name pairs unit most; the package and the document stand in the folder
-    measure "$1" "$2" "$3" "$4" vet --root "$5" --doc "$folder/document" "$folder/package"
+vet() { # name pairs unit most root; the package and the document stand in the folder
+    measure "$1" "$2" "$3" "$4" document vet --root "$5" --doc "$folder/document" "$folder/package"
 }
 
-printf '%-28s %10s %10s %9s %7s %8s %8s\n' run bytes pairs ms 'reads' 'ns/pair' 'KiB'
+validate() { # name pairs unit most texts; the schema and the document stand in the folder
+    measure "$1" "$2" "$3" "$4" "$5" validate --schema "$folder/schema" --doc "$folder/document"
+}
+
+printf '%-28s %10s %10s %9s %7s %7s %8s %8s\n' run bytes pairs ms 'reads' 'MB/s' 'ns/pair' 'KiB'
 records 5000000 > "$folder/document"
 count=$("$program" flatten < "$folder/document")
 record_package 0 > "$folder/package"
 vet 'vet 12 rules' $((count * 12)) times 2.5 '#L'
 record_package 67 > "$folder/package"
 vet 'vet 80 rules' $((count * 80)) times 4 '#L'
+record_schema 0 > "$folder/schema"
+validate 'validate 12 rules' $((count * 12)) times 2.5 document
+record_schema 34 > "$folder/schema"
+validate 'validate 80 rules' $((count * 80)) times 4 document
 
 # What doubles with each definition where it is judged by plain recursion.
 echo 7 > "$folder/document"
 for last in 40 64; do
     doubling_package "$last" > "$folder/package"
     vet "vet doubling $last" $((4 * last + 2)) ms 5 '#A0'
+    doubling_schema "$last" > "$folder/schema"
+    validate "validate doubling $last" $((3 * last + 2)) ms 5 'schema document'
 done
 
+# Long chains of definitions, and a loop, which is refused.
+for way in after before; do
+    chain_schema 300000 "$way" > "$folder/schema"
+    validate "validate chain $way" 300001 any 0 'schema document'
+done
+chain_schema 300000 loop > "$folder/schema"
+validate 'validate loop' 0 any 0 'schema document'
+
+# Many small keywords.
+keyword_schema 100000 > "$folder/schema"
+validate 'validate 100000 properties' 100001 any 0 'schema document'
+
+# Keywords and documents of many names and values.
+{ printf '{'; numbers in-order '"k' '":0'; echo '}'; } > "$folder/document"
+{ printf '{"required":['; numbers shuffled '"k' '"'; echo ']}'; } > "$folder/schema"
+validate 'validate 500000 required' 500001 times 3 'schema document'
+{ printf '['; numbers in-order 1 ''; echo ']'; } > "$folder/document"
+{ printf '{"items":{"enum":['; numbers shuffled 2 ''; echo ']}}'; } > "$folder/schema"
+validate 'validate 500000 of enum' 1000002 times 3 'schema document'
+
 # A package at its limit.
+echo 7 > "$folder/document"
 operands 49999 > "$folder/package"
 vet 'vet 50000 nodes' 50000 ms 500 '#A0'
 exit $failed

@@ -57,6 +57,9 @@ mkdir folder
 printf '#P: int' > "$(printf 'f\374r.cue')"
 # A schema of 95,000 bytes, more than a pipe holds.
 { printf '#P: int'; yes '&int' | head -n 4999 | tr -d '\n'; } > wide.cue
+# 11,200 operands, which are 11,202 rules and 22,402 schemas, and 3,000 values.
+{ printf '#P: !=1'; yes '&!=1' | head -n 11199 | tr -d '\n'; } > twice.cue
+{ printf '[0'; yes ',0' | head -n 2998 | tr -d '\n'; printf ']'; } > values.json
 # Inputs at the limits, which hold blanks alone, and one byte more; and ten GiB of zeros, which take no room.
 head -c 1048576 /dev/zero | tr '\0' ' ' > source-limit
 { cat source-limit; printf ' '; } > source-over
@@ -177,6 +180,11 @@ try 'error 20' 'run validate --schema input-limit --doc one'
 try 'error 28' 'run validate --schema input-over --doc one'
 try 'error 25' 'run agree --root "#P" --doc input-limit port.cue'
 try 'error 28' 'run agree --root "#P" --doc input-over port.cue'
+
+# Too many pairs of values and schemas, where those of values and rules are few enough.
+try invalid 'run vet --root "#P" --doc values.json twice.cue'
+try 'error 27' 'run export --root "#P" twice.cue > twice.json; run validate --schema twice.json --doc values.json'
+try 'error 27' 'run agree --root "#P" --doc values.json twice.cue'
 
 # Inputs without an end, in 400 MB of memory: reading stops at the limit.
 try 'error 1' 'ulimit -v 400000; yes | run export --root "#P"'

@@ -1,10 +1,9 @@
--- A root that refers to one of its definitions, together with the definitions of a package, is the package's schema.
-use Rattle.std.proofs.Common.{◌≡◌, ℕ, List, [], Bool, false, Option, Some, None, IsSome, refl, sym, ap, ◌∙◌, subst}
-use Rattle.std.proofs.lemmas.Option.{same_Some}
+-- A root that refers to one of its definitions, together with those that it reaches, is the schema of the package at that definition.
+use Rattle.std.proofs.Common.{◌≡◌, ℕ, List, [], Bool, false, Option, Some, IsSome, refl, sym, ap, ◌∙◌, subst}
 use Rattle.std.specs.Prelude.{◌↔◌, option_map, ◌≤◌}
-use Rattle.cs_document.specs.Document.{Document, boolean, entries, under, depth, IsDocument}
+use Rattle.cs_document.specs.Document.{Document, boolean, Members, entries, under, depth, IsDocument}
 use Rattle.cs_document.specs.View.{members_of}
-use Rattle.cs_package.specs.Environment.{Environment, bodies, IsDefinitionName}
+use Rattle.cs_package.specs.Environment.{Environment, bodies}
 use Rattle.cs_instance.specs.Instance.{Rule, definition, IsInstance}
 use Rattle.cs_profile.specs.Keywords.{defined}
 use Rattle.cs_profile.specs.Profile.{IsSchema}
@@ -19,55 +18,57 @@ use Rattle.std.specs.Option.{option_map_or}
 use Rattle.cs_compile.proofs.Covered.{agreement}
 use Rattle.cs_compile.proofs.Declared.{definition_under}
 use Rattle.cs_compile.proofs.Depths.{root_of-depth}
-use Rattle.cs_compile.proofs.NameCodes.{definition_name}
+use Rattle.cs_compile.proofs.InProfile.{some_value, definition_of, is_schema-root_of}
 use Rattle.cs_compile.proofs.Root.{root_of, document_of-root, defined-root_of, valid-root_of}
-use Rattle.cs_compile.proofs.Visited.{is_schema-root_of}
 
-some_map : {A B : Type 0} (f : A → B) (o : Option A) → IsSome (option_map f o) ↔ IsSome o
-some_map f None = (λ h. h, λ h. h)
-some_map f (Some x) = (λ h. refl, λ h. refl)
+module _ (E : Environment) (n : List ℕ) (ms : Members) (are : AreDefinitions E n ms) (each : (m : List ℕ) → Reaches E n m → IsSome (under m (entries ms))) where
+  itself : Reaches E n n
+  itself = record { steps = []; chain = tt; last = refl }
 
-some_value : {A : Type 0} (o : Option A) → IsSome o → (x : A) × (o ≡ Some x)
-some_value None h = cc
-some_value (Some x) h = (x, refl)
+  -- each definition that n reaches is the schema of its bodies, and no other name is defined
+  written : (m : List ℕ) → Reaches E n m → defined (root_of ms n) m ≡ option_map definition_schema (bodies E m)
+  written m r =
+      let own = definition_of E n ms are each m r in
+      defined-root_of ms n m ∙ own.1 ∙ ap Some own.2.schema ∙ sym (ap (option_map definition_schema) own.2.declared)
 
--- the root that was made for the name at a place
-pub refers : (o : Option (List ℕ)) (n b : List ℕ) (d : Document) → o ≡ Some n → o ≡ Some b → d ≡ reference_to b → d ≡ reference_to n
-refers o n b d at there is = is ∙ ap reference_to (same_Some b n (sym there ∙ at))
+  nothing_else : (m : List ℕ) → IsSome (defined (root_of ms n) m) → Reaches E n m
+  nothing_else m h =
+      let found = some_value (under m (entries ms)) (subst (λ (o : Option Document). IsSome o) (defined-root_of ms n m) h) in
+      let own = definition_under E n m ms found.0 are found.1 in
+      own.reached
+
+  there : (m : List ℕ) → Reaches E n m → IsSome (defined (root_of ms n) m)
+  there m r = subst (λ (o : Option Document). IsSome o) (sym (defined-root_of ms n m)) (each m r)
+
+  valid : IsGuarded E → (V : Document → Document → Bool) (I : Rule → Document → Bool) → IsValidity (root_of ms n) V → IsInstance E I → (x : Document) → V (root_of ms n) x ≡ I (definition n) x
+  valid guarded V I g h x =
+      let own = definition_of E n ms are each n itself in
+      valid-root_of ms n own.0 V g own.1 x
+      ∙ ap (λ d. V d x) (own.2.schema ∙ sym (ap (λ o. option_map_or definition_schema o (boolean false)) own.2.declared))
+      ∙ agreement E n guarded (root_of ms n) written V g I h (definition n) x itself
 
 module _ (E : Environment) (n : List ℕ) (s : SchemaValue) (root : schema_view s.root ≡ reference_to n)
-    (each : (m : List ℕ) → under m (definition_entries s.definitions) ≡ option_map definition_schema (bodies E m))
-    (are : AreDefinitions E (members_of (definitions_view s.definitions))) (declared : IsSome (bodies E n)) where
-  there : IsSome (under n (definition_entries s.definitions))
-  there = subst (λ (o : Option Document). IsSome o) (sym (each n)) ((some_map definition_schema (bodies E n)).1 declared)
+    (each : (m : List ℕ) → Reaches E n m → IsSome (under m (definition_entries s.definitions)))
+    (are : AreDefinitions E n (members_of (definitions_view s.definitions))) (guarded : IsGuarded E) where
+  abbrev ms : Members
+  ms = members_of (definitions_view s.definitions)
 
-  is_root : document_of s ≡ root_of (members_of (definitions_view s.definitions)) n
-  is_root = document_of-root s n root there
+  is_root : document_of s ≡ root_of ms n
+  is_root = document_of-root s n root (each n (itself E n ms are each))
 
-  pub whole : IsDefinitionName n → IsWhole s
-  whole name = record {
-    profile = subst IsSchema (sym is_root) (is_schema-root_of E (members_of (definitions_view s.definitions)) n are (definition_name n name) there);
+  pub whole : IsWhole s
+  whole = record {
+    profile = subst IsSchema (sym is_root) (is_schema-root_of E n ms are each guarded (itself E n ms are each));
     bare = λ b is. cc;
   }
 
-  valid : IsGuarded E → (V : Document → Document → Bool) (I : Rule → Document → Bool) → IsValidity (root_of (members_of (definitions_view s.definitions)) n) V → IsInstance E I
-      → (x : Document) → V (root_of (members_of (definitions_view s.definitions)) n) x ≡ I (definition n) x
-  valid guarded V I g h x =
-      let ms = members_of (definitions_view s.definitions) in
-      let found = some_value (under n (entries ms)) there in
-      let own = definition_under E n ms found.0 are found.1 in
-      let written : (m : List ℕ) → Reaches E n m → defined (root_of ms n) m ≡ option_map definition_schema (bodies E m) = λ m r. defined-root_of ms n m ∙ each m in
-      valid-root_of ms n found.0 V g found.1 x
-      ∙ ap (λ d. V d x) (own.schema ∙ sym (ap (λ o. option_map_or definition_schema o (boolean false)) own.declared))
-      ∙ agreement E n guarded (root_of ms n) written V g I h (definition n) x (record { steps = []; chain = tt; last = refl })
+  pub translates : IsTranslation E n (document_of s)
+  translates = subst (IsTranslation E n) (sym is_root) (record { written = written E n ms are each; nothing_else = nothing_else E n ms are each })
 
-  pub translates : IsTranslation E (document_of s)
-  translates = λ m. ap (λ d. defined d m) is_root ∙ defined-root_of (members_of (definitions_view s.definitions)) n m ∙ each m
-
-  pub compiles : IsGuarded E → Compiles E n s
-  compiles guarded = record {
+  pub compiles : Compiles E n s
+  compiles = record {
     root = root;
-    definitions = λ m. subst (λ (o : Option Document). IsSome o ↔ IsSome (bodies E m)) (sym (translates m)) (some_map definition_schema (bodies E m));
-    meaning = λ V I. subst (λ d. IsValidity d V → IsInstance E I → (x : Document) → IsDocument x → V d x ≡ I (definition n) x) (sym is_root) (λ g h x is. valid guarded V I g h x);
-    nested = λ low. subst (λ d. depth d ≤ 114) (sym is_root) (root_of-depth E (members_of (definitions_view s.definitions)) n low are);
+    definitions = λ m. subst (λ d. IsSome (defined d m) ↔ Reaches E n m) (sym is_root) (nothing_else E n ms are each m, there E n ms are each m);
+    meaning = λ V I. subst (λ d. IsValidity d V → IsInstance E I → (x : Document) → IsDocument x → V d x ≡ I (definition n) x) (sym is_root) (λ g h x is. valid E n ms are each guarded V I g h x);
+    nested = λ low. subst (λ d. depth d ≤ 114) (sym is_root) (root_of-depth E n ms low are);
   }

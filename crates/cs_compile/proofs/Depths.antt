@@ -187,12 +187,12 @@ body_schemas-depth (e ∷ es) low =
 definition_schema-depth : (es : List Expression) → heights es ≤ 28 → depth (definition_schema es) ≤ 112
 definition_schema-depth es low = one_or_all-depth (map schema_of es) 110 (body_schemas-depth es low)
 
-definitions-depth : (E : Environment) (ms : Members) → IsLow E → AreDefinitions E ms → members_depth ms ≤ 112
-definitions-depth E no_members low h = omega arith
-definitions-depth E (member n d ms) low h =
+definitions-depth : (E : Environment) (root : List ℕ) (ms : Members) → IsLow E → AreDefinitions E root ms → members_depth ms ≤ 112
+definitions-depth E root no_members low h = omega arith
+definitions-depth E root (member n d ms) low h =
     let one : depth d ≤ 112 = subst (λ s. depth s ≤ 112) (sym h.0.schema) (definition_schema-depth h.0.operands (low n h.0.operands h.0.declared)) in
-    max-le one (definitions-depth E ms low h.1)
+    max-le one (definitions-depth E root ms low h.1)
 
 -- the root adds two levels
-pub root_of-depth : (E : Environment) (ms : Members) (n : List ℕ) → IsLow E → AreDefinitions E ms → depth (root_of ms n) ≤ 114
-root_of-depth E ms n low h = let within = definitions-depth E ms low h in two-levels (members_depth ms) 114 (omega arith)
+pub root_of-depth : (E : Environment) (n : List ℕ) (ms : Members) → IsLow E → AreDefinitions E n ms → depth (root_of ms n) ≤ 114
+root_of-depth E n ms low h = let within = definitions-depth E n ms low h in two-levels (members_depth ms) 114 (omega arith)

@@ -9,6 +9,7 @@ use Rattle.std.proofs.lemmas.Slice.Eq.{bytes_eq-Decides}
 use Rattle.cs_document.specs.Document.{Document, Entry, Members, no_members, member, entries, put}
 use Rattle.cs_document.proofs.Each.{all_same, all_true, each_map, each_over, each_under}
 use Rattle.cs_package.specs.Expression.{Declaration}
+use Rattle.cs_compile.specs.Grouped.{is_asked}
 use Rattle.cs_compile.specs.Translation.{members_at, labels_of, values_of, firsts, required_of, must_be_there}
 
 -- ---- truth values
@@ -192,10 +193,6 @@ module _ (t : List ℕ → Bool) where
       ∙ without l (firsts ls)
       ∙ ap (λ b. t l && b) (all_firsts ls)
 
--- whether a declaration of the label asks for it
-abbrev asked : List (Declaration Document) → List ℕ → Bool
-asked ds l = list_any (λ d. bytes_eq l d.label && must_be_there d.mark) ds
-
 module _ (t : List ℕ → Bool) where
   abbrev passes : Declaration Document → Bool
   passes d = t d.label || not (must_be_there d.mark)
@@ -219,11 +216,11 @@ module _ (t : List ℕ → Bool) where
   fewer true false c h = refl
   fewer false r c h = h
 
-  there : (l : List ℕ) (ds : List (Declaration Document)) → (not (asked ds l) || t l) ≡ true → Each (λ d. bytes_eq l d.label ≡ true → passes d ≡ true) ds
+  there : (l : List ℕ) (ds : List (Declaration Document)) → (not (is_asked ds l) || t l) ≡ true → Each (λ d. bytes_eq l d.label ≡ true → passes d ≡ true) ds
   there l [] h = tt
   there l (d ∷ ds) h = (
-    one_there l d (bytes_eq l d.label) (must_be_there d.mark) (asked ds l) refl refl h,
-    there l ds (fewer (bytes_eq l d.label && must_be_there d.mark) (asked ds l) (t l) h),
+    one_there l d (bytes_eq l d.label) (must_be_there d.mark) (is_asked ds l) refl refl h,
+    there l ds (fewer (bytes_eq l d.label && must_be_there d.mark) (is_asked ds l) (t l) h),
   )
 
   one_back : (l : List ℕ) (d : Declaration Document) (b m r : Bool) → bytes_eq l d.label ≡ b → must_be_there d.mark ≡ m → passes d ≡ true → (not r || t l) ≡ true → (not (b && m || r) || t l) ≡ true
@@ -237,21 +234,21 @@ module _ (t : List ℕ → Bool) where
   one_back l d true false r e f h g = g
   one_back l d false m r e f h g = g
 
-  back : (l : List ℕ) (ds : List (Declaration Document)) → Each (λ d. passes d ≡ true) ds → (not (asked ds l) || t l) ≡ true
+  back : (l : List ℕ) (ds : List (Declaration Document)) → Each (λ d. passes d ≡ true) ds → (not (is_asked ds l) || t l) ≡ true
   back l [] h = refl
-  back l (d ∷ ds) h = one_back l d (bytes_eq l d.label) (must_be_there d.mark) (asked ds l) refl refl h.0 (back l ds h.1)
+  back l (d ∷ ds) h = one_back l d (bytes_eq l d.label) (must_be_there d.mark) (is_asked ds l) refl refl h.0 (back l ds h.1)
 
   -- a label that isn't asked for, or that passes, is so for each of its declarations, and the other way round
-  by_marks : (ds : List (Declaration Document)) → list_all (λ l. not (asked ds l) || t l) (labels_of ds) ≡ list_all (λ d. t d.label || not (must_be_there d.mark)) ds
+  by_marks : (ds : List (Declaration Document)) → list_all (λ l. not (is_asked ds l) || t l) (labels_of ds) ≡ list_all (λ d. t d.label || not (must_be_there d.mark)) ds
   by_marks ds =
-      all_alike (λ l. not (asked ds l) || t l) passes (labels_of ds) ds
+      all_alike (λ l. not (is_asked ds l) || t l) passes (labels_of ds) ds
       (λ h.
-      let here : Each (λ d. Each (λ e. bytes_eq d.label e.label ≡ true → passes e ≡ true) ds) ds = each_map _ _ (λ d f. there d.label ds f) ds (each_under (λ d. d.label) (λ l. (not (asked ds l) || t l) ≡ true) ds h) in
+      let here : Each (λ d. Each (λ e. bytes_eq d.label e.label ≡ true → passes e ≡ true) ds) ds = each_map _ _ (λ d f. there d.label ds f) ds (each_under (λ d. d.label) (λ l. (not (is_asked ds l) || t l) ≡ true) ds h) in
       each_map _ _ (λ d f. f ((bytes_eq-Decides d.label d.label).1 refl)) ds (diagonal (λ d e. bytes_eq d.label e.label ≡ true → passes e ≡ true) [] ds here))
-      (λ h. each_over (λ d. d.label) (λ l. (not (asked ds l) || t l) ≡ true) ds (each_map _ _ (λ d f. back d.label ds h) ds h))
+      (λ h. each_over (λ d. d.label) (λ l. (not (is_asked ds l) || t l) ≡ true) ds (each_map _ _ (λ d f. back d.label ds h) ds h))
 
   pub all_required : (ds : List (Declaration Document)) → list_all t (required_of ds) ≡ list_all (λ d. t d.label || not (must_be_there d.mark)) ds
   all_required ds =
-      all_filter t (asked ds) (firsts (labels_of ds))
-      ∙ all_firsts (λ l. not (asked ds l) || t l) (labels_of ds)
+      all_filter t (is_asked ds) (firsts (labels_of ds))
+      ∙ all_firsts (λ l. not (is_asked ds l) || t l) (labels_of ds)
       ∙ by_marks ds

@@ -4,10 +4,15 @@ pub mod Compiled
 pub mod Covered
 pub mod Declared
 pub mod Depths
+pub mod Direct
+pub mod InProfile
+pub mod Grouped
 pub mod Lists
 pub mod NameCodes
 pub mod Labels
 pub mod Names
+pub mod Required
+pub mod Parts
 pub mod Root
 pub mod Samples
 pub mod Slots

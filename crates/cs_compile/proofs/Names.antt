@@ -1,20 +1,19 @@
 -- Definitions that are put under their names, one after the other.
-use Rattle.std.proofs.Common.{◌≡◌, ℕ, suc, zero, ◌+◌, List, [], ◌∷◌, take, length, Bool, true, false, ◌||◌, Option, Some, None, is_some, Ordering, Less, Equal, Greater, String, Global, string_bytes, string_cmp, nat_cmp, bytes_eq, add-one, refl, sym, ap, ◌∙◌, if◌then◌else◌, arith}
-use Rattle.std.specs.Prelude.{option_map}
-use Rattle.std.proofs.Math.Bool.{or-true, or-false}
-use Rattle.std.proofs.lemmas.List.{take_all}
+use Rattle.std.proofs.Common.{◌≡◌, ℕ, ◌+◌, List, [], ◌∷◌, ◌++◌, map, take, inl, inr, Bool, true, false, Option, Some, IsSome, Ordering, Less, Equal, Greater, String, Global, string_bytes, string_cmp, nat_cmp, bytes_eq, refl, sym, ap, ◌∙◌, subst, if◌then◌else◌}
 use Rattle.std.specs.Ordering.{match_ordering, is_eq}
 use Rattle.std.specs.Cmp.Lexicographic.{slice_cmp}
 use Rattle.std.specs.BTreeMap.{insert_entry}
 use Rattle.std.proofs.lemmas.Map.Text.{is_eq-slice_cmp}
 use Rattle.std.proofs.lemmas.Slice.Eq.{bytes_eq-Decides}
+use Rattle.std.proofs.lemmas.List.{map-append}
 use Rattle.cs_document.specs.Document.{Document, Members, no_members, member, entries, under, put}
 use Rattle.cs_document.specs.View.{members_of}
-use Rattle.cs_package.specs.Expression.{Expression}
-use Rattle.cs_package.specs.Environment.{Environment, bodies, name_at}
+use Rattle.cs_package.specs.Environment.{Environment}
+use Rattle.cs_graph.specs.Chains.{On}
+use Rattle.cs_graph.proofs.Places.{on_cases}
+use Rattle.cs_guard.specs.Numbered.{name_of}
 use Rattle.cs_profile.specs.SchemaDocument.{schema_view, definitions_view}
 use Rattle.cs_profile.specs.declared.schema.Schema.{Schema}
-use Rattle.cs_compile.specs.Translation.{definition_schema}
 
 once : {A : Type 0} (b : Bool) (x y r : A) → (if b then x else r) ≡ (if b then x else (if b then y else r))
 once true x y r = refl
@@ -54,41 +53,22 @@ pub made-insert_entry : (es : List (String Global × Schema)) (k : String Global
 made-insert_entry [] k s = refl
 made-insert_entry (e ∷ es) k s = made-match_ordering (string_cmp k e.0) _ _ _ ∙ rw (made-insert_entry es k s)
 
--- the schemas of the first definitions of an environment
-abbrev pub first_schemas : Environment → ℕ → List ℕ → Option Document
-first_schemas E i n = if is_some (bodies (take i E) n) then option_map definition_schema (bodies E n) else None
-
-one_there : (b : Bool) (bs : List Expression) → is_some (if b then Some bs else None) ≡ b
-one_there true bs = refl
-one_there false bs = refl
-
-one_past : (b : Bool) (bs : List Expression) (p q : Option (List Expression)) (c : Bool) → is_some p ≡ (is_some q || c) → is_some (if b then Some bs else p) ≡ (is_some (if b then Some bs else q) || c)
-one_past true bs p q c h = refl
-one_past false bs p q c h = h
-
-there : (o : Option (List Expression)) → (if is_some o then option_map definition_schema o else None) ≡ option_map definition_schema o
-there None = refl
-there (Some bs) = refl
-
--- one definition more
-declared-more : (E : Environment) (i : ℕ) (k n : List ℕ) → name_at E i ≡ Some k → is_some (bodies (take (suc i) E) n) ≡ (is_some (bodies (take i E) n) || bytes_eq n k)
-declared-more [] i k n e = cc
-declared-more (d ∷ E) zero k n e =
-    let same : d.0 ≡ k = cc in
-    one_there (bytes_eq n d.0) d.1 ∙ ap (bytes_eq n) same
-declared-more (d ∷ E) (suc i) k n e = one_past (bytes_eq n d.0) d.1 (bodies (take (suc i) E) n) (bodies (take i E) n) (bytes_eq n k) (declared-more E i k n e)
-
--- the next definition is put under its name
-pub first_schemas-more : (E : Environment) (i : ℕ) (k : List ℕ) (bs : List Expression) (ms : Members) → name_at E i ≡ Some k → bodies E k ≡ Some bs
-    → ((n : List ℕ) → under n (entries ms) ≡ first_schemas E i n) → (n : List ℕ) → under n (entries (put k (definition_schema bs) ms)) ≡ first_schemas E (i + 1) n
-first_schemas-more E i k bs ms name has h n =
-    under-put n k (definition_schema bs) ms ∙ ap (λ r. if bytes_eq n k then Some (definition_schema bs) else r) (h n) ∙ step (bytes_eq n k) refl
-    ∙ rw (add-one, declared-more E i k n name) refl
+-- a name that was there stays, and the new one is there
+pub there-put : (n k : List ℕ) (d : Document) (ms : Members) → IsSome (under n (entries ms)) → IsSome (under n (entries (put k d ms)))
+there-put n k d ms h = subst (λ (o : Option Document). IsSome o) (sym (under-put n k d ms)) (either (bytes_eq n k) (under n (entries ms)) d h)
   where
-    step : (b : Bool) → bytes_eq n k ≡ b
-        → (if b then Some (definition_schema bs) else first_schemas E i n) ≡ (if is_some (bodies (take i E) n) || b then option_map definition_schema (bodies E n) else None)
-    step true e = let same : n ≡ k = (bytes_eq-Decides n k).0 e in rw (or-true, same, has) refl
-    step false e = rw or-false refl
+    either : (b : Bool) (o : Option Document) (d : Document) → IsSome o → IsSome (if b then Some d else o)
+    either true o d h = refl
+    either false o d h = h
 
-pub first_schemas-all : (E : Environment) (n : List ℕ) → first_schemas E (length E) n ≡ option_map definition_schema (bodies E n)
-first_schemas-all E n = let all : take (length E) E ≡ E = take_all (length E) E (omega arith) in rw all (there (bodies E n))
+pub at-put : (n : List ℕ) (d : Document) (ms : Members) → IsSome (under n (entries (put n d ms)))
+at-put n d ms = let same : bytes_eq n n ≡ true = (bytes_eq-Decides n n).1 refl in subst (λ (o : Option Document). IsSome o) (sym (under-put n n d ms)) (rw same refl)
+
+-- the names of the numbers up to one more, where that one's definition is put
+pub there-more : (E : Environment) (xs : List ℕ) (k x : ℕ) (n : List ℕ) (d : Document) (ms : Members) → take (k + 1) xs ≡ take k xs ++ x ∷ [] → name_of E x ≡ n
+    → ((m : List ℕ) → On m (map (name_of E) (take k xs)) → IsSome (under m (entries ms))) → (m : List ℕ) → On m (map (name_of E) (take (k + 1) xs)) → IsSome (under m (entries (put n d ms)))
+there-more E xs k x n d ms longer named h m o =
+    elim (on_cases m (name_of E x) (map (name_of E) (take k xs)) (subst (On m) (ap (map (name_of E)) longer ∙ map-append (name_of E) (take k xs) (x ∷ [])) o)) [
+      | inl before ↦ there-put m n d ms (h m before)
+      | inr same ↦ subst (λ l. IsSome (under l (entries (put n d ms)))) (sym (same ∙ named)) (at-put n d ms)
+    ]

@@ -1,16 +1,20 @@
 -- Keywords set one after the other.
-use Rattle.std.proofs.Common.{◌≡◌, ℕ, ℤ, List, [], ◌∷◌, map, Option, Some, None, codes, Result, refl, ap, ap₂, ◌∙◌, rules}
+use Rattle.std.proofs.Common.{◌≡◌, ℕ, suc, ◌<◌, ℤ, pos, List, [], ◌∷◌, map, length, Option, Some, None, codes, Result, refl, sym, ap, ap₂, ◌∙◌, rules, arith}
 use Rattle.std.proofs.lemmas.Result.{IfOk-weaker}
+use Rattle.std.proofs.lemmas.Simd.{map-map}
 use Rattle.std.specs.Result.{IfOk}
-use Rattle.cs_document.specs.Document.{Document, text, integer, object, document, Members, no_members, member}
+use Rattle.cs_document.specs.Document.{Document, integer, list, object, document, Members, no_members, member}
 use Rattle.cs_document.specs.View.{documents_of}
 use Rattle.cs_package.specs.Expression.{Expression, Relation}
 use Rattle.cs_package.specs.Expression as cue
 use Rattle.cs_package.specs.View.{expressions_of}
-use Rattle.cs_profile.specs.SchemaDocument.{Slot, present, set_slot, slots_of, schema_view, unless_no_list}
+use Rattle.cs_profile.specs.SchemaDocument.{Slot, present, set_slot, slots_of, schema_view, schemas_view, unless_no_list}
+use Rattle.cs_profile.specs.Trim.{with_member}
 use Rattle.cs_profile.specs.declared.schema.Keywords.{Keywords, the_lemmas}
 use Rattle.cs_profile.specs.declared.schema.Schema.{Schema}
-use Rattle.cs_compile.specs.Translation.{schema_of, schemas_of, body_schemas, all_of, limit_name, of_type}
+use Rattle.cs_compile.specs.Slots.{no_slots, typed, least_count}
+use Rattle.cs_compile.specs.Translation.{schema_of, schemas_of, body_schemas, all_of, any_of, list_schema, limit_name, of_type}
+use Rattle.cs_compile.proofs.Asserted.{elements_back}
 
 -- a slot without a value
 abbrev cleared : Slot → Slot
@@ -24,23 +28,8 @@ slots_cleared : (ss : List Slot) → present ss ≡ no_members → ss ≡ map cl
 slots_cleared [] e = refl
 slots_cleared ((k, o) ∷ ss) e = let h = present_none k o ss e in ap₂ (λ (v : Option Document) rest. (k, v) ∷ rest) h.0 (slots_cleared ss h.1)
 
--- the keywords of an object, none of which stands
-abbrev pub no_slots : List Slot
-no_slots =
-    (codes "$ref", None) ∷ (codes "additionalProperties", None) ∷ (codes "allOf", None) ∷ (codes "anyOf", None) ∷ (codes "const", None)
-    ∷ (codes "enum", None) ∷ (codes "exclusiveMaximum", None) ∷ (codes "exclusiveMinimum", None) ∷ (codes "items", None)
-    ∷ (codes "maximum", None) ∷ (codes "minItems", None) ∷ (codes "minimum", None) ∷ (codes "not", None) ∷ (codes "prefixItems", None)
-    ∷ (codes "properties", None) ∷ (codes "required", None) ∷ (codes "type", None) ∷ []
-
 pub empty_slots : (k : Keywords) → present (slots_of k) ≡ no_members → slots_of k ≡ no_slots
 empty_slots k e = slots_cleared (slots_of k) e ∙ search (rules, the_lemmas)
-
--- the type alone
-abbrev pub typed : List ℕ → List Slot
-typed t = set_slot (codes "type") (Some (text t)) no_slots
-
-pub typed_is : (k m : Keywords) (t : List ℕ) → present (slots_of k) ≡ no_members → slots_of m ≡ set_slot (codes "type") (Some (text t)) (slots_of k) → slots_of m ≡ typed t
-typed_is k m t e h = h ∙ ap (set_slot (codes "type") (Some (text t))) (empty_slots k e)
 
 -- the limit of a relation comes before it
 pub limit_first : (r : Relation) (z : ℤ) → present (set_slot (limit_name r) (Some (integer z)) (typed (codes "number"))) ≡ member (limit_name r) (integer z) (of_type (codes "number"))
@@ -63,33 +52,23 @@ pub all_of-slots : (ds : List Document) → present (set_slot (codes "allOf") (u
 all_of-slots [] = refl
 all_of-slots (d ∷ ds) = refl
 
-pub documents_of-body_schemas : (ss : List Schema) (es : List Expression) → map schema_view ss ≡ map schema_of es → documents_of (map schema_view ss) ≡ body_schemas es
-documents_of-body_schemas [] [] e = refl
-documents_of-body_schemas [] (x ∷ es) e = cc
-documents_of-body_schemas (s ∷ ss) [] e = cc
-documents_of-body_schemas (s ∷ ss) (x ∷ es) e =
-    let first : schema_view s ≡ schema_of x = cc in
-    let rest : map schema_view ss ≡ map schema_of es = cc in
-    ap₂ document first (documents_of-body_schemas ss es rest)
+-- the schemas of a disjunction's operands, as `anyOf`
+pub any_of-slots : (ds : List Document) → 0 < length ds → object (present (set_slot (codes "anyOf") (unless_no_list ds) no_slots)) ≡ any_of (documents_of ds)
+any_of-slots [] h = absurd (omega (arith, h))
+any_of-slots (d ∷ ds) h = refl
 
--- an object of a type and one keyword more
-pub made_of_two : {F : Type 0} (r : Result Schema F) (k l m : Keywords) (t : List ℕ) (name : List ℕ) (v : Document) (ms : Members) → present (slots_of k) ≡ no_members
-    → slots_of l ≡ set_slot (codes "type") (Some (text t)) (slots_of k) → slots_of m ≡ set_slot name (Some v) (slots_of l)
-    → present (set_slot name (Some v) (typed t)) ≡ ms → IfOk r (λ s. schema_view s ≡ object (present (slots_of m))) → IfOk r (λ s. schema_view s ≡ object ms)
-made_of_two r k l m t name v ms none type more is h = made r (slots_of m) ms h (ap present (more ∙ ap (set_slot name (Some v)) (typed_is k l t none type)) ∙ is)
+-- what was made of the operands, in order
+pub operands_seen : {X : Type 0} (view : X → Expression) (ss : List Schema) (xs : List X) → schemas_view ss ≡ map (λ x. schema_of (view x)) xs → documents_of (schemas_view ss) ≡ schemas_of (expressions_of (map view xs))
+operands_seen view ss xs e = ap documents_of (e ∙ sym (map-map schema_of view xs)) ∙ sym (schemas_of-expressions_of (map view xs))
 
--- and of two more
-pub made_of_three : {F : Type 0} (r : Result Schema F) (k l m n : Keywords) (t : List ℕ) (name more_name : List ℕ) (v w : Document) (ms : Members) → present (slots_of k) ≡ no_members
-    → slots_of l ≡ set_slot (codes "type") (Some (text t)) (slots_of k) → slots_of m ≡ set_slot name (Some v) (slots_of l) → slots_of n ≡ set_slot more_name (Some w) (slots_of m)
-    → present (set_slot more_name (Some w) (set_slot name (Some v) (typed t))) ≡ ms → IfOk r (λ s. schema_view s ≡ object (present (slots_of n))) → IfOk r (λ s. schema_view s ≡ object ms)
-made_of_three r k l m n t name more_name v w ms none type more last is h =
-    made r (slots_of n) ms h (ap present (last ∙ ap (set_slot more_name (Some w)) (more ∙ ap (set_slot name (Some v)) (typed_is k l t none type))) ∙ is)
+-- the keywords of a list
+pub list_slots : (ds : List Document) (rest : Option Document)
+    → object (present (set_slot (codes "items") rest (set_slot (codes "prefixItems") (unless_no_list ds) (set_slot (codes "minItems") (least_count ds) (typed (codes "array")))))) ≡ list_schema (documents_of ds) rest
+list_slots [] rest = refl
+list_slots (d ∷ ds) rest =
+    ap (λ es. object (with_member rest (codes "items") (member (codes "minItems") (integer (pos (suc (length es)))) (member (codes "prefixItems") (list (documents_of (d ∷ ds))) (of_type (codes "array")))))) (sym (elements_back ds))
 
--- an object of one keyword
-pub made_of_one : {F : Type 0} (r : Result Schema F) (k l : Keywords) (name : List ℕ) (o : Option Document) (ms : Members) → present (slots_of k) ≡ no_members → slots_of l ≡ set_slot name o (slots_of k)
-    → present (set_slot name o no_slots) ≡ ms → IfOk r (λ s. schema_view s ≡ object (present (slots_of l))) → IfOk r (λ s. schema_view s ≡ object ms)
-made_of_one r k l name o ms none one is h = made r (slots_of l) ms h (ap present (one ∙ ap (set_slot name o) (empty_slots k none)) ∙ is)
-
-pub map_of_map : {A B C : Type 0} (f : B → C) (g : A → B) (xs : List A) → map (λ x. f (g x)) xs ≡ map f (map g xs)
-map_of_map f g [] = refl
-map_of_map f g (x ∷ xs) = ap (λ ys. f (g x) ∷ ys) (map_of_map f g xs)
+-- an object of some keywords and one more
+pub made_of : {F : Type 0} (r : Result Schema F) (k l : Keywords) (ss : List Slot) (name : List ℕ) (o : Option Document) (ms : Members) → slots_of k ≡ ss → slots_of l ≡ set_slot name o (slots_of k)
+    → present (set_slot name o ss) ≡ ms → IfOk r (λ s. schema_view s ≡ object (present (slots_of l))) → IfOk r (λ s. schema_view s ≡ object ms)
+made_of r k l ss name o ms from more is h = made r (slots_of l) ms h (ap present (more ∙ ap (set_slot name o) from) ∙ is)

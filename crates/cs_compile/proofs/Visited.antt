@@ -1,135 +1,193 @@
--- A compiled schema is one of the profile: what the walk over it meets is without fault, and no definition refers to another.
-use Rattle.std.proofs.Common.{◌≡◌, ℕ, suc, List, [], ◌∷◌, ◌++◌, Bool, true, false, Option, Some, None, codes, refl, sym, ap, ap₂, ◌∙◌, subst, IsTrue, bytes_eq}
-use Rattle.std.specs.List.{list_any}
-use Rattle.std.specs.Prelude.{is_some, IsSome}
-use Rattle.std.specs.Option.{option_map_or}
-use Rattle.cs_document.specs.Document.{Document, text, object, Documents, no_documents, document, Members, no_members, member, entries, under}
+-- What the walk over a compiled schema meets is without fault, where the names that are referred to are names of definitions.
+use Rattle.std.proofs.Common.{◌≡◌, ℕ, suc, List, [], ◌∷◌, ◌++◌, map, flat_map, Bool, true, false, Option, Some, None, Ordering, Less, Equal, Greater, nat_cmp, codes, option_to_list, refl, sym, ◌∙◌, subst, bytes_eq, if◌then◌else◌}
+use Rattle.std.specs.List.{AllByRecursion as Each}
+use Rattle.std.proofs.lemmas.Option.{same_Some}
+use Rattle.std.specs.Ordering.{match_ordering}
+use Rattle.std.specs.Cmp.Lexicographic.{slice_cmp}
+use Rattle.cs_document.specs.Document.{Document, boolean, text, list, object, Documents, no_documents, document, elements, Members, no_members, member, Entry, entries, put}
+use Rattle.cs_document.specs.View.{documents_of}
+use Rattle.cs_document.proofs.Each.{each_front, each_back}
 use Rattle.cs_package.specs.Expression as cue
-use Rattle.cs_package.specs.Expression.{Expression, Expressions, less, at_most, more, at_least, int, number, string, bool}
-use Rattle.cs_package.specs.Environment.{Environment}
-use Rattle.cs_instance.specs.Exportable.{IsExportable, AreExportable, AllExportable}
-use Rattle.cs_profile.specs.Keywords.{defined, reference_start}
-use Rattle.cs_profile.specs.Loops.{direct_names, each_names, RefersDirectly, NoLoop}
+use Rattle.cs_package.specs.Expression.{Expression, Expressions, Declaration, Declarations, less, at_most, more, at_least, int, number, string, bool}
+use Rattle.cs_guard.specs.Reachable.{referred, referred_all, referred_fields, referred_rest}
 use Rattle.cs_profile.specs.Places.{at_key, at_index}
-use Rattle.cs_profile.specs.Profile.{Visit, keyword_at, first, fault_of, undefined_at, visits, element_visits, named_visits, IsSchema}
-use Rattle.cs_profile.specs.Shapes.{is_name, dialect}
+use Rattle.cs_profile.specs.Profile.{Visit, first, fault_of, undefined_at, visits, member_visits, keyword_visits, element_visits, named_visits}
+use Rattle.cs_profile.specs.SchemaDocument.{unless_no_list}
+use Rattle.cs_profile.specs.Shapes.{is_name, are_distinct_texts}
+use Rattle.cs_profile.specs.Trim.{with_member}
 use Rattle.cs_profile.proofs.Walks.{first_past}
-use Rattle.cs_compile.specs.Translation.{schema_of, schemas_of, body_schemas, definition_schema, all_of}
-use Rattle.cs_compile.specs.Definitions.{AreDefinitions}
-use Rattle.cs_compile.proofs.Declared.{definition_under}
-use Rattle.cs_compile.proofs.Root.{root_of, defined-root_of}
+use Rattle.cs_compile.specs.Translation.{schema_of, schemas_of, declared_schemas, rest_schema, definition_schema, one_or_all, all_of, any_of, members_at, labels_of, values_of, properties_of, required_of, unless_empty, closing, struct_schema, fixed, list_schema, of_type}
+use Rattle.cs_compile.proofs.Required.{required_of-distinct}
+use Rattle.cs_compile.proofs.Asserted.{elements_back}
 
--- no keyword and no value at fault, and no `$ref` to a name that is not defined, whichever are
-pub record IsClean (vs : List Visit) : Type 0 where
+-- no keyword and no value at fault, and no `$ref` to a name that is not defined
+pub record IsClean (is_defined : List ℕ → Bool) (vs : List Visit) : Type 0 where
   pub shaped : first fault_of vs ≡ None
-  pub named : (is_defined : List ℕ → Bool) → first (undefined_at is_defined) vs ≡ None
+  pub named : first (undefined_at is_defined) vs ≡ None
 
-clean-append : (xs ys : List Visit) → IsClean xs → IsClean ys → IsClean (xs ++ ys)
-clean-append xs ys h k = record {
-  shaped = first_past fault_of xs ys h.shaped ∙ k.shaped;
-  named = λ is_defined. first_past (undefined_at is_defined) xs ys (h.named is_defined) ∙ k.named is_defined;
-}
+module _ (is_defined : List ℕ → Bool) where
+  -- a name of a definition that stands there
+  abbrev pub Known : List ℕ → Type 0
+  Known n = (is_name n ≡ true) × (is_defined n ≡ true)
 
-clean-nothing : IsClean []
-clean-nothing = record { shaped = refl; named = λ is_defined. refl }
+  pub clean-append : (xs ys : List Visit) → IsClean is_defined xs → IsClean is_defined ys → IsClean is_defined (xs ++ ys)
+  clean-append xs ys h k = record {
+    shaped = first_past fault_of xs ys h.shaped ∙ k.shaped;
+    named = first_past (undefined_at is_defined) xs ys h.named ∙ k.named;
+  }
 
--- `allOf` with clean elements
-clean-all_of : (p : List ℕ) (ds : Documents) → IsClean (element_visits (at_key p (codes "allOf")) 0 ds) → IsClean (visits false p (object (all_of ds)))
-clean-all_of p no_documents h = clean-nothing
-clean-all_of p (document d ds) h =
-    let inside = element_visits (at_key p (codes "allOf")) 0 (document d ds) in
-    let whole : IsClean (inside ++ []) = clean-append inside [] h clean-nothing in
-    record { shaped = whole.shaped; named = whole.named }
+  pub clean-nothing : IsClean is_defined []
+  clean-nothing = record { shaped = refl; named = refl }
 
-mutual
-  pub schema_of-clean : (p : List ℕ) (e : Expression) → IsExportable e → IsClean (visits false p (schema_of e))
-  schema_of-clean p (cue.atom (cue.integer n)) t = record { shaped = refl; named = λ is_defined. refl }
-  schema_of-clean p (cue.kind int) t = record { shaped = refl; named = λ is_defined. refl }
-  schema_of-clean p (cue.kind number) t = record { shaped = refl; named = λ is_defined. refl }
-  schema_of-clean p (cue.kind string) t = record { shaped = refl; named = λ is_defined. refl }
-  schema_of-clean p (cue.kind bool) t = record { shaped = refl; named = λ is_defined. refl }
-  schema_of-clean p (cue.range least None) t = record { shaped = refl; named = λ is_defined. refl }
-  schema_of-clean p (cue.range least (Some greatest)) t = record { shaped = refl; named = λ is_defined. refl }
-  schema_of-clean p (cue.atom (cue.bound less n)) t = record { shaped = refl; named = λ is_defined. refl }
-  schema_of-clean p (cue.atom (cue.bound at_most n)) t = record { shaped = refl; named = λ is_defined. refl }
-  schema_of-clean p (cue.atom (cue.bound more n)) t = record { shaped = refl; named = λ is_defined. refl }
-  schema_of-clean p (cue.atom (cue.bound at_least n)) t = record { shaped = refl; named = λ is_defined. refl }
-  schema_of-clean p (cue.conjunction es) t = clean-all_of p (schemas_of es) (schemas_of-clean (at_key p (codes "allOf")) 0 es t)
-  schema_of-clean p _ t = absurd t
+  -- a schema that is clean wherever it stands below the root
+  abbrev CleanSchema : Document → Type 0
+  CleanSchema d = (p : List ℕ) → IsClean is_defined (visits false p d)
 
-  schemas_of-clean : (p : List ℕ) (i : ℕ) (es : Expressions) → AreExportable es → IsClean (element_visits p i (schemas_of es))
-  schemas_of-clean p i cue.no_expressions t = clean-nothing
-  schemas_of-clean p i (cue.expression e es) t = clean-append _ _ (schema_of-clean (at_index p i) e t.0) (schemas_of-clean p (suc i) es t.1)
+  -- ---- schemas that stand in a list, or under keys
 
-body_schemas-clean : (p : List ℕ) (i : ℕ) (es : List Expression) → AllExportable es → IsClean (element_visits p i (body_schemas es))
-body_schemas-clean p i [] t = clean-nothing
-body_schemas-clean p i (e ∷ es) t = clean-append _ _ (schema_of-clean (at_index p i) e t.0) (body_schemas-clean p (suc i) es t.1)
+  elements-clean : (ds : Documents) → Each CleanSchema (elements ds) → (p : List ℕ) (i : ℕ) → IsClean is_defined (element_visits p i ds)
+  elements-clean no_documents h p i = clean-nothing
+  elements-clean (document d ds) h p i = clean-append _ _ (h.0 (at_index p i)) (elements-clean ds h.1 p (suc i))
 
-definition_schema-clean : (p : List ℕ) (es : List Expression) → AllExportable es → IsClean (visits false p (definition_schema es))
-definition_schema-clean p [] t = clean-nothing
-definition_schema-clean p (e ∷ []) t = schema_of-clean p e t.0
-definition_schema-clean p (e ∷ f ∷ es) t = clean-all_of p (body_schemas (e ∷ f ∷ es)) (body_schemas-clean (at_key p (codes "allOf")) 0 (e ∷ f ∷ es) t)
+  -- the members' schemas
+  abbrev CleanMembers : Members → Type 0
+  CleanMembers ms = Each (λ (e : Entry Document). CleanSchema e.1) (entries ms)
 
-definitions-clean : (E : Environment) (p : List ℕ) (ms : Members) → AreDefinitions E ms → IsClean (named_visits p ms)
-definitions-clean E p no_members h = clean-nothing
-definitions-clean E p (member k d ms) h =
-    clean-append _ _ (subst (λ s. IsClean (visits false (at_key p k) s)) (sym h.0.schema) (definition_schema-clean (at_key p k) h.0.operands h.0.exportable)) (definitions-clean E p ms h.1)
+  put-clean : (k : List ℕ) (d : Document) (ms : Members) → CleanSchema d → CleanMembers ms → CleanMembers (put k d ms)
+  put-clean k d no_members h m = (h, tt)
+  put-clean k d (member l e ms) h m = go (slice_cmp nat_cmp k l) (put-clean k d ms h m.1)
+    where
+      go : (o : Ordering) → CleanMembers (put k d ms) → CleanMembers (match_ordering o (member k d (member l e ms)) (member l d ms) (member l e (put k d ms)))
+      go Less later = (h, m)
+      go Equal later = (h, m.1)
+      go Greater later = (m.0, later)
 
--- ---- references
+  members_at-clean : (ls : List (List ℕ)) (schema : List ℕ → Document) → ((l : List ℕ) → CleanSchema (schema l)) → CleanMembers (members_at ls schema)
+  members_at-clean [] schema h = tt
+  members_at-clean (l ∷ ls) schema h = put-clean l (schema l) (members_at ls schema) (h l) (members_at-clean ls schema h)
 
-mutual
-  schema_of-direct_names : (e : Expression) → IsExportable e → direct_names (schema_of e) ≡ []
-  schema_of-direct_names (cue.atom (cue.integer n)) t = refl
-  schema_of-direct_names (cue.kind k) t = refl
-  schema_of-direct_names (cue.range least None) t = refl
-  schema_of-direct_names (cue.range least (Some greatest)) t = refl
-  schema_of-direct_names (cue.atom (cue.bound less n)) t = refl
-  schema_of-direct_names (cue.atom (cue.bound at_most n)) t = refl
-  schema_of-direct_names (cue.atom (cue.bound more n)) t = refl
-  schema_of-direct_names (cue.atom (cue.bound at_least n)) t = refl
-  schema_of-direct_names (cue.conjunction cue.no_expressions) t = refl
-  schema_of-direct_names (cue.conjunction (cue.expression e es)) t = ap (λ ns. ns ++ []) (schemas_of-direct_names (cue.expression e es) t)
-  schema_of-direct_names _ t = absurd t
+  named-clean : (ms : Members) → CleanMembers ms → (p : List ℕ) → IsClean is_defined (named_visits p ms)
+  named-clean no_members h p = clean-nothing
+  named-clean (member k d ms) h p = clean-append _ _ (h.0 (at_key p k)) (named-clean ms h.1 p)
 
-  schemas_of-direct_names : (es : Expressions) → AreExportable es → each_names (schemas_of es) ≡ []
-  schemas_of-direct_names cue.no_expressions t = refl
-  schemas_of-direct_names (cue.expression e es) t = ap₂ (λ a b. a ++ b) (schema_of-direct_names e t.0) (schemas_of-direct_names es t.1)
+  -- a keyword that may be left out, before the others
+  with-clean : (p : List ℕ) (o : Option Document) (k : List ℕ) (ms : Members) → ((v : Document) → o ≡ Some v → IsClean is_defined (keyword_visits false p k v)) → IsClean is_defined (member_visits false p ms) → IsClean is_defined (member_visits false p (with_member o k ms))
+  with-clean p None k ms h m = m
+  with-clean p (Some v) k ms h m = clean-append (keyword_visits false p k v) (member_visits false p ms) (h v refl) m
 
-body_schemas-direct_names : (es : List Expression) → AllExportable es → each_names (body_schemas es) ≡ []
-body_schemas-direct_names [] t = refl
-body_schemas-direct_names (e ∷ es) t = ap₂ (λ a b. a ++ b) (schema_of-direct_names e t.0) (body_schemas-direct_names es t.1)
+  -- ---- operands, and definitions with several bodies
 
-definition_schema-direct_names : (es : List Expression) → AllExportable es → direct_names (definition_schema es) ≡ []
-definition_schema-direct_names [] t = refl
-definition_schema-direct_names (e ∷ []) t = schema_of-direct_names e t.0
-definition_schema-direct_names (e ∷ f ∷ es) t = ap (λ ns. ns ++ []) (body_schemas-direct_names (e ∷ f ∷ es) t)
+  all_of-clean : (ds : Documents) → Each CleanSchema (elements ds) → CleanSchema (object (all_of ds))
+  all_of-clean no_documents h p = clean-nothing
+  all_of-clean (document d ds) h p =
+      let whole = clean-append (element_visits (at_key p (codes "allOf")) 0 (document d ds)) [] (elements-clean (document d ds) h (at_key p (codes "allOf")) 0) clean-nothing in
+      record { shaped = whole.shaped; named = whole.named }
 
-module _ (E : Environment) (ms : Members) (n : List ℕ) (are : AreDefinitions E ms) where
-  names_at : (o : Option Document) (m : List ℕ) → under m (entries ms) ≡ o → option_map_or direct_names o [] ≡ []
-  names_at None m e = refl
-  names_at (Some d) m e =
-      let definition = definition_under E m ms d are e in
-      ap direct_names definition.schema ∙ definition_schema-direct_names definition.operands definition.exportable
+  any_of-clean : (ds : Documents) → Each CleanSchema (elements ds) → CleanSchema (any_of ds)
+  any_of-clean no_documents h p = record { shaped = refl; named = refl }
+  any_of-clean (document d ds) h p =
+      let whole = clean-append (element_visits (at_key p (codes "anyOf")) 0 (document d ds)) [] (elements-clean (document d ds) h (at_key p (codes "anyOf")) 0) clean-nothing in
+      record { shaped = whole.shaped; named = whole.named }
 
-  refers_to_none : (m k : List ℕ) → RefersDirectly (root_of ms n) m k → ⊥
-  refers_to_none m k h =
-      let none : option_map_or direct_names (defined (root_of ms n) m) [] ≡ [] = ap (λ o. option_map_or direct_names o []) (defined-root_of ms n m) ∙ names_at (under m (entries ms)) m refl in
-      let never : IsTrue false = subst (λ ns. IsTrue (list_any (bytes_eq k) ns)) none h in
-      cc
+  one_or_all-clean : (ds : List Document) → Each CleanSchema ds → CleanSchema (one_or_all ds)
+  one_or_all-clean [] h = all_of-clean no_documents tt
+  one_or_all-clean (d ∷ []) h = h.0
+  one_or_all-clean (d ∷ e ∷ ds) h = all_of-clean (documents_of (d ∷ e ∷ ds)) (subst (Each CleanSchema) (sym (elements_back (d ∷ e ∷ ds))) h)
 
-  no_loop : NoLoop (root_of ms n)
-  no_loop m [] h = refers_to_none m m h.0
-  no_loop m (k ∷ ns) h = refers_to_none m k h.0
+  -- ---- structs and lists
 
-  -- the root with its definitions is a schema of the profile
-  pub is_schema-root_of : is_name n ≡ true → IsSome (under n (entries ms)) → IsSchema (root_of ms n)
-  is_schema-root_of name there =
-      let p = at_key [] (codes "$defs") in
-      let rest : List Visit = keyword_at true [] (codes "$ref") (text (reference_start ++ n)) ∷ keyword_at true [] (codes "$schema") (text dialect) ∷ [] in
-      let clean = definitions-clean E p ms are in
-      let has : is_some (defined (root_of ms n) n) ≡ true = ap is_some (defined-root_of ms n n) ∙ there in
-      record {
-        shaped = first_past fault_of (named_visits p ms) rest clean.shaped ∙ rw name refl;
-        named = first_past (undefined_at (λ m. is_some (defined (root_of ms n) m))) (named_visits p ms) rest (clean.named _) ∙ rw has refl;
-        no_loop = no_loop;
-      }
+  values_of-clean : (l : List ℕ) (ds : List (Declaration Document)) → Each (λ d. CleanSchema d.value) ds → Each CleanSchema (values_of l ds)
+  values_of-clean l [] h = tt
+  values_of-clean l (d ∷ ds) h = go (bytes_eq l d.label) (values_of-clean l ds h.1)
+    where
+      go : (b : Bool) → Each CleanSchema (values_of l ds) → Each CleanSchema ((if b then d.value ∷ [] else []) ++ values_of l ds)
+      go true later = (h.0, later)
+      go false later = later
+
+  closing-clean : (p : List ℕ) (o : Bool) (v : Document) → closing o ≡ Some v → IsClean is_defined (keyword_visits false p (codes "additionalProperties") v)
+  closing-clean p true v e = cc
+  closing-clean p false (boolean b) e = record { shaped = refl; named = refl }
+  closing-clean p false v e = cc
+
+  properties-clean : (p : List ℕ) (ms : Members) → CleanMembers ms → (v : Document) → unless_empty ms ≡ Some v → IsClean is_defined (keyword_visits false p (codes "properties") v)
+  properties-clean p no_members h v e = cc
+  properties-clean p (member k d ms) h v e =
+      let inside = named-clean (member k d ms) h (at_key p (codes "properties")) in
+      subst (λ w. IsClean is_defined (keyword_visits false p (codes "properties") w)) (same_Some (object (member k d ms)) v e) (record { shaped = inside.shaped; named = inside.named })
+
+  required-clean : (p : List ℕ) (ls : List (List ℕ)) → are_distinct_texts [] (documents_of (map text ls)) ≡ true → (v : Document) → unless_no_list (map text ls) ≡ Some v → IsClean is_defined (keyword_visits false p (codes "required") v)
+  required-clean p [] h v e = cc
+  required-clean p (l ∷ ls) h v e =
+      subst (λ w. IsClean is_defined (keyword_visits false p (codes "required") w)) (same_Some (list (documents_of (map text (l ∷ ls)))) v e) (record { shaped = rw h refl; named = refl })
+
+  struct-clean : (ds : List (Declaration Document)) (o : Bool) → Each (λ d. CleanSchema d.value) ds → CleanSchema (struct_schema ds o)
+  struct-clean ds o h p =
+      let inside : CleanMembers (properties_of ds) = members_at-clean (labels_of ds) (λ l. one_or_all (values_of l ds)) (λ l. one_or_all-clean (values_of l ds) (values_of-clean l ds h)) in
+      with-clean p (closing o) (codes "additionalProperties") _ (closing-clean p o) (
+      with-clean p (unless_empty (properties_of ds)) (codes "properties") _ (properties-clean p (properties_of ds) inside) (
+      with-clean p (unless_no_list (map text (required_of ds))) (codes "required") _ (required-clean p (required_of ds) (required_of-distinct ds)) (
+      record { shaped = refl; named = refl })))
+
+  fixed-clean : (p : List ℕ) (ds : Documents) → Each CleanSchema (elements ds) → IsClean is_defined (member_visits false p (fixed ds (of_type (codes "array"))))
+  fixed-clean p no_documents h = record { shaped = refl; named = refl }
+  fixed-clean p (document d ds) h =
+      let kind : IsClean is_defined (member_visits false p (of_type (codes "array"))) = record { shaped = refl; named = refl } in
+      let whole = clean-append _ _ (elements-clean (document d ds) h (at_key p (codes "prefixItems")) 0) kind in
+      record { shaped = whole.shaped; named = whole.named }
+
+  items-clean : (p : List ℕ) (o : Option Document) → Each CleanSchema (option_to_list o) → (v : Document) → o ≡ Some v → IsClean is_defined (keyword_visits false p (codes "items") v)
+  items-clean p None h v e = cc
+  items-clean p (Some w) h v e = let inside = h.0 (at_key p (codes "items")) in subst (λ u. IsClean is_defined (keyword_visits false p (codes "items") u)) (same_Some w v e) (record { shaped = inside.shaped; named = inside.named })
+
+  list-clean : (ds : Documents) (rest : Option Document) → Each CleanSchema (elements ds) → Each CleanSchema (option_to_list rest) → CleanSchema (list_schema ds rest)
+  list-clean ds rest h r p = with-clean p rest (codes "items") (fixed ds (of_type (codes "array"))) (items-clean p rest r) (fixed-clean p ds h)
+
+  -- ---- expressions
+
+  mutual
+    pub schema_of-clean : (e : Expression) → Each Known (referred e) → CleanSchema (schema_of e)
+    schema_of-clean (cue.atom cue.top) t p = record { shaped = refl; named = refl }
+    schema_of-clean (cue.atom cue.bottom) t p = record { shaped = refl; named = refl }
+    schema_of-clean (cue.atom cue.null) t p = record { shaped = refl; named = refl }
+    schema_of-clean (cue.atom (cue.boolean b)) t p = record { shaped = refl; named = refl }
+    schema_of-clean (cue.atom (cue.integer n)) t p = record { shaped = refl; named = refl }
+    schema_of-clean (cue.atom (cue.text s)) t p = record { shaped = refl; named = refl }
+    schema_of-clean (cue.atom (cue.bound less n)) t p = record { shaped = refl; named = refl }
+    schema_of-clean (cue.atom (cue.bound at_most n)) t p = record { shaped = refl; named = refl }
+    schema_of-clean (cue.atom (cue.bound more n)) t p = record { shaped = refl; named = refl }
+    schema_of-clean (cue.atom (cue.bound at_least n)) t p = record { shaped = refl; named = refl }
+    schema_of-clean (cue.atom (cue.not_integer n)) t p = record { shaped = refl; named = refl }
+    schema_of-clean (cue.atom (cue.not_text s)) t p = record { shaped = refl; named = refl }
+    schema_of-clean (cue.atom cue.not_null) t p = record { shaped = refl; named = refl }
+    schema_of-clean (cue.kind int) t p = record { shaped = refl; named = refl }
+    schema_of-clean (cue.kind number) t p = record { shaped = refl; named = refl }
+    schema_of-clean (cue.kind string) t p = record { shaped = refl; named = refl }
+    schema_of-clean (cue.kind bool) t p = record { shaped = refl; named = refl }
+    schema_of-clean (cue.range least None) t p = record { shaped = refl; named = refl }
+    schema_of-clean (cue.range least (Some greatest)) t p = record { shaped = refl; named = refl }
+    schema_of-clean (cue.conjunction es) t p = all_of-clean (schemas_of es) (schemas_of-clean es t) p
+    schema_of-clean (cue.disjunction es) t p = any_of-clean (schemas_of es) (schemas_of-clean es t) p
+    schema_of-clean (cue.reference n) t p = let name = t.0.0 in let there = t.0.1 in record { shaped = rw name refl; named = rw there refl }
+    schema_of-clean (cue.struct ds o) t p = struct-clean (declared_schemas ds) o (declared-clean ds t) p
+    schema_of-clean (cue.list es rest) t p =
+        list-clean (schemas_of es) (rest_schema rest) (schemas_of-clean es (each_front Known (referred_all es) (referred_rest rest) t)) (rest-clean rest (each_back Known (referred_all es) (referred_rest rest) t)) p
+
+    schemas_of-clean : (es : Expressions) → Each Known (referred_all es) → Each CleanSchema (elements (schemas_of es))
+    schemas_of-clean cue.no_expressions t = tt
+    schemas_of-clean (cue.expression e es) t = (schema_of-clean e (each_front Known (referred e) (referred_all es) t), schemas_of-clean es (each_back Known (referred e) (referred_all es) t))
+
+    declared-clean : (ds : Declarations) → Each Known (referred_fields ds) → Each (λ d. CleanSchema d.value) (declared_schemas ds)
+    declared-clean cue.no_declarations t = tt
+    declared-clean (cue.declaration l m e ds) t = (schema_of-clean e (each_front Known (referred e) (referred_fields ds) t), declared-clean ds (each_back Known (referred e) (referred_fields ds) t))
+
+    rest-clean : (rest : cue.Rest) → Each Known (referred_rest rest) → Each CleanSchema (option_to_list (rest_schema rest))
+    rest-clean cue.closed t = ((λ p. record { shaped = refl; named = refl }), tt)
+    rest-clean cue.any t = tt
+    rest-clean (cue.each e) t = (schema_of-clean e t, tt)
+
+  bodies-clean : (es : List Expression) → Each Known (flat_map referred es) → Each CleanSchema (map schema_of es)
+  bodies-clean [] t = tt
+  bodies-clean (e ∷ es) t = (schema_of-clean e (each_front Known (referred e) (flat_map referred es) t), bodies-clean es (each_back Known (referred e) (flat_map referred es) t))
+
+  pub definition_schema-clean : (es : List Expression) → Each Known (flat_map referred es) → CleanSchema (definition_schema es)
+  definition_schema-clean es t = one_or_all-clean (map schema_of es) (bodies-clean es t)

@@ -2,3 +2,5 @@ pub mod Translation
 pub mod Whole
 -- for contracts of private functions and proofs alone
 pub mod Definitions
+pub mod Grouped
+pub mod Slots

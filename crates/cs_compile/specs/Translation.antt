@@ -1,6 +1,6 @@
 -- The schema of each form of expression, a row for each form (own rule; the keywords are those of JSON Schema Validation
 -- 2020-12, section 6, and Core, sections 8.2.3.1 and 10). Keys stand in byte order.
-use Rattle.std.specs.Prelude.{◌≡◌, ℕ, suc, ℤ, pos, List, [], ◌∷◌, ◌++◌, map, filter, flat_map, length, Bool, true, false, not, ◌&&◌, Option, Some, None, option_map, codes, if◌then◌else◌}
+use Rattle.std.specs.Prelude.{◌≡◌, ℕ, suc, ℤ, pos, List, [], ◌∷◌, ◌++◌, map, filter, flat_map, length, Bool, true, false, not, ◌&&◌, Option, Some, None, IsSome, option_map, codes, if◌then◌else◌}
 use Rattle.std.specs.List.{list_any}
 use Rattle.std.specs.Str.{bytes_eq}
 use Rattle.cs_document.specs.Document.{Document, null, boolean, integer, text, list, object, Documents, no_documents, document, elements, Members, no_members, member, put}
@@ -8,6 +8,7 @@ use Rattle.cs_document.specs.View.{documents_of}
 use Rattle.cs_package.specs.Expression as cue
 use Rattle.cs_package.specs.Expression.{Expression, Expressions, Kind, int, number, string, bool, Relation, less, at_most, more, at_least, DeclarationMark, regular, optional, required, Declaration, Declarations, Rest}
 use Rattle.cs_package.specs.Environment.{Environment, bodies}
+use Rattle.cs_guard.specs.Reachable.{Reaches}
 use Rattle.cs_profile.specs.Keywords.{defined, reference_start}
 use Rattle.cs_profile.specs.SchemaDocument.{unless_no_list}
 use Rattle.cs_profile.specs.Trim.{with_member}
@@ -164,6 +165,7 @@ body_schemas es = documents_of (map schema_of es)
 abbrev pub definition_schema : List Expression → Document
 definition_schema es = one_or_all (map schema_of es)
 
--- the document defines each declared name, by the schema of its bodies, and no other name
-abbrev pub IsTranslation : Environment → Document → Type 0
-IsTranslation E d = (n : List ℕ) → defined d n ≡ option_map definition_schema (bodies E n)
+-- the document defines each name that n reaches, by the schema of its bodies, and no other name
+pub record IsTranslation (E : Environment) (n : List ℕ) (d : Document) : Type 0 where
+  pub written : (m : List ℕ) → Reaches E n m → defined d m ≡ option_map definition_schema (bodies E m)
+  pub nothing_else : (m : List ℕ) → IsSome (defined d m) → Reaches E n m

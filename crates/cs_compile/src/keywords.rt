@@ -5,11 +5,12 @@ ghost use Rattle.cs_package.specs.View.{relation_of};
 ghost use Rattle.cs_profile.specs.Keywords.{name_of};
 ghost use Rattle.cs_profile.specs.Shapes.{form_of};
 ghost use Rattle.cs_profile.specs.declared.keyword.Form.TheVariants as form;
-ghost use Rattle.cs_profile.specs.SchemaDocument.{schema_view, slots_of, present};
+ghost use Rattle.cs_profile.specs.SchemaDocument.{schema_view, slots_of, present, kind_name};
+ghost use Rattle.cs_compile.specs.Slots.{no_slots, typed};
 ghost use Rattle.cs_compile.specs.Translation.{limit_name};
 
 use cs_package::Relation;
-use cs_profile::{Keyword, Keywords, Schema};
+use cs_profile::{JsonKind, Keyword, KeywordValue, Keywords, Schema};
 use std::alloc::{AllocError, Global};
 
 /// The schema of some keywords.
@@ -17,6 +18,20 @@ pub(crate) fn object(alloc: Global, keywords: Keywords) -> Result<Schema, AllocE
     ensures { IfOk result (λ s. schema_view s ≡ object (present (slots_of keywords))) }
 {
     Ok(Schema::Object(Box::new(alloc, keywords)?))
+}
+
+/// No keyword.
+pub(crate) fn untyped(alloc: Global) -> Keywords
+    ensures { slots_of result ≡ no_slots }
+{
+    Keywords::empty(alloc)
+}
+
+/// `type` alone.
+pub(crate) fn typed(alloc: Global, kind: JsonKind) -> Keywords
+    ensures { slots_of result ≡ typed (kind_name kind) }
+{
+    untyped(alloc).set(alloc, Keyword::Type, KeywordValue::Kind(kind))
 }
 
 /// The keyword that the limit of a relation is written as.

@@ -1,8 +1,12 @@
 // From a package to a schema that admits the same documents.
 #![tactic(auto)]
 
+mod atoms;
+mod elements;
 mod fault;
+mod fields;
 mod keywords;
+mod operands;
 mod translate;
 mod whole;
 

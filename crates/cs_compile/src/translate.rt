@@ -1,107 +1,106 @@
 // The schema of each form of expression.
-ghost use Rattle.std.specs.Prelude.{◌≡◌, ℕ, List, IfOk, codes, map};
-ghost use Rattle.cs_document.specs.Document.{object, member, integer};
-ghost use Rattle.cs_package.specs.View.{expression_of, kind_of, relation_of};
-ghost use Rattle.cs_instance.specs.Exportable.{IsExportable, AllExportable};
-ghost use Rattle.cs_profile.specs.SchemaDocument.{schema_view, kind_name};
-ghost use Rattle.cs_compile.specs.Translation.{schema_of, definition_schema, all_of, body_schemas, of_type, type_name, range_keywords, limit_name};
+ghost use Rattle.std.specs.Prelude.{◌≡◌, true, IfOk, IsTrue, length, map};
+ghost use Rattle.std.specs.List.{list_all};
+ghost use Rattle.cs_package.specs.Environment.{declared_names};
+ghost use Rattle.cs_package.specs.View.{expression_of, is_known, is_known_end, is_known_part, rest_of};
+ghost use Rattle.cs_profile.specs.SchemaDocument.{schema_view, schemas_view, value_at};
+ghost use Rattle.cs_profile.specs.declared.keyword.Form.TheVariants as form;
+ghost use Rattle.cs_compile.specs.Grouped.{declarations_at, IsGrouped};
+ghost use Rattle.cs_compile.specs.Translation.{schema_of, definition_schema, rest_schema};
 
-use crate::keywords::{limit_keyword, object};
+use crate::atoms::{bound, but, constant, json_kind, not_text, range, reference};
+use crate::elements::list_schema;
+use crate::fields::{Groups, add_value, properties, required, struct_schema};
+use crate::keywords::{object, typed, untyped};
+use crate::operands::{all_of, any_of, one_or_all};
 use cs_document::Doc;
-use cs_package::{Kind, Relation, Shape};
-use cs_profile::{JsonKind, Keyword, KeywordValue, Keywords, Schema};
+use cs_package::{Package, Part, Shape, ShapeEnd};
+use cs_profile::{JsonKind, KeywordValue, Schema};
 use std::alloc::{AllocError, Global};
+use std::collections::BTreeMap;
 
 /// The schema of a definition: that of its one body, or `allOf` of those of its bodies in order.
-pub(crate) fn definition_schema(alloc: Global, bodies: &[Shape]) -> Result<Schema, AllocError>
-    requires { (ns : List (List ℕ)) × AllExportable (map (expression_of ns) bodies.now) }
-    ensures { (ns : List (List ℕ)) → IfOk result
-        (λ s. schema_view s ≡ definition_schema (map (expression_of ns) bodies.now)) }
+pub(crate) fn definition_schema(
+    alloc: Global,
+    package: &Package,
+    bodies: &[Shape],
+) -> Result<Schema, AllocError>
+    requires { IsTrue (list_all (is_known (length «package».now)) bodies.now) }
+    ensures { IfOk result (λ s. schema_view s ≡ definition_schema (map (expression_of (declared_names «package».now)) bodies.now)) }
 {
-    match bodies {
-        [body] => schema_of(alloc, body),
-        _ => all_of(alloc, bodies),
-    }
+    one_or_all(alloc, schemas_of(alloc, package, bodies)?)
 }
 
 /// The expression's schema by the table.
 #[cycle(translate)]
-fn schema_of(alloc: Global, shape: &Shape) -> Result<Schema, AllocError>
-    requires { (ns : List (List ℕ)) × IsExportable (expression_of ns shape.now) }
-    ensures { (ns : List (List ℕ)) → IfOk result (λ s. schema_view s ≡ schema_of (expression_of ns shape.now)) }
+fn schema_of(alloc: Global, package: &Package, shape: &Shape) -> Result<Schema, AllocError>
+    requires { is_known (length «package».now) shape.now ≡ true }
+    ensures { IfOk result (λ s. schema_view s ≡ schema_of (expression_of (declared_names «package».now) shape.now)) }
 {
     match shape {
-        Shape::Int(n) => {
-            let value = KeywordValue::Anything(Doc::Int(*n));
-            object(
-                alloc,
-                Keywords::empty(alloc).set(alloc, Keyword::Const, value),
-            )
-        },
-        Shape::Kind(kind) => {
-            let value = KeywordValue::Kind(json_kind(*kind));
-            object(
-                alloc,
-                Keywords::empty(alloc).set(alloc, Keyword::Type, value),
-            )
-        },
+        Shape::Top => Ok(Schema::Always(true)),
+        Shape::Bottom => Ok(Schema::Always(false)),
+        Shape::Null => constant(alloc, Doc::Null),
+        Shape::Bool(b) => constant(alloc, Doc::Bool(*b)),
+        Shape::Int(n) => constant(alloc, Doc::Int(*n)),
+        Shape::Text(text) => constant(alloc, Doc::Text(text.clone()?)),
+        Shape::Kind(kind) => object(alloc, typed(alloc, json_kind(*kind))),
         Shape::Range { least, greatest } => range(alloc, *least, *greatest),
+        Shape::Definition(number) => reference(alloc, package.bare_name(*number)),
         Shape::Bound { relation, limit } => bound(alloc, *relation, *limit),
-        Shape::And(operands) => all_of(alloc, operands),
-        _ => unreachable!(),
+        Shape::NotInt(n) => but(alloc, Doc::Int(*n), typed(alloc, JsonKind::Number)),
+        Shape::NotText(text) => not_text(alloc, text),
+        Shape::NotNull => but(alloc, Doc::Null, untyped(alloc)),
+        Shape::And(operands) => all_of(alloc, schemas_of(alloc, package, operands)?),
+        Shape::Or(operands) => any_of(alloc, schemas_of(alloc, package, operands)?),
+        Shape::Struct { parts, opened } => {
+            let properties = properties(alloc, groups_of(alloc, package, parts)?)?;
+            struct_schema(alloc, properties, required(alloc, parts)?, *opened)
+        },
+        Shape::List { front, end } => {
+            let front = schemas_of(alloc, package, front)?;
+            list_schema(alloc, front, rest_of(alloc, package, end)?)
+        },
     }
 }
 
-/// The schema of the operands that `&` joins.
+/// The schemas of some expressions, in order.
 #[cycle(translate)]
-fn all_of(alloc: Global, operands: &[Shape]) -> Result<Schema, AllocError>
-    requires { (ns : List (List ℕ)) × AllExportable (map (expression_of ns) operands.now) }
-    ensures { (ns : List (List ℕ)) → IfOk result
-        (λ s. schema_view s ≡ object (all_of (body_schemas (map (expression_of ns) operands.now)))) }
+fn schemas_of(alloc: Global, package: &Package, shapes: &[Shape]) -> Result<Vec<Schema>, AllocError>
+    requires { IsTrue (list_all (is_known (length «package».now)) shapes.now) }
+    ensures { IfOk result (λ v. schemas_view v.items ≡ map (λ s. schema_of (expression_of (declared_names «package».now) s)) shapes.now) }
 {
-    let mut members = Vec::with_capacity(alloc, operands.len())?;
-    for operand in operands {
-        members.push(schema_of(alloc, operand)?)?;
+    let mut schemas = Vec::with_capacity(alloc, shapes.len())?;
+    for shape in shapes {
+        schemas.push(schema_of(alloc, package, shape)?)?;
     }
-    let value = KeywordValue::Schemas(members);
-    object(
-        alloc,
-        Keywords::empty(alloc).set(alloc, Keyword::AllOf, value),
-    )
+    Ok(schemas)
 }
 
-fn json_kind(kind: Kind) -> JsonKind
-    ensures { kind_name result ≡ type_name (kind_of kind) }
+/// The schemas of the declared values, label by label.
+#[cycle(translate)]
+fn groups_of(alloc: Global, package: &Package, parts: &[Part]) -> Result<Groups, AllocError>
+    requires { IsTrue (list_all (is_known_part (length «package».now)) parts.now) }
+    ensures { IfOk result (IsGrouped (declarations_at (declared_names «package».now) parts.now)) }
 {
-    match kind {
-        Kind::Int => JsonKind::Integer,
-        Kind::Number => JsonKind::Number,
-        Kind::Text => JsonKind::String,
-        Kind::Bool => JsonKind::Boolean,
+    let mut groups = BTreeMap::new(alloc);
+    for part in parts {
+        let value = schema_of(alloc, package, &part.value)?;
+        add_value(alloc, &mut groups, &part.label, value)?;
     }
+    Ok(groups)
 }
 
-fn range(alloc: Global, least: i64, greatest: Option<i64>) -> Result<Schema, AllocError>
-    ensures { IfOk result (λ s. schema_view s ≡ object (range_keywords least greatest)) }
+/// The value of `items`: the schema of what stands behind a list's fixed elements, or nothing where they may be
+/// anything.
+#[cycle(translate)]
+fn rest_of(alloc: Global, package: &Package, end: &ShapeEnd) -> Result<KeywordValue, AllocError>
+    requires { is_known_end (length «package».now) end.now ≡ true }
+    ensures { IfOk result (λ v. value_at form.Schema v ≡ rest_schema (rest_of (declared_names «package».now) end.now)) }
 {
-    let keywords = Keywords::empty(alloc)
-        .set(alloc, Keyword::Type, KeywordValue::Kind(JsonKind::Integer))
-        .set(alloc, Keyword::Minimum, KeywordValue::Integer(least));
-    match greatest {
-        Some(greatest) => object(
-            alloc,
-            keywords.set(alloc, Keyword::Maximum, KeywordValue::Integer(greatest)),
-        ),
-        None => object(alloc, keywords),
+    match end {
+        ShapeEnd::Closed => Ok(KeywordValue::Schema(Schema::Always(false))),
+        ShapeEnd::Any => Ok(KeywordValue::Nothing),
+        ShapeEnd::Each(shape) => Ok(KeywordValue::Schema(schema_of(alloc, package, shape)?)),
     }
-}
-
-fn bound(alloc: Global, relation: Relation, limit: i64) -> Result<Schema, AllocError>
-    ensures { IfOk result (λ s. schema_view s ≡ object
-        (member (limit_name (relation_of relation)) (integer limit) (of_type (codes "number")))) }
-{
-    let keywords = Keywords::empty(alloc)
-        .set(alloc, Keyword::Type, KeywordValue::Kind(JsonKind::Number))
-        .set(alloc, limit_keyword(relation), KeywordValue::Integer(limit));
-    object(alloc, keywords)
 }

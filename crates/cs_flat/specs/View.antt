@@ -8,6 +8,9 @@ use Rattle.cs_flat.specs.declared.flat.Item.{Item}
 use Rattle.cs_flat.specs.declared.flat.Node.{Node}
 use Rattle.cs_flat.specs.declared.flat.Item.TheVariants.{Null, Bool, Int, Text, List as TheList, Object}
 
+abbrev pub text_of : Bor (List ℕ) → List ℕ
+text_of t = t.now
+
 abbrev pub entry_of : Bor (List ℕ) × ℕ → Entry ℕ
 entry_of m = (m.0.now, m.1)
 

@@ -4,7 +4,9 @@
 mod entries;
 mod flat;
 mod flattening;
+mod names;
 
 pub use entries::number_under;
 pub use flat::{Flat, Item};
 pub use flattening::flatten;
+pub use names::Names;

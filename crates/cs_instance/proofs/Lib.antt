@@ -1,7 +1,6 @@
 pub mod Parts
 pub mod Induction
 pub mod Meaning
-pub mod Exportable
 pub mod Found
 pub mod Judged
 pub mod Placed

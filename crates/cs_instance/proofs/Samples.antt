@@ -1,7 +1,7 @@
 -- Each form of expression with those documents of a list that are its instances. A wrong expectation, or a definition
 -- of the meaning that is turned, stops the check here.
-use Rattle.std.proofs.Common.{◌≡◌, ℕ, ℤ, pos, neg_ℤ, Bool, true, false, List, [], ◌∷◌, map, filter, Some, None, codes, if◌then◌else◌, refl, ap₂, ◌∙◌, rules}
-use Rattle.std.specs.List.{list_all, AllByRecursion as Each}
+use Rattle.std.proofs.Common.{◌≡◌, ℕ, ℤ, pos, neg_ℤ, Bool, true, false, List, [], ◌∷◌, map, filter, Some, None, codes, if◌then◌else◌, refl, ap₂, ◌∙◌}
+use Rattle.std.specs.List.{list_all}
 use Rattle.std.proofs.lemmas.Bool.{and_parts}
 use Rattle.cs_document.specs.Document as json
 use Rattle.cs_document.specs.Document.{Document}
@@ -10,7 +10,6 @@ use Rattle.cs_package.specs.Expression as cue
 use Rattle.cs_package.specs.Expression.{Expression}
 use Rattle.cs_package.specs.Environment.{Environment}
 use Rattle.cs_instance.specs.Instance.{Rule, node, IsInstance}
-use Rattle.cs_instance.specs.Exportable.{IsExportable, AllExportable, IsExportablePackage}
 use Rattle.cs_instance.proofs.Meaning.{is_settled, value_after, computed}
 use Rattle.cs_instance.proofs.Rows.{all_of, any_of, int, string, more_than, refers_to, list_of, regular, optional, required, end, closed, opened, word}
 
@@ -224,19 +223,3 @@ references : Admits named (number 2 ∷ number 3 ∷ a_text ∷ array (number 2 
     ∷ (list_of [] (cue.each (refers_to B)), array (number 3 ∷ []) ∷ [])
     ∷ [])
 references = by_values refl refl
-
--- ---- the forms that are exported so far
-
-exportable : AllExportable (int ∷ cue.kind cue.number ∷ string ∷ cue.kind cue.bool ∷ cue.atom (cue.integer (pos 1)) ∷ cue.range (pos 0) None ∷ more_than (pos 1) ∷ all_of (int ∷ all_of (int ∷ int ∷ []) ∷ []) ∷ [])
-exportable = search rules
-
--- each of the others, and one of them inside
-not_exportable : Each (λ e. IsExportable e → ⊥) (cue.atom cue.top ∷ cue.atom cue.bottom ∷ cue.atom cue.null ∷ cue.atom (cue.boolean true) ∷ cue.atom (cue.text A) ∷ refers_to A ∷ cue.atom (cue.not_integer (pos 1)) ∷ cue.atom (cue.not_text A) ∷ cue.atom cue.not_null ∷ any_of (int ∷ int ∷ []) ∷ closed end ∷ list_of [] cue.any ∷ all_of (int ∷ cue.atom cue.null ∷ []) ∷ [])
-not_exportable = (λ h. h, (λ h. h, (λ h. h, (λ h. h, (λ h. h, (λ h. h, (λ h. h, (λ h. h, (λ h. h, (λ h. h, (λ h. h, (λ h. h, (λ h. h.1.0, tt)))))))))))))
-
-package_exportable : IsExportablePackage ((A, int ∷ more_than (pos 1) ∷ []) ∷ (B, int ∷ []) ∷ [])
-package_exportable = search rules
-
--- the second body of the second definition
-package_not_exportable : IsExportablePackage ((A, int ∷ []) ∷ (B, int ∷ cue.atom cue.null ∷ []) ∷ []) → ⊥
-package_not_exportable h = h.1.0.1.0

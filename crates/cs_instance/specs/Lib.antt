@@ -4,7 +4,6 @@ pub mod Numbering
 pub mod Rules
 pub mod Judging
 pub mod Refusal
-pub mod Exportable
 -- for contracts of private functions and proofs alone
 pub mod Steps
 pub mod Props

@@ -1,17 +1,11 @@
--- A document in which the walk meets no fault: it meets none in the trimmed one, and below the root no keyword refers to a name.
-use Rattle.std.proofs.Common.{◌≡◌, ℕ, suc, Bool, true, false, List, [], ◌++◌, Option, Some, None, bytes_eq, codes, refl, sym, ap, ap₂, ◌∙◌, if◌then◌else◌}
-use Rattle.std.proofs.lemmas.Slice.Eq.{bytes_eq-Decides}
-use Rattle.std.specs.Option.{option_and_then}
-use Rattle.cs_document.specs.Document.{Document, null, boolean, integer, text, list, object, Documents, no_documents, document, Members, no_members, member, under}
-use Rattle.cs_profile.specs.Keywords.{keywords}
-use Rattle.cs_profile.specs.declared.keyword.Keyword.{Keyword}
-use Rattle.cs_profile.specs.declared.keyword.Keyword.TheVariants as keyword
-use Rattle.cs_profile.specs.Loops.{by_keyword, value_names, direct_names, keyword_names, list_names, each_names}
-use Rattle.cs_profile.specs.Shapes.{form_at, form_in, has_form, keeping, is_kept, by_form}
+-- A document in which the walk meets no fault: it meets none in the trimmed one.
+use Rattle.std.proofs.Common.{◌≡◌, ℕ, suc, Bool, true, false, List, ◌++◌, Option, Some, None, refl, sym, ap, ap₂, ◌∙◌, if◌then◌else◌}
+use Rattle.cs_document.specs.Document.{Document, null, boolean, integer, text, list, object, Documents, no_documents, document, Members, no_members, member}
+use Rattle.cs_profile.specs.Shapes.{form_at, has_form, keeping, is_kept, by_form}
 use Rattle.cs_profile.specs.declared.keyword.Form.{Form}
 use Rattle.cs_profile.specs.declared.keyword.Form.TheVariants as form
 use Rattle.cs_profile.specs.Places.{at_key, at_index}
-use Rattle.cs_profile.specs.Profile.{Visit, first, or_else, fault_of, shape_fault, visits, member_visits, keyword_visits, list_visits, element_visits, map_visits, named_visits, undefined_at, reference_fault, within, value_visits}
+use Rattle.cs_profile.specs.Profile.{Visit, first, or_else, fault_of, shape_fault, visits, member_visits, keyword_visits, list_visits, element_visits, map_visits, named_visits, value_visits}
 use Rattle.cs_profile.specs.Trim.{trimmed, trimmed_members, trimmed_list, trimmed_elements, trimmed_map, trimmed_named, trimmed_as, value_trims, with_member}
 use Rattle.cs_profile.proofs.Walks.{first-append, first_past}
 
@@ -147,86 +141,3 @@ mutual
   faultless_named place (member k v ms) h =
       let parts = parted fault_of (visits false (at_key place k) v) (named_visits place ms) h in
       joined fault_of (visits false (at_key place k) (trimmed false v)) (named_visits place (trimmed_named ms)) (faultless_trimmed false (at_key place k) v parts.0) (faultless_named place ms parts.1)
-
--- ---- references below the root
-
--- which keyword `$ref` is
-pub not_reference : (k : List ℕ) (w : Keyword) → under k keywords ≡ Some w → (w ≡ keyword.Ref → ⊥) → bytes_eq k (codes "$ref") ≡ false
-not_reference k w e h = by_test (bytes_eq k (codes "$ref")) refl
-  where
-    by_test : (t : Bool) → bytes_eq k (codes "$ref") ≡ t → t ≡ false
-    by_test false s = refl
-    by_test true s =
-        let is : k ≡ codes "$ref" = (bytes_eq-Decides k (codes "$ref")).0 s in
-        let same : Some w ≡ Some keyword.Ref = sym e ∙ ap (λ n. under n keywords) is in
-        absurd (h cc)
-
-module _ (known : List ℕ → Bool) where
-  -- where the walk meets no fault, it meets no reference, and there are no direct names
-  abbrev pub Unreferring : List Visit → List (List ℕ) → Type 0
-  Unreferring vs names = Faultless vs → (first (undefined_at known) vs ≡ None) × (names ≡ [])
-
-  abbrev AtKeyword : List ℕ → List ℕ → Document → Type 0
-  AtKeyword place k v = (first (undefined_at known) (keyword_visits false place k v) ≡ None) × (by_keyword (under k keywords) (value_names v) ≡ [])
-
-  plain : (place k : List ℕ) (v : Document) (w : Keyword) → under k keywords ≡ Some w → (w ≡ keyword.Ref → ⊥)
-      → first (undefined_at known) (within (form_in false w) (value_visits (at_key place k) v)) ≡ None
-      → by_keyword (Some w) (value_names v) ≡ [] → AtKeyword place k v
-  plain place k v w e n none names = (
-    ap₂ or_else (ap (λ t. if t then reference_fault known place v else None) (not_reference k w e n))
-        (ap (λ o. first (undefined_at known) (within (option_and_then (form_in false) o) (value_visits (at_key place k) v))) e ∙ none),
-    ap (λ o. by_keyword o (value_names v)) e ∙ names,
-  )
-
-  -- a key that is none of the keywords below the root
-  none_such : (place k : List ℕ) (v : Document) (o : Option Keyword) → under k keywords ≡ o → option_and_then (form_in false) o ≡ None → Faultless (keyword_visits false place k v) → ⊥
-  none_such place k v o e r h =
-      let none : form_at false k ≡ None = ap (option_and_then (form_in false)) e ∙ r in
-      let fault = rw none at h in cc
-
-  at_keyword : (place k : List ℕ) (v : Document) (o : Option Keyword) → under k keywords ≡ o → Unreferring (list_visits (at_key place k) v) (list_names v) → Faultless (keyword_visits false place k v) → AtKeyword place k v
-  at_keyword place k v (Some keyword.Type) e i h = plain place k v keyword.Type e (λ s. cc) refl refl
-  at_keyword place k v (Some keyword.Const) e i h = plain place k v keyword.Const e (λ s. cc) refl refl
-  at_keyword place k v (Some keyword.Minimum) e i h = plain place k v keyword.Minimum e (λ s. cc) refl refl
-  at_keyword place k v (Some keyword.Maximum) e i h = plain place k v keyword.Maximum e (λ s. cc) refl refl
-  at_keyword place k v (Some keyword.ExclusiveMinimum) e i h = plain place k v keyword.ExclusiveMinimum e (λ s. cc) refl refl
-  at_keyword place k v (Some keyword.ExclusiveMaximum) e i h = plain place k v keyword.ExclusiveMaximum e (λ s. cc) refl refl
-  at_keyword place k v (Some keyword.AllOf) e i h =
-      let mine : or_else (shape_fault place k (has_form form.Schemas v)) (first fault_of (list_visits (at_key place k) v)) ≡ None = rw e at h in
-      let below = i (or_else_none (shape_fault place k (has_form form.Schemas v)) (first fault_of (list_visits (at_key place k) v)) mine).1 in
-      plain place k v keyword.AllOf e (λ s. cc) below.0 below.1
-  -- the others do not stand there
-  at_keyword place k v o e i h = absurd (none_such place k v o e refl h)
-
-  both : (xs ys : List Visit) (ns ms : List (List ℕ)) → (first (undefined_at known) xs ≡ None) × (ns ≡ []) → (first (undefined_at known) ys ≡ None) × (ms ≡ []) → (first (undefined_at known) (xs ++ ys) ≡ None) × (ns ++ ms ≡ [])
-  both xs ys ns ms a b = (joined (undefined_at known) xs ys a.0 b.0, ap₂ (λ ps qs. ps ++ qs) a.1 b.1)
-
-  mutual
-    pub none_referring : (place : List ℕ) (d : Document) → Unreferring (visits false place d) (direct_names d)
-    none_referring place null h = (refl, refl)
-    none_referring place (boolean b) h = (refl, refl)
-    none_referring place (integer z) h = (refl, refl)
-    none_referring place (text s) h = (refl, refl)
-    none_referring place (list ds) h = (refl, refl)
-    none_referring place (object ms) h = none_in_members place ms h
-
-    none_in_members : (place : List ℕ) (ms : Members) → Unreferring (member_visits false place ms) (keyword_names ms)
-    none_in_members place no_members h = (refl, refl)
-    none_in_members place (member k v ms) h =
-        let parts = parted fault_of (keyword_visits false place k v) (member_visits false place ms) h in
-        both (keyword_visits false place k v) (member_visits false place ms) (by_keyword (under k keywords) (value_names v)) (keyword_names ms)
-        (at_keyword place k v (under k keywords) refl (none_in_list (at_key place k) v) parts.0) (none_in_members place ms parts.1)
-
-    pub none_in_list : (place : List ℕ) (d : Document) → Unreferring (list_visits place d) (list_names d)
-    none_in_list place null h = (refl, refl)
-    none_in_list place (boolean b) h = (refl, refl)
-    none_in_list place (integer z) h = (refl, refl)
-    none_in_list place (text s) h = (refl, refl)
-    none_in_list place (list ds) h = none_in_elements place 0 ds h
-    none_in_list place (object ms) h = (refl, refl)
-
-    none_in_elements : (place : List ℕ) (i : ℕ) (ds : Documents) → Unreferring (element_visits place i ds) (each_names ds)
-    none_in_elements place i no_documents h = (refl, refl)
-    none_in_elements place i (document d ds) h =
-        let parts = parted fault_of (visits false (at_index place i) d) (element_visits place (suc i) ds) h in
-        both (visits false (at_index place i) d) (element_visits place (suc i) ds) (direct_names d) (each_names ds) (none_referring (at_index place i) d parts.0) (none_in_elements place (suc i) ds parts.1)

@@ -15,5 +15,7 @@ pub mod Faultless
 pub mod Defined
 pub mod Ranked
 pub mod Profiles
+pub mod Referring
 pub mod TrimLaw
 pub mod Samples
+pub mod WalkSamples

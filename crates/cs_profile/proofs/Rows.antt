@@ -208,6 +208,14 @@ definitions = judges 1 _ _ _ (λ V. (refl, refl))
 reference : Judges (o (("$defs", o (("A", typed "string") ∷ ("B", typed "null") ∷ [])) ∷ ("$ref", t "#/$defs/B") ∷ [])) (null ∷ []) (t "x" ∷ n 1 ∷ [])
 reference = judges 2 _ _ _ (λ V. (refl, refl))
 
+-- a name that is not defined has no schema to validate anything
+undefined_reference : Judges (says "$ref" (t "#/$defs/A")) [] (null ∷ n 0 ∷ o [] ∷ [])
+undefined_reference = judges 1 _ _ _ (λ V. (refl, refl))
+
+-- a `$ref` below the root
+reference_below : Judges (o (("$defs", says "A" (typed "null")) ∷ ("properties", says "a" (says "not" (says "$ref" (t "#/$defs/A")))) ∷ [])) (says "a" (n 1) ∷ null ∷ []) (says "a" null ∷ [])
+reference_below = judges 4 _ _ _ (λ V. (refl, refl))
+
 type_null : Judges (typed "null") (null ∷ []) (boolean false ∷ n 0 ∷ t "" ∷ l [] ∷ o [] ∷ [])
 type_null = judges 1 _ _ _ (λ V. (refl, refl))
 

@@ -1,4 +1,4 @@
--- What the definitions say of single keywords, names, values, places, trimmings and loops, by computation.
+-- What the definitions say of single keywords, names, values, places and loops, by computation.
 use Rattle.std.proofs.Common.{◌≡◌, ℕ, negsuc, ◌<◌, Bool, true, false, List, [], ◌∷◌, inl, inr, map, length, Option, Some, None, option_map, Vec, Global, String as Text, string_bytes, bytes_eq, codes, refl, sym, subst, if◌then◌else◌, arith}
 use Rattle.std.specs.Fmt.{digits}
 use Rattle.std.specs.Option.{option_map_or}
@@ -14,8 +14,6 @@ use Rattle.cs_profile.specs.Shapes.{kept, left_out, left_out_if_empty, keeping, 
 use Rattle.cs_profile.specs.declared.keyword.Form.{Form}
 use Rattle.cs_profile.specs.declared.keyword.Form.TheVariants as form
 use Rattle.cs_profile.specs.Places.{at_key, at_index}
-use Rattle.cs_profile.specs.Profile.{unknown, misshapen, undefined, walk_fault, name_fault}
-use Rattle.cs_profile.specs.Trim.{trim}
 use Rattle.cs_graph.specs.Chains.{Chain}
 use Rattle.cs_graph.proofs.Paths.{chain_short, no_cycle}
 use Rattle.cs_profile.specs.Loops.{direct_names, RefersDirectly, IsLoop, NoLoop, IsRank}
@@ -67,23 +65,17 @@ of_root = refl
 of_root_alone : forms false ("$schema" ∷ "$defs" ∷ []) ≡ None ∷ None ∷ []
 of_root_alone = refl
 
-of_each : (root : Bool) → forms root ("type" ∷ "const" ∷ "minimum" ∷ "maximum" ∷ "exclusiveMinimum" ∷ "exclusiveMaximum" ∷ "allOf" ∷ [])
-    ≡ Some form.Kind ∷ Some form.Anything ∷ Some form.Integer ∷ Some form.Integer ∷ Some form.Integer ∷ Some form.Integer ∷ Some form.Schemas ∷ []
+of_each : (root : Bool) → forms root (
+    "$ref" ∷ "type" ∷ "const" ∷ "enum" ∷ "minimum" ∷ "maximum" ∷ "exclusiveMinimum" ∷ "exclusiveMaximum" ∷ "minItems" ∷ "required" ∷ "properties" ∷ "additionalProperties" ∷ "prefixItems" ∷ "items"
+    ∷ "allOf" ∷ "anyOf" ∷ "not" ∷ "title" ∷ "description" ∷ "$comment" ∷ [])
+    ≡ Some form.Reference ∷ Some form.Kind ∷ Some form.Anything ∷ Some form.Array ∷ Some form.Integer ∷ Some form.Integer ∷ Some form.Integer ∷ Some form.Integer ∷ Some form.Count ∷ Some form.Texts ∷ Some form.NamedSchemas
+    ∷ Some form.Schema ∷ Some form.Schemas ∷ Some form.Schema ∷ Some form.Schemas ∷ Some form.Schemas ∷ Some form.Schema ∷ Some form.Text ∷ Some form.Text ∷ Some form.Text ∷ []
 of_each true = refl
 of_each false = refl
 
 of_none : (root : Bool) → forms root ("$id" ∷ "pattern" ∷ "oneOf" ∷ "" ∷ []) ≡ None ∷ None ∷ None ∷ None ∷ []
 of_none true = refl
 of_none false = refl
-
--- keywords that the reader does not take yet
-not_yet : (root : Bool) → forms root ("enum" ∷ "required" ∷ "properties" ∷ "additionalProperties" ∷ "prefixItems" ∷ "items" ∷ "minItems" ∷ "anyOf" ∷ "not" ∷ "title" ∷ "description" ∷ "$comment" ∷ [])
-    ≡ None ∷ None ∷ None ∷ None ∷ None ∷ None ∷ None ∷ None ∷ None ∷ None ∷ None ∷ None ∷ []
-not_yet true = refl
-not_yet false = refl
-
-not_yet_below : form_at false (codes "$ref") ≡ None
-not_yet_below = refl
 
 -- ---- names in a `$ref`
 
@@ -168,6 +160,16 @@ holds : map {B = ℕ} (λ form. by_form form (record { none = 0; itself = 1; ele
     ≡ 0 ∷ 0 ∷ 0 ∷ 0 ∷ 0 ∷ 0 ∷ 0 ∷ 0 ∷ 0 ∷ 1 ∷ 2 ∷ 3 ∷ []
 holds = refl
 
+-- ---- what trimming does with a value of a shape
+
+by_its_form : map keeping (form.Dialect ∷ form.Reference ∷ form.Kind ∷ form.Anything ∷ form.Array ∷ form.Integer ∷ form.Count ∷ form.Texts ∷ form.Text ∷ form.Schema ∷ form.Schemas ∷ form.NamedSchemas ∷ [])
+    ≡ left_out ∷ kept ∷ kept ∷ kept ∷ kept ∷ kept ∷ kept ∷ left_out_if_empty ∷ left_out ∷ kept ∷ kept ∷ left_out_if_empty ∷ []
+by_its_form = refl
+
+keeps : map (λ k. map (is_kept k) (o [] ∷ l [] ∷ says "a" null ∷ l (null ∷ []) ∷ t "" ∷ null ∷ [])) (kept ∷ left_out ∷ left_out_if_empty ∷ [])
+    ≡ (true ∷ true ∷ true ∷ true ∷ true ∷ true ∷ []) ∷ (false ∷ false ∷ false ∷ false ∷ false ∷ false ∷ []) ∷ (false ∷ false ∷ true ∷ true ∷ true ∷ true ∷ []) ∷ []
+keeps = refl
+
 -- ---- places (RFC 6901, section 5)
 
 under_key : map (λ k. at_key [] (codes k)) ("foo" ∷ "" ∷ "a/b" ∷ "c%d" ∷ "e^f" ∷ " " ∷ "m~n" ∷ "~1" ∷ "//~~" ∷ [])
@@ -182,68 +184,6 @@ under_both = refl
 at_elements : map (at_index (codes "/allOf")) (0 ∷ 9 ∷ 10 ∷ 105 ∷ []) ≡ map codes ("/allOf/0" ∷ "/allOf/9" ∷ "/allOf/10" ∷ "/allOf/105" ∷ [])
 unfolding at_index digits
 at_elements = refl
-
--- ---- the first fault of a walk
-
-walks_without : map walk_fault (boolean true ∷ boolean false ∷ o [] ∷ says "allOf" (l (boolean true ∷ says "type" (t "null") ∷ [])) ∷ says "$defs" (o []) ∷ [])
-    ≡ None ∷ None ∷ None ∷ None ∷ None ∷ []
-walks_without = refl
-
-no_schema : map walk_fault (null ∷ n 0 ∷ t "" ∷ l [] ∷ says "allOf" (l (boolean true ∷ n 1 ∷ [])) ∷ says "$defs" (says "a/b" null) ∷ [])
-    ≡ Some (misshapen [] []) ∷ Some (misshapen [] []) ∷ Some (misshapen [] []) ∷ Some (misshapen [] []) ∷ Some (misshapen (codes "/allOf/1") []) ∷ Some (misshapen (codes "/$defs/a~1b") []) ∷ []
-unfolding at_key at_index digits
-no_schema = refl
-
-outside_profile : map walk_fault (says "pattern" (t "") ∷ says "allOf" (l (says "x" null ∷ [])) ∷ says "$defs" (says "A" (says "$defs" (o []))) ∷ says "$defs" (says "A" (says "$schema" (t "https://json-schema.org/draft/2020-12/schema"))) ∷ [])
-    ≡ Some (unknown [] (codes "pattern")) ∷ Some (unknown (codes "/allOf/0") (codes "x")) ∷ Some (unknown (codes "/$defs/A") (codes "$defs")) ∷ Some (unknown (codes "/$defs/A") (codes "$schema")) ∷ []
-unfolding at_key at_index digits
-outside_profile = refl
-
-wrong_shape : map walk_fault (says "minimum" (t "3") ∷ says "allOf" (l []) ∷ says "allOf" (o []) ∷ says "$defs" (l []) ∷ says "$defs" (says "A" (says "type" (t "int"))) ∷ [])
-    ≡ Some (misshapen [] (codes "minimum")) ∷ Some (misshapen [] (codes "allOf")) ∷ Some (misshapen [] (codes "allOf")) ∷ Some (misshapen [] (codes "$defs")) ∷ Some (misshapen (codes "/$defs/A") (codes "type")) ∷ []
-unfolding at_key
-wrong_shape = refl
-
--- the keys in their order, and the schemas under a key before the next key
-first_of_two : map walk_fault (o (("a", null) ∷ ("minimum", t "") ∷ []) ∷ o (("allOf", l (says "z" null ∷ [])) ∷ ("b", null) ∷ []) ∷ o (("maximum", null) ∷ ("n", null) ∷ []) ∷ [])
-    ≡ Some (unknown [] (codes "a")) ∷ Some (unknown (codes "/allOf/0") (codes "z")) ∷ Some (misshapen [] (codes "maximum")) ∷ []
-unfolding at_key at_index digits
-first_of_two = refl
-
-references_named : map name_fault (says "$ref" (t "#/$defs/A") ∷ o (("$defs", says "B" (boolean true)) ∷ ("$ref", t "#/$defs/A") ∷ []) ∷ o (("$defs", says "A" (boolean true)) ∷ ("$ref", t "#/$defs/A") ∷ []) ∷ boolean true ∷ [])
-    ≡ Some (undefined [] (codes "A")) ∷ Some (undefined [] (codes "A")) ∷ None ∷ None ∷ []
-references_named = refl
-
--- ---- trimming
-
-by_its_form : map keeping (form.Dialect ∷ form.Reference ∷ form.Kind ∷ form.Anything ∷ form.Array ∷ form.Integer ∷ form.Count ∷ form.Texts ∷ form.Text ∷ form.Schema ∷ form.Schemas ∷ form.NamedSchemas ∷ [])
-    ≡ left_out ∷ kept ∷ kept ∷ kept ∷ kept ∷ kept ∷ kept ∷ left_out_if_empty ∷ left_out ∷ kept ∷ kept ∷ left_out_if_empty ∷ []
-by_its_form = refl
-
-keeps : map (λ k. map (is_kept k) (o [] ∷ l [] ∷ says "a" null ∷ l (null ∷ []) ∷ t "" ∷ null ∷ [])) (kept ∷ left_out ∷ left_out_if_empty ∷ [])
-    ≡ (true ∷ true ∷ true ∷ true ∷ true ∷ true ∷ []) ∷ (false ∷ false ∷ false ∷ false ∷ false ∷ false ∷ []) ∷ (false ∷ false ∷ true ∷ true ∷ true ∷ true ∷ []) ∷ []
-keeps = refl
-
--- an object as root gets `$schema`, and a truth value does not
-abbrev dialected : List (String × Document) → Document
-dialected es = o (("$schema", t "https://json-schema.org/draft/2020-12/schema") ∷ es)
-
-no_objects : map trim (boolean true ∷ boolean false ∷ null ∷ n 1 ∷ t "a" ∷ l (says "$defs" (o []) ∷ []) ∷ []) ≡ boolean true ∷ boolean false ∷ null ∷ n 1 ∷ t "a" ∷ l (says "$defs" (o []) ∷ []) ∷ []
-no_objects = refl
-
-left : map trim (o [] ∷ dialected [] ∷ says "$defs" (o []) ∷ o (("$defs", o []) ∷ ("type", t "null") ∷ []) ∷ [])
-    ≡ dialected [] ∷ dialected [] ∷ dialected [] ∷ dialected (("type", t "null") ∷ []) ∷ []
-left = refl
-
--- what stands stays, in its order, the value of `const` as it is
-stays : trim (o (("$defs", says "A" (says "const" (o (("$defs", o []) ∷ ("$schema", null) ∷ [])))) ∷ ("$ref", t "#/$defs/A") ∷ ("maximum", n 1) ∷ []))
-    ≡ o (("$defs", says "A" (says "const" (o (("$defs", o []) ∷ ("$schema", null) ∷ [])))) ∷ ("$ref", t "#/$defs/A") ∷ ("$schema", t "https://json-schema.org/draft/2020-12/schema") ∷ ("maximum", n 1) ∷ [])
-stays = refl
-
--- below the root there is no dialect to add
-all_stay : trim (says "allOf" (l (o [] ∷ boolean false ∷ says "allOf" (l (says "type" (t "null") ∷ [])) ∷ [])))
-    ≡ dialected (("allOf", l (o [] ∷ boolean false ∷ says "allOf" (l (says "type" (t "null") ∷ [])) ∷ [])) ∷ [])
-all_stay = refl
 
 -- ---- loops
 

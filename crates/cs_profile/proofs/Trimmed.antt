@@ -1,21 +1,24 @@
--- What a schema document stands for is trimmed.
-use Rattle.std.proofs.Common.{◌≡◌, ℕ, Bool, true, false, List, [], ◌∷◌, map, Option, Some, None, String, Global, Ordering, Less, Equal, Greater, nat_cmp, string_bytes, codes, is_eq, refl, sym, ap, ap₂, ◌∙◌, subst}
+-- What a schema document stands for is trimmed, and what is trimmed stays as it is.
+use Rattle.std.proofs.Common.{◌≡◌, ℕ, Bool, true, false, List, [], ◌∷◌, map, Option, Some, None, String, Global, Ordering, Less, Equal, Greater, nat_cmp, string_bytes, codes, is_eq, not, refl, sym, ap, ap₂, ◌∙◌, subst, if◌then◌else◌}
 use Rattle.std.specs.List.{AllByRecursion as Each}
 use Rattle.std.proofs.lemmas.Map.Text.{is_eq-slice_cmp}
 use Rattle.std.proofs.lemmas.Slice.Eq.{bytes_eq-Decides}
 use Rattle.std.specs.Cmp.Lexicographic.{slice_cmp}
 use Rattle.std.specs.Option.{IfSome}
 use Rattle.std.specs.Ordering.{match_ordering}
-use Rattle.cs_document.specs.Document.{Document, object, text, list, document, Members, no_members, member, put}
+use Rattle.cs_document.specs.Document.{Document, null, boolean, integer, object, text, list, Documents, no_documents, document, Members, no_members, member, put}
 use Rattle.cs_document.specs.View.{documents_of, members_of}
-use Rattle.cs_profile.specs.Shapes.{dialect}
-use Rattle.cs_profile.specs.Trim.{trim, trimmed, trimmed_members, trimmed_elements, trimmed_named, trimmed_value, with_dialect, with_member}
-use Rattle.cs_profile.specs.SchemaDocument.{Slot, present, slots_of, schema_view, schema_step, keyword_slots, SchemaValue, document_of, definitions_view, with_definitions, unless_no_map, unless_no_list}
-use Rattle.cs_profile.specs.declared.schema.Schema.{Schema}
+use Rattle.cs_profile.specs.Shapes.{dialect, form_at, keeping, is_kept, is_empty}
+use Rattle.cs_profile.specs.declared.keyword.Form.{Form}
+use Rattle.cs_profile.specs.declared.keyword.Form.TheVariants as form
+use Rattle.cs_profile.specs.Trim.{trim, trimmed, trimmed_members, trimmed_list, trimmed_elements, trimmed_map, trimmed_named, trimmed_as, trimmed_value, value_trims, with_dialect, with_member}
+use Rattle.cs_profile.specs.SchemaDocument.{Slot, present, slots_of, schema_view, schema_step, keyword_slots, SchemaValue, document_of, definitions_view, with_definitions, unless_no_map, unless_no_list, text_document}
+use Rattle.cs_profile.specs.declared.schema.Schema.{Schema, roll-Schema}
 use Rattle.cs_profile.specs.declared.schema.Schema.TheOpen.{Schema-F, Keywords-F}
-use Rattle.cs_profile.specs.declared.schema.Schema.TheFolds.{fold-roll-Schema, fold-roll-Keywords, fold_out-Keywords, map-Schema, map-Keywords, ind-Schema}
-use Rattle.cs_profile.specs.declared.schema.Keywords.{Keywords, out-Keywords}
+use Rattle.cs_profile.specs.declared.schema.Schema.TheFolds.{fold-roll-Schema, fold-roll-Keywords, map-Schema, map-Keywords, ind-Schema, ind-Keywords}
+use Rattle.cs_profile.specs.declared.schema.Keywords.{Keywords, roll-Keywords}
 use Rattle.cs_profile.proofs.Definitions.{by_case}
+use Rattle.cs_profile.proofs.Faultless.{left}
 
 -- trimming leaves a schema as it is
 abbrev pub IsTrimmed : Document → Type 0
@@ -47,19 +50,54 @@ plain : (n : List ℕ) → ((v : Document) → trimmed_value true n v ≡ Some v
 plain n t f None = tt
 plain n t f (Some v) = in_both n v (t v) (f v)
 
-all_of : (ds : List Document) → Each IsTrimmed ds → StaysAt (codes "allOf") (unless_no_list ds)
-all_of [] h = tt
-all_of (d ∷ ds) h = let e = ap (λ es. Some (list es)) (elements_stay (d ∷ ds) h) in in_both (codes "allOf") (list (documents_of (d ∷ ds))) e e
+-- one whose value is a schema
+one : (n : List ℕ) → ((v : Document) → IsTrimmed v → trimmed_value true n v ≡ Some v) → ((v : Document) → IsTrimmed v → trimmed_value false n v ≡ Some v) → (o : Option Document) → IfSome o IsTrimmed → StaysAt n o
+one n t f None h = tt
+one n t f (Some v) h = in_both n v (t v h) (f v h)
 
-layer_stays : (k : Keywords-F Document (List Slot)) → Each IsTrimmed k.all_of.items → Stays (keyword_slots k)
+-- and one whose value is a list of schemas
+listed : (n : List ℕ) → ((v : Document) → trimmed_list v ≡ v → trimmed_value true n v ≡ Some v) → ((v : Document) → trimmed_list v ≡ v → trimmed_value false n v ≡ Some v)
+    → (ds : List Document) → Each IsTrimmed ds → StaysAt n (unless_no_list ds)
+listed n t f [] h = tt
+listed n t f (d ∷ ds) h =
+    let e : trimmed_list (list (documents_of (d ∷ ds))) ≡ list (documents_of (d ∷ ds)) = ap list (elements_stay (d ∷ ds) h) in
+    in_both n (list (documents_of (d ∷ ds))) (t (list (documents_of (d ∷ ds))) e) (f (list (documents_of (d ∷ ds))) e)
+
+abbrev ValueTrimmed : String Global × Document → Type 0
+ValueTrimmed e = IsTrimmed e.1
+
+named_stay : (es : List (String Global × Document)) → Each ValueTrimmed es → trimmed_named (members_of es) ≡ members_of es
+named_stay [] h = refl
+named_stay (e ∷ es) h = ap₂ (member (string_bytes e.0)) h.0 (named_stay es h.1)
+
+properties : (es : List (String Global × Document)) → Each ValueTrimmed es → StaysAt (codes "properties") (unless_no_map es)
+properties [] h = tt
+properties (e ∷ es) h =
+    let same = ap (λ ms. Some (object ms)) (named_stay (e ∷ es) h) in in_both (codes "properties") (object (members_of (e ∷ es))) same same
+
+required : (ss : List (String Global)) → StaysAt (codes "required") (unless_no_list (map text_document ss))
+required [] = tt
+required (s ∷ ss) = in_both (codes "required") (list (documents_of (map text_document (s ∷ ss)))) refl refl
+
+-- the schemas of an object of keywords are trimmed
+record PartsTrimmed (k : Keywords-F Document (List Slot)) : Type 0 where
+  additional : IfSome k.additional IsTrimmed
+  all_of : Each IsTrimmed k.all_of.items
+  any_of : Each IsTrimmed k.any_of.items
+  rest : IfSome k.rest IsTrimmed
+  negated : IfSome k.negated IsTrimmed
+  prefix : Each IsTrimmed k.prefix.items
+  properties : Each ValueTrimmed k.properties.entries
+
+layer_stays : (k : Keywords-F Document (List Slot)) → PartsTrimmed k → Stays (keyword_slots k)
 layer_stays k h = (
   plain (codes "$ref") (λ v. refl) (λ v. refl) _,
   (
-    plain (codes "additionalProperties") (λ v. refl) (λ v. refl) _,
+    one (codes "additionalProperties") (λ v e. ap Some e) (λ v e. ap Some e) _ h.additional,
     (
-      all_of k.all_of.items h,
+      listed (codes "allOf") (λ v e. ap Some e) (λ v e. ap Some e) _ h.all_of,
       (
-        plain (codes "anyOf") (λ v. refl) (λ v. refl) _,
+        listed (codes "anyOf") (λ v e. ap Some e) (λ v e. ap Some e) _ h.any_of,
         (
           plain (codes "const") (λ v. refl) (λ v. refl) _,
           (
@@ -69,7 +107,7 @@ layer_stays k h = (
               (
                 plain (codes "exclusiveMinimum") (λ v. refl) (λ v. refl) _,
                 (
-                  plain (codes "items") (λ v. refl) (λ v. refl) _,
+                  one (codes "items") (λ v e. ap Some e) (λ v e. ap Some e) _ h.rest,
                   (
                     plain (codes "maximum") (λ v. refl) (λ v. refl) _,
                     (
@@ -77,16 +115,10 @@ layer_stays k h = (
                       (
                         plain (codes "minimum") (λ v. refl) (λ v. refl) _,
                         (
-                          plain (codes "not") (λ v. refl) (λ v. refl) _,
+                          one (codes "not") (λ v e. ap Some e) (λ v e. ap Some e) _ h.negated,
                           (
-                            plain (codes "prefixItems") (λ v. refl) (λ v. refl) _,
-                            (
-                              plain (codes "properties") (λ v. refl) (λ v. refl) _,
-                              (
-                                plain (codes "required") (λ v. refl) (λ v. refl) _,
-                                (plain (codes "type") (λ v. refl) (λ v. refl) _, tt),
-                              ),
-                            ),
+                            listed (codes "prefixItems") (λ v e. ap Some e) (λ v e. ap Some e) _ h.prefix,
+                            (properties _ h.properties, (required _, (plain (codes "type") (λ v. refl) (λ v. refl) _, tt))),
                           ),
                         ),
                       ),
@@ -114,25 +146,59 @@ each_checked : (ss : List Checked) → Each IsTrimmed (map schema_view (map (λ 
 each_checked [] = tt
 each_checked (e ∷ ss) = (e.1, each_checked ss)
 
+abbrev view_of : Keywords-F Checked CheckedKeywords → Keywords-F Document (List Slot)
+view_of y = map-Keywords Schema Keywords Document (List Slot) schema_view slots_of (map-Keywords Checked CheckedKeywords Schema Keywords (λ e. e.0) (λ e. e.0) y)
+
+additional_checked : (y : Keywords-F Checked CheckedKeywords) (o : Option Checked) → y.additional ≡ o → IfSome (view_of y).additional IsTrimmed
+additional_checked y None e = rw e tt
+additional_checked y (Some s) e = rw e s.1
+
+rest_checked : (y : Keywords-F Checked CheckedKeywords) (o : Option Checked) → y.rest ≡ o → IfSome (view_of y).rest IsTrimmed
+rest_checked y None e = rw e tt
+rest_checked y (Some s) e = rw e s.1
+
+negated_checked : (y : Keywords-F Checked CheckedKeywords) (o : Option Checked) → y.negated ≡ o → IfSome (view_of y).negated IsTrimmed
+negated_checked y None e = rw e tt
+negated_checked y (Some s) e = rw e s.1
+
+named_checked : (es : List (String Global × Checked)) → Each ValueTrimmed (map (λ (e : String Global × Schema). (e.0, schema_view e.1)) (map (λ (e : String Global × Checked). (e.0, e.1.0)) es))
+named_checked [] = tt
+named_checked (e ∷ es) = (e.1.1, named_checked es)
+
+parts_checked : (y : Keywords-F Checked CheckedKeywords) → PartsTrimmed (view_of y)
+parts_checked y = record {
+  additional = additional_checked y y.additional refl;
+  all_of = each_checked y.all_of.items;
+  any_of = each_checked y.any_of.items;
+  rest = rest_checked y y.rest refl;
+  negated = negated_checked y y.negated refl;
+  prefix = each_checked y.prefix.items;
+  properties = named_checked y.properties.entries;
+}
+
 schema_layer : (y : Schema-F Checked CheckedKeywords)
     → IsTrimmed (schema_step (map-Schema Schema Keywords Document (List Slot) schema_view slots_of (map-Schema Checked CheckedKeywords Schema Keywords (λ e. e.0) (λ e. e.0) y)))
 schema_layer (Schema-F.Always b) = refl
 schema_layer (Schema-F.Object k) = ap object (present_stays false (slots_of k.value.0) k.value.1)
 
-pub schema_trimmed : (s : Schema) → IsTrimmed (schema_view s)
-schema_trimmed = ind-Schema (λ s. IsTrimmed (schema_view s)) (λ k. Stays (slots_of k))
-    (λ x y is. subst IsTrimmed (sym (fold-roll-Schema Document (List Slot) schema_step keyword_slots x ∙ ap (λ z. schema_step (map-Schema Schema Keywords Document (List Slot) schema_view slots_of z)) (sym is))) (schema_layer y))
-    (λ x y is. subst Stays (sym (fold-roll-Keywords Document (List Slot) schema_step keyword_slots x ∙ ap (λ z. keyword_slots (map-Keywords Schema Keywords Document (List Slot) schema_view slots_of z)) (sym is)))
-    (layer_stays (map-Keywords Schema Keywords Document (List Slot) schema_view slots_of (map-Keywords Checked CheckedKeywords Schema Keywords (λ e. e.0) (λ e. e.0) y)) (each_checked y.all_of.items)))
+schema_rolled : (x : Schema-F Schema Keywords) (y : Schema-F Checked CheckedKeywords) → map-Schema Checked CheckedKeywords Schema Keywords (λ e. e.0) (λ e. e.0) y ≡ x → IsTrimmed (schema_view (roll-Schema x))
+schema_rolled x y is =
+    subst IsTrimmed (sym (fold-roll-Schema Document (List Slot) schema_step keyword_slots x ∙ ap (λ z. schema_step (map-Schema Schema Keywords Document (List Slot) schema_view slots_of z)) (sym is))) (schema_layer y)
 
-schemas_trimmed : (ss : List Schema) → Each IsTrimmed (map schema_view ss)
-schemas_trimmed [] = tt
-schemas_trimmed (s ∷ ss) = (schema_trimmed s, schemas_trimmed ss)
+keywords_rolled : (x : Keywords-F Schema Keywords) (y : Keywords-F Checked CheckedKeywords) → map-Keywords Checked CheckedKeywords Schema Keywords (λ e. e.0) (λ e. e.0) y ≡ x → Stays (slots_of (roll-Keywords x))
+keywords_rolled x y is =
+    subst Stays (sym (fold-roll-Keywords Document (List Slot) schema_step keyword_slots x ∙ ap (λ z. keyword_slots (map-Keywords Schema Keywords Document (List Slot) schema_view slots_of z)) (sym is)))
+    (layer_stays (view_of y) (parts_checked y))
+
+pub schema_trimmed : (s : Schema) → IsTrimmed (schema_view s)
+schema_trimmed = ind-Schema (λ s. IsTrimmed (schema_view s)) (λ k. Stays (slots_of k)) schema_rolled keywords_rolled
 
 pub slots_stay : (k : Keywords) → Stays (slots_of k)
-slots_stay k =
-    subst Stays (sym (fold_out-Keywords Document (List Slot) schema_step keyword_slots k))
-    (layer_stays (map-Keywords Schema Keywords Document (List Slot) schema_view slots_of (out-Keywords k)) (schemas_trimmed (out-Keywords k).all_of.items))
+slots_stay = ind-Keywords (λ s. IsTrimmed (schema_view s)) (λ k. Stays (slots_of k)) schema_rolled keywords_rolled
+
+named_trimmed : (es : List (String Global × Schema)) → Each ValueTrimmed (definitions_view es)
+named_trimmed [] = tt
+named_trimmed (e ∷ es) = (schema_trimmed e.1, named_trimmed es)
 
 -- ---- the root
 
@@ -150,14 +216,10 @@ trimmed_put : (k : List ℕ) (d : Document) (ms : Members) → ((v : Document) �
 trimmed_put k d no_members none = ap (λ o. with_member o k no_members) (none d)
 trimmed_put k d (member m e ms) none = put_at k m d e ms none (trimmed_put k d ms none) (slice_cmp nat_cmp k m) refl
 
-named_stay : (es : List (String Global × Schema)) → trimmed_named (members_of (definitions_view es)) ≡ members_of (definitions_view es)
-named_stay [] = refl
-named_stay (e ∷ es) = ap₂ (member (string_bytes e.0)) (schema_trimmed e.1) (named_stay es)
-
 definitions_stay : (es : List (String Global × Schema)) (ms : Members) → trimmed_members true ms ≡ ms
     → trimmed_members true (with_member (unless_no_map (definitions_view es)) (codes "$defs") ms) ≡ with_member (unless_no_map (definitions_view es)) (codes "$defs") ms
 definitions_stay [] ms h = h
-definitions_stay (e ∷ es) ms h = ap₂ (λ ns rest. member (codes "$defs") (object ns) rest) (named_stay (e ∷ es)) h
+definitions_stay (e ∷ es) ms h = ap₂ (λ ns rest. member (codes "$defs") (object ns) rest) (named_stay (definitions_view (e ∷ es)) (named_trimmed (e ∷ es))) h
 
 pub document_trimmed : (v : SchemaValue) → trim (document_of v) ≡ document_of v
 document_trimmed v =
@@ -167,3 +229,76 @@ document_trimmed v =
     (trimmed_put (codes "$schema") (text dialect) (with_member (unless_no_map (definitions_view v.definitions)) (codes "$defs") (present (slots_of k))) (λ v. refl)
     ∙ definitions_stay v.definitions (present (slots_of k)) (present_stays true (slots_of k) (slots_stay k))))
     v.root
+
+-- ---- what is trimmed once stays
+
+left_empty : (v : Document) → is_empty (trimmed_map v) ≡ is_empty v
+left_empty (object no_members) = refl
+left_empty (object (member k v ms)) = refl
+left_empty _ = refl
+
+left_kept : (f : Form) (v : Document) → is_kept (keeping f) (left f v) ≡ is_kept (keeping f) v
+left_kept form.NamedSchemas v = ap not (left_empty v)
+left_kept _ v = refl
+
+left_again : (f : Form) (v : Document) → trimmed false (trimmed false v) ≡ trimmed false v → trimmed_list (trimmed_list v) ≡ trimmed_list v → trimmed_map (trimmed_map v) ≡ trimmed_map v → left f (left f v) ≡ left f v
+left_again form.Schema v itself elements members = itself
+left_again form.Schemas v itself elements members = elements
+left_again form.NamedSchemas v itself elements members = members
+left_again _ v itself elements members = refl
+
+kept_again : (root : Bool) (k : List ℕ) (v : Document) (ns ms : Members) (f : Form) → form_at root k ≡ Some f → left f (left f v) ≡ left f v → trimmed_members root ns ≡ ms → (t : Bool) → is_kept (keeping f) v ≡ t
+    → trimmed_members root (with_member (if t then Some (left f v) else None) k ns) ≡ with_member (if t then Some (left f v) else None) k ms
+kept_again root k v ns ms f e again rest false s = rest
+kept_again root k v ns ms f e again rest true s =
+    ap₂ (λ o ls. with_member o k ls)
+    (ap (λ g. trimmed_as g (left f v) (value_trims (left f v))) e ∙ ap (λ t. if t then Some (left f (left f v)) else None) (left_kept f v ∙ s) ∙ ap Some again) rest
+
+one_again : (root : Bool) (k : List ℕ) (v : Document) (ns ms : Members) (r : Option Form) → form_at root k ≡ r
+    → trimmed false (trimmed false v) ≡ trimmed false v → trimmed_list (trimmed_list v) ≡ trimmed_list v → trimmed_map (trimmed_map v) ≡ trimmed_map v → trimmed_members root ns ≡ ms
+    → trimmed_members root (with_member (trimmed_as r v (value_trims v)) k ns) ≡ with_member (trimmed_as r v (value_trims v)) k ms
+one_again root k v ns ms None e itself elements members rest = ap₂ (λ o ls. with_member o k ls) (ap (λ g. trimmed_as g v (value_trims v)) e) rest
+one_again root k v ns ms (Some f) e itself elements members rest = kept_again root k v ns ms f e (left_again f v itself elements members) rest (is_kept (keeping f) v) refl
+
+mutual
+  trimmed_again : (root : Bool) (d : Document) → trimmed root (trimmed root d) ≡ trimmed root d
+  trimmed_again root null = refl
+  trimmed_again root (boolean b) = refl
+  trimmed_again root (integer z) = refl
+  trimmed_again root (text s) = refl
+  trimmed_again root (list ds) = refl
+  trimmed_again root (object ms) = ap object (members_again root ms)
+
+  members_again : (root : Bool) (ms : Members) → trimmed_members root (trimmed_members root ms) ≡ trimmed_members root ms
+  members_again root no_members = refl
+  members_again root (member k v ms) =
+      one_again root k v (trimmed_members root ms) (trimmed_members root ms) (form_at root k) refl (trimmed_again false v) (list_again v) (map_again v) (members_again root ms)
+
+  list_again : (d : Document) → trimmed_list (trimmed_list d) ≡ trimmed_list d
+  list_again null = refl
+  list_again (boolean b) = refl
+  list_again (integer z) = refl
+  list_again (text s) = refl
+  list_again (list ds) = ap list (elements_again ds)
+  list_again (object ms) = refl
+
+  elements_again : (ds : Documents) → trimmed_elements (trimmed_elements ds) ≡ trimmed_elements ds
+  elements_again no_documents = refl
+  elements_again (document d ds) = ap₂ document (trimmed_again false d) (elements_again ds)
+
+  map_again : (d : Document) → trimmed_map (trimmed_map d) ≡ trimmed_map d
+  map_again null = refl
+  map_again (boolean b) = refl
+  map_again (integer z) = refl
+  map_again (text s) = refl
+  map_again (list ds) = refl
+  map_again (object ms) = ap object (named_again ms)
+
+  named_again : (ms : Members) → trimmed_named (trimmed_named ms) ≡ trimmed_named ms
+  named_again no_members = refl
+  named_again (member k v ms) = ap₂ (member k) (trimmed_again false v) (named_again ms)
+
+pub trim_again : (d : Document) → trim (trim d) ≡ trim d
+trim_again (object ms) =
+    ap (λ ns. object (put (codes "$schema") (text dialect) ns)) (trimmed_put (codes "$schema") (text dialect) (trimmed_members true ms) (λ v. refl) ∙ members_again true ms)
+trim_again _ = refl

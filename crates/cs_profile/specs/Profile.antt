@@ -100,10 +100,6 @@ abbrev pub fault_of : Visit → Option Fault
 fault_of (value_at place d) = shape_fault place [] (is_truth d)
 fault_of (keyword_at root place k v) = form_fault place k v (form_at root k)
 
--- the fault of a keyword whose value is to have this form, and of what stands inside; for private contracts alone
-abbrev pub value_fault : List ℕ → List ℕ → Form → Document → List Visit → Option Fault
-value_fault place name form v inside = or_else (shape_fault place name (has_form form v)) (first fault_of inside)
-
 -- a `$ref` to a name that is not defined
 abbrev pub unless_defined : (List ℕ → Bool) → List ℕ → Option (List ℕ) → Option Fault
 unless_defined is_defined place None = None

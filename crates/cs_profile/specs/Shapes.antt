@@ -38,16 +38,7 @@ form_of keyword.Comment = form.Text
 abbrev pub stands : Bool → Keyword → Bool
 stands root keyword.Schema = root
 stands root keyword.Defs = root
-stands root keyword.Ref = root
-stands root keyword.Type = true
-stands root keyword.Const = true
-stands root keyword.Minimum = true
-stands root keyword.Maximum = true
-stands root keyword.ExclusiveMinimum = true
-stands root keyword.ExclusiveMaximum = true
-stands root keyword.AllOf = true
--- keywords that the reader does not take yet
-stands root _ = false
+stands root _ = true
 
 abbrev pub form_in : Bool → Keyword → Option Form
 form_in root w = if stands root w then Some (form_of w) else None

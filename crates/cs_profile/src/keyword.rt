@@ -179,16 +179,8 @@ impl Keyword {
         ensures { result ≡ stands root self }
     {
         match self {
-            Keyword::Schema | Keyword::Defs | Keyword::Ref => root,
-            Keyword::Type
-            | Keyword::Const
-            | Keyword::ExclusiveMaximum
-            | Keyword::ExclusiveMinimum
-            | Keyword::Maximum
-            | Keyword::Minimum
-            | Keyword::AllOf => true,
-            // keywords that the reader doesn't take yet
-            _ => false,
+            Keyword::Schema | Keyword::Defs => root,
+            _ => true,
         }
     }
 }

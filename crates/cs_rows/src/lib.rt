@@ -2,6 +2,8 @@
 #![tactic(auto)]
 
 #[cfg(test)]
+mod chains;
+#[cfg(test)]
 mod commands;
 #[cfg(test)]
 mod documents;
@@ -9,6 +11,8 @@ mod documents;
 mod examples;
 #[cfg(test)]
 mod instances;
+#[cfg(test)]
+mod keywords;
 #[cfg(test)]
 mod refusals;
 #[cfg(test)]
@@ -19,3 +23,5 @@ mod schemas;
 mod streams;
 #[cfg(test)]
 mod tables;
+#[cfg(test)]
+mod translations;

@@ -64,8 +64,7 @@ fn is_validated(alloc: Global, schema: &str, doc: &str, wanted: &str) -> Result<
     )
 }
 
-/// Sources, which `%` parts and whose `;` are newlines, a root, and what `export` and `agree` answer, and `vet` where it
-/// answers otherwise. A package that is accepted and has forms that aren't exported yet is refused by 5 at 0, but by `vet`.
+/// Sources, which `%` parts and whose `;` are newlines, a root, and what `export`, `vet` and `agree` answer.
 const PACKAGES: &str = r##"#P: int => #P => 0 in 0 at 0
 #P: int => #Q => 13 in 0 at 0
 #P: int => P => 13 in 0 at 0
@@ -74,8 +73,8 @@ const PACKAGES: &str = r##"#P: int => #P => 0 in 0 at 0
  => #A => 13 in 0 at 0
 // c => #A => 13 in 0 at 0
 #P: int % #Q: string => #R => 13 in 0 at 0
-#P: {a: int} => #P => 5 in 0 at 0 => 0 in 0 at 0
-#P: {} => #Q => 5 in 0 at 0 => 13 in 0 at 0
+#P: {a: int} => #P => 0 in 0 at 0
+#P: {} => #Q => 13 in 0 at 0
 #P: int & >= => #P => 4 in 0 at 12
 #P: i => #P => 9 in 0 at 4
 #A0: #A1 & => #P => 4 in 0 at 10
@@ -93,28 +92,22 @@ const PACKAGES: &str = r##"#P: int => #P => 0 in 0 at 0
 #B: {k: string};#C: #B & {k: "x"} => #C => 11 in 0 at 25
 #A: {x: 1} % #A: {y: 1, ...} => #A => 11 in 0 at 4
 #A: {x: 1, ...} % #B: int % #A: {y: 1} => #A => 11 in 2 at 4
-package p;#A: {x: #B} % package p;#B: int8 => #A => 5 in 0 at 0 => 0 in 0 at 0
+package p;#A: {x: #B} % package p;#B: int8 => #A => 0 in 0 at 0
 package p;#A: {x: #B} % package q;#B: int8 => #A => 8 in 1 at 0
 package p;#A: int % #B: zzz % package q => #A => 8 in 2 at 0
 #A: zzz % package p % package q => #A => 8 in 2 at 0
 package p;#A: {x: #B} => #A => 9 in 0 at 18
 #A: {next: #A} => #Q => 12 in 0 at 0
 #A: #B % #B: #A => #A => 12 in 0 at 0
-#T: {v: int, kids?: [...#T]} => #Q => 5 in 0 at 0 => 13 in 0 at 0"##;
+#T: {v: int, kids?: [...#T]} => #Q => 13 in 0 at 0"##;
 
-/// Whether `export` and `agree` answer the first, and `vet` the second, or the first too where that is empty.
+/// Whether `export`, `vet` and `agree` answer so.
 fn are_answered(alloc: Global, text: &str, root: &str, wanted: &str) -> Result<bool, AllocError> {
     let sources = sources_of(alloc, text)?;
-    let (exported, vetted) = cell(wanted);
-    let vetted = if vetted.is_empty() {
-        exported
-    } else {
-        vetted.trim()
-    };
     Ok(
-        is_exported(alloc, &sources, root, exported)?
-            && is_agreed(alloc, &sources, root, "1", exported)?
-            && is_vetted(alloc, &sources, root, "1", vetted)?,
+        is_exported(alloc, &sources, root, wanted)?
+            && is_vetted(alloc, &sources, root, "1", wanted)?
+            && is_agreed(alloc, &sources, root, "1", wanted)?,
     )
 }
 
@@ -123,7 +116,7 @@ pub(crate) fn is_answered(alloc: Global, row: &str) -> Result<bool, AllocError> 
     let (text, rest) = cell(row);
     let (root, wanted) = cell(rest);
     let text = text.replace(alloc, ';', "\n")?;
-    are_answered(alloc, &text, root, wanted)
+    are_answered(alloc, &text, root, wanted.trim())
 }
 
 #[test]
@@ -143,7 +136,11 @@ true => 1 => 0 in 0 at 0
 {"pattern":"x"} => 1 => 21 in 0 at 0
 {"pattern":"x"} => [1 => 21 in 0 at 0
 {"minimum":"x"} => 1 => 22 in 0 at 0
-{"$ref":"#/$defs/A"} => 1 => 23 in 0 at 0"##;
+{"minimum":1.5,"pattern":"x"} => 1 => 26 in 0 at 0
+{"$ref":"#/$defs/A"} => 1 => 23 in 0 at 0
+{"$ref":"#/$defs/A"} => [1 => 23 in 0 at 0
+{"$defs":{"A":{"not":{"$ref":"#/$defs/A"}}}} => 1 => 24 in 0 at 0
+{"$defs":{"A":{"not":{"$ref":"#/$defs/A"}}}} => 1.5 => 24 in 0 at 0"##;
 
 /// Whether `vet` and `agree` answer so for `#P: int`.
 fn are_both(alloc: Global, root: &str, doc: &str, wanted: &str) -> Result<bool, AllocError> {
@@ -216,7 +213,7 @@ fn is_doubled(alloc: Global, source: &str, last: &str, wanted: &str) -> Result<b
 /// Whether a package has so many nodes twice, and none more.
 fn are_half(alloc: Global, source: &str) -> Result<bool, AllocError> {
     Ok(
-        is_doubled(alloc, source, "", "5 in 0 at 0")?
+        is_doubled(alloc, source, "", "0 in 0 at 0")?
             && is_doubled(alloc, source, "#B: _", "14 in 0 at 0")?
             && is_doubled(alloc, source, "#B: zzz", "14 in 0 at 0")?,
     )
@@ -227,6 +224,34 @@ fn packages_have_a_size(rt: HostRuntime) -> Result<(), Fail> {
     let operands = "_ & ".repeat(rt.alloc(), 24_998)?;
     let source = format!(in rt.alloc(); "#A: {operands}_")?;
     assert!(rt; are_half(rt.alloc(), &source)?);
+    Ok(())
+}
+
+/// Whether `validate` refuses each front of the text, itself left out, by 20 as a schema and by 25 as a document.
+fn are_fronts_refused(alloc: Global, text: &str) -> Result<bool, AllocError> {
+    let bytes = text.as_bytes();
+    for count in 0..bytes.len() {
+        let front = &bytes[..count];
+        let schema = is_told(alloc, &validate(alloc, front, b"1").err(), "20 in 0 at 0")?;
+        let doc = is_told(
+            alloc,
+            &validate(alloc, b"true", front).err(),
+            "25 in 0 at 0",
+        )?;
+        if !schema || !doc {
+            return Ok(false);
+        }
+    }
+    Ok(true)
+}
+
+#[test]
+fn fronts_of_texts_are_refused(rt: HostRuntime) -> Result<(), Fail> {
+    let loops = r##"{"$defs":{"A":{"$ref":"#/$defs/A"}},"$ref":"#/$defs/A"}"##;
+    assert!(rt; are_fronts_refused(rt.alloc(), loops)?);
+    let below = r##"{"$defs":{"A":{"items":{"pattern":"x"}}},"$ref":"#/$defs/A"}"##;
+    assert!(rt; are_fronts_refused(rt.alloc(), below)?);
+    assert!(rt; are_fronts_refused(rt.alloc(), r##"{"const":{"a":1,"b":[]}}"##)?);
     Ok(())
 }
 
@@ -255,6 +280,34 @@ fn are_pairs_counted(alloc: Global) -> Result<bool, AllocError> {
 #[test]
 fn pairs_have_a_limit(rt: HostRuntime) -> Result<(), Fail> {
     assert!(rt; are_pairs_counted(rt.alloc())?);
+    Ok(())
+}
+
+/// A list of so many of that text, and one more.
+fn repeated(alloc: Global, text: &str, count: usize) -> Result<String, AllocError> {
+    let part = format!(in alloc; "{text},")?;
+    let before = part.repeat(alloc, count)?;
+    format!(in alloc; "[{before}{text}]")
+}
+
+/// Whether 8,192 values have as many pairs with 8,192 schemas as there may be, one value more has too many, and that is
+/// told after a number that isn't an integer.
+fn are_pairs_of_schemas_counted(alloc: Global) -> Result<bool, AllocError> {
+    let members = repeated(alloc, "true", 8_190)?;
+    let schema = format!(in alloc; "{{\"allOf\":{members}}}")?;
+    let most = repeated(alloc, "0", 8_190)?;
+    let many = repeated(alloc, "0", 8_191)?;
+    let other = repeated(alloc, "0.5", 8_191)?;
+    Ok(
+        is_validated(alloc, &schema, &most, "0 in 0 at 0")?
+            && is_validated(alloc, &schema, &many, "27 in 0 at 0")?
+            && is_validated(alloc, &schema, &other, "26 in 0 at 0")?,
+    )
+}
+
+#[test]
+fn pairs_of_schemas_have_a_limit(rt: HostRuntime) -> Result<(), Fail> {
+    assert!(rt; are_pairs_of_schemas_counted(rt.alloc())?);
     Ok(())
 }
 

@@ -1,5 +1,7 @@
 // Tables of examples: a row a line, its cells parted by `=>`.
-use crate::{commands, documents, examples, instances, refusals, requests, schemas};
+use crate::{
+    commands, documents, examples, instances, keywords, refusals, requests, schemas, translations,
+};
 use std::alloc::{AllocError, Global};
 use std::test::Fail;
 
@@ -10,10 +12,16 @@ pub(crate) enum Row {
     Text,
     /// A schema, and what it is once it was read and written again.
     Schema,
+    /// A schema, and the number, place and name of its refusal.
+    Refused,
     /// A schema, documents that are valid and documents that aren't.
     Verdicts,
-    /// Sources, the schemas of their definitions, documents that are valid and documents that aren't.
+    /// The same, as `validate` judges them.
+    Keyword,
+    /// Sources, a root, the schemas of what it reaches, documents that are instances of it and documents that aren't.
     Example,
+    /// The same of one source, by `compile`, `is_instance` and `is_valid`.
+    Compiled,
     /// Sources, a root, documents that are instances of it and documents that aren't.
     Instances,
     /// Sources, a root and what `export`, `agree` and `vet` answer.
@@ -40,8 +48,11 @@ fn holds(alloc: Global, row: &str, rows: Row) -> Result<bool, Fail> {
     match rows {
         Row::Text => Ok(documents::is_read(alloc, row)?),
         Row::Schema => schemas::is_read(alloc, row),
+        Row::Refused => Ok(schemas::is_refused(alloc, row)?),
         Row::Verdicts => schemas::are_judged(alloc, row),
+        Row::Keyword => Ok(keywords::are_judged(alloc, row)?),
         Row::Example => Ok(examples::is_held(alloc, row)?),
+        Row::Compiled => translations::is_held(alloc, row),
         Row::Instances => Ok(instances::is_held(alloc, row)?),
         Row::Package => Ok(refusals::is_answered(alloc, row)?),
         Row::Document => Ok(refusals::is_judged(alloc, row)?),

@@ -1,5 +1,5 @@
 // The items of a document, through the calls of `cs_doc`.
-use cs_doc::{Doc, DocFault, DocSet, Flat, Item, flatten, number_under, read_doc};
+use cs_doc::{Doc, DocFault, DocSet, Flat, Item, Names, flatten, number_under, read_doc};
 use std::alloc::Global;
 use std::test::Fail;
 
@@ -85,5 +85,55 @@ fn values_are_looked_up(rt: HostRuntime) -> Result<(), Fail> {
     )?;
     // the two lists `[2]`, the map and the last text
     assert!(rt; count_among(rt.alloc(), &flat, &list)? == 4);
+    Ok(())
+}
+
+#[test]
+fn values_of_one_hash_are_told_apart(rt: HostRuntime) -> Result<(), Fail> {
+    // Integers of one magnitude, texts that differ after 64 bytes, and values that have no hash of their own.
+    let doc = read_doc(
+        rt.alloc(),
+        b"[-7,7,\"aaaaaaaaaaaaaaaaaaaaaaaaaaaaaaaaaaaaaaaaaaaaaaaaaaaaaaaaaaaaaaaa1\",\"aaaaaaaaaaaaaaaaaaaaaaaaaaaaaaaaaaaaaaaaaaaaaaaaaaaaaaaaaaaaaaaa2\",null,false,[0]]",
+    )?;
+    let flat = flatten(rt.alloc(), &doc)?;
+    let list = read_doc(
+        rt.alloc(),
+        b"[7,\"aaaaaaaaaaaaaaaaaaaaaaaaaaaaaaaaaaaaaaaaaaaaaaaaaaaaaaaaaaaaaaaa1\",0,[]]",
+    )?;
+    // the positive 7, the first text and the 0
+    assert!(rt; count_among(rt.alloc(), &flat, &list)? == 3);
+    Ok(())
+}
+
+/// How many maps of the document have each of the names as a key.
+fn count_with(flat: &Flat<'_>, names: &Names<'_>) -> usize {
+    let mut count: usize = 0;
+    for i in 0..flat.len() {
+        if let Item::Object(entries) = flat.item(i) {
+            if names.are_keys(entries.as_slice()) {
+                count = count.saturating_add(1);
+            }
+        }
+    }
+    count
+}
+
+#[test]
+fn names_are_asked_for_together(rt: HostRuntime) -> Result<(), Fail> {
+    let doc = read_doc(
+        rt.alloc(),
+        b"[{\"a\":1,\"b\":2,\"c\":3},{\"a\":1,\"c\":2},{},{\"b\":{\"b\":1,\"a\":2}}]",
+    )?;
+    let flat = flatten(rt.alloc(), &doc)?;
+    let nothing: Vec<String> = Vec::new(rt.alloc());
+    let none = Names::new(rt.alloc(), nothing.as_slice())?;
+    // each of the five maps
+    assert!(rt; count_with(&flat, &none) == 5);
+    let mut texts = Vec::new(rt.alloc());
+    texts.push(String::from_str(rt.alloc(), "b")?)?;
+    texts.push(String::from_str(rt.alloc(), "a")?)?;
+    let names = Names::new(rt.alloc(), texts.as_slice())?;
+    // the first map, and the one inside the last
+    assert!(rt; count_with(&flat, &names) == 2);
     Ok(())
 }

@@ -2,6 +2,8 @@
 #![tactic(auto)]
 
 #[cfg(test)]
+mod counting;
+#[cfg(test)]
 mod fillings;
 #[cfg(test)]
 mod instances;
@@ -9,5 +11,7 @@ mod instances;
 mod items;
 #[cfg(test)]
 mod never;
+#[cfg(test)]
+mod schemas;
 #[cfg(test)]
 mod tables;

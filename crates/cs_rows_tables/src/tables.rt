@@ -1,5 +1,5 @@
 // Tables of examples: a row a line, its cells parted by `=>`.
-use crate::instances;
+use crate::{instances, schemas};
 use std::alloc::Global;
 use std::test::Fail;
 
@@ -8,6 +8,8 @@ use std::test::Fail;
 pub(crate) enum Row {
     /// A package, a root, a document, how many judgements its table has and the verdict.
     Package,
+    /// A schema, a document, how many judgements its table has and the verdict.
+    Schema,
 }
 
 /// Fails with the first row that doesn't hold.
@@ -23,6 +25,7 @@ pub(crate) fn check(alloc: Global, table: &str, rows: Row) -> Result<(), Fail> {
 fn holds(alloc: Global, row: &str, rows: Row) -> Result<bool, Fail> {
     match rows {
         Row::Package => instances::is_judged(alloc, row),
+        Row::Schema => schemas::is_judged(alloc, row),
     }
 }
 

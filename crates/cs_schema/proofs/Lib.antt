@@ -1,4 +1,8 @@
 pub mod Escapes
+pub mod Placed
+pub mod Keyed
+pub mod Named
+pub mod Seen
 pub mod Walks
 pub mod Slots
 pub mod Writing

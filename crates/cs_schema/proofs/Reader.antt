@@ -1,40 +1,27 @@
 -- What the reader finds out, as what the document is.
-use Rattle.std.proofs.Common.{◌≡◌, ℕ, Bool, true, false, List, [], ◌∷◌, Option, Some, None, option_map, is_some, String, Global, Box, string_bytes, nat_cmp, codes, refl, sym, ap, ◌∙◌, subst, if◌then◌else◌, rules}
-use Rattle.std.specs.BTreeMap.{is_at}
-use Rattle.std.specs.Cmp.Lexicographic.{slice_cmp}
-use Rattle.std.specs.Map.{lookup}
+use Rattle.std.proofs.Common.{◌≡◌, ℕ, Bool, true, false, List, [], ◌∷◌, map, Option, Some, None, is_some, String, Global, Box, string_bytes, codes, refl, sym, ap, ap₂, ◌∙◌, subst, bytes_eq, if◌then◌else◌}
 use Rattle.cs_document.specs.Document.{Document, boolean, object, text, Members, entries, under, put}
-use Rattle.cs_profile.specs.Keywords.{listed_under, defined}
-use Rattle.cs_profile.specs.Shapes.{dialect}
-use Rattle.cs_profile.specs.Profile.{Fault, undefined, Visit, value_at, keyword_at, first, fault_of, or_else, shape_fault, form_fault, is_truth, visits, member_visits, walk_fault, name_fault, IsSchema}
-use Rattle.cs_profile.specs.Shapes.{form_at, has_form}
+use Rattle.cs_profile.specs.Keywords.{listed_under, defined, reference_start, text_after}
+use Rattle.cs_profile.specs.Loops.{NoLoop, IsLoop}
+use Rattle.cs_profile.specs.Shapes.{dialect, form_at, has_form}
+use Rattle.cs_profile.specs.Profile.{Fault, undefined, Visit, value_at, keyword_at, first, fault_of, or_else, shape_fault, form_fault, is_truth, undefined_at, reference_fault, unless_defined, visits, member_visits, walk_fault, name_fault, IsSchema}
 use Rattle.cs_profile.specs.declared.keyword.Form.{Form}
-use Rattle.cs_profile.specs.Trim.{trim, trimmed, trimmed_members, with_member, with_dialect}
-use Rattle.cs_profile.specs.SchemaDocument.{Slot, present, slots_of, schema_view, definitions_view, unless_no_map, reference_document, document_of, with_definitions, IsWhole}
-use Rattle.cs_schema.specs.Reading.{Refuses, undefined_name, slots}
-use Rattle.cs_profile.specs.Refusal.{IsRefusal}
+use Rattle.cs_profile.specs.Trim.{trim, trimmed, trimmed_members, with_dialect}
+use Rattle.cs_profile.specs.SchemaDocument.{present, slots_of, schema_view, definitions_view, unless_no_map, SchemaValue, document_of, with_definitions, IsWellFormed}
+use Rattle.cs_profile.specs.Refusal.{IsRefusal, IsLoopRefusal}
 use Rattle.cs_profile.specs.declared.fault.SchemaFault.{SchemaFault}
 use Rattle.cs_profile.specs.declared.fault.SchemaFault.TheVariants as fault
+use Rattle.cs_profile.specs.declared.schema.Schema.{Schema, Always, Object}
+use Rattle.cs_profile.specs.declared.schema.Keywords.{Keywords}
+use Rattle.cs_schema.specs.Reading.{Refuses, slots, is_defined_in}
 use Rattle.cs_schema.specs.declared.parts.Parts.{Parts}
-use Rattle.cs_profile.specs.declared.schema.Schema.{Schema, Always, Object, the_lemmas}
-use Rattle.cs_profile.specs.declared.schema.Keywords.{Keywords, out-Keywords}
-use Rattle.cs_profile.proofs.Slots.{has_slot}
-use Rattle.cs_profile.proofs.Definitions.{named, found, with_defs, viewed, not_present, no_definitions}
+use Rattle.cs_profile.proofs.Definitions.{named, with_defs, viewed, not_present, no_definitions}
 use Rattle.cs_profile.proofs.Faultless.{Faultless}
-use Rattle.cs_profile.proofs.Profiles.{root_references, roots_alone, other_keyword, references_trimmed, references_alike, no_reference_slot, defined_in_trimmed, is_some-map, trimmed_schema}
+use Rattle.cs_profile.proofs.Profiles.{defined_in_trimmed, is_some-map}
+use Rattle.cs_profile.proofs.Referring.{walk_fault_trimmed, name_fault_trimmed, no_loop_untrimmed, refusal_untrimmed}
 use Rattle.cs_profile.proofs.Views.{view-Always, view-Object}
 
 -- ---- which names are defined
-
-pub contained : (n : List ℕ) (es : List (String Global × Schema)) → is_some (lookup (is_at (λ k. slice_cmp nat_cmp n (string_bytes k))) es) ≡ is_some (under n (named schema_view es))
-contained n es = sym (is_some-map schema_view (lookup (is_at (λ k. slice_cmp nat_cmp n (string_bytes k))) es)) ∙ ap is_some (found schema_view n es)
-
-pub none_undefined : (o : Option (String Global)) (s : String Global) (es : List (String Global × Schema)) → o ≡ Some s → is_some (under (string_bytes s) (named schema_view es)) ≡ true → undefined_name o es ≡ None
-none_undefined o s es is h = ap (λ r. undefined_name r es) is ∙ ap (λ b. if b then None else Some (undefined [] (string_bytes s))) h
-
-pub one_undefined : (o : Option (String Global)) (s : String Global) (es : List (String Global × Schema)) → o ≡ Some s → is_some (under (string_bytes s) (named schema_view es)) ≡ false
-    → undefined_name o es ≡ Some (undefined [] (string_bytes s))
-one_undefined o s es is h = ap (λ r. undefined_name r es) is ∙ ap (λ b. if b then None else Some (undefined [] (string_bytes s))) h
 
 -- the definitions that stand beside the keywords
 listed : (p : Parts) → listed_under (codes "$defs") (entries (present (slots p))) ≡ named schema_view p.definitions.entries
@@ -42,98 +29,125 @@ listed p =
     with_defs (definitions_view p.definitions.entries) (present (slots_of p.keywords)) (not_present (codes "$defs") (slots_of p.keywords) (no_definitions p.keywords))
     ∙ viewed p.definitions.entries
 
-known_alike : (ms : Members) (p : Parts) → present (slots p) ≡ trimmed_members true ms → (n : List ℕ) → is_some (defined (object ms) n) ≡ is_some (under n (named schema_view p.definitions.entries))
+known_alike : (ms : Members) (p : Parts) → present (slots p) ≡ trimmed_members true ms → (n : List ℕ) → is_defined_in p.definitions.entries n ≡ is_some (defined (object ms) n)
 known_alike ms p made n =
-    sym (is_some-map (trimmed false) (defined (object ms) n))
-    ∙ ap is_some (sym (defined_in_trimmed ms n) ∙ ap (λ ks. under n (listed_under (codes "$defs") (entries ks))) (sym made) ∙ ap (under n) (listed p))
+    sym (ap (λ es. is_some (under n es)) (listed p))
+    ∙ ap (λ ks. is_some (under n (listed_under (codes "$defs") (entries ks)))) made
+    ∙ ap is_some (defined_in_trimmed ms n)
+    ∙ is_some-map (trimmed false) (defined (object ms) n)
 
--- ---- the reference of the root
+-- ---- names by two tests that agree
 
--- the keywords behind `$ref`
-abbrev behind : List Slot → List Slot
-behind [] = []
-behind (s ∷ ss) = ss
+module _ (f g : List ℕ → Bool) (h : (n : List ℕ) → f n ≡ g n) where
+  unless_alike : (place : List ℕ) (o : Option (List ℕ)) → unless_defined f place o ≡ unless_defined g place o
+  unless_alike place None = refl
+  unless_alike place (Some n) = ap (λ b. if b then None else Some (undefined place n)) (h n)
 
-keyword_behind : (k : Keywords) → has_slot (codes "$ref") (behind (slots_of k)) ≡ false
-keyword_behind k = search (rules, the_lemmas)
+  reference_alike : (place : List ℕ) (v : Document) → reference_fault f place v ≡ reference_fault g place v
+  reference_alike place (text t) = unless_alike place (text_after reference_start t)
+  reference_alike place _ = refl
 
-reference_first : (k : Keywords) → slots_of k ≡ (codes "$ref", option_map reference_document (out-Keywords k).reference) ∷ behind (slots_of k)
-reference_first k = search (rules, the_lemmas)
+  visit_alike : (v : Visit) → undefined_at f v ≡ undefined_at g v
+  visit_alike (value_at place d) = refl
+  visit_alike (keyword_at root place k v) = ap (λ o. if bytes_eq k (codes "$ref") then o else None) (reference_alike place v)
 
-or_else-last : (o p : Option Fault) → p ≡ None → or_else o p ≡ o
-or_else-last None p h = h
-or_else-last (Some x) p h = refl
+  first_alike : (vs : List Visit) → first (undefined_at f) vs ≡ first (undefined_at g) vs
+  first_alike [] = refl
+  first_alike (v ∷ vs) = ap₂ or_else (visit_alike v) (first_alike vs)
 
-of_reference : (es : List (String Global × Schema)) (o : Option (String Global)) (ms : Members) → root_references (λ n. is_some (under n (named schema_view es))) ms ≡ None
-    → root_references (λ n. is_some (under n (named schema_view es))) (with_member (option_map reference_document o) (codes "$ref") ms) ≡ undefined_name o es
-of_reference es None ms h = h
-of_reference es (Some s) ms h = or_else-last (undefined_name (Some s) es) (root_references (λ n. is_some (under n (named schema_view es))) ms) h
-
-pub name_is : (ms : Members) (p : Parts) → Faultless (member_visits true [] ms) → present (slots p) ≡ trimmed_members true ms → name_fault (object ms) ≡ undefined_name (out-Keywords p.keywords).reference p.definitions.entries
-name_is ms p h made =
-    let old : List ℕ → Bool = λ n. is_some (defined (object ms) n) in
-    let new : List ℕ → Bool = λ n. is_some (under n (named schema_view p.definitions.entries)) in
-    let rest = present (behind (slots_of p.keywords)) in
-    roots_alone old ms h ∙ references_alike old new (known_alike ms p made) ms ∙ sym (references_trimmed new ms) ∙ ap (root_references new) (sym made)
-    ∙ other_keyword new (codes "$defs") (unless_no_map (definitions_view p.definitions.entries)) (present (slots_of p.keywords)) refl
-    ∙ ap (λ ss. root_references new (present ss)) (reference_first p.keywords)
-    ∙ of_reference p.definitions.entries (out-Keywords p.keywords).reference rest (no_reference_slot new (behind (slots_of p.keywords)) (keyword_behind p.keywords))
+-- what the second walk finds
+pub names_are : (ms : Members) (p : Parts) → present (slots p) ≡ trimmed_members true ms → first (undefined_at (is_defined_in p.definitions.entries)) (member_visits true [] ms) ≡ name_fault (object ms)
+names_are ms p made = first_alike (is_defined_in p.definitions.entries) (λ n. is_some (defined (object ms) n)) (known_alike ms p made) (member_visits true [] ms)
 
 -- ---- refusals
 
-form_never : (place k : List ℕ) (v : Document) (r : Option Form) (p n : List ℕ) → form_fault place k v r ≡ Some (undefined p n) → ⊥
-form_never place k v None p n h = cc
-form_never place k v (Some r) p n h = shape_never place k (has_form r v) p n h
+-- whether a fault is that of a name
+abbrev is_of_name : Fault → Bool
+is_of_name (undefined p n) = true
+is_of_name _ = false
+
+-- each fault that there is passes a test
+abbrev AllFaults : (Fault → Bool) → Option Fault → Type 0
+AllFaults p None = Unit {0}
+AllFaults p (Some x) = p x ≡ true
+
+abbrev is_of_walk : Fault → Bool
+is_of_walk (undefined p n) = false
+is_of_walk _ = true
+
+all_first : (p : Fault → Bool) (f : Visit → Option Fault) → ((v : Visit) → AllFaults p (f v)) → (vs : List Visit) → AllFaults p (first f vs)
+all_first p f h [] = tt
+all_first p f h (v ∷ vs) = either (f v) (first f vs) (h v) (all_first p f h vs)
   where
-    shape_never : (place k : List ℕ) (b : Bool) (p n : List ℕ) → shape_fault place k b ≡ Some (undefined p n) → ⊥
-    shape_never place k true p n h = cc
-    shape_never place k false p n h = cc
+    either : (a b : Option Fault) → AllFaults p a → AllFaults p b → AllFaults p (or_else a b)
+    either None b x y = y
+    either (Some a) b x y = x
 
-visit_never : (v : Visit) (p n : List ℕ) → fault_of v ≡ Some (undefined p n) → ⊥
-visit_never (value_at place d) p n h = by_test (is_truth d) h
-  where
-    by_test : (b : Bool) → shape_fault place [] b ≡ Some (undefined p n) → ⊥
-    by_test true h = cc
-    by_test false h = cc
-visit_never (keyword_at root place k v) p n h = form_never place k v (form_at root k) p n h
+shape_of_walk : (place n : List ℕ) (b : Bool) → AllFaults is_of_walk (shape_fault place n b)
+shape_of_walk place n true = tt
+shape_of_walk place n false = refl
 
-never_first : (v : Visit) (rest : Option Fault) (p n : List ℕ) → (rest ≡ Some (undefined p n) → ⊥) → (o : Option Fault) → fault_of v ≡ o → or_else o rest ≡ Some (undefined p n) → ⊥
-never_first v rest p n more None e h = more h
-never_first v rest p n more (Some x) e h = visit_never v p n (e ∙ h)
+form_of_walk : (place k : List ℕ) (v : Document) (r : Option Form) → AllFaults is_of_walk (form_fault place k v r)
+form_of_walk place k v None = refl
+form_of_walk place k v (Some r) = shape_of_walk place k (has_form r v)
 
-never : (vs : List Visit) (p n : List ℕ) → first fault_of vs ≡ Some (undefined p n) → ⊥
-never [] p n h = cc
-never (v ∷ vs) p n h = never_first v (first fault_of vs) p n (never vs p n) (fault_of v) refl h
+visit_of_walk : (v : Visit) → AllFaults is_of_walk (fault_of v)
+visit_of_walk (value_at place d) = shape_of_walk place [] (is_truth d)
+visit_of_walk (keyword_at root place k v) = form_of_walk place k v (form_at root k)
+
+module _ (known : List ℕ → Bool) where
+  test_of_name : (place n : List ℕ) (b : Bool) → AllFaults is_of_name (if b then None else Some (undefined place n))
+  test_of_name place n true = tt
+  test_of_name place n false = refl
+
+  unless_of_name : (place : List ℕ) (o : Option (List ℕ)) → AllFaults is_of_name (unless_defined known place o)
+  unless_of_name place None = tt
+  unless_of_name place (Some n) = test_of_name place n (known n)
+
+  reference_of_name : (place : List ℕ) (v : Document) → AllFaults is_of_name (reference_fault known place v)
+  reference_of_name place (text t) = unless_of_name place (text_after reference_start t)
+  reference_of_name place _ = tt
+
+  keyword_of_name : (place : List ℕ) (v : Document) (b : Bool) → AllFaults is_of_name (if b then reference_fault known place v else None)
+  keyword_of_name place v true = reference_of_name place v
+  keyword_of_name place v false = tt
+
+  visit_of_name : (v : Visit) → AllFaults is_of_name (undefined_at known v)
+  visit_of_name (value_at place d) = tt
+  visit_of_name (keyword_at root place k v) = keyword_of_name place v (bytes_eq k (codes "$ref"))
 
 -- of the walk
 pub refused_by_walk : (e : SchemaFault) (d : Document) → Refuses e (walk_fault d) → IsRefusal e d
 refused_by_walk fault.OutOfMemory d h = tt
 refused_by_walk (fault.Keyword p n) d h = h
 refused_by_walk (fault.Shape p n) d h = h
-refused_by_walk (fault.Reference p n) d h = absurd (never (visits true [] d) (string_bytes p) (string_bytes n) h)
+refused_by_walk (fault.Reference p n) d h =
+    let clash : false ≡ true = subst (AllFaults is_of_walk) h (all_first is_of_walk fault_of visit_of_walk (visits true [] d)) in cc
 refused_by_walk (fault.Loop ns) d h = absurd h
 
--- whether a fault is that of a name
-abbrev is_of_name : Option Fault → Bool
-is_of_name None = true
-is_of_name (Some (undefined p n)) = true
-is_of_name (Some _) = false
-
-only_names : (o : Option (String Global)) (es : List (String Global × Schema)) → is_of_name (undefined_name o es) ≡ true
-only_names None es = refl
-only_names (Some s) es = by_test (is_some (under (string_bytes s) (named schema_view es)))
-  where
-    by_test : (b : Bool) → is_of_name (if b then None else Some (undefined [] (string_bytes s))) ≡ true
-    by_test true = refl
-    by_test false = refl
-
 -- of a name
-pub refused_by_name : (e : SchemaFault) (d : Document) (o : Option (String Global)) (es : List (String Global × Schema)) → walk_fault d ≡ None → name_fault d ≡ undefined_name o es → Refuses e (undefined_name o es) → IsRefusal e d
-refused_by_name fault.OutOfMemory d o es w is h = tt
-refused_by_name (fault.Keyword p n) d o es w is h = let clash : false ≡ true = sym (ap is_of_name h) ∙ only_names o es in cc
-refused_by_name (fault.Shape p n) d o es w is h = let clash : false ≡ true = sym (ap is_of_name h) ∙ only_names o es in cc
-refused_by_name (fault.Reference p n) d o es w is h = (w, is ∙ h)
-refused_by_name (fault.Loop ns) d o es w is h = absurd h
+pub refused_by_name : (e : SchemaFault) (d : Document) → walk_fault d ≡ None → Refuses e (name_fault d) → IsRefusal e d
+refused_by_name fault.OutOfMemory d w h = tt
+refused_by_name (fault.Keyword p n) d w h =
+    let known : List ℕ → Bool = λ m. is_some (defined d m) in
+    let clash : false ≡ true = subst (AllFaults is_of_name) h (all_first is_of_name (undefined_at known) (visit_of_name known) (visits true [] d)) in cc
+refused_by_name (fault.Shape p n) d w h =
+    let known : List ℕ → Bool = λ m. is_some (defined d m) in
+    let clash : false ≡ true = subst (AllFaults is_of_name) h (all_first is_of_name (undefined_at known) (visit_of_name known) (visits true [] d)) in cc
+refused_by_name (fault.Reference p n) d w h = (w, h)
+refused_by_name (fault.Loop ns) d w h = absurd h
+
+no_loop : (d : Document) (ns : List (List ℕ)) → NoLoop d → IsLoop d ns → ⊥
+no_loop d [] none h = h
+no_loop d (n ∷ ns) none h = none n ns h
+
+-- of a schema of the profile, only memory refuses
+pub only_memory : (e : SchemaFault) (d : Document) → IsSchema d → IsRefusal e d → e ≡ fault.OutOfMemory
+only_memory fault.OutOfMemory d s h = refl
+only_memory (fault.Keyword p n) d s h = let clash = sym s.shaped ∙ h in cc
+only_memory (fault.Shape p n) d s h = let clash = sym s.shaped ∙ h in cc
+only_memory (fault.Reference p n) d s h = let clash = sym s.named ∙ h.1 in cc
+only_memory (fault.Loop ns) d s h = absurd (no_loop d (map string_bytes ns.items) s.no_loop h.told.loop)
 
 -- ---- what was read
 
@@ -142,16 +156,36 @@ document_is ms p k is made =
     ap (λ d. with_dialect (with_definitions (unless_no_map (definitions_view p.definitions.entries)) d)) (view-Object k ∙ ap (λ q. object (present (slots_of q))) is)
     ∙ ap (λ ns. object (put (codes "$schema") (text dialect) ns)) made
 
-pub whole : (ms : Members) (p : Parts) (k : Box Keywords Global) → k.value ≡ p.keywords → Faultless (member_visits true [] ms) → present (slots p) ≡ trimmed_members true ms
-    → undefined_name (out-Keywords p.keywords).reference p.definitions.entries ≡ None → IsWhole (record { root = Object k; definitions = p.definitions.entries })
-whole ms p k is h made names = record {
-  profile = subst IsSchema (sym (document_is ms p k is made)) (trimmed_schema (object ms) h (name_is ms p h made ∙ names));
-  bare = λ b e. let clash : object (present (slots_of k.value)) ≡ boolean b = sym (view-Object k) ∙ e in cc;
+pub truth_is : (b : Bool) (es : List (String Global × Schema)) → es ≡ [] → document_of (record { root = Always b; definitions = es }) ≡ boolean b
+truth_is b es none = ap (λ d. with_dialect (with_definitions (unless_no_map (definitions_view es)) d)) (view-Always b)
+
+pub bare_object : (k : Box Keywords Global) (es : List (String Global × Schema)) (b : Bool) → schema_view (Object k) ≡ boolean b → es ≡ []
+bare_object k es b e = let clash : object (present (slots_of k.value)) ≡ boolean b = sym (view-Object k) ∙ e in cc
+
+-- a root with its definitions is what was read of a document without a fault of a keyword, a value or a name
+pub record WasRead (d : Document) (v : SchemaValue) : Type 0 where
+  pub trimmed : document_of v ≡ trim d
+  pub shaped : walk_fault d ≡ None
+  pub named : name_fault d ≡ None
+
+pub was_read : (d : Document) (ms : Members) (p : Parts) (k : Box Keywords Global) → d ≡ object ms → k.value ≡ p.keywords → Faultless (member_visits true [] ms) → present (slots p) ≡ trimmed_members true ms
+    → first (undefined_at (is_defined_in p.definitions.entries)) (member_visits true [] ms) ≡ None → WasRead d (record { root = Object k; definitions = p.definitions.entries })
+was_read d ms p k is own right made known =
+    subst (λ e. WasRead e (record { root = Object k; definitions = p.definitions.entries })) (sym is) (record {
+      trimmed = document_is ms p k own made;
+      shaped = right;
+      named = sym (names_are ms p made) ∙ known;
+    })
+
+pub well_formed : (d : Document) (v : SchemaValue) → WasRead d v → ((b : Bool) → schema_view v.root ≡ boolean b → v.definitions ≡ []) → IsWellFormed v
+well_formed d v r bare = record {
+  shaped = ap walk_fault r.trimmed ∙ walk_fault_trimmed d r.shaped;
+  named = ap name_fault r.trimmed ∙ name_fault_trimmed d ∙ r.named;
+  bare = bare;
 }
 
-pub whole_truth : (b : Bool) (es : List (String Global × Schema)) → es ≡ [] → IsWhole (record { root = Always b; definitions = es })
-whole_truth b es none =
-    let is : document_of (record { root = Always b; definitions = es }) ≡ boolean b = ap (λ d. with_dialect (with_definitions (unless_no_map (definitions_view es)) d)) (view-Always b) in record {
-      profile = subst IsSchema (sym is) (trimmed_schema (boolean b) refl refl);
-      bare = λ a e. none;
-    }
+pub unlooped : (d : Document) (v : SchemaValue) → WasRead d v → NoLoop (document_of v) → NoLoop d
+unlooped d v r h = no_loop_untrimmed d (subst NoLoop r.trimmed h)
+
+pub looped : (e : SchemaFault) (d : Document) (v : SchemaValue) → WasRead d v → IsLoopRefusal e (document_of v) → IsRefusal e d
+looped e d v r h = refusal_untrimmed e d r.shaped r.named (subst (IsLoopRefusal e) r.trimmed h)

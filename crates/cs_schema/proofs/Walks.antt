@@ -1,5 +1,6 @@
 -- The walk and trimming, a part at a time.
-use Rattle.std.proofs.Common.{◌≡◌, ℕ, Bool, true, false, List, [], ◌∷◌, ◌++◌, Option, Some, None, String, Global, string_bytes, string_cmp, Less, refl, ap, ◌∙◌, length, subst, ◌==◌}
+use Rattle.std.proofs.Common.{◌≡◌, ℕ, Bool, true, false, List, [], ◌∷◌, ◌++◌, Option, Some, None, String, Global, Vec, string_bytes, string_cmp, Less, refl, sym, ap, ◌∙◌, length, subst, ◌==◌}
+use Rattle.std.proofs.Math.Dec.{eqb-suc-zero}
 use Rattle.std.specs.List.{AllByRecursion}
 use Rattle.std.specs.List.Sorted.{IsStrictlySortedBy}
 use Rattle.std.specs.Map.{keys_of}
@@ -9,11 +10,13 @@ use Rattle.cs_document.specs.Document.{Document, document, Members, no_members, 
 use Rattle.cs_document.specs.View.{doc_view, list_view, object_view, documents_of, members_of}
 use Rattle.cs_document.specs.declared.doc.Doc.{Doc}
 use Rattle.cs_document.proofs.Entries.{Entry}
-use Rattle.cs_profile.specs.Profile.{Fault, Visit, first, fault_of, element_visits, value_fault, list_visits}
+use Rattle.cs_profile.specs.Profile.{Fault, Visit, first}
+use Rattle.cs_profile.specs.Shapes.{has_form}
 use Rattle.cs_profile.specs.declared.keyword.Form.TheVariants as form
 use Rattle.cs_profile.specs.Trim.{trimmed, trimmed_members, trimmed_elements, trimmed_named, trimmed_value, with_member, trimmed_list}
 use Rattle.cs_profile.specs.SchemaDocument.{schema_view, schemas_view, definitions_view, unless_no_list}
-use Rattle.cs_schema.specs.Reading.{Refuses}
+use Rattle.cs_schema.specs.Reading.{Refuses, IsReadAs}
+use Rattle.cs_profile.specs.declared.schema.KeywordValue.TheVariants as value
 use Rattle.cs_profile.specs.declared.fault.SchemaFault.{SchemaFault}
 use Rattle.cs_profile.specs.declared.fault.SchemaFault.TheVariants as fault
 use Rattle.cs_profile.specs.declared.schema.Schema.{Schema}
@@ -84,28 +87,41 @@ trimmed_elements-push (f ∷ found) (x ∷ done) s d is seen =
     rw first (ap (document (trimmed false (doc_view x))) (trimmed_elements-push found done s d rest seen))
 
 -- the fault of a part is that of the whole
-pub refuses_at : (e : SchemaFault) (xs ys : List Visit) (o : Option Fault) → o ≡ first fault_of (xs ++ ys) → Refuses e (first fault_of xs) → Refuses e o
-refuses_at fault.OutOfMemory xs ys o h r = tt
-refuses_at (fault.Keyword p n) xs ys o h r = h ∙ first_at fault_of xs ys _ r
-refuses_at (fault.Shape p n) xs ys o h r = h ∙ first_at fault_of xs ys _ r
-refuses_at (fault.Reference p n) xs ys o h r = h ∙ first_at fault_of xs ys _ r
-refuses_at (fault.Loop ns) xs ys o h r = r
+pub refuses_at : (f : Visit → Option Fault) (e : SchemaFault) (xs ys : List Visit) (o : Option Fault) → o ≡ first f (xs ++ ys) → Refuses e (first f xs) → Refuses e o
+refuses_at f fault.OutOfMemory xs ys o h r = tt
+refuses_at f (fault.Keyword p n) xs ys o h r = h ∙ first_at f xs ys _ r
+refuses_at f (fault.Shape p n) xs ys o h r = h ∙ first_at f xs ys _ r
+refuses_at f (fault.Reference p n) xs ys o h r = h ∙ first_at f xs ys _ r
+refuses_at f (fault.Loop ns) xs ys o h r = r
 
 abbrev pub is_nil : {A : Type 0} → List A → Bool
 is_nil [] = true
 is_nil (x ∷ xs) = false
 
 -- an array of schemas with an element
-pub some_right : (place name below : List ℕ) (xs : List Doc) (v : Document) → v ≡ list (list_view xs) → is_nil xs ≡ false → first fault_of (element_visits below 0 (list_view xs)) ≡ None
-    → value_fault place name form.Schemas v (list_visits below v) ≡ None
-some_right place name below [] v e h r = cc
-some_right place name below (x ∷ xs) v e h r = rw e r
+pub some_read : (ss : Vec Schema Global) (xs : List Doc) (v : Document) → v ≡ list (list_view xs) → is_nil xs ≡ false → documents_of (schemas_view ss.items) ≡ trimmed_elements (list_view xs)
+    → IsReadAs form.Schemas v (Some (value.Schemas ss))
+some_read ss xs v e some r = (ap (has_form form.Schemas) e ∙ has_some xs some, kept ss.items xs some r ∙ ap (λ d. Some (trimmed_list d)) (sym e))
+  where
+    has_some : (xs : List Doc) → is_nil xs ≡ false → has_form form.Schemas (list (list_view xs)) ≡ true
+    has_some [] h = cc
+    has_some (x ∷ xs) h = refl
 
-pub some_value : (ss : List Schema) (xs : List Doc) (v : Document) → v ≡ list (list_view xs) → is_nil xs ≡ false → documents_of (schemas_view ss) ≡ trimmed_elements (list_view xs)
-    → unless_no_list (schemas_view ss) ≡ Some (trimmed_list v)
-some_value ss [] v e h r = cc
-some_value [] (x ∷ xs) v e h r = cc
-some_value (s ∷ ss) (x ∷ xs) v e h r = rw e (ap (λ ds. Some (list ds)) r)
+    kept : (ss : List Schema) (xs : List Doc) → is_nil xs ≡ false → documents_of (schemas_view ss) ≡ trimmed_elements (list_view xs) → unless_no_list (schemas_view ss) ≡ Some (list (trimmed_elements (list_view xs)))
+    kept ss [] h r = cc
+    kept [] (x ∷ xs) h r = cc
+    kept (s ∷ ss) (x ∷ xs) h r = ap (λ ds. Some (list ds)) r
+
+-- an array without one
+pub none_listed : (xs : List Doc) (v : Document) → v ≡ list (list_view xs) → is_nil xs ≡ true → has_form form.Schemas v ≡ false
+none_listed [] v e h = ap (has_form form.Schemas) e
+none_listed (x ∷ xs) v e h = cc
+
+pub nil : {A : Type 0} (xs : List A) (n : ℕ) → n ≡ length xs → (n == 0) ≡ true → is_nil xs ≡ true
+nil [] n e h = refl
+nil (x ∷ xs) n e h =
+    let g : (length (x ∷ xs) == 0) ≡ true = subst (λ m. (m == 0) ≡ true) e h in
+    let clash : true ≡ false = sym g ∙ eqb-suc-zero (length xs) in cc
 
 pub not_nil : {A : Type 0} (xs : List A) (n : ℕ) → n ≡ length xs → (n == 0) ≡ false → is_nil xs ≡ false
 not_nil [] n e h =

@@ -1,43 +1,44 @@
 -- What the reader makes of a keyword's value, and of an object.
-use Rattle.std.specs.Prelude.{◌≡◌, ℕ, Bool, true, false, List, [], ◌∷◌, Option, Some, None, codes, map, String, string_bytes, is_some, if◌then◌else◌}
+use Rattle.std.specs.Prelude.{◌≡◌, ℕ, Bool, true, false, List, ◌∷◌, [], ◌++◌, Option, Some, None, codes, map, String, string_bytes, is_some, if◌then◌else◌}
 use Rattle.cs_document.specs.Document.{Document, under}
-use Rattle.cs_profile.specs.Shapes.{keeping, is_kept, by_form}
+use Rattle.cs_profile.specs.Shapes.{has_form, keeping, is_kept, by_form}
 use Rattle.cs_profile.specs.Profile.{Fault, unknown, misshapen, undefined, Visit, value_visits}
 use Rattle.cs_profile.specs.Trim.{value_trims}
-use Rattle.cs_profile.specs.SchemaDocument.{Slot, slots_of, unless_no_map, schema_view, definitions_view}
+use Rattle.cs_profile.specs.SchemaDocument.{Slot, slots_of, unless_no_map, schema_view, definitions_view, value_at}
 use Rattle.cs_profile.specs.declared.keyword.Form.{Form}
-use Rattle.cs_profile.specs.declared.keyword.Form.TheVariants as form
 use Rattle.cs_profile.specs.declared.schema.Schema.{Schema}
+use Rattle.cs_profile.specs.declared.schema.KeywordValue.{KeywordValue}
 use Rattle.std.specs.declared.alloc.Global.{Global}
 use Rattle.cs_profile.specs.declared.fault.SchemaFault.{SchemaFault}
 use Rattle.cs_profile.specs.declared.fault.SchemaFault.TheVariants as fault
 use Rattle.cs_schema.specs.declared.parts.Parts.{Parts}
 
--- what the walk meets inside a value of a form
-abbrev pub inside : Form → List ℕ → Document → List Visit
-inside f place v = by_form f (value_visits place v)
+-- what the walk meets inside a value of a form, by its place in the value
+abbrev pub inside : Form → Document → List Visit
+inside f v = by_form f (value_visits [] v)
 
 -- what trimming leaves of a value of a form
 abbrev pub kept_value : Form → Document → Option Document
 kept_value f v = if is_kept (keeping f) v then Some (by_form f (value_trims v)) else None
 
--- the forms of the keywords that the reader takes
-abbrev pub is_read : Form → Bool
-is_read form.Array = false
-is_read form.Count = false
-is_read form.Texts = false
-is_read form.Text = false
-is_read form.Schema = false
-is_read _ = true
+-- a value of a form is read as what trimming leaves of it, and a value without the form as nothing
+abbrev pub IsReadAs : Form → Document → Option KeywordValue → Type 0
+IsReadAs f d None = has_form f d ≡ false
+IsReadAs f d (Some v) = (has_form f d ≡ true) × (value_at f v ≡ kept_value f d)
 
 -- the keywords of an object with its definitions
 abbrev pub slots : Parts → List Slot
 slots p = (codes "$defs", unless_no_map (definitions_view p.definitions.entries)) ∷ slots_of p.keywords
 
--- the fault of a root that refers to what is not defined
-abbrev pub undefined_name : Option (String Global) → List (String Global × Schema) → Option Fault
-undefined_name None es = None
-undefined_name (Some s) es = if is_some (under (string_bytes s) (map (λ m. (string_bytes m.0, schema_view m.1)) es)) then None else Some (undefined [] (string_bytes s))
+-- whether a name is among the definitions
+abbrev pub is_defined_in : List (String Global × Schema) → List ℕ → Bool
+is_defined_in es n = is_some (under n (map (λ m. (string_bytes m.0, schema_view m.1)) es))
+
+-- a fault of what stands at a place, with that place in front of its own
+abbrev pub below : List ℕ → Fault → Fault
+below place (unknown p n) = unknown (place ++ p) n
+below place (misshapen p n) = misshapen (place ++ p) n
+below place (undefined p n) = undefined (place ++ p) n
 
 -- the refusal names this fault; memory may run out at any time
 abbrev pub Refuses : SchemaFault → Option Fault → Type 0

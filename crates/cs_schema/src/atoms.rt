@@ -1,8 +1,8 @@
 // Values of keywords that hold no schema.
 ghost use Rattle.std.specs.Prelude.{◌≡◌, Some, None, false, true, IfSome, IfOk};
 ghost use Rattle.std.specs.List.{list_all};
-ghost use Rattle.cs_document.specs.Document.{text, integer};
-ghost use Rattle.cs_document.specs.View.{doc_view};
+ghost use Rattle.cs_document.specs.Document.{text, integer, list};
+ghost use Rattle.cs_document.specs.View.{doc_view, list_view};
 ghost use Rattle.cs_profile.specs.Shapes.{has_form, is_name as text_is_name, is_name_code as code_is_name};
 ghost use Rattle.cs_profile.specs.declared.keyword.Form.TheVariants as form;
 ghost use Rattle.cs_profile.specs.SchemaDocument.{kind_name, reference_document};
@@ -64,6 +64,47 @@ pub(crate) fn integer_of(value: &Doc) -> Option<i64>
     }
 }
 
+/// The integer of at least 0 that a value is.
+pub(crate) fn count_of(value: &Doc) -> Option<i64>
+    ensures some { IfSome result (λ z. doc_view value.now ≡ integer z) }
+    ensures accepted { IfSome result (λ z. has_form form.Count (doc_view value.now) ≡ true) }
+    ensures none { result ≡ None → has_form form.Count (doc_view value.now) ≡ false }
+{
+    match value {
+        Doc::Int(n) if *n >= 0 => Some(*n),
+        _ => None,
+    }
+}
+
+/// The text that a value is.
+pub(crate) fn text_of(value: &Doc) -> Option<&str>
+    ensures some { IfSome result (λ t. doc_view value.now ≡ text t.now) }
+    ensures none { result ≡ None → has_form form.Text (doc_view value.now) ≡ false }
+{
+    match value {
+        Doc::Text(text) => Some(text.as_str()),
+        _ => None,
+    }
+}
+
+/// Whether a value is a text.
+pub(crate) fn is_text(value: &Doc) -> bool
+    ensures { result ≡ has_form form.Text (doc_view value.now) }
+{
+    text_of(value).is_some()
+}
+
+/// The documents of the array that a value is.
+pub(crate) fn array_of(alloc: Global, value: &Doc) -> Result<Option<Vec<Doc>>, AllocError>
+    ensures some { IfOk result (λ o. IfSome o (λ v. doc_view value.now ≡ list (list_view v.items))) }
+    ensures none { IfOk result (λ o. o ≡ None → has_form form.Array (doc_view value.now) ≡ false) }
+{
+    match value {
+        Doc::List(items) => Ok(Some(copies_of(alloc, items)?)),
+        _ => Ok(None),
+    }
+}
+
 /// Whether a value is the text of the dialect.
 pub(crate) fn is_dialect(value: &Doc) -> bool
     ensures { result ≡ has_form form.Dialect (doc_view value.now) }
@@ -116,4 +157,15 @@ pub(crate) fn copied(alloc: Global, value: &Doc) -> Result<Doc, AllocError>
         Ok(doc) => Ok(doc),
         Err(_) => Err(AllocError),
     }
+}
+
+/// Equal documents.
+pub(crate) fn copies_of(alloc: Global, values: &Vec<Doc>) -> Result<Vec<Doc>, AllocError>
+    ensures { IfOk result (λ v. list_view v.items ≡ list_view values.now.items) }
+{
+    let mut docs = Vec::with_capacity(alloc, values.len())?;
+    for value in values {
+        docs.push(copied(alloc, value)?)?;
+    }
+    Ok(docs)
 }

@@ -2,9 +2,11 @@
 #![tactic(auto)]
 
 mod atoms;
+mod names;
 mod parts;
 mod places;
 mod read;
+mod texts;
 mod write;
 
 pub use cs_profile::{

@@ -8,7 +8,7 @@ ghost use Rattle.cs_profile.specs.SchemaDocument.{kind_name, schema_view, schema
 ghost use Rattle.cs_profile.specs.Keywords.{name_of};
 ghost use Rattle.cs_schema.specs.Writing.{put_some, slot_value};
 
-use crate::atoms::{copied, name_of};
+use crate::atoms::{copied, copies_of, name_of};
 use crate::{JsonKind, Keyword, Keywords, Schema, SchemaDoc, SchemaFault};
 use cs_document::Doc;
 use std::alloc::{AllocError, Global};
@@ -205,16 +205,6 @@ fn one_of_doc(alloc: Global, values: &Option<Vec<Doc>>) -> Result<Option<Doc>, A
         Some(values) => Ok(Some(Doc::List(copies_of(alloc, values)?))),
         None => Ok(None),
     }
-}
-
-fn copies_of(alloc: Global, values: &Vec<Doc>) -> Result<Vec<Doc>, AllocError>
-    ensures { IfOk result (λ v. list_view v.items ≡ list_view values.now.items) }
-{
-    let mut docs = Vec::with_capacity(alloc, values.len())?;
-    for value in values {
-        docs.push(copied(alloc, value)?)?;
-    }
-    Ok(docs)
 }
 
 /// A list of texts, unless it is empty.

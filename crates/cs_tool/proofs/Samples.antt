@@ -82,7 +82,7 @@ module _ (names : Vec (String Global) Global) (place name : String Global) where
       ≡ OutOfMemory ∷ Keyword place name ∷ Shape place name ∷ Reference place name ∷ Loop names ∷ []
   by_schema = refl
 
-  by_document : (map of_document (doc.OutOfMemory ∷ doc.NotJson ∷ doc.NotInteger ∷ []) ≡ OutOfMemory ∷ NotJson ∷ NotInteger ∷ []) × (map of_validate (validate.OutOfMemory ∷ []) ≡ OutOfMemory ∷ [])
+  by_document : (map of_document (doc.OutOfMemory ∷ doc.NotJson ∷ doc.NotInteger ∷ []) ≡ OutOfMemory ∷ NotJson ∷ NotInteger ∷ []) × (map of_validate (validate.OutOfMemory ∷ validate.TooManyPairs ∷ []) ≡ OutOfMemory ∷ TooManyPairs ∷ [])
   by_document = (refl, refl)
 
 -- ---- lines
@@ -120,5 +120,5 @@ gave_too_many ([], small, is) = cc
 gave_too_many (x ∷ xs, small, is) = omega arith
 
 -- what `run` takes from a reader at the most
-exportable : most_bytes + chunk_bytes ≡ 1052672
-exportable = refl
+most_taken : most_bytes + chunk_bytes ≡ 1052672
+most_taken = refl

@@ -1,5 +1,5 @@
 -- Texts that are read as schemas: what can't refuse them.
-use Rattle.std.proofs.Common.{◌≡◌, ℕ, Bool, List, Option, Some, None, inl, inr, refl, sym, ap, ap₂, subst, ◌∙◌, ◌∷◌}
+use Rattle.std.proofs.Common.{◌≡◌, ℕ, Bool, List, Option, Some, None, inl, inr, refl, sym, ap, ap₂, subst, subst₂, ◌∙◌, ◌∷◌}
 use Rattle.std.specs.Option.{IsSome, option_and_then}
 use Rattle.cs_document.specs.Document.{Document}
 use Rattle.cs_doc.specs.Texts.{Reads, IsJson, HasOtherNumber}
@@ -11,10 +11,12 @@ use Rattle.cs_profile.specs.Validity.{IsValidity}
 use Rattle.cs_profile.proofs.Chains.{none_loop}
 use Rattle.cs_profile.specs.declared.fault.SchemaFault.{SchemaFault}
 use Rattle.cs_profile.specs.declared.fault.SchemaFault.TheVariants as schema
-use Rattle.cs_tool.specs.Accepted.{IsAccepted, IsReadyToExport}
-use Rattle.cs_tool.specs.Headline.{IsExport, IsVerdict, IsValidated, IsAgreement, IsNoSchema, IsSchemaText, IsReadyToValidate, ValidateRefusal, AgreeRefusal}
+use Rattle.cs_validate.specs.Rules.{HasManyPairs}
+use Rattle.cs_tool.specs.Accepted.{IsAccepted, IsReady}
+use Rattle.cs_tool.specs.Headline.{IsExport, IsVerdict, IsValidated, IsAgreement, IsNoSchema, IsSchemaText, IsReadyToValidate, IsReadyToAgree, SchemaHasManyPairs, ValidateRefusal, AgreeRefusal}
+use Rattle.cs_tool.specs.Translated.{IsTranslated}
 use Rattle.cs_tool.specs.declared.fault.Fault.{Fault}
-use Rattle.cs_tool.specs.declared.fault.Fault.TheVariants.{OutOfMemory, SchemaNotJson, Keyword, Shape, Reference, Loop, NotJson, NotInteger}
+use Rattle.cs_tool.specs.declared.fault.Fault.TheVariants.{OutOfMemory, SchemaNotJson, Keyword, Shape, Reference, Loop, NotJson, NotInteger, TooManyPairs}
 
 some_before : {A B : Type 0} (f : A → Option B) (o : Option A) (y : B) → option_and_then f o ≡ Some y → IsSome o
 some_before f None y e = cc
@@ -43,17 +45,18 @@ is_schema s is f h = no_fault h.document (subst IsSchema (one_document s is.docu
 
 -- only the document's text refuses
 pub by_document : (s t : List ℕ) → IsSchemaText s → (e : Fault) → ValidateRefusal s t e → (P : Fault → Type 0)
-    → P OutOfMemory → (¬ (IsJson t) → P NotJson) → (HasOtherNumber t → P NotInteger) → P e
-by_document s t is OutOfMemory h P memory json integer = memory
-by_document s t is SchemaNotJson h P memory json integer = absurd (h (is_json s is.document is.read))
-by_document s t is (Keyword p n) h P memory json integer = let memory_only = is_schema s is (schema.Keyword p n) h in cc
-by_document s t is (Shape p n) h P memory json integer = let memory_only = is_schema s is (schema.Shape p n) h in cc
-by_document s t is (Reference p n) h P memory json integer = let memory_only = is_schema s is (schema.Reference p n) h in cc
-by_document s t is (Loop ns) h P memory json integer = let memory_only = is_schema s is (schema.Loop ns) h in cc
-by_document s t is NotInteger (inl h) P memory json integer = absurd (no_other s is.document is.read h)
-by_document s t is NotInteger (inr h) P memory json integer = integer h.1
-by_document s t is NotJson h P memory json integer = json h.1
-by_document s t is _ h P memory json integer = absurd h
+    → P OutOfMemory → (¬ (IsJson t) → P NotJson) → (HasOtherNumber t → P NotInteger) → (SchemaHasManyPairs s t → P TooManyPairs) → P e
+by_document s t is OutOfMemory h P memory json integer pairs = memory
+by_document s t is SchemaNotJson h P memory json integer pairs = absurd (h (is_json s is.document is.read))
+by_document s t is (Keyword p n) h P memory json integer pairs = let memory_only = is_schema s is (schema.Keyword p n) h in cc
+by_document s t is (Shape p n) h P memory json integer pairs = let memory_only = is_schema s is (schema.Shape p n) h in cc
+by_document s t is (Reference p n) h P memory json integer pairs = let memory_only = is_schema s is (schema.Reference p n) h in cc
+by_document s t is (Loop ns) h P memory json integer pairs = let memory_only = is_schema s is (schema.Loop ns) h in cc
+by_document s t is NotInteger (inl h) P memory json integer pairs = absurd (no_other s is.document is.read h)
+by_document s t is NotInteger (inr h) P memory json integer pairs = integer h.1
+by_document s t is NotJson h P memory json integer pairs = json h.1
+by_document s t is TooManyPairs h P memory json integer pairs = pairs h
+by_document s t is _ h P memory json integer pairs = absurd h
 
 -- a schema and a document are judged, unless memory runs out
 pub answered : (s t : List ℕ) → IsReadyToValidate s t → (e : Fault) → ValidateRefusal s t e → e ≡ OutOfMemory
@@ -61,18 +64,46 @@ answered s t is e h =
     by_document s t (record { document = is.schema; read = is.read_schema; profile = is.profile }) e h (λ f. f ≡ OutOfMemory) refl
     (λ n. absurd (n (is_json t is.document is.read)))
     (λ other. absurd (no_other t is.document is.read other))
+    (λ many.
+    let same = one_document s many.schema is.schema many.read_schema is.read_schema in
+    let same_document = one_document t many.document is.document many.read is.read in
+    absurd (is.within (subst₂ HasManyPairs same same_document many.many)))
 
-module _ (sources : List (List ℕ)) (root schema_text : List ℕ) (exported : IsExport sources root schema_text) where
+module _ (sources : List (List ℕ)) (root schema_text : List ℕ) (exported : IsExport sources root schema_text) (translated : IsTranslated sources root schema_text) where
   is_schema_text : IsSchemaText schema_text
   is_schema_text = record { document = exported.schema; read = exported.read; profile = exported.profile }
 
-  pub is_ready : IsReadyToExport sources root
+  pub is_ready : IsReady sources root
   is_ready = (exported.environment, exported.name, exported.declares)
+
+  -- a text that can be judged by both can be judged by the exported text
+  pub is_ready_to_validate : (t : List ℕ) → IsReadyToAgree sources root t → IsReadyToValidate schema_text t
+  is_ready_to_validate t ready = record {
+    schema = exported.schema;
+    read_schema = exported.read;
+    profile = exported.profile;
+    document = ready.vetted.document;
+    read = ready.vetted.read;
+    within = λ many. ready.within (record {
+      schema_text = schema_text;
+      exported = exported;
+      translated = translated;
+      many = record {
+        schema = exported.schema;
+        read_schema = exported.read;
+        profile = exported.profile;
+        document = ready.vetted.document;
+        read = ready.vetted.read;
+        many = many;
+      };
+    });
+  }
 
   -- what refuses judging by the exported text refuses judging by both
   pub refused : (t : List ℕ) (e : Fault) → ValidateRefusal schema_text t e → AgreeRefusal sources root t e
   refused t e h =
       by_document schema_text t is_schema_text e h (AgreeRefusal sources root t) tt (λ n. (is_ready, n)) (λ other. (is_ready, other))
+      (λ many. (is_ready, inr (record { schema_text = schema_text; exported = exported; translated = translated; many = many })))
 
 bare_once : (n m : List ℕ) → (35 ∷ n) ≡ (35 ∷ m) → n ≡ m
 bare_once n m e = cc
@@ -102,5 +133,5 @@ module _ (sources : List (List ℕ)) (root text schema_text : List ℕ) (E : Env
       let held : a ≡ I (definition exported.name) x = verdict.holds I (subst (λ F. IsInstance F I) same_environment is_I) ∙ ap (λ n. I (definition n) x) (sym same_name) in
       held ∙ sym (exported.admits V I is_V is_I x verdict.proper) ∙ sym judged
 
-  pub agreement : IsAgreement sources root text a
-  agreement = record { verdict = verdict; schema_text = schema_text; exported = exported; validated = subst (IsValidated schema_text text) (sym same_answer) validated }
+  pub agreement : IsTranslated sources root schema_text → IsAgreement sources root text a
+  agreement translated = record { verdict = verdict; schema_text = schema_text; exported = exported; translated = translated; validated = subst (IsValidated schema_text text) (sym same_answer) validated }

@@ -12,7 +12,6 @@ use Rattle.cs_resolve.specs.declared.fault.ResolveFault.{ResolveFault}
 use Rattle.cs_guard.specs.Cycles as guard
 use Rattle.cs_guard.specs.Guarded.{IsGuarded}
 use Rattle.cs_guard.specs.declared.fault.GuardFault.{GuardFault}
-use Rattle.cs_instance.specs.Exportable.{IsExportablePackage}
 use Rattle.cs_tool.specs.declared.fault.Fault.{Fault}
 use Rattle.cs_tool.specs.declared.fault.Fault.TheVariants.{SourcesTooLong, NotUtf8, NoToken, Syntax, LeftOut, IntegerRange, TooHigh, PackageName, UnknownName, FieldReference, NotOpened, Cycle, UnknownRoot, TooLarge, OutOfMemory, ChainTooLong}
 use Rattle.cs_tool.specs.Conversions.{of_syntax, of_resolve, of_guard}
@@ -50,19 +49,9 @@ pub record DeclaresRoot (sources : List (List ℕ)) (root : List ℕ) (E : Envir
   pub accepted : IsAccepted sources E
   pub named : Names E root n
 
--- the same, and the forms of the environment are exportable
-pub record ExportsRoot (sources : List (List ℕ)) (root : List ℕ) (E : Environment) (n : List ℕ) : Type 0 where
-  pub accepted : IsAccepted sources E
-  pub exportable : IsExportablePackage E
-  pub named : Names E root n
-
 -- the sources declare the root
 abbrev pub IsReady : List (List ℕ) → List ℕ → Type 0
 IsReady sources root = (E : Environment) × (n : List ℕ) × DeclaresRoot sources root E n
-
--- the same, and their forms are exportable
-abbrev pub IsReadyToExport : List (List ℕ) → List ℕ → Type 0
-IsReadyToExport sources root = (E : Environment) × (n : List ℕ) × ExportsRoot sources root E n
 
 -- ---- each condition, where it is the first that fails
 
@@ -108,23 +97,10 @@ pub record IsUnguarded (sources : List (List ℕ)) (f : Fault) : Type 0 where
   pub refused : guard.IsRefusal fault (environment_of_files files)
   pub told : f ≡ of_guard fault
 
--- the sources are accepted, and have a form of expression that isn't exported yet
-pub record IsNotExportable (sources : List (List ℕ)) : Type 0 where
-  pub environment : Environment
-  pub accepted : IsAccepted sources environment
-  pub other : ¬ (IsExportablePackage environment)
-
 -- the sources are accepted, and don't declare the root
 pub record IsUnknownRoot (sources : List (List ℕ)) (root : List ℕ) : Type 0 where
   pub environment : Environment
   pub accepted : IsAccepted sources environment
-  pub unknown : (n : List ℕ) → ¬ (Names environment root n)
-
--- the sources are accepted and their forms exportable, and they don't declare the root
-pub record IsUnknownExport (sources : List (List ℕ)) (root : List ℕ) : Type 0 where
-  pub environment : Environment
-  pub accepted : IsAccepted sources environment
-  pub exportable : IsExportablePackage environment
   pub unknown : (n : List ℕ) → ¬ (Names environment root n)
 
 -- the fault tells the first condition that the sources fail, whatever the root is
@@ -149,14 +125,6 @@ SourcesFault sources _ = ⊥
 abbrev pub First : List (List ℕ) → List ℕ → Fault → Type 0
 First sources root f = SourcesFault sources f ⊎ ((f ≡ UnknownRoot) × IsUnknownRoot sources root)
 
--- the same for an export: a form of expression that isn't exported yet is told as one that is left out, at the first byte
--- of the first source, after all else of the sources
-abbrev pub FormsFault : List (List ℕ) → Fault → Type 0
-FormsFault sources f = SourcesFault sources f ⊎ ((f ≡ LeftOut 0 0) × IsNotExportable sources)
-
-abbrev pub FirstOfExport : List (List ℕ) → List ℕ → Fault → Type 0
-FirstOfExport sources root f = FormsFault sources f ⊎ ((f ≡ UnknownRoot) × IsUnknownExport sources root)
-
 -- ---- the parts, where memory may run out at any time; for private contracts alone
 
 abbrev pub TextsRefusal : List (List ℕ) → Fault → Type 0
@@ -172,7 +140,3 @@ FilesRefusal sources f = IsFirstMisspelled sources f
 abbrev pub SourcesRefusal : List (List ℕ) → Fault → Type 0
 SourcesRefusal sources OutOfMemory = Unit {0}
 SourcesRefusal sources f = SourcesFault sources f
-
-abbrev pub FormsRefusal : List (List ℕ) → Fault → Type 0
-FormsRefusal sources OutOfMemory = Unit {0}
-FormsRefusal sources f = FormsFault sources f

@@ -59,6 +59,7 @@ of_schema (schema.Loop names) = Loop names
 
 abbrev pub of_validate : ValidateFault → Fault
 of_validate validate.OutOfMemory = OutOfMemory
+of_validate validate.TooManyPairs = TooManyPairs
 
 -- the fault of a document's text
 abbrev pub of_document : DocFault → Fault

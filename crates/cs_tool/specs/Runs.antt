@@ -6,7 +6,7 @@ use Rattle.cs_tool.specs.declared.fault.Fault.{Fault}
 use Rattle.cs_tool.specs.declared.fault.Fault.TheVariants.{OutOfMemory, SourcesTooLong, InputTooLong, ReadFailed, WriteFailed}
 use Rattle.cs_tool.specs.declared.request.Request.{Request}
 use Rattle.cs_tool.specs.declared.request.Request.TheVariants.{Export, Vet, Validate, Agree}
-use Rattle.cs_tool.specs.Accepted.{most_bytes, IsReadyToExport}
+use Rattle.cs_tool.specs.Accepted.{most_bytes, IsReady}
 use Rattle.cs_tool.specs.Headline.{IsExport, IsVerdict, IsValidated, IsAgreement, IsReadyToVet, IsReadyToValidate, IsReadyToAgree, ExportRefusal, VetRefusal, ValidateRefusal, AgreeRefusal}
 use Rattle.cs_tool.specs.Streams.{IsWholeInput, IsLonger, AppendsFront}
 
@@ -75,7 +75,7 @@ IsCallRefusal (agree sources root doc) fault = AgreeRefusal sources root doc fau
 
 -- a call that is answered, unless memory runs out
 abbrev pub IsReadyCall : Call → Type 0
-IsReadyCall (export sources root) = IsReadyToExport sources root
+IsReadyCall (export sources root) = IsReady sources root
 IsReadyCall (vet sources root doc) = IsReadyToVet sources root doc
 IsReadyCall (validate schema doc) = IsReadyToValidate schema doc
 IsReadyCall (agree sources root doc) = IsReadyToAgree sources root doc

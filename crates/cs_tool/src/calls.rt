@@ -4,17 +4,16 @@ ghost use Rattle.cs_document.specs.Document.{Document, depth};
 ghost use Rattle.cs_doc.specs.Texts.{Reads, text_of};
 ghost use Rattle.cs_document.specs.View.{doc_view};
 ghost use Rattle.cs_package.specs.Environment.{Environment, Names};
-ghost use Rattle.cs_instance.specs.Exportable.{IsExportablePackage};
 ghost use Rattle.cs_instance.specs.Rules.{HasManyPairs};
 ghost use Rattle.cs_schema.specs.Profile.{IsSchema};
 ghost use Rattle.cs_schema.specs.SchemaDocument.{document_of};
 ghost use Rattle.cs_schema.specs.Trim.{trim};
-ghost use Rattle.cs_tool.specs.Accepted.{IsAccepted, IsReadyToExport};
+ghost use Rattle.cs_tool.specs.Accepted.{IsAccepted, IsReady};
 ghost use Rattle.cs_tool.specs.Translated.{IsTranslated};
 ghost use Rattle.cs_tool.specs.Headline.{IsExport, IsVerdict, IsValidated, IsAgreement, IsReadyToVet, IsReadyToValidate, IsReadyToAgree, ExportRefusal, VetRefusal, ValidateRefusal, AgreeRefusal, VerdictRefusal, SchemaTextRefusal};
 
 use crate::Fault;
-use crate::packages::{exportable_package_of, package_of};
+use crate::packages::package_of;
 use cs_compile::compile;
 use cs_doc::{Doc, DocFault, read_doc, write_doc};
 use cs_guard::Guarded;
@@ -26,27 +25,26 @@ use std::alloc::Global;
 /// The text of the schema that admits the documents that the root definition of the sources admits,
 /// without a newline. The root is named with its `#`.
 ///
-/// A refusal reports the first condition that the sources and the root fail, in the order of `FirstOfExport`
+/// A refusal reports the first condition that the sources and the root fail, in the order of `First`
 /// (`specs/Accepted.antt`).
 pub fn export(alloc: Global, sources: &[&[u8]], root: &str) -> Result<Vec<u8>, Fault>
     ensures found { IfOk result
         (λ text. IsExport (map (λ s. s.now) sources.now) root.now text.items) }
-    ensures translated { IfOk result (λ text. IsTranslated (map (λ s. s.now) sources.now) text.items) }
+    ensures translated { IfOk result (λ text. IsTranslated (map (λ s. s.now) sources.now) root.now text.items) }
     ensures refused { IfErr result
         (λ e. ExportRefusal (map (λ s. s.now) sources.now) root.now e) }
-    ensures only { IsReadyToExport (map (λ s. s.now) sources.now) root.now → IsOkUnless result Fault.OutOfMemory }
+    ensures only { IsReady (map (λ s. s.now) sources.now) root.now → IsOkUnless result Fault.OutOfMemory }
 {
-    let guarded = exportable_package_of(alloc, sources)?;
+    let guarded = package_of(alloc, sources)?;
     exported(alloc, &guarded, root)
 }
 
 /// The text of the schema of the root definition, without a newline.
 fn exported(alloc: Global, guarded: &Guarded, root: &str) -> Result<Vec<u8>, Fault>
-    requires { IsExportablePackage guarded.now }
     ensures found { (sources : List (List ℕ)) → IsAccepted sources guarded.now
         → IfOk result (λ text. IsExport sources root.now text.items) }
     ensures translated { (sources : List (List ℕ)) → ((E : Environment) → IsAccepted sources E → guarded.now ≡ E)
-        → IsAccepted sources guarded.now → IfOk result (λ text. IsTranslated sources text.items) }
+        → IsAccepted sources guarded.now → IfOk result (λ text. IsTranslated sources root.now text.items) }
     ensures refused { (sources : List (List ℕ)) → IsAccepted sources guarded.now
         → IfErr result (λ e. ExportRefusal sources root.now e) }
     ensures only { (n : List ℕ) → Names guarded.now root.now n → IsOkUnless result Fault.OutOfMemory }
@@ -103,7 +101,7 @@ fn verdict(alloc: Global, guarded: Guarded, root: &str, doc: &[u8]) -> Result<bo
 /// Whether the document is valid against the schema.
 ///
 /// Refusals in order: `SchemaNotJson` and `NotInteger`, of the schema's text; those of a schema outside the
-/// profile; then `NotJson` and `NotInteger`, of the document.
+/// profile; `NotJson` and `NotInteger`, of the document; then `TooManyPairs`, of the document and the schema's rules.
 pub fn validate(alloc: Global, schema: &[u8], doc: &[u8]) -> Result<bool, Fault>
     ensures found { IfOk result (λ b. IsValidated schema.now doc.now b) }
     ensures refused { IfErr result (λ e. ValidateRefusal schema.now doc.now e) }
@@ -130,7 +128,7 @@ fn schema_text(alloc: Global, text: &[u8]) -> Result<Doc, Fault>
 /// itself, and by the exported schema, which is read again from its text. Both answer the same.
 ///
 /// Refusals in order: those of `export`; `NotJson` and `NotInteger`, of the document; then `TooManyPairs`, of the document
-/// and the rules of the root.
+/// and the rules of the root or of the exported schema.
 pub fn agree(alloc: Global, sources: &[&[u8]], root: &str, doc: &[u8]) -> Result<bool, Fault>
     ensures found { IfOk result
         (λ b. IsAgreement (map (λ s. s.now) sources.now) root.now doc.now b) }
@@ -138,7 +136,7 @@ pub fn agree(alloc: Global, sources: &[&[u8]], root: &str, doc: &[u8]) -> Result
         (λ e. AgreeRefusal (map (λ s. s.now) sources.now) root.now doc.now e) }
     ensures only { IsReadyToAgree (map (λ s. s.now) sources.now) root.now doc.now → IsOkUnless result Fault.OutOfMemory }
 {
-    let guarded = exportable_package_of(alloc, sources)?;
+    let guarded = package_of(alloc, sources)?;
     let schema = exported(alloc, &guarded, root)?;
     let is_instance = verdict(alloc, guarded, root, doc)?;
     let is_valid = validate(alloc, &schema, doc)?;

@@ -12,13 +12,6 @@ use cs_schema::SchemaFault;
 use cs_syntax::SyntaxFault;
 use cs_validate::ValidateFault;
 
-/// The refusal of a package with a form of expression that isn't exported yet: 5 at the first byte of the first source.
-pub(crate) fn not_exportable() -> Fault
-    ensures { result ≡ Fault.LeftOut 0 0 }
-{
-    Fault::LeftOut { file: 0, offset: 0 }
-}
-
 /// What a fault of the source in a file is.
 pub(crate) fn of_syntax(file: usize, fault: SyntaxFault) -> Fault
     ensures { result ≡ of_syntax file fault }
@@ -115,6 +108,7 @@ impl From<ValidateFault> for Fault {
     fn from(fault: ValidateFault) -> Fault {
         match fault {
             ValidateFault::OutOfMemory => Fault::OutOfMemory,
+            ValidateFault::TooManyPairs => Fault::TooManyPairs,
         }
     }
 }

@@ -19,8 +19,7 @@ pub enum Fault {
     /// one of them; that it is the first one out of place is tested.
     #[error("a token is out of place; correct the syntax there")]
     Syntax { file: usize, offset: usize },
-    /// 5: the same, where that token begins a form of CUE that the profile leaves out. At the first byte of the first
-    /// source also where a package to be exported has a form of expression that isn't exported yet.
+    /// 5: the same, where that token begins a form of CUE that the profile leaves out.
     #[error("this form of CUE is not supported; say it by other forms")]
     LeftOut { file: usize, offset: usize },
     /// 6: the integer at the offset doesn't fit in 64 signed bits.

@@ -4,7 +4,6 @@
 mod calls;
 mod commands;
 mod conversions;
-mod exportable;
 mod fault;
 mod packages;
 mod reads;

@@ -4,12 +4,10 @@ ghost use Rattle.std.specs.List.{AllByRecursion};
 ghost use Rattle.cs_grammar.specs.Tree.{FileTree};
 ghost use Rattle.cs_grammar.specs.View.{file_view};
 ghost use Rattle.cs_package.specs.Environment.{Environment};
-ghost use Rattle.cs_instance.specs.Exportable.{IsExportablePackage};
-ghost use Rattle.cs_tool.specs.Accepted.{most_bytes, bytes_of, AreFiles, IsAccepted, SourcesRefusal, FormsRefusal, TextsRefusal, FilesRefusal};
+ghost use Rattle.cs_tool.specs.Accepted.{most_bytes, bytes_of, AreFiles, IsAccepted, SourcesRefusal, TextsRefusal, FilesRefusal};
 
 use crate::Fault;
-use crate::conversions::{not_exportable, of_syntax};
-use crate::exportable::is_exportable;
+use crate::conversions::of_syntax;
 use cs_guard::{Guarded, guard};
 use cs_resolve::resolve;
 use cs_syntax::{File, parse_file};
@@ -32,22 +30,6 @@ pub(crate) fn package_of(alloc: Global, sources: &[&[u8]]) -> Result<Guarded, Fa
     let texts = texts_of(alloc, sources)?;
     let files = files_of(alloc, &texts)?;
     let package = guard(alloc, resolve(alloc, files)?)?;
-    Ok(package)
-}
-
-/// The same where all forms of expression are exported; `FormsFault` has the order of its refusals.
-pub(crate) fn exportable_package_of(alloc: Global, sources: &[&[u8]]) -> Result<Guarded, Fault>
-    ensures accepted { IfOk result (λ g. IsAccepted (map (λ s. s.now) sources.now) g) }
-    ensures exportable { IfOk result (λ g. IsExportablePackage g) }
-    ensures refused { IfErr result (λ e. FormsRefusal (map (λ s. s.now) sources.now) e) }
-    ensures only { (E : Environment) → IsAccepted (map (λ s. s.now) sources.now) E → IsExportablePackage E
-        → IsOkUnless result Fault.OutOfMemory }
-    ensures unique { (E : Environment) → IsAccepted (map (λ s. s.now) sources.now) E → IfOk result (λ g. g ≡ E) }
-{
-    let package = package_of(alloc, sources)?;
-    if !is_exportable(package.package()) {
-        return Err(not_exportable());
-    }
     Ok(package)
 }
 

@@ -1,117 +1,191 @@
--- What keywords assert of documents, worked by the definitions. A wrong expectation stops the check here.
-use Rattle.std.proofs.Common.{◌≡◌, ℕ, pos, neg_ℤ, Bool, true, false, List, [], ◌∷◌, map, filter, codes, Some, None, refl}
-use Rattle.cs_document.specs.Document.{Document, null, boolean, integer, text, Entry}
-use Rattle.cs_document.specs.View.{doc_view}
-use Rattle.cs_document.specs.declared.doc.Doc.{Doc}
+-- What each keyword asks, over small lists of numbers, worked by the definitions. A wrong expectation stops the check here.
+use Rattle.std.proofs.Common.{◌≡◌, ◌+◌, ◌*◌, ℕ, pos, negsuc, Bool, true, false, List, [], ◌∷◌, Some, None, map, length, codes, nat_eq, nat_lt, refl, arith}
+use Rattle.cs_document.specs.Document.{Document, null, boolean}
+use Rattle.cs_document.specs.Opened.{Opened, a_null, a_boolean, an_integer, a_text, a_list, an_object}
 use Rattle.cs_document.proofs.SampleDocuments.{number, array, map_of}
+use Rattle.cs_flat.specs.Nodes.{nodes}
 use Rattle.cs_profile.specs.Keywords as keyword
-use Rattle.cs_profile.specs.declared.schema.Keywords.{Keywords}
+use Rattle.cs_profile.specs.Constraint.{Assertion, nothing, valid_by, has_kind, equals, is_among, at_least, at_most, above, below, has_keys, at_keys, at_other_keys, in_front, behind, at_least_long, valid_by_all, valid_by_any, not_valid_by, always, never, conjunction}
+use Rattle.cs_profile.specs.Validity.{holds}
+use Rattle.cs_profile.specs.Numbered.{numbered as numbers_from}
+use Rattle.cs_profile.specs.declared.schema.Schema.{Schema}
 use Rattle.cs_profile.specs.declared.schema.JsonKind.TheVariants as kind
-use Rattle.cs_validate.specs.Asserted.{kind_of, is_kind, is_const, is_limited, slot_holds, but_reference, defined_holds}
-use Rattle.cs_validate.specs.Shaped.{IsShaped, AreShaped}
+use Rattle.cs_validate.specs.declared.rules.Conjunction.{Conjunction}
+use Rattle.cs_validate.specs.Numbering.{map_constraint, said, PartsBelow}
+use Rattle.cs_validate.specs.Rules.{rules_of, HasManyPairs}
+use Rattle.cs_validate.specs.Steps.{kind_of, unless_empty, at_least_of_length, places_from, items_place, prefix_place, properties_place}
+use Rattle.cs_validate.specs.Asked.{is_long}
 
 -- ---- short forms
 
 abbrev A : List ℕ
 A = codes "a"
 
-abbrev every_kind : List Document
-every_kind = null ∷ boolean true ∷ boolean false ∷ number 0 ∷ integer (neg_ℤ (pos 1)) ∷ text [] ∷ text A ∷ array [] ∷ array (null ∷ []) ∷ map_of [] ∷ map_of ((A, null) ∷ []) ∷ []
+abbrev B : List ℕ
+B = codes "b"
 
--- ---- `type` (Validation, section 6.1.1)
+-- rules 0 and 1 validate the value, and a value inside is valid by the place of its own number
+abbrev here : ℕ → Bool
+here r = nat_lt r 2
+
+abbrev each_holds : Document → Opened ℕ → List (Assertion ℕ ℕ) → List Bool
+each_holds d x claims = map (λ a. holds here nat_eq a d x) claims
+
+-- [.., .., ..] with the numbers 5, 6 and 7, and {"a": .., "b": ..} with 1 and 2
+abbrev listed : Opened ℕ
+listed = a_list (5 ∷ 6 ∷ 7 ∷ [])
+
+abbrev mapped : Opened ℕ
+mapped = an_object ((A, 1) ∷ (B, 2) ∷ [])
+
+-- ---- schemas that are asked of the value itself (Core, sections 8.2.3.1 and 10.2.1)
+
+references : each_holds null a_null (valid_by (Some 1) ∷ valid_by (Some 2) ∷ valid_by None ∷ []) ≡ true ∷ false ∷ false ∷ []
+references = refl
+
+all_of : each_holds null a_null (valid_by_all [] ∷ valid_by_all (0 ∷ 1 ∷ []) ∷ valid_by_all (0 ∷ 2 ∷ []) ∷ valid_by_all (2 ∷ 0 ∷ []) ∷ []) ≡ true ∷ true ∷ false ∷ false ∷ []
+all_of = refl
+
+any_of : each_holds null a_null (valid_by_any [] ∷ valid_by_any (2 ∷ 1 ∷ []) ∷ valid_by_any (0 ∷ 2 ∷ []) ∷ valid_by_any (2 ∷ 3 ∷ []) ∷ []) ≡ false ∷ true ∷ true ∷ false ∷ []
+any_of = refl
+
+negated : each_holds null a_null (not_valid_by 1 ∷ not_valid_by 2 ∷ []) ≡ false ∷ true ∷ []
+negated = refl
+
+-- ---- values of any kind (Validation, section 6.1)
 
 kinds_are : map kind_of (kind.Null ∷ kind.Boolean ∷ kind.Object ∷ kind.Array ∷ kind.Number ∷ kind.String ∷ kind.Integer ∷ [])
     ≡ keyword.Null ∷ keyword.Boolean ∷ keyword.Object ∷ keyword.Array ∷ keyword.Number ∷ keyword.String ∷ keyword.Integer ∷ []
 kinds_are = refl
 
-of_each_kind : map (λ k. filter (is_kind k) every_kind) (None ∷ Some kind.Null ∷ Some kind.Boolean ∷ Some kind.Object ∷ Some kind.Array ∷ Some kind.Number ∷ Some kind.String ∷ Some kind.Integer ∷ [])
-    ≡ every_kind ∷ (null ∷ []) ∷ (boolean true ∷ boolean false ∷ []) ∷ (map_of [] ∷ map_of ((A, null) ∷ []) ∷ []) ∷ (array [] ∷ array (null ∷ []) ∷ [])
-    ∷ (number 0 ∷ integer (neg_ℤ (pos 1)) ∷ []) ∷ (text [] ∷ text A ∷ []) ∷ (number 0 ∷ integer (neg_ℤ (pos 1)) ∷ []) ∷ []
-of_each_kind = refl
+abbrev kinds : List (Assertion ℕ ℕ)
+kinds = has_kind keyword.Null ∷ has_kind keyword.Boolean ∷ has_kind keyword.Object ∷ has_kind keyword.Array ∷ has_kind keyword.Number ∷ has_kind keyword.String ∷ has_kind keyword.Integer ∷ []
 
--- ---- `const` (Validation, section 6.1.3)
+-- an integer is a number too
+by_kind : map (λ x. each_holds null x kinds) (a_null ∷ a_boolean false ∷ mapped ∷ listed ∷ an_integer (pos 0) ∷ a_text A ∷ [])
+    ≡ (true ∷ false ∷ false ∷ false ∷ false ∷ false ∷ false ∷ [])
+    ∷ (false ∷ true ∷ false ∷ false ∷ false ∷ false ∷ false ∷ [])
+    ∷ (false ∷ false ∷ true ∷ false ∷ false ∷ false ∷ false ∷ [])
+    ∷ (false ∷ false ∷ false ∷ true ∷ false ∷ false ∷ false ∷ [])
+    ∷ (false ∷ false ∷ false ∷ false ∷ true ∷ false ∷ true ∷ [])
+    ∷ (false ∷ false ∷ false ∷ false ∷ false ∷ true ∷ false ∷ [])
+    ∷ []
+by_kind = refl
 
-any_value : filter (is_const None) every_kind ≡ every_kind
-any_value = refl
+abbrev one_key : Document
+one_key = map_of ((A, number 1) ∷ [])
 
-module _ (d : Doc) where
-  a_text : doc_view d ≡ text A → filter (is_const (Some d)) every_kind ≡ text A ∷ []
-  a_text e = rw e refl
+-- keys count
+constants : each_holds one_key a_null (equals one_key ∷ equals (map_of ((B, number 1) ∷ [])) ∷ equals (map_of ((A, number 2) ∷ [])) ∷ equals (map_of []) ∷ equals (array (number 1 ∷ [])) ∷ []) ≡ true ∷ false ∷ false ∷ false ∷ false ∷ []
+constants = refl
 
-  a_map : doc_view d ≡ map_of ((A, null) ∷ []) → filter (is_const (Some d)) every_kind ≡ map_of ((A, null) ∷ []) ∷ []
-  a_map e = rw e refl
+enumerations : each_holds one_key a_null (is_among [] ∷ is_among (null ∷ one_key ∷ []) ∷ is_among (null ∷ number 1 ∷ []) ∷ []) ≡ false ∷ true ∷ false ∷ []
+enumerations = refl
 
-  zero_alone : doc_view d ≡ number 0 → filter (is_const (Some d)) every_kind ≡ number 0 ∷ []
-  zero_alone e = rw e refl
+-- ---- integers (Validation, section 6.2)
 
--- ---- the four limits (Validation, section 6.2)
+abbrev limits : List (Assertion ℕ ℕ)
+limits = at_least (pos 3) ∷ at_most (pos 3) ∷ above (pos 3) ∷ below (pos 3) ∷ []
 
-abbrev around_three : List Document
-around_three = number 2 ∷ number 3 ∷ number 4 ∷ text A ∷ null ∷ []
+around_three : map (λ z. each_holds null (an_integer z) limits) (negsuc 3 ∷ pos 2 ∷ pos 3 ∷ pos 4 ∷ [])
+    ≡ (false ∷ true ∷ false ∷ true ∷ []) ∷ (false ∷ true ∷ false ∷ true ∷ []) ∷ (true ∷ true ∷ false ∷ false ∷ []) ∷ (true ∷ false ∷ true ∷ false ∷ []) ∷ []
+around_three = refl
 
-module _ (k : Keywords) where
-  without_limits : k.minimum ≡ None → k.above ≡ None → k.maximum ≡ None → k.below ≡ None → filter (is_limited k) around_three ≡ around_three
-  without_limits e f g h = rw (e, f, g, h) refl
+-- ---- lists (Validation, section 6.4; Core, section 10.3.1)
 
-  minimum : k.minimum ≡ Some (pos 3) → k.above ≡ None → k.maximum ≡ None → k.below ≡ None → filter (is_limited k) around_three ≡ number 3 ∷ number 4 ∷ text A ∷ null ∷ []
-  minimum e f g h = rw (e, f, g, h) refl
+lengths : each_holds null listed (at_least_long 0 ∷ at_least_long 3 ∷ at_least_long 4 ∷ []) ≡ true ∷ true ∷ false ∷ []
+lengths = refl
 
-  exclusive_minimum : k.minimum ≡ None → k.above ≡ Some (pos 3) → k.maximum ≡ None → k.below ≡ None → filter (is_limited k) around_three ≡ number 4 ∷ text A ∷ null ∷ []
-  exclusive_minimum e f g h = rw (e, f, g, h) refl
+-- a length below zero, which no schema document has, asks nothing
+lengths_of : map (λ z. is_long z 3) (negsuc 4 ∷ pos 0 ∷ pos 3 ∷ pos 4 ∷ []) ≡ true ∷ true ∷ true ∷ false ∷ []
+lengths_of = refl
 
-  maximum : k.minimum ≡ None → k.above ≡ None → k.maximum ≡ Some (pos 3) → k.below ≡ None → filter (is_limited k) around_three ≡ number 2 ∷ number 3 ∷ text A ∷ null ∷ []
-  maximum e f g h = rw (e, f, g, h) refl
+length_claims : map (at_least_of_length {H = ℕ} {I = ℕ}) (pos 3 ∷ negsuc 0 ∷ []) ≡ at_least_long 3 ∷ nothing ∷ []
+length_claims = refl
 
-  exclusive_maximum : k.minimum ≡ None → k.above ≡ None → k.maximum ≡ None → k.below ≡ Some (pos 3) → filter (is_limited k) around_three ≡ number 2 ∷ text A ∷ null ∷ []
-  exclusive_maximum e f g h = rw (e, f, g, h) refl
+-- an element that isn't there is asked for by nothing
+fronts : each_holds null listed (in_front [] ∷ in_front (5 ∷ 6 ∷ []) ∷ in_front (5 ∷ 7 ∷ []) ∷ in_front (5 ∷ 6 ∷ 7 ∷ 9 ∷ []) ∷ []) ≡ true ∷ true ∷ false ∷ true ∷ []
+fronts = refl
 
-  -- limits beside each other all hold
-  between : k.minimum ≡ Some (pos 2) → k.above ≡ Some (pos 2) → k.maximum ≡ Some (pos 4) → k.below ≡ Some (pos 4) → filter (is_limited k) around_three ≡ number 3 ∷ text A ∷ null ∷ []
-  between e f g h = rw (e, f, g, h) refl
+rests : each_holds null listed (behind 2 7 ∷ behind 1 7 ∷ behind 0 5 ∷ behind 3 9 ∷ behind 4 9 ∷ []) ≡ true ∷ false ∷ false ∷ true ∷ true ∷ []
+rests = refl
 
--- ---- keywords as slots
+-- ---- maps (Validation, section 6.5; Core, section 10.3.2)
 
--- under any validity: one that is left out, `type`, `maximum`, and a name that is no keyword
-slots : (R : Document) (V : Document → Document → Bool) (beside : List (Entry Document))
-    → map (λ s. slot_holds R V beside (number 3) s) ((codes "minimum", None) ∷ (codes "minimum", Some (number 3)) ∷ (codes "minimum", Some (number 4)) ∷ (codes "maximum", Some (number 3)) ∷ (codes "maximum", Some (number 2)) ∷ (codes "type", Some (text (codes "string"))) ∷ (codes "x", Some null) ∷ [])
-    ≡ true ∷ true ∷ false ∷ true ∷ false ∷ false ∷ true ∷ []
-slots R V beside = refl
+required : each_holds null mapped (has_keys [] ∷ has_keys (A ∷ B ∷ []) ∷ has_keys (A ∷ codes "c" ∷ []) ∷ has_keys (codes "c" ∷ A ∷ []) ∷ []) ≡ true ∷ true ∷ false ∷ false ∷ []
+required = refl
 
--- the schemas of an `allOf` are judged by the validity
-by_validity : (R : Document) (V : Document → Document → Bool) (beside : List (Entry Document)) (s x : Document) → V s x ≡ false
-    → slot_holds R V beside x (codes "allOf", Some (array (s ∷ []))) ≡ false
-by_validity R V beside s x e = rw e refl
+-- a name that is no key is asked for by nothing
+properties : each_holds null mapped (at_keys ((A, 1) ∷ (B, 2) ∷ []) ∷ at_keys ((A, 1) ∷ (B, 1) ∷ []) ∷ at_keys ((codes "c", 9) ∷ []) ∷ []) ≡ true ∷ false ∷ true ∷ []
+properties = refl
 
-behind_reference : map but_reference ([] ∷ ((codes "$ref", None) ∷ []) ∷ ((codes "$ref", Some null) ∷ (codes "allOf", None) ∷ (codes "type", None) ∷ []) ∷ [])
-    ≡ [] ∷ [] ∷ ((codes "allOf", None) ∷ (codes "type", None) ∷ []) ∷ []
-behind_reference = refl
+additional : each_holds null mapped (at_other_keys (A ∷ []) 2 ∷ at_other_keys (B ∷ []) 2 ∷ at_other_keys (A ∷ B ∷ []) 9 ∷ at_other_keys [] 1 ∷ []) ≡ true ∷ false ∷ true ∷ false ∷ []
+additional = refl
 
--- ---- definitions of the root
+-- ---- values of other kinds
 
-abbrev one_definition : Document
-one_definition = map_of ((codes "$defs", map_of ((codes "P", boolean true) ∷ [])) ∷ [])
+abbrev of_lists_and_maps : List (Assertion ℕ ℕ)
+of_lists_and_maps = at_least_long 9 ∷ in_front (9 ∷ []) ∷ behind 0 9 ∷ has_keys (A ∷ []) ∷ at_keys ((A, 9) ∷ []) ∷ at_other_keys [] 9 ∷ []
 
-by_name : (V : Document → Document → Bool) (x : Document) → map (defined_holds one_definition V x) (codes "P" ∷ codes "Q" ∷ codes "$defs" ∷ []) ≡ V (boolean true) x ∷ false ∷ false ∷ []
-by_name V x = refl
+other_kinds : map (λ x. each_holds null x of_lists_and_maps) (a_null ∷ a_boolean true ∷ an_integer (pos 0) ∷ a_text A ∷ a_list [] ∷ an_object [] ∷ [])
+    ≡ (true ∷ true ∷ true ∷ true ∷ true ∷ true ∷ [])
+    ∷ (true ∷ true ∷ true ∷ true ∷ true ∷ true ∷ [])
+    ∷ (true ∷ true ∷ true ∷ true ∷ true ∷ true ∷ [])
+    ∷ (true ∷ true ∷ true ∷ true ∷ true ∷ true ∷ [])
+    ∷ (false ∷ true ∷ true ∷ true ∷ true ∷ true ∷ [])
+    ∷ (true ∷ true ∷ true ∷ false ∷ true ∷ true ∷ [])
+    ∷ []
+other_kinds = refl
 
--- ---- shapes
+no_number : map (λ x. each_holds null x limits) (a_null ∷ a_text A ∷ listed ∷ mapped ∷ []) ≡ (true ∷ true ∷ true ∷ true ∷ []) ∷ (true ∷ true ∷ true ∷ true ∷ []) ∷ (true ∷ true ∷ true ∷ true ∷ []) ∷ (true ∷ true ∷ true ∷ true ∷ []) ∷ []
+no_number = refl
 
-shaped : IsShaped (map_of ((codes "minimum", number 1) ∷ [])) × IsShaped (boolean true)
-shaped = (([], refl), ([], refl))
+-- ---- constraints over numbers
 
-unknown_keyword : IsShaped (map_of ((codes "pattern", text A) ∷ [])) → ⊥
-unknown_keyword h = let e = h.1 in cc
+without_nothing : map (said {H = ℕ} {I = ℕ}) (always ∷ never ∷ conjunction (nothing ∷ at_most (pos 1) ∷ nothing ∷ not_valid_by 0 ∷ []) ∷ []) ≡ always ∷ never ∷ conjunction (at_most (pos 1) ∷ not_valid_by 0 ∷ []) ∷ []
+without_nothing = refl
 
-misshapen : IsShaped (map_of ((codes "minimum", text A) ∷ [])) → ⊥
-misshapen h = let e = h.1 in cc
+-- the first map is of schemas asked of the same document, and the second of those asked of documents inside
+renamed : map_constraint (λ r. r + 10) (λ p. p + 20) (conjunction (valid_by (Some 1) ∷ at_keys ((A, 1) ∷ []) ∷ at_other_keys (A ∷ []) 2 ∷ in_front (3 ∷ []) ∷ behind 1 4 ∷ valid_by_all (5 ∷ []) ∷ valid_by_any (6 ∷ []) ∷ not_valid_by 7 ∷ at_least_long 8 ∷ []))
+    ≡ conjunction (valid_by (Some 11) ∷ at_keys ((A, 21) ∷ []) ∷ at_other_keys (A ∷ []) 22 ∷ in_front (23 ∷ []) ∷ behind 1 24 ∷ valid_by_all (15 ∷ []) ∷ valid_by_any (16 ∷ []) ∷ not_valid_by 17 ∷ at_least_long 8 ∷ [])
+renamed = refl
 
-no_schema : IsShaped (number 1) → ⊥
-no_schema h = let e = h.1 in cc
+below_both : PartsBelow 2 1 (conjunction (valid_by_all (0 ∷ 1 ∷ []) ∷ behind 5 0 ∷ []))
+below_both = ((omega arith, (omega arith, tt)), (omega arith, tt))
 
--- `$defs` belongs to the root alone, and a keyword that is left out has no fault
+rule_not_below : PartsBelow 1 9 (conjunction (not_valid_by 1 ∷ [])) → ⊥
+rule_not_below h = let l = h.0 in omega (arith, l)
 
-at_the_root : AreShaped true ((codes "pattern", None) ∷ (codes "type", Some (text (codes "null"))) ∷ [])
-at_the_root = (tt, (([], refl), tt))
+place_not_below : PartsBelow 9 1 (conjunction (at_other_keys [] 1 ∷ [])) → ⊥
+place_not_below h = let l = h.0 in omega (arith, l)
 
-below_the_root : AreShaped false ((codes "$defs", Some (map_of [])) ∷ []) → ⊥
-below_the_root h = let e = h.0.1 in cc
+-- ---- places of what waits: `additionalProperties`, `items`, `prefixItems`, `properties`
+
+one_after_another : places_from 4 (A ∷ B ∷ A ∷ []) ≡ 4 ∷ 5 ∷ 6 ∷ []
+one_after_another = refl
+
+names_numbered : numbers_from 4 (A ∷ B ∷ []) ≡ (A, 4) ∷ (B, 5) ∷ []
+names_numbered = refl
+
+module _ (c : Conjunction) (s t : Schema) where
+  all_stand : c.first ≡ 5 → c.keywords.now.additional ≡ Some s → c.keywords.now.rest ≡ Some t → c.keywords.now.prefix.items ≡ s ∷ t ∷ [] → items_place c ∷ prefix_place c ∷ properties_place c ∷ [] ≡ 6 ∷ 7 ∷ 9 ∷ []
+  all_stand e f g h = rw (e, f, g, h) refl
+
+  none_stands : c.first ≡ 5 → c.keywords.now.additional ≡ None → c.keywords.now.rest ≡ None → c.keywords.now.prefix.items ≡ [] → items_place c ∷ prefix_place c ∷ properties_place c ∷ [] ≡ 5 ∷ 5 ∷ 5 ∷ []
+  none_stands e f g h = rw (e, f, g, h) refl
+
+left_out : map (unless_empty (λ (ns : List ℕ). length ns)) ([] ∷ (7 ∷ 8 ∷ []) ∷ []) ≡ None ∷ Some 2 ∷ []
+left_out = refl
+
+-- ---- rules and pairs
+
+rules_of_truths : map rules_of (boolean true ∷ boolean false ∷ map_of [] ∷ []) ≡ (boolean true ∷ []) ∷ (boolean false ∷ []) ∷ (map_of [] ∷ []) ∷ []
+rules_of_truths = refl
+
+-- 67,108,864 pairs are not too many, and one more is
+module _ (R d : Document) where
+  at_the_bound : length (nodes d) * length (rules_of R) ≡ 67108864 → HasManyPairs R d → ⊥
+  at_the_bound e h = omega (arith, e, h)
+
+  past_the_bound : length (nodes d) * length (rules_of R) ≡ 67108865 → HasManyPairs R d
+  past_the_bound e = omega (arith, e)

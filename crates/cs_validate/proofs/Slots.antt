@@ -1,28 +1,24 @@
--- What the keywords of an object assert is the conjunction of what each of the profile asserts.
-use Rattle.std.proofs.Common.{◌≡◌, ℕ, ℤ, Bool, true, false, ◌&&◌, List, [], ◌∷◌, Option, Some, None, is_some, codes, String, Global, string_bytes, refl, sym, ap, ap₂, subst, ◌∙◌, map, option_map, if◌then◌else◌, arith, rules}
-use Rattle.std.specs.Prelude.{int_le, int_lt}
-use Rattle.std.specs.List.{All, list_all}
-use Rattle.std.proofs.lemmas.List.Folds.{list_all-map}
-use Rattle.cs_document.specs.Document.{Document, integer, text, list, object, Entry, elements, entries, document_eq}
-use Rattle.cs_document.specs.Opened.{Opened, a_null, a_boolean, an_integer, a_text, a_list, an_object, opened}
-use Rattle.cs_document.specs.View.{doc_view, list_view, documents_of}
-use Rattle.cs_profile.specs.Shapes.{form_at}
-use Rattle.cs_profile.specs.declared.keyword.Form.{Form}
-use Rattle.cs_profile.specs.Constraint.{assertion_at}
-use Rattle.cs_profile.specs.Validity.{is_of_kind, if_number, holds, IsValidity}
-use Rattle.cs_profile.specs.SchemaDocument.{Slot, reference_document, text_document, unless_no_map, definitions_view, present, schema_view, schemas_view, slots_of, unless_no_list, kind_name}
-use Rattle.cs_profile.specs.declared.schema.JsonKind.{JsonKind}
-use Rattle.cs_profile.specs.declared.schema.JsonKind.TheVariants as kind
+-- What the members of an object contribute, keyword by keyword.
+use Rattle.std.proofs.Common.{◌≡◌, ℕ, max, length, bytes_eq, arith, Bool, true, false, List, [], ◌∷◌, ◌++◌, map, Option, Some, None, option_map, String, Global, string_bytes, codes, refl, ap, ap₂, ◌∙◌, append-nil, if◌then◌else◌, rules}
+use Rattle.std.proofs.lemmas.List.{length-map}
+use Rattle.std.specs.Prelude.{option_to_list}
+use Rattle.std.specs.List.{flat_map}
+use Rattle.cs_document.specs.Document.{Document, integer, text, list, elements, entries, Members, no_members, member, Entry, under}
+use Rattle.cs_document.specs.View.{doc_view, list_view, documents_of, members_of}
+use Rattle.cs_profile.specs.Keywords.{keywords, listed_under, entries_of, elements_of}
+use Rattle.cs_profile.specs.Constraint.{places_taken}
+use Rattle.cs_profile.specs.Loops.{ByReach, by_keyword, value_names, direct_names, keyword_names, each_names}
+use Rattle.cs_profile.specs.Numbered.{reference_names, names_of_each, names_in}
+use Rattle.cs_profile.specs.SchemaDocument.{Slot, reference_document, text_document, unless_no_map, unless_no_list, definitions_view, present, schema_view, schemas_view, slots_of, kind_name}
+use Rattle.cs_profile.specs.declared.keyword.Keyword.{Keyword}
+use Rattle.cs_profile.specs.declared.keyword.Keyword.TheVariants as keyword
 use Rattle.cs_profile.specs.declared.schema.Keywords.{Keywords, the_lemmas}
 use Rattle.cs_profile.specs.declared.schema.Schema.{Schema}
-use Rattle.cs_validate.specs.Shaped.{IsShaped, IsFaultless, AreShaped}
-use Rattle.cs_validate.specs.Asserted.{kind_of, unless_absent, is_kind, is_const, at_least, at_most, is_limited, slot_holds, but_reference, defined_holds}
-use Rattle.cs_validate.proofs.Shapes.{all_of_shaped}
+use Rattle.cs_validate.specs.Placing.{if_direct, inside_of, placed_by, placed_by_members, placed_by_list, placed_by_each, inside_members, left_by, left_by_members, left_by_list, left_by_each}
 
--- the keywords of an object but `$ref`, and those of the profile among them
-abbrev rest_of : Keywords → List Slot
-rest_of k =
-    (codes "additionalProperties", option_map schema_view k.additional)
+pub slots_are : (k : Keywords) → slots_of k ≡
+    (codes "$ref", option_map reference_document k.reference)
+    ∷ (codes "additionalProperties", option_map schema_view k.additional)
     ∷ (codes "allOf", unless_no_list (schemas_view k.all_of.items))
     ∷ (codes "anyOf", unless_no_list (schemas_view k.any_of.items))
     ∷ (codes "const", option_map doc_view k.equal)
@@ -39,142 +35,256 @@ rest_of k =
     ∷ (codes "required", unless_no_list (map text_document k.required.items))
     ∷ (codes "type", option_map (λ j. text (kind_name j)) k.kind)
     ∷ []
-
-pub slots_are : (k : Keywords) → slots_of k ≡ (codes "$ref", option_map reference_document k.reference) ∷ rest_of k
 slots_are k = search (rules, the_lemmas)
 
-abbrev taken : Bool → List Slot → List Slot
-taken root [] = []
-taken root (s ∷ ss) = if is_some (form_at root s.0) then s ∷ taken root ss else taken root ss
+-- what each keyword's value contributes, where some keywords contribute nothing
+module _ {X : Type 0} (part : List ℕ → Document → List X) (speaks : List ℕ → Bool) (silent : (n : List ℕ) (v : Document) → speaks n ≡ false → part n v ≡ []) where
+  abbrev pub slot_part : List ℕ → Option Document → List X
+  slot_part n None = []
+  slot_part n (Some v) = part n v
 
-abbrev taken_of : Keywords → List Slot
-taken_of k =
-    (codes "allOf", unless_no_list (schemas_view k.all_of.items))
-    ∷ (codes "const", option_map doc_view k.equal)
-    ∷ (codes "exclusiveMaximum", option_map integer k.below)
-    ∷ (codes "exclusiveMinimum", option_map integer k.above)
-    ∷ (codes "maximum", option_map integer k.maximum)
-    ∷ (codes "minimum", option_map integer k.minimum)
-    ∷ (codes "type", option_map (λ j. text (kind_name j)) k.kind)
-    ∷ []
+  abbrev pub spoken : List Slot → List X
+  spoken [] = []
+  spoken (s ∷ ss) = if speaks s.0 then slot_part s.0 s.1 ++ spoken ss else spoken ss
 
-are_taken : (root : Bool) (k : Keywords) → taken root (rest_of k) ≡ taken_of k
-are_taken true k = refl
-are_taken false k = refl
+  silent_slot : (n : List ℕ) (o : Option Document) → speaks n ≡ false → slot_part n o ≡ []
+  silent_slot n None h = refl
+  silent_slot n (Some v) h = silent n v h
 
--- a keyword without a row does not stand
-absent : (root : Bool) (k : List ℕ) (o : Option Document) → form_at root k ≡ None → IsFaultless root (k, o) → o ≡ None
-absent root k None e h = refl
-absent root k (Some v) e h = let f = rw e at h.1 in cc
+  -- by a function that gathers what the members contribute
+  module _ (gather : Members → List X) (none : gather no_members ≡ []) (more : (n : List ℕ) (v : Document) (ms : Members) → gather (member n v ms) ≡ part n v ++ gather ms) where
+    one_slot : (n : List ℕ) (o : Option Document) (ss : List Slot) → gather (present ((n, o) ∷ ss)) ≡ slot_part n o ++ gather (present ss)
+    one_slot n None ss = refl
+    one_slot n (Some v) ss = more n v (present ss)
 
-module _ (R : Document) (V : Document → Document → Bool) (beside : List (Entry Document)) (x : Document) where
-  abbrev said : Slot → Bool
-  said = slot_holds R V beside x
+    at_test : (s : Slot) (ss : List Slot) (t : Bool) → speaks s.0 ≡ t → gather (present ss) ≡ spoken ss
+        → (slot_part s.0 s.1 ++ gather (present ss)) ≡ (if t then slot_part s.0 s.1 ++ spoken ss else spoken ss)
+    at_test s ss true q h = ap (λ xs. slot_part s.0 s.1 ++ xs) h
+    at_test s ss false q h = ap₂ (λ xs ys. xs ++ ys) (silent_slot s.0 s.1 q) h
 
-  -- the keywords that stand, and all of them
-  slot-all : (s : Slot) (ss : List Slot) → list_all (λ e. said (e.0, Some e.1)) (entries (present ss)) ≡ list_all said ss → list_all (λ e. said (e.0, Some e.1)) (entries (present (s ∷ ss))) ≡ list_all said (s ∷ ss)
-  slot-all (k, None) ss h = h
-  slot-all (k, Some v) ss h = ap (λ b. said (k, Some v) && b) h
+    pub gathered : (ss : List Slot) → gather (present ss) ≡ spoken ss
+    gathered [] = none
+    gathered (s ∷ ss) = one_slot s.0 s.1 ss ∙ at_test s ss (speaks s.0) refl (gathered ss)
 
-  present-all : (ss : List Slot) → list_all (λ e. said (e.0, Some e.1)) (entries (present ss)) ≡ list_all said ss
-  present-all [] = refl
-  present-all (s ∷ ss) = slot-all s ss (present-all ss)
+-- ---- what the keywords ask of the same document
 
-  -- those of the profile, and all of them
-  by_row : (root : Bool) (s : Slot) (ss : List Slot) → IsFaultless root s → list_all said ss ≡ list_all said (taken root ss) → (r : Option Form) → form_at root s.0 ≡ r
-      → list_all said (s ∷ ss) ≡ list_all said (if is_some r then s ∷ taken root ss else taken root ss)
-  by_row root s ss h rest (Some r) e = ap (λ b. said s && b) rest
-  by_row root s ss h rest None e = ap (λ o. said (s.0, o) && list_all said ss) (absent root s.0 s.1 e h) ∙ rest
+abbrev is_direct : Option Keyword → Bool
+is_direct (Some keyword.Not) = true
+is_direct (Some keyword.AllOf) = true
+is_direct (Some keyword.AnyOf) = true
+is_direct _ = false
 
-  taken-all : (root : Bool) (ss : List Slot) → AreShaped root ss → list_all said ss ≡ list_all said (taken root ss)
-  taken-all root [] h = refl
-  taken-all root (s ∷ ss) h = by_row root s ss h.0 (taken-all root ss h.1) (form_at root s.0) refl
+not_direct : {A : Type 0} (w : Option Keyword) (itself elements : List A) → is_direct w ≡ false → if_direct w itself elements ≡ []
+not_direct (Some keyword.Not) itself elements h = cc
+not_direct (Some keyword.AllOf) itself elements h = cc
+not_direct (Some keyword.AnyOf) itself elements h = cc
+not_direct _ itself elements h = refl
 
-  -- one of them, by what it asserts where it stands
-  mapped : {A : Type 0} (k : List ℕ) (f : A → Document) (p : A → Bool) → ((a : A) → said (k, Some (f a)) ≡ p a) → (o : Option A) → said (k, option_map f o) ≡ unless_absent p o
-  mapped k f p h None = refl
-  mapped k f p h (Some a) = h a
+placed_each : (ds : List Document) → placed_by_each (documents_of ds) ≡ flat_map placed_by ds
+placed_each [] = refl
+placed_each (d ∷ ds) = ap (λ xs. placed_by d ++ xs) (placed_each ds)
 
-  kind-said : (j : JsonKind) → said (codes "type", Some (text (kind_name j))) ≡ is_of_kind (kind_of j) (opened x)
-  kind-said kind.Null = refl
-  kind-said kind.Boolean = refl
-  kind-said kind.Object = refl
-  kind-said kind.Array = refl
-  kind-said kind.Number = refl
-  kind-said kind.String = refl
-  kind-said kind.Integer = refl
+left_each : (ds : List Document) → left_by_each (documents_of ds) ≡ flat_map left_by ds
+left_each [] = refl
+left_each (d ∷ ds) = ap (λ xs. left_by d ++ xs) (left_each ds)
 
-  all-elements : (ss : List Schema) → list_all (λ p. V p x) (elements (documents_of (schemas_view ss))) ≡ list_all (λ s. V (schema_view s) x) ss
-  all-elements [] = refl
-  all-elements (s ∷ ss) = ap (λ b. V (schema_view s) x && b) (all-elements ss)
+-- what the schemas asked of the same document contribute, each by itself
+module _ {X : Type 0} (of : Document → List X) (of_list : Document → List X) (lists : (ds : List Document) → of_list (list (documents_of ds)) ≡ flat_map of ds) where
+  abbrev direct_part : List ℕ → Document → List X
+  direct_part n v = if_direct (under n keywords) (of v) (of_list v)
 
-  all_of-said : (ss : List Schema) → said (codes "allOf", unless_no_list (schemas_view ss)) ≡ list_all (λ s. V (schema_view s) x) ss
-  all_of-said [] = refl
-  all_of-said (s ∷ ss) = all-elements (s ∷ ss)
+  abbrev speaks_directly : List ℕ → Bool
+  speaks_directly n = is_direct (under n keywords)
 
-  pub reference-said : (o : Option (String Global)) → said (codes "$ref", option_map reference_document o) ≡ unless_absent (λ n. defined_holds R V x (string_bytes n)) o
-  reference-said = mapped (codes "$ref") reference_document _ (λ n. refl)
+  direct_silent : (n : List ℕ) (v : Document) → speaks_directly n ≡ false → direct_part n v ≡ []
+  direct_silent n v h = not_direct (under n keywords) (of v) (of_list v) h
 
-  -- the limits hold of what is no number
-  vacuous : (o : Option ℤ) → unless_absent (λ l. true) o ≡ true
-  vacuous None = refl
-  vacuous (Some l) = refl
+  abbrev in_slot : List ℕ → Option Document → List X
+  in_slot = slot_part direct_part speaks_directly direct_silent
 
-  none_limits : (k : Keywords) → ((unless_absent (λ l. true) k.minimum && unless_absent (λ l. true) k.above) && (unless_absent (λ l. true) k.maximum && unless_absent (λ l. true) k.below)) ≡ true
-  none_limits k = ap₂ ◌&&◌ (ap₂ ◌&&◌ (vacuous k.minimum) (vacuous k.above)) (ap₂ ◌&&◌ (vacuous k.maximum) (vacuous k.below))
+  all_part : (ds : List Document) → in_slot (codes "allOf") (unless_no_list ds) ≡ flat_map of ds
+  all_part [] = refl
+  all_part (d ∷ ds) = lists (d ∷ ds)
 
-  limits-said : (k : Keywords) (y : Opened Document)
-      → ((unless_absent (λ l. if_number (λ n. int_le l n) y) k.minimum && unless_absent (λ l. if_number (λ n. int_lt l n) y) k.above)
-      && (unless_absent (λ l. if_number (λ n. int_le n l) y) k.maximum && unless_absent (λ l. if_number (λ n. int_lt n l) y) k.below))
-      ≡ if_number (λ n. at_least k n && at_most k n) y
-  limits-said k (an_integer n) = refl
-  limits-said k a_null = none_limits k
-  limits-said k (a_boolean b) = none_limits k
-  limits-said k (a_text t) = none_limits k
-  limits-said k (a_list ys) = none_limits k
-  limits-said k (an_object ms) = none_limits k
+  any_part : (ds : List Document) → in_slot (codes "anyOf") (unless_no_list ds) ≡ flat_map of ds
+  any_part [] = refl
+  any_part (d ∷ ds) = lists (d ∷ ds)
 
-  regrouped : (all_of equal below above maximum minimum type : Bool)
-      → (all_of && (equal && (below && (above && (maximum && (minimum && (type && true))))))) ≡ (((type && equal) && ((minimum && above) && (maximum && below))) && all_of)
-  regrouped all_of equal below above maximum minimum type = grind arith
+  not_part : (o : Option Document) → in_slot (codes "not") o ++ [] ≡ flat_map of (option_to_list o)
+  not_part None = refl
+  not_part (Some d) = refl
 
-  profile-said : (k : Keywords) → list_all said (taken_of k) ≡ ((is_kind k.kind x && is_const k.equal x && is_limited k x) && list_all (λ s. V (schema_view s) x) k.all_of.items)
-  profile-said k =
-      regrouped (said (codes "allOf", unless_no_list (schemas_view k.all_of.items))) (said (codes "const", option_map doc_view k.equal)) (said (codes "exclusiveMaximum", option_map integer k.below)) (said (codes "exclusiveMinimum", option_map integer k.above))
-      (said (codes "maximum", option_map integer k.maximum)) (said (codes "minimum", option_map integer k.minimum)) (said (codes "type", option_map (λ j. text (kind_name j)) k.kind))
-      ∙ ap₂ ◌&&◌ (ap₂ ◌&&◌ (ap₂ ◌&&◌ (mapped (codes "type") (λ j. text (kind_name j)) _ kind-said k.kind) (mapped (codes "const") doc_view (λ v. document_eq (doc_view v) x) (λ v. refl) k.equal)) (
-      ap₂ ◌&&◌ (ap₂ ◌&&◌ (mapped (codes "minimum") integer _ (λ l. refl) k.minimum) (mapped (codes "exclusiveMinimum") integer _ (λ l. refl) k.above)) (ap₂ ◌&&◌ (mapped (codes "maximum") integer _ (λ l. refl) k.maximum) (mapped (codes "exclusiveMaximum") integer _ (λ l. refl) k.below))
-      ∙ limits-said k (opened x)
-      )) (all_of-said k.all_of.items)
+  direct_parts : (gather : Members → List X) → gather no_members ≡ [] → ((n : List ℕ) (v : Document) (ms : Members) → gather (member n v ms) ≡ direct_part n v ++ gather ms)
+      → (k : Keywords) → gather (present (slots_of k)) ≡ flat_map of (schemas_view k.all_of.items) ++ (flat_map of (schemas_view k.any_of.items) ++ flat_map of (option_to_list (option_map schema_view k.negated)))
+  direct_parts gather none more k =
+      gathered direct_part speaks_directly direct_silent gather none more (slots_of k)
+      ∙ ap (spoken direct_part speaks_directly direct_silent) (slots_are k)
+      ∙ ap₂ (λ xs ys. xs ++ ys) (all_part (schemas_view k.all_of.items))
+      (ap₂ (λ xs ys. xs ++ ys) (any_part (schemas_view k.any_of.items)) (not_part (option_map schema_view k.negated)))
 
-  -- the keywords of the profile, `$ref` aside
-  pub rest-all : (root : Bool) (k : Keywords) → AreShaped root (but_reference (slots_of k))
-      → list_all said (but_reference (slots_of k)) ≡ ((is_kind k.kind x && is_const k.equal x && is_limited k x) && list_all (λ s. V (schema_view s) x) k.all_of.items)
-  rest-all root k h =
-      taken-all root (but_reference (slots_of k)) h
-      ∙ ap (λ ss. list_all said (taken root (but_reference ss))) (slots_are k)
-      ∙ ap (list_all said) (are_taken root k)
-      ∙ profile-said k
+pub placed_members_are : (k : Keywords) → placed_by_members (present (slots_of k)) ≡ flat_map placed_by (schemas_view k.all_of.items) ++ (flat_map placed_by (schemas_view k.any_of.items) ++ flat_map placed_by (option_to_list (option_map schema_view k.negated)))
+placed_members_are k = direct_parts placed_by placed_by_list placed_each placed_by_members refl (λ n v ms. refl) k
 
--- an object is valid where what each of its keywords asserts holds
-pub object-valid : (R : Document) (V : Document → Document → Bool) → IsValidity R V → (x : Document) (ss : List Slot) → V (object (present ss)) x ≡ list_all (slot_holds R V (entries (present ss)) x) ss
-object-valid R V h x ss =
-    let beside = entries (present ss) in
-    h (object (present ss)) x ∙ list_all-map (λ a. holds (λ p. V p x) (λ y p. V p y) a x (opened x)) (assertion_at R beside) beside ∙ present-all R V beside x ss
+pub left_members_are : (k : Keywords) → left_by_members (present (slots_of k)) ≡ flat_map left_by (schemas_view k.all_of.items) ++ (flat_map left_by (schemas_view k.any_of.items) ++ flat_map left_by (option_to_list (option_map schema_view k.negated)))
+left_members_are k = direct_parts left_by left_by_list left_each left_by_members refl (λ n v ms. refl) k
 
--- below the root there is no `$ref`
-pub below-valid : (R : Document) (V : Document → Document → Bool) → IsValidity R V → (x : Document) (k : Keywords) → AreShaped false (slots_of k)
-    → V (object (present (slots_of k))) x ≡ list_all (slot_holds R V (entries (present (slots_of k))) x) (but_reference (slots_of k))
-below-valid R V h x k shaped =
-    let beside = entries (present (slots_of k)) in
-    let o = option_map reference_document k.reference in
-    let P : List Slot → Type 0 = λ ss. list_all (slot_holds R V beside x) ss ≡ list_all (slot_holds R V beside x) (but_reference ss) in
-    let g : AreShaped false ((codes "$ref", o) ∷ rest_of k) = subst (AreShaped false) (slots_are k) shaped in
-    let none : o ≡ None = absent false (codes "$ref") o refl g.0 in
-    object-valid R V h x (slots_of k)
-    ∙ subst P (sym (slots_are k)) (ap (λ r. slot_holds R V beside x (codes "$ref", r) && list_all (slot_holds R V beside x) (rest_of k)) none)
+-- ---- the names that the keywords refer to directly
 
-pub all_of-shaped : (root : Bool) (k : Keywords) → AreShaped root (but_reference (slots_of k)) → All (λ s. IsShaped (schema_view s)) k.all_of.items
-all_of-shaped root k h =
-    let g : AreShaped root (rest_of k) = subst (λ ss. AreShaped root (but_reference ss)) (slots_are k) h in
-    all_of_shaped root k.all_of.items (g.1.0, tt)
+abbrev refers : Option Keyword → Bool
+refers (Some keyword.Ref) = true
+refers (Some keyword.Not) = true
+refers (Some keyword.AllOf) = true
+refers (Some keyword.AnyOf) = true
+refers _ = false
+
+not_referring : (w : Option Keyword) (names : ByReach) → refers w ≡ false → by_keyword w names ≡ []
+not_referring (Some keyword.Ref) names h = cc
+not_referring (Some keyword.Not) names h = cc
+not_referring (Some keyword.AllOf) names h = cc
+not_referring (Some keyword.AnyOf) names h = cc
+not_referring _ names h = refl
+
+abbrev name_part : List ℕ → Document → List (List ℕ)
+name_part n v = by_keyword (under n keywords) (value_names v)
+
+abbrev names_some : List ℕ → Bool
+names_some n = refers (under n keywords)
+
+name_silent : (n : List ℕ) (v : Document) → names_some n ≡ false → name_part n v ≡ []
+name_silent n v h = not_referring (under n keywords) (value_names v) h
+
+abbrev names_in_slot : List ℕ → Option Document → List (List ℕ)
+names_in_slot = slot_part name_part names_some name_silent
+
+reference_part : (o : Option (String Global)) → names_in_slot (codes "$ref") (option_map reference_document o) ≡ reference_names o
+reference_part None = refl
+reference_part (Some s) = refl
+
+names_each : (ss : List Schema) → each_names (documents_of (schemas_view ss)) ≡ names_of_each ss
+names_each [] = refl
+names_each (s ∷ ss) = ap (λ ns. direct_names (schema_view s) ++ ns) (names_each ss)
+
+all_names : (ss : List Schema) → names_in_slot (codes "allOf") (unless_no_list (schemas_view ss)) ≡ names_of_each ss
+all_names [] = refl
+all_names (s ∷ ss) = names_each (s ∷ ss)
+
+any_names : (ss : List Schema) → names_in_slot (codes "anyOf") (unless_no_list (schemas_view ss)) ≡ names_of_each ss
+any_names [] = refl
+any_names (s ∷ ss) = names_each (s ∷ ss)
+
+not_names : (o : Option Document) → names_in_slot (codes "not") o ++ [] ≡ flat_map direct_names (option_to_list o)
+not_names None = refl
+not_names (Some d) = refl
+
+pub names_are : (k : Keywords) → keyword_names (present (slots_of k)) ≡ reference_names k.reference ++ (names_of_each k.all_of.items ++ (names_of_each k.any_of.items ++ flat_map direct_names (option_to_list (option_map schema_view k.negated))))
+names_are k =
+    gathered name_part names_some name_silent keyword_names refl (λ n v ms. refl) (slots_of k)
+    ∙ ap (spoken name_part names_some name_silent) (slots_are k)
+    ∙ ap₂ (λ xs ys. xs ++ ys) (reference_part k.reference)
+    (ap₂ (λ xs ys. xs ++ ys) (all_names k.all_of.items) (ap₂ (λ xs ys. xs ++ ys) (any_names k.any_of.items) (not_names (option_map schema_view k.negated))))
+
+-- ---- what the keywords ask of documents inside
+
+abbrev goes_inside : Option Keyword → Bool
+goes_inside (Some keyword.AdditionalProperties) = true
+goes_inside (Some keyword.Items) = true
+goes_inside (Some keyword.PrefixItems) = true
+goes_inside (Some keyword.Properties) = true
+goes_inside _ = false
+
+stays_outside : (w : Option Keyword) (v : Document) → goes_inside w ≡ false → inside_of w v ≡ []
+stays_outside (Some keyword.AdditionalProperties) v h = cc
+stays_outside (Some keyword.Items) v h = cc
+stays_outside (Some keyword.PrefixItems) v h = cc
+stays_outside (Some keyword.Properties) v h = cc
+stays_outside _ v h = refl
+
+abbrev inner_part : List ℕ → Document → List Document
+inner_part n v = inside_of (under n keywords) v
+
+abbrev asks_inside : List ℕ → Bool
+asks_inside n = goes_inside (under n keywords)
+
+inner_silent : (n : List ℕ) (v : Document) → asks_inside n ≡ false → inner_part n v ≡ []
+inner_silent n v h = stays_outside (under n keywords) v h
+
+abbrev inside_slot : List ℕ → Option Document → List Document
+inside_slot = slot_part inner_part asks_inside inner_silent
+
+pub elements_back : (ds : List Document) → elements (documents_of ds) ≡ ds
+elements_back [] = refl
+elements_back (d ∷ ds) = ap (λ r. d ∷ r) (elements_back ds)
+
+additional_part : (o : Option Document) → inside_slot (codes "additionalProperties") o ≡ option_to_list o
+additional_part None = refl
+additional_part (Some d) = refl
+
+items_part : (o : Option Document) → inside_slot (codes "items") o ≡ option_to_list o
+items_part None = refl
+items_part (Some d) = refl
+
+prefix_part : (ds : List Document) → inside_slot (codes "prefixItems") (unless_no_list ds) ≡ ds
+prefix_part [] = refl
+prefix_part (d ∷ ds) = elements_back (d ∷ ds)
+
+values_back : (es : List (String Global × Schema)) → map (λ e. e.1) (entries (members_of (definitions_view es))) ≡ map (λ e. schema_view e.1) es
+values_back [] = refl
+values_back (e ∷ es) = ap (λ r. schema_view e.1 ∷ r) (values_back es)
+
+properties_part : (es : List (String Global × Schema)) → inside_slot (codes "properties") (unless_no_map (definitions_view es)) ++ [] ≡ map (λ e. schema_view e.1) es
+properties_part [] = refl
+properties_part (e ∷ es) = append-nil (map (λ e. e.1) (entries (members_of (definitions_view (e ∷ es))))) ∙ values_back (e ∷ es)
+
+pub inside_members_are : (k : Keywords) → inside_members (present (slots_of k)) ≡ option_to_list (option_map schema_view k.additional) ++ (option_to_list (option_map schema_view k.rest) ++ (schemas_view k.prefix.items ++ map (λ e. schema_view e.1) k.properties.entries))
+inside_members_are k =
+    gathered inner_part asks_inside inner_silent inside_members refl (λ n v ms. refl) (slots_of k)
+    ∙ ap (spoken inner_part asks_inside inner_silent) (slots_are k)
+    ∙ ap₂ (λ xs ys. xs ++ ys) (additional_part (option_map schema_view k.additional))
+    (ap₂ (λ xs ys. xs ++ ys) (items_part (option_map schema_view k.rest))
+    (ap₂ (λ xs ys. xs ++ ys) (prefix_part (schemas_view k.prefix.items)) (properties_part k.properties.entries)))
+
+-- ---- what a keyword sees of those beside it
+
+abbrev property_part : List ℕ → Document → List (Entry Document)
+property_part n v = if bytes_eq (codes "properties") n then entries_of v else []
+
+property_silent : (n : List ℕ) (v : Document) → bytes_eq (codes "properties") n ≡ false → property_part n v ≡ []
+property_silent n v h = rw h refl
+
+names_back : (es : List (String Global × Schema)) → map (λ e. e.0) (entries (members_of (definitions_view es))) ≡ names_in es
+names_back [] = refl
+names_back (e ∷ es) = ap (λ r. string_bytes e.0 ∷ r) (names_back es)
+
+property_names : (es : List (String Global × Schema)) → map (λ e. e.0) (slot_part property_part (bytes_eq (codes "properties")) property_silent (codes "properties") (unless_no_map (definitions_view es)) ++ []) ≡ names_in es
+property_names [] = refl
+property_names (e ∷ es) = ap (map (λ e. e.0)) (append-nil (entries (members_of (definitions_view (e ∷ es))))) ∙ names_back (e ∷ es)
+
+pub names_beside : (k : Keywords) → map (λ e. e.0) (listed_under (codes "properties") (entries (present (slots_of k)))) ≡ names_in k.properties.entries
+names_beside k =
+    ap (map (λ e. e.0)) (gathered property_part (bytes_eq (codes "properties")) property_silent (λ ms. listed_under (codes "properties") (entries ms)) refl (λ n v ms. refl) (slots_of k)
+    ∙ ap (spoken property_part (bytes_eq (codes "properties")) property_silent) (slots_are k))
+    ∙ property_names k.properties.entries
+
+abbrev taken_in : Option Document → ℕ → ℕ
+taken_in None n = n
+taken_in (Some v) n = max (length (elements_of v)) n
+
+abbrev taken : List Slot → ℕ
+taken [] = 0
+taken (s ∷ ss) = if bytes_eq (codes "prefixItems") s.0 then taken_in s.1 (taken ss) else taken ss
+
+either_way : (t : Bool) (n m : ℕ) → n ≡ m → n ≡ (if t then m else m)
+either_way true n m h = h
+either_way false n m h = h
+
+taken_are : (ss : List Slot) → places_taken (entries (present ss)) ≡ taken ss
+taken_are [] = refl
+taken_are ((n, None) ∷ ss) = either_way (bytes_eq (codes "prefixItems") n) _ _ (taken_are ss)
+taken_are ((n, Some v) ∷ ss) = ap (λ t. if bytes_eq (codes "prefixItems") n then max (length (elements_of v)) t else t) (taken_are ss)
+
+taken_by : (ds : List Document) → taken_in (unless_no_list ds) 0 ≡ length ds
+taken_by [] = refl
+taken_by (d ∷ ds) = ap (λ r. max (length r) 0) (elements_back (d ∷ ds)) ∙ omega arith
+
+pub places_beside : (k : Keywords) → places_taken (entries (present (slots_of k))) ≡ length k.prefix.items
+places_beside k = taken_are (slots_of k) ∙ ap taken (slots_are k) ∙ taken_by (schemas_view k.prefix.items) ∙ length-map k.prefix.items schema_view

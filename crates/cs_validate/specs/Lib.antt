@@ -1,3 +1,13 @@
+pub mod Numbering
+pub mod Rules
+pub mod Judging
+pub mod Refusal
 -- for contracts of private functions and proofs alone
-pub mod Shaped
-pub mod Asserted
+pub mod Steps
+pub mod Asked
+pub mod Props
+pub mod Looks
+pub mod Placing
+pub mod Ranked
+pub mod Rooted
+pub mod Faults

@@ -1,3 +1,5 @@
+use cs_table::TableFault;
+use std::alloc::AllocError;
 use thiserror::Error;
 
 /// Why a document can't be judged.
@@ -6,4 +8,32 @@ pub enum ValidateFault {
     /// Memory ran out.
     #[error("out of memory")]
     OutOfMemory,
+    /// The values of the document and the schemas make more than 67,108,864 pairs.
+    #[error("there are more than 67,108,864 pairs of a value and a schema")]
+    TooManyPairs,
+}
+
+impl From<AllocError> for ValidateFault {
+    ghost use Rattle.std.specs.Prelude.{◌≡◌};
+    ghost use Rattle.cs_validate.specs.declared.fault.ValidateFault.TheVariants.{OutOfMemory};
+
+    ghost from_gives = { λ _ e. e ≡ OutOfMemory };
+
+    fn from(_refused: AllocError) -> ValidateFault {
+        ValidateFault::OutOfMemory
+    }
+}
+
+impl From<TableFault> for ValidateFault {
+    ghost use Rattle.std.specs.Prelude.{◌≡◌};
+    ghost use Rattle.cs_validate.specs.Faults.{fault_of};
+
+    ghost from_gives = { λ e f. f ≡ fault_of e };
+
+    fn from(fault: TableFault) -> ValidateFault {
+        match fault {
+            TableFault::OutOfMemory => ValidateFault::OutOfMemory,
+            TableFault::TooManyPairs => ValidateFault::TooManyPairs,
+        }
+    }
 }

@@ -1,9 +1,18 @@
 // Whether a document is valid against a schema.
 #![tactic(auto)]
 
+mod definitions;
 mod fault;
-mod keywords;
-mod validity;
+mod inner;
+mod judge;
+mod judging;
+mod numbering;
+mod rooted;
+mod rules;
+mod steps;
+mod values;
+mod waiting;
 
 pub use fault::ValidateFault;
-pub use validity::is_valid;
+pub use judge::ValidJudge;
+pub use judging::{is_valid, valid_judge, valid_table};

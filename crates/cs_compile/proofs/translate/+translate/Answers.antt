@@ -1,55 +1,114 @@
-use Rattle.std.specs.Prelude.{codes}
-use Rattle.std.proofs.Common.{◌≡◌, map, Some, w64, sym, ap, ◌∙◌, subst, rules, arith}
-use Rattle.std.proofs.lemmas.Grind.{common_steps}
-use Rattle.std.proofs.lemmas.List.{take_all}
+use Rattle.std.proofs.Common.{◌≡◌, [], ◌∷◌, ◌++◌, map, take, length, true, rules, sym, ap, ap₂, ◌∙◌, subst}
+use Rattle.std.proofs.lemmas.Bool.{and_parts}
+use Rattle.std.proofs.lemmas.Simd.{map-map}
+use Rattle.std.specs.List.{list_all}
 use Rattle.std.specs.Result.{IfOk}
-use mir.Val.{to_z, of_z}
-use Rattle.cs_document.specs.Document.{integer, text, object, member, no_members}
+use Rattle.cs_document.specs.Document.{object}
 use Rattle.cs_document.specs.View.{documents_of}
-use Rattle.cs_document.proofs.Views.{view-Int}
+use Rattle.cs_document.proofs.Maps.{take_at, map_more}
 use Rattle.cs_package.specs.Expression as cue
-use Rattle.cs_package.specs.View.{expression_of, expressions_of, kind_of}
-use Rattle.cs_package.specs.declared.shape.Shape.{the_lemmas}
-use Rattle.cs_instance.specs.Exportable.{AllExportable}
-use Rattle.cs_instance.proofs.Exportable.{and-exportable, exportable-at}
-use Rattle.cs_profile.specs.SchemaDocument.{schema_view, schemas_view, kind_name, unless_no_list}
-use Rattle.cs_compile.specs.Translation.{schema_of, all_of, body_schemas, of_type}
-use Rattle.cs_compile.proofs.Slots.{made_of_one, all_of-slots, documents_of-body_schemas, schemas_of-expressions_of, map_of_map}
+use Rattle.cs_package.specs.Environment.{declared_names}
+use Rattle.cs_package.specs.View.{expression_of, expressions_of, is_known, is_known_part, part_of, mark_of, rest_of}
+use Rattle.cs_package.proofs.Views.{of-Definition, of-And, of-Or, of-Struct, of-List, known-And, known-Or, known-Struct, known-List}
+use Rattle.cs_package.specs.declared.shape.Shape.{Shape, the_lemmas}
+use Rattle.cs_profile.specs.SchemaDocument.{schema_view, schemas_view, definitions_view}
+use Rattle.cs_compile.specs.Grouped.{declared, with_schema, declarations_at, IsGrouped}
+use Rattle.cs_compile.specs.Translation.{schema_of, schemas_of, rest_schema, all_of, any_of, list_schema, properties_of, required_of}
+use Rattle.cs_compile.proofs.Grouped.{joined_is}
+use Rattle.cs_compile.proofs.Parts.{declarations-more, named_at, no_groups, struct_is}
+use Rattle.cs_compile.proofs.Slots.{operands_seen}
 use Rattle.cs_compile.proofs.translate.+translate.Goals as goal
 
-pub schema_of-returns-in-Int : goal.schema_of-returns-in-Int
-schema_of-returns-in-Int t c = λ ns.
-    let seen : expression_of ns c.args.shape.now ≡ cue.atom (cue.integer c.in-Int.n) = rw c.in-Int.is (search (rules, the_lemmas)) in
-    let back : to_z w64 (of_z w64 c.in-Int.n) ≡ c.in-Int.n = search rules in
-    rw seen (made_of_one c.object.result c.empty.result c.set.result (codes "const") _ _ c.empty.ensures c.set.ensures (ap (λ d. member (codes "const") d no_members) (view-Int _ ∙ ap integer back)) c.object.ensures)
+-- ---- what stands inside is known
 
-pub schema_of-returns-in-Kind : goal.schema_of-returns-in-Kind
-schema_of-returns-in-Kind t c = λ ns.
-    let seen : expression_of ns c.args.shape.now ≡ cue.kind (kind_of c.in-Kind.kind) = rw c.in-Kind.is (search (rules, the_lemmas)) in
-    rw seen (made_of_one c.object-in-Kind.result c.empty-in-Kind.result c.set-in-Kind.result (codes "type") (Some (text (kind_name c.json_kind.result))) _ c.empty-in-Kind.ensures c.set-in-Kind.ensures (ap (λ n. of_type n) c.json_kind.ensures) c.object-in-Kind.ensures)
+pub schema_of-schemas_of-requires : goal.schema_of-schemas_of-requires
+schema_of-schemas_of-requires t c =
+    let n = length c.args.package.now in
+    (search (rules, the_lemmas), subst (λ xs. list_all (is_known n) xs ≡ true) (sym c.deref-in-And.ensures.value) (sym (known-And n c.in-And.operands) ∙ ap (is_known n) (sym c.in-And.is) ∙ c.requires))
 
-pub schema_of-all_of-requires : goal.schema_of-all_of-requires
-schema_of-all_of-requires t c =
-    let ns = c.requires.0 in
-    (search (rules, the_lemmas), (ns, subst (λ ss. AllExportable (map (expression_of ns) ss)) (sym c.deref.ensures.value) (and-exportable ns c.args.shape.now c.in-And.operands c.in-And.is c.requires.1)))
+pub schema_of-schemas_of-requires-in-Or : goal.schema_of-schemas_of-requires-in-Or
+schema_of-schemas_of-requires-in-Or t c =
+    let n = length c.args.package.now in
+    (search (rules, the_lemmas), subst (λ xs. list_all (is_known n) xs ≡ true) (sym c.deref-in-Or.ensures.value) (sym (known-Or n c.in-Or.operands) ∙ ap (is_known n) (sym c.in-Or.is) ∙ c.requires))
 
-pub schema_of-returns-in-And : goal.schema_of-returns-in-And
-schema_of-returns-in-And t c = λ ns.
-    let seen : expression_of ns c.args.shape.now ≡ cue.conjunction (expressions_of (map (expression_of ns) c.in-And.operands.items)) = rw c.in-And.is (search (rules, the_lemmas)) in
-    rw (seen, schemas_of-expressions_of) (subst (λ xs. IfOk c.all_of.result (λ s. schema_view s ≡ object (all_of (body_schemas (map (expression_of ns) xs))))) c.deref.ensures.value (c.all_of.ensures ns))
+pub schema_of-groups_of-requires : goal.schema_of-groups_of-requires
+schema_of-groups_of-requires t c =
+    let n = length c.args.package.now in
+    (search (rules, the_lemmas), subst (λ xs. list_all (is_known_part n) xs ≡ true) (sym c.deref-in-Struct.ensures.value) (sym (known-Struct n c.in-Struct.parts c.in-Struct.opened) ∙ ap (is_known n) (sym c.in-Struct.is) ∙ c.requires))
 
-pub all_of-schema_of-requires : goal.all_of-schema_of-requires
-all_of-schema_of-requires t c =
-    let ns = c.requires.0 in
-    (search (rules, the_lemmas), (ns, exportable-at ns c.args.operands.now c.loop-operand.operand-index c.operand-item.result c.loop-operand-test.true c.operand-item.is c.requires.1))
+pub schema_of-schemas_of-requires-in-List : goal.schema_of-schemas_of-requires-in-List
+schema_of-schemas_of-requires-in-List t c =
+    let n = length c.args.package.now in
+    let parts = and_parts _ _ (sym (known-List n c.in-List.front c.in-List.end) ∙ ap (is_known n) (sym c.in-List.is) ∙ c.requires) in
+    (search (rules, the_lemmas), subst (λ xs. list_all (is_known n) xs ≡ true) (sym c.deref-in-List.ensures.value) parts.0)
 
-pub all_of-loop-operand-preserved : goal.all_of-loop-operand-preserved
-all_of-loop-operand-preserved t c = λ ns. grind (arith, common_steps, c.loop-operand.invariant ns, c.in_ok-schema_of.ensures ns)
+-- ---- the schema of each form with parts
 
-pub all_of-returns : goal.all_of-returns
-all_of-returns t c = λ ns.
-    let l = c.loop-operand in
-    let xs = c.args.operands.now in
-    let whole : documents_of (map schema_view l.members.items) ≡ body_schemas (map (expression_of ns) xs) =
-    documents_of-body_schemas l.members.items (map (expression_of ns) xs) (l.invariant ns ∙ ap (map (λ s. schema_of (expression_of ns s))) (take_all l.operand-index xs c.loop-operand-test.false) ∙ map_of_map schema_of (expression_of ns) xs) in
-    made_of_one c.object.result c.empty.result c.set.result (codes "allOf") (unless_no_list (schemas_view l.members.items)) _ c.empty.ensures c.set.ensures (all_of-slots (schemas_view l.members.items) ∙ ap all_of whole) c.object.ensures
+pub schema_of-returns-in-Definition : goal.schema_of-returns-in-Definition
+schema_of-returns-in-Definition t c =
+    let E = c.args.package.now in
+    let i = c.in-Definition.number in
+    let seen : expression_of (declared_names E) c.args.shape.now ≡ cue.reference c.bare_name.result.now =
+    ap (expression_of (declared_names E)) c.in-Definition.is ∙ of-Definition (declared_names E) i ∙ ap (λ n. cue.reference n) (named_at E i _ c.bare_name.ensures.at) in
+    rw seen c.reference.ensures
+
+pub schema_of-returns-in_ok-schemas_of-in-And : goal.schema_of-returns-in_ok-schemas_of-in-And
+schema_of-returns-in_ok-schemas_of-in-And t c =
+    let view = expression_of (declared_names c.args.package.now) in
+    let seen = ap view c.in-And.is ∙ of-And (declared_names c.args.package.now) c.in-And.operands in
+    let made = operands_seen view _ _ c.in_ok-schemas_of-in-And.ensures ∙ ap (λ xs. schemas_of (expressions_of (map view xs))) c.deref-in-And.ensures.value in
+    rw seen (subst (λ ds. IfOk c.all_of.result (λ s. schema_view s ≡ object (all_of ds))) made c.all_of.ensures)
+
+pub schema_of-returns-in_ok-schemas_of-in-Or : goal.schema_of-returns-in_ok-schemas_of-in-Or
+schema_of-returns-in_ok-schemas_of-in-Or t c =
+    let view = expression_of (declared_names c.args.package.now) in
+    let seen = ap view c.in-Or.is ∙ of-Or (declared_names c.args.package.now) c.in-Or.operands in
+    let made = operands_seen view _ _ c.in_ok-schemas_of-in-Or.ensures ∙ ap (λ xs. schemas_of (expressions_of (map view xs))) c.deref-in-Or.ensures.value in
+    rw seen (subst (λ ds. IfOk c.any_of.result (λ s. schema_view s ≡ any_of ds)) made c.any_of.ensures)
+
+pub schema_of-returns-in_ok-required-in-Struct : goal.schema_of-returns-in_ok-required-in-Struct
+schema_of-returns-in_ok-required-in-Struct t c =
+    let ns = declared_names c.args.package.now in
+    let ps = c.in-Struct.parts.items in
+    let seen = ap (expression_of ns) c.in-Struct.is ∙ of-Struct ns c.in-Struct.parts c.in-Struct.opened in
+    let grouped : IsGrouped (declarations_at ns ps) c.in_ok-groups_of-in-Struct.field-0 = subst (λ xs. IsGrouped (declarations_at ns xs) c.in_ok-groups_of-in-Struct.field-0) c.deref-in-Struct.ensures.value c.in_ok-groups_of-in-Struct.ensures in
+    let both = sym (map-map with_schema (part_of ns) ps) in
+    rw seen (struct_is c.struct_schema.result (map (part_of ns) ps) c.in-Struct.opened (definitions_view c.in_ok-properties-in-Struct.properties.entries) c.in_ok-required-in-Struct.field-0.items
+    (c.in_ok-properties-in-Struct.ensures ∙ joined_is _ _ grouped ∙ ap properties_of both)
+    (c.in_ok-required-in-Struct.ensures ns ∙ ap (λ xs. required_of (declarations_at ns xs)) c.deref-in-Struct-2.ensures.value ∙ ap required_of both)
+    c.struct_schema.ensures)
+
+pub schema_of-returns-in_ok-rest_of-in-List : goal.schema_of-returns-in_ok-rest_of-in-List
+schema_of-returns-in_ok-rest_of-in-List t c =
+    let ns = declared_names c.args.package.now in
+    let view = expression_of ns in
+    let seen = ap view c.in-List.is ∙ of-List ns c.in-List.front c.in-List.end in
+    let front = operands_seen view _ _ c.in_ok-front-in-List.ensures ∙ ap (λ xs. schemas_of (expressions_of (map view xs))) c.deref-in-List.ensures.value in
+    let end = rest_of ns c.in-List.end in
+    rw seen (subst (λ ds. IfOk c.list_schema.result (λ s. schema_view s ≡ list_schema ds (rest_schema end))) front
+    (subst (λ o. IfOk c.list_schema.result (λ s. schema_view s ≡ list_schema (documents_of (schemas_view c.in_ok-front-in-List.front.items)) o)) c.in_ok-rest_of-in-List.ensures c.list_schema.ensures))
+
+-- ---- one more
+
+pub groups_of-loop-part-init : goal.groups_of-loop-part-init
+groups_of-loop-part-init t c = no_groups c.new-groups.result c.new-groups.ensures.empty c.new-groups.ensures.ordered
+
+pub groups_of-loop-part-preserved : goal.groups_of-loop-part-preserved
+groups_of-loop-part-preserved t c =
+    let ns = declared_names c.args.package.now in
+    let ps = c.args.parts.now in
+    let i = c.loop-part.part-index in
+    let p = c.part-item.result in
+    let old = declarations_at ns (take i ps) in
+    let more = ap₂ (λ l d. old ++ declared l (mark_of p.mark) d ∷ []) c.deref.ensures c.in_ok-value.ensures ∙ sym (declarations-more ns ps i p c.loop-part-test.true c.part-item.is) in
+    subst (λ ds. IsGrouped ds c.add_value.new.groups) more (c.in_ok-add_value.ensures old (mark_of p.mark) c.loop-part.invariant)
+
+pub schemas_of-loop-shape-preserved : goal.schemas_of-loop-shape-preserved
+schemas_of-loop-shape-preserved t c =
+    let l = c.loop-shape in
+    let xs = c.args.shapes.now in
+    let x = c.shape-item.result in
+    let made = λ (s : Shape). schema_of (expression_of (declared_names c.args.package.now) s) in
+    ap schemas_view c.in_ok-push.ensures.items
+    ∙ map_more schema_view made l.schemas.items (take l.shape-index xs) c.in_ok-schema_of.field-0 x l.invariant c.in_ok-schema_of.ensures
+    ∙ ap (map made) (sym (take_at xs l.shape-index x c.loop-shape-test.true c.shape-item.is))

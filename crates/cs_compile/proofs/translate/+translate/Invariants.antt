@@ -1,9 +1,13 @@
-use Rattle.std.proofs.Common.{◌≡◌, ℕ, List, map, take}
+use Rattle.std.proofs.Common.{◌≡◌, map, take}
+use Rattle.cs_package.specs.Environment.{declared_names}
 use Rattle.cs_package.specs.View.{expression_of}
-use Rattle.cs_profile.specs.SchemaDocument.{schema_view}
+use Rattle.cs_profile.specs.SchemaDocument.{schemas_view}
+use Rattle.cs_compile.specs.Grouped.{declarations_at, IsGrouped}
 use Rattle.cs_compile.specs.Translation.{schema_of}
 use Rattle.cs_compile.proofs.translate.+translate.Given as goal
 
-abbrev pub invariant-all_of-loop-operand : goal.invariant-all_of-loop-operand
-invariant-all_of-loop-operand l =
-    (ns : List (List ℕ)) → map schema_view l.members.items ≡ map (λ s. schema_of (expression_of ns s)) (take l.operand-index l.operands)
+abbrev pub invariant-schemas_of-loop-shape : goal.invariant-schemas_of-loop-shape
+invariant-schemas_of-loop-shape l = schemas_view l.schemas.items ≡ map (λ s. schema_of (expression_of (declared_names l.package) s)) (take l.shape-index l.shapes)
+
+abbrev pub invariant-groups_of-loop-part : goal.invariant-groups_of-loop-part
+invariant-groups_of-loop-part l = IsGrouped (declarations_at (declared_names l.package) (take l.part-index l.parts)) l.groups

@@ -2,11 +2,11 @@ use Rattle.std.proofs.Common.{◌≡◌, ℕ, List, Bor, map, inl, inr, sym, sub
 use Rattle.std.proofs.lemmas.Result.{err_from_is_err_and}
 use Rattle.cs_package.specs.Environment.{Environment, Names}
 use Rattle.cs_instance.specs.Rules.{HasManyPairs}
-use Rattle.cs_tool.specs.Accepted.{DeclaresRoot, SourcesFault, IsReadyToExport, FirstOfExport}
+use Rattle.cs_tool.specs.Accepted.{DeclaresRoot, SourcesFault, IsReady, First}
 use Rattle.cs_tool.specs.Headline.{IsAgreement, IsValidated, ExportRefusal, AgreeRefusal, ValidateRefusal, VerdictRefusal}
 use Rattle.cs_tool.specs.declared.fault.Fault.{Fault}
-use Rattle.cs_tool.specs.declared.fault.Fault.TheVariants.{OutOfMemory, LeftOut, UnknownRoot, NotJson, NotInteger, TooManyPairs}
-use Rattle.cs_tool.proofs.SchemaTexts.{refused, answered, is_ready, same_answer, agreement}
+use Rattle.cs_tool.specs.declared.fault.Fault.TheVariants.{OutOfMemory, UnknownRoot, NotJson, NotInteger, TooManyPairs}
+use Rattle.cs_tool.proofs.SchemaTexts.{refused, answered, is_ready, is_ready_to_validate, same_answer, agreement}
 use Rattle.cs_tool.proofs.calls.agree.Goals.{then-is_instance, else-is_instance}
 use Rattle.cs_tool.proofs.calls.agree.Goals as goal
 
@@ -14,26 +14,31 @@ abbrev now : Bor (List ℕ) → List ℕ
 now s = s.now
 
 module _ (sources : List (List ℕ)) (root text : List ℕ) where
-  not_first : (f : Fault) → ¬ (SourcesFault sources f) → ¬ (f ≡ LeftOut 0 0) → ¬ (f ≡ UnknownRoot) → FirstOfExport sources root f → ⊥
-  not_first f source form unknown (inl (inl h)) = source h
-  not_first f source form unknown (inl (inr h)) = form h.0
-  not_first f source form unknown (inr h) = unknown h.0
+  not_first : (f : Fault) → ¬ (SourcesFault sources f) → ¬ (f ≡ UnknownRoot) → First sources root f → ⊥
+  not_first f source unknown (inl h) = source h
+  not_first f source unknown (inr h) = unknown h.0
 
   -- what refuses the export refuses the call
   by_export : (e : Fault) → ExportRefusal sources root e → AgreeRefusal sources root text e
   by_export OutOfMemory h = tt
-  by_export NotJson h = absurd (not_first NotJson (λ x. x) (λ is. cc) (λ is. cc) h)
-  by_export NotInteger h = absurd (not_first NotInteger (λ x. x) (λ is. cc) (λ is. cc) h)
-  by_export TooManyPairs h = absurd (not_first TooManyPairs (λ x. x) (λ is. cc) (λ is. cc) h)
+  by_export NotJson h = absurd (not_first NotJson (λ x. x) (λ is. cc) h)
+  by_export NotInteger h = absurd (not_first NotInteger (λ x. x) (λ is. cc) h)
+  by_export TooManyPairs h = absurd (not_first TooManyPairs (λ x. x) (λ is. cc) h)
   by_export _ h = h
 
   -- what refuses the verdict refuses the call
-  by_verdict : IsReadyToExport sources root → (E : Environment) (n : List ℕ) → DeclaresRoot sources root E n → (e : Fault) → VerdictRefusal E n text e → AgreeRefusal sources root text e
+  by_verdict : IsReady sources root → (E : Environment) (n : List ℕ) → DeclaresRoot sources root E n → (e : Fault) → VerdictRefusal E n text e → AgreeRefusal sources root text e
   by_verdict ready E n declares OutOfMemory h = tt
   by_verdict ready E n declares NotJson h = (ready, h)
   by_verdict ready E n declares NotInteger h = (ready, h)
-  by_verdict ready E n declares TooManyPairs h = (ready, record { environment = E; name = n; declares = declares; document = h.0; read = h.1; many = h.2 })
+  by_verdict ready E n declares TooManyPairs h = (ready, inl (record { environment = E; name = n; declares = declares; document = h.0; read = h.1; many = h.2 }))
   by_verdict ready E n declares _ h = absurd h
+
+pub returns-in_err-guarded-clause-only : goal.returns-in_err-guarded-clause-only
+returns-in_err-guarded-clause-only c = λ ready.
+    let r = ready.vetted in
+    let p = err_from_is_err_and c.from_residual.result c.from_residual.ensures.1 in
+    rw (p.1, p.2) (c.in_err-guarded.ensures.only r.environment r.declares.accepted)
 
 pub returns-in_err-schema-clause-refused : goal.returns-in_err-schema-clause-refused
 returns-in_err-schema-clause-refused c =
@@ -43,10 +48,10 @@ returns-in_err-schema-clause-refused c =
 
 pub returns-in_err-schema-clause-only : goal.returns-in_err-schema-clause-only
 returns-in_err-schema-clause-only c = λ ready.
-    let r = ready.exported in
-    let same = sym (c.in_ok-guarded.ensures.unique r.0 r.2.accepted) in
+    let r = ready.vetted in
+    let same = sym (c.in_ok-guarded.ensures.unique r.environment r.declares.accepted) in
     let p = err_from_is_err_and c.from_residual-in_err-schema.result c.from_residual-in_err-schema.ensures.1 in
-    rw (p.1, p.2) (c.in_err-schema.ensures.only r.1 (subst (λ F. Names F c.args.root.now r.1) same r.2.named))
+    rw (p.1, p.2) (c.in_err-schema.ensures.only r.name (subst (λ F. Names F c.args.root.now r.name) same r.declares.named))
 
 pub returns-in_err-is_instance-clause-refused : goal.returns-in_err-is_instance-clause-refused
 returns-in_err-is_instance-clause-refused c =
@@ -54,11 +59,12 @@ returns-in_err-is_instance-clause-refused c =
     let root = c.args.root.now in
     let accepted = c.in_ok-guarded.ensures.accepted in
     let export = c.in_ok-schema.ensures.found sources accepted in
+    let translated = c.in_ok-schema.ensures.translated sources c.in_ok-guarded.ensures.unique accepted in
     let n = export.name in
     let same = sym (c.in_ok-guarded.ensures.unique export.environment export.declares.accepted) in
     let named = subst (λ F. Names F root n) same export.declares.named in
     let p = err_from_is_err_and c.from_residual-in_err-is_instance.result c.from_residual-in_err-is_instance.ensures.1 in
-    rw (p.1, p.2) (by_verdict sources root c.args.doc.now (is_ready sources root _ export) _ n (record { accepted = accepted; named = named }) c.in_err-is_instance.field-0.0 (c.in_err-is_instance.ensures.refused n named))
+    rw (p.1, p.2) (by_verdict sources root c.args.doc.now (is_ready sources root _ export translated) _ n (record { accepted = accepted; named = named }) c.in_err-is_instance.field-0.0 (c.in_err-is_instance.ensures.refused n named))
 
 pub returns-in_err-is_instance-clause-only : goal.returns-in_err-is_instance-clause-only
 returns-in_err-is_instance-clause-only c = λ ready.
@@ -72,20 +78,22 @@ returns-in_err-is_valid-clause-refused c =
     let sources = map now c.args.sources.now in
     let accepted = c.in_ok-guarded.ensures.accepted in
     let export = c.in_ok-schema.ensures.found sources accepted in
+    let translated = c.in_ok-schema.ensures.translated sources c.in_ok-guarded.ensures.unique accepted in
     let e = c.in_err-is_valid.field-0.0 in
     let judged = subst (λ s. ValidateRefusal s c.args.doc.now e) c.deref.ensures.value c.in_err-is_valid.ensures.refused in
     let p = err_from_is_err_and c.from_residual-in_err-is_valid.result c.from_residual-in_err-is_valid.ensures.1 in
-    rw (p.1, p.2) (refused sources c.args.root.now _ export c.args.doc.now e judged)
+    rw (p.1, p.2) (refused sources c.args.root.now _ export translated c.args.doc.now e judged)
 
 pub returns-in_err-is_valid-clause-only : goal.returns-in_err-is_valid-clause-only
 returns-in_err-is_valid-clause-only c = λ ready.
     let sources = map now c.args.sources.now in
     let accepted = c.in_ok-guarded.ensures.accepted in
     let export = c.in_ok-schema.ensures.found sources accepted in
+    let translated = c.in_ok-schema.ensures.translated sources c.in_ok-guarded.ensures.unique accepted in
     let e = c.in_err-is_valid.field-0.0 in
     let judged = subst (λ s. ValidateRefusal s c.args.doc.now e) c.deref.ensures.value c.in_err-is_valid.ensures.refused in
     let p = err_from_is_err_and c.from_residual-in_err-is_valid.result c.from_residual-in_err-is_valid.ensures.1 in
-    rw (p.1, p.2) (answered _ c.args.doc.now (record { schema = export.schema; read_schema = export.read; profile = export.profile; document = ready.vetted.document; read = ready.vetted.read }) e judged)
+    rw (p.1, p.2) (answered _ c.args.doc.now (is_ready_to_validate sources c.args.root.now _ export translated c.args.doc.now ready) e judged)
 
 pub returns-clause-found : goal.returns-clause-found
 returns-clause-found c =
@@ -93,12 +101,13 @@ returns-clause-found c =
     let root = c.args.root.now in
     let text = c.args.doc.now in
     let export = c.in_ok-schema.ensures.found sources c.in_ok-guarded.ensures.accepted in
+    let translated = c.in_ok-schema.ensures.translated sources c.in_ok-guarded.ensures.unique c.in_ok-guarded.ensures.accepted in
     let verdict = c.in_ok-is_instance.ensures.found sources c.in_ok-guarded.ensures.accepted in
     let validated = subst (λ s. IsValidated s text c.in_ok-is_valid.is_valid) c.deref.ensures.value c.in_ok-is_valid.ensures.found in
     let E = c.in_ok-guarded.guarded in
     let one = c.in_ok-guarded.ensures.unique in
     let same = same_answer sources root text _ E one export _ _ verdict validated in
-    let both = agreement sources root text _ E one export _ _ verdict validated in
+    let both = agreement sources root text _ E one export _ _ verdict validated translated in
     elim c.if-is_instance.branch [
       | then-is_instance w ↦ subst (IsAgreement sources root text) (same ∙ sym w.result-is) both
       | else-is_instance w ↦ subst (IsAgreement sources root text) (sym w.result-is) both

@@ -1,9 +1,9 @@
-use Rattle.std.proofs.Common.{◌≡◌, ℕ, ◌≤◌, List, Vec, sym, ap, subst, arith}
+use Rattle.std.proofs.Common.{◌≡◌, ℕ, ◌≤◌, List, Vec, sym, ap, subst, subst₂, arith}
 use Rattle.std.proofs.lemmas.Result.{IfOk-weaker}
 use Rattle.std.specs.declared.alloc.Global.{Global}
 use Rattle.cs_document.specs.Document.{Document, depth}
 use Rattle.cs_doc.specs.Texts.{Reads, text_of}
-use Rattle.cs_package.specs.Environment.{Environment}
+use Rattle.cs_package.specs.Environment.{Environment, Names}
 use Rattle.cs_package.specs.Height.{IsLow}
 use Rattle.cs_schema.specs.SchemaDocument.{document_of, with_definitions, definitions_view, unless_no_map}
 use Rattle.cs_schema.specs.Trim.{with_dialect}
@@ -28,7 +28,7 @@ returns-clause-found c = λ sources accepted.
     (λ v h. record {
       environment = c.args.guarded.now;
       name = made.0;
-      declares = record { accepted = accepted; exportable = c.requires; named = made.1 };
+      declares = record { accepted = accepted; named = made.1 };
       schema = schema;
       written = h.0;
       nested = nested;
@@ -43,16 +43,18 @@ returns-clause-found c = λ sources accepted.
     }) c.text_of_schema.ensures.found
 
 -- what the text is read as is the one schema, and the sources declare the one environment
-translation : (sources : List (List ℕ)) (text : List ℕ) (E : Environment) (schema : Document) → ((F : Environment) → IsAccepted sources F → E ≡ F) → Reads text schema → IsTranslation E schema → IsTranslated sources text
-translation sources text E schema one read is F read_as accepted reads =
+translation : (sources : List (List ℕ)) (root text : List ℕ) (E : Environment) (schema : Document) → ((F : Environment) → IsAccepted sources F → E ≡ F) → Reads text schema
+    → ((n : List ℕ) → Names E root n → IsTranslation E n schema) → IsTranslated sources root text
+translation sources root text E schema one read is F n read_as declares reads =
     let same : schema ≡ read_as = cc (read.1, reads.1) in
-    subst (λ d. IsTranslation F d) same (subst (λ G. IsTranslation G schema) (one F accepted) is)
+    let there = one F declares.accepted in
+    subst₂ (λ G d. IsTranslation G n d) there same (is n (subst (λ G. Names G root n) (sym there) declares.named))
 
 pub returns-clause-translated : goal.returns-clause-translated
 returns-clause-translated c = λ sources one accepted.
     let schema = document_of c.in_ok-schema.schema in
     let nested = c.in_ok-schema.ensures.found.2.nested (low _ _ accepted) in
     IfOk-weaker _ (λ (v : Vec ℕ Global). (v.items ≡ text_of schema) × (depth schema ≤ 127 → Reads v.items schema))
-    (λ (v : Vec ℕ Global). IsTranslated sources v.items)
-    (λ v h. translation sources v.items c.args.guarded.now schema one (h.1 (omega (arith, nested))) c.in_ok-schema.ensures.translated)
+    (λ (v : Vec ℕ Global). IsTranslated sources c.args.root.now v.items)
+    (λ v h. translation sources c.args.root.now v.items c.args.guarded.now schema one (h.1 (omega (arith, nested))) c.in_ok-schema.ensures.translated)
     c.text_of_schema.ensures.found

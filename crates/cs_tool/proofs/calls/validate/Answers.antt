@@ -10,6 +10,10 @@ use Rattle.cs_schema.specs.Validity.{IsValidity, OneMeaning}
 use Rattle.cs_schema.specs.Refusal.{IsRefusal}
 use Rattle.cs_profile.specs.declared.fault.SchemaFault.{SchemaFault}
 use Rattle.cs_profile.specs.declared.fault.SchemaFault.TheVariants as schema
+use Rattle.cs_profile.specs.Profile.{IsSchema}
+use Rattle.cs_validate.specs.Refusal as judging
+use Rattle.cs_validate.specs.Rules.{HasManyPairs}
+use Rattle.cs_validate.proofs.Trimmed.{many_trimmed, many_untrimmed}
 use Rattle.cs_validate.specs.declared.fault.ValidateFault.{ValidateFault}
 use Rattle.cs_validate.specs.declared.fault.ValidateFault.TheVariants as validate
 use Rattle.cs_tool.specs.Conversions.{of_document, of_schema, of_validate}
@@ -43,8 +47,17 @@ module _ (s t : List ℕ) where
   by_document is doc.NotJson not_json not_integer = (is, not_json refl)
   by_document is doc.NotInteger not_json not_integer = inr (is, not_integer refl)
 
-  by_judging : (e : ValidateFault) → ValidateRefusal s t (of_validate e)
-  by_judging validate.OutOfMemory = tt
+  -- the trimmed schema has as many rules
+  by_judging : (d x : Document) → Reads s d → IsSchema d → Reads t x → (e : ValidateFault) → judging.IsRefusal e (trim d) x → ValidateRefusal s t (of_validate e)
+  by_judging d x read_schema profile read validate.OutOfMemory h = tt
+  by_judging d x read_schema profile read validate.TooManyPairs h = record {
+    schema = d;
+    read_schema = read_schema;
+    profile = profile;
+    document = x;
+    read = read;
+    many = many_untrimmed d x h;
+  }
 
 pub returns-in_err-schema_text-clause-refused : goal.returns-in_err-schema_text-clause-refused
 returns-in_err-schema_text-clause-refused c =
@@ -69,7 +82,11 @@ pub returns-in_err-is_valid-clause-refused : goal.returns-in_err-is_valid-clause
 returns-in_err-is_valid-clause-refused c =
     let e = c.in_err-is_valid.field-0.0 in
     let p = err_from_is_err_and c.from_residual-in_err-is_valid.result c.from_residual-in_err-is_valid.ensures.1 in
-    rw (p.1, p.2) (by_judging c.args.schema.now c.args.doc.now e)
+    let schema = c.in_ok-schema.ensures in
+    let d = doc_view c.in_ok-schema_text.field-0 in
+    let x = doc_view c.in_ok-doc.doc in
+    let refused = subst (λ R. judging.IsRefusal e R x) schema.found c.in_err-is_valid.ensures.refused in
+    rw (p.1, p.2) (by_judging c.args.schema.now c.args.doc.now d x c.in_ok-schema_text.ensures.found schema.accepted c.in_ok-doc.ensures.found e refused)
 
 pub returns-in_err-schema_text-clause-only : goal.returns-in_err-schema_text-clause-only
 returns-in_err-schema_text-clause-only c = λ is.
@@ -102,7 +119,11 @@ returns-in_err-is_valid-clause-only c = λ is.
     let t = c.args.doc.now in
     let e = c.in_err-is_valid.field-0.0 in
     let p = err_from_is_err_and c.from_residual-in_err-is_valid.result c.from_residual-in_err-is_valid.ensures.1 in
-    rw (p.1, p.2) (answered s t is (of_validate e) (by_judging s t e))
+    let schema = c.in_ok-schema.ensures in
+    let d = doc_view c.in_ok-schema_text.field-0 in
+    let x = doc_view c.in_ok-doc.doc in
+    let refused = subst (λ R. judging.IsRefusal e R x) schema.found c.in_err-is_valid.ensures.refused in
+    rw (p.1, p.2) (answered s t is (of_validate e) (by_judging s t d x c.in_ok-schema_text.ensures.found schema.accepted c.in_ok-doc.ensures.found e refused))
 
 pub returns-clause-found : goal.returns-clause-found
 returns-clause-found c =
@@ -116,6 +137,7 @@ returns-clause-found c =
       profile = schema.accepted;
       document = document;
       read = c.in_ok-doc.ensures.found;
+      within = λ many. c.in_ok-is_valid.ensures.within (subst (λ R. HasManyPairs R document) (sym schema.found) (many_trimmed (doc_view c.in_ok-schema_text.field-0) document many));
       one_validity = schema.one_meaning;
       holds = untrimmed (doc_view c.in_ok-schema_text.field-0) document answer one schema.meaning judged;
     }

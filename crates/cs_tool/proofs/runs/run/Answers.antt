@@ -3,10 +3,10 @@ use Rattle.std.specs.declared.alloc.Global.{Global}
 use Rattle.std.proofs.lemmas.Result.{err_from_is_err_and}
 use Rattle.std.specs.Io.KnownBytes.{Keeps}
 use Rattle.std.proofs.KnownBytes.{Keeps-refl}
-use Rattle.cs_tool.specs.Accepted.{First, FirstOfExport}
+use Rattle.cs_tool.specs.Accepted.{First}
 use Rattle.cs_tool.specs.Runs.{Call, export, vet, validate, agree, sources_or, text_or, call_of, ReadsInput, IsReadyCall, IsCallRefusal, LineRefusal, Leaves}
 use Rattle.cs_tool.specs.declared.fault.Fault.{Fault}
-use Rattle.cs_tool.specs.declared.fault.Fault.TheVariants.{WriteFailed, UnknownRoot, LeftOut}
+use Rattle.cs_tool.specs.declared.fault.Fault.TheVariants.{WriteFailed, UnknownRoot}
 use Rattle.cs_tool.specs.declared.request.Request.{Request}
 use Rattle.cs_tool.specs.declared.request.Request.TheVariants.{Export, Vet, Validate, Agree}
 use Rattle.cs_tool.proofs.runs.run.Goals as goal
@@ -16,16 +16,11 @@ no_write_failed : {sources : List (List ℕ)} {root : List ℕ} → First source
 no_write_failed (inl h) = h
 no_write_failed (inr h) = let is : WriteFailed ≡ UnknownRoot = h.0 in cc
 
-no_export_writes : {sources : List (List ℕ)} {root : List ℕ} → FirstOfExport sources root WriteFailed → ⊥
-no_export_writes (inl (inl h)) = h
-no_export_writes (inl (inr h)) = let is : WriteFailed ≡ LeftOut 0 0 = h.0 in cc
-no_export_writes (inr h) = let is : WriteFailed ≡ UnknownRoot = h.0 in cc
-
 no_call_writes : (c : Call) → IsCallRefusal c WriteFailed → ⊥
-no_call_writes (export sources root) h = no_export_writes h
+no_call_writes (export sources root) h = no_write_failed h
 no_call_writes (vet sources root doc) h = no_write_failed h
 no_call_writes (validate schema doc) h = h
-no_call_writes (agree sources root doc) h = no_export_writes h
+no_call_writes (agree sources root doc) h = no_write_failed h
 
 no_line_writes : (request : Request) (remaining : Option (List ℕ)) → LineRefusal request remaining WriteFailed → ⊥
 no_line_writes (Export files root) remaining (inl h) = h

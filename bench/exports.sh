@@ -1,0 +1,100 @@
+#!/bin/sh
+# Times `export` by whole runs of the program, on packages near their limits: many definitions, a struct with many labels, an
+# alternative of many texts, and a conjunction of many limits. A line for each: the size of the source; what the run takes
+# beyond the program's start; the megabytes of source in a second; the same as a multiple of what a tenth of the package
+# takes, which is 10 where the time is linear; the most memory, and how many bytes of it there are for each byte of source
+# beyond those of a small run. Fails where ten times the package takes more than 16 times as long.
+# usage: exports.sh PROGRAM
+set -eu
+
+. "$(dirname "$0")/timing.sh"
+
+# The nanoseconds of one run on a source: the least of some.
+run_time() { # source
+    best=
+    for _ in $(seq 9); do
+        begin=$(date +%s%N)
+        "$program" export --root '#A0' "$1" > /dev/null
+        end=$(date +%s%N)
+        taken=$((end - begin))
+        if [ -z "$best" ] || [ "$taken" -lt "$best" ]; then best=$taken; fi
+    done
+    echo "$best"
+}
+
+# The most memory of a run in KiB, by GNU's time, where it is there.
+if [ "$(/usr/bin/time -f %M true 2>&1 || true)" -gt 0 ] 2> /dev/null; then
+    peak_of() { # source
+        /usr/bin/time -f %M -o "$folder/peak" "$program" export --root '#A0' "$1" > /dev/null
+        tail -n 1 "$folder/peak"
+    }
+else
+    peak_of() { echo 0; }
+    echo "no memory is measured: there is no GNU /usr/bin/time"
+fi
+
+# So many definitions, each with a struct of 23 labels that refers to the next definition.
+definitions() { # count
+    awk -v count="$1" 'BEGIN {
+        for (i = 0; i < count; i++) {
+            printf "#A%d: {", i
+            for (k = 0; k < 22; k++) printf "field_%02d%s: int, ", (k * 7) % 22, (k % 3 ? "" : "?")
+            if (i + 1 < count) printf "next?: #A%d, ", i + 1
+            print "...}"
+        }
+    }'
+}
+
+# A struct of so many labels, none of them in order.
+labels() { # count
+    awk -v count="$1" 'BEGIN {
+        printf "#A0: {"
+        for (i = 0; i < count; i++) printf "%slabel_%06d: string", (i ? ", " : ""), i * 7919 % count
+        print "}"
+    }'
+}
+
+# An alternative of so many texts.
+texts() { # count
+    awk -v count="$1" 'BEGIN {
+        printf "#A0: "
+        for (i = 0; i < count; i++) printf "%s\"text %06d\"", (i ? " | " : ""), i
+        print ""
+    }'
+}
+
+# A conjunction of so many limits.
+limits() { # count
+    awk -v count="$1" 'BEGIN {
+        printf "#A0: "
+        for (i = 0; i < count; i++) printf "%s!=%d", (i ? " & " : ""), i
+        print ""
+    }'
+}
+
+echo '#A0: int' > "$folder/small"
+start=$(run_time "$folder/small")
+base=$(peak_of "$folder/small")
+failed=0
+
+measure() { # name count
+    "$1" "$2" > "$folder/source"
+    "$1" "$(($2 / 10))" > "$folder/tenth"
+    taken=$(($(run_time "$folder/source") - start))
+    tenth=$(($(run_time "$folder/tenth") - start))
+    [ "$tenth" -gt 0 ] || tenth=1
+    bytes=$(wc -c < "$folder/source")
+    awk -v name="$1" -v bytes="$bytes" -v taken="$taken" -v tenth="$tenth" -v peak="$(peak_of "$folder/source")" -v base="$base" 'BEGIN {
+        slow = taken > 16 * tenth
+        printf "%-12s %8d %9.2f %7.1f %7.1f %8d %7.0f%s\n", name, bytes, taken / 1e6, bytes / taken * 1e3, taken / tenth, peak,
+            (peak - base) * 1024 / bytes, (slow ? "  grows faster than the source" : "")
+        exit slow
+    }' || failed=1
+}
+
+printf '%-12s %8s %9s %7s %7s %8s %7s\n' export bytes ms MB/s growth KiB B/B
+measure definitions 1000
+measure labels 24900
+measure texts 49900
+measure limits 49900
+exit $failed

@@ -1,0 +1,24 @@
+-- Lists in another order.
+use Rattle.std.proofs.Common.{◌≡◌, ℕ, Bool, true, false, if◌then◌else◌, List, eqb, refl, sym, ap, ◌∙◌}
+use Rattle.std.specs.List.{list_all, sum_by}
+use Rattle.std.specs.List.Sorted.{IsPermutation}
+use Rattle.std.proofs.lemmas.List.Folds.{sum_by-zero}
+use Rattle.std.proofs.lemmas.List.Sorted.{sum_by-IsPermutation}
+
+module _ {A : Type 0} (p : A → Bool) where
+  abbrev failures : A → ℕ
+  failures x = if p x then 0 else 1
+
+  abbrev no_failure : Bool → Bool
+  no_failure b = eqb (if b then 0 else 1) 0
+
+  told : (b : Bool) → no_failure b ≡ b
+  told true = refl
+  told false = refl
+
+  by_sum : (xs : List A) → list_all p xs ≡ eqb (sum_by failures xs) 0
+  by_sum xs = ap (λ q. list_all q xs) (λ i x. sym (told (p x)) i) ∙ sym (sum_by-zero failures xs)
+
+  -- a list and its permutation pass a test alike
+  pub list_all-IsPermutation : (xs ys : List A) → IsPermutation xs ys → list_all p xs ≡ list_all p ys
+  list_all-IsPermutation xs ys same = by_sum xs ∙ ap (λ n. eqb n 0) (sym (sum_by-IsPermutation failures xs ys same)) ∙ sym (by_sum ys)

@@ -1,0 +1,84 @@
+-- The fault of a keyword's value, by what the reader finds of it.
+use Rattle.std.proofs.Common.{◌≡◌, ℕ, Bool, true, false, List, [], Option, Some, None, option_map, refl, sym, ap, ap₂, ◌∙◌, subst}
+use Rattle.cs_document.specs.Document.{Document, null, boolean, integer, text, list, object, no_documents, document}
+use Rattle.cs_profile.specs.Places.{at_key}
+use Rattle.cs_profile.specs.Shapes.{form_at, has_form}
+use Rattle.cs_profile.specs.Profile.{Fault, unknown, misshapen, Visit, first, or_else, fault_of, shape_fault, form_fault, within, value_visits, keyword_visits, visits}
+use Rattle.cs_profile.specs.Trim.{trimmed_as, trimmed_value, value_trims}
+use Rattle.cs_profile.specs.declared.keyword.Form.{Form}
+use Rattle.cs_profile.specs.declared.keyword.Form.TheVariants as form
+use Rattle.cs_profile.specs.declared.fault.SchemaFault.{SchemaFault}
+use Rattle.cs_profile.specs.declared.fault.SchemaFault.TheVariants as fault
+use Rattle.cs_schema.specs.Reading.{Refuses, inside, below, kept_value}
+use Rattle.cs_schema.proofs.Placed.{IsPlaced, value_fault_at, inside_fault_at, faults_placed}
+
+-- where there is no fault, memory ran out
+pub refuses_none : (e : SchemaFault) (o : Option Fault) → Refuses e None → Refuses e o
+refuses_none fault.OutOfMemory o h = tt
+refuses_none (fault.Keyword p n) o h = cc
+refuses_none (fault.Shape p n) o h = cc
+refuses_none (fault.Reference p n) o h = cc
+refuses_none (fault.Loop ns) o h = h
+
+-- a value without the form holds no schema
+pub none_inside : (f : Form) (v : Document) → has_form f v ≡ false → inside f v ≡ []
+none_inside form.Dialect v h = refl
+none_inside form.Reference v h = refl
+none_inside form.Kind v h = refl
+none_inside form.Anything v h = refl
+none_inside form.Array v h = refl
+none_inside form.Integer v h = refl
+none_inside form.Count v h = refl
+none_inside form.Texts v h = refl
+none_inside form.Text v h = refl
+none_inside form.Schema v h = cc
+none_inside form.Schemas null h = refl
+none_inside form.Schemas (boolean b) h = refl
+none_inside form.Schemas (integer z) h = refl
+none_inside form.Schemas (text s) h = refl
+none_inside form.Schemas (list no_documents) h = refl
+none_inside form.Schemas (list (document d ds)) h = cc
+none_inside form.Schemas (object ms) h = refl
+none_inside form.NamedSchemas null h = refl
+none_inside form.NamedSchemas (boolean b) h = refl
+none_inside form.NamedSchemas (integer z) h = refl
+none_inside form.NamedSchemas (text s) h = refl
+none_inside form.NamedSchemas (list ds) h = refl
+none_inside form.NamedSchemas (object ms) h = cc
+
+-- the fault of a keyword is that of its value's shape, and then that of what stands inside
+keyword_fault : (root : Bool) (k : List ℕ) (v : Document) (f : Form) → form_at root k ≡ Some f
+    → first fault_of (keyword_visits root [] k v) ≡ or_else (shape_fault [] k (has_form f v)) (option_map (below (at_key [] k)) (first fault_of (inside f v)))
+keyword_fault root k v f e =
+    ap (λ o. or_else (form_fault [] k v o) (first fault_of (within o (value_visits (at_key [] k) v)))) e
+    ∙ ap (or_else (shape_fault [] k (has_form f v))) (inside_fault_at fault_of faults_placed (at_key [] k) f v)
+
+pub no_keyword : (root : Bool) (k : List ℕ) (v : Document) → form_at root k ≡ None → first fault_of (keyword_visits root [] k v) ≡ Some (unknown [] k)
+no_keyword root k v e = ap (λ o. or_else (form_fault [] k v o) (first fault_of (within o (value_visits (at_key [] k) v)))) e
+
+pub keyword_misshapen : (root : Bool) (k : List ℕ) (v : Document) (f : Form) → form_at root k ≡ Some f → has_form f v ≡ false → first fault_of (keyword_visits root [] k v) ≡ Some (misshapen [] k)
+keyword_misshapen root k v f e h =
+    keyword_fault root k v f e ∙ ap (λ t. or_else (shape_fault [] k t) (option_map (below (at_key [] k)) (first fault_of (inside f v)))) h
+
+pub keyword_right : (root : Bool) (k : List ℕ) (v : Document) (f : Form) → form_at root k ≡ Some f → has_form f v ≡ true → first fault_of (inside f v) ≡ None → first fault_of (keyword_visits root [] k v) ≡ None
+keyword_right root k v f e h i = keyword_fault root k v f e ∙ ap₂ (λ t o. or_else (shape_fault [] k t) (option_map (below (at_key [] k)) o)) h i
+
+pub keyword_refused : (root : Bool) (k : List ℕ) (v : Document) (f : Form) (e : SchemaFault) → form_at root k ≡ Some f
+    → Refuses e (option_map (below (at_key [] k)) (first fault_of (inside f v))) → Refuses e (first fault_of (keyword_visits root [] k v))
+keyword_refused root k v f e at h = subst (Refuses e) (sym (keyword_fault root k v f at)) (by_shape (has_form f v) refl)
+  where
+    by_shape : (t : Bool) → has_form f v ≡ t → Refuses e (or_else (shape_fault [] k t) (option_map (below (at_key [] k)) (first fault_of (inside f v))))
+    by_shape true s = h
+    by_shape false s = refuses_none e _ (subst (λ vs. Refuses e (option_map (below (at_key [] k)) (first fault_of vs))) (none_inside f v s) h)
+
+-- what is kept of a keyword's value
+pub keyword_kept : (root : Bool) (k : List ℕ) (v : Document) (f : Form) → form_at root k ≡ Some f → trimmed_value root k v ≡ kept_value f v
+keyword_kept root k v f e = ap (λ o. trimmed_as o v (value_trims v)) e
+
+-- a schema at a place
+module _ (f : Visit → Option Fault) (h : IsPlaced f) (p : List ℕ) (d : Document) where
+  pub schema_right : first f (visits false [] d) ≡ None → first f (visits false p d) ≡ None
+  schema_right r = value_fault_at f h p d ∙ ap (option_map (below p)) r
+
+  pub schema_refused : (e : SchemaFault) → Refuses e (option_map (below p) (first f (visits false [] d))) → Refuses e (first f (visits false p d))
+  schema_refused e r = subst (Refuses e) (sym (value_fault_at f h p d)) r

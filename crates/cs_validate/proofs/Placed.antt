@@ -1,0 +1,204 @@
+-- Rules one after another: each new one is that of one more schema.
+use Rattle.std.proofs.Common.{◌≡◌, ℕ, zero, suc, ◌+◌, ◌<◌, ◌≤◌, ◌⊎◌, inl, inr, ⊎_elim, List, [], ◌∷◌, ◌++◌, Bool, true, false, Option, Some, None, option_map, Result, map, length, Bor, refl, sym, ap, ap₂, ◌∙◌, subst, append_assoc, append-nil, length-append, lt_of_lt_of_le, arith}
+use Rattle.std.specs.Prelude.{slice_get, option_to_list, IfOk}
+use Rattle.std.specs.List.{AllByRecursion as Each}
+use Rattle.std.specs.declared.alloc.AllocError.{AllocError}
+use Rattle.std.proofs.lemmas.List.{get_or_push, get_or_append_left}
+use Rattle.std.proofs.lemmas.Result.{IfOk-weaker}
+use Rattle.cs_document.specs.Document.{Document, boolean, Entry, under}
+use Rattle.cs_document.specs.Opened.{map_entry}
+use Rattle.cs_document.proofs.Each.{each_map}
+use Rattle.cs_profile.specs.Loops.{direct_names}
+use Rattle.cs_profile.specs.Constraint.{Assertion, nothing, valid_by, has_kind, equals, is_among, at_least, at_most, above, below, has_keys, at_keys, at_other_keys, in_front, behind, at_least_long, valid_by_all, valid_by_any, not_valid_by, Constraint, always, never, conjunction, constraint_of}
+use Rattle.cs_profile.specs.declared.schema.Schema.{Schema}
+use Rattle.cs_validate.specs.Numbering.{map_assertion, map_constraint, said, ClaimBelow, PartsBelow, schema_at}
+use Rattle.cs_validate.specs.declared.rules.Rule.{Rule as Coded}
+use Rattle.cs_validate.specs.declared.rules.Rule.TheVariants as coded
+use Rattle.cs_validate.specs.Steps.{asked_of}
+use Rattle.cs_validate.specs.Placing.{waiting, AreNumbered, AreAt, placed_by, left_by, IsKnown, Places}
+
+pub got_push : {X : Type 0} (xs : List X) (x y : X) (r : ℕ) → slice_get (xs ++ x ∷ []) r ≡ Some y → ((r < length xs) × (slice_get xs r ≡ Some y)) ⊎ ((r ≡ length xs) × (x ≡ y))
+got_push [] x y zero e = inr (refl, cc)
+got_push [] x y (suc r) e = cc
+got_push (z ∷ zs) x y zero e = inl (omega arith, e)
+got_push (z ∷ zs) x y (suc r) e = ⊎_elim (λ (l : (r < length zs) × (slice_get zs r ≡ Some y)). let a = l.0 in inl (omega arith, l.1)) (λ (l : (r ≡ length zs) × (x ≡ y)). inr (ap suc l.0, l.1)) (got_push zs x y r e)
+
+pub got_front : {X : Type 0} (xs more : List X) (i : ℕ) (d : X) → slice_get xs i ≡ Some d → slice_get (xs ++ more) i ≡ Some d
+got_front [] more i d e = cc
+got_front (x ∷ xs) more zero d e = e
+got_front (x ∷ xs) more (suc i) d e = got_front xs more i d e
+
+pub each_push : {X : Type 0} (P : X → Type 0) (xs : List X) (x : X) → Each P xs → P x → Each P (xs ++ x ∷ [])
+each_push P [] x h p = (p, tt)
+each_push P (y ∷ ys) x h p = (h.0, each_push P ys x h.1 p)
+
+-- names that agree below a number
+pub numbers_same : {X : Type 0} (n : ℕ) (f f' : ℕ → X) → ((d : ℕ) → d < n → f d ≡ f' d) → (ds : List ℕ) → Each (λ d. d < n) ds → map f ds ≡ map f' ds
+numbers_same n f f' h [] b = refl
+numbers_same n f f' h (d ∷ ds) b = ap₂ ◌∷◌ (h d b.0) (numbers_same n f f' h ds b.1)
+
+pub number_same : {X : Type 0} (n : ℕ) (f f' : ℕ → X) → ((d : ℕ) → d < n → f d ≡ f' d) → (o : Option ℕ) → Each (λ d. d < n) (option_to_list o) → option_map f o ≡ option_map f' o
+number_same n f f' h None b = refl
+number_same n f f' h (Some d) b = ap Some (h d b.0)
+
+-- other names that agree below n and m
+module _ {D N : Type 0} (n m : ℕ) (f f' : ℕ → D) (g g' : ℕ → N) (h : (d : ℕ) → d < n → f d ≡ f' d) (k : (p : ℕ) → p < m → g p ≡ g' p) where
+  entries_same : (ps : List (Entry ℕ)) → Each (λ (e : Entry ℕ). e.1 < m) ps → map (map_entry g) ps ≡ map (map_entry g') ps
+  entries_same [] b = refl
+  entries_same (e ∷ es) b = ap₂ ◌∷◌ (ap (λ v. (e.0, v)) (k e.1 b.0)) (entries_same es b.1)
+
+  claim_same : (a : Assertion ℕ ℕ) → ClaimBelow n m a → map_assertion f g a ≡ map_assertion f' g' a
+  claim_same (valid_by o) b = ap valid_by (number_same n f f' h o b)
+  claim_same (at_keys ps) b = ap at_keys (entries_same ps b)
+  claim_same (at_other_keys ks p) b = ap (at_other_keys ks) (k p b)
+  claim_same (in_front ps) b = ap in_front (numbers_same m g g' k ps b)
+  claim_same (behind j p) b = ap (behind j) (k p b)
+  claim_same (valid_by_all rs) b = ap valid_by_all (numbers_same n f f' h rs b)
+  claim_same (valid_by_any rs) b = ap valid_by_any (numbers_same n f f' h rs b)
+  claim_same (not_valid_by r) b = ap not_valid_by (h r b)
+  claim_same nothing b = refl
+  claim_same (has_kind j) b = refl
+  claim_same (equals v) b = refl
+  claim_same (is_among vs) b = refl
+  claim_same (at_least z) b = refl
+  claim_same (at_most z) b = refl
+  claim_same (above z) b = refl
+  claim_same (below z) b = refl
+  claim_same (has_keys ks) b = refl
+  claim_same (at_least_long j) b = refl
+
+  claims_same : (claims : List (Assertion ℕ ℕ)) → Each (ClaimBelow n m) claims → map (map_assertion f g) claims ≡ map (map_assertion f' g') claims
+  claims_same [] b = refl
+  claims_same (a ∷ claims) b = ap₂ ◌∷◌ (claim_same a b.0) (claims_same claims b.1)
+
+  pub names_same : (a : Constraint ℕ ℕ) → PartsBelow n m a → map_constraint f g a ≡ map_constraint f' g' a
+  names_same always b = refl
+  names_same never b = refl
+  names_same (conjunction claims) b = ap conjunction (claims_same claims b)
+
+claim_weaker : (n m n' m' : ℕ) → n ≤ n' → m ≤ m' → (a : Assertion ℕ ℕ) → ClaimBelow n m a → ClaimBelow n' m' a
+claim_weaker n m n' m' u l (valid_by o) b = each_map (λ r. r < n) (λ r. r < n') (λ r c. lt_of_lt_of_le c u) (option_to_list o) b
+claim_weaker n m n' m' u l (at_keys ps) b = each_map (λ (e : Entry ℕ). e.1 < m) (λ (e : Entry ℕ). e.1 < m') (λ e c. lt_of_lt_of_le c l) ps b
+claim_weaker n m n' m' u l (at_other_keys ks p) b = lt_of_lt_of_le b l
+claim_weaker n m n' m' u l (in_front ps) b = each_map (λ p. p < m) (λ p. p < m') (λ p c. lt_of_lt_of_le c l) ps b
+claim_weaker n m n' m' u l (behind j p) b = lt_of_lt_of_le b l
+claim_weaker n m n' m' u l (valid_by_all rs) b = each_map (λ r. r < n) (λ r. r < n') (λ r c. lt_of_lt_of_le c u) rs b
+claim_weaker n m n' m' u l (valid_by_any rs) b = each_map (λ r. r < n) (λ r. r < n') (λ r c. lt_of_lt_of_le c u) rs b
+claim_weaker n m n' m' u l (not_valid_by r) b = lt_of_lt_of_le b u
+claim_weaker n m n' m' u l nothing b = tt
+claim_weaker n m n' m' u l (has_kind j) b = tt
+claim_weaker n m n' m' u l (equals v) b = tt
+claim_weaker n m n' m' u l (is_among vs) b = tt
+claim_weaker n m n' m' u l (at_least z) b = tt
+claim_weaker n m n' m' u l (at_most z) b = tt
+claim_weaker n m n' m' u l (above z) b = tt
+claim_weaker n m n' m' u l (below z) b = tt
+claim_weaker n m n' m' u l (has_keys ks) b = tt
+claim_weaker n m n' m' u l (at_least_long j) b = tt
+
+pub parts_weaker : (n m n' m' : ℕ) → n ≤ n' → m ≤ m' → (a : Constraint ℕ ℕ) → PartsBelow n m a → PartsBelow n' m' a
+parts_weaker n m n' m' u l always b = tt
+parts_weaker n m n' m' u l never b = tt
+parts_weaker n m n' m' u l (conjunction claims) b = each_map (ClaimBelow n m) (ClaimBelow n' m') (claim_weaker n m n' m' u l) claims b
+
+pub at_front : (xs ys : List Document) (d : ℕ) → d < length xs → schema_at xs d ≡ schema_at (xs ++ ys) d
+at_front xs ys d l = sym (get_or_append_left xs ys (boolean false) d l)
+
+pub schemas_kept : (xs ys : List Document) (ps : List ℕ) → Each (λ p. p < length xs) ps → map (schema_at (xs ++ ys)) ps ≡ map (schema_at xs) ps
+schemas_kept xs ys ps h = sym (numbers_same (length xs) (schema_at xs) (schema_at (xs ++ ys)) (at_front xs ys) ps h)
+
+-- a known definition stays known
+pub known_more : (R : Document) (numbers : List (Entry ℕ)) (placed more : List Document) (n : List ℕ) → IsKnown R numbers placed n → IsKnown R numbers (placed ++ more) n
+known_more R numbers placed more n h =
+    let longer : length placed ≤ length (placed ++ more) = omega (arith, length-append placed more) in (
+      sym (number_same (length placed) (schema_at placed) (schema_at (placed ++ more)) (at_front placed more) (under n numbers) h.1) ∙ h.0,
+      each_map (λ k. k < length placed) (λ k. k < length (placed ++ more)) (λ k l. lt_of_lt_of_le l longer) (option_to_list (under n numbers)) h.1,
+    )
+
+module _ (R : Document) (placed : List Document) (pending : List Document) (rules : List Coded) (n : AreNumbered R placed pending rules) where
+  -- one rule more
+  pub push : (s : Document) (rule : Coded) → said (constraint_of R s) ≡ said (map_constraint (schema_at placed) (schema_at pending) (asked_of rule)) → PartsBelow (length placed) (length pending) (asked_of rule)
+      → AreNumbered R (placed ++ s ∷ []) pending (rules ++ rule ∷ [])
+  push s rule is within = record {
+    sizes = length-append rules (rule ∷ []) ∙ ap (λ k. k + 1) n.sizes ∙ sym (length-append placed (s ∷ []));
+    asks = λ r x e. asks r x (got_push rules rule x r e);
+    parts = λ r x e. parts r x (got_push rules rule x r e);
+  }
+    where
+      asks : (r : ℕ) (x : Coded) → ((r < length rules) × (slice_get rules r ≡ Some x)) ⊎ ((r ≡ length rules) × (rule ≡ x)) → said (constraint_of R (schema_at (placed ++ s ∷ []) r)) ≡ said (map_constraint (schema_at (placed ++ s ∷ [])) (schema_at pending) (asked_of x))
+      asks r x (inl l) =
+          ap (λ d. said (constraint_of R d)) (sym (at_front placed (s ∷ []) r (subst (λ k. r < k) n.sizes l.0))) ∙ n.asks r x l.1
+          ∙ ap said (names_same r (length pending) (schema_at placed) (schema_at (placed ++ s ∷ [])) (schema_at pending) (schema_at pending) (λ d b. at_front placed (s ∷ []) d (let u = l.0 in let v = n.sizes in omega arith)) (λ p b. refl) (asked_of x) (n.parts r x l.1))
+      asks r x (inr l) =
+          ap (λ d. said (constraint_of R d)) (get_or_push placed s (boolean false) r (sym n.sizes ∙ sym l.0)) ∙ is
+          ∙ ap said (names_same (length placed) (length pending) (schema_at placed) (schema_at (placed ++ s ∷ [])) (schema_at pending) (schema_at pending) (λ d b. at_front placed (s ∷ []) d b) (λ p b. refl) (asked_of rule) within)
+          ∙ ap (λ y. said (map_constraint (schema_at (placed ++ s ∷ [])) (schema_at pending) (asked_of y))) l.1
+
+      parts : (r : ℕ) (x : Coded) → ((r < length rules) × (slice_get rules r ≡ Some x)) ⊎ ((r ≡ length rules) × (rule ≡ x)) → PartsBelow r (length pending) (asked_of x)
+      parts r x (inl l) = n.parts r x l.1
+      parts r x (inr l) = subst (λ y. PartsBelow r (length pending) (asked_of y)) l.1 (subst (λ k. PartsBelow k (length pending) (asked_of rule)) (sym n.sizes ∙ sym l.0) within)
+
+  -- more schemas wait
+  pub wait : (more : List Document) → AreNumbered R placed (pending ++ more) rules
+  wait more =
+      let longer : length pending ≤ length (pending ++ more) = omega (arith, length-append pending more) in record {
+        sizes = n.sizes;
+        asks = λ r x e. n.asks r x e ∙ ap said (names_same r (length pending) (schema_at placed) (schema_at placed) (schema_at pending) (schema_at (pending ++ more)) (λ d b. refl) (λ p b. at_front pending more p b) (asked_of x) (n.parts r x e));
+        parts = λ r x e. parts_weaker r (length pending) r (length (pending ++ more)) (omega arith) longer (asked_of x) (n.parts r x e);
+      }
+
+-- the rule of a schema that may be pushed now: what it asks of the same document has its rules, and what it asks of
+-- documents inside waits
+pub record IsReady (R : Document) (placed : List Document) (s : Document) (pending : List Document) (old : List Coded) (asked : Constraint ℕ ℕ) : Type 0 where
+  pub more : List Document
+  pub rules : placed_by s ≡ more ++ s ∷ []
+  pub numbered : AreNumbered R (placed ++ more) pending old
+  pub asks : said (constraint_of R s) ≡ said (map_constraint (schema_at (placed ++ more)) (schema_at pending) asked)
+  pub parts : PartsBelow (length (placed ++ more)) (length pending) asked
+
+-- what a pushed rule gives
+pub ready_placed : (R : Document) (placed : List Document) (s : Document) (pending : List Document) (old new : List Coded) (rule : Coded) (k : ℕ) → k ≡ length old → new ≡ old ++ rule ∷ [] → IsReady R placed s pending old (asked_of rule)
+    → AreNumbered R (placed ++ placed_by s) pending new × AreAt (placed ++ placed_by s) (k ∷ []) (s ∷ [])
+ready_placed R placed s pending old new rule k is grown r =
+    let all : (placed ++ r.more) ++ s ∷ [] ≡ placed ++ placed_by s = append_assoc placed r.more (s ∷ []) ∙ ap (λ ss. placed ++ ss) (sym r.rules) in
+    let numbered = push R (placed ++ r.more) pending old r.numbered s rule r.asks r.parts in
+    let place : length (placed ++ r.more) ≡ k = sym r.numbered.sizes ∙ sym is in
+    let found : schema_at (placed ++ placed_by s) k ≡ s = ap (λ ss. schema_at ss k) (sym all) ∙ get_or_push (placed ++ r.more) s (boolean false) k place in
+    let bound : k < length (placed ++ placed_by s) = subst (λ ss. k < length ss) all (omega (arith, length-append (placed ++ r.more) (s ∷ []), place)) in (
+      subst (λ ss. AreNumbered R ss pending new) all (subst (λ rs. AreNumbered R ((placed ++ r.more) ++ s ∷ []) pending rs) (sym grown) numbered),
+      (ap (λ x. x ∷ []) found, (bound, tt)),
+    )
+
+-- what a pushed rule's number is
+abbrev pub IsPut : List Coded → List Coded → Coded → ℕ → Type 0
+IsPut old new rule k = (k ≡ length old) × (new ≡ old ++ rule ∷ [])
+
+-- what the numbering of a schema ensures, where all but its own rule is ready
+pub finish : (result : Result ℕ AllocError) (numbers : List (Entry ℕ)) (first old new : List Coded) (rule : Coded) (before after : List (Bor Schema)) (s : Document)
+    → IfOk result (IsPut old new rule) → waiting after ≡ waiting before ++ left_by s
+    → ((R : Document) (placed : List Document) → AreNumbered R placed (waiting before) first → Each (IsKnown R numbers placed) (direct_names s) → IsReady R placed s (waiting after) old (asked_of rule))
+    → IfOk result (Places numbers first new before after s)
+finish result numbers first old new rule before after s done waits ready =
+    IfOk-weaker result (IsPut old new rule) (Places numbers first new before after s)
+    (λ k d. (waits, λ R placed n refs. ready_placed R placed s (waiting after) old new rule k d.0 d.1 (ready R placed n refs))) done
+
+-- a truth value
+pub truth_placed : (result : Result ℕ AllocError) (numbers : List (Entry ℕ)) (old new : List Coded) (before : List (Bor Schema)) (b : Bool) → IfOk result (IsPut old new (coded.Truth b)) → IfOk result (Places numbers old new before before (boolean b))
+truth_placed result numbers old new before b done =
+    finish result numbers old old new (coded.Truth b) before before (boolean b) done (sym (append-nil (waiting before)))
+    (λ R placed n refs.
+    let same : placed ≡ placed ++ [] = sym (append-nil placed) in record {
+      more = [];
+      rules = refl;
+      numbered = subst (λ ss. AreNumbered R ss (waiting before) old) same n;
+      asks = asks b R (schema_at (placed ++ [])) (schema_at (waiting before));
+      parts = parts b (length (placed ++ [])) (length (waiting before));
+    })
+  where
+    asks : (b : Bool) (R : Document) (f g : ℕ → Document) → said (constraint_of R (boolean b)) ≡ said (map_constraint f g (asked_of (coded.Truth b)))
+    asks true R f g = refl
+    asks false R f g = refl
+
+    parts : (b : Bool) (n m : ℕ) → PartsBelow n m (asked_of (coded.Truth b))
+    parts true n m = tt
+    parts false n m = tt

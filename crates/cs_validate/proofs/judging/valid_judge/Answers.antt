@@ -1,0 +1,20 @@
+use Rattle.std.proofs.Common.{length, sym, subst}
+use Rattle.cs_document.specs.Document.{Document}
+use Rattle.cs_flat.specs.Nodes.{nodes}
+use Rattle.cs_flat.specs.Items.{items}
+use Rattle.cs_profile.specs.SchemaDocument.{document_of}
+use Rattle.cs_validate.specs.declared.judge.Numbering.{Numbering}
+use Rattle.cs_validate.specs.Steps.{answer}
+use Rattle.cs_validate.specs.Judging.{IsJudge}
+use Rattle.cs_validate.proofs.Verdicts.{judge_of}
+use Rattle.cs_validate.proofs.judging.valid_judge.Goals as goal
+
+pub returns-clause-found : goal.returns-clause-found
+returns-clause-found c =
+    let R = document_of c.args.schema.now in
+    let numbering = c.in_ok-numbering.numbering in
+    let k = c.in_ok-numbering.number in
+    let judge = judge_of R c.args.flat.now k numbering.rules.items numbering.inner.items c.in_ok-numbering.ensures in
+    let by_flat = subst (λ (x : Document). IsJudge R c.args.flat.now k (length (nodes x)) (length numbering.rules.items) (answer numbering.rules.items numbering.inner.items (nodes x) (items x))) (sym c.over.ensures.flat) judge in
+    let x = c.over.result.flat.now in
+    subst (λ (m : Numbering). IsJudge R c.args.flat.now k (length (nodes x)) (length m.rules.items) (answer m.rules.items m.inner.items (nodes x) (items x))) (sym c.over.ensures.numbering) by_flat

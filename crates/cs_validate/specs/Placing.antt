@@ -1,0 +1,107 @@
+-- Rules numbered one after another, as long as some schemas wait for their numbers.
+use Rattle.std.specs.Prelude.{◌≡◌, ℕ, ◌<◌, List, [], ◌∷◌, ◌++◌, Option, Some, option_map, option_to_list, length, map, slice_get}
+use Rattle.std.specs.List.{AllByRecursion, flat_map}
+use Rattle.std.specs.Borrow.{Bor}
+use Rattle.cs_document.specs.Document.{Document, null, boolean, integer, text, list, object, Documents, no_documents, document, Members, no_members, member, Entry, under}
+use Rattle.cs_profile.specs.Keywords.{keywords, elements_of, entries_of, defined}
+use Rattle.cs_profile.specs.Constraint.{constraint_of}
+use Rattle.cs_profile.specs.Loops.{direct_names}
+use Rattle.cs_profile.specs.SchemaDocument.{schema_view}
+use Rattle.cs_profile.specs.declared.keyword.Keyword.{Keyword}
+use Rattle.cs_profile.specs.declared.keyword.Keyword.TheVariants as keyword
+use Rattle.cs_profile.specs.declared.schema.Schema.{Schema}
+use Rattle.cs_validate.specs.Numbering.{map_constraint, PartsBelow, said, schema_at}
+use Rattle.cs_validate.specs.declared.rules.Rule.{Rule as Coded}
+use Rattle.cs_validate.specs.Steps.{asked_of}
+
+-- the schemas that wait
+abbrev pub waiting : List (Bor Schema) → List Document
+waiting bs = map (λ b. schema_view b.now) bs
+
+-- these rules have numbers, each after those that it asks of the same document; those of documents inside are places
+-- of what waits
+pub record AreNumbered (R : Document) (placed : List Document) (pending : List Document) (rules : List Coded) : Type 0 where
+  pub sizes : length rules ≡ length placed
+  pub asks : (r : ℕ) (x : Coded) → slice_get rules r ≡ Some x → said (constraint_of R (schema_at placed r)) ≡ said (map_constraint (schema_at placed) (schema_at pending) (asked_of x))
+  pub parts : (r : ℕ) (x : Coded) → slice_get rules r ≡ Some x → PartsBelow r (length pending) (asked_of x)
+
+-- these are the numbers of these schemas
+abbrev pub AreAt : List Document → List ℕ → List Document → Type 0
+AreAt placed numbers ss = (map (schema_at placed) numbers ≡ ss) × AllByRecursion (λ k. k < length placed) numbers
+
+-- what a keyword that asks schemas of the same document contributes: the schema that its value is, or the elements
+abbrev pub if_direct : {A : Type 0} → Option Keyword → List A → List A → List A
+if_direct (Some keyword.Not) itself elements = itself
+if_direct (Some keyword.AllOf) itself elements = elements
+if_direct (Some keyword.AnyOf) itself elements = elements
+if_direct _ itself elements = []
+
+-- the schemas that a keyword asks of documents inside
+abbrev pub inside_of : Option Keyword → Document → List Document
+inside_of (Some keyword.AdditionalProperties) v = v ∷ []
+inside_of (Some keyword.Items) v = v ∷ []
+inside_of (Some keyword.PrefixItems) v = elements_of v
+inside_of (Some keyword.Properties) v = map (λ e. e.1) (entries_of v)
+inside_of _ v = []
+
+-- what gets a number with a schema: what it asks of the same document, and itself
+abbrev mutual
+  pub placed_by : Document → List Document
+  placed_by null = null ∷ []
+  placed_by (boolean b) = boolean b ∷ []
+  placed_by (integer z) = integer z ∷ []
+  placed_by (text s) = text s ∷ []
+  placed_by (list ds) = list ds ∷ []
+  placed_by (object ms) = placed_by_members ms ++ object ms ∷ []
+
+  pub placed_by_members : Members → List Document
+  placed_by_members no_members = []
+  placed_by_members (member k v ms) = if_direct (under k keywords) (placed_by v) (placed_by_list v) ++ placed_by_members ms
+
+  pub placed_by_list : Document → List Document
+  placed_by_list (list ds) = placed_by_each ds
+  placed_by_list _ = []
+
+  pub placed_by_each : Documents → List Document
+  placed_by_each no_documents = []
+  placed_by_each (document d ds) = placed_by d ++ placed_by_each ds
+
+abbrev pub inside_members : Members → List Document
+inside_members no_members = []
+inside_members (member k v ms) = inside_of (under k keywords) v ++ inside_members ms
+
+-- what waits then: what these ask of documents inside
+abbrev mutual
+  pub left_by : Document → List Document
+  left_by (object ms) = left_by_members ms ++ inside_members ms
+  left_by _ = []
+
+  pub left_by_members : Members → List Document
+  left_by_members no_members = []
+  left_by_members (member k v ms) = if_direct (under k keywords) (left_by v) (left_by_list v) ++ left_by_members ms
+
+  pub left_by_list : Document → List Document
+  left_by_list (list ds) = left_by_each ds
+  left_by_list _ = []
+
+  pub left_by_each : Documents → List Document
+  left_by_each no_documents = []
+  left_by_each (document d ds) = left_by d ++ left_by_each ds
+
+-- the number of a name, if it has one, is that of its definition; a name without a number isn't defined
+abbrev pub IsKnown : Document → List (Entry ℕ) → List Document → List ℕ → Type 0
+IsKnown R numbers placed n = (option_map (schema_at placed) (under n numbers) ≡ defined R n) × AllByRecursion (λ k. k < length placed) (option_to_list (under n numbers))
+
+-- with schemas numbered, their rules stand behind those before, and what they ask of documents inside waits behind the rest
+abbrev pub PlacesAll : List (Entry ℕ) → List Coded → List Coded → List (Bor Schema) → List (Bor Schema) → List Document → List ℕ → Type 0
+PlacesAll numbers old new before after ss ks =
+    (waiting after ≡ waiting before ++ flat_map left_by ss)
+    × ((R : Document) (placed : List Document) → AreNumbered R placed (waiting before) old → AllByRecursion (IsKnown R numbers placed) (flat_map direct_names ss)
+    → AreNumbered R (placed ++ flat_map placed_by ss) (waiting after) new × AreAt (placed ++ flat_map placed_by ss) ks ss)
+
+-- with a schema numbered k, its rules stand behind those before, and what it asks of documents inside waits behind the rest
+abbrev pub Places : List (Entry ℕ) → List Coded → List Coded → List (Bor Schema) → List (Bor Schema) → Document → ℕ → Type 0
+Places numbers old new before after s k =
+    (waiting after ≡ waiting before ++ left_by s)
+    × ((R : Document) (placed : List Document) → AreNumbered R placed (waiting before) old → AllByRecursion (IsKnown R numbers placed) (direct_names s)
+    → AreNumbered R (placed ++ placed_by s) (waiting after) new × AreAt (placed ++ placed_by s) (k ∷ []) (s ∷ []))

@@ -1,0 +1,112 @@
+-- What a judge answers by numbered rules.
+use Rattle.std.specs.Prelude.{◌≡◌, ℕ, suc, ◌+◌, ◌<◌, ℤ, pos, Bool, true, false, List, [], ◌∷◌, Option, Some, None, option_map, option_to_list, length, slice_get, slice_index}
+use Rattle.std.specs.Option.{option_map_or}
+use Rattle.std.specs.List.{AllByRecursion, flat_map}
+use Rattle.cs_document.specs.Document.{Document}
+use Rattle.cs_document.specs.Opened.{Opened, InsideBelow}
+use Rattle.cs_document.specs.View.{doc_view}
+use Rattle.cs_flat.specs.Nodes.{node_at}
+use Rattle.cs_table.specs.Judged.{AllVerdicts}
+use Rattle.cs_profile.specs.Keywords as keyword
+use Rattle.cs_profile.specs.Keywords.{Kind}
+use Rattle.cs_profile.specs.Constraint.{Assertion, nothing, valid_by, has_kind, equals, is_among, at_least, at_most, above, below, has_keys, at_keys, at_other_keys, in_front, behind, at_least_long, valid_by_all, valid_by_any, not_valid_by, Constraint, always, never, conjunction}
+use Rattle.cs_profile.specs.Validity.{is_satisfied}
+use Rattle.cs_profile.specs.Numbered.{numbered as numbers_from, names_in}
+use Rattle.cs_profile.specs.declared.schema.JsonKind.{JsonKind}
+use Rattle.cs_profile.specs.declared.schema.JsonKind.TheVariants as kind
+use Rattle.cs_validate.specs.Numbering.{map_constraint, PartsBelow}
+use Rattle.cs_validate.specs.declared.rules.Rule.{Rule}
+use Rattle.cs_validate.specs.declared.rules.Rule.TheVariants as rule
+use Rattle.cs_validate.specs.declared.rules.Conjunction.{Conjunction}
+
+-- the kind that `type` names
+abbrev pub kind_of : JsonKind → Kind
+kind_of kind.Null = keyword.Null
+kind_of kind.Boolean = keyword.Boolean
+kind_of kind.Object = keyword.Object
+kind_of kind.Array = keyword.Array
+kind_of kind.Number = keyword.Number
+kind_of kind.String = keyword.String
+kind_of kind.Integer = keyword.Integer
+
+-- a list or map that is empty asks nothing
+abbrev pub unless_empty : {X Y : Type 0} → (List X → Y) → List X → Option Y
+unless_empty f [] = None
+unless_empty f (x ∷ xs) = Some (f (x ∷ xs))
+
+-- a length is a count
+abbrev pub at_least_of_length : {H I : Type 0} → ℤ → Assertion H I
+at_least_of_length (pos n) = at_least_long n
+at_least_of_length _ = nothing
+
+abbrev pub one_if : {X : Type 0} → Option X → ℕ
+one_if o = option_map_or (λ x. 1) o 0
+
+-- places from one on, as many as these
+abbrev pub places_from : {X : Type 0} → ℕ → List X → List ℕ
+places_from p [] = []
+places_from p (x ∷ xs) = p ∷ places_from (suc p) xs
+
+-- the places of the schemas that are asked of documents inside, one after another from the first
+abbrev pub items_place : Conjunction → ℕ
+items_place c = c.first + one_if c.keywords.now.additional
+
+abbrev pub prefix_place : Conjunction → ℕ
+prefix_place c = items_place c + one_if c.keywords.now.rest
+
+abbrev pub properties_place : Conjunction → ℕ
+properties_place c = prefix_place c + length c.keywords.now.prefix.items
+
+-- what each keyword asks, if it stands, in the byte order of their names
+abbrev pub claims_of : Conjunction → List (Option (Assertion ℕ ℕ))
+claims_of c =
+    option_map (λ n. valid_by c.reference) c.keywords.now.reference
+    ∷ option_map (λ s. at_other_keys (names_in c.keywords.now.properties.entries) c.first) c.keywords.now.additional
+    ∷ unless_empty valid_by_all c.all_of.items
+    ∷ unless_empty valid_by_any c.any_of.items
+    ∷ option_map (λ d. equals (doc_view d)) c.keywords.now.equal
+    ∷ option_map is_among c.one_of
+    ∷ option_map below c.keywords.now.below
+    ∷ option_map above c.keywords.now.above
+    ∷ option_map (λ s. behind (length c.keywords.now.prefix.items) (items_place c)) c.keywords.now.rest
+    ∷ option_map at_most c.keywords.now.maximum
+    ∷ option_map at_least_of_length c.keywords.now.min_items
+    ∷ option_map at_least c.keywords.now.minimum
+    ∷ option_map not_valid_by c.negated
+    ∷ unless_empty in_front (places_from (prefix_place c) c.keywords.now.prefix.items)
+    ∷ unless_empty at_keys (numbers_from (properties_place c) (names_in c.keywords.now.properties.entries))
+    ∷ unless_empty has_keys c.required
+    ∷ option_map (λ j. has_kind (kind_of j)) c.keywords.now.kind
+    ∷ []
+
+-- what a rule asks; a part asked of a document inside is a place in another list
+abbrev pub asked_of : Rule → Constraint ℕ ℕ
+asked_of (rule.Truth true) = always
+asked_of (rule.Truth false) = never
+asked_of (rule.Object c) = conjunction (flat_map option_to_list (claims_of c))
+
+-- the same, with the numbers that stand in that list
+abbrev pub numbered : List ℕ → Rule → Constraint ℕ ℕ
+numbered inner r = map_constraint (λ k. k) (slice_index inner) (asked_of r)
+
+-- one step over a table, at a value of the document
+abbrev pub step : List ℕ → AllVerdicts → ℕ → Rule → Document → Opened ℕ → Bool
+step inner f i r d x = is_satisfied (f i) (λ y p. f y (slice_index inner p)) (asked_of r) d x
+
+abbrev pub step_at : List ℕ → AllVerdicts → ℕ → Option Rule → Document → Option (Opened ℕ) → Bool
+step_at inner f i None d x = false
+step_at inner f i (Some r) d None = false
+step_at inner f i (Some r) d (Some x) = step inner f i r d x
+
+-- what the judge of these rules, values and items answers
+abbrev pub answer : List Rule → List ℕ → List Document → List (Opened ℕ) → ℕ → ℕ → AllVerdicts → Bool
+answer rules inner ns items i r f = step_at inner f i (slice_get rules r) (node_at ns i) (slice_get items i)
+
+-- each rule names earlier rules and places of `inner`, and these name rules
+pub record ArePlaced (rules : List Rule) (inner : List ℕ) : Type 0 where
+  pub parts : (r : ℕ) (x : Rule) → slice_get rules r ≡ Some x → PartsBelow r (length inner) (asked_of x)
+  pub inside : AllByRecursion (λ q. q < length rules) inner
+
+-- each item names earlier items
+abbrev pub AreLower : List (Opened ℕ) → Type 0
+AreLower items = (i : ℕ) (x : Opened ℕ) → slice_get items i ≡ Some x → InsideBelow i x

@@ -1,0 +1,31 @@
+// The numbering of a schema document.
+ghost use Rattle.std.specs.Prelude.{IfOk};
+ghost use Rattle.cs_profile.specs.SchemaDocument.{document_of};
+ghost use Rattle.cs_validate.specs.Rooted.{IsRooted};
+
+use crate::definitions::{Placement, by_rank, place_definitions};
+use crate::inner::place_waiting;
+use crate::judge::Numbering;
+use crate::numbering::place;
+use cs_profile::SchemaDoc;
+use std::alloc::{AllocError, Global};
+
+/// The rules of a schema document, each after those that it asks of the same document, and the root's number.
+pub(crate) fn numbering_of<'a>(
+    alloc: Global,
+    schema: &'a SchemaDoc,
+) -> Result<(Numbering<'a>, usize), AllocError>
+    ensures { IfOk result (λ t. IsRooted (document_of schema.now) t.0.rules.items t.0.inner.items t.1) }
+{
+    schema.whole_law(); // for the proof: a truth value has no definitions
+    let ranked = by_rank(alloc, schema)?;
+    let Placement {
+        numbers,
+        mut rules,
+        mut pending,
+    } = place_definitions(alloc, &ranked)?;
+    place(alloc, schema.root(), &numbers, &mut rules, &mut pending)?;
+    let root = rules.len() - 1; // the root's own rule comes last
+    let inner = place_waiting(alloc, &numbers, &mut rules, &mut pending)?;
+    Ok((Numbering { rules, inner }, root))
+}

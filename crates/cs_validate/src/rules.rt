@@ -1,0 +1,34 @@
+// What schemas ask, by the numbers of their parts.
+use cs_document::DocSet;
+use cs_flat::Names;
+use cs_profile::Keywords;
+
+/// What a schema asks of a document. A schema asked of the same document is named by its number, and one asked of a
+/// document inside by its place in a list of such schemas.
+#[derive(Drop)]
+pub(crate) enum Rule<'a> {
+    Truth(bool),
+    Object(Conjunction<'a>),
+}
+
+/// What the keywords of an object ask, each by itself (JSON Schema Core 2020-12, section 10.2.1.1).
+#[derive(Drop)]
+pub(crate) struct Conjunction<'a> {
+    /// The keywords; those that hold no schema are asked as they are.
+    pub(crate) keywords: &'a Keywords,
+    /// `required`
+    pub(crate) required: Names<'a>,
+    /// `enum`
+    pub(crate) one_of: Option<DocSet<'a>>,
+    /// The number of the definition that `$ref` names, if it is defined.
+    pub(crate) reference: Option<usize>,
+    /// `allOf`
+    pub(crate) all_of: Vec<usize>,
+    /// `anyOf`
+    pub(crate) any_of: Vec<usize>,
+    /// `not`
+    pub(crate) negated: Option<usize>,
+    /// The place of the first schema that is asked of documents inside: those of `additionalProperties`, `items`,
+    /// `prefixItems` and `properties` stand one after another.
+    pub(crate) first: usize,
+}

@@ -1,0 +1,377 @@
+// What a rule gives for a value, where the verdicts on the rule's parts are known.
+ghost use Rattle.std.specs.Prelude.{◌≡◌, ◌<◌, ◌+◌, ◌^◌, ◌&&◌, ◌||◌, not, true, false, ℕ, List, Bool, map, drop, length, slice_index, option_to_list, IfSome};
+ghost use Rattle.std.specs.Option.{option_map_or};
+ghost use Rattle.std.specs.List.{list_all, list_any, AllByRecursion};
+ghost use Rattle.std.specs.Str.{bytes_eq};
+ghost use Rattle.cs_document.specs.Document.{Entry, under};
+ghost use Rattle.cs_document.specs.Opened.{InsideBelow, AscendsInside, KeysAscend};
+ghost use Rattle.cs_document.specs.View.{doc_view};
+ghost use Rattle.cs_flat.specs.View.{item_view, entry_of};
+ghost use Rattle.cs_table.specs.Judged.{verdicts};
+ghost use Rattle.cs_profile.specs.Numbered.{numbered, names_in};
+ghost use Rattle.cs_profile.specs.Validity as validity;
+ghost use Rattle.cs_profile.specs.Validity.{if_there};
+ghost use Rattle.cs_validate.specs.declared.rules.Rule.TheVariants as rule;
+ghost use Rattle.cs_validate.specs.Numbering.{PartsBelow};
+ghost use Rattle.cs_validate.specs.Steps.{step, asked_of, places_from, one_if};
+ghost use Rattle.cs_validate.specs.Asked.{asks_any, asks_here, asks_list, asks_map, asks_kind, AreBelowHere, AreBelowInside};
+
+use crate::rules::{Conjunction, Rule};
+use crate::values::{any_holds, integer_holds, length_holds};
+use cs_document::Doc;
+use cs_flat::{Item, number_under};
+use cs_profile::Schema;
+use cs_table::Verdicts;
+use std::collections::BTreeMap;
+
+// ---- schemas that are asked of the value itself
+
+fn all_hold(parts: &[usize], item: usize, done: &Verdicts) -> bool
+    requires item { item < done.now.items }
+    requires parts { AllByRecursion (λ q. q < done.now.rules) parts.now }
+    ensures { result ≡ list_all (verdicts done.now item) parts.now }
+{
+    for part in parts {
+        if !done.get(item, *part) {
+            return false;
+        }
+    }
+    true
+}
+
+fn some_holds(parts: &[usize], item: usize, done: &Verdicts) -> bool
+    requires item { item < done.now.items }
+    requires parts { AllByRecursion (λ q. q < done.now.rules) parts.now }
+    ensures { result ≡ list_any (verdicts done.now item) parts.now }
+{
+    for part in parts {
+        if done.get(item, *part) {
+            return true;
+        }
+    }
+    false
+}
+
+/// Whether the definition that `$ref` names, if it stands, is defined and validates a value (Core, section 8.2.3.1).
+fn reference_holds(conjunction: &Conjunction<'_>, item: usize, done: &Verdicts) -> bool
+    requires item { item < done.now.items }
+    requires parts { IfSome conjunction.now.keywords.now.reference (λ n. AllByRecursion (λ q. q < done.now.rules) (option_to_list conjunction.now.reference)) }
+    ensures { result ≡ if_there (λ n. option_map_or (verdicts done.now item) conjunction.now.reference false) conjunction.now.keywords.now.reference }
+{
+    match (&conjunction.keywords.reference, conjunction.reference) {
+        (None, _) => true,
+        (Some(_), None) => false,
+        (Some(_), Some(part)) => done.get(item, part),
+    }
+}
+
+/// Whether the schema of `not`, if it stands, doesn't validate a value (Core, section 10.2.1.4).
+fn negation_holds(negated: Option<usize>, item: usize, done: &Verdicts) -> bool
+    requires item { item < done.now.items }
+    requires parts { AllByRecursion (λ q. q < done.now.rules) (option_to_list negated) }
+    ensures { result ≡ if_there (λ r. not (verdicts done.now item r)) negated }
+{
+    match negated {
+        Some(part) => !done.get(item, part),
+        None => true,
+    }
+}
+
+// ---- schemas that are asked of values inside
+
+/// Whether a value inside is valid by the schema at a place of `inner`.
+#[inline]
+fn holds_inside(child: usize, part: usize, inner: &[usize], done: &Verdicts) -> bool
+    requires child { child < done.now.items }
+    requires part { part < length inner.now }
+    requires inner { AllByRecursion (λ q. q < done.now.rules) inner.now }
+    ensures { result ≡ verdicts done.now child (slice_index inner.now part) }
+{
+    done.get(child, inner[part])
+}
+
+/// Whether each element with a schema at its place, from a place of `inner` on, is valid by it (Core, section 10.3.1.1).
+fn front_holds(
+    prefix: &[Schema],
+    first: usize,
+    children: &[usize],
+    inner: &[usize],
+    done: &Verdicts,
+) -> bool
+    requires children { AllByRecursion (λ y. y < done.now.items) children.now }
+    requires parts { AllByRecursion (λ p. p < length inner.now) (places_from first prefix.now) }
+    requires inner { AllByRecursion (λ q. q < done.now.rules) inner.now }
+    ensures { result ≡ validity.front_holds (λ (h : ℕ). true) (λ y p. verdicts done.now y (slice_index inner.now p)) (places_from first prefix.now) children.now }
+{
+    let mut rest = children;
+    let mut place = first;
+    for _schema in prefix {
+        let Some((child, others)) = rest.split_first() else {
+            return true;
+        };
+        if !holds_inside(*child, place, inner, done) {
+            return false;
+        }
+        rest = others;
+        place += 1;
+    }
+    true
+}
+
+fn each_holds(children: &[usize], part: usize, inner: &[usize], done: &Verdicts) -> bool
+    requires children { AllByRecursion (λ y. y < done.now.items) children.now }
+    requires part { part < length inner.now }
+    requires inner { AllByRecursion (λ q. q < done.now.rules) inner.now }
+    ensures { result ≡ list_all (λ y. verdicts done.now y (slice_index inner.now part)) children.now }
+{
+    for child in children {
+        if !holds_inside(*child, part, inner, done) {
+            return false;
+        }
+    }
+    true
+}
+
+/// Whether each element behind so many is valid by the schema at a place of `inner` (Core, section 10.3.1.2).
+fn rest_holds(
+    front: usize,
+    part: usize,
+    children: &[usize],
+    inner: &[usize],
+    done: &Verdicts,
+) -> bool
+    requires children { AllByRecursion (λ y. y < done.now.items) children.now }
+    requires part { part < length inner.now }
+    requires inner { AllByRecursion (λ q. q < done.now.rules) inner.now }
+    ensures { result ≡ list_all (λ y. verdicts done.now y (slice_index inner.now part)) (drop front children.now) }
+{
+    if children.len() <= front {
+        return true;
+    }
+    each_holds(&children[front..], part, inner, done)
+}
+
+/// Whether the value under a key, if it stands, is valid by the schema at a place of `inner`.
+fn property_holds(
+    name: &str,
+    place: usize,
+    members: &[(&str, usize)],
+    inner: &[usize],
+    done: &Verdicts,
+) -> bool
+    requires ascends { KeysAscend (map entry_of members.now) }
+    requires members { AllByRecursion (λ (m : Entry ℕ). m.1 < done.now.items) (map entry_of members.now) }
+    requires place { place < length inner.now }
+    requires inner { AllByRecursion (λ q. q < done.now.rules) inner.now }
+    ensures { result ≡ if_there (λ y. verdicts done.now y (slice_index inner.now place)) (under name.now (map entry_of members.now)) }
+{
+    match number_under(members, name) {
+        Some(child) => holds_inside(child, place, inner, done),
+        None => true,
+    }
+}
+
+/// Whether the value under each declared name, if it stands, is valid by the name's schema: these stand from a place of
+/// `inner` on (Core, section 10.3.2.1).
+fn properties_hold(
+    properties: &BTreeMap<String, Schema>,
+    first: usize,
+    members: &[(&str, usize)],
+    inner: &[usize],
+    done: &Verdicts,
+) -> bool
+    requires ascends { KeysAscend (map entry_of members.now) }
+    requires members { AllByRecursion (λ (m : Entry ℕ). m.1 < done.now.items) (map entry_of members.now) }
+    requires parts { AllByRecursion (λ (p : Entry ℕ). p.1 < length inner.now) (numbered first (names_in properties.now.entries)) }
+    requires inner { AllByRecursion (λ q. q < done.now.rules) inner.now }
+    ensures { result ≡ list_all (λ (p : Entry ℕ). if_there (λ y. verdicts done.now y (slice_index inner.now p.1)) (under p.0 (map entry_of members.now))) (numbered first (names_in properties.now.entries)) }
+{
+    let mut place = first;
+    for name in properties.keys() {
+        if !property_holds(name, place, members, inner, done) {
+            return false;
+        }
+        place += 1;
+    }
+    true
+}
+
+/// Whether a key is a declared name, or its value is valid by the schema at a place of `inner`.
+fn other_holds(
+    properties: &BTreeMap<String, Schema>,
+    key: &str,
+    child: usize,
+    part: usize,
+    inner: &[usize],
+    done: &Verdicts,
+) -> bool
+    requires child { child < done.now.items }
+    requires part { part < length inner.now }
+    requires inner { AllByRecursion (λ q. q < done.now.rules) inner.now }
+    ensures { result ≡ (list_any (bytes_eq key.now) (names_in properties.now.entries) || verdicts done.now child (slice_index inner.now part)) }
+{
+    properties.contains_key(key) || holds_inside(child, part, inner, done)
+}
+
+/// Whether each value whose key is no declared name is valid by the schema at a place of `inner` (Core, section
+/// 10.3.2.3).
+fn others_hold(
+    properties: &BTreeMap<String, Schema>,
+    part: usize,
+    members: &[(&str, usize)],
+    inner: &[usize],
+    done: &Verdicts,
+) -> bool
+    requires members { AllByRecursion (λ (m : Entry ℕ). m.1 < done.now.items) (map entry_of members.now) }
+    requires part { part < length inner.now }
+    requires inner { AllByRecursion (λ q. q < done.now.rules) inner.now }
+    ensures { result ≡ list_all (λ (m : Entry ℕ). list_any (bytes_eq m.0) (names_in properties.now.entries) || verdicts done.now m.1 (slice_index inner.now part)) (map entry_of members.now) }
+{
+    for (key, child) in members {
+        if !other_holds(properties, key, *child, part, inner, done) {
+            return false;
+        }
+    }
+    true
+}
+
+// ---- all keywords
+
+/// The place behind that of a schema, if it stands.
+fn behind(place: usize, schema: &Option<Schema>) -> usize
+    requires { IfSome schema.now (λ s. place + 1 < 2 ^ 64) }
+    ensures { result ≡ place + one_if schema.now }
+{
+    match schema {
+        Some(_) => place + 1,
+        None => place,
+    }
+}
+
+/// What keywords ask of a list (Validation, section 6.4; Core, section 10.3.1).
+fn list_holds(
+    conjunction: &Conjunction<'_>,
+    children: &[usize],
+    inner: &[usize],
+    done: &Verdicts,
+) -> bool
+    requires parts { AreBelowInside (length inner.now) conjunction.now }
+    requires children { AllByRecursion (λ y. y < done.now.items) children.now }
+    requires inner { AllByRecursion (λ q. q < done.now.rules) inner.now }
+    ensures { result ≡ asks_list (λ y p. verdicts done.now y (slice_index inner.now p)) conjunction.now children.now }
+{
+    let keywords = conjunction.keywords;
+    let items = behind(conjunction.first, &keywords.additional);
+    let prefix = behind(items, &keywords.rest);
+    length_holds(keywords.min_items, children.len())
+        && front_holds(&keywords.prefix, prefix, children, inner, done)
+        && (keywords.rest.is_none()
+            || rest_holds(keywords.prefix.len(), items, children, inner, done))
+}
+
+/// What keywords ask of a map (Validation, section 6.5; Core, section 10.3.2).
+fn map_holds(
+    conjunction: &Conjunction<'_>,
+    members: &[(&str, usize)],
+    inner: &[usize],
+    done: &Verdicts,
+) -> bool
+    requires parts { AreBelowInside (length inner.now) conjunction.now }
+    requires ascends { KeysAscend (map entry_of members.now) }
+    requires members { AllByRecursion (λ (m : Entry ℕ). m.1 < done.now.items) (map entry_of members.now) }
+    requires inner { AllByRecursion (λ q. q < done.now.rules) inner.now }
+    ensures { result ≡ asks_map (λ y p. verdicts done.now y (slice_index inner.now p)) conjunction.now (map entry_of members.now) }
+{
+    let keywords = conjunction.keywords;
+    let items = behind(conjunction.first, &keywords.additional);
+    let prefix = behind(items, &keywords.rest);
+    let properties = prefix + keywords.prefix.len();
+    conjunction.required.are_keys(members)
+        && properties_hold(&keywords.properties, properties, members, inner, done)
+        && (keywords.additional.is_none()
+            || others_hold(
+                &keywords.properties,
+                conjunction.first,
+                members,
+                inner,
+                done,
+            ))
+}
+
+/// What keywords ask of a value of its kind alone.
+fn kind_holds(
+    conjunction: &Conjunction<'_>,
+    value: &Item<'_>,
+    inner: &[usize],
+    done: &Verdicts,
+) -> bool
+    requires parts { AreBelowInside (length inner.now) conjunction.now }
+    requires ascends { AscendsInside (item_view value.now) }
+    requires children { InsideBelow done.now.items (item_view value.now) }
+    requires inner { AllByRecursion (λ q. q < done.now.rules) inner.now }
+    ensures { result ≡ asks_kind (λ y p. verdicts done.now y (slice_index inner.now p)) conjunction.now (item_view value.now) }
+{
+    match value {
+        Item::Int(n) => integer_holds(conjunction.keywords, *n),
+        Item::List(children) => list_holds(conjunction, children, inner, done),
+        Item::Object(members) => map_holds(conjunction, members, inner, done),
+        Item::Null | Item::Bool(_) | Item::Text(_) => true,
+    }
+}
+
+/// Whether the schemas that are asked of the value itself hold (Core, sections 8.2.3.1 and 10.2.1).
+fn here_holds(conjunction: &Conjunction<'_>, item: usize, done: &Verdicts) -> bool
+    requires item { item < done.now.items }
+    requires parts { AreBelowHere done.now.rules conjunction.now }
+    ensures { result ≡ asks_here (verdicts done.now item) conjunction.now }
+{
+    reference_holds(conjunction, item, done)
+        && all_hold(&conjunction.all_of, item, done)
+        && (conjunction.any_of.is_empty() || some_holds(&conjunction.any_of, item, done))
+        && negation_holds(conjunction.negated, item, done)
+}
+
+/// What the keywords of an object ask.
+fn object_holds(
+    conjunction: &Conjunction<'_>,
+    value: &Item<'_>,
+    doc: &Doc,
+    item: usize,
+    inner: &[usize],
+    done: &Verdicts,
+) -> bool
+    requires item { item < done.now.items }
+    requires here { AreBelowHere done.now.rules conjunction.now }
+    requires inside { AreBelowInside (length inner.now) conjunction.now }
+    requires ascends { AscendsInside (item_view value.now) }
+    requires children { InsideBelow done.now.items (item_view value.now) }
+    requires inner { AllByRecursion (λ q. q < done.now.rules) inner.now }
+    ensures { result ≡ (asks_any conjunction.now (doc_view doc.now) (item_view value.now) && (asks_here (verdicts done.now item) conjunction.now
+        && asks_kind (λ y p. verdicts done.now y (slice_index inner.now p)) conjunction.now (item_view value.now))) }
+{
+    any_holds(conjunction, value, doc)
+        && here_holds(conjunction, item, done)
+        && kind_holds(conjunction, value, inner, done)
+}
+
+/// Whether a value is valid by a schema, by the verdicts on the schema's parts (Core, section 4.3.2).
+pub(crate) fn holds(
+    rule: &Rule<'_>,
+    value: &Item<'_>,
+    doc: &Doc,
+    item: usize,
+    inner: &[usize],
+    done: &Verdicts,
+) -> bool
+    requires item { item < done.now.items }
+    requires parts { PartsBelow done.now.rules (length inner.now) (asked_of rule.now) }
+    requires ascends { AscendsInside (item_view value.now) }
+    requires children { InsideBelow done.now.items (item_view value.now) }
+    requires inner { AllByRecursion (λ q. q < done.now.rules) inner.now }
+    ensures { result ≡ step inner.now (verdicts done.now) item rule.now (doc_view doc.now) (item_view value.now) }
+{
+    match rule {
+        Rule::Truth(verdict) => *verdict,
+        Rule::Object(conjunction) => object_holds(conjunction, value, doc, item, inner, done),
+    }
+}

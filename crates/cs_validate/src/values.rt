@@ -1,0 +1,98 @@
+// What keywords without schemas ask of a value.
+ghost use Rattle.std.specs.Prelude.{◌≡◌};
+ghost use Rattle.std.specs.List.{list_any};
+ghost use Rattle.cs_document.specs.Document.{document_eq};
+ghost use Rattle.cs_document.specs.View.{doc_view};
+ghost use Rattle.cs_flat.specs.View.{item_view};
+ghost use Rattle.cs_profile.specs.Validity as validity;
+ghost use Rattle.cs_profile.specs.Validity.{if_there};
+ghost use Rattle.cs_validate.specs.Steps.{kind_of};
+ghost use Rattle.cs_validate.specs.Asked as asked;
+ghost use Rattle.cs_validate.specs.Asked.{asks_any, asks_integer, is_long};
+
+use crate::rules::Conjunction;
+use cs_document::{Doc, DocSet};
+use cs_flat::Item;
+use cs_profile::{JsonKind, Keywords};
+
+/// Whether a value has a kind; an integer is a number too (Validation, section 6.1.1).
+fn is_of_kind(kind: JsonKind, value: &Item<'_>) -> bool
+    ensures { result ≡ validity.is_of_kind (kind_of kind) (item_view value.now) }
+{
+    match kind {
+        JsonKind::Null => matches!(value, Item::Null),
+        JsonKind::Boolean => matches!(value, Item::Bool(_)),
+        JsonKind::Object => matches!(value, Item::Object(_)),
+        JsonKind::Array => matches!(value, Item::List(_)),
+        JsonKind::Number | JsonKind::Integer => matches!(value, Item::Int(_)),
+        JsonKind::String => matches!(value, Item::Text(_)),
+    }
+}
+
+/// Whether a value has the kind that `type` names, if it stands.
+fn has_kind(kind: Option<JsonKind>, value: &Item<'_>) -> bool
+    ensures { result ≡ if_there (λ j. validity.is_of_kind (kind_of j) (item_view value.now)) kind }
+{
+    match kind {
+        Some(kind) => is_of_kind(kind, value),
+        None => true,
+    }
+}
+
+/// Whether a value equals that of `const`, if it stands (Validation, section 6.1.3).
+fn is_equal(value: &Option<Doc>, doc: &Doc) -> bool
+    ensures { result ≡ if_there (λ v. document_eq (doc_view v) (doc_view doc.now)) value.now }
+{
+    match value {
+        Some(value) => value == doc,
+        None => true,
+    }
+}
+
+/// Whether a value is one of those of `enum`, if it stands (Validation, section 6.1.2).
+fn is_listed(values: &Option<DocSet<'_>>, doc: &Doc) -> bool
+    ensures { result ≡ if_there (λ vs. list_any (λ v. document_eq v (doc_view doc.now)) vs) values.now }
+{
+    match values {
+        Some(values) => values.contains(doc),
+        None => true,
+    }
+}
+
+/// What keywords ask of a value of any kind (Validation, section 6.1).
+pub(crate) fn any_holds(conjunction: &Conjunction<'_>, value: &Item<'_>, doc: &Doc) -> bool
+    ensures { result ≡ asks_any conjunction.now (doc_view doc.now) (item_view value.now) }
+{
+    has_kind(conjunction.keywords.kind, value)
+        && is_equal(&conjunction.keywords.equal, doc)
+        && is_listed(&conjunction.one_of, doc)
+}
+
+fn is_not_above(keywords: &Keywords, n: i64) -> bool
+    ensures { result ≡ asked.is_not_above keywords.now n }
+{
+    keywords.below.is_none_or(|limit| n < limit) && keywords.maximum.is_none_or(|limit| n <= limit)
+}
+
+fn is_not_below(keywords: &Keywords, n: i64) -> bool
+    ensures { result ≡ asked.is_not_below keywords.now n }
+{
+    keywords.above.is_none_or(|limit| limit < n) && keywords.minimum.is_none_or(|limit| limit <= n)
+}
+
+/// What keywords ask of an integer (Validation, section 6.2).
+pub(crate) fn integer_holds(keywords: &Keywords, n: i64) -> bool
+    ensures { result ≡ asks_integer keywords.now n }
+{
+    is_not_above(keywords, n) && is_not_below(keywords, n)
+}
+
+/// Whether a list isn't shorter than `minItems`, if it stands (Validation, section 6.4.5).
+pub(crate) fn length_holds(least: Option<i64>, length: usize) -> bool
+    ensures { result ≡ if_there (λ l. is_long l length) least }
+{
+    match least {
+        Some(least) => least < 0 || least as usize <= length,
+        None => true,
+    }
+}
