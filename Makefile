@@ -3,7 +3,10 @@
 # make test       the gate: every proof from nothing, the must-fail edits, the tests, the program's stored run and its cases
 # make cases      the cases of the program alone, and those that need pipes, rights or special files
 # make edits      the edits that the gate doesn't try; CRATES="cs_x cs_y" for those of some crates
-# make memory     runs each command with each of its first 40 allocations refused in turn, half an hour
+# make memory     runs each command, and each step from bytes to a file or a document, with each of its growths of memory refused
+#                 in turn; a minute, once the programs are built
+# make hostile    runs the program on deep, long, wide and doubling inputs within a stack of 8 MiB and 1 GiB of memory, and says the
+#                 time and the memory of each; two minutes
 # make bench      times the lexer and the parser on 1 MiB of source in four shapes each, packages at their limits, documents
 #                 of 50 MB and the largest table, and says how much memory the last two take; then whole runs of `vet`
 #                 and `validate` against few and many rules, and of `export` near the limits of packages
@@ -14,7 +17,7 @@ JOBS ?= $(shell nproc)
 SOURCES := crates.txt $(shell find crates -name out -prune -o \( -name '*.rt' -o -name '*.antt' \) -print)
 BUILT := crates/cue2schema/out/cue2schema
 
-.PHONY: all run test cases edits memory bench install clean toolchain
+.PHONY: all run test cases edits memory hostile bench install clean toolchain
 
 all: bin/cue2schema
 
@@ -44,8 +47,12 @@ edits: | toolchain
 	tools/edits_apply.sh
 	JOBS=$(JOBS) tools/edits.sh $(CRATES)
 
-memory: | toolchain
-	JOBS=$(JOBS) tools/memory.sh
+memory: bin/cue2schema | toolchain
+	cd crates/cs_bench && rt run < stdin > /dev/null
+	JOBS=$(JOBS) tools/memory.sh bin/cue2schema crates/cs_bench/out/cs_bench
+
+hostile: bin/cue2schema
+	tools/hostile.sh bin/cue2schema
 
 bench: bin/cue2schema | toolchain
 	cd crates/cs_bench && rt run < stdin > /dev/null
@@ -53,7 +60,7 @@ bench: bin/cue2schema | toolchain
 	sh bench/packages.sh crates/cs_bench/out/cs_bench
 	sh bench/documents.sh crates/cs_bench/out/cs_bench
 	sh bench/judges.sh crates/cs_bench/out/cs_bench bin/cue2schema
-	sh bench/exports.sh bin/cue2schema
+	sh bench/exports.sh bin/cue2schema crates/cs_bench/out/cs_bench
 
 install: bin/cue2schema
 	install -D -m 755 bin/cue2schema $(DESTDIR)$(PREFIX)/bin/cue2schema

@@ -1,13 +1,15 @@
 #!/bin/sh
-# Times `export` by whole runs of the program, on packages near their limits: many definitions, a struct with many labels, an
-# alternative of many texts, and a conjunction of many limits. A line for each: the size of the source; what the run takes
-# beyond the program's start; the megabytes of source in a second; the same as a multiple of what a tenth of the package
-# takes, which is 10 where the time is linear; the most memory, and how many bytes of it there are for each byte of source
-# beyond those of a small run. Fails where ten times the package takes more than 16 times as long.
-# usage: exports.sh PROGRAM
+# Times `export` by whole runs of the program, on packages near their limits: many definitions, a struct with many labels,
+# alternatives of many texts, in order and in no order, and a conjunction of many limits. A line for each: the size of the
+# source; what the run takes beyond the program's start; the megabytes of source in a second; the same as a multiple of what
+# a tenth of the package takes, which is 10 where the time is linear; the most memory, and how many bytes of it there are
+# for each byte of source beyond those of a small run. Then what each step takes beyond the one before, in milliseconds: tokens,
+# parsing, resolving, the guard, the schema, its document, its text. Fails where ten times the package takes more than 16 times as long.
+# usage: exports.sh PROGRAM BENCH
 set -eu
 
 . "$(dirname "$0")/timing.sh"
+bench=$2
 
 # The nanoseconds of one run on a source: the least of some.
 run_time() { # source
@@ -63,6 +65,15 @@ texts() { # count
     }'
 }
 
+# The same in no order, of texts that begin alike.
+scattered() { # count
+    awk -v count="$1" 'BEGIN {
+        printf "#A0: "
+        for (i = 0; i < count; i++) printf "%s\"enumerated text %05d\"", (i ? " | " : ""), i * 7919 % count
+        print ""
+    }'
+}
+
 # A conjunction of so many limits.
 limits() { # count
     awk -v count="$1" 'BEGIN {
@@ -79,6 +90,7 @@ failed=0
 
 measure() { # name count
     "$1" "$2" > "$folder/source"
+    cp "$folder/source" "$folder/$1"
     "$1" "$(($2 / 10))" > "$folder/tenth"
     taken=$(($(run_time "$folder/source") - start))
     tenth=$(($(run_time "$folder/tenth") - start))
@@ -96,5 +108,21 @@ printf '%-12s %8s %9s %7s %7s %8s %7s\n' export bytes ms MB/s growth KiB B/B
 measure definitions 1000
 measure labels 24900
 measure texts 49900
+measure scattered 40000
 measure limits 49900
+
+# A line for a shape: the time of each step beyond that of the step before.
+steps() { # name
+    line=$(printf '%-12s' "$1")
+    before=0
+    for step in lex parse resolve guard compile document text; do
+        whole=$(program=$bench; time_of "$folder/$1" "$step" 3)
+        line="$line $(awk -v taken="$((whole - before))" 'BEGIN { printf "%8.2f", taken / 1e6 }')"
+        before=$whole
+    done
+    echo "$line"
+}
+
+printf '%-12s %8s %8s %8s %8s %8s %8s %8s\n' ms lex parse resolve guard compile document text
+for shape in definitions labels texts scattered limits; do steps "$shape"; done
 exit $failed

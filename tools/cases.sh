@@ -24,20 +24,6 @@ run_args() {
     run "$@"
 }
 
-# run_line LINE: the program with the words of a line, parted by blanks; behind `<` stands the file that it reads
-run_line() {
-    root=
-    : > "$room/in"
-    case $1 in *' < '*) cp "${1#* < }" "$room/in" ;; esac
-    set -f
-    set -- ${1%% < *}
-    set +f
-    for word in "$@"; do
-        case $word in '#'* | '--root=#'*) root=${word#*\#} ;; esac
-    done
-    run "$@"
-}
-
 # row LABEL WANTED: runs the program on $room/in
 row() {
     run_args

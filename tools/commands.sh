@@ -43,7 +43,7 @@ try_run() {
 
 mkdir "$room/here"
 cd "$room/here"
-port='{"P":{"allOf":[{"type":"integer"},{"minimum":1,"type":"number"},{"maximum":65535,"type":"number"}]}}'
+port='{"P":{"maximum":65535,"minimum":1,"type":"integer"}}'
 port_text="{\"\$defs\":$port,\"\$ref\":\"#/\$defs/P\",$dialect}"
 printf '#P: int & >=1 & <=65535\n' > port.cue
 printf '#P: int &' > syntax.cue
@@ -56,7 +56,7 @@ printf '[1' > cut.json
 mkdir folder
 printf '#P: int' > "$(printf 'f\374r.cue')"
 # A schema of 95,000 bytes, more than a pipe holds.
-{ printf '#P: int'; yes '&int' | head -n 4999 | tr -d '\n'; } > wide.cue
+{ printf '#P: int'; yes '|int' | head -n 4999 | tr -d '\n'; } > wide.cue
 # 11,200 operands, which are 11,202 rules and 22,402 schemas, and 3,000 values.
 { printf '#P: !=1'; yes '&!=1' | head -n 11199 | tr -d '\n'; } > twice.cue
 { printf '[0'; yes ',0' | head -n 2998 | tr -d '\n'; printf ']'; } > values.json

@@ -1,10 +1,24 @@
-# What cases.sh and commands.sh share: whether a run did what is wanted of it. They set `program`, and after each run `status`;
-# what it printed stands in $room/out and what it said on standard error in $room/said.
+# What cases.sh, commands.sh, memory.sh and hostile.sh share: whether a run did what is wanted of it. They set `program`, and
+# their `run` sets `status`; what it printed stands in $room/out and what it said on standard error in $room/said.
 room=$(mktemp -d)
 trap 'rm -rf "$room"' EXIT
 passed=0
 failed=0
 dialect='"$schema":"https://json-schema.org/draft/2020-12/schema"'
+
+# run_line LINE: the program with the words of a line, parted by blanks; behind `<` stands the file that it reads
+run_line() {
+    root=
+    : > "$room/in"
+    case $1 in *' < '*) cp "${1#* < }" "$room/in" ;; esac
+    set -f
+    set -- ${1%% < *}
+    set +f
+    for word in "$@"; do
+        case $word in '#'* | '--root=#'*) root=${word#*\#} ;; esac
+    done
+    run "$@"
+}
 
 # count LABEL WELL: one more case
 count() {

@@ -1,42 +1,67 @@
 // Takes standard input through one step and prints a count, for measuring. The first word is the step, and the second how
 // many times it is taken:
 // - `lex`, `parse`, `resolve`, `guard`: a source; its tokens, its definitions, or those of its package.
-// - `read`, `flatten`: a JSON text; the values at the top of its document, or all of them. `flatten` reads once.
+// - `compile`, `document`, `text`: a source; the definitions of the schema of its first definition, the keys at the top of the
+//   schema's document, or the bytes of its text.
+// - `read`, `flatten`, `copy`: a JSON text; the values at the top of its document, or all of them, or those at the top of a
+//   copy. `flatten` and `copy` read once.
 // - `fill`: how many items a table has, with 8,192 rules; its judgements.
+// Where memory runs out, it ends as `cue2schema` does: by `error 15` and status 5.
 #![tactic(auto)]
 
 mod documents;
 mod sources;
+mod stop;
 mod tables;
 
 use std::alloc::Global;
 use std::io::Read;
-use std::{io, str};
+use std::process::ExitCode;
+use std::str;
+use stop::Stop;
 
-fn main(rt: HostRuntime) -> io::Result<()> {
-    let mut input = Vec::new(rt.alloc());
-    rt.stdin().read_to_end(&mut input)?;
-    let words: Vec<String> = std::env::args(&rt)?.collect(rt.alloc())?;
-    match counted(rt.alloc(), input.as_slice(), words.as_slice()) {
-        Some(count) => println!(rt; "{count}"),
-        None => Err(io::Error::other("no such step, or an input that is refused")),
+fn main(rt: HostRuntime) -> ExitCode {
+    match printed(&rt) {
+        Ok(()) => ExitCode::from(0),
+        Err(Stop::OutOfMemory) => {
+            let _ = eprintln!(rt; "error 15");
+            ExitCode::from(5)
+        }
+        Err(Stop::Refused) => {
+            let _ = eprintln!(rt; "no such step, or an input that is refused");
+            ExitCode::from(1)
+        }
     }
 }
 
-/// What the words ask for; nothing where they ask for no step, or the input is refused.
-fn counted(alloc: Global, input: &[u8], words: &[String]) -> Option<usize> {
+/// Prints what the words of the process ask for.
+fn printed(rt: &HostRuntime) -> Result<(), Stop> {
+    let mut input = Vec::new(rt.alloc());
+    rt.stdin().read_to_end(&mut input)?;
+    let mut words = Vec::new(rt.alloc());
+    for word in std::env::args(rt)? {
+        words.push(word)?;
+    }
+    let count = counted(rt.alloc(), input.as_slice(), words.as_slice())?;
+    println!(rt; "{count}")?;
+    Ok(())
+}
+
+/// What the words ask for.
+fn counted(alloc: Global, input: &[u8], words: &[String]) -> Result<usize, Stop> {
     let step = match words.get(1) {
         Some(word) => word.as_str(),
         None => "lex",
     };
     let times = match words.get(2) {
-        Some(word) => word.parse::<u32>().ok()?,
+        Some(word) => word.parse::<u32>()?,
         None => 1,
     };
     match step {
         "read" => documents::read(alloc, input, times),
         "flatten" => documents::flattened(alloc, input, times),
-        "fill" => tables::filled(alloc, str::from_utf8(input).ok()?, times),
-        _ => sources::counted(alloc, str::from_utf8(input).ok()?, step, times),
+        "copy" => documents::copied(alloc, input, times),
+        "fill" => tables::filled(alloc, str::from_utf8(input)?, times),
+        _ => sources::counted(alloc, str::from_utf8(input)?, step, times),
     }
 }

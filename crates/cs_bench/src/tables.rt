@@ -1,4 +1,5 @@
 // Tables of verdicts, filled by a judge that does next to nothing.
+use crate::stop::Stop;
 use cs_table::{Judge, Verdicts, fill};
 use std::alloc::Global;
 
@@ -37,16 +38,16 @@ impl Judge for Thirds {
 }
 
 /// Fills a table so many times: how many judgements it has. The text says how many items.
-pub fn filled(alloc: Global, items: &str, times: u32) -> Option<usize> {
-    let items = items.trim().parse::<usize>().ok()?;
+pub fn filled(alloc: Global, items: &str, times: u32) -> Result<usize, Stop> {
+    let items = items.trim().parse::<usize>()?;
     let judge = Thirds {
         items,
         rules: RULES,
     };
     let mut count = 0;
     for _ in 0..times {
-        let table = fill(alloc, &judge).ok()?;
+        let table = fill(alloc, &judge)?;
         count = table.judged() as usize;
     }
-    Some(count)
+    Ok(count)
 }

@@ -4,7 +4,7 @@ use Rattle.std.specs.Prelude.{option_map}
 use Rattle.std.specs.Option.{option_map_or}
 use Rattle.std.proofs.Math.Bool.{and-true}
 use Rattle.std.specs.List.{list_all, list_any}
-use Rattle.cs_document.specs.Document.{Document, null, boolean, integer, text, list, object, elements, Entry, under, entries}
+use Rattle.cs_document.specs.Document.{Document, null, boolean, integer, text, list, object, elements, Entry, under, entries, IsDocument}
 use Rattle.cs_document.specs.Opened.{opened}
 use Rattle.cs_document.proofs.Each.{all_same, each_of}
 use Rattle.cs_profile.specs.Keywords.{defined}
@@ -15,15 +15,11 @@ use Rattle.cs_package.specs.Environment.{Environment, bodies}
 use Rattle.cs_instance.specs.Constraint.{Rest, nothing, anything, each, is_satisfied, declaration_holds, rest_holds, elements_hold}
 use Rattle.cs_instance.specs.Instance.{Rule, node, definition, constraint_of, rest_of, all_bodies}
 use Rattle.cs_compile.specs.Translation.{schema_of, schemas_of, declared_schemas, rest_schema, definition_schema}
-use Rattle.cs_compile.proofs.Asserted.{valid_all_of, valid_any_of, valid_one_or_all, valid_false}
+use Rattle.cs_compile.proofs.Asserted.{valid_one_or_all, valid_false}
+use Rattle.cs_compile.proofs.Enumerations.{valid_disjunction}
+use Rattle.cs_compile.proofs.Interval.{and_turned, conjunction_valid}
 use Rattle.cs_compile.proofs.Structs.{struct_holds}
 use Rattle.cs_compile.proofs.Lists.{list_holds, rest_by, nothing_behind}
-
-and_turned : (a b : Bool) → (a && (b && true)) ≡ (b && a)
-and_turned true true = refl
-and_turned true false = refl
-and_turned false true = refl
-and_turned false false = refl
 
 -- the schema of a rule; no document is valid by that of a name that isn't declared
 abbrev pub rule_schema : Environment → Rule → Document
@@ -183,22 +179,23 @@ module _ (E : Environment) (R : Document) (V : Document → Document → Bool) (
       go (Some bs) = valid_one_or_all R V g (map schema_of bs) x ∙ all_mapped bs (λ s. V s x) ∙ sym (all_nodes bs (λ p. V (rule_schema E p) x))
 
   -- the schema of a rule asks what the rule asks
-  pub rule_step : (r : Rule) (x : Document) → IsWritten E R r → V (rule_schema E r) x ≡ step r x
-  rule_step (definition n) x w = definition_step n x
-  rule_step (node (cue.reference n)) x w = reference_step n x w
-  rule_step (node (cue.atom cue.top)) x w = g _ _
-  rule_step (node (cue.atom cue.bottom)) x w = g _ _
-  rule_step (node (cue.atom cue.null)) x w = null_step x
-  rule_step (node (cue.atom (cue.boolean b))) x w = boolean_step b x
-  rule_step (node (cue.atom (cue.integer n))) x w = integer_step n x
-  rule_step (node (cue.atom (cue.text s))) x w = text_step s x
-  rule_step (node (cue.atom (cue.bound r n))) x w = bound_step r n x
-  rule_step (node (cue.atom (cue.not_integer n))) x w = not_integer_step n x
-  rule_step (node (cue.atom (cue.not_text s))) x w = not_text_step s x
-  rule_step (node (cue.atom cue.not_null)) x w = not_null_step x
-  rule_step (node (cue.kind k)) x w = kind_step k x
-  rule_step (node (cue.range least greatest)) x w = range_step least greatest x
-  rule_step (node (cue.conjunction es)) x w = valid_all_of R V g (schemas_of es) x ∙ all_schemas es (λ s. V s x) ∙ sym (all_nodes (operands es) (λ p. V (rule_schema E p) x))
-  rule_step (node (cue.disjunction es)) x w = valid_any_of R V g (schemas_of es) x ∙ any_schemas es (λ s. V s x) ∙ sym (any_nodes (operands es) (λ p. V (rule_schema E p) x))
-  rule_step (node (cue.struct ds o)) x w = struct_step ds o x
-  rule_step (node (cue.list es rest)) x w = list_step es rest x
+  pub rule_step : (r : Rule) (x : Document) → IsDocument x → IsWritten E R r → V (rule_schema E r) x ≡ step r x
+  rule_step (definition n) x is w = definition_step n x
+  rule_step (node (cue.reference n)) x is w = reference_step n x w
+  rule_step (node (cue.atom cue.top)) x is w = g _ _
+  rule_step (node (cue.atom cue.bottom)) x is w = g _ _
+  rule_step (node (cue.atom cue.null)) x is w = null_step x
+  rule_step (node (cue.atom (cue.boolean b))) x is w = boolean_step b x
+  rule_step (node (cue.atom (cue.integer n))) x is w = integer_step n x
+  rule_step (node (cue.atom (cue.text s))) x is w = text_step s x
+  rule_step (node (cue.atom (cue.bound r n))) x is w = bound_step r n x
+  rule_step (node (cue.atom (cue.not_integer n))) x is w = not_integer_step n x
+  rule_step (node (cue.atom (cue.not_text s))) x is w = not_text_step s x
+  rule_step (node (cue.atom cue.not_null)) x is w = not_null_step x
+  rule_step (node (cue.kind k)) x is w = kind_step k x
+  rule_step (node (cue.range least greatest)) x is w = range_step least greatest x
+  rule_step (node (cue.conjunction es)) x is w =
+      conjunction_valid R V g (operands es) (schemas_of es) x is (all_schemas es (λ s. V s x)) ∙ sym (all_nodes (operands es) (λ p. V (rule_schema E p) x))
+  rule_step (node (cue.disjunction es)) x is w = valid_disjunction R V g es x (any_schemas es (λ s. V s x)) ∙ sym (any_nodes (operands es) (λ p. V (rule_schema E p) x))
+  rule_step (node (cue.struct ds o)) x is w = struct_step ds o x
+  rule_step (node (cue.list es rest)) x is w = list_step es rest x

@@ -40,12 +40,12 @@ module _ (E : Environment) (n : List ℕ) (ms : Members) (are : AreDefinitions E
   there : (m : List ℕ) → Reaches E n m → IsSome (defined (root_of ms n) m)
   there m r = subst (λ (o : Option Document). IsSome o) (sym (defined-root_of ms n m)) (each m r)
 
-  valid : IsGuarded E → (V : Document → Document → Bool) (I : Rule → Document → Bool) → IsValidity (root_of ms n) V → IsInstance E I → (x : Document) → V (root_of ms n) x ≡ I (definition n) x
-  valid guarded V I g h x =
+  valid : IsGuarded E → (V : Document → Document → Bool) (I : Rule → Document → Bool) → IsValidity (root_of ms n) V → IsInstance E I → (x : Document) → IsDocument x → V (root_of ms n) x ≡ I (definition n) x
+  valid guarded V I g h x is =
       let own = definition_of E n ms are each n itself in
       valid-root_of ms n own.0 V g own.1 x
       ∙ ap (λ d. V d x) (own.2.schema ∙ sym (ap (λ o. option_map_or definition_schema o (boolean false)) own.2.declared))
-      ∙ agreement E n guarded (root_of ms n) written V g I h (definition n) x itself
+      ∙ agreement E n guarded (root_of ms n) written V g I h (definition n) x is itself
 
 module _ (E : Environment) (n : List ℕ) (s : SchemaValue) (root : schema_view s.root ≡ reference_to n)
     (each : (m : List ℕ) → Reaches E n m → IsSome (under m (definition_entries s.definitions)))
@@ -69,6 +69,6 @@ module _ (E : Environment) (n : List ℕ) (s : SchemaValue) (root : schema_view 
   compiles = record {
     root = root;
     definitions = λ m. subst (λ d. IsSome (defined d m) ↔ Reaches E n m) (sym is_root) (nothing_else E n ms are each m, there E n ms are each m);
-    meaning = λ V I. subst (λ d. IsValidity d V → IsInstance E I → (x : Document) → IsDocument x → V d x ≡ I (definition n) x) (sym is_root) (λ g h x is. valid E n ms are each guarded V I g h x);
+    meaning = λ V I. subst (λ d. IsValidity d V → IsInstance E I → (x : Document) → IsDocument x → V d x ≡ I (definition n) x) (sym is_root) (λ g h x is. valid E n ms are each guarded V I g h x is);
     nested = λ low. subst (λ d. depth d ≤ 114) (sym is_root) (root_of-depth E n ms low are);
   }

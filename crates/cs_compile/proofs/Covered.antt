@@ -4,10 +4,10 @@ use Rattle.std.proofs.Common.{◌≡◌, ℕ, List, [], ◌∷◌, ◌++◌, fla
 use Rattle.std.specs.Prelude.{option_map}
 use Rattle.std.specs.List.{AllByRecursion as Each}
 use Rattle.std.proofs.lemmas.List.Elements.{Contains-append_left, Contains-append_right}
-use Rattle.cs_document.specs.Document.{Document}
+use Rattle.cs_document.specs.Document.{Document, null, boolean, integer, text, list, object, Documents, no_documents, document, Members, no_members, member, elements, entries, IsDocument, AreDocuments, AreMembers}
 use Rattle.cs_document.specs.Opened.{opened}
 use Rattle.cs_document.proofs.Each.{each_map, each_over, each_front, each_back, each_member}
-use Rattle.cs_document.proofs.Children.{children, each_within}
+use Rattle.cs_document.proofs.Children.{children, values, each_within}
 use Rattle.cs_package.specs.Expression as cue
 use Rattle.cs_package.specs.Expression.{Expression, Expressions, Declarations, operands, declarations}
 use Rattle.cs_package.specs.Environment.{Environment, bodies}
@@ -25,6 +25,23 @@ use Rattle.cs_compile.proofs.Agreement.{rule_schema, rule_step, IsWritten}
 each_apply : {X : Type 0} (P Q : X → Type 0) (xs : List X) → Each (λ x. P x → Q x) xs → Each P xs → Each Q xs
 each_apply P Q [] f h = tt
 each_apply P Q (x ∷ xs) f h = (f.0 h.0, each_apply P Q xs f.1 h.1)
+
+-- what stands directly inside a document are documents
+elements_documents : (ds : Documents) → AreDocuments ds → Each IsDocument (elements ds)
+elements_documents no_documents is = tt
+elements_documents (document d ds) is = (is.0, elements_documents ds is.1)
+
+values_documents : (ms : Members) → AreMembers ms → Each IsDocument (values (entries ms))
+values_documents no_members is = tt
+values_documents (member k d ms) is = (is.1, values_documents ms is.2)
+
+children_documents : (x : Document) → IsDocument x → Each IsDocument (children x)
+children_documents null is = tt
+children_documents (boolean b) is = tt
+children_documents (integer z) is = tt
+children_documents (text s) is = tt
+children_documents (list ds) is = elements_documents ds is
+children_documents (object ms) is = values_documents ms is
 
 module _ (E : Environment) (n : List ℕ) where
   -- each definition that the rule refers to is reached
@@ -119,15 +136,15 @@ module _ (E : Environment) (n : List ℕ) where
     rule_written _ c = tt
 
     abbrev Agree : Rule → Document → Type 0
-    Agree r x = IsCovered r → V (rule_schema E r) x ≡ I r x
+    Agree r x = IsDocument x → IsCovered r → V (rule_schema E r) x ≡ I r x
 
     agree_step : (r : Rule) (x : Document) → Each (λ p. Agree p x) (here_parts (constraint_of E r)) → Each (λ y. (p : Rule) → Agree p y) (children x) → Agree r x
-    agree_step r x here kids = λ c.
-        rule_step E R V g r x (rule_written r c)
+    agree_step r x here kids = λ is c.
+        rule_step E R V g r x is (rule_written r c)
         ∙ satisfied_same (λ p. V (rule_schema E p) x) (λ p. I p x) (λ y e. V (schema_of e) y) (λ y e. I (node e) y) (constraint_of E r) (opened x)
-        (each_apply IsCovered (λ p. V (rule_schema E p) x ≡ I p x) (here_parts (constraint_of E r)) here (here_covered r c))
-        (each_within _ x (each_map _ _ (λ y f. each_map _ _ (λ e covered. f (node e) covered) (inner_parts (constraint_of E r)) (inner_covered r c)) (children x) kids))
+        (each_apply IsCovered (λ p. V (rule_schema E p) x ≡ I p x) (here_parts (constraint_of E r)) (each_map _ _ (λ p agree. agree is) (here_parts (constraint_of E r)) here) (here_covered r c))
+        (each_within _ x (each_apply IsDocument _ (children x) (each_map _ _ (λ y f there. each_map _ _ (λ e covered. f (node e) there covered) (inner_parts (constraint_of E r)) (inner_covered r c)) (children x) kids) (children_documents x is)))
         ∙ sym (h r x)
 
-    pub agreement : (r : Rule) (x : Document) → IsCovered r → V (rule_schema E r) x ≡ I r x
-    agreement r x c = guarded-induction E guarded Agree agree_step r x c
+    pub agreement : (r : Rule) (x : Document) → IsDocument x → IsCovered r → V (rule_schema E r) x ≡ I r x
+    agreement r x is c = guarded-induction E guarded Agree agree_step r x is c

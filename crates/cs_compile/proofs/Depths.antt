@@ -10,11 +10,13 @@ use Rattle.cs_document.specs.View.{documents_of}
 use Rattle.cs_profile.specs.SchemaDocument.{unless_no_list}
 use Rattle.cs_profile.specs.Trim.{with_member}
 use Rattle.cs_package.specs.Expression as cue
-use Rattle.cs_package.specs.Expression.{Expression, Expressions, Declaration, Declarations, DeclarationMark}
+use Rattle.cs_package.specs.Expression.{Expression, Expressions, operands, Declaration, Declarations, DeclarationMark}
 use Rattle.cs_package.specs.Environment.{Environment}
-use Rattle.cs_compile.specs.Translation.{schema_of, schemas_of, declared_schemas, rest_schema, definition_schema, one_or_all, members_at, labels_of, values_of, properties_of, required_of, unless_empty, closing, struct_schema, fixed, list_schema, of_type}
+use Rattle.cs_compile.proofs.Enumerations.{by_literals, enumeration-depth}
+use Rattle.cs_compile.specs.Translation.{schema_of, schemas_of, declared_schemas, rest_schema, definition_schema, any_of, one_or_all, members_at, labels_of, values_of, properties_of, required_of, unless_empty, closing, struct_schema, fixed, list_schema, of_type}
 use Rattle.cs_compile.specs.Definitions.{AreDefinitions}
 use Rattle.cs_package.specs.Height.{height, height_all, height_fields, height_rest, heights, IsLow}
+use Rattle.cs_compile.proofs.Interval.{by_conjunction, interval-depth}
 use Rattle.cs_compile.proofs.Root.{root_of}
 
 max-times : (a b c d : ℕ) → a ≤ 4 * c → b ≤ 4 * d → max a b ≤ 4 * max c d
@@ -127,14 +129,22 @@ of_struct (d ∷ ds) o k l h = omega (arith, l, h)
 of_list : (all k : ℕ) → all ≤ 4 * k → suc (max (suc all) 0) + 2 ≤ 4 * (1 + k)
 of_list all k h = let two : suc (max (suc all) 0) ≤ all + 2 = two-levels all (all + 2) (omega arith) in omega arith
 
+any_of-depth : (es : Expressions) → documents_depth (schemas_of es) ≤ 4 * height_all es → depth (any_of (schemas_of es)) + 2 ≤ 4 * (1 + height_all es)
+any_of-depth cue.no_expressions h = omega arith
+any_of-depth (cue.expression e es) h = of_list (documents_depth (schemas_of (cue.expression e es))) (height_all (cue.expression e es)) h
+
 mutual
   schema_of-depth : (e : Expression) → depth (schema_of e) + 2 ≤ 4 * height e
   schema_of-depth (cue.range least None) = omega arith
   schema_of-depth (cue.range least (Some greatest)) = omega arith
   schema_of-depth (cue.conjunction cue.no_expressions) = omega arith
-  schema_of-depth (cue.conjunction (cue.expression e es)) = of_list (documents_depth (schemas_of (cue.expression e es))) (height_all (cue.expression e es)) (schemas_of-depth (cue.expression e es))
-  schema_of-depth (cue.disjunction cue.no_expressions) = omega arith
-  schema_of-depth (cue.disjunction (cue.expression e es)) = of_list (documents_depth (schemas_of (cue.expression e es))) (height_all (cue.expression e es)) (schemas_of-depth (cue.expression e es))
+  schema_of-depth (cue.conjunction (cue.expression e es)) =
+      by_conjunction (λ d. depth d + 2 ≤ 4 * (1 + height_all (cue.expression e es))) (operands (cue.expression e es)) (schemas_of (cue.expression e es)) (λ h. omega arith) (λ h lower upper. omega (arith, interval-depth lower upper))
+      (of_list (documents_depth (schemas_of (cue.expression e es))) (height_all (cue.expression e es)) (schemas_of-depth (cue.expression e es)))
+  schema_of-depth (cue.disjunction es) =
+      by_literals (λ d. depth d + 2 ≤ 4 * (1 + height_all es)) (operands es) (schemas_of es)
+      (λ alone. let h = enumeration-depth (operands es) in omega (arith, h))
+      (any_of-depth es (schemas_of-depth es))
   schema_of-depth (cue.struct ds o) =
       let all = declared_schemas ds in
       let h : depth (struct_schema all o) ≤ deepest (map (λ d. d.value) all) + 4 = struct_schema-depth all o (deepest (map (λ d. d.value) all)) (omega arith) in

@@ -9,7 +9,7 @@ use Rattle.std.proofs.lemmas.Slice.Eq.{bytes_eq-Decides}
 use Rattle.cs_document.specs.Document.{Document, text, object, Documents, no_documents, document, Members, member}
 use Rattle.cs_document.specs.View.{documents_of}
 use Rattle.cs_package.specs.Expression as cue
-use Rattle.cs_package.specs.Expression.{Expression, Expressions, Declaration, less, at_most, more, at_least}
+use Rattle.cs_package.specs.Expression.{Expression, Expressions, operands, Declaration, less, at_most, more, at_least}
 use Rattle.cs_package.specs.Environment.{Environment}
 use Rattle.cs_graph.specs.Chains.{Chain}
 use Rattle.cs_guard.specs.Guarded.{IsGuarded}
@@ -19,8 +19,10 @@ use Rattle.cs_profile.specs.Keywords.{defined}
 use Rattle.cs_profile.specs.Loops.{direct_names, keyword_names, each_names, RefersDirectly, NoLoop}
 use Rattle.cs_profile.specs.SchemaDocument.{unless_no_list}
 use Rattle.cs_profile.specs.Trim.{with_member}
+use Rattle.cs_compile.proofs.Enumerations.{by_literals, literals-direct}
 use Rattle.cs_compile.specs.Definitions.{IsDefinition}
 use Rattle.cs_compile.specs.Translation.{schema_of, schemas_of, declared_schemas, rest_schema, definition_schema, all_of, any_of, properties_of, required_of, unless_empty, closing, struct_schema, fixed, list_schema, of_type}
+use Rattle.cs_compile.proofs.Interval.{by_conjunction, interval-direct, interval-names}
 
 -- ---- the names of a schema
 
@@ -69,8 +71,10 @@ mutual
   schema_of-names (cue.range least None) = refl
   schema_of-names (cue.range least (Some greatest)) = refl
   schema_of-names (cue.reference n) = refl
-  schema_of-names (cue.conjunction es) = all_of-names (schemas_of es) ∙ schemas_of-names es
-  schema_of-names (cue.disjunction es) = any_of-names (schemas_of es) ∙ schemas_of-names es
+  schema_of-names (cue.conjunction es) =
+      by_conjunction (λ d. direct_names d ≡ direct_all es) (operands es) (schemas_of es) (λ h. sym (interval-direct es h)) (λ h lower upper. interval-names lower upper ∙ sym (interval-direct es h))
+      (all_of-names (schemas_of es) ∙ schemas_of-names es)
+  schema_of-names (cue.disjunction es) = by_literals (λ d. direct_names d ≡ direct_all es) (operands es) (schemas_of es) (λ alone. sym (literals-direct es alone)) (any_of-names (schemas_of es) ∙ schemas_of-names es)
   schema_of-names (cue.struct ds o) = struct-names (declared_schemas ds) o
   schema_of-names (cue.list es rest) = list-names (schemas_of es) (rest_schema rest)
 

@@ -1,5 +1,5 @@
 -- What is asked label by label, in the order of labels and with each label once, is what is asked declaration by declaration.
-use Rattle.std.proofs.Common.{◌≡◌, ℕ, List, [], ◌∷◌, ◌++◌, filter, Bool, true, false, not, ◌&&◌, ◌||◌, Ordering, Less, Equal, Greater, nat_cmp, bytes_eq, refl, sym, ap, ap₂, ◌∙◌, subst, if◌then◌else◌}
+use Rattle.std.proofs.Common.{◌≡◌, ℕ, List, [], ◌∷◌, ◌++◌, Bool, true, false, not, ◌&&◌, ◌||◌, Ordering, Less, Equal, Greater, nat_cmp, bytes_eq, refl, sym, ap, ap₂, ◌∙◌, subst, if◌then◌else◌}
 use Rattle.std.proofs.lemmas.Bool.{and_parts}
 use Rattle.std.specs.List.{list_all, list_any, AllByRecursion as Each}
 use Rattle.std.specs.Ordering.{match_ordering, is_eq}
@@ -7,8 +7,9 @@ use Rattle.std.specs.Cmp.Lexicographic.{slice_cmp}
 use Rattle.std.proofs.lemmas.Map.Text.{is_eq-slice_cmp}
 use Rattle.std.proofs.lemmas.Slice.Eq.{bytes_eq-Decides}
 use Rattle.cs_document.specs.Document.{Document, Entry, Members, no_members, member, entries, put}
-use Rattle.cs_document.proofs.Each.{all_same, all_true, each_map, each_over, each_under}
+use Rattle.cs_document.proofs.Each.{all_true, each_map, each_over, each_under}
 use Rattle.cs_package.specs.Expression.{Declaration}
+use Rattle.cs_compile.proofs.Firsts.{not-all, all_filter, all_firsts}
 use Rattle.cs_compile.specs.Grouped.{is_asked}
 use Rattle.cs_compile.specs.Translation.{members_at, labels_of, values_of, firsts, required_of, must_be_there}
 
@@ -94,14 +95,6 @@ module _ (schema : List ℕ → Document) where
   all_members_at p [] = refl
   all_members_at p (l ∷ ls) = all_put p l (members_at ls schema) (members_are_at ls) ∙ ap (λ b. p (l, schema l) && b) (all_members_at p ls)
 
-not-all : {X : Type 0} (f : X → Bool) (xs : List X) → list_any f xs ≡ not (list_all (λ x. not (f x)) xs)
-not-all f [] = refl
-not-all f (x ∷ xs) = ap (λ b. f x || b) (not-all f xs) ∙ turned (f x) (list_all (λ y. not (f y)) xs)
-  where
-    turned : (a b : Bool) → (a || not b) ≡ not (not a && b)
-    turned true b = refl
-    turned false b = refl
-
 -- the keys of the members are the labels
 pub any_members_at : (q : List ℕ → Bool) (ls : List (List ℕ)) (schema : List ℕ → Document) → list_any (λ (e : Entry Document). q e.0) (entries (members_at ls schema)) ≡ list_any q ls
 any_members_at q ls schema =
@@ -161,39 +154,6 @@ module _ (q : List ℕ → Document → Bool) where
 -- ---- required labels
 
 module _ (t : List ℕ → Bool) where
-  all_filter : (a : List ℕ → Bool) (ls : List (List ℕ)) → list_all t (filter a ls) ≡ list_all (λ l. not (a l) || t l) ls
-  all_filter a [] = refl
-  all_filter a (l ∷ ls) = go (a l) (all_filter a ls)
-    where
-      go : (b : Bool) → list_all t (filter a ls) ≡ list_all (λ m. not (a m) || t m) ls → list_all t (if b then l ∷ filter a ls else filter a ls) ≡ ((not b || t l) && list_all (λ m. not (a m) || t m) ls)
-      go true r = ap (λ c. t l && c) r
-      go false r = r
-
-  -- what l passes is passed by its equals, so that they may be left out
-  without : (l : List ℕ) (ls : List (List ℕ)) → (t l && list_all (λ m. not (not (bytes_eq l m)) || t m) ls) ≡ (t l && list_all t ls)
-  without l ls = go (t l) refl
-    where
-      other : (b : Bool) (m : List ℕ) → bytes_eq l m ≡ b → t l ≡ true → (not (not b) || t m) ≡ t m
-      other true m e h = let same : l ≡ m = (bytes_eq-Decides l m).0 e in sym (ap t (sym same) ∙ h)
-      other false m e h = refl
-
-      each_other : (ms : List (List ℕ)) → t l ≡ true → Each (λ m. (not (not (bytes_eq l m)) || t m) ≡ t m) ms
-      each_other [] h = tt
-      each_other (m ∷ ms) h = (other (bytes_eq l m) m refl h, each_other ms h)
-
-      go : (b : Bool) → t l ≡ b → (b && list_all (λ m. not (not (bytes_eq l m)) || t m) ls) ≡ (b && list_all t ls)
-      go true h = all_same _ _ ls (each_other ls h)
-      go false h = refl
-
-  -- each once is as good as each
-  all_firsts : (ls : List (List ℕ)) → list_all t (firsts ls) ≡ list_all t ls
-  all_firsts [] = refl
-  all_firsts (l ∷ ls) =
-      ap (λ b. t l && b) (all_filter (λ m. not (bytes_eq l m)) (firsts ls))
-      ∙ without l (firsts ls)
-      ∙ ap (λ b. t l && b) (all_firsts ls)
-
-module _ (t : List ℕ → Bool) where
   abbrev passes : Declaration Document → Bool
   passes d = t d.label || not (must_be_there d.mark)
 
@@ -249,6 +209,6 @@ module _ (t : List ℕ → Bool) where
 
   pub all_required : (ds : List (Declaration Document)) → list_all t (required_of ds) ≡ list_all (λ d. t d.label || not (must_be_there d.mark)) ds
   all_required ds =
-      all_filter t (is_asked ds) (firsts (labels_of ds))
-      ∙ all_firsts (λ l. not (is_asked ds l) || t l) (labels_of ds)
+      all_filter t (is_asked ds) (firsts bytes_eq (labels_of ds))
+      ∙ all_firsts bytes_eq (λ l m. (bytes_eq-Decides l m).0) (λ l. not (is_asked ds l) || t l) (labels_of ds)
       ∙ by_marks ds

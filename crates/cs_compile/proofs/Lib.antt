@@ -5,8 +5,12 @@ pub mod Covered
 pub mod Declared
 pub mod Depths
 pub mod Direct
+pub mod Enumerations
+pub mod Firsts
 pub mod InProfile
+pub mod Interval
 pub mod Grouped
+pub mod Limits
 pub mod Lists
 pub mod NameCodes
 pub mod Labels
@@ -15,6 +19,7 @@ pub mod Required
 pub mod Parts
 pub mod Root
 pub mod Samples
+pub mod SeenLiterals
 pub mod Slots
 pub mod Structs
 pub mod Visited

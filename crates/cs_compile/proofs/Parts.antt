@@ -29,6 +29,7 @@ use Rattle.cs_instance.proofs.Views.{label_is, mark_is, value_is}
 use Rattle.cs_profile.specs.SchemaDocument.{schema_view, schemas_view, text_document, unless_no_list, unless_no_map}
 use Rattle.cs_profile.specs.Trim.{with_member}
 use Rattle.cs_profile.specs.declared.schema.Schema.{Schema}
+use Rattle.cs_compile.proofs.Firsts.{firsts-last}
 use Rattle.cs_compile.specs.Grouped.{declared, with_schema, declarations_at, Groups, group, IsGrouped, has_label, is_asked}
 use Rattle.cs_compile.specs.Translation.{schema_of, declared_schemas, struct_schema, closing, firsts, must_be_there, of_type, properties_of, required_of, unless_empty}
 
@@ -110,21 +111,9 @@ module _ (s n : BTreeSet (Bor (List ℕ))) (ds : List (Declaration Document)) (d
 
 -- ---- labels, each once
 
-firsts-last : (ls : List (List ℕ)) (l : List ℕ) → firsts (ls ++ l ∷ []) ≡ firsts ls ++ (if list_any (bytes_eq l) ls then [] else l ∷ [])
-firsts-last [] l = refl
-firsts-last (m ∷ ls) l =
-    ap (λ xs. m ∷ filter (λ x. not (bytes_eq m x)) xs) (firsts-last ls l)
-    ∙ ap (λ xs. m ∷ xs) (filter-append (λ x. not (bytes_eq m x)) (firsts ls) (if list_any (bytes_eq l) ls then [] else l ∷ []) ∙ ap (λ xs. filter (λ x. not (bytes_eq m x)) (firsts ls) ++ xs) (last (bytes_eq m l) (list_any (bytes_eq l) ls) refl ∙ ap (λ b. if b || list_any (bytes_eq l) ls then [] else l ∷ []) (bytes_eq-sym m l)))
-  where
-    last : (b c : Bool) → bytes_eq m l ≡ b → filter (λ x. not (bytes_eq m x)) (if c then [] else l ∷ []) ≡ (if b || c then [] else l ∷ [])
-    last true true e = refl
-    last false true e = refl
-    last true false e = rw e refl
-    last false false e = rw e refl
-
 -- the labels seen so far that pass, with one more
-pub listed-more : (a : List ℕ → Bool) (seen : List (List ℕ)) (l : List ℕ) → filter a (firsts (seen ++ l ∷ [])) ≡ filter a (firsts seen) ++ (if a l && not (list_any (bytes_eq l) seen) then l ∷ [] else [])
-listed-more a seen l = ap (filter a) (firsts-last seen l) ∙ filter-append a (firsts seen) _ ∙ ap (λ xs. filter a (firsts seen) ++ xs) (by (a l) (list_any (bytes_eq l) seen) refl)
+pub listed-more : (a : List ℕ → Bool) (seen : List (List ℕ)) (l : List ℕ) → filter a (firsts bytes_eq (seen ++ l ∷ [])) ≡ filter a (firsts bytes_eq seen) ++ (if a l && not (list_any (bytes_eq l) seen) then l ∷ [] else [])
+listed-more a seen l = ap (filter a) (firsts-last bytes_eq bytes_eq-sym seen l) ∙ filter-append a (firsts bytes_eq seen) _ ∙ ap (λ xs. filter a (firsts bytes_eq seen) ++ xs) (by (a l) (list_any (bytes_eq l) seen) refl)
   where
     by : (b c : Bool) → a l ≡ b → filter a (if c then [] else l ∷ []) ≡ (if b && not c then l ∷ [] else [])
     by true true e = refl

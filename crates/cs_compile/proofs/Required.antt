@@ -15,11 +15,11 @@ use Rattle.cs_compile.specs.Translation.{firsts, labels_of, required_of}
 abbrev Differs : List ℕ → List ℕ → Type 0
 Differs l m = bytes_eq l m ≡ false
 
-firsts-differ : (ls : List (List ℕ)) → AllPairs Differs (firsts ls)
+firsts-differ : (ls : List (List ℕ)) → AllPairs Differs (firsts bytes_eq ls)
 firsts-differ [] = λ i j d lt within. absurd (omega arith)
 firsts-differ (l ∷ ls) =
     let other : List ℕ → Bool = λ m. not (bytes_eq l m) in
-    AllPairs-cons Differs l (filter other (firsts ls)) (λ k d within. not-true (bytes_eq l _) (filter_passes other (firsts ls) k d within)) (AllPairs-filter Differs other (firsts ls) (firsts-differ ls))
+    AllPairs-cons Differs l (filter other (firsts bytes_eq ls)) (λ k d within. not-true (bytes_eq l _) (filter_passes other (firsts bytes_eq ls) k d within)) (AllPairs-filter Differs other (firsts bytes_eq ls) (firsts-differ ls))
 
 -- texts that differ from one another and from those before them
 texts-distinct : (seen ls : List (List ℕ)) → All (λ m. list_any (bytes_eq m) seen ≡ false) ls → AllPairs Differs ls → are_distinct_texts seen (documents_of (map text ls)) ≡ true
@@ -32,4 +32,4 @@ texts-distinct seen (l ∷ ls) new h =
     later m old apart = list_any-append (bytes_eq m) seen (l ∷ []) ∙ ap₂ (λ a b. a || (b || false)) old (bytes_eq-sym m l ∙ apart)
 
 pub required_of-distinct : (ds : List (Declaration Document)) → are_distinct_texts [] (documents_of (map text (required_of ds))) ≡ true
-required_of-distinct ds = texts-distinct [] (required_of ds) (λ k d within. refl) (AllPairs-filter Differs _ (firsts (labels_of ds)) (firsts-differ (labels_of ds)))
+required_of-distinct ds = texts-distinct [] (required_of ds) (λ k d within. refl) (AllPairs-filter Differs _ (firsts bytes_eq (labels_of ds)) (firsts-differ (labels_of ds)))

@@ -8,7 +8,7 @@ use Rattle.cs_document.specs.Document.{Document, boolean, text, list, object, Do
 use Rattle.cs_document.specs.View.{documents_of}
 use Rattle.cs_document.proofs.Each.{each_front, each_back}
 use Rattle.cs_package.specs.Expression as cue
-use Rattle.cs_package.specs.Expression.{Expression, Expressions, Declaration, Declarations, less, at_most, more, at_least, int, number, string, bool}
+use Rattle.cs_package.specs.Expression.{Expression, Expressions, operands, Declaration, Declarations, less, at_most, more, at_least, int, number, string, bool}
 use Rattle.cs_guard.specs.Reachable.{referred, referred_all, referred_fields, referred_rest}
 use Rattle.cs_profile.specs.Places.{at_key, at_index}
 use Rattle.cs_profile.specs.Profile.{Visit, first, fault_of, undefined_at, visits, member_visits, keyword_visits, element_visits, named_visits}
@@ -17,6 +17,8 @@ use Rattle.cs_profile.specs.Shapes.{is_name, are_distinct_texts}
 use Rattle.cs_profile.specs.Trim.{with_member}
 use Rattle.cs_profile.proofs.Walks.{first_past}
 use Rattle.cs_compile.specs.Translation.{schema_of, schemas_of, declared_schemas, rest_schema, definition_schema, one_or_all, all_of, any_of, members_at, labels_of, values_of, properties_of, required_of, unless_empty, closing, struct_schema, fixed, list_schema, of_type}
+use Rattle.cs_compile.proofs.Interval.{by_conjunction, interval-named, interval-shaped}
+use Rattle.cs_compile.proofs.Enumerations.{by_literals}
 use Rattle.cs_compile.proofs.Required.{required_of-distinct}
 use Rattle.cs_compile.proofs.Asserted.{elements_back}
 
@@ -165,8 +167,10 @@ module _ (is_defined : List ℕ → Bool) where
     schema_of-clean (cue.kind bool) t p = record { shaped = refl; named = refl }
     schema_of-clean (cue.range least None) t p = record { shaped = refl; named = refl }
     schema_of-clean (cue.range least (Some greatest)) t p = record { shaped = refl; named = refl }
-    schema_of-clean (cue.conjunction es) t p = all_of-clean (schemas_of es) (schemas_of-clean es t) p
-    schema_of-clean (cue.disjunction es) t p = any_of-clean (schemas_of es) (schemas_of-clean es t) p
+    schema_of-clean (cue.conjunction es) t p =
+        by_conjunction (λ d. IsClean is_defined (visits false p d)) (operands es) (schemas_of es) (λ h. record { shaped = refl; named = refl })
+        (λ h lower upper. record { shaped = interval-shaped lower upper p; named = interval-named is_defined lower upper p }) (all_of-clean (schemas_of es) (schemas_of-clean es t) p)
+    schema_of-clean (cue.disjunction es) t p = by_literals (λ d. IsClean is_defined (visits false p d)) (operands es) (schemas_of es) (λ alone. record { shaped = refl; named = refl }) (any_of-clean (schemas_of es) (schemas_of-clean es t) p)
     schema_of-clean (cue.reference n) t p = let name = t.0.0 in let there = t.0.1 in record { shaped = rw name refl; named = rw there refl }
     schema_of-clean (cue.struct ds o) t p = struct-clean (declared_schemas ds) o (declared-clean ds t) p
     schema_of-clean (cue.list es rest) t p =

@@ -3,4 +3,5 @@ pub mod Whole
 -- for contracts of private functions and proofs alone
 pub mod Definitions
 pub mod Grouped
+pub mod Literals
 pub mod Slots

@@ -1,12 +1,14 @@
 -- The schema of each form of expression, a row for each form (own rule; the keywords are those of JSON Schema Validation
 -- 2020-12, section 6, and Core, sections 8.2.3.1 and 10). Keys stand in byte order.
-use Rattle.std.specs.Prelude.{◌≡◌, ℕ, suc, ℤ, pos, List, [], ◌∷◌, ◌++◌, map, filter, flat_map, length, Bool, true, false, not, ◌&&◌, Option, Some, None, IsSome, option_map, codes, if◌then◌else◌}
-use Rattle.std.specs.List.{list_any}
+use Rattle.std.specs.Prelude.{◌≡◌, ℕ, suc, ℤ, pos, neg_ℤ, ◌+ℤ◌, ◌-ℤ◌, int_lt, List, [], ◌∷◌, ◌++◌, map, filter, flat_map, length, Bool, true, false, not, ◌&&◌, ◌||◌, Option, Some, None, IsSome, is_some, option_map, codes, if◌then◌else◌}
+use Rattle.std.specs.Int.{int_max, int_min}
+use Rattle.std.specs.List.{list_all, list_any, filter_map, fold}
+use Rattle.std.specs.Option.{option_map_or, unwrap_or}
 use Rattle.std.specs.Str.{bytes_eq}
-use Rattle.cs_document.specs.Document.{Document, null, boolean, integer, text, list, object, Documents, no_documents, document, elements, Members, no_members, member, put}
+use Rattle.cs_document.specs.Document.{Document, null, boolean, integer, text, list, object, Documents, no_documents, document, elements, Members, no_members, member, put, document_eq}
 use Rattle.cs_document.specs.View.{documents_of}
 use Rattle.cs_package.specs.Expression as cue
-use Rattle.cs_package.specs.Expression.{Expression, Expressions, Kind, int, number, string, bool, Relation, less, at_most, more, at_least, DeclarationMark, regular, optional, required, Declaration, Declarations, Rest}
+use Rattle.cs_package.specs.Expression.{Expression, Expressions, operands, Kind, int, number, string, bool, Relation, less, at_most, more, at_least, DeclarationMark, regular, optional, required, Declaration, Declarations, Rest}
 use Rattle.cs_package.specs.Environment.{Environment, bodies}
 use Rattle.cs_guard.specs.Reachable.{Reaches}
 use Rattle.cs_profile.specs.Keywords.{defined, reference_start}
@@ -52,6 +54,11 @@ but v ms = member (codes "not") (constant v) ms
 abbrev pub reference_to : List ℕ → Document
 reference_to n = object (member (codes "$ref") (text (reference_start ++ n)) no_members)
 
+-- each value once, where it comes first
+abbrev pub firsts : {A : Type 0} → (A → A → Bool) → List A → List A
+firsts same [] = []
+firsts same (x ∷ xs) = x ∷ filter (λ y. not (same x y)) (firsts same xs)
+
 -- ---- operands, and definitions with several bodies
 
 -- the schemas of a conjunction's operands; without any it asks nothing
@@ -68,6 +75,85 @@ any_of (document d ds) = object (member (codes "anyOf") (list (document d ds)) n
 abbrev pub one_or_all : List Document → Document
 one_or_all (d ∷ []) = d
 one_or_all ds = object (all_of (documents_of ds))
+
+-- ---- integer kinds with bounds
+
+-- `int` and the ranges
+abbrev pub is_integer_kind : Expression → Bool
+is_integer_kind (cue.kind int) = true
+is_integer_kind (cue.range least greatest) = true
+is_integer_kind _ = false
+
+-- `<n`, `<=n`, `>n`, `>=n`
+abbrev pub is_bound : Expression → Bool
+is_bound (cue.atom (cue.bound r n)) = true
+is_bound _ = false
+
+-- integer kinds and bounds alone, at least one of them an integer kind
+abbrev pub is_interval : List Expression → Bool
+is_interval es = list_all (λ e. is_integer_kind e || is_bound e) es && list_any is_integer_kind es
+
+-- the least integer that an operand admits, and the greatest, where it has one
+abbrev pub lower_limit : Expression → Option ℤ
+lower_limit (cue.range least greatest) = Some least
+lower_limit (cue.atom (cue.bound more n)) = Some (n +ℤ pos 1)
+lower_limit (cue.atom (cue.bound at_least n)) = Some n
+lower_limit _ = None
+
+abbrev pub upper_limit : Expression → Option ℤ
+upper_limit (cue.range least greatest) = greatest
+upper_limit (cue.atom (cue.bound less n)) = Some (n -ℤ pos 1)
+upper_limit (cue.atom (cue.bound at_most n)) = Some n
+upper_limit _ = None
+
+-- the greatest and the least of some integers, where there are any
+abbrev pub greatest_of : List ℤ → Option ℤ
+greatest_of [] = None
+greatest_of (n ∷ ns) = Some (fold int_max n ns)
+
+abbrev pub least_of : List ℤ → Option ℤ
+least_of [] = None
+least_of (n ∷ ns) = Some (fold int_min n ns)
+
+-- whether no integer of 64 signed bits lies between two limits
+abbrev pub are_apart : Option ℤ → Option ℤ → Bool
+are_apart lower upper = int_lt (unwrap_or upper (pos 9223372036854775807)) (unwrap_or lower (neg_ℤ (pos 9223372036854775808)))
+
+abbrev pub interval_keywords : Option ℤ → Option ℤ → Members
+interval_keywords lower upper =
+    with_member (option_map integer upper) (codes "maximum") (with_member (option_map integer lower) (codes "minimum") (of_type (codes "integer")))
+
+-- the integers between two limits, if there are any
+abbrev pub interval_schema : Option ℤ → Option ℤ → Document
+interval_schema lower upper = if are_apart lower upper then boolean false else object (interval_keywords lower upper)
+
+-- integer kinds with bounds are one interval; other operands keep their schemas
+abbrev pub conjunction_schema : List Expression → Documents → Document
+conjunction_schema es ds =
+    if is_interval es then interval_schema (greatest_of (filter_map lower_limit es)) (least_of (filter_map upper_limit es))
+    else object (all_of ds)
+
+-- ---- literals
+
+-- the document that a literal is
+abbrev pub literal : Expression → Option Document
+literal (cue.atom cue.null) = Some null
+literal (cue.atom (cue.boolean b)) = Some (boolean b)
+literal (cue.atom (cue.integer n)) = Some (integer n)
+literal (cue.atom (cue.text s)) = Some (text s)
+literal _ = None
+
+-- some values, each once, where it comes first
+abbrev pub enumeration : List Document → Document
+enumeration vs = object (member (codes "enum") (list (documents_of (firsts document_eq vs))) no_members)
+
+-- the documents that expressions are, where each is a literal
+abbrev pub literals : List Expression → Option (List Document)
+literals es = if list_all (λ e. is_some (literal e)) es then Some (filter_map literal es) else None
+
+-- literals alone are an enumeration; other operands keep their schemas
+abbrev pub disjunction_schema : List Expression → Documents → Document
+disjunction_schema es ds = option_map_or enumeration (literals es) (any_of ds)
 
 -- ---- structs, by the schemas of the declared values
 
@@ -90,11 +176,6 @@ abbrev pub unless_empty : Members → Option Document
 unless_empty no_members = None
 unless_empty (member k d ms) = Some (object (member k d ms))
 
--- each label once, where it comes first
-abbrev pub firsts : List (List ℕ) → List (List ℕ)
-firsts [] = []
-firsts (l ∷ ls) = l ∷ filter (λ m. not (bytes_eq l m)) (firsts ls)
-
 abbrev pub must_be_there : DeclarationMark → Bool
 must_be_there regular = true
 must_be_there optional = false
@@ -102,7 +183,7 @@ must_be_there required = true
 
 -- the labels that some declaration asks for, in the order in which labels are first declared
 abbrev pub required_of : List (Declaration Document) → List (List ℕ)
-required_of ds = filter (λ l. list_any (λ d. bytes_eq l d.label && must_be_there d.mark) ds) (firsts (labels_of ds))
+required_of ds = filter (λ l. list_any (λ d. bytes_eq l d.label && must_be_there d.mark) ds) (firsts bytes_eq (labels_of ds))
 
 abbrev pub closing : Bool → Option Document
 closing opened = if opened then None else Some (boolean false)
@@ -138,8 +219,8 @@ abbrev mutual
   schema_of (cue.atom (cue.not_integer n)) = object (but (integer n) (of_type (codes "number")))
   schema_of (cue.atom (cue.not_text s)) = object (but (text s) (of_type (codes "string")))
   schema_of (cue.atom cue.not_null) = object (but null no_members)
-  schema_of (cue.conjunction es) = object (all_of (schemas_of es))
-  schema_of (cue.disjunction es) = any_of (schemas_of es)
+  schema_of (cue.conjunction es) = conjunction_schema (operands es) (schemas_of es)
+  schema_of (cue.disjunction es) = disjunction_schema (operands es) (schemas_of es)
   schema_of (cue.reference n) = reference_to n
   schema_of (cue.struct ds opened) = struct_schema (declared_schemas ds) opened
   schema_of (cue.list es rest) = list_schema (schemas_of es) (rest_schema rest)

@@ -11,7 +11,9 @@ ghost use Rattle.cs_compile.specs.Translation.{schema_of, definition_schema, res
 use crate::atoms::{bound, but, constant, json_kind, not_text, range, reference};
 use crate::elements::list_schema;
 use crate::fields::{Groups, add_value, properties, required, struct_schema};
+use crate::intervals::{interval, is_interval};
 use crate::keywords::{object, typed, untyped};
+use crate::literals::enumeration;
 use crate::operands::{all_of, any_of, one_or_all};
 use cs_document::Doc;
 use cs_package::{Package, Part, Shape, ShapeEnd};
@@ -51,8 +53,16 @@ fn schema_of(alloc: Global, package: &Package, shape: &Shape) -> Result<Schema, 
         Shape::NotInt(n) => but(alloc, Doc::Int(*n), typed(alloc, JsonKind::Number)),
         Shape::NotText(text) => not_text(alloc, text),
         Shape::NotNull => but(alloc, Doc::Null, untyped(alloc)),
-        Shape::And(operands) => all_of(alloc, schemas_of(alloc, package, operands)?),
-        Shape::Or(operands) => any_of(alloc, schemas_of(alloc, package, operands)?),
+        Shape::And(operands) => {
+            if is_interval(operands) {
+                return interval(alloc, operands);
+            }
+            all_of(alloc, schemas_of(alloc, package, operands)?)
+        }
+        Shape::Or(operands) => match enumeration(alloc, operands)? {
+            Some(schema) => Ok(schema),
+            None => any_of(alloc, schemas_of(alloc, package, operands)?),
+        },
         Shape::Struct { parts, opened } => {
             let properties = properties(alloc, groups_of(alloc, package, parts)?)?;
             struct_schema(alloc, properties, required(alloc, parts)?, *opened)

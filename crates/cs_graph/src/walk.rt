@@ -114,13 +114,14 @@ fn walk_from(
 fn heights_of(alloc: Global, marks: &[VisitState]) -> Result<Vec<usize>, AllocError>
     ensures { IfOk result (λ v. v.items ≡ map height_of marks.now) }
 {
-    marks
-        .iter()
-        .map(|mark| match mark {
+    let mut heights = Vec::with_capacity(alloc, marks.len())?;
+    for mark in marks {
+        heights.push(match mark {
             VisitState::Done(height) => *height,
             VisitState::New | VisitState::Open => 0,
-        })
-        .collect(alloc)
+        })?;
+    }
+    Ok(heights)
 }
 
 /// The height of each number of a graph: the length of the longest chain of references from it. `graph` has, for each

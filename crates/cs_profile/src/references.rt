@@ -133,7 +133,11 @@ fn names_in_order<'a>(
 ) -> Result<Vec<&'a String>, AllocError>
     ensures { IfOk result (λ v. map (λ n. n.now) v.items ≡ keys definitions.now) }
 {
-    definitions.keys().collect(alloc)
+    let mut ordered = Vec::with_capacity(alloc, definitions.len())?;
+    for name in definitions.keys() {
+        ordered.push(name)?;
+    }
+    Ok(ordered)
 }
 
 /// The names of definitions by their numbers.

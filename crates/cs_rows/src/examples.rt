@@ -1,13 +1,14 @@
 // Packages with their schemas, and documents with their verdicts on both sides.
-use crate::tables::{Row, cell, check, sources_of};
+use crate::tables::{Row, cell, check, expanded, sources_of};
+use cs_rows_tables::FORMS;
 use cs_tool::{Fault, agree, export, validate, vet};
 use std::alloc::{AllocError, Global};
 use std::test::Fail;
 
-/// Sources, which `%` parts and whose `;` are newlines, a root, the schemas of the definitions that it reaches, documents
-/// that are instances of it, documents that aren't.
+/// Sources, which `%` parts, a root, the schemas of the definitions that it reaches, documents that are instances of it,
+/// documents that aren't.
 const PACKAGES: &str =
-    r##"#P: int & >=1 & <=65535 => #P => "P":{"allOf":[{"type":"integer"},{"minimum":1,"type":"number"},{"maximum":65535,"type":"number"}]} => 1 65535 => 0 65536 "1"
+    r##"#P: int & >=1 & <=65535 => #P => "P":{"maximum":65535,"minimum":1,"type":"integer"} => 1 65535 => 0 65536 "1"
 #P: -5 => #P => "P":{"const":-5} => -5 => 5
 #P: 1_000 => #P => "P":{"const":1000} => 1000 => 1
 #P: 0x10 => #P => "P":{"const":16} => 16 => 10
@@ -36,57 +37,46 @@ package p;#P: >2 % #Q: int % package p;#P: int => #P => "P":{"allOf":[{"exclusiv
 package p;#A: {x: #B} % package p;#B: int8 => #A => "A":{"additionalProperties":false,"properties":{"x":{"$ref":"#/$defs/B"}},"required":["x"],"type":"object"},"B":{"maximum":127,"minimum":-128,"type":"integer"} => {"x":127} {"x":-128} => {"x":128} {"x":"a"} {} 127
 package p;#A: {x: #B} % package p;#B: int8 => #B => "B":{"maximum":127,"minimum":-128,"type":"integer"} => 127 => 128 {"x":127}"##;
 
-/// The same of one source each, in every form of expression. The last one has them all.
-pub(crate) const FORMS: &str = r##"#P: int;#Q: string => #P => "P":{"type":"integer"} => 1 => "a"
-#P: int;#Q: string => #Q => "Q":{"type":"string"} => "a" => 1
-#T: {v: int, kids?: [...#T]} => #T => "T":{"additionalProperties":false,"properties":{"kids":{"items":{"$ref":"#/$defs/T"},"type":"array"},"v":{"type":"integer"}},"required":["v"],"type":"object"} => {"v":1} {"v":1,"kids":[]} {"v":1,"kids":[{"v":2}]} {"v":1,"kids":[{"v":2,"kids":[{"v":3},{"v":4}]}]} => {"v":1,"kids":[{}]} {"v":1,"kids":[{"v":2,"kids":[{"v":3},{"v":"4"}]}]} {} {"v":1,"kids":{}} {"v":1,"w":1} 1
-#L: [string, ...int] => #L => "L":{"items":{"type":"integer"},"minItems":1,"prefixItems":[{"type":"string"}],"type":"array"} => ["a"] ["a",1] => [] ["a",1,"b"] [1] "a"
-#E: {} => #E => "E":{"additionalProperties":false,"type":"object"} => {} => {"a":1} []
-#R: {a?: int, a: >3} => #R => "R":{"additionalProperties":false,"properties":{"a":{"allOf":[{"type":"integer"},{"exclusiveMinimum":3,"type":"number"}]}},"required":["a"],"type":"object"} => {"a":4} => {} {"a":3} {"a":4,"b":1}
-#S: !="s" => #S => "S":{"not":{"const":"s"},"type":"string"} => "t" "" => "s" 1 null
-#D: {a: int} | {b: int} => #D => "D":{"anyOf":[{"additionalProperties":false,"properties":{"a":{"type":"integer"}},"required":["a"],"type":"object"},{"additionalProperties":false,"properties":{"b":{"type":"integer"}},"required":["b"],"type":"object"}]} => {"a":1} {"b":1} => {"a":1,"b":2} {} {"a":"b"}
-#F: {"int": string, x: int} => #F => "F":{"additionalProperties":false,"properties":{"int":{"type":"string"},"x":{"type":"integer"}},"required":["int","x"],"type":"object"} => {"int":"a","x":1} => {"int":1,"x":1} {"x":1}
-#M: -9_223_372_036_854_775_808 => #M => "M":{"const":-9223372036854775808} => -9223372036854775808 => -9223372036854775807 0 "a"
-#G: >9223372036854775807 => #G => "G":{"exclusiveMinimum":9223372036854775807,"type":"number"} => => 9223372036854775807 0 -9223372036854775808 "a" null [] {}
-#B: {k: string};#C: #B & {k: "x", ...} => #C => "B":{"additionalProperties":false,"properties":{"k":{"type":"string"}},"required":["k"],"type":"object"},"C":{"allOf":[{"$ref":"#/$defs/B"},{"properties":{"k":{"const":"x"}},"required":["k"],"type":"object"}]} => {"k":"x"} => {"k":"y"} {"k":"x","z":1} {}
-#B: {k: string};#C: #B & {k: "x", ...} => #B => "B":{"additionalProperties":false,"properties":{"k":{"type":"string"}},"required":["k"],"type":"object"} => {"k":"y"} => {"k":1} {"k":"x","z":1}
-#N: [1,;2;] => #N => "N":{"items":false,"minItems":2,"prefixItems":[{"const":1},{"const":2}],"type":"array"} => [1,2] => [1] [1,2,3] [2,1]
-#K: "a" | "b" | "a" => #K => "K":{"anyOf":[{"const":"a"},{"const":"b"},{"const":"a"}]} => "a" "b" => "c" 1
-#G: int & >9223372036854775807 => #G => "G":{"allOf":[{"type":"integer"},{"exclusiveMinimum":9223372036854775807,"type":"number"}]} => => 9223372036854775807 0 "a"
-#S: a: b?: int => #S => "S":{"additionalProperties":false,"properties":{"a":{"additionalProperties":false,"properties":{"b":{"type":"integer"}},"type":"object"}},"required":["a"],"type":"object"} => {"a":{}} {"a":{"b":1}} => {} {"a":{"b":null}} {"a":1}
-#Q: 1 | int & >5 => #Q => "Q":{"anyOf":[{"const":1},{"allOf":[{"type":"integer"},{"exclusiveMinimum":5,"type":"number"}]}]} => 1 6 => 5 2 "a"
-#Z: [int, string] => #Z => "Z":{"items":false,"minItems":2,"prefixItems":[{"type":"integer"},{"type":"string"}],"type":"array"} => [1,"a"] => [1] [1,"a",2] ["a",1]
-#Z: [] => #Z => "Z":{"items":false,"type":"array"} => [] => [1] {}
-#A: int;#A: >2 => #A => "A":{"allOf":[{"type":"integer"},{"exclusiveMinimum":2,"type":"number"}]} => 3 => 2 "a"
-#W: !=null & (1 | "s" | null) => #W => "W":{"allOf":[{"not":{"const":null}},{"anyOf":[{"const":1},{"const":"s"},{"const":null}]}]} => "s" 1 => null 2 "t"
-#A: _ => #A => "A":true => null true 1 "a" [] {} =>
-#A: _|_ => #A => "A":false => => null true 1 "a" [] {}
-#A: !=null => #A => "A":{"not":{"const":null}} => true 1 "a" [] {} => null
-#A: !=1 => #A => "A":{"not":{"const":1},"type":"number"} => 2 0 => 1 null true "a" [] {}
-#A: [int, ...] => #A => "A":{"minItems":1,"prefixItems":[{"type":"integer"}],"type":"array"} => [1] [1,"a"] => [] ["a"]
-#A: [...] => #A => "A":{"type":"array"} => [] [1,"a"] => null true 1 "a" {}
-#A: {...} => #A => "A":{"type":"object"} => {} {"a":1} => null true 1 "a" []
-#A: {x!: _, y?: string, ...} => #A => "A":{"properties":{"x":true,"y":{"type":"string"}},"required":["x"],"type":"object"} => {"x":null} {"x":1,"y":"a","z":2} => {} {"y":"a"} {"x":1,"y":2}
-#A: {b: int, a: string} => #A => "A":{"additionalProperties":false,"properties":{"a":{"type":"string"},"b":{"type":"integer"}},"required":["b","a"],"type":"object"} => {"a":"x","b":1} => {"a":1,"b":1} {"a":"x"}
-#A: {a?: #B, c?: #D};#B: {b?: #A};#C: #A;#D: bool => #A => "A":{"additionalProperties":false,"properties":{"a":{"$ref":"#/$defs/B"},"c":{"$ref":"#/$defs/D"}},"type":"object"},"B":{"additionalProperties":false,"properties":{"b":{"$ref":"#/$defs/A"}},"type":"object"},"D":{"type":"boolean"} => {} {"a":{"b":{"c":true}}} => {"a":{"b":{"c":1}}} {"c":1}
-#A: [#B, ...#B];#B: int;#B: >2 => #A => "A":{"items":{"$ref":"#/$defs/B"},"minItems":1,"prefixItems":[{"$ref":"#/$defs/B"}],"type":"array"},"B":{"allOf":[{"type":"integer"},{"exclusiveMinimum":2,"type":"number"}]} => [3] [3,4] => [2] [3,2] []
-#P: {a: null, b?: true | false, c!: #T, d: [#T, ...string], e: [...], f: [], g?: _, h: !=null, i: !="s", j: !=3, k: uint8 & <9 & (> -1), l: "x", m: int, m: >=1, n?: _|_, o?: [...#P], p: q: bool, ...};#T: number;#T: (>1) & <=5;#U: #P => #P => "P":{"properties":{"a":{"const":null},"b":{"anyOf":[{"const":true},{"const":false}]},"c":{"$ref":"#/$defs/T"},"d":{"items":{"type":"string"},"minItems":1,"prefixItems":[{"$ref":"#/$defs/T"}],"type":"array"},"e":{"type":"array"},"f":{"items":false,"type":"array"},"g":true,"h":{"not":{"const":null}},"i":{"not":{"const":"s"},"type":"string"},"j":{"not":{"const":3},"type":"number"},"k":{"allOf":[{"maximum":255,"minimum":0,"type":"integer"},{"exclusiveMaximum":9,"type":"number"},{"exclusiveMinimum":-1,"type":"number"}]},"l":{"const":"x"},"m":{"allOf":[{"type":"integer"},{"minimum":1,"type":"number"}]},"n":false,"o":{"items":{"$ref":"#/$defs/P"},"type":"array"},"p":{"additionalProperties":false,"properties":{"q":{"type":"boolean"}},"required":["q"],"type":"object"}},"required":["a","c","d","e","f","h","i","j","k","l","m","p"],"type":"object"},"T":{"allOf":[{"type":"number"},{"allOf":[{"exclusiveMinimum":1,"type":"number"},{"maximum":5,"type":"number"}]}]} => {"a":null,"c":5,"d":[2,"y"],"e":[1,null],"f":[],"h":1,"i":"t","j":4,"k":0,"l":"x","m":1,"p":{"q":true}} {"a":null,"c":5,"d":[2,"y"],"e":[1,null],"f":[],"h":1,"i":"t","j":4,"k":0,"l":"x","m":1,"p":{"q":true},"b":false,"g":[],"o":[{"a":null,"c":5,"d":[2,"y"],"e":[1,null],"f":[],"h":1,"i":"t","j":4,"k":0,"l":"x","m":1,"p":{"q":true}}],"z":1} => {"a":null,"c":6,"d":[2,"y"],"e":[1,null],"f":[],"h":1,"i":"t","j":4,"k":0,"l":"x","m":1,"p":{"q":true}} {"a":null,"c":5,"d":[2,"y"],"e":[1,null],"f":[],"h":1,"i":"t","j":4,"k":0,"l":"x","m":1,"p":{"q":true},"o":[1]} {"a":null,"c":5,"d":[2,"y"],"e":[1,null],"f":[],"h":1,"i":"t","j":4,"k":0,"l":"x","m":1,"p":{"q":true},"n":1} {"a":null,"c":5,"d":[2,"y"],"e":[1,null],"f":[],"h":1,"i":"t","j":4,"k":0,"l":"x","m":1,"p":{"q":true,"r":1}} {"a":null,"c":5,"d":[2,"y"],"e":[1,null],"f":[],"h":1,"i":"t","j":4,"k":0,"l":"x","p":{"q":true}} {"a":null,"c":5,"d":[2,"y"],"e":[1,null],"f":[],"h":1,"i":"t","j":4,"k":9,"l":"x","m":1,"p":{"q":true}}"##;
+/// The same, whatever the schemas are.
+const INSTANCES: &str = r##"#A: {x!: _, ...} => #A => - => {"x":null} {"x":1,"y":2} => {} {"y":2}
+#A: _|_ | true => #A => - => true => false null
+#A: {a?: #A} => #A => - => {} {"a":{"a":{}}} => {"a":1} {"a":{"b":{}}}
+#A: null => #A => - => null => true 1 "a" [] {}
+#A: true => #A => - => true => null false 1 "a" [] {}
+#A: 1 => #A => - => 1 => null true 2 "1" [] {}
+#A: "a" => #A => - => "a" => null true 1 "b" [] {}
+#A: int => #A => - => 1 -1 => null true "a" [] {}
+#A: number => #A => - => 1 => null true "a" [] {}
+#A: string => #A => - => "a" "" => null true 1 [] {}
+#A: bool => #A => - => true false => null 1 "a" [] {}
+#A: uint8 => #A => - => 0 255 => -1 256 null true "a" [] {}
+#A: >1 => #A => - => 2 => 1 null true "a" [] {}
+#A: <=1 => #A => - => 1 => 2 null true "a" [] {}
+#A: !="a" => #A => - => "b" => "a" null true 1 [] {}
+#A: int & !=3 => #A => - => 2 => 3 null true "a" [] {}
+#A: int | null => #A => - => 1 null => true "a" [] {}
+#A: {} => #A => - => {} => {"a":1} null true 1 "a" []
+#A: [] => #A => - => [] => [1] null true 1 "a" {}
+#A: [...int] => #A => - => [] [1,2] => ["a"] [1,"a"] null true 1 "a" {}
+#A: {a?: #B};#B: int => #A => - => {} {"a":1} => {"a":"x"}
+#A: {a: #B, ...};#B: {b?: #B, ...} => #A => - => {"a":{}} {"a":{"b":{}},"c":1} => {} {"a":1} {"a":{"b":1}}
+#A: int | [...#A] => #A => - => 1 [] [1,[2,[]]] => ["a"] [1,[null]] null
+#A: {a?: #B};#B: {b?: #A} => #A => - => {"a":{"b":{}}} => {"a":{"b":1}} {"a":{"a":{}}}"##;
 
-/// A root of sources, with its exported schema.
+/// The same of 27 literals around a form of two levels, as the body of a definition with two bodies.
+const DEEPEST: &str =
+    r##"#N: ⟨27×{a: _, a: ⟩!=1⟨27×, ...}⟩;#N: ⟨27×{a: _, a: ⟩!=1⟨27×, ...}⟩ => #N => "N":{"allOf":[⟨27×{"properties":{"a":{"allOf":[true,⟩{"not":{"const":1},"type":"number"}⟨27×]}},"required":["a"],"type":"object"}⟩,⟨27×{"properties":{"a":{"allOf":[true,⟩{"not":{"const":1},"type":"number"}⟨27×]}},"required":["a"],"type":"object"}⟩]} => ⟨27×{"a":⟩2⟨27×}⟩ => ⟨27×{"a":⟩1⟨27×}⟩"##;
+
+/// A root of some sources, with the text of its schema.
 #[derive(Clone, Copy)]
-pub(crate) struct Sides<'a> {
-    pub(crate) sources: &'a [&'a [u8]],
-    pub(crate) root: &'a str,
-    pub(crate) schema: &'a [u8],
+struct Sides<'a> {
+    sources: &'a [&'a [u8]],
+    root: &'a str,
+    schema: &'a [u8],
 }
 
-/// Whether `vet`, `validate` and `agree` give the document that verdict.
-pub(crate) fn is(
-    alloc: Global,
-    sides: &Sides<'_>,
-    doc: &[u8],
-    verdict: bool,
-) -> Result<bool, Fault> {
+/// Whether the document has that verdict, by `vet`, by `validate` and by `agree`.
+fn is(alloc: Global, sides: &Sides<'_>, doc: &[u8], verdict: bool) -> Result<bool, Fault> {
     let vetted = vet(alloc, sides.sources, sides.root, doc)?;
     let validated = validate(alloc, sides.schema, doc)?;
     let agreed = agree(alloc, sides.sources, sides.root, doc)?;
@@ -103,30 +93,26 @@ fn all_are(alloc: Global, sides: &Sides<'_>, docs: &str, verdict: bool) -> Resul
     Ok(true)
 }
 
-/// Whether the documents, the instances and then the others, have their verdicts.
-pub(crate) fn are_judged(alloc: Global, sides: &Sides<'_>, docs: &str) -> Result<bool, Fault> {
-    let (instances, others) = cell(docs);
-    Ok(all_are(alloc, sides, instances, true)? && all_are(alloc, sides, others, false)?)
-}
-
-/// The text of the schema of a root with these definitions.
-pub(crate) fn schema_of(
+/// Whether a text is the schema of a root with these definitions; `-` stands for any.
+fn is_schema(
     alloc: Global,
+    text: &[u8],
     root: &str,
     definitions: &str,
-) -> Result<String, AllocError> {
+) -> Result<bool, AllocError> {
     let name = root.strip_prefix('#').unwrap_or(root);
-    format!(in alloc;
+    let wanted = format!(in alloc;
         "{{\"$defs\":{{{definitions}}},\"$ref\":\"#/$defs/{name}\",\"$schema\":\"https://json-schema.org/draft/2020-12/schema\"}}"
-    )
+    )?;
+    Ok(definitions == "-" || text == wanted.as_bytes())
 }
 
-/// Whether the root of the sources has that schema, and the documents their verdicts.
-fn holds(
+/// Whether the root of the sources has that schema, and the documents, the instances and then the others, their verdicts.
+pub(crate) fn holds(
     alloc: Global,
     sources: &[&[u8]],
     root: &str,
-    wanted: &str,
+    definitions: &str,
     docs: &str,
 ) -> Result<bool, Fault> {
     let schema = export(alloc, sources, root)?;
@@ -135,18 +121,22 @@ fn holds(
         root,
         schema: &schema,
     };
-    Ok(schema.as_slice() == wanted.as_bytes() && are_judged(alloc, &sides, docs)?)
+    let (instances, others) = cell(docs);
+    Ok(
+        is_schema(alloc, &schema, root, definitions)?
+            && all_are(alloc, &sides, instances, true)?
+            && all_are(alloc, &sides, others, false)?,
+    )
 }
 
 /// Whether the row holds.
 pub(crate) fn is_held(alloc: Global, row: &str) -> Result<bool, Fault> {
-    let (text, rest) = cell(row);
+    let row = expanded(alloc, row)?;
+    let (text, rest) = cell(&row);
     let (root, rest) = cell(rest);
     let (definitions, docs) = cell(rest);
-    let text = text.replace(alloc, ';', "\n")?;
-    let sources = sources_of(alloc, &text)?;
-    let wanted = schema_of(alloc, root, definitions)?;
-    holds(alloc, &sources, root, &wanted, docs)
+    let sources = sources_of(alloc, text)?;
+    holds(alloc, &sources, root, definitions, docs)
 }
 
 #[test]
@@ -157,4 +147,35 @@ fn packages_have_schemas_and_documents(rt: HostRuntime) -> Result<(), Fail> {
 #[test]
 fn every_form_has_schemas_and_documents(rt: HostRuntime) -> Result<(), Fail> {
     check(rt.alloc(), FORMS, Row::Example)
+}
+
+#[test]
+fn documents_are_instances_or_not(rt: HostRuntime) -> Result<(), Fail> {
+    check(rt.alloc(), INSTANCES, Row::Example)
+}
+
+/// How deep the brackets of a text nest.
+fn nesting(text: &str) -> usize {
+    let mut open = 0_usize;
+    let mut most = 0_usize;
+    for byte in text.as_bytes() {
+        match *byte {
+            b'{' | b'[' => open = open.saturating_add(1),
+            b'}' | b']' => open = open.saturating_sub(1),
+            _ => {},
+        }
+        if open > most {
+            most = open;
+        }
+    }
+    most
+}
+
+#[test]
+fn schemas_nest_114_deep(rt: HostRuntime) -> Result<(), Fail> {
+    check(rt.alloc(), DEEPEST, Row::Example)?;
+    let definitions = nesting(&expanded(rt.alloc(), DEEPEST)?);
+    // they stand two deep in their schema
+    assert!(rt; definitions.saturating_add(2) == 114);
+    Ok(())
 }

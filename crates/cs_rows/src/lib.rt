@@ -1,4 +1,4 @@
-// Worked examples: documents and schemas of texts, and the calls of `cs_tool`.
+// Worked examples: the calls of `cs_tool`.
 #![tactic(auto)]
 
 #[cfg(test)]
@@ -6,11 +6,7 @@ mod chains;
 #[cfg(test)]
 mod commands;
 #[cfg(test)]
-mod documents;
-#[cfg(test)]
 mod examples;
-#[cfg(test)]
-mod instances;
 #[cfg(test)]
 mod keywords;
 #[cfg(test)]
@@ -18,10 +14,6 @@ mod refusals;
 #[cfg(test)]
 mod requests;
 #[cfg(test)]
-mod schemas;
-#[cfg(test)]
 mod streams;
 #[cfg(test)]
 mod tables;
-#[cfg(test)]
-mod translations;

@@ -35,36 +35,51 @@ agree => - => 1 => #P: string => false invalid
 agree => - => [1 => #Q: int => 13
 agree => - => [1 => #P: int => 25"##;
 
+/// The bytes of a cell, none for `-`.
+fn bytes_of(alloc: Global, text: &str) -> Result<Option<Vec<u8>>, AllocError> {
+    if text == "-" {
+        Ok(None)
+    } else {
+        Ok(Some(Vec::from_slice(alloc, text.as_bytes())?))
+    }
+}
+
+/// The request of a row for `#P`; one for the schema where it names no other.
+pub(crate) fn request_of(
+    alloc: Global,
+    call: &str,
+    text: &str,
+    doc: &str,
+) -> Result<Request, AllocError> {
+    if call == "validate" {
+        let schema = Vec::from_slice(alloc, text.as_bytes())?;
+        let doc = bytes_of(alloc, doc)?;
+        return Ok(Request::Validate { schema, doc });
+    }
+    package_request(alloc, call, text, doc)
+}
+
 /// The sources of a cell, none for `-`.
 fn files_of(alloc: Global, text: &str) -> Result<Vec<Vec<u8>>, AllocError> {
     let mut files = Vec::new(alloc);
-    if text != "-" {
-        files.push(Vec::from_slice(alloc, text.as_bytes())?)?;
+    if let Some(source) = bytes_of(alloc, text)? {
+        files.push(source)?;
     }
     Ok(files)
 }
 
-/// The request of a row for `#P`; one for the schema where it names no other.
-fn request_of(alloc: Global, call: &str, text: &str, doc: &str) -> Result<Request, AllocError> {
-    let root = String::from_str(alloc, "#P")?;
-    let document = Vec::from_slice(alloc, doc.as_bytes())?;
-    if call == "validate" {
-        let schema = Vec::from_slice(alloc, text.as_bytes())?;
-        let doc = if doc == "-" { None } else { Some(document) };
-        return Ok(Request::Validate { schema, doc });
-    }
+fn package_request(
+    alloc: Global,
+    call: &str,
+    text: &str,
+    doc: &str,
+) -> Result<Request, AllocError> {
     let files = files_of(alloc, text)?;
+    let root = String::from_str(alloc, "#P")?;
+    let doc = Vec::from_slice(alloc, doc.as_bytes())?;
     Ok(match call {
-        "vet" => Request::Vet {
-            files,
-            root,
-            doc: document,
-        },
-        "agree" => Request::Agree {
-            files,
-            root,
-            doc: document,
-        },
+        "vet" => Request::Vet { files, root, doc },
+        "agree" => Request::Agree { files, root, doc },
         _ => Request::Export { files, root },
     })
 }
@@ -87,7 +102,8 @@ pub(crate) fn is_run(alloc: Global, row: &str) -> Result<bool, AllocError> {
     let (text, rest) = cell(rest);
     let (doc, rest) = cell(rest);
     let (input, wanted) = cell(rest);
-    let told = outcome(alloc, request_of(alloc, call, text, doc)?, input)?;
+    let request = request_of(alloc, call, text, doc)?;
+    let told = outcome(alloc, request, input)?;
     Ok(told.strip_suffix("\n") == Some(wanted.trim()))
 }
 
@@ -112,10 +128,9 @@ impl Read for Blanks {
 
 /// Whether an endless document is refused by 28 once so many calls gave more bytes than it may have.
 fn endless_document_is_refused(alloc: Global) -> Result<bool, AllocError> {
-    let schema = Vec::from_slice(alloc, b"true")?;
+    let request = request_of(alloc, "validate", "true", "-")?;
     let mut input = Blanks { calls: 0 };
     let mut output = Vec::new(alloc);
-    let request = Request::Validate { schema, doc: None };
     let number = match run(alloc, request, &mut input, &mut output) {
         Ok(_) => 0,
         Err(fault) => fault.number(),

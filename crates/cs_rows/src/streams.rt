@@ -1,5 +1,7 @@
 // `run` and `write_fault`, over readers and writers that fail.
-use cs_tool::{Fault, Request, run, write_fault};
+use crate::requests::request_of;
+use crate::tables::{Row, cell, check, expanded};
+use cs_tool::{Fault, run, write_fault};
 use std::alloc::{AllocError, Global};
 use std::io;
 use std::io::{Error, Read, Write};
@@ -65,226 +67,142 @@ impl Write for Room {
     }
 }
 
-fn with_room(alloc: Global, left: usize, a_call: usize) -> Room {
-    Room {
+/// A call, its file and its input, `-` for none, how many reads come before one that fails, how many bytes the writer takes
+/// and how many a call, `empty` where it then takes none and doesn't fail, `flush` where the flush fails, the number of the
+/// refusal, 0 for none, and what is written. A document is `1`.
+const STREAMS: &str =
+    r##"export => - => #P: int & >=1 & <=65535 => 1000 => 1000 => 1 => nothing => 0 => {"$defs":{"P":{"maximum":65535,"minimum":1,"type":"integer"}},"$ref":"#/$defs/P","$schema":"https://json-schema.org/draft/2020-12/schema"};
+export => #P: int & >=1 & <=65535 => - => 0 => 1000 => 1000 => nothing => 0 => {"$defs":{"P":{"maximum":65535,"minimum":1,"type":"integer"}},"$ref":"#/$defs/P","$schema":"https://json-schema.org/draft/2020-12/schema"};
+export => - => #P: int & >=1 & <=65535 => 1 => 1000 => 1000 => nothing => 30 =>
+export => - => #Q: int => 1000 => 1000 => 1000 => nothing => 13 =>
+export => - => ⟨1048577× ⟩ => 2000000 => 1000 => 1000 => nothing => 1 =>
+export => - => ⟨1048576× ⟩ => 2000000 => 1000 => 1000 => nothing => 13 =>
+export => #P: int & >=1 & <=65535 => - => 0 => 3 => 1000 => nothing => 31 => {"$
+export => #P: int & >=1 & <=65535 => - => 0 => 3 => 1000 => empty => 31 => {"$
+export => #P: int & >=1 & <=65535 => - => 0 => 0 => 1000 => nothing => 31 =>
+export => #P: int & >=1 & <=65535 => - => 0 => 0 => 1000 => empty => 31 =>
+export => #P: int & >=1 & <=65535 => - => 0 => 1000 => 1000 => flush => 31 => {"$defs":{"P":{"maximum":65535,"minimum":1,"type":"integer"}},"$ref":"#/$defs/P","$schema":"https://json-schema.org/draft/2020-12/schema"};
+vet => #P: int & >=1 & <=65535 => #P: int & >=1 & <=65535 => 1 => 3 => 1000 => nothing => 31 => val
+vet => - => #P: int & >=1 & <=65535 => 1 => 3 => 1000 => nothing => 30 =>
+export => - => #P: ⟨3999×int | ⟩int => 100000 => 100000 => 1000 => nothing => 0 => {"$defs":{"P":{"anyOf":[⟨3999×{"type":"integer"},⟩{"type":"integer"}]}},"$ref":"#/$defs/P","$schema":"https://json-schema.org/draft/2020-12/schema"};"##;
+
+/// A number of a cell, and the cells after it.
+fn number(row: &str) -> (usize, &str) {
+    let (text, rest) = cell(row);
+    (text.parse::<usize>().unwrap_or(0), rest)
+}
+
+/// A writer of the row's cells, and the cells after them.
+fn room_of(alloc: Global, row: &str) -> (Room, &str) {
+    let (left, rest) = number(row);
+    let (a_call, rest) = number(rest);
+    let (way, rest) = cell(rest);
+    let room = Room {
         taken: Vec::new(alloc),
         left,
         a_call,
-        fails: true,
+        fails: way != "empty",
         flushes: 0,
-        can_flush: true,
-    }
+        can_flush: way != "flush",
+    };
+    (room, rest)
 }
 
-const SOURCE: &[u8] = b"#P: int & >=1 & <=65535";
-
-const LINE: &[u8] =
-    b"{\"$defs\":{\"P\":{\"allOf\":[{\"type\":\"integer\"},{\"minimum\":1,\"type\":\"number\"},{\"maximum\":65535,\"type\":\"number\"}]}},\"$ref\":\"#/$defs/P\",\"$schema\":\"https://json-schema.org/draft/2020-12/schema\"}\n";
-
-/// A request for the schema of `#P`, with that file or with none.
-fn request(alloc: Global, file: Option<&[u8]>) -> Result<Request, AllocError> {
-    let mut files = Vec::new(alloc);
-    if let Some(source) = file {
-        files.push(Vec::from_slice(alloc, source)?)?;
-    }
-    let root = String::from_str(alloc, "#P")?;
-    Ok(Request::Export { files, root })
-}
-
-/// A request whether `1` is an instance of `#P`, with that file or with none.
-fn vet_request(alloc: Global, file: Option<&[u8]>) -> Result<Request, AllocError> {
-    let mut files = Vec::new(alloc);
-    if let Some(source) = file {
-        files.push(Vec::from_slice(alloc, source)?)?;
-    }
-    let root = String::from_str(alloc, "#P")?;
-    let doc = Vec::from_slice(alloc, b"1")?;
-    Ok(Request::Vet { files, root, doc })
-}
-
-/// The number of the refusal of a run over that input, which fails once, after so many calls, and gives a byte at each
-/// other; 0 for an answer.
+/// The number of the refusal of a run for `#P` over that input, 0 for an answer.
 fn outcome(
     alloc: Global,
-    request: Request,
-    input: &[u8],
-    calls: usize,
+    call: &str,
+    file: &str,
+    input: &mut Trickle<'_>,
     output: &mut Room,
 ) -> Result<u32, AllocError> {
-    let mut input = Trickle {
-        rest: input,
-        calls_left: calls,
-    };
-    match run(alloc, request, &mut input, output) {
+    let request = request_of(alloc, call, file, "1")?;
+    match run(alloc, request, input, output) {
         Ok(answer) => Ok(if answer { 0 } else { 99 }),
         Err(fault) => Ok(fault.number()),
     }
 }
 
-/// Whether a run writes the line whole, so many bytes a call, and flushes once.
-fn line_comes_out(
+/// Whether the bytes are those of a row's last cell.
+fn is_written(alloc: Global, bytes: &[u8], cell: &str) -> Result<bool, AllocError> {
+    let wanted = expanded(alloc, cell)?;
+    Ok(bytes == wanted.strip_prefix(" ").unwrap_or(&wanted).as_bytes())
+}
+
+/// Whether a run over that input goes as the row's other cells say, and the writer of an answer is flushed once.
+fn is_streamed(
     alloc: Global,
-    file: Option<&[u8]>,
+    call: &str,
+    file: &str,
     input: &[u8],
-    calls: usize,
-    a_call: usize,
+    row: &str,
 ) -> Result<bool, AllocError> {
-    let mut output = with_room(alloc, 1000, a_call);
-    let number = outcome(alloc, request(alloc, file)?, input, calls, &mut output)?;
-    Ok(number == 0 && output.taken.as_slice() == LINE && output.flushes == 1)
-}
-
-#[test]
-fn answers_a_byte_at_a_time(rt: HostRuntime) -> Result<(), Fail> {
-    assert!(rt; line_comes_out(rt.alloc(), None, SOURCE, 1000, 1)?);
-    Ok(())
-}
-
-#[test]
-fn reads_no_input_where_there_are_files(rt: HostRuntime) -> Result<(), Fail> {
-    assert!(rt; line_comes_out(rt.alloc(), Some(SOURCE), b"", 0, 1000)?);
-    Ok(())
-}
-
-/// Whether a run over that input is refused by the number, and the writer has nothing.
-fn is_refused(alloc: Global, input: &[u8], calls: usize, number: u32) -> Result<bool, AllocError> {
-    let mut output = with_room(alloc, 1000, 1000);
-    let told = outcome(alloc, request(alloc, None)?, input, calls, &mut output)?;
-    Ok(told == number && output.taken.is_empty())
-}
-
-/// The same, of an input of so many blanks.
-fn are_blanks_refused(alloc: Global, count: usize, number: u32) -> Result<bool, AllocError> {
-    let blanks = " ".repeat(alloc, count)?;
-    is_refused(alloc, blanks.as_bytes(), 2_000_000, number)
-}
-
-#[test]
-fn writes_nothing_after_a_refusal(rt: HostRuntime) -> Result<(), Fail> {
-    assert!(rt; is_refused(rt.alloc(), SOURCE, 1, 30)?);
-    assert!(rt; is_refused(rt.alloc(), b"#Q: int", 1000, 13)?);
-    assert!(rt; are_blanks_refused(rt.alloc(), 1_048_577, 1)?);
-    assert!(rt; are_blanks_refused(rt.alloc(), 1_048_576, 13)?);
-    Ok(())
-}
-
-/// Whether a run is refused by 31 where the writer takes so many bytes, or doesn't flush, and the writer has just these.
-fn is_cut(alloc: Global, left: usize, fails: bool, can_flush: bool) -> Result<bool, AllocError> {
-    let mut output = Room {
-        fails,
-        can_flush,
-        ..with_room(alloc, left, 1000)
+    let (calls_left, rest) = number(row);
+    let (mut output, rest) = room_of(alloc, rest);
+    let (wanted, written) = number(rest);
+    let mut input = Trickle {
+        rest: input,
+        calls_left,
     };
-    let number = outcome(alloc, request(alloc, Some(SOURCE))?, b"", 0, &mut output)?;
-    Ok(number == 31 && output.taken.as_slice() == LINE.get(..left).unwrap_or(LINE))
+    let told = outcome(alloc, call, file, &mut input, &mut output)?;
+    let is_flushed = told != 0 || output.flushes == 1;
+    Ok(told as usize == wanted && is_flushed && is_written(alloc, &output.taken, written)?)
+}
+
+/// Whether a row holds.
+pub(crate) fn is_run(alloc: Global, row: &str) -> Result<bool, AllocError> {
+    let (call, rest) = cell(row);
+    let (file, rest) = cell(rest);
+    let (input, rest) = cell(rest);
+    let input = expanded(alloc, input)?;
+    is_streamed(alloc, call, file, input.as_bytes(), rest)
 }
 
 #[test]
-fn a_write_or_a_flush_fails(rt: HostRuntime) -> Result<(), Fail> {
-    assert!(rt; is_cut(rt.alloc(), 3, true, true)?);
-    assert!(rt; is_cut(rt.alloc(), 3, false, true)?);
-    assert!(rt; is_cut(rt.alloc(), 0, true, true)?);
-    assert!(rt; is_cut(rt.alloc(), 0, false, true)?);
-    assert!(rt; is_cut(rt.alloc(), 1000, true, false)?);
-    Ok(())
+fn runs_are_whole_or_cut(rt: HostRuntime) -> Result<(), Fail> {
+    check(rt.alloc(), STREAMS, Row::Stream)
 }
 
-/// Whether `vet` of a document that is an instance is refused by that number, and the writer, which takes three bytes, has
-/// that text.
-fn verdict_is_cut(
-    alloc: Global,
-    file: Option<&[u8]>,
-    number: u32,
-    text: &[u8],
-) -> Result<bool, AllocError> {
-    let mut output = with_room(alloc, 3, 1000);
-    let told = outcome(alloc, vet_request(alloc, file)?, SOURCE, 1, &mut output)?;
-    Ok(told == number && output.taken.as_slice() == text)
-}
+/// The numbers of refusals, and the lines that report them.
+const LINES: &str = r##"10 => error 10 at 21
+13 => error 13
+16 => error 16
+15 => error 15
+7 => error 7"##;
 
-#[test]
-fn a_verdict_is_cut_short(rt: HostRuntime) -> Result<(), Fail> {
-    assert!(rt; verdict_is_cut(rt.alloc(), Some(SOURCE), 31, b"val")?);
-    assert!(rt; verdict_is_cut(rt.alloc(), None, 30, b"")?);
-    Ok(())
-}
-
-/// Appends a text, then another so many times, then a last one.
-fn push_all(
-    text: &mut String,
-    first: &str,
-    again: &str,
-    count: usize,
-    last: &str,
-) -> Result<(), AllocError> {
-    text.push_str(first)?;
-    for _ in 0..count {
-        text.push_str(again)?;
+/// A refusal of that number.
+fn fault_of(number: &str) -> Fault {
+    match number {
+        "7" => Fault::TooHigh { file: 3 },
+        "10" => Fault::FieldReference {
+            file: 0,
+            offset: 21,
+        },
+        "13" => Fault::UnknownRoot,
+        "16" => Fault::ChainTooLong,
+        _ => Fault::OutOfMemory,
     }
-    text.push_str(last)
 }
 
-/// Whether a definition of 4,000 operands comes out whole.
-fn long_answer_comes_out_whole(alloc: Global) -> Result<bool, AllocError> {
-    let mut source = String::new(alloc);
-    push_all(&mut source, "#P: ", "int & ", 3_999, "int")?;
-    let mut line = String::new(alloc);
-    push_all(
-        &mut line,
-        "{\"$defs\":{\"P\":{\"allOf\":[",
-        "{\"type\":\"integer\"},",
-        3_999,
-        "{\"type\":\"integer\"}]}},\"$ref\":\"#/$defs/P\",\"$schema\":\"https://json-schema.org/draft/2020-12/schema\"}\n",
-    )?;
-    let mut output = with_room(alloc, 100_000, 1000);
-    let number = outcome(
-        alloc,
-        request(alloc, None)?,
-        source.as_bytes(),
-        100_000,
-        &mut output,
-    )?;
-    Ok(number == 0 && output.taken.as_slice() == line.as_bytes())
-}
-
-#[test]
-fn a_long_answer_comes_out_whole(rt: HostRuntime) -> Result<(), Fail> {
-    assert!(rt; long_answer_comes_out_whole(rt.alloc())?);
-    Ok(())
-}
-
-/// Whether that is the line that reports a refusal.
-fn has_line(alloc: Global, fault: &Fault, line: &str) -> Result<bool, Fault> {
+/// Whether a row's refusal is reported by its line and a newline.
+pub(crate) fn is_line(alloc: Global, row: &str) -> Result<bool, Fault> {
+    let (number, wanted) = cell(row);
+    let fault = fault_of(number);
     let mut output = Vec::new(alloc);
-    write_fault(fault, &mut output)?;
-    Ok(output.as_slice() == line.as_bytes())
+    write_fault(&fault, &mut output)?;
+    let text = std::str::from_utf8(&output).unwrap_or("?");
+    Ok(text.strip_suffix("\n") == Some(wanted.trim()))
 }
 
 #[test]
 fn refusals_have_a_line(rt: HostRuntime) -> Result<(), Fail> {
-    let (file, offset) = (0, 21);
-    assert!(rt;
-        has_line(
-            rt.alloc(),
-            &Fault::FieldReference { file, offset },
-            "error 10 at 21\n"
-        )?
-    );
-    assert!(rt; has_line(rt.alloc(), &Fault::UnknownRoot, "error 13\n")?);
-    assert!(rt; has_line(rt.alloc(), &Fault::ChainTooLong, "error 16\n")?);
-    assert!(rt; has_line(rt.alloc(), &Fault::OutOfMemory, "error 15\n")?);
-    assert!(rt; has_line(rt.alloc(), &Fault::TooHigh { file: 3 }, "error 7\n")?);
-    Ok(())
+    check(rt.alloc(), LINES, Row::Line)
 }
 
 #[test]
 fn a_line_is_cut_short(rt: HostRuntime) {
-    let fault = Fault::FieldReference {
-        file: 0,
-        offset: 21,
-    };
-    let mut output = with_room(rt.alloc(), 5, 1000);
-    let answer = write_fault(&fault, &mut output);
+    let (mut output, _) = room_of(rt.alloc(), "5 => 1000 => nothing");
+    let answer = write_fault(&fault_of("10"), &mut output);
     assert!(rt; matches!(&answer, Err(Fault::WriteFailed)));
     assert!(rt; output.taken.as_slice() == b"error".as_slice());
 }

@@ -1,35 +1,31 @@
 // Tables of examples: a row a line, its cells parted by `=>`.
-use crate::{
-    commands, documents, examples, instances, keywords, refusals, requests, schemas, translations,
-};
+use crate::{commands, examples, keywords, refusals, requests, streams};
 use std::alloc::{AllocError, Global};
 use std::test::Fail;
 
 /// What a row says.
 #[derive(Clone, Copy)]
 pub(crate) enum Row {
-    /// A text, and what it is once it was read and written again.
-    Text,
-    /// A schema, and what it is once it was read and written again.
-    Schema,
-    /// A schema, and the number, place and name of its refusal.
-    Refused,
     /// A schema, documents that are valid and documents that aren't.
-    Verdicts,
-    /// The same, as `validate` judges them.
     Keyword,
     /// Sources, a root, the schemas of what it reaches, documents that are instances of it and documents that aren't.
     Example,
-    /// The same of one source, by `compile`, `is_instance` and `is_valid`.
-    Compiled,
-    /// Sources, a root, documents that are instances of it and documents that aren't.
-    Instances,
     /// Sources, a root and what `export`, `agree` and `vet` answer.
     Package,
+    /// Sources, a root, a document and what `agree` and `vet` answer.
+    Vetted,
     /// A schema, a document and what `validate` answers.
     Document,
+    /// A text of which no front is one of JSON.
+    Front,
+    /// A source, and the names of its cycle.
+    Cycle,
     /// A call, its texts, the input and what `run` answers.
     Request,
+    /// A call, its text, how its input and its output behave, and what `run` answers.
+    Stream,
+    /// The number of a refusal, and the line that reports it.
+    Line,
     /// Words, and what the command takes them for.
     Words,
 }
@@ -46,17 +42,16 @@ pub(crate) fn check(alloc: Global, table: &str, rows: Row) -> Result<(), Fail> {
 
 fn holds(alloc: Global, row: &str, rows: Row) -> Result<bool, Fail> {
     match rows {
-        Row::Text => Ok(documents::is_read(alloc, row)?),
-        Row::Schema => schemas::is_read(alloc, row),
-        Row::Refused => Ok(schemas::is_refused(alloc, row)?),
-        Row::Verdicts => schemas::are_judged(alloc, row),
         Row::Keyword => Ok(keywords::are_judged(alloc, row)?),
         Row::Example => Ok(examples::is_held(alloc, row)?),
-        Row::Compiled => translations::is_held(alloc, row),
-        Row::Instances => Ok(instances::is_held(alloc, row)?),
         Row::Package => Ok(refusals::is_answered(alloc, row)?),
+        Row::Vetted => Ok(refusals::is_vetted(alloc, row)?),
         Row::Document => Ok(refusals::is_judged(alloc, row)?),
+        Row::Front => Ok(refusals::are_fronts_refused(alloc, row)?),
+        Row::Cycle => Ok(refusals::is_cycle(alloc, row)?),
         Row::Request => Ok(requests::is_run(alloc, row)?),
+        Row::Stream => Ok(streams::is_run(alloc, row)?),
+        Row::Line => Ok(streams::is_line(alloc, row)?),
         Row::Words => Ok(commands::is_read(alloc, row)?),
     }
 }
@@ -69,11 +64,43 @@ pub(crate) fn cell(row: &str) -> (&str, &str) {
     }
 }
 
-/// The sources of a cell, which `%` parts.
+/// The row with a newline for each `;`, and with a text so many times for each `⟨NUMBER×TEXT⟩`.
+pub(crate) fn expanded(alloc: Global, row: &str) -> Result<String, AllocError> {
+    let row = row.replace(alloc, ';', "\n")?;
+    let mut whole = String::new(alloc);
+    for piece in row.split('⟨') {
+        let (repeated, after) = piece.split_once('⟩').unwrap_or(("", piece));
+        let (count, text) = repeated.split_once('×').unwrap_or(("", ""));
+        let count = count.parse::<usize>().unwrap_or(0);
+        push_times(&mut whole, text, count)?;
+        whole.push_str(after)?;
+    }
+    Ok(whole)
+}
+
+fn push_times(whole: &mut String, text: &str, count: usize) -> Result<(), AllocError> {
+    for _ in 0..count {
+        whole.push_str(text)?;
+    }
+    Ok(())
+}
+
+/// The sources of a cell, which `%` parts: none for `-`, and for `\xff` that byte alone.
 pub(crate) fn sources_of(alloc: Global, text: &str) -> Result<Vec<&[u8]>, AllocError> {
     let mut sources = Vec::new(alloc);
-    for source in text.split('%') {
-        sources.push(source.trim().as_bytes())?;
+    if text == "-" {
+        return Ok(sources);
+    }
+    for source in text.split(" % ") {
+        sources.push(bytes_of(source))?;
     }
     Ok(sources)
+}
+
+fn bytes_of(source: &str) -> &[u8] {
+    if source == "\\xff" {
+        b"\xff"
+    } else {
+        source.as_bytes()
+    }
 }

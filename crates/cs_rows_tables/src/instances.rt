@@ -1,6 +1,7 @@
 // Tables of documents and the rules of packages, through the calls of `cs_instance`.
 use crate::never::answer_by_refusals;
 use crate::tables::{Row, cell, check};
+use crate::translations::has_no_schema;
 use cs_doc::{Flat, flatten, read_doc};
 use cs_guard::{Guarded, guard};
 use cs_instance::{InstanceFault, instance_judge, instance_table, is_instance};
@@ -29,7 +30,7 @@ const TABLES: &str = r##"#T: {v: int, kids?: [...#T]} => #T => {"v":1,"kids":[{"
 #E: {l?: #E, r?: [#E]} => #E => {"l":{"r":[{}]},"r":[{"l":1}]} => 35 false"##;
 
 /// The guarded package of a source.
-fn guarded_of(alloc: Global, source: &str) -> Result<Guarded, Fail> {
+pub(crate) fn guarded_of(alloc: Global, source: &str) -> Result<Guarded, Fail> {
     let mut files = Vec::new(alloc);
     files.push(parse_file(alloc, source)?)?;
     Ok(guard(alloc, resolve(alloc, files)?)?)
@@ -163,16 +164,20 @@ fn has_no_verdict(alloc: Global, package: &Guarded, root: &str) -> Result<bool, 
     )
 }
 
-/// Whether the root is refused by each call.
-fn is_unknown(alloc: Global, source: &str, root: &str) -> Result<bool, Fail> {
+/// Packages, and roots that they don't declare.
+const UNKNOWN: &str = "#A: int => #B
+#A: int => A
+ => #A";
+
+/// Whether the row's root is refused by each call, and by `compile`.
+pub(crate) fn is_unknown(alloc: Global, row: &str) -> Result<bool, Fail> {
+    let (source, root) = cell(row);
+    let root = root.trim();
     let package = guarded_of(alloc, source)?;
-    has_no_verdict(alloc, &package, root)
+    Ok(has_no_verdict(alloc, &package, root)? && has_no_schema(alloc, &package, root))
 }
 
 #[test]
 fn the_root_is_declared(rt: HostRuntime) -> Result<(), Fail> {
-    assert!(rt; is_unknown(rt.alloc(), "#A: int", "#B")?);
-    assert!(rt; is_unknown(rt.alloc(), "#A: int", "A")?);
-    assert!(rt; is_unknown(rt.alloc(), "", "#A")?);
-    Ok(())
+    check(rt.alloc(), UNKNOWN, Row::Unknown)
 }

@@ -1,10 +1,14 @@
-// Worked examples: documents as lists of their values, and tables of verdicts.
+// Worked examples: documents and schemas of texts, documents as lists of their values, tables of verdicts, and packages
+// with their schemas.
 #![tactic(auto)]
 
 #[cfg(test)]
 mod counting;
 #[cfg(test)]
+mod documents;
+#[cfg(test)]
 mod fillings;
+mod forms;
 #[cfg(test)]
 mod instances;
 #[cfg(test)]
@@ -15,3 +19,9 @@ mod never;
 mod schemas;
 #[cfg(test)]
 mod tables;
+#[cfg(test)]
+mod texts;
+#[cfg(test)]
+mod translations;
+
+pub use forms::FORMS;

@@ -46,7 +46,7 @@ fn counted(alloc: Global, schema: &str, text: &str) -> Result<(u64, bool), Fail>
 }
 
 /// What `is_valid` answers; nothing where there are too many pairs.
-fn verdict(alloc: Global, schema: &str, text: &str) -> Result<Option<bool>, Fail> {
+pub(crate) fn verdict(alloc: Global, schema: &str, text: &str) -> Result<Option<bool>, Fail> {
     let schema = schema_of(alloc, schema)?;
     let doc = read_doc(alloc, text.as_bytes())?;
     match is_valid(alloc, &schema, &doc) {

@@ -1,11 +1,23 @@
 // Tables of examples: a row a line, its cells parted by `=>`.
-use crate::{instances, schemas};
+use crate::{documents, instances, schemas, texts, translations};
 use std::alloc::Global;
 use std::test::Fail;
 
 /// What a row says.
 #[derive(Clone, Copy)]
 pub(crate) enum Row {
+    /// A text, and what it is once it was read and written again.
+    Text,
+    /// Two texts, and whether they are the same document.
+    Pair,
+    /// A schema, and what it is once it was read and written again, or its refusal.
+    Written,
+    /// A schema, documents that are valid and documents that aren't.
+    Verdicts,
+    /// A source, a root, the schemas of what it reaches, documents that are instances of it and documents that aren't.
+    Compiled,
+    /// A package, and a root that it doesn't declare.
+    Unknown,
     /// A package, a root, a document, how many judgements its table has and the verdict.
     Package,
     /// A schema, a document, how many judgements its table has and the verdict.
@@ -24,6 +36,12 @@ pub(crate) fn check(alloc: Global, table: &str, rows: Row) -> Result<(), Fail> {
 
 fn holds(alloc: Global, row: &str, rows: Row) -> Result<bool, Fail> {
     match rows {
+        Row::Text => Ok(documents::is_read(alloc, row)?),
+        Row::Pair => Ok(documents::are_compared(alloc, row)?),
+        Row::Written => texts::is_answered(alloc, row),
+        Row::Verdicts => texts::are_judged(alloc, row),
+        Row::Compiled => translations::is_held(alloc, row),
+        Row::Unknown => instances::is_unknown(alloc, row),
         Row::Package => instances::is_judged(alloc, row),
         Row::Schema => schemas::is_judged(alloc, row),
     }

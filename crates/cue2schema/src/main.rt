@@ -8,6 +8,7 @@ use clap::error::ErrorKind;
 use cs_tool::{Fault, Request, command, run, write_fault};
 use requests::request_of;
 use std::alloc::Global;
+use std::env::Args;
 use std::io;
 use std::process::ExitCode;
 
@@ -31,7 +32,7 @@ fn main(rt: HostRuntime) -> ExitCode {
 fn answer(rt: &HostRuntime) -> Result<u8, Fault> {
     let alloc = rt.alloc();
     let words = match std::env::args(rt) {
-        Ok(arguments) => arguments.collect::<Vec<String>>(alloc)?,
+        Ok(arguments) => kept(alloc, arguments)?,
         Err(error) => return unread_words(rt, &error),
     };
     let command = command(alloc)?;
@@ -42,6 +43,15 @@ fn answer(rt: &HostRuntime) -> Result<u8, Fault> {
         },
         Err(error) => shown(rt, &error),
     }
+}
+
+/// The words of the process. `collect` would ask for the room of all of them first, and go on where that is refused.
+fn kept(alloc: Global, arguments: Args) -> Result<Vec<String>, Fault> {
+    let mut words = Vec::new(alloc);
+    for word in arguments {
+        words.push(word)?;
+    }
+    Ok(words)
 }
 
 /// The status of what `clap` prints: help on standard output, a fault of the command line on standard error.

@@ -32,7 +32,7 @@ loop-part-preserved c =
       listed = λ ns.
           let test : (passes ns t.now && not (list_any (bytes_eq t.now) (seen ns))) ≡ c.remove.result = sym (l.invariant.left ns t) ∙ sym c.remove.ensures.test in
           pushed ∙ ap₂ (λ ls b. ls ++ (if b then t.now ∷ [] else [])) (l.invariant.listed ns) (sym test)
-          ∙ sym (listed-more (passes ns) (seen ns) t.now) ∙ ap (λ ls. filter (passes ns) (firsts ls)) (sym (grown ns));
+          ∙ sym (listed-more (passes ns) (seen ns) t.now) ∙ ap (λ ls. filter (passes ns) (firsts bytes_eq ls)) (sym (grown ns));
       left = λ ns k.
           left-more l.asked c.remove.new.self (passes ns) (seen ns) t c.remove.ensures.updates (l.invariant.left ns) k
           ∙ ap (λ ls. passes ns k.now && not (list_any (bytes_eq k.now) ls)) (sym (grown ns));

@@ -6,6 +6,6 @@ use Rattle.cs_compile.proofs.fields.required.Given as goal
 
 abbrev pub invariant-loop-part : goal.invariant-loop-part
 invariant-loop-part l = record {
-  listed : (ns : List (List ℕ)) → map string_bytes l.labels.items ≡ filter (is_asked (declarations_at ns l.parts)) (firsts (labels_of (declarations_at ns (take l.part-index l.parts))));
+  listed : (ns : List (List ℕ)) → map string_bytes l.labels.items ≡ filter (is_asked (declarations_at ns l.parts)) (firsts bytes_eq (labels_of (declarations_at ns (take l.part-index l.parts))));
   left : (ns : List (List ℕ)) (k : Bor (List ℕ)) → has_label l.asked k ≡ (is_asked (declarations_at ns l.parts) k.now && not (list_any (bytes_eq k.now) (labels_of (declarations_at ns (take l.part-index l.parts)))));
 }

@@ -1,23 +1,16 @@
 // Packages and their schemas, through the calls of `cs_compile`, `cs_instance` and `cs_validate`.
-use crate::examples::{FORMS, schema_of};
+use crate::forms::FORMS;
+use crate::instances::guarded_of;
 use crate::tables::{Row, cell, check};
+use crate::texts::is_written;
 use cs_compile::{CompileFault, compile};
-use cs_doc::{read_doc, write_doc};
-use cs_guard::{Guarded, guard};
+use cs_doc::read_doc;
+use cs_guard::Guarded;
 use cs_instance::is_instance;
-use cs_resolve::resolve;
-use cs_schema::{SchemaDoc, to_doc};
-use cs_syntax::parse_file;
+use cs_schema::SchemaDoc;
 use cs_validate::is_valid;
 use std::alloc::Global;
 use std::test::Fail;
-
-/// The guarded package of a source.
-fn guarded_of(alloc: Global, source: &str) -> Result<Guarded, Fail> {
-    let mut files = Vec::new(alloc);
-    files.push(parse_file(alloc, source)?)?;
-    Ok(guard(alloc, resolve(alloc, files)?)?)
-}
 
 /// A root of a package, with its schema.
 #[derive(Clone, Copy)]
@@ -45,28 +38,41 @@ fn all_are(alloc: Global, sides: &Compiled<'_>, docs: &str, verdict: bool) -> Re
     Ok(true)
 }
 
+/// Whether the schema is that of a root with these definitions.
+fn has_definitions(
+    alloc: Global,
+    schema: &SchemaDoc,
+    root: &str,
+    definitions: &str,
+) -> Result<bool, Fail> {
+    let name = root.strip_prefix('#').unwrap_or(root);
+    let wanted = format!(in alloc;
+        "{{\"$defs\":{{{definitions}}},\"$ref\":\"#/$defs/{name}\",\"$schema\":\"https://json-schema.org/draft/2020-12/schema\"}}"
+    )?;
+    is_written(alloc, schema, &wanted)
+}
+
 /// Whether the documents, the instances and then the others, have their verdicts.
 fn are_judged(alloc: Global, sides: &Compiled<'_>, docs: &str) -> Result<bool, Fail> {
     let (instances, others) = cell(docs);
     Ok(all_are(alloc, sides, instances, true)? && all_are(alloc, sides, others, false)?)
 }
 
-/// Whether the schema has that text.
-fn is_written(alloc: Global, schema: &SchemaDoc, wanted: &str) -> Result<bool, Fail> {
-    let doc = to_doc(alloc, schema)?;
-    Ok(write_doc(alloc, &doc)?.as_slice() == wanted.as_bytes())
-}
-
-/// Whether the root is compiled to that schema, and the documents have their verdicts.
-fn holds(alloc: Global, source: &str, root: &str, wanted: &str, docs: &str) -> Result<bool, Fail> {
-    let package = guarded_of(alloc, source)?;
-    let schema = compile(alloc, &package, root)?;
+/// Whether the root is compiled to the schema of these definitions, and the documents have their verdicts.
+fn holds(
+    alloc: Global,
+    package: &Guarded,
+    root: &str,
+    definitions: &str,
+    docs: &str,
+) -> Result<bool, Fail> {
+    let schema = compile(alloc, package, root)?;
     let sides = Compiled {
-        package: &package,
+        package,
         root,
         schema: &schema,
     };
-    Ok(is_written(alloc, &schema, wanted)? && are_judged(alloc, &sides, docs)?)
+    Ok(has_definitions(alloc, &schema, root, definitions)? && are_judged(alloc, &sides, docs)?)
 }
 
 /// Whether the row holds.
@@ -74,9 +80,14 @@ pub(crate) fn is_held(alloc: Global, row: &str) -> Result<bool, Fail> {
     let (text, rest) = cell(row);
     let (root, rest) = cell(rest);
     let (definitions, docs) = cell(rest);
+    let package = package_of(alloc, text)?;
+    holds(alloc, &package, root, definitions, docs)
+}
+
+/// The guarded package of a source, whose `;` are newlines.
+fn package_of(alloc: Global, text: &str) -> Result<Guarded, Fail> {
     let source = text.replace(alloc, ';', "\n")?;
-    let wanted = schema_of(alloc, root, definitions)?;
-    holds(alloc, &source, root, &wanted, docs)
+    guarded_of(alloc, &source)
 }
 
 #[test]
@@ -84,17 +95,8 @@ fn every_form_is_compiled(rt: HostRuntime) -> Result<(), Fail> {
     check(rt.alloc(), FORMS, Row::Compiled)
 }
 
-/// Whether the source doesn't declare the root.
-fn is_unknown(alloc: Global, source: &str, root: &str) -> Result<bool, Fail> {
-    let package = guarded_of(alloc, source)?;
-    let schema = compile(alloc, &package, root);
-    Ok(matches!(schema, Err(CompileFault::UnknownRoot)))
-}
-
-#[test]
-fn the_root_is_declared(rt: HostRuntime) -> Result<(), Fail> {
-    assert!(rt; is_unknown(rt.alloc(), "#A: int", "#B")?);
-    assert!(rt; is_unknown(rt.alloc(), "#A: int", "A")?);
-    assert!(rt; is_unknown(rt.alloc(), "", "#A")?);
-    Ok(())
+/// Whether the package doesn't declare the root.
+pub(crate) fn has_no_schema(alloc: Global, package: &Guarded, root: &str) -> bool {
+    let schema = compile(alloc, package, root);
+    matches!(schema, Err(CompileFault::UnknownRoot))
 }

@@ -1,5 +1,5 @@
 // Documents of texts, through the calls of `cs_doc`.
-use crate::tables::{Row, check};
+use crate::tables::{Row, cell, check};
 use cs_doc::{Doc, DocFault, read_doc, write_doc};
 use std::alloc::Global;
 use std::test::Fail;
@@ -55,22 +55,26 @@ fn is_doc(alloc: Global, text: &[u8], doc: &Doc) -> Result<bool, DocFault> {
     Ok(read_doc(alloc, text)? == *doc)
 }
 
-/// Whether the document is its copy, what its text with turned members is read as, and no other.
-fn is_equal_to_its_own(alloc: Global, doc: &Doc) -> Result<bool, DocFault> {
-    Ok(
-        doc.copy(alloc)? == *doc
-            && is_doc(alloc, b"{\"c\":{},\"a\":[1,\"b\",null,true]}", doc)?
-            && !is_doc(alloc, b"{\"a\":[1,\"b\",null,false],\"c\":{}}", doc)?
-            && !is_doc(alloc, b"{\"a\":[1,\"b\",null,true],\"d\":{}}", doc)?
-            && !is_doc(alloc, b"[]", doc)?
-            && !is_doc(alloc, b"null", doc)?,
-    )
+/// Texts, and whether they are the same document.
+const PAIRS: &str = r##"{"a":[1,"b",null,true],"c":{}} => {"c":{},"a":[1,"b",null,true]} => yes
+{"a":[1,"b",null,true],"c":{}} => {"a":[1,"b",null,false],"c":{}} => no
+{"a":[1,"b",null,true],"c":{}} => {"a":[1,"b",null,true],"d":{}} => no
+{"a":[1,"b",null,true],"c":{}} => [] => no
+{"a":[1,"b",null,true],"c":{}} => null => no"##;
+
+/// Whether the row's first document is its copy, and the second one as it says.
+pub(crate) fn are_compared(alloc: Global, row: &str) -> Result<bool, DocFault> {
+    let (first, rest) = cell(row);
+    let (second, wanted) = cell(rest);
+    let doc = read_doc(alloc, first.as_bytes())?;
+    let is_copied = doc.copy(alloc)? == doc;
+    let is_same = is_doc(alloc, second.as_bytes(), &doc)?;
+    Ok(is_copied && is_same == (wanted.trim() == "yes"))
 }
 
 #[test]
 fn documents_are_copied_and_compared(rt: HostRuntime) -> Result<(), Fail> {
-    let doc = read_doc(rt.alloc(), b"{\"a\":[1,\"b\",null,true],\"c\":{}}")?;
-    assert!(rt; is_equal_to_its_own(rt.alloc(), &doc)?);
+    check(rt.alloc(), PAIRS, Row::Pair)?;
     assert!(rt; is_doc(rt.alloc(), b"-9223372036854775808", &Doc::Int(i64::MIN))?);
     Ok(())
 }

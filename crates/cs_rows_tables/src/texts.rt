@@ -1,8 +1,8 @@
 // Schemas of texts, through the calls of `cs_schema` and `cs_validate`.
-use crate::tables::{Row, check};
+use crate::schemas::verdict;
+use crate::tables::{Row, cell, check};
 use cs_doc::{read_doc, write_doc};
 use cs_schema::{Schema, SchemaDoc, SchemaFault, read_schema, to_doc};
-use cs_validate::is_valid;
 use std::alloc::{AllocError, Global};
 use std::test::Fail;
 
@@ -136,7 +136,8 @@ fn read(alloc: Global, text: &str) -> Result<SchemaDoc, SchemaFault> {
     }
 }
 
-fn is_written(alloc: Global, schema: &SchemaDoc, wanted: &str) -> Result<bool, Fail> {
+/// Whether the schema has that text.
+pub(crate) fn is_written(alloc: Global, schema: &SchemaDoc, wanted: &str) -> Result<bool, Fail> {
     let doc = to_doc(alloc, schema)?;
     Ok(write_doc(alloc, &doc)?.as_slice() == wanted.as_bytes())
 }
@@ -155,30 +156,23 @@ fn told(alloc: Global, fault: &SchemaFault) -> Result<String, AllocError> {
     }
 }
 
-/// Whether the row's schema is read and written as it says.
-pub(crate) fn is_read(alloc: Global, row: &str) -> Result<bool, Fail> {
-    let (text, wanted) = row.split_once(" => ").unwrap_or((row, ""));
-    let schema = read(alloc, text)?;
-    is_written(alloc, &schema, wanted)
-}
-
-/// Whether the row's schema is refused as it says.
-pub(crate) fn is_refused(alloc: Global, row: &str) -> Result<bool, AllocError> {
+/// Whether the row's schema is read and written, or refused, as it says.
+pub(crate) fn is_answered(alloc: Global, row: &str) -> Result<bool, Fail> {
     let (text, wanted) = row.split_once(" => ").unwrap_or((row, ""));
     match read(alloc, text) {
-        Ok(_) => Ok(false),
+        Ok(schema) => is_written(alloc, &schema, wanted),
         Err(fault) => Ok(told(alloc, &fault)?.as_str() == wanted),
     }
 }
 
 #[test]
 fn schemas_are_read_and_written(rt: HostRuntime) -> Result<(), Fail> {
-    check(rt.alloc(), SCHEMAS, Row::Schema)
+    check(rt.alloc(), SCHEMAS, Row::Written)
 }
 
 #[test]
 fn schemas_are_refused_by_their_first_fault(rt: HostRuntime) -> Result<(), Fail> {
-    check(rt.alloc(), REFUSED, Row::Refused)
+    check(rt.alloc(), REFUSED, Row::Written)
 }
 
 /// Schemas, documents that are valid and documents that aren't, which blanks part.
@@ -199,15 +193,10 @@ const VERDICTS: &str =
 true => null 1 =>
 false => => null 1"##;
 
-fn is(alloc: Global, schema: &SchemaDoc, doc: &str, verdict: bool) -> Result<bool, Fail> {
-    let doc = read_doc(alloc, doc.as_bytes())?;
-    Ok(is_valid(alloc, schema, &doc)? == verdict)
-}
-
-/// Whether each of the documents has that verdict.
-fn all_are(alloc: Global, schema: &SchemaDoc, docs: &str, verdict: bool) -> Result<bool, Fail> {
+/// Whether each of the documents, which blanks part, has that verdict.
+fn all_are(alloc: Global, schema: &str, docs: &str, wanted: bool) -> Result<bool, Fail> {
     for doc in docs.split_whitespace() {
-        if !is(alloc, schema, doc, verdict)? {
+        if verdict(alloc, schema, doc)? != Some(wanted) {
             return Ok(false);
         }
     }
@@ -216,10 +205,9 @@ fn all_are(alloc: Global, schema: &SchemaDoc, docs: &str, verdict: bool) -> Resu
 
 /// Whether the row's documents have their verdicts.
 pub(crate) fn are_judged(alloc: Global, row: &str) -> Result<bool, Fail> {
-    let (text, docs) = row.split_once(" =>").unwrap_or((row, ""));
-    let (valid, invalid) = docs.split_once("=>").unwrap_or((docs, ""));
-    let schema = read(alloc, text)?;
-    Ok(all_are(alloc, &schema, valid, true)? && all_are(alloc, &schema, invalid, false)?)
+    let (schema, docs) = cell(row);
+    let (valid, invalid) = cell(docs);
+    Ok(all_are(alloc, schema, valid, true)? && all_are(alloc, schema, invalid, false)?)
 }
 
 #[test]

@@ -1,0 +1,106 @@
+// Disjunctions of literals.
+ghost use Rattle.std.specs.Prelude.{◌≡◌, ℕ, List, IfOk, map, option_map};
+ghost use Rattle.cs_document.specs.Document.{document_eq};
+ghost use Rattle.cs_document.specs.View.{doc_view};
+ghost use Rattle.cs_package.specs.View.{expression_of};
+ghost use Rattle.cs_profile.specs.SchemaDocument.{schema_view};
+ghost use Rattle.cs_compile.specs.Literals.{literal_view};
+ghost use Rattle.cs_compile.specs.Translation.{enumeration, firsts, literal, literals};
+
+use crate::keywords::{object, untyped};
+use cs_document::Doc;
+use cs_package::Shape;
+use cs_profile::{Keyword, KeywordValue, Schema};
+use std::alloc::{AllocError, Global};
+use std::collections::BTreeSet;
+
+/// A literal.
+#[derive(Clone, Copy, PartialEq, Eq, PartialOrd, Ord)]
+enum Literal<'a> {
+    Null,
+    Bool(bool),
+    Int(i64),
+    Text(&'a str),
+}
+
+/// The schema of a disjunction of literals: `enum`, with each literal where it comes first. `None` where some operand
+/// is no literal.
+pub(crate) fn enumeration(alloc: Global, operands: &[Shape]) -> Result<Option<Schema>, AllocError>
+    ensures { (ns : List (List ℕ)) → IfOk result (λ o. option_map schema_view o ≡ option_map enumeration (literals (map (expression_of ns) operands.now))) }
+{
+    let Some(literals) = literals(alloc, operands)? else {
+        return Ok(None);
+    };
+    let values = KeywordValue::Array(firsts(alloc, &literals)?);
+    let schema = object(alloc, untyped(alloc).set(alloc, Keyword::Enum, values))?;
+    Ok(Some(schema))
+}
+
+/// The operands, if each is a literal.
+fn literals<'a>(
+    alloc: Global,
+    operands: &'a [Shape],
+) -> Result<Option<Vec<Literal<'a>>>, AllocError>
+    ensures { (ns : List (List ℕ)) → IfOk result (λ o. option_map (λ v. map literal_view v.items) o ≡ literals (map (expression_of ns) operands.now)) }
+{
+    let mut literals = Vec::with_capacity(alloc, operands.len())?;
+    for operand in operands {
+        let Some(literal) = literal_of(operand) else {
+            return Ok(None);
+        };
+        literals.push(literal)?;
+    }
+    Ok(Some(literals))
+}
+
+/// The literal that an expression is, if it is one.
+fn literal_of<'a>(shape: &'a Shape) -> Option<Literal<'a>>
+    ensures { (ns : List (List ℕ)) → option_map literal_view result ≡ literal (expression_of ns shape.now) }
+{
+    match shape {
+        Shape::Null => Some(Literal::Null),
+        Shape::Bool(b) => Some(Literal::Bool(*b)),
+        Shape::Int(n) => Some(Literal::Int(*n)),
+        Shape::Text(text) => Some(Literal::Text(text.as_str())),
+        Shape::Top
+        | Shape::Bottom
+        | Shape::Kind(_)
+        | Shape::Range { .. }
+        | Shape::Definition(_)
+        | Shape::Bound { .. }
+        | Shape::NotInt(_)
+        | Shape::NotText(_)
+        | Shape::NotNull
+        | Shape::And(_)
+        | Shape::Or(_)
+        | Shape::Struct { .. }
+        | Shape::List { .. } => None,
+    }
+}
+
+/// The documents of some literals, each where it comes first.
+fn firsts(alloc: Global, literals: &[Literal<'_>]) -> Result<Vec<Doc>, AllocError>
+    ensures { IfOk result (λ v. map doc_view v.items ≡ firsts document_eq (map literal_view literals.now)) }
+{
+    let mut seen = BTreeSet::new(alloc);
+    let mut firsts = Vec::new(alloc);
+    for literal in literals {
+        let is_new = seen.insert(*literal)?;
+        if is_new {
+            firsts.push(document(alloc, *literal)?)?;
+        }
+    }
+    Ok(firsts)
+}
+
+/// The document that a literal is.
+fn document(alloc: Global, literal: Literal<'_>) -> Result<Doc, AllocError>
+    ensures { IfOk result (λ d. doc_view d ≡ literal_view literal.entry) }
+{
+    match literal {
+        Literal::Null => Ok(Doc::Null),
+        Literal::Bool(b) => Ok(Doc::Bool(b)),
+        Literal::Int(n) => Ok(Doc::Int(n)),
+        Literal::Text(text) => Ok(Doc::Text(String::from_str(alloc, text)?)),
+    }
+}

@@ -1,0 +1,57 @@
+// Tables of examples: a row a line, its cells parted by `=>`.
+use crate::{fronts, streams};
+use cs_tool::Fault;
+use std::alloc::Global;
+use std::test::Fail;
+
+/// What a row says.
+#[derive(Clone, Copy)]
+pub(crate) enum Row {
+    /// A source, another one, a root, a document and what `vet` answers, for all fronts of the source together.
+    Sources,
+    /// A schema, a document and what `validate` answers, for all fronts of the schema together.
+    Schemas,
+    /// A source and what `vet` answers for it.
+    Source,
+    /// A request, and what it answers and writes.
+    Stream,
+    /// A request over so many blanks, and the number of its refusal.
+    Blanks,
+}
+
+/// Fails with the first row that doesn't hold.
+pub(crate) fn check(alloc: Global, table: &str, rows: Row) -> Result<(), Fail> {
+    for row in table.lines() {
+        if !holds(alloc, row, rows) {
+            return Err(Fail::new(row));
+        }
+    }
+    Ok(())
+}
+
+fn holds(alloc: Global, row: &str, rows: Row) -> bool {
+    match rows {
+        Row::Sources => fronts::are_vetted(alloc, row),
+        Row::Schemas => fronts::are_validated(alloc, row),
+        Row::Source => fronts::is_vetted(alloc, row),
+        Row::Stream => streams::is_told(alloc, row),
+        Row::Blanks => streams::are_blanks_refused(alloc, row),
+    }
+}
+
+/// The row's first cell, without the blanks around it, and the cells after it.
+pub(crate) fn cell(row: &str) -> (&str, &str) {
+    match row.split_once("=>") {
+        Some((first, rest)) => (first.trim(), rest),
+        None => (row.trim(), ""),
+    }
+}
+
+/// Whether the word is that of the verdict, or the number of the refusal.
+pub(crate) fn has_word(answer: &Result<bool, Fault>, word: &str) -> bool {
+    match answer {
+        Ok(true) => word == "valid",
+        Ok(false) => word == "invalid",
+        Err(fault) => word.parse::<u32>().unwrap_or(0) == fault.number(),
+    }
+}

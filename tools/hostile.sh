@@ -1,0 +1,328 @@
+#!/bin/sh
+# Runs the program on inputs that are made to be hard: deep, long, wide, of many definitions, at the limits and past them. It has
+# a stack of 8 MiB and 1 GiB of memory, by `ulimit -s` and `ulimit -v`, which counts all addresses. A line for each input: its
+# bytes, the pairs of a value and a rule (0 where it is refused before it is judged), the milliseconds of the processor and the most
+# memory. Each run has to end by itself with the answer or the refusal that is wanted, and to take at most ten times 20 ns a byte
+# and 10 ns a pair, and 50 ms, in which the program starts and the clock ticks. Fails where one doesn't, and other work on the
+# machine can make one take longer. A line that is known to take longer says why here, and fails for its answer alone. Takes two
+# minutes, and half a GB for its inputs, which it makes in a temporary folder. Needs GNU time.
+#
+#     tools/hostile.sh PROGRAM [WORD..]        the inputs whose lines have one of the words in them; all where there is none
+set -eu
+/usr/bin/time -f %M true 2> /dev/null || { echo "there is no GNU time at /usr/bin/time" >&2; exit 1; }
+program=$(realpath "$1")
+shift
+only=$*
+. "$(dirname "$0")/wanted.sh"
+mkdir "$room/here"
+cd "$room/here"
+
+# run WORD..: the program within its limits on $room/in, five minutes at most
+run() {
+    status=0
+    /usr/bin/time -f '%U %S %M' -o "$room/taken" sh -c 'ulimit -s 8192; ulimit -v 1048576; exec timeout 300 "$@"' sh \
+        "$program" "$@" < "$room/in" > "$room/out" 2> "$room/said" || status=$?
+}
+
+# bytes_of WORD..: the bytes of the files that these words name
+bytes_of() {
+    total=0
+    for word in "$@"; do
+        if [ -f "$word" ]; then total=$((total + $(wc -c < "$word"))); fi
+    done
+    echo "$total"
+}
+
+# is_asked_for NAME: whether the words of this script ask for the line of that name
+is_asked_for() {
+    if [ -z "$only" ]; then return 0; fi
+    for word in $only; do
+        case $1 in *"$word"*) return 0 ;; esac
+    done
+    return 1
+}
+
+# is_in_time NAME BYTES PAIRS: whether the run took no more than it may; prints its line
+is_in_time() {
+    tail -n 1 "$room/taken" | awk -v name="$1" -v bytes="$2" -v pairs="$3" '{
+        taken = ($1 + $2) * 1e3
+        most = 50 + 10 * (20e-6 * bytes + 10e-6 * pairs)
+        fault = taken > most ? sprintf("  more than %.0f ms", most) : ""
+        printf "%-52s %10d %10d %8.0f %9d%s\n", name, bytes, pairs, taken, $3, fault
+        exit (fault != "")
+    }'
+}
+
+# Not empty where the next line may take longer than it should, and why.
+slow=
+
+# try NAME PAIRS WANTED LINE [FILE]: one input, by a command line as in cases/README.md; the file has what is read besides
+try() {
+    if ! is_asked_for "$1"; then return; fi
+    run_line "$4"
+    well=yes
+    set -f
+    bytes=$(bytes_of $4 ${5-})
+    set +f
+    if ! is_in_time "$1" "$bytes" "$2" && [ -z "$slow" ]; then well=no; fi
+    if ! is_wanted "$3"; then
+        echo "  wanted $3"
+        well=no
+    fi
+    count "  $1" "$well"
+}
+
+# many COUNT TEXT: the text so many times
+many() {
+    yes "$2" | head -n "$1" | tr -d '\n'
+}
+
+# fill COUNT BYTE: a byte so many times
+fill() {
+    head -c "$1" /dev/zero | tr '\0' "$2"
+}
+
+# listed COUNT FORMAT [SEPARATOR]: the numbers from 0 on by a format of printf, with a separator between them
+listed() {
+    awk -v count="$1" -v form="$2" -v between="${3-,}" 'BEGIN { for (i = 0; i < count; i++) printf "%s" form, (i ? between : ""), i }'
+}
+
+# nested COUNT OPEN INNER CLOSE: the inner text in so many openings and ends
+nested() {
+    many "$1" "$2"
+    printf '%s' "$3"
+    many "$1" "$4"
+}
+
+printf '%-52s %10s %10s %8s %9s\n' input bytes pairs ms KiB
+printf true > true
+printf null > null
+printf 7 > seven
+printf '#A: _' > any.cue
+printf '#A: {...}' > map.cue
+printf '#A: string' > string.cue
+
+# Nesting: 127 is read.
+for depth in 127 128; do
+    if [ "$depth" = 127 ]; then read=valid pairs=127; else read='error 25' pairs=0; fi
+    nested "$depth" '[' '' ']' > lists
+    nested $((depth - 1)) '{"a":' '{}' '}' > maps
+    for document in lists maps; do
+        try "$depth nested $document: vet" "$pairs" "$read" "vet --root #A --doc $document any.cue"
+        try "$depth nested $document: validate" "$pairs" "$read" "validate --schema true --doc $document"
+    done
+done
+# An odd number of `not` about `true`.
+nested 127 '{"not":' true '}' > not
+try 'schema of 127 nested not' 128 invalid 'validate --schema not --doc null'
+nested 128 '{"not":' true '}' > not
+try 'schema of 128 nested not' 0 'error 20' 'validate --schema not --doc null'
+nested 63 '{"allOf":[' true ']}' > all
+try 'schema of 63 nested allOf' 64 valid 'validate --schema all --doc null'
+nested 64 '{"allOf":[' true ']}' > all
+try 'schema of 64 nested allOf' 0 'error 20' 'validate --schema all --doc null'
+nested 127 '[' '' ']' > lists
+try 'schema of 127 nested lists' 0 'error 22' 'validate --schema lists --doc null'
+nested 126 '{"a":' '{}' '}' > maps
+try 'schema of 127 nested maps' 0 'error 21' 'validate --schema maps --doc null'
+# Documents, schemas and sources that open without end.
+fill 60000000 '[' > open
+try '60,000,000 open lists: vet' 0 'error 25' 'vet --root #A --doc open any.cue'
+try '60,000,000 open lists: validate' 0 'error 25' 'validate --schema true < open'
+try '60,000,000 open lists: schema' 0 'error 20' 'validate --schema open --doc null'
+many 10000000 '{"a":' > open
+try '10,000,000 open maps: vet' 0 'error 25' 'vet --root #A --doc open any.cue'
+try '10,000,000 open maps: schema' 0 'error 20' 'validate --schema open --doc null'
+rm open
+{ printf '#A: '; fill 1048572 '('; } > open.cue
+try 'source of 1,048,572 open parentheses' 0 'error 7' 'export --root #A open.cue'
+{ printf '#A: '; fill 1048572 '['; } > open.cue
+try 'source of 1,048,572 open lists' 0 'error 7' 'export --root #A open.cue'
+{ printf '#A: '; many 262143 '"a":'; } > open.cue
+try 'source of 262,143 labels' 0 'error 7' 'export --root #A open.cue'
+
+# One long text, key, number, name, comment.
+{ printf '"'; fill 62914560 a; printf '"'; } > text
+try 'text of 60 MiB: vet _' 1 valid 'vet --root #A --doc text any.cue'
+try 'text of 60 MiB: vet string' 1 valid 'vet --root #A --doc text string.cue'
+try 'text of 60 MiB: validate true' 1 valid 'validate --schema true < text'
+try 'text of 60 MiB: schema' 0 'error 22' 'validate --schema text --doc null'
+{ printf '{"const":'; cat text; printf '}'; } > const
+try 'text of 60 MiB: validate const' 1 valid 'validate --schema const --doc text'
+{ printf '{"title":'; cat text; printf '}'; } > const
+try 'text of 60 MiB: title' 1 valid 'validate --schema const --doc null'
+rm const
+{ printf '"'; many 10485760 '\u0041'; printf '"'; } > text
+try 'text of 10,485,760 escapes: vet string' 1 valid 'vet --root #A --doc text string.cue'
+{ printf '{"'; fill 62914560 a; printf '":1}'; } > text
+try 'key of 60 MiB: vet {...}' 2 valid 'vet --root #A --doc text map.cue'
+try 'key of 60 MiB: schema' 0 'error 21' 'validate --schema text --doc null'
+fill 62914560 9 > text
+try 'number of 60 MiB: vet' 0 'error 25' 'vet --root #A --doc text any.cue'
+{ printf '0.'; fill 62914560 0; } > text
+try 'fraction of 60 MiB: vet' 0 'error 26' 'vet --root #A --doc text any.cue'
+rm text
+{ printf '#A: "'; fill 1048570 a; printf '"'; } > long.cue
+try 'source of a text of 1 MiB' 0 \
+    "{\"A\":{\"const\":\"$(fill 1048570 a)\"}}" 'export --root #A long.cue'
+{ printf '#A: "'; many 262142 '\t'; printf '"'; } > long.cue
+try 'source of 262,142 escapes' 1 invalid 'vet --root #A --doc null long.cue'
+{ printf '#A: 1'; fill 1048571 0; } > long.cue
+try 'source of an integer of 1 MiB' 0 'error 6 at 4' 'export --root #A long.cue'
+{ printf '#A: '; fill 1048572 a; } > long.cue
+try 'source of a name of 1 MiB' 0 'error 9 at 4' 'export --root #A long.cue'
+{ printf '#A: _ //'; fill 1048568 a; } > long.cue
+try 'source of a comment of 1 MiB' 0 '{"A":true}' 'export --root #A long.cue'
+fill 1048576 ' ' > long.cue
+try 'source of 1,048,576 blanks' 0 'error 13' 'export --root #A < long.cue'
+fill 1048577 ' ' > long.cue
+try 'source of 1,048,577 blanks' 0 'error 1' 'export --root #A < long.cue'
+fill 67108864 ' ' > blanks
+try 'document of 67,108,864 blanks' 0 'error 25' 'validate --schema true < blanks'
+printf ' ' >> blanks
+try 'document of 67,108,865 blanks' 0 'error 28' 'validate --schema true < blanks'
+rm blanks
+
+# Many values and keys.
+{ printf '{'; listed 1000000 '"k%07d":0'; printf '}'; } > keys
+printf '{"additionalProperties":{"type":"integer"}}' > integers
+try '1,000,000 keys: vet {...}' 1000001 valid 'vet --root #A --doc keys map.cue'
+try '1,000,000 keys: validate true' 1000001 valid 'validate --schema true --doc keys'
+try '1,000,000 keys: validate additionalProperties' 2000002 valid 'validate --schema integers --doc keys'
+try '1,000,000 keys: schema' 0 'error 21' 'validate --schema keys --doc null'
+{ printf '{'; many 999999 '"k":0,'; printf '"k":0}'; } > keys
+try '1,000,000 times one key: vet {...}' 2 valid 'vet --root #A --doc keys map.cue'
+{ printf '['; many 4999999 '0,'; printf '0]'; } > values
+try '5,000,000 zeros: validate true' 5000001 valid 'validate --schema true --doc values'
+{ printf '['; many 33554430 '0,'; printf '0]'; } > values
+try '33,554,431 zeros, more than 1 GiB holds' 0 'error 15' 'validate --schema true --doc values'
+{ printf '['; many 4999999 '[],'; printf '[]]'; } > values
+try '5,000,000 empty lists: validate true' 5000001 valid 'validate --schema true --doc values'
+rm values
+
+# Keys and texts that agree but for their last bytes.
+letters='a b c d e f g h i j k l m n o p q r s t u v w x y z A B C D E F G H I J K L M N O P Q R S T U V W X Y Z 0 1 2 3 4 5 6 7'
+fill 1000000 k > front
+{ printf '{'; comma=; for letter in $letters; do printf '%s"' "$comma"; cat front; printf '%s":0' "$letter"; comma=,; done; printf '}'; } > keys
+try '60 keys of 1 MB, but for the last byte: vet {...}' 61 valid 'vet --root #A --doc keys map.cue'
+{ printf '{"properties":'; sed 's/:0/:true/g' keys; printf '}'; } > schema
+try '60 keys of 1 MB, but for the last byte: properties' 3721 valid 'validate --schema schema --doc keys'
+front=$(fill 3996 k)
+{ printf '{'; listed 10000 "\"$front%04d\":0"; printf '}'; } > keys
+try '10,000 keys of 4,000 bytes: vet {...}' 10001 valid 'vet --root #A --doc keys map.cue'
+{ printf '{"required":['; listed 10000 "\"$front%04d\""; printf ']}'; } > schema
+try '10,000 keys of 4,000 bytes: required' 10001 valid 'validate --schema schema --doc keys'
+{ printf '{"enum":['; listed 4000 "\"$front%04d\""; printf ']}'; } > members
+{ printf '{"items":'; cat members; printf '}'; } > schema
+{ printf '['; listed 4000 "\"$front%04d\""; printf ']'; } > texts
+try '4,000 texts of 4,000 bytes: enum' 8002 valid 'validate --schema schema --doc texts'
+{ printf '{"items":{"anyOf":['; listed 4000 "{\"const\":\"$front%04d\"}"; printf ']}}'; } > schema
+slow='each pair of a text and a const is compared anew, up to where they differ'
+try '4,000 texts of 4,000 bytes: 4,000 const' 16012002 valid 'validate --schema schema --doc texts'
+slow=
+rm keys texts schema front members
+
+# Names that are required of many maps.
+{ printf '{"items":{"required":['; listed 500000 '"k%06d"'; printf ']}}'; } > schema
+{ printf '['; many 499999 '{"k000000":0},'; printf '{"k000000":0}]'; } > maps
+try '500,000 maps, 500,000 required' 2000002 invalid 'validate --schema schema --doc maps'
+rm maps
+
+# Schemas of many definitions, and names.
+chain() { # after|before|loop
+    awk -v way="$1" 'BEGIN {
+        count = 300000
+        last = way == "after" ? count - 1 : (way == "before" ? 0 : -1)
+        printf "{\"$defs\":{"
+        for (i = 0; i < count; i++) {
+            printf "%s\"d%06d\":", (i ? "," : ""), i
+            if (i == last) printf "{\"type\":\"integer\"}"
+            else printf "{\"$ref\":\"#/$defs/d%06d\"}", (way == "before" ? i - 1 : (i + 1) % count)
+        }
+        printf "},\"$ref\":\"#/$defs/d%06d\"}\n", (way == "before" ? count - 1 : 0)
+    }'
+}
+chain after > schema
+try '300,000 definitions, each to the one after' 300001 valid 'validate --schema schema --doc seven'
+chain before > schema
+try '300,000 definitions, each to the one before' 300001 valid 'validate --schema schema --doc seven'
+chain loop > schema
+try '300,000 definitions in a loop' 0 'error 24' 'validate --schema schema --doc seven'
+{ printf '{"$defs":{'; listed 300000 '"d%06d":{"$ref":"#/$defs/e"}'; printf '}}'; } > schema
+try '300,000 definitions that refer to none' 0 'error 23' 'validate --schema schema --doc seven'
+{ printf '{"$defs":{"a":true},"allOf":['; many 499999 '{"$ref":"#/$defs/a"},'; printf 'true]}'; } > schema
+try '499,999 references to one definition' 500002 valid 'validate --schema schema --doc seven'
+{ printf '{"properties":{'; listed 1000000 '"k%07d":true'; printf '}}'; } > schema
+try '1,000,000 properties' 1000001 valid 'validate --schema schema --doc seven'
+{ printf '{'; listed 1000000 '"k%07d":true'; printf '}'; } > schema
+try '1,000,000 keys that are no keywords' 0 'error 21' 'validate --schema schema --doc seven'
+
+# As many pairs as are judged, and more.
+{ printf '{"allOf":['; many 8190 'true,'; printf 'true]}'; } > schema
+{ printf '#A: _'; many 8189 '&_'; } > wide.cue
+{ printf '['; many 8190 '0,'; printf '0]'; } > fit
+{ printf '['; many 8191 '0,'; printf '0]'; } > over
+try 'allOf of 8,191 true, 8,191 zeros' 67108864 valid 'validate --schema schema --doc fit'
+try 'allOf of 8,191 true, 8,192 zeros' 0 'error 27' 'validate --schema schema --doc over'
+try '8,190 operands _, 8,191 zeros: vet' 67108864 valid 'vet --root #A --doc fit wide.cue'
+try '8,190 operands _, 8,192 zeros: vet' 0 'error 27' 'vet --root #A --doc over wide.cue'
+try '8,190 operands _, 8,191 zeros: agree' 134217728 valid 'agree --root #A --doc fit wide.cue'
+try '8,190 operands _, 8,192 zeros: agree' 0 'error 27' 'agree --root #A --doc over wide.cue'
+{ printf '#A: !=1'; many 4999 '&!=1'; } > wide.cue
+{ printf '['; many 7999 '0,'; printf '0]'; } > zeros
+try '5,000 operands !=1, 8,000 zeros: vet' 40021002 invalid 'vet --root #A --doc zeros wide.cue'
+# The package judges before the schema does, which has twice as many rules.
+try '5,000 operands !=1, 8,000 zeros: agree' 40021002 'error 27' 'agree --root #A --doc zeros wide.cue'
+{ printf '['; many 8191 '[],'; printf '[]]'; } > lists
+{ printf '{"items":{"anyOf":['; many 4093 '{"not":{}},'; printf '{"not":{}}]}}'; } > schema
+try '4,094 not of any list, 8,192 lists' 67100670 invalid 'validate --schema schema --doc lists'
+
+# Packages at their limits.
+{ printf '#A: {a: int'; many 48999 ',a: int'; printf '}'; } > wide.cue
+printf '{"a":1}' > one
+try '49,000 fields of one name: vet' 98006 valid 'vet --root #A --doc one wide.cue'
+"$program" export --root '#A' wide.cue > exported
+try '49,000 fields of one name: agree' 196012 valid 'agree --root #A --doc one wide.cue' exported
+{ printf '#A: {'; listed 49000 'a%05d: int'; printf '}'; } > wide.cue
+try '49,000 fields: vet' 98004 invalid 'vet --root #A --doc one wide.cue'
+{ printf '#A: _'; many 49998 '&_'; } > wide.cue
+try '49,999 operands' 50001 valid 'vet --root #A --doc null wide.cue'
+{ printf '#A: _'; many 49999 '&_'; } > wide.cue
+try '50,000 operands' 0 'error 14' 'vet --root #A --doc null wide.cue'
+{ listed 999 '#A%d: _' ';'; printf ';#A: _'; } | tr ';' '\n' > wide.cue
+try '1,000 definitions' 2 valid 'vet --root #A --doc null wide.cue'
+printf '\n#B: _' >> wide.cue
+try '1,001 definitions' 0 'error 14' 'vet --root #A --doc null wide.cue'
+many 49000 '#A: int;' | tr ';' '\n' > wide.cue
+try 'a definition of 49,000 bodies' 49001 valid 'vet --root #A --doc seven wide.cue'
+awk 'BEGIN { for (i = 0; i < 1000; i++) printf "#A%d: [#A%d]\n", i, (i + 1) % 1000 }' > wide.cue
+try '1,000 definitions in a loop' 0 'error 12' 'vet --root #A0 --doc null wide.cue'
+awk 'BEGIN {
+    for (i = 0; i < 220; i++) {
+        printf "#A%d: [...(#A0", i
+        for (j = 1; j < 220; j++) printf " & #A%d", j
+        print ")]"
+    }
+}' > wide.cue
+printf '[[],[]]' > lists
+try '220 definitions, each to all' 146520 valid 'vet --root #A0 --doc lists wide.cue'
+
+# What doubles with each definition.
+doubling() { # last
+    awk -v last="$1" 'BEGIN {
+        for (i = 0; i < last; i++) print "#A" i ": #A" i + 1 " & #A" i + 1
+        print "#A" last ": int"
+    }'
+}
+doubling 64 > wide.cue
+awk 'BEGIN {
+    printf "{\"$defs\":{"
+    for (i = 0; i < 64; i++) printf "\"A%d\":{\"allOf\":[{\"$ref\":\"#/$defs/A%d\"},{\"$ref\":\"#/$defs/A%d\"}]},", i, i + 1, i + 1
+    printf "\"A64\":{\"type\":\"integer\"}},\"$ref\":\"#/$defs/A0\"}\n"
+}' > schema
+try 'doubling 64 times: vet' 258 valid 'vet --root #A0 --doc seven wide.cue'
+try 'doubling 64 times: validate' 194 valid 'validate --schema schema --doc seven'
+try 'doubling 64 times: agree' 452 valid 'agree --root #A0 --doc seven wide.cue'
+doubling 65 > wide.cue
+try 'doubling 65 times: vet' 0 'error 16' 'vet --root #A0 --doc seven wide.cue'
+closing
