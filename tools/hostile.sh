@@ -307,14 +307,52 @@ awk 'BEGIN {
 printf '[[],[]]' > lists
 try '220 definitions, each to all' 146520 valid 'vet --root #A0 --doc lists wide.cue'
 
+# What recurs through alternatives: a tree of 5,000 integers, thirteen deep.
+printf '#E: int | {l: #E, r: #E}\n' > wide.cue
+awk 'function tree(leaves,    half) {
+        if (leaves == 1) { printf "1"; return }
+        half = int(leaves / 2)
+        printf "{\"l\":"; tree(half); printf ",\"r\":"; tree(leaves - half); printf "}"
+    }
+    BEGIN { tree(5000) }' > tree
+printf '{"$defs":{"E":{"anyOf":[{"type":"integer"},{"additionalProperties":false,"properties":{"l":{"$ref":"#/$defs/E"},"r":{"$ref":"#/$defs/E"}},"required":["l","r"],"type":"object"}]}},"$ref":"#/$defs/E"}' > schema
+try 'a tree of 9,999 values: vet' 59994 valid 'vet --root #E --doc tree wide.cue'
+try 'a tree of 9,999 values: validate' 59994 valid 'validate --schema schema --doc tree'
+try 'a tree of 9,999 values: agree' 119988 valid 'agree --root #E --doc tree wide.cue'
+
+# What narrows closed definitions: each the next one, and many labels at once.
+awk 'BEGIN {
+    for (i = 0; i < 999; i++) print "#A" i ": #A" i + 1 " & {k: _}"
+    print "#A999: {k: int}"
+}' > wide.cue
+try '999 refinements, each of the next' 0 'error 16' 'vet --root #A0 --doc null wide.cue'
+awk 'BEGIN {
+    for (i = 0; i < 999; i++) print "#A" i ": #A" i + 1 " & {k: _}"
+    print "#A999: #A0 & {k: _}"
+}' > wide.cue
+try '1,000 refinements in a circle' 0 'error 11 at 11' 'vet --root #A0 --doc null wide.cue'
+awk 'BEGIN {
+    printf "#B: {l0: _"
+    for (i = 1; i < 20000; i++) printf ", l%d: _", i
+    printf "}\n#C: #B & {l19999: 1"
+    for (i = 19998; i >= 0; i--) printf ", l%d: 1", i
+    print "}"
+}' > wide.cue
+printf '{}' > empty
+try 'a refinement of 20,000 labels' 40006 invalid 'vet --root #C --doc empty wide.cue'
+
 # What doubles with each definition.
-doubling() { # last
-    awk -v last="$1" 'BEGIN {
-        for (i = 0; i < last; i++) print "#A" i ": #A" i + 1 " & #A" i + 1
+doubling() { # last mark
+    awk -v last="$1" -v mark="$2" 'BEGIN {
+        for (i = 0; i < last; i++) print "#A" i ": #A" i + 1 " " mark " #A" i + 1
         print "#A" last ": int"
     }'
 }
-doubling 64 > wide.cue
+doubling 40 '|' > wide.cue
+try 'doubling 40 times by |: vet' 162 valid 'vet --root #A0 --doc seven wide.cue'
+doubling 64 '|' > wide.cue
+try 'doubling 64 times by |: vet' 258 valid 'vet --root #A0 --doc seven wide.cue'
+doubling 64 '&' > wide.cue
 awk 'BEGIN {
     printf "{\"$defs\":{"
     for (i = 0; i < 64; i++) printf "\"A%d\":{\"allOf\":[{\"$ref\":\"#/$defs/A%d\"},{\"$ref\":\"#/$defs/A%d\"}]},", i, i + 1, i + 1
@@ -323,6 +361,6 @@ awk 'BEGIN {
 try 'doubling 64 times: vet' 258 valid 'vet --root #A0 --doc seven wide.cue'
 try 'doubling 64 times: validate' 194 valid 'validate --schema schema --doc seven'
 try 'doubling 64 times: agree' 452 valid 'agree --root #A0 --doc seven wide.cue'
-doubling 65 > wide.cue
+doubling 65 '&' > wide.cue
 try 'doubling 65 times: vet' 0 'error 16' 'vet --root #A0 --doc seven wide.cue'
 closing

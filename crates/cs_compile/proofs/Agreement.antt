@@ -1,5 +1,5 @@
 -- The schema of an expression validates just the instances of the expression, and that of a definition just its instances.
-use Rattle.std.proofs.Common.{◌≡◌, ℕ, ℤ, List, [], ◌∷◌, map, Bool, true, false, not, ◌&&◌, ◌||◌, Option, Some, None, bytes_eq, int_le, refl, sym, ap, ap₂, ◌∙◌}
+use Rattle.std.proofs.Common.{◌≡◌, ℕ, ℤ, List, [], ◌∷◌, map, Bool, true, false, not, ◌&&◌, ◌||◌, Option, Some, None, bytes_eq, int_le, refl, sym, ap, ap₂, ◌∙◌, if◌then◌else◌}
 use Rattle.std.specs.Prelude.{option_map}
 use Rattle.std.specs.Option.{option_map_or}
 use Rattle.std.proofs.Math.Bool.{and-true}
@@ -10,9 +10,9 @@ use Rattle.cs_document.proofs.Each.{all_same, each_of}
 use Rattle.cs_profile.specs.Keywords.{defined}
 use Rattle.cs_profile.specs.Validity.{IsValidity}
 use Rattle.cs_package.specs.Expression as cue
-use Rattle.cs_package.specs.Expression.{Expression, Expressions, operands, Kind, int, number, string, bool, Relation, less, at_most, more, at_least, Declaration, Declarations, declarations}
+use Rattle.cs_package.specs.Expression.{Expression, Expressions, operands, Kind, int, number, string, bool, Relation, less, at_most, more, at_least, is_every, Declaration, Declarations, declarations}
 use Rattle.cs_package.specs.Environment.{Environment, bodies}
-use Rattle.cs_instance.specs.Constraint.{Rest, nothing, anything, each, is_satisfied, declaration_holds, rest_holds, elements_hold}
+use Rattle.cs_instance.specs.Constraint.{Rest, nothing, anything, each, is_satisfied, allows, declaration_holds, value_holds, rest_holds, elements_hold}
 use Rattle.cs_instance.specs.Instance.{Rule, node, definition, constraint_of, rest_of, all_bodies}
 use Rattle.cs_compile.specs.Translation.{schema_of, schemas_of, declared_schemas, rest_schema, definition_schema}
 use Rattle.cs_compile.proofs.Asserted.{valid_one_or_all, valid_false}
@@ -34,17 +34,17 @@ IsWritten E R _ = Unit {0}
 -- ---- the schemas of parts
 
 parts_map : (ds : Declarations) → (V : Document → Document → Bool) (ms : List (Entry Document))
-    → list_all (λ d. declaration_holds (λ y s. V s y) d (under d.label ms)) (declared_schemas ds) ≡ list_all (λ d. declaration_holds (λ y e. V (schema_of e) y) d (under d.label ms)) (declarations ds)
+    → list_all (λ d. declaration_holds (λ y s. V s y) d ms) (declared_schemas ds) ≡ list_all (λ d. declaration_holds (λ y e. V (schema_of e) y) d ms) (declarations ds)
 parts_map cue.no_declarations V ms = refl
-parts_map (cue.declaration l m e ds) V ms = ap₂ ◌&&◌ (at (under l ms)) (parts_map ds V ms)
+parts_map (cue.declaration l m e ds) V ms = ap₂ ◌&&◌ (ap (λ b. if is_every m then list_all (λ (c : Entry Document). V (schema_of e) c.1) ms else b) (at (under l ms))) (parts_map ds V ms)
   where
-    at : (o : Option Document) → declaration_holds (λ y s. V s y) (record { label = l; mark = m; value = schema_of e }) o ≡ declaration_holds (λ y e. V (schema_of e) y) (record { label = l; mark = m; value = e }) o
+    at : (o : Option Document) → value_holds (λ y s. V s y) (record { label = l; mark = m; value = schema_of e }) o ≡ value_holds (λ y e. V (schema_of e) y) (record { label = l; mark = m; value = e }) o
     at None = refl
     at (Some y) = refl
 
-labels_map : (ds : Declarations) (k : List ℕ) → list_any (λ (d : Declaration Document). bytes_eq k d.label) (declared_schemas ds) ≡ list_any (λ (d : Declaration Expression). bytes_eq k d.label) (declarations ds)
+labels_map : (ds : Declarations) (k : List ℕ) → list_any (λ (d : Declaration Document). allows d k) (declared_schemas ds) ≡ list_any (λ (d : Declaration Expression). allows d k) (declarations ds)
 labels_map cue.no_declarations k = refl
-labels_map (cue.declaration l m e ds) k = ap (λ b. bytes_eq k l || b) (labels_map ds k)
+labels_map (cue.declaration l m e ds) k = ap (λ b. (is_every m || bytes_eq k l) || b) (labels_map ds k)
 
 elements_map : (es : Expressions) (rest : Rest Document) (rest' : Rest Expression) (V : Document → Document → Bool)
     → ((ys : List Document) → rest_holds (λ y s. V s y) rest ys ≡ rest_holds (λ y e. V (schema_of e) y) rest' ys)

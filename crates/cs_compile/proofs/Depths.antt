@@ -1,5 +1,6 @@
 -- How deep a compiled schema nests: at most four levels for each level of the expression, but two.
-use Rattle.std.proofs.Common.{◌≡◌, ℕ, zero, suc, ◌+◌, ◌*◌, ◌≤◌, List, [], ◌∷◌, ◌++◌, map, Bool, true, false, Option, Some, None, Ordering, Less, Equal, Greater, nat_cmp, bytes_eq, codes, refl, sym, ap, subst, if◌then◌else◌, arith}
+use Rattle.std.proofs.Common.{◌≡◌, ℕ, zero, suc, ◌+◌, ◌*◌, ◌≤◌, List, [], ◌∷◌, ◌++◌, map, filter, Bool, true, false, not, ◌||◌, Option, Some, None, Ordering, Less, Equal, Greater, nat_cmp, bytes_eq, codes, refl, sym, ap, subst, if◌then◌else◌, arith}
+use Rattle.std.specs.List.{list_any}
 use Rattle.std.specs.Option.{option_map_or}
 use Rattle.std.specs.Ordering.{match_ordering}
 use Rattle.std.specs.Cmp.Lexicographic.{slice_cmp}
@@ -10,11 +11,12 @@ use Rattle.cs_document.specs.View.{documents_of}
 use Rattle.cs_profile.specs.SchemaDocument.{unless_no_list}
 use Rattle.cs_profile.specs.Trim.{with_member}
 use Rattle.cs_package.specs.Expression as cue
-use Rattle.cs_package.specs.Expression.{Expression, Expressions, operands, Declaration, Declarations, DeclarationMark}
+use Rattle.cs_package.specs.Expression.{Expression, Expressions, operands, Declaration, Declarations, DeclarationMark, is_every}
 use Rattle.cs_package.specs.Environment.{Environment}
 use Rattle.cs_compile.proofs.Enumerations.{by_literals, enumeration-depth}
-use Rattle.cs_compile.specs.Translation.{schema_of, schemas_of, declared_schemas, rest_schema, definition_schema, any_of, one_or_all, members_at, labels_of, values_of, properties_of, required_of, unless_empty, closing, struct_schema, fixed, list_schema, of_type}
+use Rattle.cs_compile.specs.Translation.{schema_of, schemas_of, declared_schemas, rest_schema, definition_schema, any_of, one_or_all, members_at, labels_of, values_of, properties_of, required_of, unless_empty, closing, struct_schema, fixed, list_schema, of_type, labelled, under_every_key}
 use Rattle.cs_compile.specs.Definitions.{AreDefinitions}
+use Rattle.cs_compile.specs.Grouped.{for_every_key}
 use Rattle.cs_package.specs.Height.{height, height_all, height_fields, height_rest, heights, IsLow}
 use Rattle.cs_compile.proofs.Interval.{by_conjunction, interval-depth}
 use Rattle.cs_compile.proofs.Root.{root_of}
@@ -79,19 +81,41 @@ with-depth : (o : Option Document) (k : List ℕ) (ms : Members) (b : ℕ) → o
 with-depth None k ms b h m = m
 with-depth (Some v) k ms b h m = max-le h m
 
+-- some of the declarations, and those of every key with their schemas
+filtered-depth : (p : Declaration Document → Bool) (ds : List (Declaration Document)) (b : ℕ) → deepest (map (λ d. d.value) ds) ≤ b → deepest (map (λ d. d.value) (filter p ds)) ≤ b
+filtered-depth p [] b h = omega arith
+filtered-depth p (d ∷ ds) b h = go (p d) (filtered-depth p ds b (omega (arith, le-max_right (depth d.value) (deepest (map (λ c. c.value) ds)))))
+  where
+    go : (c : Bool) → deepest (map (λ e. e.value) (filter p ds)) ≤ b → deepest (map (λ e. e.value) (if c then d ∷ filter p ds else filter p ds)) ≤ b
+    go true more = max-le (omega (arith, le-max_left (depth d.value) (deepest (map (λ c. c.value) ds)))) more
+    go false more = more
+
+every-depth : (ds : List (Declaration Document)) (b : ℕ) → deepest (map (λ d. d.value) ds) ≤ b → deepest (map (λ d. for_every_key d.value) ds) ≤ b + 1
+every-depth [] b h = omega arith
+every-depth (d ∷ ds) b h =
+    let one : max (depth d.value) 0 ≤ b = max-le (omega (arith, le-max_left (depth d.value) (deepest (map (λ c. c.value) ds)))) (omega arith) in
+    max-le (omega (arith, one)) (every-depth ds b (omega (arith, le-max_right (depth d.value) (deepest (map (λ c. c.value) ds)))))
+
 struct_schema-depth : (ds : List (Declaration Document)) (o : Bool) (b : ℕ) → deepest (map (λ d. d.value) ds) ≤ b → depth (struct_schema ds o) ≤ b + 4
 struct_schema-depth ds o b h =
-    let inside : members_depth (properties_of ds) ≤ b + 2 = members_at-depth (labels_of ds) (λ l. one_or_all (values_of l ds)) (b + 2) (λ l. one_or_all-depth (values_of l ds) b (values_of-depth l ds b h)) in
-    let of_labels : members_depth (with_member (unless_no_list (map text (required_of ds))) (codes "required") (of_type (codes "object"))) ≤ b + 3 =
-    with-depth (unless_no_list (map text (required_of ds))) (codes "required") (of_type (codes "object")) (b + 3) (labels-depth (required_of ds)) (omega arith) in
-    let of_properties : members_depth (with_member (unless_empty (properties_of ds)) (codes "properties") (with_member (unless_no_list (map text (required_of ds))) (codes "required") (of_type (codes "object")))) ≤ b + 3 =
-    with-depth (unless_empty (properties_of ds)) (codes "properties") (with_member (unless_no_list (map text (required_of ds))) (codes "required") (of_type (codes "object"))) (b + 3) (properties-depth (properties_of ds) inside) of_labels in
-    let whole = with-depth (closing o) (codes "additionalProperties") (with_member (unless_empty (properties_of ds)) (codes "properties") (with_member (unless_no_list (map text (required_of ds))) (codes "required") (of_type (codes "object")))) (b + 3) (closing-depth o) of_properties in
+    let ls = labelled ds in
+    let low : deepest (map (λ d. d.value) ls) ≤ b = filtered-depth (λ d. not (is_every d.mark)) ds b h in
+    let inside : members_depth (properties_of ls) ≤ b + 2 = members_at-depth (labels_of ls) (λ l. one_or_all (values_of l ls)) (b + 2) (λ l. one_or_all-depth (values_of l ls) b (values_of-depth l ls b low)) in
+    let wrapped : deepest (under_every_key ds) ≤ b + 1 = every-depth (filter (λ d. is_every d.mark) ds) b (filtered-depth (λ d. is_every d.mark) ds b h) in
+    let whole =
+    with-depth (closing (o || list_any (λ d. is_every d.mark) ds)) (codes "additionalProperties") _ (b + 3) (closing-depth (o || list_any (λ d. is_every d.mark) ds)) (
+    with-depth (unless_no_list (under_every_key ds)) (codes "allOf") _ (b + 3) (schemas-depth (under_every_key ds) wrapped) (
+    with-depth (unless_empty (properties_of ls)) (codes "properties") _ (b + 3) (properties-depth (properties_of ls) inside) (
+    with-depth (unless_no_list (map text (required_of ls))) (codes "required") (of_type (codes "object")) (b + 3) (labels-depth (required_of ls)) (omega arith)))) in
     omega (arith, whole)
   where
     closing-depth : (o : Bool) → option_map_or depth (closing o) 0 ≤ b + 3
     closing-depth true = omega arith
     closing-depth false = omega arith
+
+    schemas-depth : (ss : List Document) → deepest ss ≤ b + 1 → option_map_or depth (unless_no_list ss) 0 ≤ b + 3
+    schemas-depth [] h = omega arith
+    schemas-depth (s ∷ ss) h = let same : documents_depth (documents_of (s ∷ ss)) ≡ deepest (s ∷ ss) = documents_of-depth (s ∷ ss) in omega (arith, same, h)
 
     properties-depth : (ms : Members) → members_depth ms ≤ b + 2 → option_map_or depth (unless_empty ms) 0 ≤ b + 3
     properties-depth no_members h = omega arith

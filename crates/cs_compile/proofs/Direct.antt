@@ -1,5 +1,5 @@
 -- A compiled schema refers directly to what the expression refers to directly, so no definition reaches itself directly.
-use Rattle.std.proofs.Common.{◌≡◌, ℕ, List, [], ◌∷◌, ◌++◌, flat_map, unwrap_or, map, inl, inr, Contains, bytes_eq, IsTrue, Bool, true, Option, Some, None, codes, refl, sym, ap, ap₂, ◌∙◌, subst}
+use Rattle.std.proofs.Common.{◌≡◌, ℕ, List, [], ◌∷◌, ◌++◌, flat_map, unwrap_or, map, filter, inl, inr, Contains, bytes_eq, IsTrue, Bool, true, ◌||◌, Option, Some, None, codes, refl, sym, ap, ap₂, ◌∙◌, subst}
 use Rattle.std.specs.Option.{option_map_or}
 use Rattle.std.specs.List.{list_any}
 use Rattle.std.proofs.lemmas.List.{append-nil}
@@ -9,19 +9,20 @@ use Rattle.std.proofs.lemmas.Slice.Eq.{bytes_eq-Decides}
 use Rattle.cs_document.specs.Document.{Document, text, object, Documents, no_documents, document, Members, member}
 use Rattle.cs_document.specs.View.{documents_of}
 use Rattle.cs_package.specs.Expression as cue
-use Rattle.cs_package.specs.Expression.{Expression, Expressions, operands, Declaration, less, at_most, more, at_least}
+use Rattle.cs_package.specs.Expression.{Expression, Expressions, operands, Declaration, is_every, less, at_most, more, at_least}
 use Rattle.cs_package.specs.Environment.{Environment}
 use Rattle.cs_graph.specs.Chains.{Chain}
 use Rattle.cs_guard.specs.Guarded.{IsGuarded}
 use Rattle.cs_guard.specs.References.{direct, direct_all, strong, RefersStrongly}
-use Rattle.cs_instance.proofs.Induction.{direct-strong}
+use Rattle.cs_guard.proofs.Ways.{direct-strong}
 use Rattle.cs_profile.specs.Keywords.{defined}
 use Rattle.cs_profile.specs.Loops.{direct_names, keyword_names, each_names, RefersDirectly, NoLoop}
 use Rattle.cs_profile.specs.SchemaDocument.{unless_no_list}
 use Rattle.cs_profile.specs.Trim.{with_member}
 use Rattle.cs_compile.proofs.Enumerations.{by_literals, literals-direct}
 use Rattle.cs_compile.specs.Definitions.{IsDefinition}
-use Rattle.cs_compile.specs.Translation.{schema_of, schemas_of, declared_schemas, rest_schema, definition_schema, all_of, any_of, properties_of, required_of, unless_empty, closing, struct_schema, fixed, list_schema, of_type}
+use Rattle.cs_compile.specs.Translation.{schema_of, schemas_of, declared_schemas, rest_schema, definition_schema, all_of, any_of, properties_of, required_of, unless_empty, closing, struct_schema, fixed, list_schema, of_type, labelled, under_every_key}
+use Rattle.cs_compile.specs.Grouped.{for_every_key}
 use Rattle.cs_compile.proofs.Interval.{by_conjunction, interval-direct, interval-names}
 
 -- ---- the names of a schema
@@ -31,11 +32,21 @@ with-names : (o : Option Document) (k : List ℕ) (ms : Members) → ((v : Docum
 with-names None k ms h = refl
 with-names (Some v) k ms h = h v
 
+-- what is asked of the values under every key reaches no schema of the same document
+every-names : (ds : List (Declaration Document)) → each_names (documents_of (map (λ d. for_every_key d.value) ds)) ≡ []
+every-names [] = refl
+every-names (d ∷ ds) = every-names ds
+
+all-names : (ss : List Document) (ms : Members) → each_names (documents_of ss) ≡ [] → keyword_names (with_member (unless_no_list ss) (codes "allOf") ms) ≡ keyword_names ms
+all-names [] ms h = refl
+all-names (s ∷ ss) ms h = ap (λ ns. ns ++ keyword_names ms) h
+
 struct-names : (ds : List (Declaration Document)) (o : Bool) → direct_names (struct_schema ds o) ≡ []
 struct-names ds o =
-    with-names (closing o) (codes "additionalProperties") _ (λ v. refl)
-    ∙ with-names (unless_empty (properties_of ds)) (codes "properties") _ (λ v. refl)
-    ∙ with-names (unless_no_list (map text (required_of ds))) (codes "required") (of_type (codes "object")) (λ v. refl)
+    with-names (closing (o || list_any (λ d. is_every d.mark) ds)) (codes "additionalProperties") _ (λ v. refl)
+    ∙ all-names (under_every_key ds) _ (every-names (filter (λ d. is_every d.mark) ds))
+    ∙ with-names (unless_empty (properties_of (labelled ds))) (codes "properties") _ (λ v. refl)
+    ∙ with-names (unless_no_list (map text (required_of (labelled ds)))) (codes "required") (of_type (codes "object")) (λ v. refl)
 
 list-names : (ds : Documents) (rest : Option Document) → direct_names (list_schema ds rest) ≡ []
 list-names ds rest = with-names rest (codes "items") (fixed ds (of_type (codes "array"))) (λ v. refl) ∙ front ds

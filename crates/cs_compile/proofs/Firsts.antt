@@ -51,7 +51,7 @@ module _ {X : Type 0} (same : X → X → Bool) (alike : (x y : X) → same x y 
   any_firsts t xs = not-all t (firsts same xs) ∙ ap not (all_firsts (λ x. not (t x)) xs) ∙ sym (not-all t xs)
 
 -- what holds of each holds of those
-each_filter : {X : Type 0} (a : X → Bool) (P : X → Type 0) (xs : List X) → Each P xs → Each P (filter a xs)
+pub each_filter : {X : Type 0} (a : X → Bool) (P : X → Type 0) (xs : List X) → Each P xs → Each P (filter a xs)
 each_filter a P [] h = tt
 each_filter a P (x ∷ xs) h = go (a x) (each_filter a P xs h.1)
   where

@@ -6,6 +6,7 @@ pub mod Declared
 pub mod Depths
 pub mod Direct
 pub mod Enumerations
+pub mod Every
 pub mod Firsts
 pub mod InProfile
 pub mod Interval

@@ -1,5 +1,5 @@
 -- Declarations of a struct literal, one after the other.
-use Rattle.std.proofs.Common.{◌≡◌, ℕ, ◌+◌, ◌<◌, List, [], ◌∷◌, ◌++◌, map, filter, length, take, get_or, Bool, true, false, not, cond, ◌&&◌, ◌||◌, Option, Some, None, unwrap_or, String, Vec, Bor, Global, Result, codes, zero, suc, string_bytes, string_cmp, bytes_eq, refl, sym, ap, ap₂, ◌∙◌, if◌then◌else◌}
+use Rattle.std.proofs.Common.{◌≡◌, ℕ, ◌+◌, ◌<◌, List, [], ◌∷◌, ◌++◌, map, filter, length, take, get_or, Bool, true, false, not, cond, ◌&&◌, ◌||◌, Option, Some, None, is_some, unwrap_or, String, Vec, Bor, Global, Result, codes, zero, suc, string_bytes, string_cmp, bytes_eq, refl, sym, ap, ap₂, ◌∙◌, if◌then◌else◌}
 use Rattle.std.specs.BTreeMap.{get, is_at, IsOrdered}
 use Rattle.std.specs.BTreeSet.{BTreeSet, Updates}
 use Rattle.std.specs.Cmp.Lexicographic.{slice_cmp}
@@ -20,8 +20,7 @@ use Rattle.cs_document.specs.Document.{Document, Members, text, object}
 use Rattle.cs_document.specs.View.{members_of}
 use Rattle.cs_document.proofs.Maps.{take_at}
 use Rattle.cs_package.specs.Environment.{Environment, declared_names, name_at}
-use Rattle.cs_package.specs.Expression as cue
-use Rattle.cs_package.specs.Expression.{Expression, Declaration, DeclarationMark}
+use Rattle.cs_package.specs.Expression.{Expression, Declaration, is_every}
 use Rattle.cs_package.specs.View.{expression_of, declarations_of, mark_of, part_of}
 use Rattle.cs_package.specs.declared.shape.Part.{Part}
 use Rattle.cs_package.proofs.Environments.{bytes_eq-sym}
@@ -29,9 +28,10 @@ use Rattle.cs_instance.proofs.Views.{label_is, mark_is, value_is}
 use Rattle.cs_profile.specs.SchemaDocument.{schema_view, schemas_view, text_document, unless_no_list, unless_no_map}
 use Rattle.cs_profile.specs.Trim.{with_member}
 use Rattle.cs_profile.specs.declared.schema.Schema.{Schema}
+use Rattle.cs_compile.proofs.Every.{some_every}
 use Rattle.cs_compile.proofs.Firsts.{firsts-last}
 use Rattle.cs_compile.specs.Grouped.{declared, with_schema, declarations_at, Groups, group, IsGrouped, has_label, is_asked}
-use Rattle.cs_compile.specs.Translation.{schema_of, declared_schemas, struct_schema, closing, firsts, must_be_there, of_type, properties_of, required_of, unless_empty}
+use Rattle.cs_compile.specs.Translation.{schema_of, declared_schemas, struct_schema, closing, firsts, must_be_there, of_type, properties_of, required_of, unless_empty, labelled, under_every_key}
 
 -- the schemas of the declared values, in both forms
 pub declared_is : (ds : List (Declaration Expression)) → declared_schemas (declarations_of ds) ≡ map with_schema ds
@@ -143,14 +143,18 @@ named_at [] i n e = cc
 named_at (d ∷ E) zero n e = same_Some d.0 n e
 named_at (d ∷ E) (suc i) n e = named_at E i n e
 
-pub struct_is : {F : Type 0} (r : Result Schema F) (ds : List (Declaration Expression)) (opened : Bool) (es : List (String Global × Document)) (ls : List (String Global))
-    → members_of es ≡ properties_of (map with_schema ds) → map string_bytes ls ≡ required_of (map with_schema ds)
-    → IfOk r (λ s. schema_view s ≡ object (
-    with_member (closing opened) (codes "additionalProperties") (
-    with_member (unless_no_map es) (codes "properties") (
-    with_member (unless_no_list (map text_document ls)) (codes "required") (of_type (codes "object"))))))
-    → IfOk r (λ s. schema_view s ≡ schema_of (cue.struct (declarations_of ds) opened))
-struct_is r ds opened es ls properties required h =
-    let whole = ap₂ (λ p q. object (with_member (closing opened) (codes "additionalProperties") (with_member p (codes "properties") (with_member (unless_no_list q) (codes "required") (of_type (codes "object"))))))
-    (properties_slot es _ properties) (texts_are ls _ required) ∙ ap (λ xs. struct_schema xs opened) (sym (declared_is ds)) in
+-- the schema of a struct, by the values of its keywords
+abbrev object_by : (others every properties labels : Option Document) → Document
+object_by others every properties labels =
+    object (with_member others (codes "additionalProperties") (with_member every (codes "allOf") (with_member properties (codes "properties") (with_member labels (codes "required") (of_type (codes "object"))))))
+
+pub struct_is : {F : Type 0} (r : Result Schema F) (ds : List (Declaration Document)) (opened : Bool) (every : List Document) (es : List (String Global × Document)) (ls : List (String Global))
+    → every ≡ under_every_key ds → members_of es ≡ properties_of (labelled ds) → map string_bytes ls ≡ required_of (labelled ds)
+    → IfOk r (λ s. schema_view s ≡ object_by (closing (opened || is_some (unless_no_list every))) (unless_no_list every) (unless_no_map es) (unless_no_list (map text_document ls)))
+    → IfOk r (λ s. schema_view s ≡ struct_schema ds opened)
+struct_is r ds opened every es ls same properties required h =
+    let some : is_some (unless_no_list every) ≡ list_any (λ d. is_every d.mark) ds = ap (λ vs. is_some (unless_no_list vs)) same ∙ some_every ds in
+    let whole =
+    ap₂ (λ b vs. object_by (closing (opened || b)) (unless_no_list vs) (unless_no_map es) (unless_no_list (map text_document ls))) some same
+    ∙ ap₂ (λ p q. object_by (closing (opened || list_any (λ d. is_every d.mark) ds)) (unless_no_list (under_every_key ds)) p (unless_no_list q)) (properties_slot es _ properties) (texts_are ls _ required) in
     IfOk-weaker r _ _ (λ s seen. seen ∙ whole) h

@@ -70,6 +70,14 @@ above_three = bounded more (pos 3)
 abbrev declared_as : cue.DeclarationMark → String → Expression → cue.Declaration Expression
 declared_as m l e = record { label = codes l; mark = m; value = e }
 
+-- `[string]: e`
+abbrev for_all : Expression → cue.Declaration Expression
+for_all e = declared_as cue.every "" e
+
+-- the schema of maps with a value of a schema under every key
+abbrev under_all : Document → Document
+under_all s = says "additionalProperties" s
+
 -- the schema of a list with a front
 abbrev fronted : String → Document → List Document → ℤ → Document
 fronted keyword rest front count = named_map ((keyword, rest) ∷ ("minItems", integer count) ∷ ("prefixItems", array front) ∷ ("type", text (codes "array")) ∷ [])
@@ -156,6 +164,48 @@ rows =
             ∷ []),
       )
           ∷ ("required", array (text (codes "c") ∷ text (codes "b") ∷ text (codes "a") ∷ []))
+          ∷ ("type", text (codes "object"))
+          ∷ []),
+    )
+    -- `{[string]: int}`, `{[string]: int, ...}`
+    ∷ (cue.struct (declarations_of (for_all (cue.kind int) ∷ [])) false, named_map (("allOf", array (under_all (typed "integer") ∷ [])) ∷ ("type", text (codes "object")) ∷ []))
+    ∷ (cue.struct (declarations_of (for_all (cue.kind int) ∷ [])) true, named_map (("allOf", array (under_all (typed "integer") ∷ [])) ∷ ("type", text (codes "object")) ∷ []))
+    -- `{a: >2, [string]: int}`
+    ∷ (
+      cue.struct (declarations_of (declared_as cue.regular "a" (bounded more (pos 2)) ∷ for_all (cue.kind int) ∷ [])) false,
+      named_map (
+          ("allOf", array (under_all (typed "integer") ∷ []))
+          ∷ ("properties", says "a" (limited "exclusiveMinimum" (pos 2)))
+          ∷ ("required", array (text (codes "a") ∷ []))
+          ∷ ("type", text (codes "object"))
+          ∷ []),
+    )
+    -- `{[string]: number, a?: >3, [string]: <9}`: two of every key, in their order
+    ∷ (
+      cue.struct (declarations_of (for_all (cue.kind number) ∷ declared_as cue.optional "a" above_three ∷ for_all (bounded less (pos 9)) ∷ [])) false,
+      named_map (
+          ("allOf", array (under_all (typed "number") ∷ under_all (limited "exclusiveMaximum" (pos 9)) ∷ []))
+          ∷ ("properties", says "a" (limited "exclusiveMinimum" (pos 3)))
+          ∷ ("type", text (codes "object"))
+          ∷ []),
+    )
+    -- `{[string]: string, b: _, "": _}`: the empty label is another one than that of no label
+    ∷ (
+      cue.struct (declarations_of (for_all (cue.kind string) ∷ declared_as cue.regular "b" (cue.atom cue.top) ∷ declared_as cue.regular "" (cue.atom cue.top) ∷ [])) false,
+      named_map (
+          ("allOf", array (under_all (typed "string") ∷ []))
+          ∷ ("properties", named_map (("", boolean true) ∷ ("b", boolean true) ∷ []))
+          ∷ ("required", array (text (codes "b") ∷ text [] ∷ []))
+          ∷ ("type", text (codes "object"))
+          ∷ []),
+    )
+    -- `{[string]: {[string]: int}}`
+    ∷ (
+      cue.struct (declarations_of (for_all (cue.struct (declarations_of (for_all (cue.kind int) ∷ [])) false) ∷ [])) false,
+      named_map ((
+        "allOf",
+        array (under_all (named_map (("allOf", array (under_all (typed "integer") ∷ [])) ∷ ("type", text (codes "object")) ∷ [])) ∷ []),
+      )
           ∷ ("type", text (codes "object"))
           ∷ []),
     )

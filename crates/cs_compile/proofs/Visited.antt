@@ -1,6 +1,6 @@
 -- What the walk over a compiled schema meets is without fault, where the names that are referred to are names of definitions.
-use Rattle.std.proofs.Common.{◌≡◌, ℕ, suc, List, [], ◌∷◌, ◌++◌, map, flat_map, Bool, true, false, Option, Some, None, Ordering, Less, Equal, Greater, nat_cmp, codes, option_to_list, refl, sym, ◌∙◌, subst, bytes_eq, if◌then◌else◌}
-use Rattle.std.specs.List.{AllByRecursion as Each}
+use Rattle.std.proofs.Common.{◌≡◌, ℕ, suc, List, [], ◌∷◌, ◌++◌, map, filter, flat_map, Bool, true, false, not, ◌||◌, Option, Some, None, Ordering, Less, Equal, Greater, nat_cmp, codes, option_to_list, refl, sym, ◌∙◌, subst, bytes_eq, if◌then◌else◌}
+use Rattle.std.specs.List.{list_any, AllByRecursion as Each}
 use Rattle.std.proofs.lemmas.Option.{same_Some}
 use Rattle.std.specs.Ordering.{match_ordering}
 use Rattle.std.specs.Cmp.Lexicographic.{slice_cmp}
@@ -8,7 +8,7 @@ use Rattle.cs_document.specs.Document.{Document, boolean, text, list, object, Do
 use Rattle.cs_document.specs.View.{documents_of}
 use Rattle.cs_document.proofs.Each.{each_front, each_back}
 use Rattle.cs_package.specs.Expression as cue
-use Rattle.cs_package.specs.Expression.{Expression, Expressions, operands, Declaration, Declarations, less, at_most, more, at_least, int, number, string, bool}
+use Rattle.cs_package.specs.Expression.{Expression, Expressions, operands, Declaration, Declarations, is_every, less, at_most, more, at_least, int, number, string, bool}
 use Rattle.cs_guard.specs.Reachable.{referred, referred_all, referred_fields, referred_rest}
 use Rattle.cs_profile.specs.Places.{at_key, at_index}
 use Rattle.cs_profile.specs.Profile.{Visit, first, fault_of, undefined_at, visits, member_visits, keyword_visits, element_visits, named_visits}
@@ -16,7 +16,9 @@ use Rattle.cs_profile.specs.SchemaDocument.{unless_no_list}
 use Rattle.cs_profile.specs.Shapes.{is_name, are_distinct_texts}
 use Rattle.cs_profile.specs.Trim.{with_member}
 use Rattle.cs_profile.proofs.Walks.{first_past}
-use Rattle.cs_compile.specs.Translation.{schema_of, schemas_of, declared_schemas, rest_schema, definition_schema, one_or_all, all_of, any_of, members_at, labels_of, values_of, properties_of, required_of, unless_empty, closing, struct_schema, fixed, list_schema, of_type}
+use Rattle.cs_compile.specs.Translation.{schema_of, schemas_of, declared_schemas, rest_schema, definition_schema, one_or_all, all_of, any_of, members_at, labels_of, values_of, properties_of, required_of, unless_empty, closing, struct_schema, fixed, list_schema, of_type, labelled, under_every_key}
+use Rattle.cs_compile.specs.Grouped.{for_every_key}
+use Rattle.cs_compile.proofs.Firsts.{each_filter}
 use Rattle.cs_compile.proofs.Interval.{by_conjunction, interval-named, interval-shaped}
 use Rattle.cs_compile.proofs.Enumerations.{by_literals}
 use Rattle.cs_compile.proofs.Required.{required_of-distinct}
@@ -122,13 +124,33 @@ module _ (is_defined : List ℕ → Bool) where
   required-clean p (l ∷ ls) h v e =
       subst (λ w. IsClean is_defined (keyword_visits false p (codes "required") w)) (same_Some (list (documents_of (map text (l ∷ ls)))) v e) (record { shaped = rw h refl; named = refl })
 
+  -- the schemas of declarations of every key
+  every-clean : (ds : List (Declaration Document)) → Each (λ d. CleanSchema d.value) ds → Each CleanSchema (map (λ d. for_every_key d.value) ds)
+  every-clean [] h = tt
+  every-clean (d ∷ ds) h = (one, every-clean ds h.1)
+    where
+      one : CleanSchema (for_every_key d.value)
+      one p =
+          let whole = clean-append (visits false (at_key p (codes "additionalProperties")) d.value) [] (h.0 (at_key p (codes "additionalProperties"))) clean-nothing in
+          record { shaped = whole.shaped; named = whole.named }
+
+  schemas-clean : (p : List ℕ) (ss : List Document) → Each CleanSchema ss → (v : Document) → unless_no_list ss ≡ Some v → IsClean is_defined (keyword_visits false p (codes "allOf") v)
+  schemas-clean p [] h v e = cc
+  schemas-clean p (s ∷ ss) h v e =
+      let inside = elements-clean (documents_of (s ∷ ss)) (subst (Each CleanSchema) (sym (elements_back (s ∷ ss))) h) (at_key p (codes "allOf")) 0 in
+      subst (λ w. IsClean is_defined (keyword_visits false p (codes "allOf") w)) (same_Some (list (documents_of (s ∷ ss))) v e) (record { shaped = inside.shaped; named = inside.named })
+
   struct-clean : (ds : List (Declaration Document)) (o : Bool) → Each (λ d. CleanSchema d.value) ds → CleanSchema (struct_schema ds o)
   struct-clean ds o h p =
-      let inside : CleanMembers (properties_of ds) = members_at-clean (labels_of ds) (λ l. one_or_all (values_of l ds)) (λ l. one_or_all-clean (values_of l ds) (values_of-clean l ds h)) in
-      with-clean p (closing o) (codes "additionalProperties") _ (closing-clean p o) (
-      with-clean p (unless_empty (properties_of ds)) (codes "properties") _ (properties-clean p (properties_of ds) inside) (
-      with-clean p (unless_no_list (map text (required_of ds))) (codes "required") _ (required-clean p (required_of ds) (required_of-distinct ds)) (
-      record { shaped = refl; named = refl })))
+      let ls = labelled ds in
+      let own : Each (λ d. CleanSchema d.value) ls = each_filter (λ d. not (is_every d.mark)) _ ds h in
+      let inside : CleanMembers (properties_of ls) = members_at-clean (labels_of ls) (λ l. one_or_all (values_of l ls)) (λ l. one_or_all-clean (values_of l ls) (values_of-clean l ls own)) in
+      let all : Each CleanSchema (under_every_key ds) = every-clean (filter (λ d. is_every d.mark) ds) (each_filter (λ d. is_every d.mark) _ ds h) in
+      with-clean p (closing (o || list_any (λ d. is_every d.mark) ds)) (codes "additionalProperties") _ (closing-clean p (o || list_any (λ d. is_every d.mark) ds)) (
+      with-clean p (unless_no_list (under_every_key ds)) (codes "allOf") _ (schemas-clean p (under_every_key ds) all) (
+      with-clean p (unless_empty (properties_of ls)) (codes "properties") _ (properties-clean p (properties_of ls) inside) (
+      with-clean p (unless_no_list (map text (required_of ls))) (codes "required") _ (required-clean p (required_of ls) (required_of-distinct ls)) (
+      record { shaped = refl; named = refl }))))
 
   fixed-clean : (p : List ℕ) (ds : Documents) → Each CleanSchema (elements ds) → IsClean is_defined (member_visits false p (fixed ds (of_type (codes "array"))))
   fixed-clean p no_documents h = record { shaped = refl; named = refl }

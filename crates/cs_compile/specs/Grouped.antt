@@ -1,5 +1,5 @@
 -- The schemas of a struct's declared values, label by label; for private contracts and proofs alone.
-use Rattle.std.specs.Prelude.{◌≡◌, ℕ, List, [], ◌∷◌, map, Bool, ◌&&◌, String, string_bytes, string_cmp, Vec}
+use Rattle.std.specs.Prelude.{◌≡◌, ℕ, List, [], ◌∷◌, map, Bool, ◌&&◌, String, string_bytes, string_cmp, Vec, codes}
 use Rattle.std.specs.declared.alloc.Global.{Global}
 use Rattle.std.specs.BTreeMap.{BTreeMap, get, keys, IsOrdered}
 use Rattle.std.specs.BTreeSet.{BTreeSet, insert_key, contains}
@@ -9,14 +9,15 @@ use Rattle.std.specs.List.{list_any}
 use Rattle.std.specs.Option.{option_map_or}
 use Rattle.std.specs.Ordering.{nat_cmp}
 use Rattle.std.specs.Str.{bytes_eq}
-use Rattle.cs_document.specs.Document.{Document, Members}
+use Rattle.cs_document.specs.Document.{Document, object, Members, no_members, member}
 use Rattle.cs_document.specs.View.{members_of}
 use Rattle.cs_package.specs.Expression.{Expression, DeclarationMark, Declaration}
 use Rattle.cs_package.specs.View.{part_of}
 use Rattle.cs_package.specs.declared.shape.Part.{Part}
 use Rattle.cs_profile.specs.SchemaDocument.{schemas_view}
 use Rattle.cs_profile.specs.declared.schema.Schema.{Schema}
-use Rattle.cs_compile.specs.Translation.{schema_of, labels_of, must_be_there, values_of, one_or_all}
+use Rattle.cs_compile.specs.Translation.{schema_of, labels_of, must_be_there, values_of, one_or_all, labelled, under_every_key}
+use Rattle.cs_compile.specs.declared.fields.Values.{Values}
 
 -- a declaration, with the schema of its value
 abbrev pub declared : List ℕ → DeclarationMark → Document → Declaration Document
@@ -46,6 +47,15 @@ pub record IsGrouped (ds : List (Declaration Document)) (g : Groups) : Type 0 wh
   pub ordered : IsOrdered string_cmp g
   pub labels : map string_bytes (keys g) ≡ in_order (labels_of ds)
   pub values : (l : String Global) → group g l ≡ values_of (string_bytes l) ds
+
+-- the schema of maps with a value of a schema under every key
+abbrev pub for_every_key : Document → Document
+for_every_key d = object (member (codes "additionalProperties") d no_members)
+
+-- the schemas of the declared values: those of each label in one group, and those of every key in their order
+pub record AreValues (ds : List (Declaration Document)) (v : Values) : Type 0 where
+  pub grouped : IsGrouped (labelled ds) v.labelled
+  pub every : schemas_view v.every.items ≡ under_every_key ds
 
 -- under each label one schema, that of its group
 abbrev pub joined : Groups → Members

@@ -8,7 +8,7 @@ use Rattle.std.specs.Str.{bytes_eq}
 use Rattle.cs_document.specs.Document.{Document, null, boolean, integer, text, list, object, Documents, no_documents, document, elements, Members, no_members, member, put, document_eq}
 use Rattle.cs_document.specs.View.{documents_of}
 use Rattle.cs_package.specs.Expression as cue
-use Rattle.cs_package.specs.Expression.{Expression, Expressions, operands, Kind, int, number, string, bool, Relation, less, at_most, more, at_least, DeclarationMark, regular, optional, required, Declaration, Declarations, Rest}
+use Rattle.cs_package.specs.Expression.{Expression, Expressions, operands, Kind, int, number, string, bool, Relation, less, at_most, more, at_least, DeclarationMark, regular, optional, required, every, is_every, Declaration, Declarations, Rest}
 use Rattle.cs_package.specs.Environment.{Environment, bodies}
 use Rattle.cs_guard.specs.Reachable.{Reaches}
 use Rattle.cs_profile.specs.Keywords.{defined, reference_start}
@@ -180,6 +180,7 @@ abbrev pub must_be_there : DeclarationMark → Bool
 must_be_there regular = true
 must_be_there optional = false
 must_be_there required = true
+must_be_there every = false
 
 -- the labels that some declaration asks for, in the order in which labels are first declared
 abbrev pub required_of : List (Declaration Document) → List (List ℕ)
@@ -188,11 +189,20 @@ required_of ds = filter (λ l. list_any (λ d. bytes_eq l d.label && must_be_the
 abbrev pub closing : Bool → Option Document
 closing opened = if opened then None else Some (boolean false)
 
+-- the declarations of a label, and those of every key by schemas that see no other keyword (JSON Schema Core 2020-12,
+-- section 10.3.2.3)
+abbrev pub labelled : List (Declaration Document) → List (Declaration Document)
+labelled ds = filter (λ d. not (is_every d.mark)) ds
+
+abbrev pub under_every_key : List (Declaration Document) → List Document
+under_every_key ds = map (λ d. object (member (codes "additionalProperties") d.value no_members)) (filter (λ d. is_every d.mark) ds)
+
 abbrev pub struct_schema : List (Declaration Document) → Bool → Document
 struct_schema ds opened = object (
-    with_member (closing opened) (codes "additionalProperties") (
-    with_member (unless_empty (properties_of ds)) (codes "properties") (
-    with_member (unless_no_list (map text (required_of ds))) (codes "required") (of_type (codes "object")))))
+    with_member (closing (opened || list_any (λ d. is_every d.mark) ds)) (codes "additionalProperties") (
+    with_member (unless_no_list (under_every_key ds)) (codes "allOf") (
+    with_member (unless_empty (properties_of (labelled ds))) (codes "properties") (
+    with_member (unless_no_list (map text (required_of (labelled ds)))) (codes "required") (of_type (codes "object"))))))
 
 -- ---- lists, by the schemas of the fixed elements and of the rest
 

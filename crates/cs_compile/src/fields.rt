@@ -1,28 +1,73 @@
 // The schemas of structs.
-ghost use Rattle.std.specs.Prelude.{◌≡◌, ℕ, List, [], ◌∷◌, ◌++◌, Bool, true, false, IfOk, OnOk, codes, map, string_bytes};
+ghost use Rattle.std.specs.Prelude.{◌≡◌, ◌||◌, ℕ, List, [], ◌∷◌, ◌++◌, Bool, true, false, IfOk, OnOk, codes, is_some, map, string_bytes};
 ghost use Rattle.std.specs.Borrow.{Bor};
-ghost use Rattle.cs_document.specs.Document.{Document, object};
+ghost use Rattle.cs_document.specs.Document.{Document};
 ghost use Rattle.cs_document.specs.View.{members_of};
-ghost use Rattle.cs_package.specs.Expression.{DeclarationMark, Declaration};
+ghost use Rattle.cs_package.specs.Expression.{DeclarationMark, Declaration, is_every};
 ghost use Rattle.cs_package.specs.View.{mark_of};
-ghost use Rattle.cs_profile.specs.SchemaDocument.{schema_view, definitions_view, text_document, unless_no_list, unless_no_map, value_at};
+ghost use Rattle.cs_profile.specs.SchemaDocument.{schema_view, schemas_view, slots_of, definitions_view, present, text_document, unless_no_list, unless_no_map, value_at};
 ghost use Rattle.cs_profile.specs.Trim.{with_member};
 ghost use Rattle.cs_profile.specs.declared.keyword.Form.TheVariants as form;
-ghost use Rattle.cs_compile.specs.Grouped.{declared, declarations_at, is_asked, has_label, IsGrouped, joined};
-ghost use Rattle.cs_compile.specs.Translation.{closing, must_be_there, of_type, required_of};
+ghost use Rattle.cs_compile.specs.Grouped.{declared, declarations_at, for_every_key, is_asked, has_label, AreValues, IsGrouped, joined};
+ghost use Rattle.cs_compile.specs.Translation.{closing, labelled, must_be_there, of_type, required_of, struct_schema};
 
-use crate::keywords::{object, typed};
+use crate::keywords::{object, typed, untyped};
 use crate::operands::one_or_all;
 use cs_package::{FieldMark, Part};
-use cs_profile::{JsonKind, Keyword, KeywordValue, Schema};
+use cs_profile::{JsonKind, Keyword, KeywordValue, Keywords, Schema};
 use std::alloc::{AllocError, Global};
 use std::collections::{BTreeMap, BTreeSet};
 
 /// The schemas of declared values, label by label.
-pub(crate) type Groups = BTreeMap<String, Vec<Schema>>;
+type Groups = BTreeMap<String, Vec<Schema>>;
+
+/// The schemas of a struct's declared values.
+#[derive(Drop)]
+pub(crate) struct Values {
+    /// Those of each label.
+    labelled: Groups,
+    /// For each `[string]: T` the schema of maps with a T under every key.
+    every: Vec<Schema>,
+}
+
+impl Values {
+    ghost use Rattle.std.specs.Prelude.{[]};
+    ghost use Rattle.cs_compile.specs.Grouped.{AreValues};
+
+    /// No value.
+    pub(crate) fn new(alloc: Global) -> Values
+        ensures { AreValues [] result }
+    {
+        Values {
+            labelled: BTreeMap::new(alloc),
+            every: Vec::new(alloc),
+        }
+    }
+}
+
+/// Puts the schema of a declared value behind those of its label, or of every key.
+pub(crate) fn add_value(
+    alloc: Global,
+    values: &mut Values,
+    part: &Part,
+    value: Schema,
+) -> Result<(), AllocError>
+    ensures { OnOk result ((ds : List (Declaration Document)) → AreValues ds values.old
+        → AreValues (ds ++ declared (string_bytes part.now.label) (mark_of part.now.mark) (schema_view value) ∷ []) values.new) }
+{
+    match part.mark {
+        FieldMark::Every { .. } => {
+            let schema = under_every_key(alloc, value)?;
+            Ok(values.every.push(schema)?)
+        },
+        FieldMark::Regular | FieldMark::Optional | FieldMark::Required => {
+            add_labelled(alloc, &mut values.labelled, part.label.as_str(), value)
+        },
+    }
+}
 
 /// Puts the schema of a declared value behind those of its label.
-pub(crate) fn add_value(
+fn add_labelled(
     alloc: Global,
     groups: &mut Groups,
     label: &str,
@@ -35,11 +80,20 @@ pub(crate) fn add_value(
     Ok(())
 }
 
+/// The schema of maps with a value of a schema under every key. It stands in an object of its own, since
+/// `additionalProperties` leaves out the keys of the `properties` beside it.
+fn under_every_key(alloc: Global, value: Schema) -> Result<Schema, AllocError>
+    ensures { IfOk result (λ s. schema_view s ≡ for_every_key (schema_view value)) }
+{
+    let value = KeywordValue::Schema(value);
+    object(
+        alloc,
+        untyped(alloc).set(alloc, Keyword::AdditionalProperties, value),
+    )
+}
+
 /// The value of `properties`: one schema for each label.
-pub(crate) fn properties(
-    alloc: Global,
-    groups: Groups,
-) -> Result<BTreeMap<String, Schema>, AllocError>
+fn properties(alloc: Global, groups: Groups) -> Result<BTreeMap<String, Schema>, AllocError>
     ensures { IfOk result (λ m. members_of (definitions_view m.entries) ≡ joined groups) }
 {
     let mut properties = BTreeMap::new(alloc);
@@ -51,12 +105,15 @@ pub(crate) fn properties(
 }
 
 /// The value of `required`: the labels that some declaration asks for, in the order in which labels are first declared.
-pub(crate) fn required(alloc: Global, parts: &[Part]) -> Result<Vec<String>, AllocError>
-    ensures { (ns : List (List ℕ)) → IfOk result (λ v. map string_bytes v.items ≡ required_of (declarations_at ns parts.now)) }
+fn required(alloc: Global, parts: &[Part]) -> Result<Vec<String>, AllocError>
+    ensures { (ns : List (List ℕ)) → IfOk result (λ v. map string_bytes v.items ≡ required_of (labelled (declarations_at ns parts.now))) }
 {
     let mut asked = asked_labels(alloc, parts)?;
     let mut labels = Vec::new(alloc);
     for part in parts {
+        if is_every(part.mark) {
+            continue;
+        }
         if asked.remove(part.label.as_str()) {
             labels.push(part.label.clone()?)?;
         }
@@ -83,38 +140,67 @@ fn must_be_there(mark: FieldMark) -> bool
 {
     match mark {
         FieldMark::Regular | FieldMark::Required => true,
-        FieldMark::Optional => false,
+        FieldMark::Optional | FieldMark::Every { .. } => false,
     }
 }
 
-/// The schema of a struct, by the values of `properties` and `required`. It admits no other label unless it is opened.
+/// Whether a declaration is of every key, and not of a label.
+fn is_every(mark: FieldMark) -> bool
+    ensures { result ≡ is_every (mark_of mark) }
+{
+    match mark {
+        FieldMark::Every { .. } => true,
+        FieldMark::Regular | FieldMark::Optional | FieldMark::Required => false,
+    }
+}
+
+/// The schema of a struct, by the schemas of its declared values.
 pub(crate) fn struct_schema(
     alloc: Global,
-    properties: BTreeMap<String, Schema>,
-    required: Vec<String>,
+    values: Values,
+    parts: &[Part],
     opened: bool,
 ) -> Result<Schema, AllocError>
-    ensures { IfOk result (λ s. schema_view s ≡ object (
-        with_member (closing opened) (codes "additionalProperties") (
-        with_member (unless_no_map (definitions_view properties.entries)) (codes "properties") (
-        with_member (unless_no_list (map text_document required.items)) (codes "required") (of_type (codes "object")))))) }
+    ensures { (ns : List (List ℕ)) → AreValues (declarations_at ns parts.now) values → IfOk result (λ s. schema_view s ≡ struct_schema (declarations_at ns parts.now) opened) }
 {
-    let keywords = typed(alloc, JsonKind::Object)
+    let labels = required(alloc, parts)?;
+    let properties = properties(alloc, values.labelled)?;
+    let keywords = struct_keywords(alloc, properties, values.every, labels, opened);
+    object(alloc, keywords)
+}
+
+/// The keywords of a struct's schema, by the values of `properties`, `allOf` and `required`.
+fn struct_keywords(
+    alloc: Global,
+    properties: BTreeMap<String, Schema>,
+    every: Vec<Schema>,
+    required: Vec<String>,
+    opened: bool,
+) -> Keywords
+    ensures { present (slots_of result) ≡
+        with_member (closing (opened || is_some (unless_no_list (schemas_view every.items)))) (codes "additionalProperties") (
+        with_member (unless_no_list (schemas_view every.items)) (codes "allOf") (
+        with_member (unless_no_map (definitions_view properties.entries)) (codes "properties") (
+        with_member (unless_no_list (map text_document required.items)) (codes "required") (of_type (codes "object"))))) }
+{
+    let others = closing(&every, opened);
+    typed(alloc, JsonKind::Object)
         .set(alloc, Keyword::Required, KeywordValue::Texts(required))
         .set(
             alloc,
             Keyword::Properties,
             KeywordValue::NamedSchemas(properties),
         )
-        .set(alloc, Keyword::AdditionalProperties, closing(opened));
-    object(alloc, keywords)
+        .set(alloc, Keyword::AllOf, KeywordValue::Schemas(every))
+        .set(alloc, Keyword::AdditionalProperties, others)
 }
 
-/// The value of `additionalProperties`: `false`, or nothing in an opened struct.
-fn closing(opened: bool) -> KeywordValue
-    ensures { value_at form.Schema result ≡ closing opened }
+/// The value of `additionalProperties`: `false`, or nothing where every key is allowed, in an opened struct and in one
+/// with a `[string]`.
+fn closing(every: &Vec<Schema>, opened: bool) -> KeywordValue
+    ensures { value_at form.Schema result ≡ closing (opened || is_some (unless_no_list (schemas_view every.now.items))) }
 {
-    if opened {
+    if opened || !every.is_empty() {
         KeywordValue::Nothing
     } else {
         KeywordValue::Schema(Schema::Always(false))

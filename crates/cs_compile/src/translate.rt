@@ -5,12 +5,12 @@ ghost use Rattle.cs_package.specs.Environment.{declared_names};
 ghost use Rattle.cs_package.specs.View.{expression_of, is_known, is_known_end, is_known_part, rest_of};
 ghost use Rattle.cs_profile.specs.SchemaDocument.{schema_view, schemas_view, value_at};
 ghost use Rattle.cs_profile.specs.declared.keyword.Form.TheVariants as form;
-ghost use Rattle.cs_compile.specs.Grouped.{declarations_at, IsGrouped};
+ghost use Rattle.cs_compile.specs.Grouped.{declarations_at, AreValues};
 ghost use Rattle.cs_compile.specs.Translation.{schema_of, definition_schema, rest_schema};
 
 use crate::atoms::{bound, but, constant, json_kind, not_text, range, reference};
 use crate::elements::list_schema;
-use crate::fields::{Groups, add_value, properties, required, struct_schema};
+use crate::fields::{Values, add_value, struct_schema};
 use crate::intervals::{interval, is_interval};
 use crate::keywords::{object, typed, untyped};
 use crate::literals::enumeration;
@@ -19,7 +19,6 @@ use cs_document::Doc;
 use cs_package::{Package, Part, Shape, ShapeEnd};
 use cs_profile::{JsonKind, KeywordValue, Schema};
 use std::alloc::{AllocError, Global};
-use std::collections::BTreeMap;
 
 /// The schema of a definition: that of its one body, or `allOf` of those of its bodies in order.
 pub(crate) fn definition_schema(
@@ -64,8 +63,8 @@ fn schema_of(alloc: Global, package: &Package, shape: &Shape) -> Result<Schema, 
             None => any_of(alloc, schemas_of(alloc, package, operands)?),
         },
         Shape::Struct { parts, opened } => {
-            let properties = properties(alloc, groups_of(alloc, package, parts)?)?;
-            struct_schema(alloc, properties, required(alloc, parts)?, *opened)
+            let values = values_of(alloc, package, parts)?;
+            struct_schema(alloc, values, parts, *opened)
         },
         Shape::List { front, end } => {
             let front = schemas_of(alloc, package, front)?;
@@ -87,18 +86,18 @@ fn schemas_of(alloc: Global, package: &Package, shapes: &[Shape]) -> Result<Vec<
     Ok(schemas)
 }
 
-/// The schemas of the declared values, label by label.
+/// The schemas of the declared values.
 #[cycle(translate)]
-fn groups_of(alloc: Global, package: &Package, parts: &[Part]) -> Result<Groups, AllocError>
+fn values_of(alloc: Global, package: &Package, parts: &[Part]) -> Result<Values, AllocError>
     requires { IsTrue (list_all (is_known_part (length «package».now)) parts.now) }
-    ensures { IfOk result (IsGrouped (declarations_at (declared_names «package».now) parts.now)) }
+    ensures { IfOk result (AreValues (declarations_at (declared_names «package».now) parts.now)) }
 {
-    let mut groups = BTreeMap::new(alloc);
+    let mut values = Values::new(alloc);
     for part in parts {
         let value = schema_of(alloc, package, &part.value)?;
-        add_value(alloc, &mut groups, &part.label, value)?;
+        add_value(alloc, &mut values, part, value)?;
     }
-    Ok(groups)
+    Ok(values)
 }
 
 /// The value of `items`: the schema of what stands behind a list's fixed elements, or nothing where they may be

@@ -13,7 +13,7 @@ use Rattle.cs_grammar.specs.View.{bare_name, word, words}
 use Rattle.cs_grammar.specs.Literal.{Literal, ends, plain, escape, four, eight}
 use Rattle.cs_grammar.specs.Words as W
 use Rattle.cs_grammar.specs.Tree as T
-use Rattle.cs_grammar.specs.Spells.{is_reserved, literal_of, is_null, is_package, start_at, SpellsNumber, positive, negative}
+use Rattle.cs_grammar.specs.Spells.{is_reserved, literal_of, is_null, is_package, is_string, start_at, SpellsNumber, positive, negative}
 use Rattle.std.proofs.lemmas.Int.{ints}
 use Prim.Native.String.{String}
 
@@ -230,6 +230,9 @@ nulls = refl
 
 package_names : parts (λ t. is_package (codes t)) ("package" ∷ []) ("packag" ∷ "packages" ∷ "Package" ∷ "" ∷ []) ≡ true
 package_names = refl
+
+strings : parts (λ t. is_string (codes t)) ("string" ∷ []) ("strin" ∷ "strings" ∷ "String" ∷ "int" ∷ "" ∷ []) ≡ true
+strings = refl
 
 -- ---- numbers
 

@@ -5,7 +5,7 @@ use Rattle.std.specs.Option.{unwrap_or}
 use Rattle.std.specs.Str.{bytes_eq}
 use Rattle.std.specs.List.{list_any}
 use Rattle.cs_grammar.specs.declared.ast.FieldMark.{FieldMark}
-use Rattle.cs_grammar.specs.declared.ast.FieldMark.TheVariants.{Regular, Optional, Required}
+use Rattle.cs_grammar.specs.declared.ast.FieldMark.TheVariants.{Regular, Optional, Required, Every}
 use Rattle.cs_grammar.specs.Atom.{Relation, top, bottom, null, boolean, integer, text, bound, not_integer, not_text, not_null}
 use Rattle.cs_grammar.specs.Words.{Words, start, name, definition_name, top_mark, bottom_mark, numeral, quoted, open_struct, close_struct, open_list, close_list, open_paren, close_paren, comma, nl, colon, question, bang, amp, bar, dots, relation, unequal, minus, finish}
 use Rattle.cs_grammar.specs.Tree.{Label, Tree, atom, named, reference, conjunction, disjunction, paren, struct, list, Trees, none, more, Fields, no_field, field, End, closed, any, each, DefinitionTree, definition, FileTree, file}
@@ -22,6 +22,10 @@ is_null s = bytes_eq s (codes "null")
 
 abbrev pub is_package : List ℕ → Bool
 is_package s = bytes_eq s (codes "package")
+
+-- the name that stands in brackets for every key
+abbrev pub is_string : List ℕ → Bool
+is_string s = bytes_eq s (codes "string")
 
 -- the literals that are names
 abbrev pub literal_of : List ℕ → Option Tree
@@ -70,7 +74,10 @@ pub data SpellsBound : Tree → Words → Words → Type 0 where
   other_text : {s : List ℕ} {p q : ℕ} {r : Words} → SpellsBound (atom (not_text s)) (unequal p ∷ quoted s q ∷ r) r
   other_null : {s : List ℕ} {p q : ℕ} {r : Words} → is_null s ≡ true → SpellsBound (atom not_null) (unequal p ∷ name s q ∷ r) r
 
--- Label = name or text
+-- Label = name or text, or `[` `string` `]`, which is an empty text here
+abbrev pub every_label : Label
+every_label = record { text = []; quotes = true }
+
 pub data SpellsLabel : Label → Words → Words → Type 0 where
   bare_label : {s : List ℕ} {p : ℕ} {r : Words} → SpellsLabel (record { text = s; quotes = false }) (name s p ∷ r) r
   quoted_label : {s : List ℕ} {p : ℕ} {r : Words} → SpellsLabel (record { text = s; quotes = true }) (quoted s p ∷ r) r
@@ -94,9 +101,10 @@ mutual
     long : {e : Tree} {ts r : Words} → SpellsExpr e ts r → SpellsValue e ts r
     short : {l : Label} {m : FieldMark} {e : Tree} {o : ℕ} {ts r : Words} → o ≡ start_at ts → SpellsField l m e ts r → SpellsValue (struct o (field l m e no_field) false) ts r
 
-  -- Field = Label [ `?` or `!` ] `:` Value
+  -- Field = Label [ `?` or `!` ] `:` Value, or `[` `string` `]` `:` Value
   pub data SpellsField : Label → FieldMark → Tree → Words → Words → Type 0 where
     labelled : {l : Label} {m : FieldMark} {e : Tree} {ts us vs r : Words} → SpellsLabel l ts us → SpellsMark m us vs → SpellsValue e vs r → SpellsField l m e ts r
+    every_key : {s : List ℕ} {o p q c : ℕ} {e : Tree} {ts r : Words} → is_string s ≡ true → SpellsValue e ts r → SpellsField every_label (Every p) e (open_list o ∷ name s p ∷ close_list q ∷ colon c ∷ ts) r
 
   -- Expr = Conj { `|` Conj }; one alone makes no disjunction
   pub data SpellsExpr : Tree → Words → Words → Type 0 where

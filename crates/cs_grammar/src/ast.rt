@@ -65,7 +65,7 @@ pub enum Expr {
     },
 }
 
-/// A field of a struct literal.
+/// A field of a struct literal. Of `[string]: T` the label is empty and `quoted` is true, so no name can name it.
 #[cycle(ast)]
 #[derive(Debug, Drop)]
 pub struct Field {
@@ -75,12 +75,15 @@ pub struct Field {
     pub value: Expr,
 }
 
-/// Whether a field has to be there: `a: T` and `a!: T` do, `a?: T` doesn't.
+/// What a field asks for: `a: T` and `a!: T` that it is there, `a?: T` only what its value is, and `[string]: T` what the
+/// value under every key is (CUE, structs: optional and required fields, pattern constraints).
 #[derive(Clone, Copy, Debug, PartialEq, Eq)]
 pub enum FieldMark {
     Regular,
     Optional,
     Required,
+    /// `[string]: T`, and the offset of its name `string`.
+    Every { at: usize },
 }
 
 /// What follows the last fixed element of a list: nothing, `...`, or `...T`.

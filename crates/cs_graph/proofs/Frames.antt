@@ -15,7 +15,7 @@ use Rattle.cs_graph.proofs.Places.{on_left, on_end, on_cases, on_get}
 use Rattle.cs_graph.proofs.Paths.{closes, links_push, turned}
 use Rattle.cs_graph.proofs.Marks.{opening, closing, below_set, below_more, chain_more, refers_on, up_to, count_written, keeps_set, new_done, open_done}
 
-numbers_end : (S : List Frame) (f : Frame) → numbers_of (S ++ f ∷ []) ≡ numbers_of S ++ f.number ∷ []
+pub numbers_end : (S : List Frame) (f : Frame) → numbers_of (S ++ f ∷ []) ≡ numbers_of S ++ f.number ∷ []
 numbers_end S f = map-append (λ (g : Frame). g.number) S (f ∷ [])
 
 done_new : (h : ℕ) → Done h ≡ New → ⊥

@@ -1,5 +1,6 @@
 pub mod Places
 pub mod Paths
+pub mod Tails
 pub mod Named
 pub mod Turning
 pub mod Marks

@@ -1,7 +1,7 @@
 // A cycle on the path of a walk, named from its lowest number on.
 
-ghost use Rattle.std.specs.Prelude.{◌≡◌, ◌<◌, ◌≤◌, IfOk, All, length, slice_index};
-ghost use Rattle.cs_graph.specs.Paths.{tail_from, IsTurned};
+ghost use Rattle.std.specs.Prelude.{◌≡◌, ◌<◌, ◌≤◌, IfOk, OnOk, All, length, slice_index};
+ghost use Rattle.cs_graph.specs.Paths.{tail_from, told, IsTurned};
 ghost use Rattle.cs_graph.specs.Graph.{IsLowestFirst};
 ghost use Rattle.cs_graph.specs.Walk.{numbers_of};
 
@@ -23,14 +23,25 @@ fn lowest_place(numbers: &[usize]) -> usize
     lowest
 }
 
+/// Puts a number of a path behind those that are told, of which `first` is the first.
+fn tell(numbers: &mut Vec<usize>, first: usize, number: usize) -> Result<(), AllocError>
+    ensures { OnOk result (numbers.new.items ≡ told first numbers.old.items number) }
+{
+    if !numbers.is_empty() || number == first {
+        numbers.push(number)?;
+    }
+    Ok(())
+}
+
 /// The numbers of the path from the place of a number on.
 fn path_from(alloc: Global, path: &[Frame], number: usize) -> Result<Vec<usize>, AllocError>
     ensures { IfOk result (λ v. v.items ≡ tail_from number (numbers_of path.now)) }
 {
-    path.iter()
-        .map(|frame| frame.number)
-        .skip_while(|step| *step != number)
-        .collect(alloc)
+    let mut numbers = Vec::new(alloc);
+    for frame in path {
+        tell(&mut numbers, number, frame.number)?;
+    }
+    Ok(numbers)
 }
 
 /// The numbers of the path from the place of a number on, turned so that the lowest number comes first.

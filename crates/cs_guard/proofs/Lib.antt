@@ -2,6 +2,7 @@ pub mod Chains
 pub mod Heights
 pub mod Numbers
 pub mod Takes
+pub mod Ways
 pub mod Pushes
 pub mod GraphRows
 pub mod Finds

@@ -1,6 +1,7 @@
 -- Numbers pushed one after another, and the shapes that they are read from.
-use Rattle.std.proofs.Common.{◌≡◌, ℕ, ◌+◌, ◌<◌, Bool, true, ◌&&◌, List, [], ◌∷◌, ◌++◌, map, length, take, get_or, Vec, Global, Result, Ok, Err, OnOk, sym, ap, ◌∙◌, append_assoc}
+use Rattle.std.proofs.Common.{◌≡◌, ℕ, ◌+◌, ◌<◌, Bool, true, ◌&&◌, List, [], ◌∷◌, ◌++◌, Option, map, length, take, get_or, Vec, Global, Result, Ok, Err, OnOk, sym, ap, ◌∙◌, append_assoc}
 use Rattle.std.specs.List.{list_all}
+use Rattle.std.specs.Option.{option_map_or}
 use Rattle.std.proofs.lemmas.List.{take_more}
 use Rattle.std.proofs.lemmas.List.{map-append, append-nil}
 use Rattle.std.proofs.lemmas.List.Folds.{list_all_more}
@@ -12,7 +13,7 @@ use Rattle.cs_package.specs.declared.shape.Shape as Shapes
 use Rattle.cs_package.specs.declared.shape.Shape.{Shape}
 use Rattle.cs_package.specs.declared.shape.ShapeEnd.{ShapeEnd}
 use Rattle.cs_package.specs.declared.shape.Part.{Part}
-use Rattle.cs_guard.specs.Taken.{of_field, taken, taken_all, taken_fields, taken_rest}
+use Rattle.cs_guard.specs.Taken.{behind_disjunction, inside_part, of_field, taken, taken_all, taken_fields, taken_rest}
 use Rattle.cs_guard.specs.declared.references.Followed.{Followed}
 use Rattle.cs_guard.specs.Pushed.{Pushed, named}
 
@@ -81,19 +82,23 @@ module _ (f : Followed) where
   abbrev pub PushedOf : List ℕ → List ℕ → Shape → Type 0
   PushedOf a b s = Pushed a b (λ ns. taken f (expression_of ns s)) (λ n. is_known n s)
 
-  pushed_operands : (a b : List ℕ) (xs : List Shape) (s : Shape) → ((ns : List (List ℕ)) → taken f (expression_of ns s) ≡ taken_all f (expressions_of (map (expression_of ns) xs))) → ((n : ℕ) → is_known n s ≡ true → list_all (is_known n) xs ≡ true) → PushedAll a b xs → PushedOf a b s
-  pushed_operands a b xs s same known p = pushed_as a b _ _ _ _ (λ ns. sym (same ns)) known p
-
   pub pushed_And : (a b : List ℕ) (s : Shape) (v : Vec Shape Global) → s ≡ Shapes.And v → PushedAll a b v.items → PushedOf a b s
-  pushed_And a b s v is p = pushed_operands a b v.items s (λ ns. ap (taken f) (ap (expression_of ns) is ∙ of-And ns v)) (λ n e. sym (ap (is_known n) is ∙ known-And n v) ∙ e) p
+  pushed_And a b s v is p = pushed_as a b _ _ _ _ (λ ns. sym (ap (taken f) (ap (expression_of ns) is ∙ of-And ns v))) (λ n e. sym (ap (is_known n) is ∙ known-And n v) ∙ e) p
 
-  pub pushed_Or : (a b : List ℕ) (s : Shape) (v : Vec Shape Global) → s ≡ Shapes.Or v → PushedAll a b v.items → PushedOf a b s
-  pushed_Or a b s v is p = pushed_operands a b v.items s (λ ns. ap (taken f) (ap (expression_of ns) is ∙ of-Or ns v)) (λ n e. sym (ap (is_known n) is ∙ known-Or n v) ∙ e) p
+  -- the same, where a walk goes on in another way, or not at all
+  abbrev pub PushedWhere : Option Followed → List ℕ → List ℕ → List Shape → Type 0
+  PushedWhere o a b xs = Pushed a b (λ ns. option_map_or (λ g. taken_all g (expressions_of (map (expression_of ns) xs))) o []) (λ n. list_all (is_known n) xs)
 
-  pub pushed_List : (a b c : List ℕ) (s : Shape) (v : Vec Shape Global) (end : ShapeEnd) → s ≡ Shapes.List v end → PushedAll a b v.items → PushedEnd b c end → PushedOf a c s
+  abbrev pub PushedPartsWhere : Option Followed → List ℕ → List ℕ → List Part → Type 0
+  PushedPartsWhere o a b xs = Pushed a b (λ ns. option_map_or (λ g. taken_fields g (declarations_of (map (part_of ns) xs))) o []) (λ n. list_all (is_known_part n) xs)
+
+  pub pushed_Or : (a b : List ℕ) (s : Shape) (v : Vec Shape Global) → s ≡ Shapes.Or v → PushedWhere (behind_disjunction f) a b v.items → PushedOf a b s
+  pushed_Or a b s v is p = pushed_as a b _ _ _ _ (λ ns. sym (ap (taken f) (ap (expression_of ns) is ∙ of-Or ns v))) (λ n e. sym (ap (is_known n) is ∙ known-Or n v) ∙ e) p
+
+  pub pushed_List : (a b c : List ℕ) (s : Shape) (v : Vec Shape Global) (end : ShapeEnd) → s ≡ Shapes.List v end → PushedWhere (inside_part f) a b v.items → PushedEnd b c end → PushedOf a c s
   pushed_List a b c s v end is p q =
       pushed_as a c _ _ _ _ (λ ns. sym (ap (taken f) (ap (expression_of ns) is ∙ of-List ns v end))) (λ n e. sym (ap (is_known n) is ∙ known-List n v end) ∙ e)
-      (pushed_more a b c (λ ns. taken_all f (expressions_of (map (expression_of ns) v.items))) (λ ns. taken_rest f (rest_of ns end)) (λ n. list_all (is_known n) v.items) (λ n. is_known_end n end) p q)
+      (pushed_more a b c (λ ns. option_map_or (λ g. taken_all g (expressions_of (map (expression_of ns) v.items))) (inside_part f) []) (λ ns. taken_rest f (rest_of ns end)) (λ n. list_all (is_known n) v.items) (λ n. is_known_end n end) p q)
 
-  pub pushed_Struct : (a b : List ℕ) (s : Shape) (v : Vec Part Global) (opened : Bool) → s ≡ Shapes.Struct v opened → PushedParts a b v.items → PushedOf a b s
+  pub pushed_Struct : (a b : List ℕ) (s : Shape) (v : Vec Part Global) (opened : Bool) → s ≡ Shapes.Struct v opened → PushedPartsWhere (inside_part f) a b v.items → PushedOf a b s
   pushed_Struct a b s v opened is p = pushed_as a b _ _ _ _ (λ ns. sym (ap (taken f) (ap (expression_of ns) is ∙ of-Struct ns v opened))) (λ n e. sym (ap (is_known n) is ∙ known-Struct n v opened) ∙ e) p

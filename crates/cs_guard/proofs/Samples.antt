@@ -1,5 +1,5 @@
 -- Definitions, each with the names that it refers to strongly, in order. A wrong expectation stops the check here.
-use Rattle.std.proofs.Common.{◌≡◌, ℕ, zero, suc, ◌+◌, ◌≤◌, ◌<◌, pos, true, false, List, [], ◌∷◌, ◌++◌, length, map, codes, cond, Some, None, Contains, get_or, inl, inr, refl, ap, arith, String, Vec, Global, string_bytes, sym, ◌∙◌, subst}
+use Rattle.std.proofs.Common.{◌≡◌, ℕ, zero, suc, ◌+◌, ◌≤◌, ◌<◌, pos, true, false, List, [], ◌∷◌, ◌++◌, length, map, replicate, codes, cond, Some, None, Contains, get_or, inl, inr, refl, ap, arith, String, Vec, Global, string_bytes, sym, ◌∙◌, subst}
 use Rattle.std.specs.List.{flat_map, IsDistinct}
 use Rattle.std.specs.Option.{unwrap_or}
 use Rattle.std.specs.Str.{bytes_eq}
@@ -7,7 +7,7 @@ use Rattle.cs_package.specs.Expression as cue
 use Rattle.cs_package.specs.Expression.{Expression, Declarations, no_declarations}
 use Rattle.cs_package.specs.View.{expressions_of}
 use Rattle.cs_package.specs.Environment.{Environment, name_at, written}
-use Rattle.cs_guard.specs.References.{direct, strong, strong_of, RefersStrongly}
+use Rattle.cs_guard.specs.References.{direct, inside, strong, strong_of, RefersStrongly}
 use Rattle.cs_graph.specs.Chains as general
 use Rattle.cs_graph.specs.Chains.{On, Chain, NoCycle}
 use Rattle.cs_guard.specs.Limits as limits
@@ -19,6 +19,7 @@ use Rattle.cs_guard.specs.Reachable.{referred, referred_of, RefersTo, Reaches, A
 use Rattle.cs_guard.proofs.Chains.{alone-guarded}
 use Rattle.cs_guard.proofs.Numbers.{on_contains, contains_on}
 use Rattle.cs_guard.proofs.Walks.{reaches_within}
+use Rattle.cs_guard.proofs.Ways.{mixed, RefersMixedly}
 
 -- ---- short forms
 
@@ -34,6 +35,9 @@ B = codes "B"
 abbrev int : Expression
 int = cue.kind cue.int
 
+abbrev null : Expression
+null = cue.atom cue.null
+
 -- a struct literal, and declarations in front of others
 abbrev literal : Declarations → Expression
 literal ds = cue.struct ds false
@@ -46,6 +50,10 @@ optional l e ds = cue.declaration l cue.optional e ds
 
 abbrev required : List ℕ → Expression → Declarations → Declarations
 required l e ds = cue.declaration l cue.required e ds
+
+-- `[string]: e`
+abbrev every : Expression → Declarations → Declarations
+every e ds = cue.declaration [] cue.every e ds
 
 -- what #T refers to, where it has these bodies
 abbrev of_bodies : List Expression → List (List ℕ)
@@ -65,11 +73,31 @@ field = refl
 marked : of_bodies (literal (optional (codes "next") (cue.reference A) (required (codes "last") (cue.reference B) no_declarations)) ∷ []) ≡ B ∷ []
 marked = refl
 
+-- #T: {[string]: #A, last: #B}
+every_key : of_bodies (literal (every (cue.reference A) (regular (codes "last") (cue.reference B) no_declarations)) ∷ []) ≡ B ∷ []
+every_key = refl
+
+-- which is a reference still
+every_key_refers : referred (literal (every (cue.reference A) (regular (codes "last") (cue.reference B) no_declarations))) ≡ A ∷ B ∷ []
+every_key_refers = refl
+
 -- ---- operands
 
 -- #T: int | {l: #A}
-either : of_bodies (cue.disjunction (expressions_of (int ∷ literal (regular (codes "l") (cue.reference A) no_declarations) ∷ [])) ∷ []) ≡ A ∷ []
+either : of_bodies (cue.disjunction (expressions_of (int ∷ literal (regular (codes "l") (cue.reference A) no_declarations) ∷ [])) ∷ []) ≡ []
 either = refl
+
+-- #T: null | #A
+direct_either : of_bodies (cue.disjunction (expressions_of (null ∷ cue.reference A ∷ [])) ∷ []) ≡ A ∷ []
+direct_either = refl
+
+-- #T: null | #A & {x: #B}
+operand_of_either : of_bodies (cue.disjunction (expressions_of (null ∷ cue.conjunction (expressions_of (cue.reference A ∷ literal (regular (codes "x") (cue.reference B) no_declarations) ∷ [])) ∷ [])) ∷ []) ≡ A ∷ []
+operand_of_either = refl
+
+-- #T: {x: #A & (null | #B)}
+either_inside : of_bodies (literal (regular (codes "x") (cue.conjunction (expressions_of (cue.reference A ∷ cue.disjunction (expressions_of (null ∷ cue.reference B ∷ [])) ∷ []))) no_declarations) ∷ []) ≡ A ∷ []
+either_inside = refl
 
 -- ---- lists
 
@@ -108,8 +136,14 @@ forms = refer ∷ cue.conjunction (expressions_of two) ∷ cue.disjunction (expr
 direct_names : map direct forms ≡ (A ∷ []) ∷ (A ∷ B ∷ []) ∷ (A ∷ B ∷ []) ∷ [] ∷ [] ∷ [] ∷ [] ∷ [] ∷ [] ∷ (A ∷ B ∷ []) ∷ (B ∷ []) ∷ []
 direct_names = refl
 
-strong_names : map strong forms ≡ (A ∷ []) ∷ (A ∷ B ∷ []) ∷ (A ∷ B ∷ []) ∷ (A ∷ B ∷ []) ∷ (A ∷ []) ∷ (A ∷ B ∷ []) ∷ (A ∷ B ∷ []) ∷ (A ∷ B ∷ []) ∷ [] ∷ (A ∷ B ∷ []) ∷ (A ∷ B ∷ []) ∷ []
+strong_names : map strong forms ≡ (A ∷ []) ∷ (A ∷ B ∷ []) ∷ (A ∷ B ∷ []) ∷ (A ∷ B ∷ []) ∷ (A ∷ []) ∷ (A ∷ B ∷ []) ∷ (A ∷ B ∷ []) ∷ (A ∷ B ∷ []) ∷ [] ∷ (A ∷ B ∷ []) ∷ (B ∷ []) ∷ []
 strong_names = refl
+
+inside_names : map inside forms ≡ (A ∷ []) ∷ (A ∷ B ∷ []) ∷ [] ∷ (A ∷ B ∷ []) ∷ (A ∷ []) ∷ (A ∷ B ∷ []) ∷ (A ∷ B ∷ []) ∷ (A ∷ B ∷ []) ∷ [] ∷ (A ∷ []) ∷ [] ∷ []
+inside_names = refl
+
+mixed_names : map mixed forms ≡ (A ∷ []) ∷ (A ∷ B ∷ []) ∷ (A ∷ B ∷ []) ∷ (A ∷ B ∷ []) ∷ (A ∷ []) ∷ (A ∷ B ∷ []) ∷ (A ∷ B ∷ []) ∷ (A ∷ B ∷ []) ∷ [] ∷ (A ∷ B ∷ []) ∷ (A ∷ B ∷ []) ∷ []
+mixed_names = refl
 
 abbrev atoms : List Expression
 atoms = cue.atom cue.top ∷ cue.atom cue.bottom ∷ cue.atom cue.null ∷ cue.atom (cue.boolean true) ∷ cue.atom (cue.integer (pos 1)) ∷ cue.atom (cue.text A) ∷ int ∷ cue.range (pos 0) None ∷ cue.atom (cue.bound cue.less (pos 1)) ∷ cue.atom (cue.not_integer (pos 1)) ∷ cue.atom (cue.not_text A) ∷ cue.atom cue.not_null ∷ []
@@ -117,8 +151,56 @@ atoms = cue.atom cue.top ∷ cue.atom cue.bottom ∷ cue.atom cue.null ∷ cue.a
 without_names : map direct atoms ≡ [] ∷ [] ∷ [] ∷ [] ∷ [] ∷ [] ∷ [] ∷ [] ∷ [] ∷ [] ∷ [] ∷ [] ∷ []
 without_names = refl
 
+without_inside : map inside atoms ≡ [] ∷ [] ∷ [] ∷ [] ∷ [] ∷ [] ∷ [] ∷ [] ∷ [] ∷ [] ∷ [] ∷ [] ∷ []
+without_inside = refl
+
 without_strong : map strong atoms ≡ [] ∷ [] ∷ [] ∷ [] ∷ [] ∷ [] ∷ [] ∷ [] ∷ [] ∷ [] ∷ [] ∷ [] ∷ []
 without_strong = refl
+
+-- ---- #A inside two forms, where a row has the outer one and a column the inner one, in this order:
+-- 1 & _, null | _, {x: _}, {x?: _}, {x!: _}, [_], [..._]
+
+abbrev around : List (Expression → Expression)
+around = (λ e. cue.conjunction (expressions_of (int ∷ e ∷ []))) ∷ (λ e. cue.disjunction (expressions_of (null ∷ e ∷ [])))
+    ∷ (λ e. literal (regular (codes "x") e no_declarations)) ∷ (λ e. literal (optional (codes "x") e no_declarations)) ∷ (λ e. literal (required (codes "x") e no_declarations))
+    ∷ (λ e. cue.list (expressions_of (e ∷ [])) cue.closed) ∷ (λ e. cue.list cue.no_expressions (cue.each e)) ∷ []
+
+-- how many references are taken in each of them
+abbrev counts : (Expression → List (List ℕ)) → List (List ℕ)
+counts f = map (λ outer. map (λ inner. length (f (outer (inner refer)))) around) around
+
+strong_counts : counts strong ≡
+    (1 ∷ 1 ∷ 1 ∷ 0 ∷ 1 ∷ 1 ∷ 0 ∷ [])
+    ∷ (1 ∷ 1 ∷ 0 ∷ 0 ∷ 0 ∷ 0 ∷ 0 ∷ [])
+    ∷ (1 ∷ 0 ∷ 1 ∷ 0 ∷ 1 ∷ 1 ∷ 0 ∷ [])
+    ∷ (0 ∷ 0 ∷ 0 ∷ 0 ∷ 0 ∷ 0 ∷ 0 ∷ [])
+    ∷ (1 ∷ 0 ∷ 1 ∷ 0 ∷ 1 ∷ 1 ∷ 0 ∷ [])
+    ∷ (1 ∷ 0 ∷ 1 ∷ 0 ∷ 1 ∷ 1 ∷ 0 ∷ [])
+    ∷ (0 ∷ 0 ∷ 0 ∷ 0 ∷ 0 ∷ 0 ∷ 0 ∷ []) ∷ []
+strong_counts = refl
+
+direct_counts : counts direct ≡
+    (1 ∷ 1 ∷ 0 ∷ 0 ∷ 0 ∷ 0 ∷ 0 ∷ [])
+    ∷ (1 ∷ 1 ∷ 0 ∷ 0 ∷ 0 ∷ 0 ∷ 0 ∷ [])
+    ∷ (0 ∷ 0 ∷ 0 ∷ 0 ∷ 0 ∷ 0 ∷ 0 ∷ [])
+    ∷ (0 ∷ 0 ∷ 0 ∷ 0 ∷ 0 ∷ 0 ∷ 0 ∷ [])
+    ∷ (0 ∷ 0 ∷ 0 ∷ 0 ∷ 0 ∷ 0 ∷ 0 ∷ [])
+    ∷ (0 ∷ 0 ∷ 0 ∷ 0 ∷ 0 ∷ 0 ∷ 0 ∷ [])
+    ∷ (0 ∷ 0 ∷ 0 ∷ 0 ∷ 0 ∷ 0 ∷ 0 ∷ []) ∷ []
+direct_counts = refl
+
+inside_counts : counts inside ≡
+    (1 ∷ 0 ∷ 1 ∷ 0 ∷ 1 ∷ 1 ∷ 0 ∷ [])
+    ∷ (0 ∷ 0 ∷ 0 ∷ 0 ∷ 0 ∷ 0 ∷ 0 ∷ [])
+    ∷ (1 ∷ 0 ∷ 1 ∷ 0 ∷ 1 ∷ 1 ∷ 0 ∷ [])
+    ∷ (0 ∷ 0 ∷ 0 ∷ 0 ∷ 0 ∷ 0 ∷ 0 ∷ [])
+    ∷ (1 ∷ 0 ∷ 1 ∷ 0 ∷ 1 ∷ 1 ∷ 0 ∷ [])
+    ∷ (1 ∷ 0 ∷ 1 ∷ 0 ∷ 1 ∷ 1 ∷ 0 ∷ [])
+    ∷ (0 ∷ 0 ∷ 0 ∷ 0 ∷ 0 ∷ 0 ∷ 0 ∷ []) ∷ []
+inside_counts = refl
+
+referred_counts : counts referred ≡ replicate 7 (replicate 7 1)
+referred_counts = refl
 
 -- ---- chains
 
@@ -187,6 +269,63 @@ itself_perhaps_guarded = alone-guarded itself_perhaps alone
   where
     alone : (n : List ℕ) → strong_of itself_perhaps n ≡ []
     alone n = elim (bytes_eq n A) as (λ b. flat_map strong (unwrap_or (cond b (Some (literal (optional (codes "next") (cue.reference A) no_declarations) ∷ [])) None) []) ≡ []) [ true ↦ refl | false ↦ refl ]
+
+-- ---- cycles that end in an operand of `|`
+
+-- #T has this body alone
+abbrev alone_with : Expression → Environment
+alone_with e = (T, e ∷ []) ∷ []
+
+-- where the body refers to none strongly
+weak-guarded : (e : Expression) → strong e ≡ [] → IsGuarded (alone_with e)
+weak-guarded e weak = alone-guarded (alone_with e) (λ n. elim (bytes_eq n T) as (λ b. flat_map strong (unwrap_or (cond b (Some (e ∷ [])) None) []) ≡ []) [ true ↦ ap (λ ns. ns ++ []) weak | false ↦ refl ])
+
+-- null | #T
+abbrev t_or_null : Expression
+t_or_null = cue.disjunction (expressions_of (null ∷ cue.reference T ∷ []))
+
+-- #T: {head: int, tail: null | #T}
+linked_list : IsGuarded (alone_with (literal (regular (codes "head") int (regular (codes "tail") t_or_null no_declarations))))
+linked_list = weak-guarded _ refl
+
+-- #T: {tail!: null | #T}
+required_tail : IsGuarded (alone_with (literal (required (codes "tail") t_or_null no_declarations)))
+required_tail = weak-guarded _ refl
+
+-- #T: int | {l: #T, r: #T}
+abbrev expressions : Expression
+expressions = cue.disjunction (expressions_of (int ∷ literal (regular (codes "l") (cue.reference T) (regular (codes "r") (cue.reference T) no_declarations)) ∷ []))
+
+expressions_guarded : IsGuarded (alone_with expressions)
+expressions_guarded = weak-guarded expressions refl
+
+-- #T: [int, null | #T]
+pairs : IsGuarded (alone_with (cue.list (expressions_of (int ∷ t_or_null ∷ [])) cue.closed))
+pairs = weak-guarded _ refl
+
+-- #T: {x: #T | #T}
+itself_or_itself : IsGuarded (alone_with (literal (regular (codes "x") (cue.disjunction (expressions_of (cue.reference T ∷ cue.reference T ∷ []))) no_declarations)))
+itself_or_itself = weak-guarded _ refl
+
+-- #T: null | #T
+directly_itself : IsGuarded (alone_with t_or_null) → ⊥
+directly_itself h = h.no_cycle T [] (first_of T [], tt)
+
+-- #T: {x: [#T]}
+inside_itself : IsGuarded (alone_with (literal (regular (codes "x") (cue.list (expressions_of (cue.reference T ∷ [])) cue.closed) no_declarations))) → ⊥
+inside_itself h = h.no_cycle T [] (first_of T [], tt)
+
+-- #A: {next: #B}, and #B: null | #A
+abbrev by_name : Environment
+by_name = (A, literal (regular (codes "next") (cue.reference B) no_declarations) ∷ []) ∷ (B, cue.disjunction (expressions_of (null ∷ cue.reference A ∷ [])) ∷ []) ∷ []
+
+-- each of the two references is strong for itself
+by_name_refused : IsGuarded by_name → ⊥
+by_name_refused h = h.no_cycle A (B ∷ []) (first_of B [], (first_of A [], tt))
+
+-- with and without `|` at once, #T: int | {l: #T, r: #T} would refer to itself
+expressions_mixed : limits.IsGuarded (RefersMixedly (alone_with expressions)) → ⊥
+expressions_mixed h = h.no_cycle T [] (first_of T (T ∷ []), tt)
 
 -- the first byte
 abbrev first_byte : List ℕ → ℕ

@@ -7,24 +7,60 @@ use Rattle.cs_package.specs.Expression as cue
 use Rattle.cs_package.specs.Expression.{Expression, Expressions, Declarations, DeclarationMark, Rest}
 use Rattle.cs_package.specs.Environment.{Environment, bodies}
 use Rattle.cs_package.specs.View.{expressions_of}
-use Rattle.cs_guard.specs.References.{strong, strong_all, strong_fields, strong_of, unless_optional}
+use Rattle.cs_guard.specs.References.{direct, direct_all, inside, inside_all, inside_fields, strong, strong_all, strong_of, unless_optional}
 use Rattle.cs_guard.specs.Reachable.{referred, referred_all, referred_fields, referred_rest, referred_of}
 use Rattle.cs_guard.specs.Taken.{of_field, taken, taken_all, taken_fields, taken_rest, taken_of}
 use Rattle.cs_guard.specs.declared.references.Followed.{Followed}
-use Rattle.cs_guard.specs.declared.references.Followed.TheVariants.{Strong, Every}
+use Rattle.cs_guard.specs.declared.references.Followed.TheVariants.{Strong, Direct, Inside, Every}
 
 joined : (ks ls ms ns : List (List ℕ)) → ks ≡ ls → ms ≡ ns → ks ++ ms ≡ ls ++ ns
 joined ks ls ms ns p q = ap (λ xs. xs ++ ms) p ∙ ap (λ xs. ls ++ xs) q
 
-field_strong : (m : DeclarationMark) (ns ms : List (List ℕ)) → ns ≡ ms → of_field m Strong ns ≡ unless_optional m ms
-field_strong cue.regular ns ms e = e
-field_strong cue.optional ns ms e = refl
-field_strong cue.required ns ms e = e
+field_inside : (m : DeclarationMark) (ns ms : List (List ℕ)) → ns ≡ ms → of_field m Inside ns ≡ unless_optional m ms
+field_inside cue.regular ns ms e = e
+field_inside cue.optional ns ms e = refl
+field_inside cue.required ns ms e = e
+field_inside cue.every ns ms e = refl
 
 field_every : (m : DeclarationMark) (ns ms : List (List ℕ)) → ns ≡ ms → of_field m Every ns ≡ ms
 field_every cue.regular ns ms e = e
 field_every cue.optional ns ms e = e
 field_every cue.required ns ms e = e
+field_every cue.every ns ms e = e
+
+mutual
+  directly : (e : Expression) → taken Direct e ≡ direct e
+  directly (cue.atom a) = refl
+  directly (cue.kind k) = refl
+  directly (cue.range least greatest) = refl
+  directly (cue.reference n) = refl
+  directly (cue.conjunction es) = directly_all es
+  directly (cue.disjunction es) = directly_all es
+  directly (cue.struct ds opened) = refl
+  directly (cue.list es rest) = refl
+
+  directly_all : (es : Expressions) → taken_all Direct es ≡ direct_all es
+  directly_all cue.no_expressions = refl
+  directly_all (cue.expression e es) = joined (taken Direct e) (direct e) (taken_all Direct es) (direct_all es) (directly e) (directly_all es)
+
+mutual
+  within : (e : Expression) → taken Inside e ≡ inside e
+  within (cue.atom a) = refl
+  within (cue.kind k) = refl
+  within (cue.range least greatest) = refl
+  within (cue.reference n) = refl
+  within (cue.conjunction es) = within_all es
+  within (cue.disjunction es) = refl
+  within (cue.struct ds opened) = within_fields ds
+  within (cue.list es rest) = append-nil (taken_all Inside es) ∙ within_all es
+
+  within_all : (es : Expressions) → taken_all Inside es ≡ inside_all es
+  within_all cue.no_expressions = refl
+  within_all (cue.expression e es) = joined (taken Inside e) (inside e) (taken_all Inside es) (inside_all es) (within e) (within_all es)
+
+  within_fields : (ds : Declarations) → taken_fields Inside ds ≡ inside_fields ds
+  within_fields cue.no_declarations = refl
+  within_fields (cue.declaration l m e ds) = joined (of_field m Inside (taken Inside e)) (unless_optional m (inside e)) (taken_fields Inside ds) (inside_fields ds) (field_inside m (taken Inside e) (inside e) (within e)) (within_fields ds)
 
 mutual
   strongly : (e : Expression) → taken Strong e ≡ strong e
@@ -33,17 +69,13 @@ mutual
   strongly (cue.range least greatest) = refl
   strongly (cue.reference n) = refl
   strongly (cue.conjunction es) = strongly_all es
-  strongly (cue.disjunction es) = strongly_all es
-  strongly (cue.struct ds opened) = strongly_fields ds
-  strongly (cue.list es rest) = append-nil (taken_all Strong es) ∙ strongly_all es
+  strongly (cue.disjunction es) = directly_all es
+  strongly (cue.struct ds opened) = within_fields ds
+  strongly (cue.list es rest) = append-nil (taken_all Inside es) ∙ within_all es
 
   strongly_all : (es : Expressions) → taken_all Strong es ≡ strong_all es
   strongly_all cue.no_expressions = refl
   strongly_all (cue.expression e es) = joined (taken Strong e) (strong e) (taken_all Strong es) (strong_all es) (strongly e) (strongly_all es)
-
-  strongly_fields : (ds : Declarations) → taken_fields Strong ds ≡ strong_fields ds
-  strongly_fields cue.no_declarations = refl
-  strongly_fields (cue.declaration l m e ds) = joined (of_field m Strong (taken Strong e)) (unless_optional m (strong e)) (taken_fields Strong ds) (strong_fields ds) (field_strong m (taken Strong e) (strong e) (strongly e)) (strongly_fields ds)
 
 mutual
   every : (e : Expression) → taken Every e ≡ referred e

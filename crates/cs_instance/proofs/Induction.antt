@@ -2,16 +2,16 @@
 use Rattle.std.proofs.Common.{◌≡◌, ℕ, zero, suc, ◌<◌, List, [], ◌∷◌, map, length, Contains, Option, Some, None, refl, sym, arith, subst}
 use Rattle.std.specs.List.{flat_map, AllByRecursion as Each}
 use Rattle.std.specs.Option.{unwrap_or}
-use Rattle.std.proofs.lemmas.List.Elements.{Contains-append_left, Contains-append_right, Contains-append_cases}
-use Rattle.std.proofs.Common.{inl, inr}
+use Rattle.std.proofs.lemmas.List.Elements.{Contains-append_left, Contains-append_right}
 use Rattle.cs_document.specs.Document.{Document}
 use Rattle.cs_document.proofs.Each.{each_map, each_of, each_front, each_back, each_member, each_over}
 use Rattle.cs_document.proofs.Children.{children, by_children}
 use Rattle.cs_package.specs.Expression as cue
 use Rattle.cs_package.specs.Expression.{Expression, Expressions, no_expressions, expression, operands}
 use Rattle.cs_package.specs.Environment.{Environment, bodies}
-use Rattle.cs_guard.specs.References.{direct, direct_all, strong, strong_all, strong_of}
+use Rattle.cs_guard.specs.References.{direct, direct_all, strong, strong_of}
 use Rattle.cs_guard.specs.Guarded.{Chain, IsGuarded}
+use Rattle.cs_guard.proofs.Ways.{direct-strong}
 use Rattle.cs_instance.specs.Instance.{Rule, definition, node, constraint_of, all_bodies}
 use Rattle.cs_instance.proofs.Parts.{here_parts}
 
@@ -21,21 +21,6 @@ use Rattle.cs_instance.proofs.Parts.{here_parts}
 abbrev pub Short : Environment → ℕ → List ℕ → Type 0
 Short E zero n = ⊥
 Short E (suc k) n = (bs : List Expression) → bodies E n ≡ Some bs → Each (λ b. Each (Short E k) (direct b)) bs
-
-mutual
-  pub direct-strong : (e : Expression) (m : List ℕ) → Contains (direct e) m → Contains (strong e) m
-  direct-strong (cue.reference n) m c = c
-  direct-strong (cue.conjunction es) m c = direct-strong_all es m c
-  direct-strong (cue.disjunction es) m c = direct-strong_all es m c
-  direct-strong _ m c = absurd (let l : c.0 < 0 = c.1 in omega (arith, l))
-
-  direct-strong_all : (es : Expressions) (m : List ℕ) → Contains (direct_all es) m → Contains (strong_all es) m
-  direct-strong_all no_expressions m c = c
-  direct-strong_all (expression e es) m c =
-      elim (Contains-append_cases (direct e) (direct_all es) m c) [
-        | inl h ↦ Contains-append_left (strong e) (strong_all es) m (direct-strong e m h)
-        | inr h ↦ Contains-append_right (strong e) (strong_all es) m (direct-strong_all es m h)
-      ]
 
 -- what holds of each name that the bodies refer to strongly holds of those that one body refers to directly
 strong-bodies : (P : List ℕ → Type 0) (bs : List Expression) → ((m : List ℕ) → Contains (flat_map strong bs) m → P m) → Each (λ b. Each P (direct b)) bs

@@ -1,4 +1,5 @@
 pub mod Parts
+pub mod Labels
 pub mod Induction
 pub mod Meaning
 pub mod Found

@@ -27,7 +27,7 @@ use Rattle.cs_instance.specs.declared.rules.Rule.{Rule as Coded}
 use Rattle.cs_instance.specs.declared.rules.Rule.TheVariants as coded
 use Rattle.cs_instance.specs.Placing.{waiting, AreNumbered, IsKnown, PlacesAll, PlacesOne, placed_by_all, placed_with, left_with, bodies_of}
 use Rattle.cs_instance.specs.Ranked.{IsRank, AreRanked, ArePlacedBy, names_in}
-use Rattle.cs_instance.proofs.Induction.{direct-strong}
+use Rattle.cs_guard.proofs.Ways.{direct-strong}
 use Rattle.cs_instance.proofs.Placed.{push, got_front, operands_of, each_push}
 
 -- ---- names

@@ -1,13 +1,13 @@
 -- What is asked rests on the verdicts on its parts alone.
-use Rattle.std.proofs.Common.{◌≡◌, ℕ, Bool, true, false, ◌&&◌, ◌||◌, List, [], ◌∷◌, cond, Some, refl, ap, ap₂}
+use Rattle.std.proofs.Common.{◌≡◌, ℕ, Bool, true, false, ◌&&◌, ◌||◌, List, [], ◌∷◌, cond, if◌then◌else◌, Some, refl, ap, ap₂}
 use Rattle.std.specs.List.{list_all, list_any, AllByRecursion as Each}
 use Rattle.std.specs.Str.{bytes_eq}
 use Rattle.cs_document.specs.Document.{Entry, under}
 use Rattle.cs_document.specs.Opened.{Opened, a_null, a_boolean, an_integer, a_text, a_list, an_object}
 use Rattle.cs_document.proofs.Each.{each_map, all_same, any_same}
 use Rattle.cs_document.proofs.Children.{values, within}
-use Rattle.cs_package.specs.Expression.{Declaration}
-use Rattle.cs_instance.specs.Constraint.{Rest, nothing, anything, each, Constraint, always, never, the_null, the_boolean, the_integer, the_text, of_kind, in_range, bounded, another_integer, another_text, not_the_null, all_of, any_of, object_of, list_of, is_satisfied, declaration_holds, rest_holds, elements_hold}
+use Rattle.cs_package.specs.Expression.{Declaration, is_every}
+use Rattle.cs_instance.specs.Constraint.{Rest, nothing, anything, each, Constraint, always, never, the_null, the_boolean, the_integer, the_text, of_kind, in_range, bounded, another_integer, another_text, not_the_null, all_of, any_of, object_of, list_of, is_satisfied, allows, value_holds, declaration_holds, rest_holds, elements_hold}
 
 -- the parts asked of the same document
 abbrev pub here_parts : {D N : Type 0} → Constraint D N → List D
@@ -38,18 +38,25 @@ module _ {A N : Type 0} (inside inside' : A → N → Bool) where
   abbrev pub SameAt : List N → A → Type 0
   SameAt es y = Each (λ e. inside y e ≡ inside' y e) es
 
-  declaration_same : (d : Declaration N) (k : List ℕ) (ms : List (Entry A)) → Each (λ y. inside y d.value ≡ inside' y d.value) (values ms) → declaration_holds inside d (under k ms) ≡ declaration_holds inside' d (under k ms)
-  declaration_same d k [] h = refl
-  declaration_same d k (m ∷ ms) h =
-      elim (bytes_eq k m.0) as (λ b. declaration_holds inside d (cond b (Some m.1) (under k ms)) ≡ declaration_holds inside' d (cond b (Some m.1) (under k ms))) [
+  value_same : (d : Declaration N) (k : List ℕ) (ms : List (Entry A)) → Each (λ y. inside y d.value ≡ inside' y d.value) (values ms) → value_holds inside d (under k ms) ≡ value_holds inside' d (under k ms)
+  value_same d k [] h = refl
+  value_same d k (m ∷ ms) h =
+      elim (bytes_eq k m.0) as (λ b. value_holds inside d (cond b (Some m.1) (under k ms)) ≡ value_holds inside' d (cond b (Some m.1) (under k ms))) [
         | true ↦ h.0
-        | false ↦ declaration_same d k ms h.1
+        | false ↦ value_same d k ms h.1
       ]
 
-  declarations_same : (ds : List (Declaration N)) (ms : List (Entry A)) → Each (SameAt (declared_values ds)) (values ms) → list_all (λ d. declaration_holds inside d (under d.label ms)) ds ≡ list_all (λ d. declaration_holds inside' d (under d.label ms)) ds
+  every_same : (e : N) (ms : List (Entry A)) → Each (λ y. inside y e ≡ inside' y e) (values ms) → list_all (λ (m : Entry A). inside m.1 e) ms ≡ list_all (λ (m : Entry A). inside' m.1 e) ms
+  every_same e [] h = refl
+  every_same e (m ∷ ms) h = ap₂ ◌&&◌ h.0 (every_same e ms h.1)
+
+  declaration_same : (d : Declaration N) (ms : List (Entry A)) → Each (λ y. inside y d.value ≡ inside' y d.value) (values ms) → declaration_holds inside d ms ≡ declaration_holds inside' d ms
+  declaration_same d ms h = ap₂ (λ a b. if is_every d.mark then a else b) (every_same d.value ms h) (value_same d d.label ms h)
+
+  declarations_same : (ds : List (Declaration N)) (ms : List (Entry A)) → Each (SameAt (declared_values ds)) (values ms) → list_all (λ d. declaration_holds inside d ms) ds ≡ list_all (λ d. declaration_holds inside' d ms) ds
   declarations_same [] ms h = refl
   declarations_same (d ∷ ds) ms h =
-      ap₂ ◌&&◌ (declaration_same d d.label ms (each_map _ _ (λ y s. s.0) (values ms) h)) (declarations_same ds ms (each_map _ _ (λ y s. s.1) (values ms) h))
+      ap₂ ◌&&◌ (declaration_same d ms (each_map _ _ (λ y s. s.0) (values ms) h)) (declarations_same ds ms (each_map _ _ (λ y s. s.1) (values ms) h))
 
   rest_same : (rest : Rest N) (ys : List A) → Each (SameAt (rest_parts rest)) ys → rest_holds inside rest ys ≡ rest_holds inside' rest ys
   rest_same nothing [] h = refl
@@ -79,7 +86,7 @@ module _ {A D N : Type 0} (here here' : D → Bool) (inside inside' : A → N �
   satisfied_same not_the_null x d w = refl
   satisfied_same (all_of rs) x d w = all_same here here' rs d
   satisfied_same (any_of rs) x d w = any_same here here' rs d
-  satisfied_same (object_of ds o) (an_object ms) d w = ap (λ b. b && (o || list_all (λ (m : Entry A). list_any (λ (c : Declaration N). bytes_eq m.0 c.label) ds) ms)) (declarations_same inside inside' ds ms w)
+  satisfied_same (object_of ds o) (an_object ms) d w = ap (λ b. b && (o || list_all (λ (m : Entry A). list_any (λ (c : Declaration N). allows c m.0) ds) ms)) (declarations_same inside inside' ds ms w)
   satisfied_same (object_of ds o) a_null d w = refl
   satisfied_same (object_of ds o) (a_boolean b) d w = refl
   satisfied_same (object_of ds o) (an_integer n) d w = refl

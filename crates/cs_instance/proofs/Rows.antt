@@ -79,6 +79,10 @@ optional l e ds = cue.declaration l cue.optional e ds
 abbrev pub required : List ℕ → Expression → Declarations → Declarations
 required l e ds = cue.declaration l cue.required e ds
 
+-- `[string]: T`
+abbrev pub every : Expression → Declarations → Declarations
+every e ds = cue.declaration [] cue.every e ds
+
 abbrev pub end : Declarations
 end = cue.no_declarations
 

@@ -11,7 +11,7 @@ use Rattle.cs_package.specs.Expression.{Expression}
 use Rattle.cs_package.specs.Environment.{Environment}
 use Rattle.cs_instance.specs.Instance.{Rule, node, IsInstance}
 use Rattle.cs_instance.proofs.Meaning.{is_settled, value_after, computed}
-use Rattle.cs_instance.proofs.Rows.{all_of, any_of, int, string, more_than, refers_to, list_of, regular, optional, required, end, closed, opened, word}
+use Rattle.cs_instance.proofs.Rows.{all_of, any_of, int, string, more_than, refers_to, list_of, regular, optional, required, every, end, closed, opened, word}
 
 -- of these documents, just those beside an expression are its instances
 pub record Admits (E : Environment) (documents : List Document) (rows : List (Expression × List Document)) : Type 0 where
@@ -79,6 +79,26 @@ b_two = object ((B, number 2) ∷ [])
 
 abbrev a_and_b : Document
 a_and_b = object ((A, number 1) ∷ (B, number 2) ∷ [])
+
+-- {"k":1}, {"k":"s"}, {"":1} and {"":"s"}
+abbrev k_one : Document
+k_one = object ((codes "k", number 1) ∷ [])
+
+abbrev k_text : Document
+k_text = object ((codes "k", a_text) ∷ [])
+
+abbrev no_key_one : Document
+no_key_one = object (([], number 1) ∷ [])
+
+abbrev no_key_text : Document
+no_key_text = object (([], a_text) ∷ [])
+
+-- {"a":3,"b":1} and {"a":3,"b":"s"}
+abbrev a_three : Document
+a_three = object ((A, number 3) ∷ (B, number 1) ∷ [])
+
+abbrev a_three_text : Document
+a_three_text = object ((A, number 3) ∷ (B, a_text) ∷ [])
 
 -- {"a":{"b":2}} and {"a":{"b":2,"c":3}}
 abbrev inner : Document
@@ -192,6 +212,22 @@ module _ (E : Environment) where
       ∷ (opened (regular A (closed end) end), [])
       ∷ [])
   structs = by_values refl refl
+
+  -- `[string]` alone, beside labels, beside the empty label, twice, and in a literal that is opened
+  every_key : Admits E (object [] ∷ k_one ∷ a_is (number 2) ∷ no_key_one ∷ no_key_text ∷ k_text ∷ a_three ∷ a_three_text ∷ array [] ∷ array (number 1 ∷ []) ∷ number 1 ∷ [])
+      ((closed (every int end), object [] ∷ k_one ∷ a_is (number 2) ∷ no_key_one ∷ a_three ∷ [])
+      ∷ (closed (every string end), object [] ∷ no_key_text ∷ k_text ∷ [])
+      ∷ (closed (every (cue.atom cue.bottom) end), object [] ∷ [])
+      ∷ (closed (regular A (more_than (pos 2)) (every int end)), a_three ∷ [])
+      ∷ (closed (every int (regular A (more_than (pos 2)) end)), a_three ∷ [])
+      ∷ (closed (optional A (more_than (pos 2)) (every int end)), object [] ∷ k_one ∷ no_key_one ∷ a_three ∷ [])
+      ∷ (closed (regular [] string (every int end)), [])
+      ∷ (closed (every int (every (more_than (pos 1)) end)), object [] ∷ a_is (number 2) ∷ [])
+      ∷ (closed (every (more_than (pos 1)) (every int end)), object [] ∷ a_is (number 2) ∷ [])
+      ∷ (closed (regular A int (every (cue.atom cue.top) end)), a_is (number 2) ∷ a_three ∷ a_three_text ∷ [])
+      ∷ (opened (every int end), object [] ∷ k_one ∷ a_is (number 2) ∷ no_key_one ∷ a_three ∷ [])
+      ∷ [])
+  every_key = by_values refl refl
 
   -- fronts, rests, and lists inside
   lists : Admits E (array [] ∷ array (number 1 ∷ []) ∷ array (number 1 ∷ a_text ∷ []) ∷ array (number 1 ∷ a_text ∷ yes ∷ []) ∷ array (a_text ∷ number 1 ∷ []) ∷ array (array (number 1 ∷ []) ∷ []) ∷ array (number 1 ∷ number 2 ∷ number 1 ∷ []) ∷ [])

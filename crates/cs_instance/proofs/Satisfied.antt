@@ -5,8 +5,8 @@ use Rattle.std.specs.Str.{bytes_eq}
 use Rattle.std.proofs.lemmas.List.Folds.{list_all-map}
 use Rattle.cs_document.specs.Document.{Entry, under}
 use Rattle.cs_document.specs.Opened.{Opened, a_null, a_boolean, an_integer, a_text, a_list, an_object, map_entry, map_opened}
-use Rattle.cs_package.specs.Expression.{int, number, string, bool, Declaration}
-use Rattle.cs_instance.specs.Constraint.{Rest, nothing, anything, each, Constraint, always, never, the_null, the_boolean, the_integer, the_text, of_kind, in_range, bounded, another_integer, another_text, not_the_null, all_of, any_of, object_of, list_of, is_satisfied, declaration_holds, rest_holds, elements_hold}
+use Rattle.cs_package.specs.Expression.{int, number, string, bool, Declaration, is_every}
+use Rattle.cs_instance.specs.Constraint.{Rest, nothing, anything, each, Constraint, always, never, the_null, the_boolean, the_integer, the_text, of_kind, in_range, bounded, another_integer, another_text, not_the_null, all_of, any_of, object_of, list_of, is_satisfied, allows, value_holds, declaration_holds, rest_holds, elements_hold}
 use Rattle.cs_instance.specs.Numbering.{map_declaration, map_rest, map_constraint}
 
 any_of_map : {X Y : Type 0} (p : Y → Bool) (f : X → Y) (xs : List X) → list_any p (map f xs) ≡ list_any (λ x. p (f x)) xs
@@ -16,17 +16,20 @@ any_of_map p f (x ∷ xs) = ap (λ b. p (f x) || b) (any_of_map p f xs)
 -- ---- parts
 
 module _ {A D N D' N' : Type 0} (f : D → D') (g : N → N') (here : D' → Bool) (inside : A → N' → Bool) where
-  one_named : (d : Declaration N) (o : Option A) → declaration_holds inside (map_declaration g d) o ≡ declaration_holds (λ y q. inside y (g q)) d o
+  one_named : (d : Declaration N) (o : Option A) → value_holds inside (map_declaration g d) o ≡ value_holds (λ y q. inside y (g q)) d o
   one_named d None = refl
   one_named d (Some y) = refl
 
-  all_named : (ds : List (Declaration N)) (ms : List (Entry A)) → list_all (λ d. declaration_holds inside d (under d.label ms)) (map (map_declaration g) ds) ≡ list_all (λ d. declaration_holds (λ y q. inside y (g q)) d (under d.label ms)) ds
-  all_named [] ms = refl
-  all_named (d ∷ ds) ms = ap₂ ◌&&◌ (one_named d (under d.label ms)) (all_named ds ms)
+  declaration_named : (d : Declaration N) (ms : List (Entry A)) → declaration_holds inside (map_declaration g d) ms ≡ declaration_holds (λ y q. inside y (g q)) d ms
+  declaration_named d ms = ap (λ b. if is_every d.mark then list_all (λ (m : Entry A). inside m.1 (g d.value)) ms else b) (one_named d (under d.label ms))
 
-  labels_named : (ds : List (Declaration N)) (ms : List (Entry A)) → list_all (λ (m : Entry A). list_any (λ d. bytes_eq m.0 d.label) (map (map_declaration g) ds)) ms ≡ list_all (λ (m : Entry A). list_any (λ d. bytes_eq m.0 d.label) ds) ms
+  all_named : (ds : List (Declaration N)) (ms : List (Entry A)) → list_all (λ d. declaration_holds inside d ms) (map (map_declaration g) ds) ≡ list_all (λ d. declaration_holds (λ y q. inside y (g q)) d ms) ds
+  all_named [] ms = refl
+  all_named (d ∷ ds) ms = ap₂ ◌&&◌ (declaration_named d ms) (all_named ds ms)
+
+  labels_named : (ds : List (Declaration N)) (ms : List (Entry A)) → list_all (λ (m : Entry A). list_any (λ d. allows d m.0) (map (map_declaration g) ds)) ms ≡ list_all (λ (m : Entry A). list_any (λ d. allows d m.0) ds) ms
   labels_named ds [] = refl
-  labels_named ds (m ∷ ms) = ap₂ ◌&&◌ (any_of_map (λ d. bytes_eq m.0 d.label) (map_declaration g) ds) (labels_named ds ms)
+  labels_named ds (m ∷ ms) = ap₂ ◌&&◌ (any_of_map (λ d. allows d m.0) (map_declaration g) ds) (labels_named ds ms)
 
   rest_named : (r : Rest N) (ys : List A) → rest_holds inside (map_rest g r) ys ≡ rest_holds (λ y q. inside y (g q)) r ys
   rest_named nothing [] = refl
@@ -70,18 +73,21 @@ module _ {A D N D' N' : Type 0} (f : D → D') (g : N → N') (here : D' → Boo
 -- ---- documents
 
 module _ {A C D N : Type 0} (f : A → C) (here : D → Bool) (inside : C → N → Bool) where
-  under_at : (d : Declaration N) (k : List ℕ) (ms : List (Entry A)) → declaration_holds inside d (under k (map (map_entry f) ms)) ≡ declaration_holds (λ y q. inside (f y) q) d (under k ms)
+  under_at : (d : Declaration N) (k : List ℕ) (ms : List (Entry A)) → value_holds inside d (under k (map (map_entry f) ms)) ≡ value_holds (λ y q. inside (f y) q) d (under k ms)
   under_at d k [] = refl
   under_at d k (m ∷ ms) =
-      elim (bytes_eq k m.0) as (λ t. declaration_holds inside d (if t then Some (f m.1) else under k (map (map_entry f) ms)) ≡ declaration_holds (λ y q. inside (f y) q) d (if t then Some m.1 else under k ms)) [ true ↦ refl | false ↦ under_at d k ms ]
+      elim (bytes_eq k m.0) as (λ t. value_holds inside d (if t then Some (f m.1) else under k (map (map_entry f) ms)) ≡ value_holds (λ y q. inside (f y) q) d (if t then Some m.1 else under k ms)) [ true ↦ refl | false ↦ under_at d k ms ]
 
-  all_at : (ds : List (Declaration N)) (ms : List (Entry A)) → list_all (λ d. declaration_holds inside d (under d.label (map (map_entry f) ms))) ds ≡ list_all (λ d. declaration_holds (λ y q. inside (f y) q) d (under d.label ms)) ds
+  declaration_at : (d : Declaration N) (ms : List (Entry A)) → declaration_holds inside d (map (map_entry f) ms) ≡ declaration_holds (λ y q. inside (f y) q) d ms
+  declaration_at d ms = ap₂ (λ a b. if is_every d.mark then a else b) (list_all-map (λ (m : Entry C). inside m.1 d.value) (map_entry f) ms) (under_at d d.label ms)
+
+  all_at : (ds : List (Declaration N)) (ms : List (Entry A)) → list_all (λ d. declaration_holds inside d (map (map_entry f) ms)) ds ≡ list_all (λ d. declaration_holds (λ y q. inside (f y) q) d ms) ds
   all_at [] ms = refl
-  all_at (d ∷ ds) ms = ap₂ ◌&&◌ (under_at d d.label ms) (all_at ds ms)
+  all_at (d ∷ ds) ms = ap₂ ◌&&◌ (declaration_at d ms) (all_at ds ms)
 
-  labels_at : (ds : List (Declaration N)) (ms : List (Entry A)) → list_all (λ (m : Entry C). list_any (λ (d : Declaration N). bytes_eq m.0 d.label) ds) (map (map_entry f) ms) ≡ list_all (λ (m : Entry A). list_any (λ (d : Declaration N). bytes_eq m.0 d.label) ds) ms
+  labels_at : (ds : List (Declaration N)) (ms : List (Entry A)) → list_all (λ (m : Entry C). list_any (λ (d : Declaration N). allows d m.0) ds) (map (map_entry f) ms) ≡ list_all (λ (m : Entry A). list_any (λ (d : Declaration N). allows d m.0) ds) ms
   labels_at ds [] = refl
-  labels_at ds (m ∷ ms) = ap (λ b. list_any (λ (d : Declaration N). bytes_eq m.0 d.label) ds && b) (labels_at ds ms)
+  labels_at ds (m ∷ ms) = ap (λ b. list_any (λ (d : Declaration N). allows d m.0) ds && b) (labels_at ds ms)
 
   rest_at : (r : Rest N) (ys : List A) → rest_holds inside r (map f ys) ≡ rest_holds (λ y q. inside (f y) q) r ys
   rest_at nothing [] = refl

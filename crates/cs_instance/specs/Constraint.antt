@@ -1,13 +1,13 @@
 -- What a rule asks of a document, both opened once: over any D in place of each rule that it asks of the same
 -- document, any N in place of each expression that it asks of a document inside, and any A in place of each such document.
-use Rattle.std.specs.Prelude.{ℕ, ℤ, Bool, true, false, not, ◌&&◌, ◌||◌, List, [], ◌∷◌, Option, Some, None, int_lt, int_le}
+use Rattle.std.specs.Prelude.{ℕ, ℤ, Bool, true, false, not, ◌&&◌, ◌||◌, List, [], ◌∷◌, Option, Some, None, int_lt, int_le, if◌then◌else◌}
 use Rattle.std.specs.Bool.{beq}
 use Rattle.std.specs.List.{list_all, list_any}
 use Rattle.std.specs.Ordering.{int_eq}
 use Rattle.std.specs.Str.{bytes_eq}
 use Rattle.cs_document.specs.Document.{Entry, under}
 use Rattle.cs_document.specs.Opened.{Opened, a_null, a_boolean, an_integer, a_text, a_list, an_object}
-use Rattle.cs_package.specs.Expression.{Kind, int, number, string, bool, Relation, less, at_most, more, at_least, DeclarationMark, regular, optional, required, Declaration}
+use Rattle.cs_package.specs.Expression.{Kind, int, number, string, bool, Relation, less, at_most, more, at_least, DeclarationMark, regular, optional, required, every, is_every, Declaration}
 
 -- what stands behind the fixed elements of a list
 pub data Rest (N : Type 0) : Type 0 where
@@ -98,20 +98,29 @@ abbrev pub may_be_absent : DeclarationMark → Bool
 may_be_absent regular = false
 may_be_absent optional = true
 may_be_absent required = false
+may_be_absent every = true
+
+-- a key that a declaration allows: its label, or every key
+abbrev pub allows : {N : Type 0} → Declaration N → List ℕ → Bool
+allows d k = is_every d.mark || bytes_eq k d.label
 
 -- `inside y e` says whether y, which stands directly inside the document, is an instance of e
 module _ {A N : Type 0} (inside : A → N → Bool) where
   -- a declaration, at what stands under its label: the value there is an instance of the declared one, and
-  -- only an optional label may be no key
-  abbrev pub declaration_holds : Declaration N → Option A → Bool
-  declaration_holds d None = may_be_absent d.mark
-  declaration_holds d (Some y) = inside y d.value
+  -- only a label that isn't asked for may be no key
+  abbrev pub value_holds : Declaration N → Option A → Bool
+  value_holds d None = may_be_absent d.mark
+  value_holds d (Some y) = inside y d.value
 
-  -- each declaration holds, and unless the literal is opened each key is the label of some declaration
+  -- `[string]: T` holds where the value under each key is an instance of T
+  abbrev pub declaration_holds : Declaration N → List (Entry A) → Bool
+  declaration_holds d ms = if is_every d.mark then list_all (λ m. inside m.1 d.value) ms else value_holds d (under d.label ms)
+
+  -- each declaration holds, and unless the literal is opened each key is one that some declaration allows
   abbrev pub fields_hold : List (Declaration N) → Bool → List (Entry A) → Bool
   fields_hold ds opened ms =
-      list_all (λ d. declaration_holds d (under d.label ms)) ds
-      && (opened || list_all (λ m. list_any (λ d. bytes_eq m.0 d.label) ds) ms)
+      list_all (λ d. declaration_holds d ms) ds
+      && (opened || list_all (λ m. list_any (λ d. allows d m.0) ds) ms)
 
   abbrev pub rest_holds : Rest N → List A → Bool
   rest_holds nothing [] = true

@@ -8,8 +8,8 @@ use Rattle.std.specs.Str.{bytes_eq}
 use Rattle.cs_document.specs.Document.{Entry, under}
 use Rattle.cs_document.specs.Opened.{Opened, a_null, a_boolean, an_integer, a_text, a_list, an_object, InsideBelow}
 use Rattle.cs_table.specs.Judged.{AllVerdicts, AgreeBefore}
-use Rattle.cs_package.specs.Expression.{Declaration}
-use Rattle.cs_instance.specs.Constraint.{Rest, nothing, anything, each, Constraint, always, never, the_null, the_boolean, the_integer, the_text, of_kind, in_range, bounded, another_integer, another_text, not_the_null, all_of, any_of, object_of, list_of, is_satisfied, declaration_holds, rest_holds, elements_hold}
+use Rattle.cs_package.specs.Expression.{Declaration, is_every}
+use Rattle.cs_instance.specs.Constraint.{Rest, nothing, anything, each, Constraint, always, never, the_null, the_boolean, the_integer, the_text, of_kind, in_range, bounded, another_integer, another_text, not_the_null, all_of, any_of, object_of, list_of, is_satisfied, allows, value_holds, declaration_holds, rest_holds, elements_hold}
 use Rattle.cs_instance.specs.Numbering.{PartsBelow, RestBelow}
 use Rattle.cs_instance.specs.declared.rules.Rule.{Rule}
 use Rattle.cs_instance.specs.Steps.{asked_of, step_at, answer, ArePlaced, AreLower}
@@ -28,17 +28,23 @@ any_same f g (x ∷ xs) h = ap₂ ◌||◌ h.0 (any_same f g xs h.1)
 
 -- two ways to answer that agree below i, r and m
 module _ (i r m : ℕ) (here here' : ℕ → Bool) (inside inside' : ℕ → ℕ → Bool) (h : (d : ℕ) → d < r → here d ≡ here' d) (k : (y p : ℕ) → y < i → p < m → inside y p ≡ inside' y p) where
-  under_same : (d : Declaration ℕ) → d.value < m → (l : List ℕ) (ms : List (Entry ℕ)) → Each (λ (e : Entry ℕ). e.1 < i) ms → declaration_holds inside d (under l ms) ≡ declaration_holds inside' d (under l ms)
+  under_same : (d : Declaration ℕ) → d.value < m → (l : List ℕ) (ms : List (Entry ℕ)) → Each (λ (e : Entry ℕ). e.1 < i) ms → value_holds inside d (under l ms) ≡ value_holds inside' d (under l ms)
   under_same d q l [] w = refl
   under_same d q l (e ∷ ms) w =
-      elim (bytes_eq l e.0) as (λ t. declaration_holds inside d (if t then Some e.1 else under l ms) ≡ declaration_holds inside' d (if t then Some e.1 else under l ms)) [
+      elim (bytes_eq l e.0) as (λ t. value_holds inside d (if t then Some e.1 else under l ms) ≡ value_holds inside' d (if t then Some e.1 else under l ms)) [
         | true ↦ k e.1 d.value w.0 q
         | false ↦ under_same d q l ms w.1
       ]
 
-  fields_same : (ds : List (Declaration ℕ)) (ms : List (Entry ℕ)) → Each (λ (d : Declaration ℕ). d.value < m) ds → Each (λ (e : Entry ℕ). e.1 < i) ms → list_all (λ d. declaration_holds inside d (under d.label ms)) ds ≡ list_all (λ d. declaration_holds inside' d (under d.label ms)) ds
+  every_same : (p : ℕ) → p < m → (ms : List (Entry ℕ)) → Each (λ (e : Entry ℕ). e.1 < i) ms → list_all (λ (e : Entry ℕ). inside e.1 p) ms ≡ list_all (λ (e : Entry ℕ). inside' e.1 p) ms
+  every_same p q ms w = all_same (λ (e : Entry ℕ). inside e.1 p) (λ (e : Entry ℕ). inside' e.1 p) ms (each_map (λ (e : Entry ℕ). e.1 < i) (λ (e : Entry ℕ). inside e.1 p ≡ inside' e.1 p) (λ e l. k e.1 p l q) ms w)
+
+  declaration_same : (d : Declaration ℕ) (ms : List (Entry ℕ)) → d.value < m → Each (λ (e : Entry ℕ). e.1 < i) ms → declaration_holds inside d ms ≡ declaration_holds inside' d ms
+  declaration_same d ms q w = ap₂ (λ a b. if is_every d.mark then a else b) (every_same d.value q ms w) (under_same d q d.label ms w)
+
+  fields_same : (ds : List (Declaration ℕ)) (ms : List (Entry ℕ)) → Each (λ (d : Declaration ℕ). d.value < m) ds → Each (λ (e : Entry ℕ). e.1 < i) ms → list_all (λ d. declaration_holds inside d ms) ds ≡ list_all (λ d. declaration_holds inside' d ms) ds
   fields_same [] ms b w = refl
-  fields_same (d ∷ ds) ms b w = ap₂ ◌&&◌ (under_same d b.0 d.label ms w) (fields_same ds ms b.1 w)
+  fields_same (d ∷ ds) ms b w = ap₂ ◌&&◌ (declaration_same d ms b.0 w) (fields_same ds ms b.1 w)
 
   rest_same : (rest : Rest ℕ) (ys : List ℕ) → RestBelow m rest → Each (λ y. y < i) ys → rest_holds inside rest ys ≡ rest_holds inside' rest ys
   rest_same nothing [] b w = refl
@@ -69,7 +75,7 @@ module _ (i r m : ℕ) (here here' : ℕ → Bool) (inside inside' : ℕ → ℕ
   numbers_same not_the_null x b w = refl
   numbers_same (all_of ds) x b w = all_same here here' ds (here_same ds b)
   numbers_same (any_of ds) x b w = any_same here here' ds (here_same ds b)
-  numbers_same (object_of ds o) (an_object ms) b w = ap (λ t. t && (o || list_all (λ (m : Entry ℕ). list_any (λ (d : Declaration ℕ). bytes_eq m.0 d.label) ds) ms)) (fields_same ds ms b w)
+  numbers_same (object_of ds o) (an_object ms) b w = ap (λ t. t && (o || list_all (λ (m : Entry ℕ). list_any (λ (d : Declaration ℕ). allows d m.0) ds) ms)) (fields_same ds ms b w)
   numbers_same (object_of ds o) a_null b w = refl
   numbers_same (object_of ds o) (a_boolean t) b w = refl
   numbers_same (object_of ds o) (an_integer n) b w = refl

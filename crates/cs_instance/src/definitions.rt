@@ -40,7 +40,7 @@ fn with_ranks(
     Ok(ranked)
 }
 
-/// Definitions, each with its rank before its number, by rank.
+/// Definitions, each with its rank before its number, by rank. A direct reference is strong, so it goes to a lower rank.
 pub(crate) fn by_rank(
     alloc: Global,
     package: &Guarded,

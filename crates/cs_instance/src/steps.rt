@@ -1,12 +1,11 @@
 // What a rule gives for a value, where the verdicts on the rule's parts are known.
 ghost use Rattle.std.specs.Prelude.{◌≡◌, ◌<◌, ℕ, List, Bool, map, length, slice_index};
 ghost use Rattle.std.specs.List.{list_all, list_any, AllByRecursion};
-ghost use Rattle.std.specs.Str.{bytes_eq};
 ghost use Rattle.cs_document.specs.Document.{Entry, under};
 ghost use Rattle.cs_document.specs.Opened.{InsideBelow};
 ghost use Rattle.cs_flat.specs.View.{item_view, entry_of};
 ghost use Rattle.cs_table.specs.Judged.{verdicts};
-ghost use Rattle.cs_package.specs.Expression.{Declaration};
+ghost use Rattle.cs_package.specs.Expression.{Declaration, is_every};
 ghost use Rattle.cs_package.specs.View.{kind_of, relation_of, mark_of};
 ghost use Rattle.cs_instance.specs.Constraint as constraint;
 ghost use Rattle.cs_instance.specs.Numbering.{PartsBelow, RestBelow};
@@ -22,8 +21,17 @@ fn may_be_absent(mark: FieldMark) -> bool
     ensures { result ≡ constraint.may_be_absent (mark_of mark) }
 {
     match mark {
-        FieldMark::Optional => true,
+        FieldMark::Optional | FieldMark::Every { .. } => true,
         FieldMark::Regular | FieldMark::Required => false,
+    }
+}
+
+fn is_for_every_key(mark: FieldMark) -> bool
+    ensures { result ≡ is_every (mark_of mark) }
+{
+    match mark {
+        FieldMark::Every { .. } => true,
+        FieldMark::Regular | FieldMark::Optional | FieldMark::Required => false,
     }
 }
 
@@ -65,22 +73,23 @@ fn find(members: &[(&str, usize)], label: &str) -> Option<usize>
     None
 }
 
-fn is_declared(fields: &[Field<'_>], key: &str) -> bool
-    ensures { result ≡ list_any (λ d. bytes_eq key.now d.label) (map field_of fields.now) }
+/// Whether some declaration allows a key: that of its label, or `[string]`.
+fn is_allowed(fields: &[Field<'_>], key: &str) -> bool
+    ensures { result ≡ list_any (λ d. constraint.allows d key.now) (map field_of fields.now) }
 {
     for field in fields {
-        if key == field.label {
+        if is_for_every_key(field.mark) || key == field.label {
             return true;
         }
     }
     false
 }
 
-fn are_declared(fields: &[Field<'_>], members: &[(&str, usize)]) -> bool
-    ensures { result ≡ list_all (λ (m : Entry ℕ). list_any (λ d. bytes_eq m.0 d.label) (map field_of fields.now)) (map entry_of members.now) }
+fn are_allowed(fields: &[Field<'_>], members: &[(&str, usize)]) -> bool
+    ensures { result ≡ list_all (λ (m : Entry ℕ). list_any (λ d. constraint.allows d m.0) (map field_of fields.now)) (map entry_of members.now) }
 {
     for (key, _value) in members {
-        if !is_declared(fields, key) {
+        if !is_allowed(fields, key) {
             return false;
         }
     }
@@ -98,6 +107,63 @@ fn holds_inside(child: usize, part: usize, inner: &[usize], done: &Verdicts) -> 
     done.get(child, inner[part])
 }
 
+/// Whether what stands under a declaration's label is as declared.
+fn value_holds(
+    field: &Field<'_>,
+    members: &[(&str, usize)],
+    inner: &[usize],
+    done: &Verdicts,
+) -> bool
+    requires members { AllByRecursion (λ (m : Entry ℕ). m.1 < done.now.items) (map entry_of members.now) }
+    requires field { (field_of field.now).value < length inner.now }
+    requires inner { AllByRecursion (λ q. q < done.now.rules) inner.now }
+    ensures { result ≡ constraint.value_holds (λ y p. verdicts done.now y (slice_index inner.now p)) (field_of field.now) (under (field_of field.now).label (map entry_of members.now)) }
+{
+    match find(members, field.label) {
+        None => may_be_absent(field.mark),
+        Some(child) => holds_inside(child, field.value, inner, done),
+    }
+}
+
+/// Whether the value under every key is an instance of the rule at a place of `inner`.
+fn every_value_holds(
+    members: &[(&str, usize)],
+    part: usize,
+    inner: &[usize],
+    done: &Verdicts,
+) -> bool
+    requires members { AllByRecursion (λ (m : Entry ℕ). m.1 < done.now.items) (map entry_of members.now) }
+    requires part { part < length inner.now }
+    requires inner { AllByRecursion (λ q. q < done.now.rules) inner.now }
+    ensures { result ≡ list_all (λ (m : Entry ℕ). verdicts done.now m.1 (slice_index inner.now part)) (map entry_of members.now) }
+{
+    for (_key, value) in members {
+        if !holds_inside(*value, part, inner, done) {
+            return false;
+        }
+    }
+    true
+}
+
+/// Only `[string]` looks at every key.
+fn declaration_holds(
+    field: &Field<'_>,
+    members: &[(&str, usize)],
+    inner: &[usize],
+    done: &Verdicts,
+) -> bool
+    requires members { AllByRecursion (λ (m : Entry ℕ). m.1 < done.now.items) (map entry_of members.now) }
+    requires field { (field_of field.now).value < length inner.now }
+    requires inner { AllByRecursion (λ q. q < done.now.rules) inner.now }
+    ensures { result ≡ constraint.declaration_holds (λ y p. verdicts done.now y (slice_index inner.now p)) (field_of field.now) (map entry_of members.now) }
+{
+    if is_for_every_key(field.mark) {
+        every_value_holds(members, field.value, inner, done)
+    } else {
+        value_holds(field, members, inner, done)
+    }
+}
+
 fn declarations_hold(
     fields: &[Field<'_>],
     members: &[(&str, usize)],
@@ -107,14 +173,10 @@ fn declarations_hold(
     requires members { AllByRecursion (λ (m : Entry ℕ). m.1 < done.now.items) (map entry_of members.now) }
     requires fields { AllByRecursion (λ (d : Declaration ℕ). d.value < length inner.now) (map field_of fields.now) }
     requires inner { AllByRecursion (λ q. q < done.now.rules) inner.now }
-    ensures { result ≡ list_all (λ d. constraint.declaration_holds (λ y p. verdicts done.now y (slice_index inner.now p)) d (under d.label (map entry_of members.now))) (map field_of fields.now) }
+    ensures { result ≡ list_all (λ d. constraint.declaration_holds (λ y p. verdicts done.now y (slice_index inner.now p)) d (map entry_of members.now)) (map field_of fields.now) }
 {
     for field in fields {
-        let holds = match find(members, field.label) {
-            None => may_be_absent(field.mark),
-            Some(child) => holds_inside(child, field.value, inner, done),
-        };
-        if !holds {
+        if !declaration_holds(field, members, inner, done) {
             return false;
         }
     }
@@ -136,7 +198,7 @@ fn fields_hold(
     if !declarations_hold(fields, members, inner, done) {
         return false;
     }
-    opened || are_declared(fields, members)
+    opened || are_allowed(fields, members)
 }
 
 fn each_holds(children: &[usize], part: usize, inner: &[usize], done: &Verdicts) -> bool

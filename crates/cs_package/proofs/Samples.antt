@@ -111,8 +111,11 @@ kinds_are = refl
 relations_are : map relation_of (relations.Less ∷ relations.AtMost ∷ relations.More ∷ relations.AtLeast ∷ []) ≡ cue.less ∷ cue.at_most ∷ cue.more ∷ cue.at_least ∷ []
 relations_are = refl
 
-marks_are : map mark_of (marks.Regular ∷ marks.Optional ∷ marks.Required ∷ []) ≡ cue.regular ∷ cue.optional ∷ cue.required ∷ []
+marks_are : map mark_of (marks.Regular ∷ marks.Optional ∷ marks.Required ∷ marks.Every 7 ∷ []) ≡ cue.regular ∷ cue.optional ∷ cue.required ∷ cue.every ∷ []
 marks_are = refl
+
+every_key : map cue.is_every (cue.regular ∷ cue.optional ∷ cue.required ∷ cue.every ∷ []) ≡ false ∷ false ∷ false ∷ true ∷ []
+every_key = refl
 
 atoms : map (expression_of (A ∷ B ∷ [])) (Shapes.Top ∷ Shapes.Bottom ∷ Shapes.Null ∷ Shapes.Bool true ∷ Shapes.Bool false ∷ Shapes.Int (neg_ℤ (pos 5)) ∷ Shapes.Kind kinds.Number ∷ Shapes.Range (pos 0) None ∷ Shapes.Range (pos 0) (Some (pos 255)) ∷ Shapes.Definition 1 ∷ Shapes.Bound relations.AtMost (pos 3) ∷ Shapes.NotInt (pos 4) ∷ Shapes.NotNull ∷ [])
     ≡ cue.atom cue.top ∷ cue.atom cue.bottom ∷ cue.atom cue.null ∷ cue.atom (cue.boolean true) ∷ cue.atom (cue.boolean false) ∷ cue.atom (cue.integer (neg_ℤ (pos 5))) ∷ cue.kind cue.number ∷ cue.range (pos 0) None ∷ cue.range (pos 0) (Some (pos 255)) ∷ cue.reference B ∷ cue.atom (cue.bound cue.at_most (pos 3)) ∷ cue.atom (cue.not_integer (pos 4)) ∷ cue.atom cue.not_null ∷ []

@@ -4,7 +4,7 @@ use Rattle.std.proofs.Common.{ap, ap₂, arith}
 use Rattle.std.specs.Coded.{Coded, coded×, coded_ℕ, coded_ℤ, coded_bool, coded_list, coded_option}
 use base.Stored.{Gv, gnil, gnum, gcons}
 use Rattle.cs_grammar.specs.Atom.{Atom, Relation, less, at_most, more, at_least, top, bottom, null, boolean, integer, text, bound, not_integer, not_text, not_null}
-use Rattle.cs_package.specs.Expression.{Kind, int, number, string, bool, DeclarationMark, regular, optional, required, Expression, atom, kind, range, reference, conjunction, disjunction, struct, list, Expressions, no_expressions, expression, Declarations, no_declarations, declaration, Rest, closed, any, each}
+use Rattle.cs_package.specs.Expression.{Kind, int, number, string, bool, DeclarationMark, regular, optional, required, every, Expression, atom, kind, range, reference, conjunction, disjunction, struct, list, Expressions, no_expressions, expression, Declarations, no_declarations, declaration, Rest, closed, any, each}
 use Rattle.cs_package.specs.Environment.{Environment}
 
 abbrev of_kind : Kind → Gv
@@ -23,6 +23,7 @@ abbrev of_mark : DeclarationMark → Gv
 of_mark regular = gnum 0
 of_mark optional = gnum 1
 of_mark required = gnum 2
+of_mark every = gnum 3
 
 abbrev coded_text : Coded (List ℕ)
 coded_text = coded_list coded_ℕ
@@ -83,6 +84,7 @@ mark-same : (a b : DeclarationMark) → of_mark a ≡ of_mark b → a ≡ b
 mark-same regular regular p = refl
 mark-same optional optional p = refl
 mark-same required required p = refl
+mark-same every every p = refl
 mark-same _ _ p = cc
 
 abbrev first : Gv → Gv

@@ -1,6 +1,6 @@
 -- Resolved expressions of CUE: names are replaced by what they name, and parentheses are dropped
 -- (CUE language specification, "Expressions").
-use Rattle.std.specs.Prelude.{ℕ, ℤ, Bool, List, [], ◌∷◌, Option}
+use Rattle.std.specs.Prelude.{ℕ, ℤ, Bool, true, false, List, [], ◌∷◌, Option}
 use Rattle.cs_grammar.specs.Atom.{Atom}
 pub use Rattle.cs_grammar.specs.Atom.{Relation, less, at_most, more, at_least, top, bottom, null, boolean, integer, text, bound, not_integer, not_text, not_null}
 
@@ -8,9 +8,15 @@ pub use Rattle.cs_grammar.specs.Atom.{Relation, less, at_most, more, at_least, t
 pub data Kind : Type 0 where
   int number string bool : Kind
 
--- the marks of `a: T`, `a?: T`, `a!: T`
+-- the marks of `a: T`, `a?: T`, `a!: T`, and that of `[string]: T`, whose label is empty
 pub data DeclarationMark : Type 0 where
-  regular optional required : DeclarationMark
+  regular optional required every : DeclarationMark
+
+abbrev pub is_every : DeclarationMark → Bool
+is_every every = true
+is_every regular = false
+is_every optional = false
+is_every required = false
 
 mutual
   pub data Expression : Type 0 where

@@ -28,6 +28,7 @@ abbrev pub mark_of : FieldMark → cue.DeclarationMark
 mark_of marks.Regular = cue.regular
 mark_of marks.Optional = cue.optional
 mark_of marks.Required = cue.required
+mark_of (marks.Every o) = cue.every
 
 abbrev pub expressions_of : List Expression → Expressions
 expressions_of [] = cue.no_expressions

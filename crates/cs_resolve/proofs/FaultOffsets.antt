@@ -8,6 +8,7 @@ use Rattle.cs_grammar.specs.Tree.{FileTree, definitions}
 use Rattle.cs_resolve.specs.Declarations.{places_of, names, faults_from, faults_of_files}
 use Rattle.cs_resolve.specs.Offsets.{StandsBefore, AreInOrder, offset, place}
 use Rattle.cs_resolve.specs.Opening.{Named, named_bodies, unopened_definitions, unopened_from, unopened_files}
+use Rattle.cs_resolve.specs.Refinement.{Bases, bases}
 use Rattle.cs_resolve.specs.Resolved.{AreSpelled}
 use Rattle.cs_resolve.specs.Scopes.{NameFault, faults}
 use Rattle.cs_resolve.proofs.MarkOrder.{marks-rise}
@@ -81,14 +82,15 @@ names_in_order fs h =
 
 -- ---- literals
 
-literals_rise : (all : List Named) (t : List ℕ) (g : FileTree) → IsSpelledBy t g → Rise own 0 (unopened_definitions all (definitions g))
-literals_rise all t g h = let m = marks-rise t g h in picks_rise own (literal_picks_of all (definitions g)) 0 m.0 m.1
+literals_rise : (bs : Bases) (all : List Named) (t : List ℕ) (g : FileTree) → IsSpelledBy t g → Rise own 0 (unopened_definitions bs all (definitions g))
+literals_rise bs all t g h = let m = marks-rise t g h in picks_rise own (literal_picks_of bs all (definitions g)) 0 m.0 m.1
 
-literals_told : (all : List Named) (i : ℕ) (gs : List FileTree) → unopened_from i all gs ≡ told_from own (λ g. unopened_definitions all (definitions g)) (literals_rise all) i gs
-literals_told all i [] = refl
-literals_told all i (g ∷ gs) = ap (λ ps. numbered own i (unopened_definitions all (definitions g)) ++ ps) (literals_told all (suc i) gs)
+literals_told : (bs : Bases) (all : List Named) (i : ℕ) (gs : List FileTree) → unopened_from bs i all gs ≡ told_from own (λ g. unopened_definitions bs all (definitions g)) (literals_rise bs all) i gs
+literals_told bs all i [] = refl
+literals_told bs all i (g ∷ gs) = ap (λ ps. numbered own i (unopened_definitions bs all (definitions g)) ++ ps) (literals_told bs all (suc i) gs)
 
 pub literals_in_order : (fs : List FileTree) → AreSpelled fs → AreInOrder (unopened_files fs)
 literals_in_order fs h =
+    let bs = bases (flat_map definitions fs) in
     let all = named_bodies (flat_map definitions fs) in
-    subst AreInOrder (sym (literals_told all 0 fs)) (in_files own (λ g. unopened_definitions all (definitions g)) (literals_rise all) 0 fs h).ordered
+    subst AreInOrder (sym (literals_told bs all 0 fs)) (in_files own (λ g. unopened_definitions bs all (definitions g)) (literals_rise bs all) 0 fs h).ordered

@@ -51,9 +51,9 @@ module _ {S : Type 0} where
 
   -- ---- a literal's own labels
 
-  text_put : (t : List ℕ) (s n : HashSet (Bor (List ℕ)) S) (k : Bor (List ℕ)) (added : Bool) → added ≡ not (has_text k.now s) → PutsKey s n k added → has_text t n ≡ (has_text t s || bytes_eq t k.now)
-  text_put t s n k true is put = sym (list_any-IsPermutation (λ x. bytes_eq t x.now) (k ∷ s.keys) n.keys put) ∙ or_swap (bytes_eq t k.now) (has_text t s)
-  text_put t s n k false is put = ap (list_any (λ x. bytes_eq t x.now)) put ∙ by (bytes_eq t k.now) refl
+  pub has_text_put : (t : List ℕ) (s n : HashSet (Bor (List ℕ)) S) (k : Bor (List ℕ)) (added : Bool) → added ≡ not (has_text k.now s) → PutsKey s n k added → has_text t n ≡ (has_text t s || bytes_eq t k.now)
+  has_text_put t s n k true is put = sym (list_any-IsPermutation (λ x. bytes_eq t x.now) (k ∷ s.keys) n.keys put) ∙ or_swap (bytes_eq t k.now) (has_text t s)
+  has_text_put t s n k false is put = ap (list_any (λ x. bytes_eq t x.now)) put ∙ by (bytes_eq t k.now) refl
     where
       there : (b : Bool) → false ≡ not b → b ≡ true
       there true h = refl
@@ -78,7 +78,7 @@ module _ {S : Type 0} (s : HashSet (Bor (List ℕ)) S) (ls : List Label) (x : Fi
   -- another is put into the set
   pub label_put : x.quoted ≡ false → (n : HashSet (Bor (List ℕ)) S) (k : Bor (List ℕ)) (added : Bool) → k.now ≡ string_bytes x.label → added ≡ not (has_text k.now s) → PutsKey s n k added → HoldsLabels n (ls ++ (field_view x).label ∷ [])
   label_put plain n k added label is_added put t =
-      text_put t s n k added is_added put
+      has_text_put t s n k added is_added put
       ∙ ap₂ (λ a u. a || bytes_eq t u) (held t) label
       ∙ sym (has_label-push t ls x false plain)
 

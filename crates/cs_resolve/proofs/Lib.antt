@@ -4,6 +4,7 @@ pub mod Limits
 pub mod Trees
 pub mod Refusals
 pub mod RepeatTables
+pub mod LabelCounts
 pub mod Elements
 pub mod UnopenedLiterals
 pub mod OpeningRule
@@ -23,3 +24,16 @@ pub mod WordOrder
 pub mod MarkOrder
 pub mod PickedOffsets
 pub mod FaultOffsets
+pub mod NarrowingSteps
+pub mod OpenedShapes
+pub mod Refined
+pub mod OlderRule
+pub mod BaseLaw
+pub mod OnlyBodies
+pub mod TextSets
+pub mod BaseTables
+pub mod RefinerLists
+pub mod Searches
+pub mod SortedBodies
+pub mod FoundBases
+pub mod Narrowings

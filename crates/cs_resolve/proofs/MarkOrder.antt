@@ -1,5 +1,5 @@
 -- The offsets that a tree has from the words that spell it rise.
-use Rattle.std.proofs.Common.{ℕ, suc, ◌≤◌, Bool, true, false, cond, List, [], ◌∷◌, ◌++◌, Some, None, sym, subst, arith}
+use Rattle.std.proofs.Common.{◌≡◌, ℕ, suc, ◌≤◌, Bool, true, false, cond, List, [], ◌∷◌, ◌++◌, Some, None, refl, sym, subst, arith}
 use Rattle.std.specs.List.{flat_map}
 use Rattle.std.specs.Option.{unwrap_or}
 use Rattle.std.specs.Str.{bytes_eq}
@@ -8,12 +8,20 @@ use Rattle.cs_grammar.specs.Source.{IsSpelledBy}
 use Rattle.cs_grammar.specs.Tree.{Label, Tree, atom, null, boolean, named, reference, conjunction, disjunction, paren, struct, list, Trees, none, more, Fields, no_field, field, End, closed, any, each, DefinitionTree, body, FileTree, definitions}
 use Rattle.cs_grammar.specs.Words as W
 use Rattle.cs_grammar.specs.Words.{Words}
-use Rattle.cs_grammar.specs.Spells.{is_null, literal_of, start_at, SpellsBound, limit_is, other_number, other_text, other_null, SpellsLabel, bare_label, quoted_label, SpellsValue, long, short, SpellsField, labelled, SpellsExpr, one_conj, disjunction_is, SpellsBars, no_bar, a_bar, SpellsConj, one_operand, conjunction_is, SpellsAmps, no_amp, an_amp, SpellsOperand, top_is, bottom_is, reference_is, name_is, number_is, text_is, bound_is, paren_is, struct_is, list_is, SpellsStruct, no_fields, dots_alone, fields, SpellsFields, no_more_fields, next_field, SpellsList, no_elements, rest_alone, elements, SpellsElements, no_more_elements, next_element, SpellsEnd, closed_is, rest_is, SpellsRest, any_is, each_is, SpellsDefinition, defined, SpellsDefinitions, no_definition, next_definition, SpellsFile, spelled}
+use Rattle.cs_grammar.specs.Spells.{is_null, literal_of, start_at, SpellsBound, limit_is, other_number, other_text, other_null, SpellsLabel, bare_label, quoted_label, SpellsMark, regular, optional, required, SpellsValue, long, short, SpellsField, labelled, every_key, SpellsExpr, one_conj, disjunction_is, SpellsBars, no_bar, a_bar, SpellsConj, one_operand, conjunction_is, SpellsAmps, no_amp, an_amp, SpellsOperand, top_is, bottom_is, reference_is, name_is, number_is, text_is, bound_is, paren_is, struct_is, list_is, SpellsStruct, no_fields, dots_alone, fields, SpellsFields, no_more_fields, next_field, SpellsList, no_elements, rest_alone, elements, SpellsElements, no_more_elements, next_element, SpellsEnd, closed_is, rest_is, SpellsRest, any_is, each_is, SpellsDefinition, defined, SpellsDefinitions, no_definition, next_definition, SpellsFile, spelled}
 use Rattle.cs_grammar.specs.declared.ast.FieldMark.{FieldMark}
+use Rattle.cs_grammar.specs.declared.ast.FieldMark.TheVariants.{Regular, Optional, Required, Every}
 use Rattle.cs_grammar.proofs.Rests.{IsRest, whole, behind, of_comma, of_paren, of_list_end, of_struct_end, of_number, of_mark, of_opening, of_package}
 use Rattle.cs_resolve.proofs.WordOrder.{From, at_least, past, tail, from_cut}
 
 -- ---- marks
+
+-- the offset of the name in the brackets of `[string]`
+abbrev pub key_marks : FieldMark → List ℕ
+key_marks Regular = []
+key_marks Optional = []
+key_marks Required = []
+key_marks (Every o) = o ∷ []
 
 -- the offsets of the names, references and struct literals of a tree, as they are written
 abbrev mutual
@@ -33,7 +41,7 @@ abbrev mutual
 
   pub marks_in : Fields → List ℕ
   marks_in no_field = []
-  marks_in (field l m e fs) = marks e ++ marks_in fs
+  marks_in (field l m e fs) = key_marks m ++ marks e ++ marks_in fs
 
   pub marks_end : End → List ℕ
   marks_end closed = []
@@ -84,7 +92,7 @@ both {o} {xs} {ys} s f =
     let t = f s.end s.follows in
     record { end = t.end; within = within_append o s.end t.end xs ys s.within t.within; follows = t.follows }
 
--- ---- bounds, labels and names
+-- ---- bounds, labels, marks and names
 
 of_limit : {e : Tree} {o : ℕ} {ts r : Words} → SpellsBound e ts r → From o ts → Spans o (marks e) r
 of_limit (limit_is n) h = still (rest (of_number n) (tail h))
@@ -100,6 +108,11 @@ record BehindLabel (o : ℕ) (ts r : Words) : Type 0 where
 of_label : {l : Label} {o : ℕ} {ts r : Words} → SpellsLabel l ts r → From o ts → BehindLabel o ts r
 of_label bare_label h = record { at = at_least h; follows = past h }
 of_label quoted_label h = record { at = at_least h; follows = past h }
+
+unmarked : {m : FieldMark} {ts r : Words} → SpellsMark m ts r → key_marks m ≡ []
+unmarked regular = refl
+unmarked optional = refl
+unmarked required = refl
 
 -- a name is a literal or has its offset
 of_name : (s : List ℕ) (p o : ℕ) (r : Words) → From o (W.name s p ∷ r) → Spans o (marks (unwrap_or (literal_of s) (named s p))) r
@@ -118,12 +131,15 @@ mutual
   of_value (long e) h = of_expr e h
   of_value {o = from} (short {l} {m} {e} {o} {ts} {r} at f) h =
       let s = of_field f h in
-      subst (λ (p : ℕ). Spans from (p ∷ marks e ++ []) r) (sym at) (put s.0 (both s.1 (λ p k. still k)))
+      subst (λ (p : ℕ). Spans from (p ∷ key_marks m ++ marks e ++ []) r) (sym at) (put s.0 (both s.1 (λ p k. still k)))
 
-  of_field : {l : Label} {m : FieldMark} {e : Tree} {o : ℕ} {ts r : Words} → SpellsField l m e ts r → From o ts → (o ≤ start_at ts) × Spans (suc (start_at ts)) (marks e) r
-  of_field (labelled l m v) h =
+  of_field : {l : Label} {m : FieldMark} {e : Tree} {o : ℕ} {ts r : Words} → SpellsField l m e ts r → From o ts → (o ≤ start_at ts) × Spans (suc (start_at ts)) (key_marks m ++ marks e) r
+  of_field (labelled {e} {ts} {r} l k v) h =
       let b = of_label l h in
-      (b.at, of_value v (rest (of_mark m) b.follows))
+      (b.at, subst (λ xs. Spans (suc (start_at ts)) (xs ++ marks e) r) (sym (unmarked k)) (of_value v (rest (of_mark k) b.follows)))
+  of_field (every_key is v) h =
+      let inside = past h in
+      (at_least h, put (at_least inside) (of_value v (tail (tail (past inside)))))
 
   of_expr : {e : Tree} {o : ℕ} {ts r : Words} → SpellsExpr e ts r → From o ts → Spans o (marks e) r
   of_expr (one_conj c) h = of_conj c h

@@ -3,12 +3,15 @@ use Rattle.std.proofs.Common.{ℕ, suc, ◌≤◌, Bool, true, false, ◌||◌, 
 use Rattle.std.specs.List.{list_any}
 use Rattle.std.specs.Str.{bytes_eq}
 use Rattle.cs_grammar.specs.Tree.{Label, Tree, named, reference, conjunction, disjunction, paren, struct, list, Trees, none, more, Fields, no_field, field, End, closed, any, each, DefinitionTree, body, defined_name}
+use Rattle.cs_grammar.specs.declared.ast.FieldMark.{FieldMark}
+use Rattle.cs_grammar.specs.declared.ast.FieldMark.TheVariants.{Regular, Optional, Required, Every}
 use Rattle.cs_resolve.specs.Declarations.{places_of}
 use Rattle.cs_resolve.specs.Offsets.{offset}
-use Rattle.cs_resolve.specs.Opening.{Named, named_fields, values, operands, demands_open, at_fault, unopened, unopened_all, unopened_fields, unopened_end, unopened_definitions}
+use Rattle.cs_resolve.specs.Opening.{one, Named, named_fields, values, joined_demand_open, declared_for, demands_open, demands_open_of, at_fault, unopened, unopened_all, unopened_fields, unopened_end, unopened_definitions}
+use Rattle.cs_resolve.specs.Refinement.{Bases}
 use Rattle.cs_resolve.specs.Predeclared.{predeclared}
-use Rattle.cs_resolve.specs.Scopes.{labels, names_field, Place, a_name, a_reference, places, places_all, places_fields, places_end, name_faults, reference_faults, place_faults, faults}
-use Rattle.cs_resolve.proofs.MarkOrder.{marks, marks_all, marks_in, marks_end, marks_of, Within}
+use Rattle.cs_resolve.specs.Scopes.{labels, names_field, Place, a_name, a_reference, key_places, places, places_all, places_fields, places_end, name_faults, reference_faults, place_faults, faults}
+use Rattle.cs_resolve.proofs.MarkOrder.{key_marks, marks, marks_all, marks_in, marks_end, marks_of, Within}
 
 -- ---- some of the marks
 
@@ -44,6 +47,13 @@ abbrev pub at : Place → ℕ
 at (a_name around t o) = o
 at (a_reference t o) = o
 
+-- the name in the brackets of `[string]`
+key_picks : (around : List (List Label)) (m : FieldMark) → Picks at (key_places around m) (key_marks m)
+key_picks around Regular = nothing
+key_picks around Optional = nothing
+key_picks around Required = nothing
+key_picks around (Every o) = taken nothing
+
 mutual
   place_picks : (around : List (List Label)) (e : Tree) → Picks at (places around e) (marks e)
   place_picks around (named t o) = taken nothing
@@ -61,7 +71,7 @@ mutual
 
   place_picks_in : (around : List (List Label)) (fs : Fields) → Picks at (places_fields around fs) (marks_in fs)
   place_picks_in around no_field = nothing
-  place_picks_in around (field l m e fs) = join_picks at (place_picks around e) (place_picks_in around fs)
+  place_picks_in around (field l m e fs) = join_picks at (join_picks at (key_picks around m) (place_picks around e)) (place_picks_in around fs)
 
   place_picks_end : (around : List (List Label)) (end : End) → Picks at (places_end around end) (marks_end end)
   place_picks_end around closed = nothing
@@ -102,30 +112,37 @@ at_fault_picks true false o = taken nothing
 at_fault_picks true true o = left nothing
 at_fault_picks false opened o = left nothing
 
+-- no literal stands in those brackets
+behind_key : (m : FieldMark) {xs os : List ℕ} → Picks own xs os → Picks own xs (key_marks m ++ os)
+behind_key Regular k = k
+behind_key Optional k = k
+behind_key Required k = k
+behind_key (Every o) k = left k
+
 mutual
-  literal_picks : (demanded : Bool) (e : Tree) → Picks own (unopened demanded e) (marks e)
-  literal_picks demanded (named t o) = left nothing
-  literal_picks demanded (reference t o) = left nothing
-  literal_picks demanded (conjunction es) = literal_picks_all (demanded || demands_open (operands es)) es
-  literal_picks demanded (disjunction es) = literal_picks_all demanded es
-  literal_picks demanded (paren e) = literal_picks demanded e
-  literal_picks demanded (struct o fs opened) = join_picks own (at_fault_picks demanded opened o) (literal_picks_in demanded (named_fields fs) fs)
-  literal_picks demanded (list es end) = join_picks own (literal_picks_all demanded es) (literal_picks_end demanded end)
-  literal_picks demanded _ = nothing
+  literal_picks : (bs : Bases) (demanded : Bool) (e : Tree) → Picks own (unopened bs demanded e) (marks e)
+  literal_picks bs demanded (named t o) = left nothing
+  literal_picks bs demanded (reference t o) = left nothing
+  literal_picks bs demanded (conjunction es) = literal_picks_all bs (demanded || joined_demand_open bs es) es
+  literal_picks bs demanded (disjunction es) = literal_picks_all bs demanded es
+  literal_picks bs demanded (paren e) = literal_picks bs demanded e
+  literal_picks bs demanded (struct o fs opened) = join_picks own (at_fault_picks demanded opened o) (literal_picks_in bs demanded (named_fields fs) fs)
+  literal_picks bs demanded (list es end) = join_picks own (literal_picks_all bs demanded es) (literal_picks_end bs demanded end)
+  literal_picks bs demanded _ = nothing
 
-  literal_picks_all : (demanded : Bool) (es : Trees) → Picks own (unopened_all demanded es) (marks_all es)
-  literal_picks_all demanded none = nothing
-  literal_picks_all demanded (more e es) = join_picks own (literal_picks demanded e) (literal_picks_all demanded es)
+  literal_picks_all : (bs : Bases) (demanded : Bool) (es : Trees) → Picks own (unopened_all bs demanded es) (marks_all es)
+  literal_picks_all bs demanded none = nothing
+  literal_picks_all bs demanded (more e es) = join_picks own (literal_picks bs demanded e) (literal_picks_all bs demanded es)
 
-  literal_picks_in : (demanded : Bool) (all : List Named) (fs : Fields) → Picks own (unopened_fields demanded all fs) (marks_in fs)
-  literal_picks_in demanded all no_field = nothing
-  literal_picks_in demanded all (field l m e fs) = join_picks own (literal_picks (demanded || demands_open (values l.text all)) e) (literal_picks_in demanded all fs)
+  literal_picks_in : (bs : Bases) (demanded : Bool) (all : List Named) (fs : Fields) → Picks own (unopened_fields bs demanded all fs) (marks_in fs)
+  literal_picks_in bs demanded all no_field = nothing
+  literal_picks_in bs demanded all (field l m e fs) = join_picks own (behind_key m (literal_picks bs (demanded || demands_open_of (declared_for l m) all) e)) (literal_picks_in bs demanded all fs)
 
-  literal_picks_end : (demanded : Bool) (end : End) → Picks own (unopened_end demanded end) (marks_end end)
-  literal_picks_end demanded closed = nothing
-  literal_picks_end demanded any = nothing
-  literal_picks_end demanded (each e) = literal_picks demanded e
+  literal_picks_end : (bs : Bases) (demanded : Bool) (end : End) → Picks own (unopened_end bs demanded end) (marks_end end)
+  literal_picks_end bs demanded closed = nothing
+  literal_picks_end bs demanded any = nothing
+  literal_picks_end bs demanded (each e) = literal_picks bs demanded e
 
-pub literal_picks_of : (all : List Named) (ds : List DefinitionTree) → Picks own (unopened_definitions all ds) (marks_of ds)
-literal_picks_of all [] = nothing
-literal_picks_of all (d ∷ ds) = join_picks own (literal_picks (demands_open (values (defined_name d) all)) (body d)) (literal_picks_of all ds)
+pub literal_picks_of : (bs : Bases) (all : List Named) (ds : List DefinitionTree) → Picks own (unopened_definitions bs all ds) (marks_of ds)
+literal_picks_of bs all [] = nothing
+literal_picks_of bs all (d ∷ ds) = join_picks own (literal_picks bs (demands_open (values (one (defined_name d)) all)) (body d)) (literal_picks_of bs all ds)

@@ -1,17 +1,73 @@
 -- Which literals the recursion with a flag tells: those that a conjunction asks to end with `...` and that don't.
-use Rattle.std.proofs.Common.{◌≡◌, ℕ, Bool, true, false, ◌||◌, ◌⊎◌, ◌↔◌, List, [], ◌∷◌, ◌++◌, map, filter, cond, inl, inr, refl, sym, ap, ◌∙◌, subst}
-use Rattle.std.specs.List.{flat_map}
-use Rattle.std.specs.Str.{bytes_eq}
+use Rattle.std.proofs.Common.{◌≡◌, ℕ, Bool, true, false, ◌&&◌, ◌||◌, not, ◌⊎◌, ◌↔◌, List, [], ◌∷◌, ◌++◌, map, filter, cond, Contains, inl, inr, refl, sym, ap, ◌∙◌, subst}
+use Rattle.std.specs.List.{flat_map, list_any}
 use Rattle.std.proofs.lemmas.Bool.{false≢true, or_cases, or_left, or_right}
 use Rattle.std.proofs.lemmas.Slice.Eq.{bytes_eq-Decides}
 use Rattle.cs_grammar.specs.Tree.{Tree, conjunction, disjunction, paren, struct, list, Trees, none, more, Fields, no_field, field, End, closed, any, each, DefinitionTree, defined_name, body}
 use Rattle.cs_package.proofs.Environments.{bytes_eq-refl}
-use Rattle.cs_resolve.specs.Opening.{Literal, literals, literals_all, literals_fields, literals_end, operands, Named, named_fields, named_bodies, values, values_of_each, conjunctions, conjunctions_all, conjunctions_fields, conjunctions_end, all_conjunctions, demands_open, at_fault, unopened, unopened_all, unopened_fields, unopened_end, unopened_definitions}
-use Rattle.cs_resolve.proofs.Elements.{or_map, Has, has_left, has_right, has_cases}
+use Rattle.cs_resolve.specs.Opening.{Literal, literals, literals_all, literals_fields, literals_end, operands, Declared, one, every_key, Named, declared_for, joined, joined_demand_open, covers, named_fields, named_bodies, values, values_of_each, conjunctions, conjunctions_all, conjunctions_fields, conjunctions_end, all_conjunctions, demands_open, demands_open_of, at_fault, unopened, unopened_all, unopened_fields, unopened_end, unopened_definitions}
+use Rattle.cs_resolve.specs.Refinement.{Bases, bases, is_refinement}
+use Rattle.cs_resolve.proofs.Elements.{or_map, Has, has_left, has_right, has_cases, has_element, element_of}
 
 operands-literals : (es : Trees) → flat_map literals (operands es) ≡ literals_all es
 operands-literals none = refl
 operands-literals (more e es) = ap (λ ls. literals e ++ ls) (operands-literals es)
+
+-- ---- truth values
+
+and-true : (b : Bool) → (b && true) ≡ b
+and-true true = refl
+and-true false = refl
+
+and-false : (b : Bool) → (b && false) ≡ false
+and-false true = refl
+and-false false = refl
+
+-- ---- lists
+
+-- a test that some element passes
+any_has : {X : Type 0} (p : X → Bool) (xs : List X) → list_any p xs ≡ true → Has (λ x. p x ≡ true) xs
+any_has p [] h = absurd (false≢true h)
+any_has p (x ∷ xs) h = or_map (or_cases (p x) (list_any p xs) h) (λ k. k) (any_has p xs)
+
+has_any : {X : Type 0} (p : X → Bool) (xs : List X) → Has (λ x. p x ≡ true) xs → list_any p xs ≡ true
+has_any p [] h = absurd h
+has_any p (x ∷ xs) (inl h) = or_left (p x) (list_any p xs) h
+has_any p (x ∷ xs) (inr h) = or_right (p x) (list_any p xs) (has_any p xs h)
+
+has_map : {X Y : Type 0} (P : Y → Type 0) (f : X → Y) (xs : List X) → Has (λ x. P (f x)) xs ↔ Has P (map f xs)
+has_map {X = X} P f xs = (to xs, from xs)
+  where
+    to : (ys : List X) → Has (λ x. P (f x)) ys → Has P (map f ys)
+    to [] h = absurd h
+    to (y ∷ ys) (inl h) = inl h
+    to (y ∷ ys) (inr h) = inr (to ys h)
+
+    from : (ys : List X) → Has P (map f ys) → Has (λ x. P (f x)) ys
+    from [] h = absurd h
+    from (y ∷ ys) (inl h) = inl h
+    from (y ∷ ys) (inr h) = inr (from ys h)
+
+-- ---- names
+
+covers-refl : (d : Declared) → covers d d ≡ true
+covers-refl (one t) = bytes_eq-refl t
+covers-refl every_key = refl
+
+-- whether the values of n ask
+abbrev asks : List Named → Named → Bool
+asks all n = demands_open (values n.name all)
+
+-- where a conjunction that holds a value of d asks, one of a name that d covers does
+asking : (all : List Named) (n : Named) → Contains all n → (d : Declared) → n.name ≡ d → demands_open_of d all ≡ true → (m : Named) × Contains all m × (asks all m ≡ true) × (covers d m.name ≡ true)
+asking all n c (one t) is h = (n, c, ap (λ e. demands_open (values e all)) is ∙ h, ap (covers (one t)) is ∙ bytes_eq-refl t)
+asking all n c every_key is h = let r = element_of (λ m. asks all m ≡ true) all (any_has (asks all) all h) in (r.0, r.1, r.2, refl)
+
+-- and where one of e asks, each that holds a value of a name that covers e does
+asked : (all : List Named) (n : Named) → Contains all n → (d e : Declared) → n.name ≡ e → covers d e ≡ true → demands_open (values e all) ≡ true → demands_open_of d all ≡ true
+asked all n c (one s) (one t) is covered h = ap (λ u. demands_open (values (one u) all)) ((bytes_eq-Decides s t).0 covered) ∙ h
+asked all n c (one s) every_key is covered h = absurd (false≢true covered)
+asked all n c every_key e is covered h = has_any (asks all) all (has_element (λ m. asks all m ≡ true) all n c (ap (λ f. demands_open (values f all)) is ∙ h))
 
 -- of the literals at an offset o
 module _ (o : ℕ) where
@@ -59,22 +115,36 @@ module _ (o : ℕ) where
             | inr b ↦ has_right IsAt os ps (k.1 (inr b))
           ]
 
-  -- inside a conjunction of es, which may ask too
-  inside : (demanded : Bool) (es : List Tree) (os : List ℕ) (ls : List Literal) (cs : List (List Tree)) → flat_map literals es ≡ ls → Tells (demanded || demands_open es) os ls cs → Tells demanded os ls (es ∷ cs)
-  inside demanded es os ls cs same h = (λ t. to (h.0 t), from)
+  -- where `&` joins es: the literals in its operands, where these are a conjunction that asks
+  joined_demands : (bs : Bases) (es : Trees) → ((joined_demand_open bs es ≡ true) × Has Lacks (literals_all es)) ↔ Has DemandsOf (joined bs es)
+  joined_demands bs es = by (is_refinement bs es)
     where
-      to : DemandedIn (demanded || demands_open es) ls cs → DemandedIn demanded ls (es ∷ cs)
-      to (inl l) =
-          elim (or_cases demanded (demands_open es) l.0) [
-            | inl e ↦ inl (e, l.1)
-            | inr e ↦ inr (inl (e, subst (Has Lacks) (sym same) l.1))
-          ]
-      to (inr c) = inr (inr c)
+      by : (b : Bool) → (((demands_open (operands es) && not b) ≡ true) × Has Lacks (literals_all es)) ↔ Has DemandsOf (cond b [] (operands es ∷ []))
+      by true = (λ l. absurd (false≢true (sym (and-false (demands_open (operands es))) ∙ l.0)), λ c. absurd c)
+      by false = (
+        λ l. inl (sym (and-true (demands_open (operands es))) ∙ l.0, subst (Has Lacks) (sym (operands-literals es)) l.1),
+        λ c. elim c [ inl k ↦ (and-true (demands_open (operands es)) ∙ k.0, subst (Has Lacks) (operands-literals es) k.1) | inr n ↦ absurd n ],
+      )
 
-      from : DemandedIn demanded ls (es ∷ cs) → Has IsAt os
-      from (inl l) = h.1 (inl (or_left demanded (demands_open es) l.0, l.1))
-      from (inr (inl c)) = h.1 (inl (or_right demanded (demands_open es) c.0, subst (Has Lacks) same c.1))
-      from (inr (inr c)) = h.1 (inr c)
+  -- inside them, where own says whether they ask too
+  inside : (demanded own : Bool) (os : List ℕ) (ls : List Literal) (ds cs : List (List Tree)) → ((own ≡ true) × Has Lacks ls) ↔ Has DemandsOf ds → Tells (demanded || own) os ls cs → Tells demanded os ls (ds ++ cs)
+  inside demanded own os ls ds cs same h = (λ t. to (h.0 t), from)
+    where
+      to : DemandedIn (demanded || own) ls cs → DemandedIn demanded ls (ds ++ cs)
+      to (inl l) =
+          elim (or_cases demanded own l.0) [
+            | inl e ↦ inl (e, l.1)
+            | inr e ↦ inr (has_left DemandsOf ds cs (same.0 (e, l.1)))
+          ]
+      to (inr c) = inr (has_right DemandsOf ds cs c)
+
+      from : DemandedIn demanded ls (ds ++ cs) → Has IsAt os
+      from (inl l) = h.1 (inl (or_left demanded own l.0, l.1))
+      from (inr c) =
+          elim (has_cases DemandsOf ds cs c) [
+            | inl a ↦ let k = same.1 a in h.1 (inl (or_right demanded own k.0, k.1))
+            | inr b ↦ h.1 (inr b)
+          ]
 
   told_at : (demanded opened : Bool) (p : ℕ) → Tells demanded (at_fault demanded opened p) (record { at = p; opened = opened } ∷ []) []
   told_at demanded opened p = (to demanded opened, from demanded opened)
@@ -93,54 +163,51 @@ module _ (o : ℕ) where
 
   -- ---- the values of each name
 
-  -- the values of the name of n ask, and such a literal is in the value of n
+  -- a conjunction that holds the value of n asks, and such a literal is in that value
   abbrev DemandsNamed : List Named → Named → Type 0
-  DemandsNamed all n = (demands_open (values n.name all) ≡ true) × Has Lacks (literals n.value)
+  DemandsNamed all n = (demands_open_of n.name all ≡ true) × Has Lacks (literals n.value)
 
-  abbrev OfName : List ℕ → Named → Type 0
-  OfName t n = (bytes_eq n.name t ≡ true) × Has Lacks (literals n.value)
+  abbrev IsFor : Declared → Named → Type 0
+  IsFor d n = (covers n.name d ≡ true) × Has Lacks (literals n.value)
 
-  values-to : (t : List ℕ) (ns : List Named) → Has Lacks (flat_map literals (values t ns)) → Has (OfName t) ns
-  values-to t [] h = absurd h
-  values-to t (n ∷ ns) h = by (bytes_eq n.name t) refl (values-to t ns) h
+  values-to : (d : Declared) (ns : List Named) → Has Lacks (flat_map literals (values d ns)) → Has (IsFor d) ns
+  values-to d [] h = absurd h
+  values-to d (n ∷ ns) h = by (covers n.name d) refl (values-to d ns) h
     where
-      by : (b : Bool) → bytes_eq n.name t ≡ b → (Has Lacks (flat_map literals (values t ns)) → Has (OfName t) ns)
-          → Has Lacks (flat_map literals (map (λ (m : Named). m.value) (cond b (n ∷ filter (λ (m : Named). bytes_eq m.name t) ns) (filter (λ (m : Named). bytes_eq m.name t) ns)))) → Has (OfName t) (n ∷ ns)
-      by true same rest h = or_map (has_cases Lacks (literals n.value) (flat_map literals (values t ns)) h) (λ l. (same, l)) rest
+      by : (b : Bool) → covers n.name d ≡ b → (Has Lacks (flat_map literals (values d ns)) → Has (IsFor d) ns)
+          → Has Lacks (flat_map literals (map (λ (m : Named). m.value) (cond b (n ∷ filter (λ (m : Named). covers m.name d) ns) (filter (λ (m : Named). covers m.name d) ns)))) → Has (IsFor d) (n ∷ ns)
+      by true same rest h = or_map (has_cases Lacks (literals n.value) (flat_map literals (values d ns)) h) (λ l. (same, l)) rest
       by false other rest h = inr (rest h)
 
-  values-from : (t : List ℕ) (ns : List Named) → Has (OfName t) ns → Has Lacks (flat_map literals (values t ns))
-  values-from t [] h = absurd h
-  values-from t (n ∷ ns) (inl h) = by (bytes_eq n.name t) h.0
+  values-from : (d : Declared) (ns : List Named) → Has (IsFor d) ns → Has Lacks (flat_map literals (values d ns))
+  values-from d [] h = absurd h
+  values-from d (n ∷ ns) (inl h) = by (covers n.name d) h.0
     where
-      by : (b : Bool) → b ≡ true → Has Lacks (flat_map literals (map (λ (m : Named). m.value) (cond b (n ∷ filter (λ (m : Named). bytes_eq m.name t) ns) (filter (λ (m : Named). bytes_eq m.name t) ns))))
-      by true e = has_left Lacks (literals n.value) (flat_map literals (values t ns)) h.1
+      by : (b : Bool) → b ≡ true → Has Lacks (flat_map literals (map (λ (m : Named). m.value) (cond b (n ∷ filter (λ (m : Named). covers m.name d) ns) (filter (λ (m : Named). covers m.name d) ns))))
+      by true e = has_left Lacks (literals n.value) (flat_map literals (values d ns)) h.1
       by false e = absurd (false≢true e)
-  values-from t (n ∷ ns) (inr h) = by (bytes_eq n.name t) (values-from t ns h)
+  values-from d (n ∷ ns) (inr h) = by (covers n.name d) (values-from d ns h)
     where
-      by : (b : Bool) → Has Lacks (flat_map literals (values t ns)) → Has Lacks (flat_map literals (map (λ (m : Named). m.value) (cond b (n ∷ filter (λ (m : Named). bytes_eq m.name t) ns) (filter (λ (m : Named). bytes_eq m.name t) ns))))
-      by true rest = has_right Lacks (literals n.value) (flat_map literals (values t ns)) rest
+      by : (b : Bool) → Has Lacks (flat_map literals (values d ns)) → Has Lacks (flat_map literals (map (λ (m : Named). m.value) (cond b (n ∷ filter (λ (m : Named). covers m.name d) ns) (filter (λ (m : Named). covers m.name d) ns))))
+      by true rest = has_right Lacks (literals n.value) (flat_map literals (values d ns)) rest
       by false rest = rest
 
-  -- a value of a name that asks, found at that value itself
-  each-from : (all ns : List Named) → ((n : Named) → Has Lacks (literals n.value) → Has (OfName n.name) ns → Has (OfName n.name) all) → Has (DemandsNamed all) ns → Has DemandsOf (map (λ (n : Named). values n.name all) ns)
-  each-from all [] inner h = absurd h
-  each-from all (n ∷ ns) inner (inl h) = inl (h.0, values-from n.name all (inner n h.1 (inl (bytes_eq-refl n.name, h.1))))
-  each-from all (n ∷ ns) inner (inr h) = inr (each-from all ns (λ m l k. inner m l (inr k)) h)
+  -- a value that is asked, in the conjunction that asks
+  name-to : (all : List Named) → Has (DemandsNamed all) all → Has DemandsOf (values_of_each all)
+  name-to all h =
+      let n = element_of (DemandsNamed all) all h in
+      let m = asking all n.0 n.1 n.0.name refl n.2.0 in
+      let lacks = values-from m.0.name all (has_element (IsFor m.0.name) all n.0 n.1 (m.3, n.2.1)) in
+      (has_map DemandsOf (λ (k : Named). values k.name all) all).0 (has_element (λ (k : Named). DemandsOf (values k.name all)) all m.0 m.1 (m.2, lacks))
 
-  -- of one name
-  same_name : (all : List Named) (t : List ℕ) → demands_open (values t all) ≡ true → (ns : List Named) → Has (OfName t) ns → Has (DemandsNamed all) ns
-  same_name all t a [] h = absurd h
-  same_name all t a (n ∷ ns) (inl h) = inl (ap (λ s. demands_open (values s all)) ((bytes_eq-Decides n.name t).0 h.0) ∙ a, h.1)
-  same_name all t a (n ∷ ns) (inr h) = inr (same_name all t a ns h)
-
-  each-to : (all ns : List Named) → Has DemandsOf (map (λ (n : Named). values n.name all) ns) → Has (DemandsNamed all) all
-  each-to all [] h = absurd h
-  each-to all (n ∷ ns) (inl h) = same_name all n.name h.0 all (values-to n.name all h.1)
-  each-to all (n ∷ ns) (inr h) = each-to all ns h
+  name-from : (all : List Named) → Has DemandsOf (values_of_each all) → Has (DemandsNamed all) all
+  name-from all h =
+      let n = element_of (λ (k : Named). DemandsOf (values k.name all)) all ((has_map DemandsOf (λ (k : Named). values k.name all) all).1 h) in
+      let m = element_of (IsFor n.0.name) all (values-to n.0.name all n.2.1) in
+      has_element (DemandsNamed all) all m.0 m.1 (asked all n.0 n.1 m.0.name n.0.name refl m.2.0 n.2.0, m.2.1)
 
   by_name : (all : List Named) → Has (DemandsNamed all) all ↔ Has DemandsOf (values_of_each all)
-  by_name all = (each-from all all (λ n l k. k), each-to all all)
+  by_name all = (name-to all, name-from all)
 
   -- ---- parts under names
 
@@ -204,32 +271,34 @@ module _ (o : ℕ) where
   -- ---- expressions
 
   mutual
-    pub told : (demanded : Bool) (t : Tree) → Tells demanded (unopened demanded t) (literals t) (conjunctions t)
-    told demanded (conjunction es) = inside demanded (operands es) (unopened_all (demanded || demands_open (operands es)) es) (literals_all es) (conjunctions_all es) (operands-literals es) (told_all (demanded || demands_open (operands es)) es)
-    told demanded (disjunction es) = told_all demanded es
-    told demanded (paren e) = told demanded e
-    told demanded (struct p fs opened) =
+    pub told : (bs : Bases) (demanded : Bool) (t : Tree) → Tells demanded (unopened bs demanded t) (literals t) (conjunctions bs t)
+    told bs demanded (conjunction es) =
+        let own = joined_demand_open bs es in
+        inside demanded own (unopened_all bs (demanded || own) es) (literals_all es) (joined bs es) (conjunctions_all bs es) (joined_demands bs es) (told_all bs (demanded || own) es)
+    told bs demanded (disjunction es) = told_all bs demanded es
+    told bs demanded (paren e) = told bs demanded e
+    told bs demanded (struct p fs opened) =
         let ns = named_fields fs in
-        two_parts demanded (at_fault demanded opened p) (unopened_fields demanded ns fs) (record { at = p; opened = opened } ∷ []) (literals_fields fs) [] (values_of_each ns ++ conjunctions_fields fs)
+        two_parts demanded (at_fault demanded opened p) (unopened_fields bs demanded ns fs) (record { at = p; opened = opened } ∷ []) (literals_fields fs) [] (values_of_each ns ++ conjunctions_fields bs fs)
         (told_at demanded opened p)
-        (with_values demanded ns (unopened_fields demanded ns fs) (literals_fields fs) (conjunctions_fields fs) (told_in demanded ns fs))
-    told demanded (list es end) = two_parts demanded (unopened_all demanded es) (unopened_end demanded end) (literals_all es) (literals_end end) (conjunctions_all es) (conjunctions_end end) (told_all demanded es) (told_end demanded end)
-    told demanded _ = no_part demanded
+        (with_values demanded ns (unopened_fields bs demanded ns fs) (literals_fields fs) (conjunctions_fields bs fs) (told_in bs demanded ns fs))
+    told bs demanded (list es end) = two_parts demanded (unopened_all bs demanded es) (unopened_end bs demanded end) (literals_all es) (literals_end end) (conjunctions_all bs es) (conjunctions_end bs end) (told_all bs demanded es) (told_end bs demanded end)
+    told bs demanded _ = no_part demanded
 
-    told_all : (demanded : Bool) (es : Trees) → Tells demanded (unopened_all demanded es) (literals_all es) (conjunctions_all es)
-    told_all demanded none = no_part demanded
-    told_all demanded (more e es) = two_parts demanded (unopened demanded e) (unopened_all demanded es) (literals e) (literals_all es) (conjunctions e) (conjunctions_all es) (told demanded e) (told_all demanded es)
+    told_all : (bs : Bases) (demanded : Bool) (es : Trees) → Tells demanded (unopened_all bs demanded es) (literals_all es) (conjunctions_all bs es)
+    told_all bs demanded none = no_part demanded
+    told_all bs demanded (more e es) = two_parts demanded (unopened bs demanded e) (unopened_all bs demanded es) (literals e) (literals_all es) (conjunctions bs e) (conjunctions_all bs es) (told bs demanded e) (told_all bs demanded es)
 
-    told_in : (demanded : Bool) (all : List Named) (fs : Fields) → TellsNamed demanded all (unopened_fields demanded all fs) (literals_fields fs) (conjunctions_fields fs) (named_fields fs)
-    told_in demanded all no_field = no_name demanded all
-    told_in demanded all (field l m e fs) =
-        let own = demands_open (values l.text all) in
-        named_part demanded own (Has (DemandsNamed all) (named_fields fs)) (unopened (demanded || own) e) (unopened_fields demanded all fs) (literals e) (literals_fields fs) (conjunctions e) (conjunctions_fields fs) (told (demanded || own) e) (told_in demanded all fs)
+    told_in : (bs : Bases) (demanded : Bool) (all : List Named) (fs : Fields) → TellsNamed demanded all (unopened_fields bs demanded all fs) (literals_fields fs) (conjunctions_fields bs fs) (named_fields fs)
+    told_in bs demanded all no_field = no_name demanded all
+    told_in bs demanded all (field l m e fs) =
+        let own = demands_open_of (declared_for l m) all in
+        named_part demanded own (Has (DemandsNamed all) (named_fields fs)) (unopened bs (demanded || own) e) (unopened_fields bs demanded all fs) (literals e) (literals_fields fs) (conjunctions bs e) (conjunctions_fields bs fs) (told bs (demanded || own) e) (told_in bs demanded all fs)
 
-    told_end : (demanded : Bool) (end : End) → Tells demanded (unopened_end demanded end) (literals_end end) (conjunctions_end end)
-    told_end demanded closed = no_part demanded
-    told_end demanded any = no_part demanded
-    told_end demanded (each e) = told demanded e
+    told_end : (bs : Bases) (demanded : Bool) (end : End) → Tells demanded (unopened_end bs demanded end) (literals_end end) (conjunctions_end bs end)
+    told_end bs demanded closed = no_part demanded
+    told_end bs demanded any = no_part demanded
+    told_end bs demanded (each e) = told bs demanded e
 
   -- ---- definitions
 
@@ -237,35 +306,35 @@ module _ (o : ℕ) where
   abbrev inner_literals : List DefinitionTree → List Literal
   inner_literals ds = flat_map (λ d. literals (body d)) ds
 
-  abbrev inner : List DefinitionTree → List (List Tree)
-  inner ds = flat_map (λ d. conjunctions (body d)) ds
+  abbrev inner : Bases → List DefinitionTree → List (List Tree)
+  inner bs ds = flat_map (λ d. conjunctions bs (body d)) ds
 
-  told_definitions : (all : List Named) (ds : List DefinitionTree) → TellsNamed false all (unopened_definitions all ds) (inner_literals ds) (inner ds) (named_bodies ds)
-  told_definitions all [] = no_name false all
-  told_definitions all (d ∷ ds) =
-      let own = demands_open (values (defined_name d) all) in
-      named_part false own (Has (DemandsNamed all) (named_bodies ds)) (unopened own (body d)) (unopened_definitions all ds) (literals (body d)) (inner_literals ds) (conjunctions (body d)) (inner ds) (told own (body d)) (told_definitions all ds)
+  told_definitions : (bs : Bases) (all : List Named) (ds : List DefinitionTree) → TellsNamed false all (unopened_definitions bs all ds) (inner_literals ds) (inner bs ds) (named_bodies ds)
+  told_definitions bs all [] = no_name false all
+  told_definitions bs all (d ∷ ds) =
+      let own = demands_open (values (one (defined_name d)) all) in
+      named_part false own (Has (DemandsNamed all) (named_bodies ds)) (unopened bs own (body d)) (unopened_definitions bs all ds) (literals (body d)) (inner_literals ds) (conjunctions bs (body d)) (inner bs ds) (told bs own (body d)) (told_definitions bs all ds)
 
   -- o is told of all definitions just where one of their conjunctions asks for such a literal
-  pub told_of_all : (ds : List DefinitionTree) → Has IsAt (unopened_definitions (named_bodies ds) ds) ↔ Has DemandsOf (all_conjunctions ds)
+  pub told_of_all : (ds : List DefinitionTree) → Has IsAt (unopened_definitions (bases ds) (named_bodies ds) ds) ↔ Has DemandsOf (all_conjunctions ds)
   told_of_all ds = (λ t. elim (both.0 t) [ inl l ↦ absurd (false≢true l.0) | inr c ↦ c ], λ c. both.1 (inr c))
     where
-      both : Tells false (unopened_definitions (named_bodies ds) ds) (inner_literals ds) (all_conjunctions ds)
-      both = with_values false (named_bodies ds) (unopened_definitions (named_bodies ds) ds) (inner_literals ds) (inner ds) (told_definitions (named_bodies ds) ds)
+      both : Tells false (unopened_definitions (bases ds) (named_bodies ds) ds) (inner_literals ds) (all_conjunctions ds)
+      both = with_values false (named_bodies ds) (unopened_definitions (bases ds) (named_bodies ds) ds) (inner_literals ds) (inner (bases ds) ds) (told_definitions (bases ds) (named_bodies ds) ds)
 
   -- the definition d asks for such a literal of its body, where all are the bodies of the package
-  abbrev pub DemandedOf : List Named → DefinitionTree → Type 0
-  DemandedOf all d = DemandedIn (demands_open (values (defined_name d) all)) (literals (body d)) (conjunctions (body d))
+  abbrev pub DemandedOf : Bases → List Named → DefinitionTree → Type 0
+  DemandedOf bs all d = DemandedIn (demands_open (values (one (defined_name d)) all)) (literals (body d)) (conjunctions bs (body d))
 
   -- o is told of some definitions just where one of them asks for such a literal
-  pub told_of_some : (all : List Named) (ds : List DefinitionTree) → Has IsAt (unopened_definitions all ds) ↔ Has (DemandedOf all) ds
-  told_of_some all ds = (to ds, from ds)
+  pub told_of_some : (bs : Bases) (all : List Named) (ds : List DefinitionTree) → Has IsAt (unopened_definitions bs all ds) ↔ Has (DemandedOf bs all) ds
+  told_of_some bs all ds = (to ds, from ds)
     where
-      to : (ds : List DefinitionTree) → Has IsAt (unopened_definitions all ds) → Has (DemandedOf all) ds
+      to : (ds : List DefinitionTree) → Has IsAt (unopened_definitions bs all ds) → Has (DemandedOf bs all) ds
       to [] t = absurd t
-      to (d ∷ ds) t = or_map (has_cases IsAt (unopened (demands_open (values (defined_name d) all)) (body d)) (unopened_definitions all ds) t) (told (demands_open (values (defined_name d) all)) (body d)).0 (to ds)
+      to (d ∷ ds) t = or_map (has_cases IsAt (unopened bs (demands_open (values (one (defined_name d)) all)) (body d)) (unopened_definitions bs all ds) t) (told bs (demands_open (values (one (defined_name d)) all)) (body d)).0 (to ds)
 
-      from : (ds : List DefinitionTree) → Has (DemandedOf all) ds → Has IsAt (unopened_definitions all ds)
+      from : (ds : List DefinitionTree) → Has (DemandedOf bs all) ds → Has IsAt (unopened_definitions bs all ds)
       from [] a = absurd a
-      from (d ∷ ds) (inl a) = has_left IsAt (unopened (demands_open (values (defined_name d) all)) (body d)) (unopened_definitions all ds) ((told (demands_open (values (defined_name d) all)) (body d)).1 a)
-      from (d ∷ ds) (inr a) = has_right IsAt (unopened (demands_open (values (defined_name d) all)) (body d)) (unopened_definitions all ds) (from ds a)
+      from (d ∷ ds) (inl a) = has_left IsAt (unopened bs (demands_open (values (one (defined_name d)) all)) (body d)) (unopened_definitions bs all ds) ((told bs (demands_open (values (one (defined_name d)) all)) (body d)).1 a)
+      from (d ∷ ds) (inr a) = has_right IsAt (unopened bs (demands_open (values (one (defined_name d)) all)) (body d)) (unopened_definitions bs all ds) (from ds a)

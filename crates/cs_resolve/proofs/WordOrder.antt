@@ -5,7 +5,6 @@ use Rattle.cs_grammar.specs.Spelling.{sort_of}
 use Rattle.cs_grammar.specs.View.{kind_of, word, words}
 use Rattle.cs_grammar.specs.Words as W
 use Rattle.cs_grammar.specs.Words.{Word, Words, start}
-use Rattle.cs_grammar.specs.declared.kind.Kind.TheVariants as kinds
 use Rattle.cs_grammar.specs.declared.line.LineState.{LineState}
 use Rattle.cs_grammar.specs.declared.line.LineState.TheVariants.{Plain, WantsComma, Minus}
 use Rattle.cs_grammar.specs.declared.token.Sort.{Sort}

@@ -1,12 +1,14 @@
 -- What the checks of a package answer.
-use Rattle.std.specs.Prelude.{◌≡◌, ℕ, ◌<◌, Bool, ◌⊎◌, List, [], Some, Result, Ok, Err, MatchOption, count_by, nat_lt, slice_get}
+use Rattle.std.specs.Prelude.{◌≡◌, ℕ, ◌<◌, Bool, true, false, not, ◌⊎◌, List, [], Option, Some, Result, Ok, Err, MatchOption, filter, count_by, nat_lt, slice_get}
 use Rattle.std.specs.Borrow.{Bor}
 use Rattle.std.specs.HashMap.{HashMap, get_by}
 use Rattle.std.specs.Option.{option_map}
 use Rattle.std.specs.Str.{bytes_eq}
+use Rattle.cs_grammar.specs.View.{field_view}
+use Rattle.cs_grammar.specs.declared.ast.Field.{Field}
 use Rattle.cs_resolve.specs.declared.fault.ResolveFault.{ResolveFault}
 use Rattle.cs_resolve.specs.declared.fault.ResolveFault.TheVariants.{OutOfMemory}
-use Rattle.cs_resolve.specs.Opening.{Named, values, has_literal_or_reference}
+use Rattle.cs_resolve.specs.Opening.{Declared, one, every_key, Named, declared_for, values, has_literal_or_reference}
 
 -- the refusal is for want of memory, or is the first of these faults, as f says it
 abbrev pub Refuses : {X : Type 0} → ResolveFault → (X → ResolveFault) → List X → Type 0
@@ -17,8 +19,33 @@ abbrev pub Checks : {X Y : Type 0} → Result Y ResolveFault → (X → ResolveF
 Checks (Ok y) f xs = xs ≡ []
 Checks (Err e) f xs = Refuses e f xs
 
+-- what a table has for so many values that aren't plain: nothing for none, and otherwise whether they are two or more
+abbrev pub CountsAs : Option Bool → ℕ → Type 0
+CountsAs o k = MatchOption o (k ≡ 0) (λ again. (0 < k) × (again ≡ nat_lt 1 k))
+
+-- how many of the values that are declared for a name, or for every key, aren't plain
+abbrev pub unplain : Declared → List Named → ℕ
+unplain d ns = count_by has_literal_or_reference (values d ns)
+
 -- the table has each name that has a value that isn't plain, with whether it has two or more
 abbrev pub Repeats : {S : Type 0} → HashMap (Bor (List ℕ)) Bool S → List Named → Type 0
-Repeats m ns =
-    (t : List ℕ) → MatchOption (get_by (λ k. bytes_eq t k.now) m) (count_by has_literal_or_reference (values t ns) ≡ 0)
-    (λ again. (0 < count_by has_literal_or_reference (values t ns)) × (again ≡ nat_lt 1 (count_by has_literal_or_reference (values t ns))))
+Repeats m ns = (t : List ℕ) → CountsAs (get_by (λ k. bytes_eq t k.now) m) (unplain (one t) ns)
+
+-- ---- the fields of a struct literal
+
+abbrev pub is_every_key : Declared → Bool
+is_every_key (one s) = false
+is_every_key every_key = true
+
+-- those that aren't declared for every key
+abbrev pub with_own_name : List Named → List Named
+with_own_name ns = filter (λ n. not (is_every_key n.name)) ns
+
+-- the value of a field under its label, or for every key
+abbrev pub named_by : Field → Named
+named_by f = record { name = declared_for (field_view f).label (field_view f).mark; value = (field_view f).value }
+
+-- the table of the labels, and what it has for every key
+pub record TellsLabels {S : Type 0} (names : HashMap (Bor (List ℕ)) Bool S) (every : Option Bool) (ns : List Named) : Type 0 where
+  pub own : Repeats names (with_own_name ns)
+  pub shared : CountsAs every (unplain every_key ns)

@@ -6,6 +6,8 @@ pub use Rattle.cs_package.specs.View
 pub mod Predeclared
 pub mod Scopes
 pub mod Declarations
+pub mod Plain
+pub mod Refinement
 pub mod Opening
 pub mod Size
 pub mod PackageName
@@ -16,3 +18,4 @@ pub use Rattle.cs_package.specs.Code
 pub mod Steps
 pub mod Around
 pub mod Checks
+pub mod Narrowed

@@ -1,32 +1,16 @@
 -- The opening rule (own rule). An operand is plain where it holds no struct literal and no reference. Where two or
--- more operands of a conjunction aren't plain, each struct literal in its operands, at any depth, ends with `...`.
-use Rattle.std.specs.Prelude.{◌≡◌, ℕ, suc, ◌≤◌, Bool, true, false, ◌||◌, ◌⊎◌, List, [], ◌∷◌, ◌++◌, map, filter, count_by, nat_lt, Some, slice_get, Any, Contains}
-use Rattle.std.specs.List.{AllByRecursion, flat_map}
+-- more operands of a conjunction aren't plain, each struct literal in its operands, at any depth, ends with `...`. The
+-- `&` of a plain refinement asks nothing.
+use Rattle.std.specs.Prelude.{◌≡◌, ℕ, suc, ◌≤◌, Bool, true, false, ◌&&◌, ◌||◌, not, if◌then◌else◌, ◌⊎◌, List, [], ◌∷◌, ◌++◌, map, filter, count_by, nat_lt, Some, slice_get, Any, Contains}
+use Rattle.std.specs.List.{AllByRecursion, flat_map, list_any}
 use Rattle.std.specs.Str.{bytes_eq}
-use Rattle.cs_grammar.specs.Tree.{Tree, atom, named, reference, conjunction, disjunction, paren, struct, list, Trees, none, more, Fields, no_field, field, End, closed, any, each, DefinitionTree, defined_name, body, FileTree, definitions}
+use Rattle.cs_grammar.specs.declared.ast.FieldMark.{FieldMark}
+use Rattle.cs_grammar.specs.declared.ast.FieldMark.TheVariants.{Regular, Optional, Required, Every}
+pub use Rattle.cs_resolve.specs.Plain.{has_literal_or_reference, has_literal_or_reference_some, has_literal_or_reference_end}
+use Rattle.cs_resolve.specs.Refinement.{Bases, bases, is_refinement}
+use Rattle.cs_grammar.specs.Tree.{Label, Tree, atom, named, reference, conjunction, disjunction, paren, struct, list, Trees, none, more, Fields, no_field, field, End, closed, any, each, DefinitionTree, defined_name, body, FileTree, definitions}
 
 -- ---- operands, literals and conjunctions
-
--- whether it holds a struct literal or a reference, so that it isn't plain
-abbrev mutual
-  pub has_literal_or_reference : Tree → Bool
-  has_literal_or_reference (atom a) = false
-  has_literal_or_reference (named n o) = false
-  has_literal_or_reference (reference n o) = true
-  has_literal_or_reference (conjunction es) = has_literal_or_reference_some es
-  has_literal_or_reference (disjunction es) = has_literal_or_reference_some es
-  has_literal_or_reference (paren e) = has_literal_or_reference e
-  has_literal_or_reference (struct o fs opened) = true
-  has_literal_or_reference (list es end) = has_literal_or_reference_some es || has_literal_or_reference_end end
-
-  pub has_literal_or_reference_some : Trees → Bool
-  has_literal_or_reference_some none = false
-  has_literal_or_reference_some (more e es) = has_literal_or_reference e || has_literal_or_reference_some es
-
-  pub has_literal_or_reference_end : End → Bool
-  has_literal_or_reference_end closed = false
-  has_literal_or_reference_end any = false
-  has_literal_or_reference_end (each e) = has_literal_or_reference e
 
 -- a struct literal: where it stands, and whether it ends with `...`
 pub record Literal : Type 0 where
@@ -62,56 +46,77 @@ abbrev pub operands : Trees → List Tree
 operands none = []
 operands (more e es) = e ∷ operands es
 
+-- what a value is declared for: one name, or every key
+pub data Declared : Type 0 where
+  one : List ℕ → Declared
+  every_key : Declared
+
 -- a value under a name: a field's under its label, or a body under the name of its definition
 pub record Named : Type 0 where
-  pub name : List ℕ
+  pub name : Declared
   pub value : Tree
 
 -- an identifier label and a quoted one with the same text are one
+abbrev pub declared_for : Label → FieldMark → Declared
+declared_for l Regular = one l.text
+declared_for l Optional = one l.text
+declared_for l Required = one l.text
+declared_for l (Every o) = every_key
+
 abbrev pub named_fields : Fields → List Named
 named_fields no_field = []
-named_fields (field l m e fs) = record { name = l.text; value = e } ∷ named_fields fs
+named_fields (field l m e fs) = record { name = declared_for l m; value = e } ∷ named_fields fs
 
 abbrev pub named_bodies : List DefinitionTree → List Named
-named_bodies ds = map (λ d. record { name = defined_name d; value = body d }) ds
+named_bodies ds = map (λ d. record { name = one (defined_name d); value = body d }) ds
 
--- the values of a name, in order
-abbrev pub values : List ℕ → List Named → List Tree
-values t ns = map (λ n. n.value) (filter (λ n. bytes_eq n.name t) ns)
+-- what is declared for every key is declared for each name too
+abbrev pub covers : Declared → Declared → Bool
+covers every_key d = true
+covers (one s) (one t) = bytes_eq s t
+covers (one s) every_key = false
+
+-- the values that are declared for a name, or for every key, in order
+abbrev pub values : Declared → List Named → List Tree
+values d ns = map (λ n. n.value) (filter (λ n. covers n.name d) ns)
 
 -- the values of each name
 abbrev pub values_of_each : List Named → List (List Tree)
 values_of_each ns = map (λ n. values n.name ns) ns
 
+-- the conjunction of operands that `&` joins: a plain refinement is none
+abbrev pub joined : Bases → Trees → List (List Tree)
+joined bs es = if is_refinement bs es then [] else operands es ∷ []
+
 -- the conjunctions in an expression, at any depth, each by its operands: those that `&` joins, where a parenthesis is
--- one operand, and the values of each label of one literal
+-- one operand, and the values of each label of one literal, those of `[string]` among them
 abbrev mutual
-  pub conjunctions : Tree → List (List Tree)
-  conjunctions (atom a) = []
-  conjunctions (named n o) = []
-  conjunctions (reference n o) = []
-  conjunctions (conjunction es) = operands es ∷ conjunctions_all es
-  conjunctions (disjunction es) = conjunctions_all es
-  conjunctions (paren e) = conjunctions e
-  conjunctions (struct o fs opened) = values_of_each (named_fields fs) ++ conjunctions_fields fs
-  conjunctions (list es end) = conjunctions_all es ++ conjunctions_end end
+  pub conjunctions : Bases → Tree → List (List Tree)
+  conjunctions bs (atom a) = []
+  conjunctions bs (named n o) = []
+  conjunctions bs (reference n o) = []
+  conjunctions bs (conjunction es) = joined bs es ++ conjunctions_all bs es
+  conjunctions bs (disjunction es) = conjunctions_all bs es
+  conjunctions bs (paren e) = conjunctions bs e
+  conjunctions bs (struct o fs opened) = values_of_each (named_fields fs) ++ conjunctions_fields bs fs
+  conjunctions bs (list es end) = conjunctions_all bs es ++ conjunctions_end bs end
 
-  pub conjunctions_all : Trees → List (List Tree)
-  conjunctions_all none = []
-  conjunctions_all (more e es) = conjunctions e ++ conjunctions_all es
+  pub conjunctions_all : Bases → Trees → List (List Tree)
+  conjunctions_all bs none = []
+  conjunctions_all bs (more e es) = conjunctions bs e ++ conjunctions_all bs es
 
-  pub conjunctions_fields : Fields → List (List Tree)
-  conjunctions_fields no_field = []
-  conjunctions_fields (field l m e fs) = conjunctions e ++ conjunctions_fields fs
+  pub conjunctions_fields : Bases → Fields → List (List Tree)
+  conjunctions_fields bs no_field = []
+  conjunctions_fields bs (field l m e fs) = conjunctions bs e ++ conjunctions_fields bs fs
 
-  pub conjunctions_end : End → List (List Tree)
-  conjunctions_end closed = []
-  conjunctions_end any = []
-  conjunctions_end (each e) = conjunctions e
+  pub conjunctions_end : Bases → End → List (List Tree)
+  conjunctions_end bs closed = []
+  conjunctions_end bs any = []
+  conjunctions_end bs (each e) = conjunctions bs e
 
 -- the conjunctions of definitions: the bodies of each, and those inside each body
 abbrev pub all_conjunctions : List DefinitionTree → List (List Tree)
-all_conjunctions ds = values_of_each (named_bodies ds) ++ flat_map (λ d. conjunctions (body d)) ds
+all_conjunctions ds = values_of_each (named_bodies ds) ++ flat_map (λ d. conjunctions (bases ds) (body d)) ds
 
 -- ---- the rule
 
@@ -133,45 +138,54 @@ at_fault true false o = o ∷ []
 at_fault true true o = []
 at_fault false opened o = []
 
+-- whether a conjunction that holds a value of this name asks its literals; a value of every key is in that of each name
+abbrev pub demands_open_of : Declared → List Named → Bool
+demands_open_of (one t) ns = demands_open (values (one t) ns)
+demands_open_of every_key ns = list_any (λ n. demands_open (values n.name ns)) ns
+
+-- whether operands that `&` joins ask their literals
+abbrev pub joined_demand_open : Bases → Trees → Bool
+joined_demand_open bs es = demands_open (operands es) && not (is_refinement bs es)
+
 -- the literals that don't end with `...` though a conjunction around them asks it; `demanded` says whether one around the
 -- expression does
 abbrev mutual
-  pub unopened : Bool → Tree → List ℕ
-  unopened demanded (atom a) = []
-  unopened demanded (named n o) = []
-  unopened demanded (reference n o) = []
-  unopened demanded (conjunction es) = unopened_all (demanded || demands_open (operands es)) es
-  unopened demanded (disjunction es) = unopened_all demanded es
-  unopened demanded (paren e) = unopened demanded e
-  unopened demanded (struct o fs opened) = at_fault demanded opened o ++ unopened_fields demanded (named_fields fs) fs
-  unopened demanded (list es end) = unopened_all demanded es ++ unopened_end demanded end
+  pub unopened : Bases → Bool → Tree → List ℕ
+  unopened bs demanded (atom a) = []
+  unopened bs demanded (named n o) = []
+  unopened bs demanded (reference n o) = []
+  unopened bs demanded (conjunction es) = unopened_all bs (demanded || joined_demand_open bs es) es
+  unopened bs demanded (disjunction es) = unopened_all bs demanded es
+  unopened bs demanded (paren e) = unopened bs demanded e
+  unopened bs demanded (struct o fs opened) = at_fault demanded opened o ++ unopened_fields bs demanded (named_fields fs) fs
+  unopened bs demanded (list es end) = unopened_all bs demanded es ++ unopened_end bs demanded end
 
-  pub unopened_all : Bool → Trees → List ℕ
-  unopened_all demanded none = []
-  unopened_all demanded (more e es) = unopened demanded e ++ unopened_all demanded es
+  pub unopened_all : Bases → Bool → Trees → List ℕ
+  unopened_all bs demanded none = []
+  unopened_all bs demanded (more e es) = unopened bs demanded e ++ unopened_all bs demanded es
 
   -- all are the values of the literal, under their labels
-  pub unopened_fields : Bool → List Named → Fields → List ℕ
-  unopened_fields demanded all no_field = []
-  unopened_fields demanded all (field l m e fs) = unopened (demanded || demands_open (values l.text all)) e ++ unopened_fields demanded all fs
+  pub unopened_fields : Bases → Bool → List Named → Fields → List ℕ
+  unopened_fields bs demanded all no_field = []
+  unopened_fields bs demanded all (field l m e fs) = unopened bs (demanded || demands_open_of (declared_for l m) all) e ++ unopened_fields bs demanded all fs
 
-  pub unopened_end : Bool → End → List ℕ
-  unopened_end demanded closed = []
-  unopened_end demanded any = []
-  unopened_end demanded (each e) = unopened demanded e
+  pub unopened_end : Bases → Bool → End → List ℕ
+  unopened_end bs demanded closed = []
+  unopened_end bs demanded any = []
+  unopened_end bs demanded (each e) = unopened bs demanded e
 
 -- of some definitions, where all are the bodies of the package, under their names
-abbrev pub unopened_definitions : List Named → List DefinitionTree → List ℕ
-unopened_definitions all ds = flat_map (λ d. unopened (demands_open (values (defined_name d) all)) (body d)) ds
+abbrev pub unopened_definitions : Bases → List Named → List DefinitionTree → List ℕ
+unopened_definitions bs all ds = flat_map (λ d. unopened bs (demands_open (values (one (defined_name d)) all)) (body d)) ds
 
 -- of files from a number on, each literal with the number of its file
-abbrev pub unopened_from : ℕ → List Named → List FileTree → List (ℕ × ℕ)
-unopened_from i all [] = []
-unopened_from i all (f ∷ fs) = map (λ o. (i, o)) (unopened_definitions all (definitions f)) ++ unopened_from (suc i) all fs
+abbrev pub unopened_from : Bases → ℕ → List Named → List FileTree → List (ℕ × ℕ)
+unopened_from bs i all [] = []
+unopened_from bs i all (f ∷ fs) = map (λ o. (i, o)) (unopened_definitions bs all (definitions f)) ++ unopened_from bs (suc i) all fs
 
 -- by file, and then in order of the text
 abbrev pub unopened_files : List FileTree → List (ℕ × ℕ)
-unopened_files fs = unopened_from 0 (named_bodies (flat_map definitions fs)) fs
+unopened_files fs = unopened_from (bases (flat_map definitions fs)) 0 (named_bodies (flat_map definitions fs)) fs
 
 -- ---- the same literals, by the conjunctions that hold them
 
@@ -179,8 +193,8 @@ unopened_files fs = unopened_from 0 (named_bodies (flat_map definitions fs)) fs
 -- definitions, or one inside the body
 abbrev pub IsDemanded : List DefinitionTree → DefinitionTree → Literal → Type 0
 IsDemanded ds d l =
-    ((demands_open (values (defined_name d) (named_bodies ds)) ≡ true) × Contains (literals (body d)) l)
-    ⊎ Any (λ es. (demands_open es ≡ true) × Contains (flat_map literals es) l) (conjunctions (body d))
+    ((demands_open (values (one (defined_name d)) (named_bodies ds)) ≡ true) × Contains (literals (body d)) l)
+    ⊎ Any (λ es. (demands_open es ≡ true) × Contains (flat_map literals es) l) (conjunctions (bases ds) (body d))
 
 -- at offset o of the file at number i stands a literal that is asked to end with `...` and doesn't
 pub record IsUnopenedAt (fs : List FileTree) (i o : ℕ) : Type 0 where

@@ -1,8 +1,10 @@
 -- What a name names (CUE language specification, "Declarations and scopes"): it is looked for from its place outward,
 -- through the struct literals around it, and then among the predeclared names.
-use Rattle.std.specs.Prelude.{ℕ, Bool, true, false, ◌&&◌, not, List, [], ◌∷◌, ◌++◌, Option, Some, None, is_some, if◌then◌else◌}
+use Rattle.std.specs.Prelude.{ℕ, Bool, true, false, ◌&&◌, not, List, [], ◌∷◌, ◌++◌, Option, Some, None, is_some, if◌then◌else◌, codes}
 use Rattle.std.specs.List.{list_any, flat_map}
 use Rattle.std.specs.Str.{bytes_eq}
+use Rattle.cs_grammar.specs.declared.ast.FieldMark.{FieldMark}
+use Rattle.cs_grammar.specs.declared.ast.FieldMark.TheVariants.{Regular, Optional, Required, Every}
 use Rattle.cs_grammar.specs.Tree.{Label, Tree, atom, named, reference, conjunction, disjunction, paren, struct, list, Trees, none, more, Fields, no_field, field, End, closed, any, each}
 use Rattle.cs_resolve.specs.Predeclared.{predeclared}
 
@@ -31,7 +33,14 @@ pub data Place : Type 0 where
   a_name : List (List Label) → List ℕ → ℕ → Place
   a_reference : List ℕ → ℕ → Place
 
--- the places of an expression, in order of the text; a field's own literal is around its value
+-- the name in the brackets of `[string]`
+abbrev pub key_places : List (List Label) → FieldMark → List Place
+key_places around Regular = []
+key_places around Optional = []
+key_places around Required = []
+key_places around (Every o) = a_name around (codes "string") o ∷ []
+
+-- the places of an expression, in order of the text; a field's own literal is around its value and its `[string]`
 abbrev mutual
   pub places : List (List Label) → Tree → List Place
   places around (atom a) = []
@@ -49,7 +58,7 @@ abbrev mutual
 
   pub places_fields : List (List Label) → Fields → List Place
   places_fields around no_field = []
-  places_fields around (field l m e fs) = places around e ++ places_fields around fs
+  places_fields around (field l m e fs) = key_places around m ++ places around e ++ places_fields around fs
 
   pub places_end : List (List Label) → End → List Place
   places_end around closed = []

@@ -3,9 +3,12 @@
 
 mod fault;
 mod kinds;
+mod narrowing;
 mod offsets;
 mod opening;
 mod package_name;
+mod plain;
+mod refinement;
 mod resolving;
 mod shapes;
 mod size;
@@ -14,4 +17,5 @@ pub use cs_package::{FieldMark, Kind, Package, Part, Relation, Shape, ShapeEnd};
 pub use fault::ResolveFault;
 pub use offsets::offsets_law;
 pub use opening::opening_law;
+pub use refinement::refinement_law;
 pub use resolving::resolve;

@@ -1,58 +1,32 @@
 // The opening rule: a conjunction of two or more operands that hold a struct literal or a reference asks each struct
-// literal in its operands to end with `...`.
+// literal in its operands to end with `...`. The `&` of a plain refinement asks nothing.
 
-ghost use Rattle.std.specs.Prelude.{◌≡◌, ◌++◌, [], ◌∷◌, List, ℕ, map, IfOk, OnOk, ◌||◌, ◌↔◌, Contains};
-ghost use Rattle.cs_grammar.specs.View.{expr_view, exprs_view, end_view, fields_view, definition_view, file_view};
+ghost use Rattle.std.specs.Prelude.{◌≡◌, ◌+◌, ◌++◌, [], ◌∷◌, List, ℕ, map, nat_lt, IfOk, OnOk, ◌||◌, ◌↔◌, Contains};
+ghost use Rattle.cs_grammar.specs.View.{expr_view, exprs_view, end_view, field_view, fields_view, definition_view, file_view};
 ghost use Rattle.cs_grammar.specs.Tree.{FileTree, definitions};
 ghost use Rattle.std.specs.List.{flat_map};
 ghost use Rattle.cs_resolve.specs.Opening as Opening;
-ghost use Rattle.cs_resolve.specs.Opening.{Named, values, named_fields, named_bodies, IsOpened, IsUnopenedAt, unopened, unopened_all, unopened_fields, unopened_end, unopened_definitions, unopened_files};
-ghost use Rattle.cs_resolve.specs.Checks.{Checks, Repeats};
+ghost use Rattle.cs_resolve.specs.Opening.{Declared, one, every_key, Named, values, named_fields, named_bodies, declared_for, IsOpened, IsUnopenedAt, unopened, unopened_all, unopened_fields, unopened_end, unopened_definitions, unopened_files};
+ghost use Rattle.cs_resolve.specs.Refinement as Refinement;
+ghost use Rattle.cs_resolve.specs.Narrowed.{HoldBases};
+ghost use Rattle.cs_resolve.specs.Checks.{Checks, CountsAs, Repeats, TellsLabels, is_every_key, with_own_name, named_by, unplain};
 
 use crate::ResolveFault;
-use cs_grammar::{Definition, Expr, Field, File, ListEnd};
+use crate::plain::has_literal_or_reference;
+use crate::refinement::{Bases, is_refinement};
+use cs_grammar::{Definition, Expr, Field, FieldMark, File, ListEnd};
 use indexmap::IndexMap;
 use std::alloc::{AllocError, Global};
 
 /// The names that have a value that isn't plain, each with whether it has two or more of them.
 type RepeatTable<'a> = IndexMap<&'a str, bool>;
 
-/// Whether an expression holds a struct literal or a reference, so that it isn't plain.
-#[cycle(has_literal_or_reference)]
-fn has_literal_or_reference(expr: &Expr) -> bool
-    ensures { result ≡ Opening.has_literal_or_reference (expr_view expr.now) }
-{
-    match expr {
-        Expr::Reference { .. } | Expr::Struct { .. } => true,
-        Expr::And(operands) | Expr::Or(operands) => has_literal_or_reference_some(operands),
-        Expr::Paren(inner) => has_literal_or_reference(inner),
-        Expr::List { front, end } => has_literal_or_reference_some(front)
-            || has_literal_or_reference_end(end),
-        // The others have no parts.
-        _ => false,
-    }
-}
-
-#[cycle(has_literal_or_reference)]
-fn has_literal_or_reference_some(operands: &Vec<Expr>) -> bool
-    ensures { result ≡ Opening.has_literal_or_reference_some (exprs_view operands.now.items) }
-{
-    for operand in operands {
-        if has_literal_or_reference(operand) {
-            return true;
-        }
-    }
-    false
-}
-
-#[cycle(has_literal_or_reference)]
-fn has_literal_or_reference_end(end: &ListEnd) -> bool
-    ensures { result ≡ Opening.has_literal_or_reference_end (end_view end.now) }
-{
-    match end {
-        ListEnd::Closed | ListEnd::Any => false,
-        ListEnd::Each(inner) => has_literal_or_reference(inner),
-    }
+/// The table of a struct literal's labels, and whether `[string]` has a value that isn't plain, with whether it has two or
+/// more of them.
+#[derive(Drop)]
+struct LabelRepeats<'a> {
+    names: RepeatTable<'a>,
+    every: Option<bool>,
 }
 
 /// Whether a conjunction of these operands asks its literals to end with `...`.
@@ -66,10 +40,18 @@ fn demands_open(operands: &Vec<Expr>) -> bool
         > 1
 }
 
+/// Whether operands that `&` joins ask their literals to end with `...`. Those of a plain refinement don't.
+fn joined_demand_open(bases: &Bases<'_>, operands: &Vec<Expr>) -> bool
+    ensures { (bs : Refinement.Bases) → HoldBases bases.now bs
+        → result ≡ Opening.joined_demand_open bs (exprs_view operands.now.items) }
+{
+    demands_open(operands) && !is_refinement(bases, operands)
+}
+
 /// Notes a value under its name.
 fn note<'a>(repeats: &mut RepeatTable<'a>, name: &'a str, value: &Expr) -> Result<(), AllocError>
     ensures { OnOk result ((ns : List Named) → Repeats repeats.old ns
-        → Repeats repeats.new (ns ++ record { name = name.now; value = expr_view value.now } ∷ [])) }
+        → Repeats repeats.new (ns ++ record { name = one name.now; value = expr_view value.now } ∷ [])) }
 {
     if has_literal_or_reference(value) {
         let again = repeats.contains_key(name);
@@ -79,8 +61,8 @@ fn note<'a>(repeats: &mut RepeatTable<'a>, name: &'a str, value: &Expr) -> Resul
 }
 
 /// Whether the values of a name ask their literals to end with `...`.
-fn demands_open_of(repeats: &RepeatTable<'_>, name: &str) -> bool
-    ensures { (ns : List Named) → Repeats repeats.now ns → result ≡ Opening.demands_open (values name.now ns) }
+fn name_demands_open(repeats: &RepeatTable<'_>, name: &str) -> bool
+    ensures { (ns : List Named) → Repeats repeats.now ns → result ≡ Opening.demands_open (values (one name.now) ns) }
 {
     match repeats.get(name) {
         Some(again) => *again,
@@ -88,35 +70,155 @@ fn demands_open_of(repeats: &RepeatTable<'_>, name: &str) -> bool
     }
 }
 
-/// The table of a struct literal's labels.
-fn label_repeats(alloc: Global, fields: &Vec<Field>) -> Result<RepeatTable<'_>, AllocError>
-    ensures { IfOk result (λ m. Repeats m (named_fields (fields_view fields.now.items))) }
+/// Whether a field is `[string]: T`.
+fn is_every(field: &Field) -> bool
+    ensures { result ≡ is_every_key (declared_for (field_view field.now).label (field_view field.now).mark) }
+{
+    match field.mark {
+        FieldMark::Every { .. } => true,
+        FieldMark::Regular | FieldMark::Optional | FieldMark::Required => false,
+    }
+}
+
+/// Notes the value of a field under its label. That of `[string]` has none.
+fn note_label<'a>(repeats: &mut RepeatTable<'a>, field: &'a Field) -> Result<(), AllocError>
+    ensures { OnOk result ((ns : List Named) → Repeats repeats.old (with_own_name ns)
+        → Repeats repeats.new (with_own_name (ns ++ named_by field.now ∷ []))) }
+{
+    if is_every(field) {
+        return Ok(());
+    }
+    note(repeats, field.label.as_str(), &field.value)
+}
+
+/// The table of a struct literal's labels, without `[string]`.
+fn name_repeats(alloc: Global, fields: &Vec<Field>) -> Result<RepeatTable<'_>, AllocError>
+    ensures { IfOk result (λ m. Repeats m (with_own_name (named_fields (fields_view fields.now.items)))) }
 {
     let mut repeats = IndexMap::new(alloc);
     for field in fields {
-        note(&mut repeats, field.label.as_str(), &field.value)?;
+        note_label(&mut repeats, field)?;
     }
     Ok(repeats)
 }
 
+/// Counts the value of a field where it is that of `[string]` and isn't plain.
+fn count_every(every: Option<bool>, field: &Field) -> Option<bool>
+    ensures { (ns : List Named) → CountsAs every (unplain every_key ns)
+        → CountsAs result (unplain every_key (ns ++ named_by field.now ∷ [])) }
+{
+    if is_every(field) && has_literal_or_reference(&field.value) {
+        Some(every.is_some())
+    } else {
+        every
+    }
+}
+
+/// Whether `[string]` has a value that isn't plain, with whether it has two or more of them.
+fn every_repeats(fields: &Vec<Field>) -> Option<bool>
+    ensures { CountsAs result (unplain every_key (named_fields (fields_view fields.now.items))) }
+{
+    let mut every = None;
+    for field in fields {
+        every = count_every(every, field);
+    }
+    every
+}
+
+/// What the values of a struct literal repeat: its labels, and `[string]`.
+fn label_repeats(alloc: Global, fields: &Vec<Field>) -> Result<LabelRepeats<'_>, AllocError>
+    ensures { IfOk result (λ r. TellsLabels r.names r.every (named_fields (fields_view fields.now.items))) }
+{
+    let names = name_repeats(alloc, fields)?;
+    let every = every_repeats(fields);
+    Ok(LabelRepeats { names, every })
+}
+
+/// Whether the values of one label and those of `[string]`, both counted, are two or more that aren't plain.
+fn are_several(own: Option<bool>, every: Option<bool>) -> bool
+    ensures { (j k : ℕ) → CountsAs own j → CountsAs every k → result ≡ nat_lt 1 (j + k) }
+{
+    match (own, every) {
+        (Some(_), Some(_)) => true,
+        (Some(again), None) | (None, Some(again)) => again,
+        (None, None) => false,
+    }
+}
+
+/// Whether the conjunction of a label asks its literals to end with `...`: its own values and those of `[string]`.
+fn label_demands_open(repeats: &LabelRepeats<'_>, label: &str) -> bool
+    ensures { (ns : List Named) → TellsLabels repeats.now.names repeats.now.every ns
+        → result ≡ Opening.demands_open (values (one label.now) ns) }
+{
+    are_several(repeats.names.get(label).copied(), repeats.every)
+}
+
+/// Whether the conjunction of a field's label, or of `[string]` alone, asks its literals to end with `...`.
+fn field_demands_open(repeats: &LabelRepeats<'_>, field: &Field) -> bool
+    ensures { (ns : List Named) → TellsLabels repeats.now.names repeats.now.every ns
+        → result ≡ Opening.demands_open (values (declared_for (field_view field.now).label (field_view field.now).mark) ns) }
+{
+    if is_every(field) {
+        are_several(None, repeats.every)
+    } else {
+        label_demands_open(repeats, field.label.as_str())
+    }
+}
+
+/// Whether some conjunction of a struct literal's values asks its literals to end with `...`.
+fn some_demand_open(repeats: &LabelRepeats<'_>, fields: &Vec<Field>) -> bool
+    ensures { TellsLabels repeats.now.names repeats.now.every (named_fields (fields_view fields.now.items))
+        → result ≡ Opening.demands_open_of every_key (named_fields (fields_view fields.now.items)) }
+{
+    for field in fields {
+        if field_demands_open(repeats, field) {
+            return true;
+        }
+    }
+    false
+}
+
+/// Whether a conjunction that holds a field's value asks its literals to end with `...`. A value of `[string]` is in that
+/// of each label; `some` says whether one of them asks.
+fn demands_open_of(repeats: &LabelRepeats<'_>, some: bool, field: &Field) -> bool
+    ensures { (ns : List Named) → TellsLabels repeats.now.names repeats.now.every ns → some ≡ Opening.demands_open_of every_key ns
+        → result ≡ Opening.demands_open_of (declared_for (field_view field.now).label (field_view field.now).mark) ns }
+{
+    if is_every(field) {
+        some
+    } else {
+        label_demands_open(repeats, field.label.as_str())
+    }
+}
+
 /// Checks the literals in an expression of a file. Where `demanded`, a conjunction around it asks them to end with `...`.
 #[cycle(opening)]
-fn check_expr(alloc: Global, file: usize, demanded: bool, expr: &Expr) -> Result<(), ResolveFault>
-    ensures { Checks result (ResolveFault.NotOpened file) (unopened demanded (expr_view expr.now)) }
+fn check_expr(
+    alloc: Global,
+    bases: &Bases<'_>,
+    file: usize,
+    demanded: bool,
+    expr: &Expr,
+) -> Result<(), ResolveFault>
+    ensures { (bs : Refinement.Bases) → HoldBases bases.now bs
+        → Checks result (ResolveFault.NotOpened file) (unopened bs demanded (expr_view expr.now)) }
 {
     match expr {
-        Expr::And(operands) => check_all(alloc, file, demanded || demands_open(operands), operands),
-        Expr::Or(operands) => check_all(alloc, file, demanded, operands),
-        Expr::Paren(inner) => check_expr(alloc, file, demanded, inner),
+        Expr::And(operands) => {
+            let demanded = demanded || joined_demand_open(bases, operands);
+            check_all(alloc, bases, file, demanded, operands)
+        }
+        Expr::Or(operands) => check_all(alloc, bases, file, demanded, operands),
+        Expr::Paren(inner) => check_expr(alloc, bases, file, demanded, inner),
         Expr::Struct { at, fields, opened } => {
             if demanded && !*opened {
                 return Err(ResolveFault::NotOpened { file, offset: *at });
             }
-            check_fields(alloc, file, demanded, fields)
+            check_fields(alloc, bases, file, demanded, fields)
         }
         Expr::List { front, end } => {
-            check_all(alloc, file, demanded, front)?;
-            check_end(alloc, file, demanded, end)
+            check_all(alloc, bases, file, demanded, front)?;
+            check_end(alloc, bases, file, demanded, end)
         }
         // The others have no parts.
         _ => Ok(()),
@@ -126,14 +228,16 @@ fn check_expr(alloc: Global, file: usize, demanded: bool, expr: &Expr) -> Result
 #[cycle(opening)]
 fn check_all(
     alloc: Global,
+    bases: &Bases<'_>,
     file: usize,
     demanded: bool,
     operands: &Vec<Expr>,
 ) -> Result<(), ResolveFault>
-    ensures { Checks result (ResolveFault.NotOpened file) (unopened_all demanded (exprs_view operands.now.items)) }
+    ensures { (bs : Refinement.Bases) → HoldBases bases.now bs
+        → Checks result (ResolveFault.NotOpened file) (unopened_all bs demanded (exprs_view operands.now.items)) }
 {
     for operand in operands {
-        check_expr(alloc, file, demanded, operand)?;
+        check_expr(alloc, bases, file, demanded, operand)?;
     }
     Ok(())
 }
@@ -141,27 +245,38 @@ fn check_all(
 #[cycle(opening)]
 fn check_fields(
     alloc: Global,
+    bases: &Bases<'_>,
     file: usize,
     demanded: bool,
     fields: &Vec<Field>,
 ) -> Result<(), ResolveFault>
-    ensures { Checks result (ResolveFault.NotOpened file) (unopened_fields demanded (named_fields (fields_view fields.now.items)) (fields_view fields.now.items)) }
+    ensures { (bs : Refinement.Bases) → HoldBases bases.now bs
+        → Checks result (ResolveFault.NotOpened file)
+        (unopened_fields bs demanded (named_fields (fields_view fields.now.items)) (fields_view fields.now.items)) }
 {
     let repeats = label_repeats(alloc, fields)?;
+    let some = some_demand_open(&repeats, fields);
     for field in fields {
-        let demanded_here = demanded || demands_open_of(&repeats, field.label.as_str());
-        check_expr(alloc, file, demanded_here, &field.value)?;
+        let demanded_here = demanded || demands_open_of(&repeats, some, field);
+        check_expr(alloc, bases, file, demanded_here, &field.value)?;
     }
     Ok(())
 }
 
 #[cycle(opening)]
-fn check_end(alloc: Global, file: usize, demanded: bool, end: &ListEnd) -> Result<(), ResolveFault>
-    ensures { Checks result (ResolveFault.NotOpened file) (unopened_end demanded (end_view end.now)) }
+fn check_end(
+    alloc: Global,
+    bases: &Bases<'_>,
+    file: usize,
+    demanded: bool,
+    end: &ListEnd,
+) -> Result<(), ResolveFault>
+    ensures { (bs : Refinement.Bases) → HoldBases bases.now bs
+        → Checks result (ResolveFault.NotOpened file) (unopened_end bs demanded (end_view end.now)) }
 {
     match end {
         ListEnd::Closed | ListEnd::Any => Ok(()),
-        ListEnd::Each(inner) => check_expr(alloc, file, demanded, inner),
+        ListEnd::Each(inner) => check_expr(alloc, bases, file, demanded, inner),
     }
 }
 
@@ -193,28 +308,34 @@ fn body_repeats(alloc: Global, files: &Vec<File>) -> Result<RepeatTable<'_>, All
 /// Checks the literals of a file's definitions.
 fn check_definitions(
     alloc: Global,
+    bases: &Bases<'_>,
     repeats: &RepeatTable<'_>,
     file: usize,
     definitions: &Vec<Definition>,
 ) -> Result<(), ResolveFault>
-    ensures { (all : List Named) → Repeats repeats.now all
-        → Checks result (ResolveFault.NotOpened file) (unopened_definitions all (map definition_view definitions.now.items)) }
+    ensures { (bs : Refinement.Bases) (all : List Named) → HoldBases bases.now bs → Repeats repeats.now all
+        → Checks result (ResolveFault.NotOpened file) (unopened_definitions bs all (map definition_view definitions.now.items)) }
 {
     for definition in definitions {
-        let demanded = demands_open_of(repeats, definition.name.as_str());
-        check_expr(alloc, file, demanded, &definition.body)?;
+        let demanded = name_demands_open(repeats, definition.name.as_str());
+        check_expr(alloc, bases, file, demanded, &definition.body)?;
     }
     Ok(())
 }
 
-/// Checks the struct literals of files. The refusal names the first one, by file and then by offset, that doesn't end
+/// Checks the struct literals of files, of which these are the closed bases. The refusal names the first one, by file and then by offset, that doesn't end
 /// with `...` though a conjunction asks it.
-pub(crate) fn check_opened(alloc: Global, files: &Vec<File>) -> Result<(), ResolveFault>
+pub(crate) fn check_opened(
+    alloc: Global,
+    bases: &Bases<'_>,
+    files: &Vec<File>,
+) -> Result<(), ResolveFault>
+    requires { HoldBases bases.now (Refinement.bases (flat_map definitions (map file_view files.now.items))) }
     ensures { Checks result (λ p. ResolveFault.NotOpened p.0 p.1) (unopened_files (map file_view files.now.items)) }
 {
     let repeats = body_repeats(alloc, files)?;
     for (number, file) in files.iter().enumerate() {
-        check_definitions(alloc, &repeats, number, &file.definitions)?;
+        check_definitions(alloc, bases, &repeats, number, &file.definitions)?;
     }
     Ok(())
 }

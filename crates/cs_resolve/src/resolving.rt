@@ -5,12 +5,15 @@ ghost use Rattle.cs_grammar.specs.Tree.{Tree, DefinitionTree, definition, define
 ghost use Rattle.cs_grammar.specs.View.{definition_view, file_view};
 ghost use Rattle.cs_resolve.specs.Declarations.{distinct, names, places_of, faults_from};
 ghost use Rattle.cs_package.specs.Environment.{written, IsDefinitionName};
+ghost use Rattle.cs_resolve.specs.Refinement as Refinement;
+ghost use Rattle.cs_resolve.specs.Narrowed.{HoldBases};
 ghost use Rattle.cs_resolve.specs.Resolved.{environment_of_files, AreSpelled, IsPackage, IsRefusal};
 ghost use Rattle.cs_resolve.specs.Steps.{faults_in, AreBodiesOf, IsShapeOf, Resolves};
 ghost use Rattle.cs_package.specs.View.{names_of, IsTable};
 
 use crate::opening::check_opened;
 use crate::package_name::differing_file;
+use crate::refinement::{Bases, bases_of};
 use crate::shapes::body_shape;
 use crate::size::{MOST_DEFINITIONS, has_few_nodes};
 use crate::{Package, ResolveFault, Shape};
@@ -39,8 +42,9 @@ pub fn resolve(alloc: Global, files: Vec<File>) -> Result<Package, ResolveFault>
     if names.len() > MOST_DEFINITIONS || !has_few_nodes(&files) {
         return Err(ResolveFault::TooLarge);
     }
-    let bodies = declared_bodies(alloc, &names, &files)?;
-    check_opened(alloc, &files)?;
+    let bases = bases_of(alloc, &files)?;
+    let bodies = declared_bodies(alloc, &names, &bases, &files)?;
+    check_opened(alloc, &bases, &files)?;
     Ok(package_of(names, bodies))
 }
 
@@ -93,16 +97,17 @@ fn written_name(alloc: Global, name: &String) -> Result<String, AllocError>
 fn declared_bodies(
     alloc: Global,
     names: &NameTable,
+    bases: &Bases<'_>,
     files: &Vec<File>,
 ) -> Result<Vec<Vec<Shape>>, ResolveFault>
     requires { IsTable names.now.entries }
-    ensures { Resolves result
-        (λ v. AreBodiesOf (names_of names.now.entries) v.items (flat_map definitions (map file_view files.now.items)))
+    ensures { (bs : Refinement.Bases) → HoldBases bases.now bs → Resolves result
+        (λ v. AreBodiesOf bs (names_of names.now.entries) v.items (flat_map definitions (map file_view files.now.items)))
         (faults_from 0 (names_of names.now.entries) (map file_view files.now.items)) }
 {
     let mut bodies = no_bodies(alloc, names.len())?;
     for (number, file) in files.iter().enumerate() {
-        add_bodies(alloc, names, &mut bodies, number, &file.definitions)?;
+        add_bodies(alloc, names, bases, &mut bodies, number, &file.definitions)?;
     }
     Ok(bodies)
 }
@@ -123,6 +128,7 @@ fn no_bodies(alloc: Global, count: usize) -> Result<Vec<Vec<Shape>>, AllocError>
 fn add_bodies(
     alloc: Global,
     names: &NameTable,
+    bases: &Bases<'_>,
     bodies: &mut Vec<Vec<Shape>>,
     file: usize,
     definitions: &Vec<Definition>,
@@ -130,14 +136,14 @@ fn add_bodies(
     requires table { IsTable names.now.entries }
     requires long { length names.now.entries ≡ length bodies.old.items }
     ensures long { length bodies.new.items ≡ length bodies.old.items }
-    ensures added { OnOk result ((ds : List DefinitionTree)
-        → AreBodiesOf (names_of names.now.entries) bodies.old.items ds
-        → AreBodiesOf (names_of names.now.entries) bodies.new.items (ds ++ map definition_view definitions.now.items)) }
-    ensures faults { Resolves result (λ _. Unit {0})
+    ensures added { OnOk result ((bs : Refinement.Bases) (ds : List DefinitionTree) → HoldBases bases.now bs
+        → AreBodiesOf bs (names_of names.now.entries) bodies.old.items ds
+        → AreBodiesOf bs (names_of names.now.entries) bodies.new.items (ds ++ map definition_view definitions.now.items)) }
+    ensures faults { (bs : Refinement.Bases) → HoldBases bases.now bs → Resolves result (λ _. Unit {0})
         (faults_in file (names_of names.now.entries) (places_of (map definition_view definitions.now.items))) }
 {
     for definition in definitions {
-        let shape = body_shape(alloc, names, file, &definition.body)?;
+        let shape = body_shape(alloc, names, bases, file, &definition.body)?;
         add_body(names, bodies, definition.name.as_str(), shape)?;
     }
     Ok(())
@@ -153,9 +159,9 @@ fn add_body(
     requires table { IsTable names.now.entries }
     requires long { length names.now.entries ≡ length bodies.old.items }
     ensures long { length bodies.new.items ≡ length bodies.old.items }
-    ensures added { OnOk result ((ds : List DefinitionTree) (o : ℕ) (t : Tree)
-        → AreBodiesOf (names_of names.now.entries) bodies.old.items ds → IsShapeOf (names_of names.now.entries) shape t
-        → AreBodiesOf (names_of names.now.entries) bodies.new.items (ds ++ definition name.now o t ∷ [])) }
+    ensures added { OnOk result ((bs : Refinement.Bases) (ds : List DefinitionTree) (o : ℕ) (t : Tree)
+        → AreBodiesOf bs (names_of names.now.entries) bodies.old.items ds → IsShapeOf bs (names_of names.now.entries) shape t
+        → AreBodiesOf bs (names_of names.now.entries) bodies.new.items (ds ++ definition name.now o t ∷ [])) }
 {
     if let Some(i) = names.get_index_of(name) {
         bodies[i].push(shape)?;

@@ -1,16 +1,20 @@
 // From an expression to its shape: names are replaced by what they name.
-ghost use Rattle.std.specs.Prelude.{◌≡◌, ◌++◌, ℕ, List, [], ◌∷◌, IfOk, OnOk};
-ghost use Rattle.std.specs.List.{list_any};
+ghost use Rattle.std.specs.Prelude.{◌≡◌, ◌++◌, ℕ, map, List, [], ◌∷◌, IfOk, OnOk};
+ghost use Rattle.std.specs.List.{list_any, list_all};
 ghost use Rattle.cs_grammar.specs.Tree.{Label, named, reference};
 ghost use Rattle.cs_grammar.specs.View.{expr_view, exprs_view, field_view, fields_view, end_view};
 ghost use Rattle.cs_resolve.specs.Around.{has_text, HoldsLabels, HoldAround, AreShapesOf, ArePartsOf, IsEndOf};
-ghost use Rattle.cs_resolve.specs.Scopes.{places, places_all, places_fields, places_end, labels};
+ghost use Rattle.cs_resolve.specs.Refinement as Refinement;
+ghost use Rattle.cs_resolve.specs.Narrowed.{HoldBases};
+ghost use Rattle.cs_resolve.specs.Resolved.{read_opened, narrowed_operands};
+ghost use Rattle.cs_resolve.specs.Scopes.{key_places, places, places_all, places_fields, places_end, labels};
 ghost use Rattle.cs_resolve.specs.Steps.{faults_in, IsShapeOf, Resolves};
-ghost use Rattle.cs_package.specs.View.{names_of, IsTable};
+ghost use Rattle.cs_package.specs.View.{names_of, IsTable, expression_of, expressions_of, is_known};
 
 use crate::kinds::predeclared_shape;
+use crate::refinement::{Bases, is_refinement};
 use crate::{Part, ResolveFault, Shape, ShapeEnd};
-use cs_grammar::{Expr, Field, ListEnd};
+use cs_grammar::{Expr, Field, FieldMark, ListEnd};
 use cs_package::NameTable;
 use std::alloc::{AllocError, Global};
 use std::collections::HashSet;
@@ -53,14 +57,28 @@ fn name_shape(
     name: &str,
     at: usize,
 ) -> Result<Shape, ResolveFault>
-    ensures { (ns : List (List ℕ)) (scopes : List (List Label)) → HoldAround around.now.items scopes
-        → Resolves result (λ s. IsShapeOf ns s (named name.now at))
+    ensures { (bs : Refinement.Bases) (ns : List (List ℕ)) (scopes : List (List Label)) → HoldAround around.now.items scopes
+        → Resolves result (λ s. IsShapeOf bs ns s (named name.now at))
         (faults_in file ns (places scopes (named name.now at))) }
 {
     if names_field(around, name) {
         return Err(ResolveFault::FieldReference { file, offset: at });
     }
     predeclared_shape(name).ok_or(ResolveFault::UnknownName { file, offset: at })
+}
+
+/// Checks the name in the brackets of `[string]`, which is looked up as any other.
+fn check_key(file: usize, around: &Vec<Labels<'_>>, mark: FieldMark) -> Result<(), ResolveFault>
+    ensures { (ns : List (List ℕ)) (scopes : List (List Label)) → HoldAround around.now.items scopes
+        → Resolves result (λ _. Unit {0}) (faults_in file ns (key_places scopes mark)) }
+{
+    match mark {
+        FieldMark::Regular | FieldMark::Optional | FieldMark::Required => Ok(()),
+        FieldMark::Every { at } => {
+            drop(name_shape(file, around, "string", at)?);
+            Ok(())
+        }
+    }
 }
 
 /// A reference by the number of the definition that it names.
@@ -70,8 +88,8 @@ fn reference_shape(
     name: &str,
     at: usize,
 ) -> Result<Shape, ResolveFault>
-    ensures { (scopes : List (List Label))
-        → Resolves result (λ s. IsShapeOf (names_of names.now.entries) s (reference name.now at))
+    ensures { (bs : Refinement.Bases) (scopes : List (List Label))
+        → Resolves result (λ s. IsShapeOf bs (names_of names.now.entries) s (reference name.now at))
         (faults_in file (names_of names.now.entries) (places scopes (reference name.now at))) }
 {
     match names.get_index_of(name) {
@@ -80,18 +98,43 @@ fn reference_shape(
     }
 }
 
-/// The shape of an expression, with the labels of the struct literals around it.
+/// Has a struct literal end with `...`.
+fn open_shape(shape: &mut Shape)
+    ensures opened { (ns : List (List ℕ)) → expression_of ns shape.new ≡ read_opened (expression_of ns shape.old) }
+    ensures known { (count : ℕ) → is_known count shape.new ≡ is_known count shape.old }
+{
+    if let Shape::Struct { opened, .. } = shape {
+        *opened = true;
+    }
+}
+
+/// The shapes of operands that `&` joins. The literal of a plain refinement is read as if it ended with `...`.
+fn narrowed(refines: bool, mut shapes: Vec<Shape>) -> Vec<Shape>
+    ensures opened { (ns : List (List ℕ)) → expressions_of (map (expression_of ns) result.items)
+        ≡ narrowed_operands refines (expressions_of (map (expression_of ns) shapes.items)) }
+    ensures known { (count : ℕ) → list_all (is_known count) result.items ≡ list_all (is_known count) shapes.items }
+{
+    if refines {
+        for shape in shapes.iter_mut() {
+            open_shape(shape);
+        }
+    }
+    shapes
+}
+
+/// The shape of an expression, with the labels of the struct literals around it. The closed bases are those of its package.
 #[cycle(shapes)]
 fn shape_of<'a>(
     alloc: Global,
     names: &NameTable,
+    bases: &Bases<'_>,
     file: usize,
     around: &mut Vec<Labels<'a>>,
     expr: &'a Expr,
 ) -> Result<Shape, ResolveFault>
     ensures kept { OnOk result (around.new.items ≡ around.old.items) }
-    ensures shape { (scopes : List (List Label)) → HoldAround around.old.items scopes
-        → Resolves result (λ s. IsShapeOf (names_of names.now.entries) s (expr_view expr.now))
+    ensures shape { (bs : Refinement.Bases) (scopes : List (List Label)) → HoldBases bases.now bs → HoldAround around.old.items scopes
+        → Resolves result (λ s. IsShapeOf bs (names_of names.now.entries) s (expr_view expr.now))
         (faults_in file (names_of names.now.entries) (places scopes (expr_view expr.now))) }
 {
     match expr {
@@ -110,19 +153,25 @@ fn shape_of<'a>(
         Expr::NotInt(value) => Ok(Shape::NotInt(*value)),
         Expr::NotText(text) => Ok(Shape::NotText(text.clone()?)),
         Expr::NotNull => Ok(Shape::NotNull),
-        Expr::And(operands) => Ok(Shape::And(shapes_of(alloc, names, file, around, operands)?)),
-        Expr::Or(operands) => Ok(Shape::Or(shapes_of(alloc, names, file, around, operands)?)),
-        Expr::Paren(inner) => shape_of(alloc, names, file, around, inner),
+        Expr::And(operands) => {
+            let shapes = shapes_of(alloc, names, bases, file, around, operands)?;
+            Ok(Shape::And(narrowed(is_refinement(bases, operands), shapes)))
+        }
+        Expr::Or(operands) => {
+            let shapes = shapes_of(alloc, names, bases, file, around, operands)?;
+            Ok(Shape::Or(shapes))
+        }
+        Expr::Paren(inner) => shape_of(alloc, names, bases, file, around, inner),
         Expr::Struct { fields, opened, .. } => {
-            let parts = parts_of(alloc, names, file, around, fields)?;
+            let parts = parts_of(alloc, names, bases, file, around, fields)?;
             Ok(Shape::Struct {
                 parts,
                 opened: *opened,
             })
         }
         Expr::List { front, end } => {
-            let front = shapes_of(alloc, names, file, around, front)?;
-            let end = shape_end(alloc, names, file, around, end)?;
+            let front = shapes_of(alloc, names, bases, file, around, front)?;
+            let end = shape_end(alloc, names, bases, file, around, end)?;
             Ok(Shape::List { front, end })
         }
     }
@@ -132,35 +181,37 @@ fn shape_of<'a>(
 fn shapes_of<'a>(
     alloc: Global,
     names: &NameTable,
+    bases: &Bases<'_>,
     file: usize,
     around: &mut Vec<Labels<'a>>,
     exprs: &'a Vec<Expr>,
 ) -> Result<Vec<Shape>, ResolveFault>
     ensures kept { OnOk result (around.new.items ≡ around.old.items) }
-    ensures shapes { (scopes : List (List Label)) → HoldAround around.old.items scopes
-        → Resolves result (λ v. AreShapesOf (names_of names.now.entries) v.items (exprs_view exprs.now.items))
+    ensures shapes { (bs : Refinement.Bases) (scopes : List (List Label)) → HoldBases bases.now bs → HoldAround around.old.items scopes
+        → Resolves result (λ v. AreShapesOf bs (names_of names.now.entries) v.items (exprs_view exprs.now.items))
         (faults_in file (names_of names.now.entries) (places_all scopes (exprs_view exprs.now.items))) }
 {
     let mut shapes = Vec::with_capacity(alloc, exprs.len())?;
     for expr in exprs {
-        let shape = shape_of(alloc, names, file, around, expr)?;
+        let shape = shape_of(alloc, names, bases, file, around, expr)?;
         shapes.push(shape)?;
     }
     Ok(shapes)
 }
 
-/// The declarations of a struct literal. Its own labels are around its values.
+/// The declarations of a struct literal. Its own labels are around its values and its `[string]`.
 #[cycle(shapes)]
 fn parts_of<'a>(
     alloc: Global,
     names: &NameTable,
+    bases: &Bases<'_>,
     file: usize,
     around: &mut Vec<Labels<'a>>,
     fields: &'a Vec<Field>,
 ) -> Result<Vec<Part>, ResolveFault>
     ensures kept { OnOk result (around.new.items ≡ around.old.items) }
-    ensures parts { (scopes : List (List Label)) → HoldAround around.old.items scopes
-        → Resolves result (λ v. ArePartsOf (names_of names.now.entries) v.items (fields_view fields.now.items))
+    ensures parts { (bs : Refinement.Bases) (scopes : List (List Label)) → HoldBases bases.now bs → HoldAround around.old.items scopes
+        → Resolves result (λ v. ArePartsOf bs (names_of names.now.entries) v.items (fields_view fields.now.items))
         (faults_in file (names_of names.now.entries)
         (places_fields (labels (fields_view fields.now.items) ∷ scopes) (fields_view fields.now.items))) }
 {
@@ -168,8 +219,9 @@ fn parts_of<'a>(
     around.push(own)?;
     let mut parts = Vec::with_capacity(alloc, fields.len())?;
     for field in fields {
+        check_key(file, around, field.mark)?;
         let label = field.label.clone()?;
-        let value = shape_of(alloc, names, file, around, &field.value)?;
+        let value = shape_of(alloc, names, bases, file, around, &field.value)?;
         parts.push(Part {
             label,
             mark: field.mark,
@@ -184,20 +236,21 @@ fn parts_of<'a>(
 fn shape_end<'a>(
     alloc: Global,
     names: &NameTable,
+    bases: &Bases<'_>,
     file: usize,
     around: &mut Vec<Labels<'a>>,
     end: &'a ListEnd,
 ) -> Result<ShapeEnd, ResolveFault>
     ensures kept { OnOk result (around.new.items ≡ around.old.items) }
-    ensures end { (scopes : List (List Label)) → HoldAround around.old.items scopes
-        → Resolves result (λ s. IsEndOf (names_of names.now.entries) s (end_view end.now))
+    ensures end { (bs : Refinement.Bases) (scopes : List (List Label)) → HoldBases bases.now bs → HoldAround around.old.items scopes
+        → Resolves result (λ s. IsEndOf bs (names_of names.now.entries) s (end_view end.now))
         (faults_in file (names_of names.now.entries) (places_end scopes (end_view end.now))) }
 {
     match end {
         ListEnd::Closed => Ok(ShapeEnd::Closed),
         ListEnd::Any => Ok(ShapeEnd::Any),
         ListEnd::Each(inner) => {
-            let shape = shape_of(alloc, names, file, around, inner)?;
+            let shape = shape_of(alloc, names, bases, file, around, inner)?;
             Ok(ShapeEnd::Each(Box::new(alloc, shape)?))
         }
     }
@@ -207,13 +260,15 @@ fn shape_end<'a>(
 pub(crate) fn body_shape(
     alloc: Global,
     names: &NameTable,
+    bases: &Bases<'_>,
     file: usize,
     body: &Expr,
 ) -> Result<Shape, ResolveFault>
     requires { IsTable names.now.entries }
-    ensures { Resolves result (λ s. IsShapeOf (names_of names.now.entries) s (expr_view body.now))
+    ensures { (bs : Refinement.Bases) → HoldBases bases.now bs
+        → Resolves result (λ s. IsShapeOf bs (names_of names.now.entries) s (expr_view body.now))
         (faults_in file (names_of names.now.entries) (places [] (expr_view body.now))) }
 {
     let mut around = Vec::new(alloc);
-    shape_of(alloc, names, file, &mut around, body)
+    shape_of(alloc, names, bases, file, &mut around, body)
 }

@@ -61,11 +61,15 @@ const INSTANCES: &str = r##"#A: {x!: _, ...} => #A => - => {"x":null} {"x":1,"y"
 #A: {a?: #B};#B: int => #A => - => {} {"a":1} => {"a":"x"}
 #A: {a: #B, ...};#B: {b?: #B, ...} => #A => - => {"a":{}} {"a":{"b":{}},"c":1} => {} {"a":1} {"a":{"b":1}}
 #A: int | [...#A] => #A => - => 1 [] [1,[2,[]]] => ["a"] [1,[null]] null
-#A: {a?: #B};#B: {b?: #A} => #A => - => {"a":{"b":{}}} => {"a":{"b":1}} {"a":{"a":{}}}"##;
+#A: {a?: #B};#B: {b?: #A} => #A => - => {"a":{"b":{}}} => {"a":{"b":1}} {"a":{"a":{}}}
+#L: {head: int, tail: null | #L} => #L => - => ⟨100×{"head":1,"tail":⟩null⟨100×}⟩ => ⟨100×{"head":1,"tail":⟩1⟨100×}⟩ ⟨100×{"head":1,"tail":⟩{"head":1}⟨100×}⟩
+#E: int | {l: #E, r: #E} => #E => - => ⟨100×{"l":1,"r":⟩2⟨100×}⟩ => ⟨100×{"l":1,"r":⟩null⟨100×}⟩ ⟨100×{"l":1,"r":⟩{"l":2}⟨100×}⟩
+#P: [int, null | #P] => #P => - => ⟨100×[1,⟩null⟨100×]⟩ => ⟨100×[1,⟩1⟨100×]⟩ ⟨100×[1,⟩[1]⟨100×]⟩"##;
 
-/// The same of 27 literals around a form of two levels, as the body of a definition with two bodies.
+/// The same of 27 literals around a form of two levels, as the body of a definition with two bodies, and of 27 around an integer.
 const DEEPEST: &str =
-    r##"#N: ⟨27×{a: _, a: ⟩!=1⟨27×, ...}⟩;#N: ⟨27×{a: _, a: ⟩!=1⟨27×, ...}⟩ => #N => "N":{"allOf":[⟨27×{"properties":{"a":{"allOf":[true,⟩{"not":{"const":1},"type":"number"}⟨27×]}},"required":["a"],"type":"object"}⟩,⟨27×{"properties":{"a":{"allOf":[true,⟩{"not":{"const":1},"type":"number"}⟨27×]}},"required":["a"],"type":"object"}⟩]} => ⟨27×{"a":⟩2⟨27×}⟩ => ⟨27×{"a":⟩1⟨27×}⟩"##;
+    r##"#N: ⟨27×{a: _, a: ⟩!=1⟨27×, ...}⟩;#N: ⟨27×{a: _, a: ⟩!=1⟨27×, ...}⟩ => #N => "N":{"allOf":[⟨27×{"properties":{"a":{"allOf":[true,⟩{"not":{"const":1},"type":"number"}⟨27×]}},"required":["a"],"type":"object"}⟩,⟨27×{"properties":{"a":{"allOf":[true,⟩{"not":{"const":1},"type":"number"}⟨27×]}},"required":["a"],"type":"object"}⟩]} => ⟨27×{"a":⟩2⟨27×}⟩ => ⟨27×{"a":⟩1⟨27×}⟩
+#N: ⟨27×[string]: ⟩1 => #N => "N":⟨27×{"allOf":[{"additionalProperties":⟩{"const":1}⟨27×}],"type":"object"}⟩ => ⟨27×{"a":⟩1⟨27×}⟩ ⟨26×{"":⟩{}⟨26×}⟩ {} => ⟨27×{"a":⟩2⟨27×}⟩ ⟨26×{"a":⟩1⟨26×}⟩"##;
 
 /// A root of some sources, with the text of its schema.
 #[derive(Clone, Copy)]

@@ -59,7 +59,7 @@ const PACKAGES: &str = r##"#P: int => #P => 0 in 0 at 0
 #F: {int: string, x: int} => #F => 10 in 0 at 21
 #A: {x: x} % #B: zzz => #A => 10 in 0 at 8
 #A: {x: 1} & {y: 1} % #B: zzz => #A => 9 in 1 at 4
-#B: {k: string};#C: #B & {k: "x"} => #C => 11 in 0 at 25
+#B: {k: string};#C: #B & {z: 1} => #C => 11 in 0 at 25
 #A: {x: 1} % #A: {y: 1, ...} => #A => 11 in 0 at 4
 #A: {x: 1, ...} % #B: int % #A: {y: 1} => #A => 11 in 2 at 4
 package p;#A: {x: #B} % package p;#B: int8 => #A => 0 in 0 at 0

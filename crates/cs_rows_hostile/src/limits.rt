@@ -21,20 +21,20 @@ fn are_all(alloc: Global, source: &str, doc: &str, word: &str) -> bool {
         && is_validated(alloc, sources, doc, word)
 }
 
-/// `#A0: #A1 & #A1` and so on, with the last of them `int`.
-fn doubling(alloc: Global, last: usize) -> Result<String, AllocError> {
+/// `#A0: #A1 & #A1` and so on, by that mark, with the last of them `int`.
+fn doubling(alloc: Global, mark: &str, last: usize) -> Result<String, AllocError> {
     let mut source = format!(in alloc; "#A{last}: int")?;
     for number in 0..last {
         let next = number + 1;
-        source.push_str(&format!(in alloc; "\n#A{number}: #A{next} & #A{next}")?)?;
+        source.push_str(&format!(in alloc; "\n#A{number}: #A{next} {mark} #A{next}")?)?;
     }
     Ok(source)
 }
 
 /// Whether 64 references in turn are judged, and one more is refused.
-fn are_doubled_judged(alloc: Global) -> Result<bool, AllocError> {
-    let source = doubling(alloc, 64)?;
-    let longer = doubling(alloc, 65)?;
+fn are_doubled_judged(alloc: Global, mark: &str) -> Result<bool, AllocError> {
+    let source = doubling(alloc, mark, 64)?;
+    let longer = doubling(alloc, mark, 65)?;
     Ok(
         are_all(alloc, &source, "7", "valid")
             && are_all(alloc, &source, "null", "invalid")
@@ -44,7 +44,8 @@ fn are_doubled_judged(alloc: Global) -> Result<bool, AllocError> {
 
 #[test]
 fn definitions_that_double_are_judged(rt: HostRuntime) -> Result<(), Fail> {
-    assert!(rt; are_doubled_judged(rt.alloc())?);
+    assert!(rt; are_doubled_judged(rt.alloc(), "&")?);
+    assert!(rt; are_doubled_judged(rt.alloc(), "|")?);
     Ok(())
 }
 

@@ -26,6 +26,14 @@ const TABLES: &str = r##"#T: {v: int, kids?: [...#T]} => #T => {"v":1,"kids":[{"
 #A: {b: #B};#B: int;#B: >2 => #A => {"b":2} => 12 false
 #A: {b: #B};#B: >2;#B: int => #A => {"b":2} => 12 false
 #N: (1) | ((2) & #M);#M: int => #N => 2 => 8 true
+#E: {[string]: int} => #E => {"k":1} => 6 true
+#E: {a: >2, [string]: int} => #E => {"a":3,"b":1} => 12 true
+#T: {[string]: #T} => #T => {"a":{"b":1}} => 9 false
+#List: {head: int, tail: null | #List} => #List => {"head":1,"tail":{"head":2,"tail":null}} => 30 true
+#List: {head: int, tail: null | #List} => #List => {"head":1,"tail":{"head":2}} => 24 false
+#E: int | {l: #E, r: #E} => #E => {"l":1,"r":{"l":2,"r":3}} => 30 true
+#B: {k: string};#C: #B & {k: "x"} => #C => {"k":"x"} => 16 true
+#B: {k: string};#C: #B & {k: "x"} => #C => {"k":"x","z":1} => 24 false
 #E: {l?: #E, r?: [#E]};#F: #E => #E => {"l":{"r":[{}]},"r":[{"l":{}}]} => 35 true
 #E: {l?: #E, r?: [#E]} => #E => {"l":{"r":[{}]},"r":[{"l":1}]} => 35 false"##;
 
@@ -61,26 +69,28 @@ fn documents_are_judged_by_the_rules_that_the_root_reaches(rt: HostRuntime) -> R
     check(rt.alloc(), TABLES, Row::Package)
 }
 
-/// `#A0: #A1 & #A1` and so on, with the last of them `int`.
-fn doubling(alloc: Global, last: usize) -> Result<String, AllocError> {
+/// `#A0: #A1 & #A1` and so on, by that mark, with the last of them `int`.
+fn doubling(alloc: Global, mark: &str, last: usize) -> Result<String, AllocError> {
     let mut source = format!(in alloc; "#A{last}: int")?;
     for number in 0..last {
         let next = number + 1;
-        source.push_str(&format!(in alloc; "\n#A{number}: #A{next} & #A{next}")?)?;
+        source.push_str(&format!(in alloc; "\n#A{number}: #A{next} {mark} #A{next}")?)?;
     }
     Ok(source)
 }
 
 /// Whether 7 is an instance of the first of the definitions, after so many judgements.
-fn is_doubled(alloc: Global, last: usize, judgements: u64) -> Result<bool, Fail> {
-    let source = doubling(alloc, last)?;
+fn is_doubled(alloc: Global, mark: &str, last: usize, judgements: u64) -> Result<bool, Fail> {
+    let source = doubling(alloc, mark, last)?;
     Ok(counted(alloc, &source, "#A0", "7")? == (judgements, true))
 }
 
 #[test]
 fn definitions_that_double_are_judged_once(rt: HostRuntime) -> Result<(), Fail> {
-    assert!(rt; is_doubled(rt.alloc(), 40, 162)?);
-    assert!(rt; is_doubled(rt.alloc(), 64, 258)?);
+    assert!(rt; is_doubled(rt.alloc(), "&", 40, 162)?);
+    assert!(rt; is_doubled(rt.alloc(), "&", 64, 258)?);
+    assert!(rt; is_doubled(rt.alloc(), "|", 40, 162)?);
+    assert!(rt; is_doubled(rt.alloc(), "|", 64, 258)?);
     Ok(())
 }
 

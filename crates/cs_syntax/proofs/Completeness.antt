@@ -8,13 +8,15 @@ use Rattle.cs_grammar.specs.declared.kind.Kind.TheVariants as kinds
 use Rattle.cs_grammar.specs.Atom as atoms
 use Rattle.cs_grammar.specs.Atom.{Relation, top, bottom, integer, text, not_integer, not_text, not_null}
 use Rattle.cs_grammar.specs.declared.ast.FieldMark.{FieldMark}
-use Rattle.cs_grammar.specs.Words.{Words, relation, comma, name, quoted, top_mark, bottom_mark, definition_name, unequal, close_struct, close_list, dots, finish}
+use Rattle.cs_grammar.specs.declared.ast.FieldMark.TheVariants.{Every}
+use Rattle.cs_grammar.specs.Words.{Words, relation, comma, name, open_list, colon, quoted, top_mark, bottom_mark, definition_name, unequal, close_struct, close_list, dots, finish}
 use Rattle.cs_grammar.specs.Tree.{Label, Tree, atom, reference, closed, named, Trees, none, more, Fields, no_field, field, End, DefinitionTree, body, FileTree}
 use Rattle.cs_grammar.specs.View.{trees_of, fields_of, Seen}
-use Rattle.cs_grammar.specs.Spells.{is_reserved, is_null, literal_of, Comma, explicit, inserted, ClosesParen, paren_here, paren_after, ClosesList, list_here, list_after, ClosesStruct, struct_here, struct_after, SpellsNumber, positive, negative, SpellsBound, limit_is, other_number, other_text, other_null, SpellsLabel, bare_label, quoted_label, SpellsMark, regular, optional, required, SpellsOpening, unopened, opened, SpellsValue, long, short, SpellsField, labelled, SpellsExpr, one_conj, disjunction_is, SpellsBars, no_bar, a_bar, SpellsConj, one_operand, conjunction_is, SpellsAmps, no_amp, an_amp, SpellsOperand, top_is, bottom_is, reference_is, name_is, number_is, text_is, bound_is, paren_is, struct_is, list_is, SpellsStruct, no_fields, dots_alone, fields, SpellsFields, no_more_fields, next_field, SpellsList, no_elements, rest_alone, elements, SpellsElements, no_more_elements, next_element, SpellsEnd, closed_is, rest_is, SpellsRest, any_is, each_is, SpellsDefinition, defined, SpellsDefinitions, no_definition, next_definition, SpellsPackage, no_clause, clause, SpellsFile, spelled}
+use Rattle.cs_grammar.specs.Spells.{is_reserved, is_null, is_string, every_label, literal_of, Comma, explicit, inserted, ClosesParen, paren_here, paren_after, ClosesList, list_here, list_after, ClosesStruct, struct_here, struct_after, SpellsNumber, positive, negative, SpellsBound, limit_is, other_number, other_text, other_null, SpellsLabel, bare_label, quoted_label, SpellsMark, regular, optional, required, SpellsOpening, unopened, opened, SpellsValue, long, short, SpellsField, labelled, every_key, SpellsExpr, one_conj, disjunction_is, SpellsBars, no_bar, a_bar, SpellsConj, one_operand, conjunction_is, SpellsAmps, no_amp, an_amp, SpellsOperand, top_is, bottom_is, reference_is, name_is, number_is, text_is, bound_is, paren_is, struct_is, list_is, SpellsStruct, no_fields, dots_alone, fields, SpellsFields, no_more_fields, next_field, SpellsList, no_elements, rest_alone, elements, SpellsElements, no_more_elements, next_element, SpellsEnd, closed_is, rest_is, SpellsRest, any_is, each_is, SpellsDefinition, defined, SpellsDefinitions, no_definition, next_definition, SpellsPackage, no_clause, clause, SpellsFile, spelled}
 use Rattle.cs_grammar.proofs.Rests.{no_longer, of_field, of_expr, of_conj, of_operand, of_definition}
-use Rattle.cs_syntax.specs.Reading.{◌>>=◌, Read, after, begins_with, begins_comma, comma_at, close_at, paren_end, goes_on_label, begins_field, another_field, another_element, opening_at, may_end, many, signed, number_at, bound_at, unequal_at, integer_at, unbracketed_at, label_at, mark_at, expected, field_with, fields_with, struct_with, rest_with, end_with, elements_with, list_with, operand_with, amps_with, conj_with, bars_with, expr_with, inner, definition_at, line_at, before_end, definitions_at, clause_at, package_at, file_with, file_at}
+use Rattle.cs_syntax.specs.Reading.{◌>>=◌, Read, after, begins_with, begins_comma, comma_at, close_at, paren_end, goes_on_label, begins_field, another_field, another_element, opening_at, may_end, many, signed, number_at, bound_at, unequal_at, integer_at, unbracketed_at, label_at, mark_at, every_key_at, head_at, expected, field_with, fields_with, struct_with, rest_with, end_with, elements_with, list_with, operand_with, amps_with, conj_with, bars_with, expr_with, inner, definition_at, line_at, before_end, definitions_at, clause_at, package_at, file_with, file_at}
 use Rattle.cs_syntax.specs.Nesting.{nesting}
+use Rattle.cs_syntax.proofs.BracketLabels.{list_no_label}
 use Rattle.cs_syntax.proofs.NestingBounds.{inside, inside_all, inside_elements, inside_fields, inside_end, inside_definitions, inside_file, inside_low, max_left, max_right}
 
 -- a comma takes a word
@@ -135,7 +137,7 @@ operand_no_field (bound_is other_text) q = refl
 operand_no_field (bound_is (other_null h)) q = refl
 operand_no_field (paren_is e c) q = refl
 operand_no_field (struct_is s) q = refl
-operand_no_field (list_is s) q = refl
+operand_no_field (list_is s) q = list_no_label s q
 
 conj_no_field : {e : Tree} {ts r : Words} → SpellsConj e ts r → goes_on_label r ≡ false → begins_field ts ≡ false
 conj_no_field (one_operand o) q = operand_no_field o q
@@ -248,10 +250,14 @@ plain_bound (other_null h) r' = refl
 
 -- ---- labels
 
-label_is : {l : Label} {ts us : Words} → SpellsLabel l ts us → label_at ts ≡ Ok (l, us)
-unfolding label_at
-label_is bare_label = refl
-label_is quoted_label = refl
+labelled_head : {l : Label} {ts us : Words} → SpellsLabel l ts us → head_at ts ≡ Ok ((l, (mark_at us).0), (mark_at us).1)
+unfolding head_at label_at
+labelled_head bare_label = refl
+labelled_head quoted_label = refl
+
+every_head : (s : List ℕ) (o p q c : ℕ) (ts : Words) → is_string s ≡ true → head_at (open_list o ∷ name s p ∷ close_list q ∷ colon c ∷ ts) ≡ Ok ((every_label, Every p), colon c ∷ ts)
+unfolding head_at every_key_at
+every_head s o p q c ts e = rw e refl
 
 mark_is : {m : FieldMark} {ts us : Words} → SpellsMark m ts us → (mark_at ts).0 ≡ m
 mark_is regular = refl
@@ -272,20 +278,24 @@ or_true : (b : Bool) → b || true ≡ true
 or_true true = refl
 or_true false = refl
 
-begins_label : {l : Label} {m : FieldMark} {ts us vs : Words} → SpellsLabel l ts us → SpellsMark m us vs → begins_field ts ≡ true
-begins_label (bare_label {s}) m = rw (label_goes_on m) (or_true (is_reserved s))
-begins_label quoted_label m = label_goes_on m
+begins_label : {l : Label} {m : FieldMark} {e : Tree} {ts r : Words} → SpellsField l m e ts r → begins_field ts ≡ true
+begins_label (labelled (bare_label {s}) m v) = rw (label_goes_on m) (or_true (is_reserved s))
+begins_label (labelled quoted_label m v) = label_goes_on m
+begins_label (every_key e v) = rw e refl
 
-struct_first : (r : Bool → Read Tree) {l : Label} {ts us : Words} → SpellsLabel l ts us → struct_with r ts ≡ (field_with r ts >>= λ f. fields_with r (length f.1) f.1 >>= λ fs. opening_at fs.1 >>= λ b. Ok ((f.0 ∷ fs.0, b.0), b.1))
+struct_first : (r : Bool → Read Tree) {l : Label} {m : FieldMark} {e : Tree} {ts us : Words} → SpellsField l m e ts us → struct_with r ts ≡ (field_with r ts >>= λ f. fields_with r (length f.1) f.1 >>= λ fs. opening_at fs.1 >>= λ b. Ok ((f.0 ∷ fs.0, b.0), b.1))
 unfolding struct_with
-struct_first r bare_label = refl
-struct_first r quoted_label = refl
+struct_first r (labelled bare_label m v) = refl
+struct_first r (labelled quoted_label m v) = refl
+struct_first r (every_key e v) = refl
 
-another_is : {l : Label} {ts us vs : Words} → Comma ts us → SpellsLabel l us vs → another_field ts ≡ Some us
-another_is explicit bare_label = refl
-another_is explicit quoted_label = refl
-another_is inserted bare_label = refl
-another_is inserted quoted_label = refl
+another_is : {l : Label} {m : FieldMark} {e : Tree} {ts us vs : Words} → Comma ts us → SpellsField l m e us vs → another_field ts ≡ Some us
+another_is explicit (labelled bare_label m v) = refl
+another_is explicit (labelled quoted_label m v) = refl
+another_is explicit (every_key e v) = refl
+another_is inserted (labelled bare_label m v) = refl
+another_is inserted (labelled quoted_label m v) = refl
+another_is inserted (every_key e v) = refl
 
 no_other_field : {b : Bool} {ts r : Words} → SpellsOpening b ts r → another_field ts ≡ None
 no_other_field (unopened struct_here) = refl
@@ -367,11 +377,13 @@ mutual
 
   read_value : {e : Tree} {ts r : Words} → SpellsValue e ts r → (d : ℕ) → inside e ≤ d → Quiet r → inner (suc d) true ts ≡ Ok (e, r)
   read_value (long s) d h q = rw (expr_no_field s q.no_label) (read_expr s d h q)
-  read_value (short {e = e} o (labelled l m v)) d h q = rw (begins_label l m, read_field (labelled l m v) d (max_left (suc (inside e)) 0 h) q, o) refl
+  read_value (short {e = e} o f) d h q = rw (begins_label f, read_field f d (max_left (suc (inside e)) 0 h) q, o) refl
 
   read_field : {l : Label} {m : FieldMark} {e : Tree} {ts r : Words} → SpellsField l m e ts r → (d : ℕ) → suc (inside e) ≤ d → Quiet r → field_with (inner d) ts ≡ Ok (record { label = l; mark = m; value = e }, r)
   read_field (labelled l m v) zero h q = let never : ⊥ = omega (arith, h) in absurd never
-  read_field (labelled l m v) (suc d) h q = rw (label_is l, colon_is m, mark_is m, read_value v d (omega (arith, h)) q) refl
+  read_field (labelled l m v) (suc d) h q = rw (labelled_head l, colon_is m, mark_is m, read_value v d (omega (arith, h)) q) refl
+  read_field (every_key k v) zero h q = let never : ⊥ = omega (arith, h) in absurd never
+  read_field (every_key {s} {o} {p} {q = b} {c} {ts} k v) (suc d) h q = rw (every_head s o p b c ts k, read_value v d (omega (arith, h)) q) refl
 
   read_expr : {e : Tree} {ts r : Words} → SpellsExpr e ts r → (d : ℕ) → inside e ≤ d → Quiet r → expr_with (inner d) ts ≡ Ok (e, r)
   read_expr (one_conj {e} {ts} {r} c) d h q = rw (read_conj c d h q.no_amp_here, many_end (after kinds.Bar) (conj_with (inner d)) (length r) r q.no_bar_here) refl
@@ -407,12 +419,12 @@ mutual
   read_struct : {fs : Fields} {b : Bool} {ts r : Words} → SpellsStruct fs b ts r → (d : ℕ) → inside_fields fs ≤ d → struct_with (inner d) ts ≡ Ok ((fields_in fs, b), r)
   read_struct (no_fields {p} {r}) d h = empty_struct (inner d) p r
   read_struct (dots_alone {p} c) d h = open_alone (inner d) p c
-  read_struct (fields {us = us} (labelled l m v) fs o) d h = rw (struct_first (inner d) l, read_field (labelled l m v) d (max_left _ _ h) (quiet_fields fs (quiet_opening o)), read_fields fs d (length us) (max_right _ _ h) (omega arith) (quiet_opening o) (no_other_field o), opening_is o) refl
+  read_struct (fields {us = us} f fs o) d h = rw (struct_first (inner d) f, read_field f d (max_left _ _ h) (quiet_fields fs (quiet_opening o)), read_fields fs d (length us) (max_right _ _ h) (omega arith) (quiet_opening o) (no_other_field o), opening_is o) refl
 
   read_fields : {fs : Fields} {ts r : Words} → SpellsFields fs ts r → (d n : ℕ) → inside_fields fs ≤ d → length ts ≤ n → Quiet r → another_field r ≡ None → fields_with (inner d) n ts ≡ Ok (fields_in fs, r)
   read_fields (no_more_fields {r}) d n h k q e = many_end another_field (field_with (inner d)) n r e
   read_fields (next_field c f fs) d zero h k q e = let never : ⊥ = omega (arith, shorter_comma c) in absurd never
-  read_fields (next_field c (labelled l m v) fs) d (suc n) h k q e = many_next another_field (field_with (inner d)) n (another_is c l) (read_field (labelled l m v) d (max_left _ _ h) (quiet_fields fs q)) (read_fields fs d n (max_right _ _ h) (omega (arith, shorter_comma c, no_longer (of_field (labelled l m v)))) q e)
+  read_fields (next_field c f fs) d (suc n) h k q e = many_next another_field (field_with (inner d)) n (another_is c f) (read_field f d (max_left _ _ h) (quiet_fields fs q)) (read_fields fs d n (max_right _ _ h) (omega (arith, shorter_comma c, no_longer (of_field f))) q e)
 
   read_list : {es : Trees} {end : End} {ts r : Words} → SpellsList es end ts r → (d : ℕ) → max (inside_elements es) (inside_end end) ≤ d → list_with (inner d) ts ≡ Ok ((trees_in es, end), r)
   read_list (no_elements {p} {r}) d h = empty_list (inner d) p r

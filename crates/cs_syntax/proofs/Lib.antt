@@ -1,6 +1,7 @@
 pub mod WordKinds
 pub mod QuotedTexts
 pub mod Reader
+pub mod BracketLabels
 pub mod Completeness
 pub mod Soundness
 pub mod Places

@@ -5,10 +5,10 @@ use Rattle.std.specs.Prelude.{max, codes}
 use Rattle.std.specs.Option.{unwrap_or}
 use Rattle.std.specs.Str.{bytes_eq}
 use Rattle.cs_grammar.specs.declared.ast.FieldMark.{FieldMark}
-use Rattle.cs_grammar.specs.Words.{Word, Words, name, quoted, comma, nl, colon}
+use Rattle.cs_grammar.specs.Words.{Word, Words, name, quoted, open_list, close_list, comma, nl, colon}
 use Rattle.cs_grammar.specs.Tree as T
 use Rattle.cs_grammar.specs.Tree.{Label, Tree, Trees, none, more, Fields, no_field, field, End, DefinitionTree, body, FileTree, definitions}
-use Rattle.cs_grammar.specs.Spells.{is_null, literal_of, Comma, explicit, inserted, ClosesParen, paren_here, paren_after, ClosesList, list_here, list_after, ClosesStruct, struct_here, struct_after, SpellsNumber, positive, negative, SpellsBound, limit_is, other_number, other_text, other_null, SpellsLabel, bare_label, quoted_label, SpellsMark, regular, optional, required, SpellsOpening, unopened, opened, SpellsValue, long, short, SpellsField, labelled, SpellsExpr, one_conj, disjunction_is, SpellsBars, no_bar, a_bar, SpellsConj, one_operand, conjunction_is, SpellsAmps, no_amp, an_amp, SpellsOperand, top_is, bottom_is, reference_is, name_is, number_is, text_is, bound_is, paren_is, struct_is, list_is, SpellsStruct, no_fields, dots_alone, fields, SpellsFields, no_more_fields, next_field, SpellsList, no_elements, rest_alone, elements, SpellsElements, no_more_elements, next_element, SpellsEnd, closed_is, rest_is, SpellsRest, any_is, each_is, defined, SpellsDefinitions, no_definition, next_definition, SpellsPackage, no_clause, clause, SpellsFile, spelled}
+use Rattle.cs_grammar.specs.Spells.{is_null, is_string, literal_of, Comma, explicit, inserted, ClosesParen, paren_here, paren_after, ClosesList, list_here, list_after, ClosesStruct, struct_here, struct_after, SpellsNumber, positive, negative, SpellsBound, limit_is, other_number, other_text, other_null, SpellsLabel, bare_label, quoted_label, SpellsMark, regular, optional, required, SpellsOpening, unopened, opened, SpellsValue, long, short, SpellsField, labelled, every_key, SpellsExpr, one_conj, disjunction_is, SpellsBars, no_bar, a_bar, SpellsConj, one_operand, conjunction_is, SpellsAmps, no_amp, an_amp, SpellsOperand, top_is, bottom_is, reference_is, name_is, number_is, text_is, bound_is, paren_is, struct_is, list_is, SpellsStruct, no_fields, dots_alone, fields, SpellsFields, no_more_fields, next_field, SpellsList, no_elements, rest_alone, elements, SpellsElements, no_more_elements, next_element, SpellsEnd, closed_is, rest_is, SpellsRest, any_is, each_is, defined, SpellsDefinitions, no_definition, next_definition, SpellsPackage, no_clause, clause, SpellsFile, spelled}
 use Rattle.cs_syntax.specs.Nesting.{OpenLevels, is_chained_label, counted_if, behind, nesting_at, nesting_from, nesting}
 use Rattle.cs_syntax.proofs.NestingCounts.{nesting-cons}
 
@@ -165,6 +165,11 @@ chained_text s p [] = refl
 chained_text s p (colon q ∷ ws) = refl
 chained_text s p (w ∷ ws) = refl
 
+chained_bracket : (s : List ℕ) (q p o : ℕ) (ws : Words) → is_string s ≡ true → is_chained_label (close_list q ∷ name s p ∷ open_list o ∷ ws) ≡ begins_colon ws
+chained_bracket s q p o [] e = refl
+chained_bracket s q p o (colon r ∷ ws) e = e
+chained_bracket s q p o (w ∷ ws) e = refl
+
 counted_runs : {k : ℕ} {ws ts : Words} {b c : Bool} (ns : OpenLevels) → b ≡ c → Runs k ws (counted_if b ns) ts → Runs k ws (counted_if c ns) ts
 counted_runs {k} {ws} {ts} ns e h = subst (λ b. Runs k ws (counted_if b ns) ts) e h
 
@@ -175,6 +180,9 @@ value_begins {ws = ws} {ns = ns} (bare_label {s} {p}) required h = (_, _, counte
 value_begins {ws = ws} {ns = ns} (quoted_label {s} {p}) regular h = (_, _, counted_runs ns (chained_text s p ws) (pass (pass h)))
 value_begins {ws = ws} {ns = ns} (quoted_label {s} {p}) optional h = (_, _, counted_runs ns (chained_text s p ws) (pass (pass (pass h))))
 value_begins {ws = ws} {ns = ns} (quoted_label {s} {p}) required h = (_, _, counted_runs ns (chained_text s p ws) (pass (pass (pass h))))
+
+every_begins : {k n o p q c : ℕ} {s : List ℕ} {ws ts : Words} {ns : OpenLevels} → is_string s ≡ true → Runs k ws (n ∷ ns) (open_list o ∷ name s p ∷ close_list q ∷ colon c ∷ ts) → ToValue k (counted_if (begins_colon ws) (n ∷ ns)) ts
+every_begins {n = n} {o = o} {p = p} {q = q} {s = s} {ws = ws} {ns = ns} e h = (_, _, counted_runs (n ∷ ns) (chained_bracket s q p o ws e) (pass (pass (pass (pass h)))))
 
 -- ---- the grammar
 
@@ -195,9 +203,11 @@ mutual
   value_low : {k q n : ℕ} {e : Tree} {ws ts r : Words} {ns : OpenLevels} → SpellsValue e ts r → Runs k (colon q ∷ ws) (n ∷ ns) ts → Fits k (inside e) (n ∷ ns) × Leaves k ns r
   value_low {n = n} (long s) h = let x = expr_low s h in (x.0, (n, x.1))
   value_low {n = n} {ns = ns} (short o (labelled l m v)) h = let b = value_begins l m h in let x = value_low v b.2 in (max_plus _ 0 _ (omega (arith, x.0, longer n ns)) (flat h), x.1)
+  value_low {n = n} {ns = ns} (short o (every_key e v)) h = let b = every_begins e h in let x = value_low v b.2 in (max_plus _ 0 _ (omega (arith, x.0, longer n ns)) (flat h), x.1)
 
   field_low : {k n : ℕ} {l : Label} {m : FieldMark} {e : Tree} {ws ts r : Words} {ns : OpenLevels} → SpellsField l m e ts r → begins_colon ws ≡ false → Runs k ws (n ∷ ns) ts → Fits k (inside e) (n ∷ ns) × Leaves k ns r
   field_low {n = n} {ns = ns} (labelled l m v) f h = let b = value_begins l m h in value_low v (counted_runs (n ∷ ns) f b.2)
+  field_low {n = n} {ns = ns} (every_key e v) f h = let b = every_begins e h in value_low v (counted_runs (n ∷ ns) f b.2)
 
   expr_low : {k n : ℕ} {e : Tree} {ws ts r : Words} {ns : OpenLevels} → SpellsExpr e ts r → Runs k ws (n ∷ ns) ts → Fits k (inside e) (n ∷ ns) × Goes k (n ∷ ns) r
   expr_low (one_conj c) h = conj_low c h

@@ -2,14 +2,15 @@
 use Rattle.std.proofs.Common.{◌≡◌, ℕ, suc, ◌+◌, ◌-◌, List, [], ◌∷◌, length, Bool, true, false, cond, refl, ap, sym, ◌∙◌, arith}
 use Rattle.std.proofs.lemmas.List.Sums.{sum_by-cons}
 use Rattle.std.specs.List.{sum}
-use Rattle.std.specs.Prelude.{max}
+use Rattle.std.specs.Prelude.{max, ◌&&◌}
 use Rattle.cs_grammar.specs.Atom as atoms
 use Rattle.cs_grammar.specs.declared.kind.Kind.{Kind}
 use Rattle.cs_grammar.specs.declared.kind.Kind.TheVariants as kinds
 use Rattle.cs_syntax.specs.declared.parser.nesting.PrecedingToken.{PrecedingToken}
 use Rattle.cs_syntax.specs.declared.parser.nesting.PrecedingToken.TheVariants as before
 use Rattle.cs_grammar.specs.Words.{Word, Words, name, quoted, open_struct, close_struct, open_list, close_list, open_paren, close_paren, comma, nl, colon, question, bang, relation}
-use Rattle.cs_syntax.specs.Reading.{word_kind}
+use Rattle.cs_grammar.specs.Spells.{is_string}
+use Rattle.cs_syntax.specs.Reading.{word_kind, names_string}
 use Rattle.cs_syntax.specs.Nesting.{is_chained_label, is_short, closed, counted_if, behind, nesting_at, nesting_from}
 use Rattle.cs_syntax.specs.Counting as counting
 use Rattle.cs_syntax.specs.Counting.{before_next, short_colon, levels_next, level_opened, level_closed, counted_from}
@@ -19,110 +20,161 @@ use Rattle.cs_syntax.specs.Counting.{before_next, short_colon, levels_next, leve
 -- the words passed, the newest first
 abbrev before_of : Words → PrecedingToken
 before_of [] = before.Other
-before_of (w ∷ ws) = before_next (before_of ws) (word_kind w)
+before_of (w ∷ ws) = before_next (before_of ws) (word_kind w) (names_string w)
+
+abbrev is_colon : PrecedingToken → Bool
+is_colon before.Colon = true
+is_colon _ = false
+
+abbrev is_bracket : PrecedingToken → Bool
+is_bracket before.LabelBracket = true
+is_bracket _ = false
+
+abbrev is_name : PrecedingToken → Bool
+is_name before.LabelName = true
+is_name _ = false
 
 abbrev is_label : PrecedingToken → Bool
 is_label before.Label = true
-is_label before.Mark = false
-is_label before.Other = false
-is_label before.Colon = false
+is_label _ = false
 
-abbrev is_colon : Kind → Bool
-is_colon kinds.Colon = true
-is_colon _ = false
+-- one word further, by its kind
+abbrev colon_kind : Kind → Bool
+colon_kind kinds.Colon = true
+colon_kind _ = false
 
-abbrev is_name : Kind → Bool
-is_name kinds.Name = true
-is_name kinds.Text = true
-is_name _ = false
+abbrev bracket_kind : Kind → PrecedingToken → Bool
+bracket_kind kinds.OpenList b = is_colon b
+bracket_kind _ b = false
 
-label_next : (b : PrecedingToken) (k : Kind) → is_label (before_next (before_next b k) kinds.Name) ≡ is_colon k
-label_next before.Other kinds.Colon = refl
-label_next before.Colon kinds.Colon = refl
-label_next before.Label kinds.Colon = refl
-label_next before.Mark kinds.Colon = refl
-label_next b k = refl
+abbrev name_kind : Kind → PrecedingToken → Bool → Bool
+name_kind kinds.Name b n = is_bracket b && n
+name_kind _ b n = false
 
-text_next : (b : PrecedingToken) (k : Kind) → is_label (before_next (before_next b k) kinds.Text) ≡ is_colon k
-text_next before.Other kinds.Colon = refl
-text_next before.Colon kinds.Colon = refl
-text_next before.Label kinds.Colon = refl
-text_next before.Mark kinds.Colon = refl
-text_next b k = refl
+abbrev label_kind : Kind → PrecedingToken → Bool
+label_kind kinds.Name b = is_colon b
+label_kind kinds.Text b = is_colon b
+label_kind kinds.CloseList b = is_name b
+label_kind _ b = false
 
--- a label behind a colon, by kinds; then by words
-abbrev chained_kind : Kind → Kind → Bool
-chained_kind kinds.Name k = is_colon k
-chained_kind kinds.Text k = is_colon k
-chained_kind _ k = false
+-- what the code's step does to each of these
+record Steps (b : PrecedingToken) (k : Kind) (n : Bool) : Type 0 where
+  to_colon : is_colon (before_next b k n) ≡ colon_kind k
+  to_bracket : is_bracket (before_next b k n) ≡ bracket_kind k b
+  to_name : is_name (before_next b k n) ≡ name_kind k b n
+  to_label : is_label (before_next b k n) ≡ label_kind k b
 
-other_next : (b : PrecedingToken) (j : Kind) → is_name j ≡ false → is_label (before_next b j) ≡ false
-other_next before.Other kinds.Colon h = refl
-other_next before.Colon kinds.Colon h = refl
-other_next before.Label kinds.Colon h = refl
-other_next before.Mark kinds.Colon h = refl
-other_next b kinds.Name h = absurd cc
-other_next b kinds.Text h = absurd cc
-other_next b j h = refl
+steps : (b : PrecedingToken) (k : Kind) (n : Bool) → Steps b k n
+steps before.Colon kinds.Colon n = record { to_colon = refl; to_bracket = refl; to_name = refl; to_label = refl }
+steps before.Label kinds.Question n = record { to_colon = refl; to_bracket = refl; to_name = refl; to_label = refl }
+steps before.Mark kinds.Colon n = record { to_colon = refl; to_bracket = refl; to_name = refl; to_label = refl }
+steps before.Other kinds.Colon n = record { to_colon = refl; to_bracket = refl; to_name = refl; to_label = refl }
+steps before.LabelName kinds.CloseList n = record { to_colon = refl; to_bracket = refl; to_name = refl; to_label = refl }
+steps before.LabelBracket kinds.Name true = record { to_colon = refl; to_bracket = refl; to_name = refl; to_label = refl }
+steps before.LabelBracket kinds.Name false = record { to_colon = refl; to_bracket = refl; to_name = refl; to_label = refl }
+steps b k n = record { to_colon = refl; to_bracket = refl; to_name = refl; to_label = refl }
 
-two_kinds : (b : PrecedingToken) (j k : Kind) → is_label (before_next (before_next b k) j) ≡ chained_kind j k
-two_kinds b kinds.Name k = label_next b k
-two_kinds b kinds.Text k = text_next b k
-two_kinds b j k = other_next (before_next b k) j refl
+-- ---- the same by words
 
-no_label_first : (j : Kind) → is_label (before_next before.Other j) ≡ false
-no_label_first kinds.Colon = refl
-no_label_first j = refl
+abbrev after_colon : Words → Bool
+after_colon (colon o ∷ ws) = true
+after_colon ws = false
 
-colon_word : (s : List ℕ) (o : ℕ) (v : Word) (ws : Words) → is_chained_label (name s o ∷ v ∷ ws) ≡ is_colon (word_kind v)
-colon_word s o (colon p) ws = refl
-colon_word s o (relation atoms.less p) ws = refl
-colon_word s o (relation atoms.at_most p) ws = refl
-colon_word s o (relation atoms.more p) ws = refl
-colon_word s o (relation atoms.at_least p) ws = refl
-colon_word s o v ws = refl
+abbrev after_bracket : Words → Bool
+after_bracket (open_list o ∷ ws) = after_colon ws
+after_bracket ws = false
 
-colon_text : (s : List ℕ) (o : ℕ) (v : Word) (ws : Words) → is_chained_label (quoted s o ∷ v ∷ ws) ≡ is_colon (word_kind v)
-colon_text s o (colon p) ws = refl
-colon_text s o (relation atoms.less p) ws = refl
-colon_text s o (relation atoms.at_most p) ws = refl
-colon_text s o (relation atoms.more p) ws = refl
-colon_text s o (relation atoms.at_least p) ws = refl
-colon_text s o v ws = refl
+abbrev after_name : Words → Bool
+after_name (name s o ∷ ws) = after_bracket ws && is_string s
+after_name ws = false
 
-two_words : (w v : Word) (ws : Words) → is_chained_label (w ∷ v ∷ ws) ≡ chained_kind (word_kind w) (word_kind v)
-two_words (name s o) v ws = colon_word s o v ws
-two_words (quoted s o) v ws = colon_text s o v ws
-two_words (relation atoms.less o) v ws = refl
-two_words (relation atoms.at_most o) v ws = refl
-two_words (relation atoms.more o) v ws = refl
-two_words (relation atoms.at_least o) v ws = refl
-two_words w v ws = refl
+abbrev after_label : Words → Bool
+after_label (name s o ∷ ws) = after_colon ws
+after_label (quoted s o ∷ ws) = after_colon ws
+after_label (close_list o ∷ ws) = after_name ws
+after_label ws = false
 
-one_word : (w : Word) → is_chained_label (w ∷ []) ≡ false
-one_word (name s o) = refl
-one_word w = refl
+after_label_is : (ws : Words) → is_chained_label ws ≡ after_label ws
+after_label_is (name s o ∷ colon p ∷ ws) = refl
+after_label_is (name s o ∷ ws) = refl
+after_label_is (quoted s o ∷ colon p ∷ ws) = refl
+after_label_is (quoted s o ∷ ws) = refl
+after_label_is (close_list o ∷ name s p ∷ open_list q ∷ colon r ∷ ws) = refl
+after_label_is (close_list o ∷ name s p ∷ open_list q ∷ ws) = refl
+after_label_is (close_list o ∷ name s p ∷ ws) = refl
+after_label_is (close_list o ∷ ws) = refl
+after_label_is ws = refl
+
+-- ---- both agree
+
+colon_word : (w : Word) (ws : Words) → colon_kind (word_kind w) ≡ after_colon (w ∷ ws)
+colon_word (colon o) ws = refl
+colon_word (relation atoms.less o) ws = refl
+colon_word (relation atoms.at_most o) ws = refl
+colon_word (relation atoms.more o) ws = refl
+colon_word (relation atoms.at_least o) ws = refl
+colon_word w ws = refl
+
+colons : (ws : Words) → is_colon (before_of ws) ≡ after_colon ws
+colons [] = refl
+colons (w ∷ ws) = (steps (before_of ws) (word_kind w) (names_string w)).to_colon ∙ colon_word w ws
+
+bracket_word : (w : Word) (ws : Words) → bracket_kind (word_kind w) (before_of ws) ≡ after_bracket (w ∷ ws)
+bracket_word (open_list o) ws = colons ws
+bracket_word (relation atoms.less o) ws = refl
+bracket_word (relation atoms.at_most o) ws = refl
+bracket_word (relation atoms.more o) ws = refl
+bracket_word (relation atoms.at_least o) ws = refl
+bracket_word w ws = refl
+
+brackets : (ws : Words) → is_bracket (before_of ws) ≡ after_bracket ws
+brackets [] = refl
+brackets (w ∷ ws) = (steps (before_of ws) (word_kind w) (names_string w)).to_bracket ∙ bracket_word w ws
+
+name_word : (w : Word) (ws : Words) → name_kind (word_kind w) (before_of ws) (names_string w) ≡ after_name (w ∷ ws)
+name_word (name s o) ws = ap (λ b. b && is_string s) (brackets ws)
+name_word (relation atoms.less o) ws = refl
+name_word (relation atoms.at_most o) ws = refl
+name_word (relation atoms.more o) ws = refl
+name_word (relation atoms.at_least o) ws = refl
+name_word w ws = refl
+
+names : (ws : Words) → is_name (before_of ws) ≡ after_name ws
+names [] = refl
+names (w ∷ ws) = (steps (before_of ws) (word_kind w) (names_string w)).to_name ∙ name_word w ws
+
+label_word : (w : Word) (ws : Words) → label_kind (word_kind w) (before_of ws) ≡ after_label (w ∷ ws)
+label_word (name s o) ws = colons ws
+label_word (quoted s o) ws = colons ws
+label_word (close_list o) ws = names ws
+label_word (relation atoms.less o) ws = refl
+label_word (relation atoms.at_most o) ws = refl
+label_word (relation atoms.more o) ws = refl
+label_word (relation atoms.at_least o) ws = refl
+label_word w ws = refl
 
 chained : (ws : Words) → is_chained_label ws ≡ is_label (before_of ws)
 chained [] = refl
-chained (w ∷ []) = one_word w ∙ sym (no_label_first (word_kind w))
-chained (w ∷ v ∷ ws) = two_words w v ws ∙ sym (two_kinds (before_of ws) (word_kind w) (word_kind v))
+chained (w ∷ ws) = after_label_is (w ∷ ws) ∙ sym ((steps (before_of ws) (word_kind w) (names_string w)).to_label ∙ label_word w ws)
 
 -- ---- short colons
 
-abbrev short_kind : Kind → PrecedingToken → Bool
-short_kind kinds.Question b = is_label b
-short_kind kinds.Bang b = is_label b
-short_kind k b = is_label (before_next b k)
+abbrev short_kind : Kind → PrecedingToken → Bool → Bool
+short_kind kinds.Question b n = is_label b
+short_kind kinds.Bang b n = is_label b
+short_kind k b n = is_label (before_next b k n)
 
-short_next : (b : PrecedingToken) (k : Kind) → short_colon (before_next b k) ≡ cond (short_kind k b) 1 0
-short_next before.Other kinds.Colon = refl
-short_next before.Colon kinds.Colon = refl
-short_next before.Label kinds.Colon = refl
-short_next before.Mark kinds.Colon = refl
-short_next b k = refl
+short_next : (b : PrecedingToken) (k : Kind) (n : Bool) → short_colon (before_next b k n) ≡ cond (short_kind k b n) 1 0
+short_next before.Other kinds.Colon n = refl
+short_next before.Colon kinds.Colon n = refl
+short_next before.Label kinds.Colon n = refl
+short_next before.Mark kinds.Colon n = refl
+short_next before.LabelName kinds.Colon n = refl
+short_next before.LabelBracket kinds.Name true = refl
+short_next before.LabelBracket kinds.Name false = refl
+short_next b k n = refl
 
-short_word : (w : Word) (ws : Words) → is_short (w ∷ ws) ≡ short_kind (word_kind w) (before_of ws)
+short_word : (w : Word) (ws : Words) → is_short (w ∷ ws) ≡ short_kind (word_kind w) (before_of ws) (names_string w)
 short_word (question o) ws = chained ws
 short_word (bang o) ws = chained ws
 short_word (relation atoms.less o) ws = chained (relation atoms.less o ∷ ws)
@@ -133,7 +185,7 @@ short_word w ws = chained (w ∷ ws)
 
 short_is : (ws : Words) → short_colon (before_of ws) ≡ cond (is_short ws) 1 0
 short_is [] = refl
-short_is (w ∷ ws) = short_next (before_of ws) (word_kind w) ∙ ap (λ b. cond b 1 0) (sym (short_word w ws))
+short_is (w ∷ ws) = short_next (before_of ws) (word_kind w) (names_string w) ∙ ap (λ b. cond b 1 0) (sym (short_word w ws))
 
 -- ---- levels
 

@@ -16,7 +16,7 @@ use Rattle.cs_grammar.specs.Words.{Word, Words, start, name, quoted, definition_
 use Rattle.cs_grammar.specs.Tree.{Tree, atom, not_integer, DefinitionTree, FileTree, file}
 use Rattle.cs_grammar.specs.Spells.{is_reserved, is_null, literal_of}
 use Rattle.cs_grammar.specs.View.{words}
-use Rattle.cs_syntax.specs.Reading.{◌>>=◌, Read, word_kind, begins_with, begins_comma, fault_at, behind_if, after, after_comma, or_fault, beyond, comma_at, close_at, paren_end, expected, signed, number_or, number_at, name_or, null_or, bound_at, unequal_at, integer_at, unbracketed_at, or_more, many, another_field, another_element, opening, opening_if, opening_at, rest_behind, may_end, label_at, mark_if, mark_at, field_with, fields_with, struct_if, struct_with, rest_if, rest_with, end_if, end_with, elements_with, list_if, list_with, operand_with, amps_with, conj_with, bars_with, expr_with, value_if, begins_field, inner, definition_at, line_at, before_end, definitions_at, is_clause, clause_at, package_if, package_at, whole, file_with, file_at}
+use Rattle.cs_syntax.specs.Reading.{◌>>=◌, Read, word_kind, begins_with, begins_comma, fault_at, behind_if, after, after_comma, or_fault, beyond, comma_at, close_at, paren_end, expected, signed, number_or, number_at, name_or, null_or, bound_at, unequal_at, integer_at, unbracketed_at, or_more, many, another_field, another_element, opening, opening_if, opening_at, rest_behind, may_end, label_at, mark_if, mark_at, begins_string, string_at, every_key_at, head_if, head_at, field_with, fields_with, struct_if, struct_with, rest_if, rest_with, end_if, end_with, elements_with, list_if, list_with, operand_with, amps_with, conj_with, bars_with, expr_with, value_if, begins_field, inner, definition_at, line_at, before_end, definitions_at, is_clause, clause_at, package_if, package_at, whole, file_with, file_at}
 use Rattle.cs_syntax.specs.Place.{is_left_out, fault_if, Ends, same, past, IsFaultIn}
 use Rattle.cs_lexer.specs.Lexed.{IsRefusal}
 use Rattle.cs_syntax.specs.Answer.{IsFileRefusal}
@@ -203,6 +203,21 @@ label_goes (name s p ∷ ts) (before e) = (past same, e)
 label_goes (quoted s p ∷ ts) (before e) = (past same, e)
 label_goes ts e = fault_here ts e
 
+string_goes : (ts : Words) → WellEnded ts → GoesTo ts (string_at ts)
+string_goes ts e = or_fault_goes ts (behind_if (begins_string ts) ts) e (behind_goes begins_string (λ p. refl) ts e)
+
+every_key_goes : IsGoing every_key_at
+unfolding every_key_at
+every_key_goes ts e = then_to ts (string_at ts) _ (string_goes ts e) (λ us k. then_to us (expected kinds.CloseList us) _ (expected_goes kinds.CloseList refl us k) (λ vs l. (same, l)))
+
+head_goes : IsGoing head_at
+unfolding head_at
+head_goes ts e = by (after kinds.OpenList ts) (after_goes kinds.OpenList refl ts e)
+  where
+    by : (o : Option Words) → GoesBehind ts o → Goes ts (head_if ts o)
+    by (Some us) g = moved ts us (every_key_at us) g.0 (every_key_goes us g.1)
+    by None g = then ts (label_at ts) _ (label_goes ts e) (λ l k. mark_goes l.1 k)
+
 opening_goes : IsGoing opening_at
 opening_goes ts e = by (opening ts) (behind_goes (λ us. begins_comma us && begins_with kinds.Dots (drop 1 us)) (λ p. refl) ts e)
   where
@@ -219,7 +234,7 @@ element_skips ts e = behind_goes (λ us. begins_with kinds.Comma us && not (begi
 module _ (r : Bool → Read Tree) (h : (b : Bool) → IsGoing (r b)) where
   field_goes : IsGoing (field_with r)
   unfolding field_with
-  field_goes ts e = then ts (label_at ts) _ (label_goes ts e) (λ l k. let m = mark_goes l.1 k in moved l.1 (mark_at l.1).1 (expected kinds.Colon (mark_at l.1).1 >>= λ us. r true us >>= λ x. Ok (record { label = l.0; mark = (mark_at l.1).0; value = x.0 }, x.1)) m.0 (then_to (mark_at l.1).1 (expected kinds.Colon (mark_at l.1).1) _ (expected_goes kinds.Colon refl (mark_at l.1).1 m.1) (λ us n. then us (r true us) _ (h true us n) (λ x o. (same, o)))))
+  field_goes ts e = then ts (head_at ts) _ (head_goes ts e) (λ x k. then_to x.1 (expected kinds.Colon x.1) _ (expected_goes kinds.Colon refl x.1 k) (λ us n. then us (r true us) _ (h true us n) (λ y o. (same, o))))
 
   struct_goes : IsGoing (struct_with r)
   unfolding struct_with

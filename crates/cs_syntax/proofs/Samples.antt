@@ -98,6 +98,18 @@ other_colons = refl
 in_one_another : map nesting (body (a ∷ W.colon 0 ∷ a ∷ W.colon 0 ∷ a ∷ W.colon 0 ∷ one_word ∷ []) ∷ body (W.open_struct 0 ∷ a ∷ W.colon 0 ∷ a ∷ W.colon 0 ∷ W.open_paren 0 ∷ one_word ∷ W.close_paren 0 ∷ W.close_struct 0 ∷ []) ∷ []) ≡ 3 ∷ 3 ∷ []
 in_one_another = refl
 
+-- the label for every key, `[string]`
+abbrev every : Words
+every = W.open_list 0 ∷ W.name (codes "string") 0 ∷ W.close_list 0 ∷ []
+
+-- `#A: [string]: `, and with `?` and `!`, as deep as `#A: a: [string]: b: int`, where three colons are short and a bracket is open behind one
+every_key_colons : map nesting (body (every ++ W.colon 0 ∷ []) ∷ body (every ++ W.question 0 ∷ W.colon 0 ∷ []) ∷ body (a ∷ W.colon 0 ∷ every) ∷ body (a ∷ W.colon 0 ∷ every ++ W.colon 0 ∷ []) ∷ body (a ∷ W.colon 0 ∷ every ++ W.colon 0 ∷ a ∷ W.colon 0 ∷ a ∷ []) ∷ body (every ++ W.colon 0 ∷ every ++ W.colon 0 ∷ every) ∷ []) ≡ 1 ∷ 1 ∷ 2 ∷ 2 ∷ 3 ∷ 3 ∷ []
+every_key_colons = refl
+
+-- `#A: [string]: a:`, where both colons are short, and `#A: [a]: a:`, `#A: ["string"]: a:`, `#A: & [string]: a:`, `#A: [string a]: a:`, where the first isn't
+every_key_words : map (λ ts. nesting (body (ts ++ W.colon 0 ∷ a ∷ W.colon 0 ∷ []))) (every ∷ (W.open_list 0 ∷ a ∷ W.close_list 0 ∷ []) ∷ (W.open_list 0 ∷ W.quoted (codes "string") 0 ∷ W.close_list 0 ∷ []) ∷ (W.amp 0 ∷ every) ∷ (W.open_list 0 ∷ W.name (codes "string") 0 ∷ a ∷ W.close_list 0 ∷ []) ∷ []) ≡ 2 ∷ 1 ∷ 1 ∷ 1 ∷ 1 ∷ []
+every_key_words = refl
+
 -- a comma of either kind ends the short colons of its level: `#A: a: a: 1, #A: a: 1`
 abbrev parted_by : Word → Words
 parted_by w = body (a ∷ W.colon 0 ∷ a ∷ W.colon 0 ∷ one_word ∷ w ∷ body (a ∷ W.colon 0 ∷ one_word ∷ []))

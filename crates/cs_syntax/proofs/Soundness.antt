@@ -5,12 +5,14 @@ use Rattle.std.specs.Prelude.{FitsSigned, neg_ℤ, nat_lt, nat_le, ◌&&◌, ◌
 use Rattle.std.specs.Int.{w64}
 use Rattle.cs_grammar.specs.declared.fault.SyntaxFault.{SyntaxFault}
 use Rattle.cs_grammar.specs.declared.kind.Kind.TheVariants as kinds
+use Rattle.cs_grammar.specs.declared.ast.FieldMark.{FieldMark}
+use Rattle.cs_grammar.specs.declared.ast.FieldMark.TheVariants.{Every}
 use Rattle.cs_grammar.specs.Atom as atoms
 use Rattle.cs_grammar.specs.Words.{Words, name, quoted, definition_name, top_mark, bottom_mark, numeral, open_paren, open_struct, open_list, close_paren, close_struct, close_list, comma, nl, colon, question, bang, amp, bar, dots, relation, unequal, minus, finish}
-use Rattle.cs_grammar.specs.Tree.{Tree, atom, not_integer, End, DefinitionTree, FileTree, file}
+use Rattle.cs_grammar.specs.Tree.{Label, Tree, atom, not_integer, End, DefinitionTree, FileTree, file}
 use Rattle.cs_grammar.specs.View.{trees_of, fields_of, Seen}
-use Rattle.cs_grammar.specs.Spells.{is_reserved, is_null, is_package, literal_of, Comma, explicit, inserted, ClosesParen, paren_here, paren_after, ClosesList, list_here, list_after, ClosesStruct, struct_here, struct_after, SpellsNumber, positive, negative, SpellsBound, limit_is, other_number, other_text, other_null, SpellsLabel, bare_label, quoted_label, SpellsMark, regular, optional, required, SpellsOpening, unopened, opened, SpellsValue, long, short, SpellsField, labelled, SpellsExpr, one_conj, disjunction_is, SpellsBars, no_bar, a_bar, SpellsConj, one_operand, conjunction_is, SpellsAmps, no_amp, an_amp, SpellsOperand, top_is, bottom_is, reference_is, name_is, number_is, text_is, bound_is, paren_is, struct_is, list_is, SpellsStruct, no_fields, dots_alone, fields, SpellsFields, no_more_fields, next_field, SpellsList, no_elements, rest_alone, elements, SpellsElements, no_more_elements, next_element, SpellsEnd, closed_is, rest_is, SpellsRest, any_is, each_is, SpellsDefinition, defined, SpellsDefinitions, no_definition, next_definition, SpellsPackage, no_clause, clause, SpellsFile, spelled}
-use Rattle.cs_syntax.specs.Reading.{◌>>=◌, Read, expected, begins_with, behind_if, begins_comma, comma_at, close_at, paren_end, another_field, another_element, opening, opening_if, opening_at, rest_behind, may_end, signed, number_or, number_at, name_or, null_or, bound_at, unequal_at, integer_at, unbracketed_at, or_more, many, label_at, mark_at, field_with, fields_with, struct_with, rest_if, rest_with, end_if, end_with, elements_with, list_with, operand_with, amps_with, conjunction_of, conj_with, bars_with, disjunction_of, expr_with, value_if, begins_field, inner, definition_at, line_at, before_end, definitions_at, clause_at, package_if, package_at, whole, file_with, file_at}
+use Rattle.cs_grammar.specs.Spells.{is_reserved, is_null, is_package, is_string, every_label, start_at, literal_of, Comma, explicit, inserted, ClosesParen, paren_here, paren_after, ClosesList, list_here, list_after, ClosesStruct, struct_here, struct_after, SpellsNumber, positive, negative, SpellsBound, limit_is, other_number, other_text, other_null, SpellsLabel, bare_label, quoted_label, SpellsMark, regular, optional, required, SpellsOpening, unopened, opened, SpellsValue, long, short, SpellsField, labelled, every_key, SpellsExpr, one_conj, disjunction_is, SpellsBars, no_bar, a_bar, SpellsConj, one_operand, conjunction_is, SpellsAmps, no_amp, an_amp, SpellsOperand, top_is, bottom_is, reference_is, name_is, number_is, text_is, bound_is, paren_is, struct_is, list_is, SpellsStruct, no_fields, dots_alone, fields, SpellsFields, no_more_fields, next_field, SpellsList, no_elements, rest_alone, elements, SpellsElements, no_more_elements, next_element, SpellsEnd, closed_is, rest_is, SpellsRest, any_is, each_is, SpellsDefinition, defined, SpellsDefinitions, no_definition, next_definition, SpellsPackage, no_clause, clause, SpellsFile, spelled}
+use Rattle.cs_syntax.specs.Reading.{◌>>=◌, Read, expected, begins_with, behind_if, begins_comma, comma_at, close_at, paren_end, another_field, another_element, opening, opening_if, opening_at, rest_behind, may_end, signed, number_or, number_at, name_or, null_or, bound_at, unequal_at, integer_at, unbracketed_at, or_fault, or_more, many, label_at, mark_at, string_at, every_key_at, head_at, field_with, fields_with, struct_with, rest_if, rest_with, end_if, end_with, elements_with, list_with, operand_with, amps_with, conjunction_of, conj_with, bars_with, disjunction_of, expr_with, value_if, begins_field, inner, definition_at, line_at, before_end, definitions_at, clause_at, package_if, package_at, whole, file_with, file_at}
 
 -- P of what was read and of what is left
 abbrev IfRead : {A : Type 0} → (A → Words → Type 0) → Result (A × Words) SyntaxFault → Type 0
@@ -153,6 +155,63 @@ label_of (name s p ∷ ts) = bare_label
 label_of (quoted s p ∷ ts) = quoted_label
 label_of ts = tt
 
+-- ---- labels and their marks
+
+data Name : Words → Words → Type 0 where
+  is_name : {s : List ℕ} {p : ℕ} {r : Words} → is_string s ≡ true → Name (name s p ∷ r) r
+
+data CloseBracket : Words → Words → Type 0 where
+  is_close : {p : ℕ} {r : Words} → CloseBracket (close_list p ∷ r) r
+
+data Colon : Words → Words → Type 0 where
+  is_colon : {p : ℕ} {r : Words} → Colon (colon p ∷ r) r
+
+string_of : (ts : Words) → IfLeft (Name ts) (string_at ts)
+string_of (name s p ∷ ts) = by (is_string s) refl
+  where
+    by : (b : Bool) → is_string s ≡ b → IfLeft (Name (name s p ∷ ts)) (or_fault (name s p ∷ ts) (cond b (Some ts) None))
+    by true e = is_name e
+    by false e = tt
+string_of ts = tt
+
+close_of : (ts : Words) → IfLeft (CloseBracket ts) (expected kinds.CloseList ts)
+close_of (close_list p ∷ ts) = is_close
+close_of (relation atoms.less p ∷ ts) = tt
+close_of ts = tt
+
+colon_of : (ts : Words) → IfLeft (Colon ts) (expected kinds.Colon ts)
+colon_of (colon p ∷ ts) = is_colon
+colon_of (relation atoms.less p ∷ ts) = tt
+colon_of ts = tt
+
+left_is : (P : Words → Type 0) (m : Result Words SyntaxFault) (vs : Words) → IfLeft P m → m ≡ Ok vs → P vs
+left_is P m vs h e = subst (IfLeft P) e h
+
+-- a label with its mark: a colon and a value behind it make a field
+record HeadOf (ts : Words) (x : Label × FieldMark) (us : Words) : Type 0 where
+  goes_on : {e : Tree} (vs r : Words) → expected kinds.Colon us ≡ Ok vs → SpellsValue e vs r → SpellsField x.0 x.1 e ts r
+
+colon_behind : {o p q : ℕ} {s : List ℕ} {e : Tree} {us vs r : Words} → is_string s ≡ true → Colon us vs → SpellsValue e vs r → SpellsField every_label (Every p) e (open_list o ∷ name s p ∷ close_list q ∷ us) r
+colon_behind h is_colon v = every_key h v
+
+every_made : {ts us vs : Words} (o : ℕ) → Name ts us → CloseBracket us vs → HeadOf (open_list o ∷ ts) (every_label, Every (start_at ts)) vs
+every_made {vs = vs} o (is_name h) is_close = record { goes_on = λ ws r is v. colon_behind h (left_is (Colon vs) (expected kinds.Colon vs) ws (colon_of vs) is) v }
+
+every_of : (o : ℕ) (ts : Words) → IfRead (HeadOf (open_list o ∷ ts)) (every_key_at ts)
+unfolding every_key_at
+every_of o ts = if_left (Name ts) (HeadOf (open_list o ∷ ts)) (string_at ts) _ (string_of ts) (λ us n. if_left (CloseBracket us) (HeadOf (open_list o ∷ ts)) (expected kinds.CloseList us) _ (close_of us) (λ vs c. every_made o n c))
+
+labelled_of : (ts : Words) → IfRead (HeadOf ts) (label_at ts >>= λ l. Ok ((l.0, (mark_at l.1).0), (mark_at l.1).1))
+labelled_of ts = if_bind (λ l us. SpellsLabel l ts us) (HeadOf ts) (label_at ts) _ (label_of ts) (λ l us s. record { goes_on = λ vs r is v. labelled s (left_is (SpellsMark (mark_at us).0 us) (expected kinds.Colon (mark_at us).1) vs (mark_of us) is) v })
+
+head_of : (ts : Words) → IfRead (HeadOf ts) (head_at ts)
+unfolding head_at
+head_of (open_list o ∷ ts) = every_of o ts
+head_of (relation atoms.less p ∷ ts) = labelled_of (relation atoms.less p ∷ ts)
+head_of ts = labelled_of ts
+
+-- ---- what stands behind the last field
+
 opening_none : (ts : Words) → IfRead (λ b r. SpellsOpening b ts r) (opening_if ts None)
 opening_none ts = if_left (ClosesStruct ts) (λ b r. SpellsOpening b ts r) (close_at kinds.CloseStruct ts) _ (closes_struct_of ts) (λ us c. unopened c)
 
@@ -219,7 +278,11 @@ FieldOf ts f us = SpellsField f.label f.mark f.value ts us
 module _ (r : Bool → Read Tree) (h : IsSound r) where
   field_of : (ts : Words) → IfRead (FieldOf ts) (field_with r ts)
   unfolding field_with
-  field_of ts = if_bind (λ l us. SpellsLabel l ts us) (FieldOf ts) (label_at ts) _ (label_of ts) (λ l us s. if_left (SpellsMark (mark_at us).0 us) (FieldOf ts) (expected kinds.Colon (mark_at us).1) _ (mark_of us) (λ vs m. if_bind (λ e ws. SpellsValue e vs ws) (FieldOf ts) (r true vs) _ (h.values vs) (λ e ws v. labelled s m v)))
+  field_of ts = if_bind (HeadOf ts) (FieldOf ts) (head_at ts) _ (head_of ts) (λ x us s. behind x us s (expected kinds.Colon us) refl)
+    where
+      behind : (x : Label × FieldMark) (us : Words) → HeadOf ts x us → (m : Result Words SyntaxFault) → expected kinds.Colon us ≡ m → IfRead (FieldOf ts) (m >>= λ vs. r true vs >>= λ e. Ok (record { label = x.0; mark = x.1; value = e.0 }, e.1))
+      behind x us s (Ok vs) is = if_bind (λ e ws. SpellsValue e vs ws) (FieldOf ts) (r true vs) _ (h.values vs) (λ e ws v. s.goes_on vs ws is v)
+      behind x us s (Err f) is = tt
 
   abbrev FieldsOf : Words → List Seen → Words → Type 0
   FieldsOf ts fs us = SpellsFields (fields_of fs) ts us

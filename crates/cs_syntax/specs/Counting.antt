@@ -1,20 +1,23 @@
 -- The nesting as the code counts it: by kinds of tokens, with one count for the word and one for each level.
-use Rattle.std.specs.Prelude.{ℕ, ◌+◌, ◌-◌, max, List, [], ◌∷◌}
+use Rattle.std.specs.Prelude.{ℕ, ◌+◌, ◌-◌, max, Bool, if◌then◌else◌, List, [], ◌∷◌}
 use Rattle.cs_grammar.specs.declared.kind.Kind.{Kind}
 use Rattle.cs_grammar.specs.declared.kind.Kind.TheVariants as kinds
 use Rattle.cs_syntax.specs.declared.parser.nesting.PrecedingToken.{PrecedingToken}
 use Rattle.cs_syntax.specs.declared.parser.nesting.PrecedingToken.TheVariants as before
 use Rattle.cs_grammar.specs.Words.{Words}
-use Rattle.cs_syntax.specs.Reading.{word_kind}
+use Rattle.cs_syntax.specs.Reading.{word_kind, names_string}
 
--- what stands before the next word: a colon, a label behind a colon, or such a label's mark
-abbrev pub before_next : PrecedingToken → Kind → PrecedingToken
-before_next b kinds.Colon = before.Colon
-before_next before.Colon kinds.Name = before.Label
-before_next before.Colon kinds.Text = before.Label
-before_next before.Label kinds.Question = before.Mark
-before_next before.Label kinds.Bang = before.Mark
-before_next b k = before.Other
+-- what stands before the next word: a colon; behind a colon a label, that label's mark, or the bracket of a label with its name; and whether this word is the name `string`
+abbrev pub before_next : PrecedingToken → Kind → Bool → PrecedingToken
+before_next b kinds.Colon n = before.Colon
+before_next before.Colon kinds.Name n = before.Label
+before_next before.Colon kinds.Text n = before.Label
+before_next before.Colon kinds.OpenList n = before.LabelBracket
+before_next before.LabelBracket kinds.Name n = if n then before.LabelName else before.Other
+before_next before.LabelName kinds.CloseList n = before.Label
+before_next before.Label kinds.Question n = before.Mark
+before_next before.Label kinds.Bang n = before.Mark
+before_next b k n = before.Other
 
 -- the short colon that a colon is then
 abbrev pub short_colon : PrecedingToken → ℕ
@@ -22,6 +25,8 @@ short_colon before.Label = 1
 short_colon before.Mark = 1
 short_colon before.Other = 0
 short_colon before.Colon = 0
+short_colon before.LabelBracket = 0
+short_colon before.LabelName = 0
 
 -- The nesting at a word; what it is on the word's level without short colons; the same of the levels around that one, the innermost first.
 pub record NestingState : Type 0 where
@@ -52,4 +57,4 @@ levels_next b k l = l
 -- the greatest nesting at a word
 abbrev pub counted_from : PrecedingToken → NestingState → Words → ℕ
 counted_from b l [] = l.nested
-counted_from b l (w ∷ ts) = max l.nested (counted_from (before_next b (word_kind w)) (levels_next b (word_kind w) l) ts)
+counted_from b l (w ∷ ts) = max l.nested (counted_from (before_next b (word_kind w) (names_string w)) (levels_next b (word_kind w) l) ts)

@@ -2,11 +2,13 @@
 use Rattle.std.specs.Prelude.{ℕ, suc, ◌+◌, ◌-◌, max, Bool, true, false, List, [], ◌∷◌, length}
 use Rattle.std.specs.List.{sum}
 use Rattle.cs_grammar.specs.Words.{Word, Words, name, definition_name, hidden, top_mark, bottom_mark, numeral, quoted, open_struct, close_struct, open_list, close_list, open_paren, close_paren, comma, nl, colon, question, bang, amp, bar, dots, relation, unequal, minus, left_out, finish}
+use Rattle.cs_grammar.specs.Spells.{is_string}
 
 -- The words before a place, the newest first, are a label that stands directly behind a colon.
 abbrev pub is_chained_label : Words → Bool
 is_chained_label (name s o ∷ colon p ∷ before) = true
 is_chained_label (quoted s o ∷ colon p ∷ before) = true
+is_chained_label (close_list o ∷ name s p ∷ open_list q ∷ colon r ∷ before) = is_string s
 is_chained_label _ = false
 
 -- A colon behind these words, the newest first, is short: its label, with its mark, stands directly behind another colon.

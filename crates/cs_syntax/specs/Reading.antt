@@ -1,4 +1,4 @@
--- Reading from left to right with one word of look-ahead.
+-- Reading from left to right with one word of look-ahead, and three behind a bracket that may begin a label.
 use Rattle.std.specs.Prelude.{◌≡◌, ℕ, ℤ, pos, neg_ℤ, zero, suc, ◌+◌, ◌^◌, [], ◌∷◌, List, length, drop, Bool, true, false, ◌&&◌, ◌||◌, not, nat_lt, nat_le, if◌then◌else◌, Option, Some, None, Result, Ok, Err}
 use Rattle.std.specs.Option.{unwrap_or}
 use denote.Enum.Bare.{sameb}
@@ -11,10 +11,10 @@ use Rattle.cs_grammar.specs.declared.fault.SyntaxFault.{SyntaxFault}
 use Rattle.cs_grammar.specs.declared.fault.SyntaxFault.TheVariants as faults
 use Rattle.cs_grammar.specs.Words.{Word, Words, name, definition_name, hidden, top_mark, bottom_mark, numeral, quoted, open_struct, close_struct, open_list, close_list, open_paren, close_paren, comma, nl, colon, question, bang, amp, bar, dots, relation, unequal, minus, left_out, finish}
 use Rattle.cs_grammar.specs.declared.ast.FieldMark.{FieldMark}
-use Rattle.cs_grammar.specs.declared.ast.FieldMark.TheVariants.{Regular, Optional, Required}
+use Rattle.cs_grammar.specs.declared.ast.FieldMark.TheVariants.{Regular, Optional, Required, Every}
 use Rattle.cs_grammar.specs.Tree.{Label, Tree, atom, named, reference, conjunction, disjunction, paren, struct, list, End, closed, any, each, DefinitionTree, definition, FileTree, file}
 use Rattle.cs_grammar.specs.View.{trees_of, fields_of, Seen}
-use Rattle.cs_grammar.specs.Spells.{is_reserved, is_null, is_package, literal_of, start_at}
+use Rattle.cs_grammar.specs.Spells.{is_reserved, is_null, is_package, is_string, every_label, literal_of, start_at}
 use Rattle.cs_syntax.specs.Place.{fault_of}
 use Rattle.cs_syntax.specs.Nesting.{most_nested}
 
@@ -147,10 +147,24 @@ paren_end ts = expected kinds.CloseParen (beyond ts (after kinds.Inserted ts))
 abbrev pub goes_on_label : Words → Bool
 goes_on_label ts = begins_with kinds.Colon ts || (begins_with kinds.Question ts || begins_with kinds.Bang ts)
 
--- a name or a text that is a label: one that goes on so, or a name that is no operand
+-- the name `string`
+abbrev pub names_string : Word → Bool
+names_string (name s p) = is_string s
+names_string w = false
+
+abbrev pub begins_string : Words → Bool
+begins_string [] = false
+begins_string (w ∷ ts) = names_string w
+
+-- what goes on a label behind `[`: `string`, `]` and a colon
+abbrev pub goes_on_bracket : Words → Bool
+goes_on_bracket ts = begins_string ts && (begins_with kinds.CloseList (drop 1 ts) && begins_with kinds.Colon (drop 1 (drop 1 ts)))
+
+-- a label: a name or a text that goes on so, a name that is no operand, or a bracket that goes on so
 abbrev pub begins_field : Words → Bool
 begins_field (name s p ∷ ts) = is_reserved s || goes_on_label ts
 begins_field (quoted s p ∷ ts) = goes_on_label ts
+begins_field (open_list p ∷ ts) = goes_on_bracket ts
 begins_field ts = false
 
 -- behind a comma: another field, another element, or `...`
@@ -253,12 +267,33 @@ mark_if ts None None = (Regular, ts)
 abbrev pub mark_at : Words → FieldMark × Words
 mark_at ts = mark_if ts (after kinds.Question ts) (after kinds.Bang ts)
 
+-- the name `string`, which has to stand here
+abbrev pub string_at : Words → Result Words SyntaxFault
+string_at ts = or_fault ts (behind_if (begins_string ts) ts)
+
+-- what stands behind the bracket of a label
+unfoldable pub every_key_at : Read (Label × FieldMark)
+every_key_at ts = do
+  us ← string_at ts
+  vs ← expected kinds.CloseList us
+  Ok ((every_label, Every (start_at ts)), vs)
+
+abbrev pub head_if : Words → Option Words → Result ((Label × FieldMark) × Words) SyntaxFault
+head_if ts (Some us) = every_key_at us
+head_if ts None = do
+  l ← label_at ts
+  Ok ((l.0, (mark_at l.1).0), (mark_at l.1).1)
+
+-- a label and its mark
+unfoldable pub head_at : Read (Label × FieldMark)
+head_at ts = head_if ts (after kinds.OpenList ts)
+
 unfoldable pub field_with : (Bool → Read Tree) → Read Seen
 field_with r ts = do
-  l ← label_at ts
-  us ← expected kinds.Colon (mark_at l.1).1
+  x ← head_at ts
+  us ← expected kinds.Colon x.1
   e ← r true us
-  Ok (record { label = l.0; mark = (mark_at l.1).0; value = e.0 }, e.1)
+  Ok (record { label = x.0.0; mark = x.0.1; value = e.0 }, e.1)
 
 abbrev pub opening_if : Words → Option Words → Result (Bool × Words) SyntaxFault
 opening_if ts None = do

@@ -1,5 +1,5 @@
-// From tokens to a tree, by recursive descent with one token of look-ahead
-// (CUE, expressions).
+// From tokens to a tree, by recursive descent with one token of look-ahead, and three behind a
+// bracket that may begin a label (CUE, expressions).
 
 mod expression;
 mod field;

@@ -1,5 +1,5 @@
 -- What files of low bodies declare is low.
-use Rattle.std.proofs.Common.{◌≡◌, ℕ, ◌≤◌, Bool, true, false, cond, List, [], ◌∷◌, ◌++◌, map, Some, unwrap_or, refl, subst, arith}
+use Rattle.std.proofs.Common.{◌≡◌, ℕ, ◌≤◌, Bool, true, false, cond, List, [], ◌∷◌, ◌++◌, map, Some, unwrap_or, max, refl, ap₂, subst, arith}
 use Rattle.std.specs.List.{AllByRecursion, flat_map}
 use Rattle.std.specs.Prelude.{filter}
 use Rattle.std.specs.Str.{bytes_eq}
@@ -8,10 +8,12 @@ use Rattle.cs_grammar.specs.Tree as T
 use Rattle.cs_grammar.specs.Tree.{Tree, Trees, Fields, End, DefinitionTree, body, defined_name, FileTree, definitions}
 use Rattle.cs_resolve.specs.Declarations as declared
 use Rattle.cs_package.specs.Environment.{bodies}
-use Rattle.cs_package.specs.Expression.{Expression, atom, bottom}
+use Rattle.cs_package.specs.Expression as cue
+use Rattle.cs_package.specs.Expression.{Expression, Expressions, atom, bottom}
 use Rattle.cs_package.specs.Height.{height, height_all, height_fields, height_rest, heights, IsLow}
 use Rattle.cs_resolve.specs.Predeclared.{names, among, predeclared}
-use Rattle.cs_resolve.specs.Resolved.{resolved, resolved_all, resolved_fields, resolved_end, environment_of_files}
+use Rattle.cs_resolve.specs.Refinement.{Bases, bases, is_refinement}
+use Rattle.cs_resolve.specs.Resolved.{read_opened, all_opened, narrowed_operands, resolved, resolved_all, resolved_fields, resolved_end, environment_of_files}
 use Rattle.cs_tool.specs.Accepted.{AreFiles}
 
 -- ---- what is resolved is no higher than it was
@@ -28,48 +30,69 @@ flat_among t (n ∷ ns) h = by (bytes_eq t n.0) (flat_among t ns h.1)
 flat_name : (t : List ℕ) → height (unwrap_or (predeclared t) (atom bottom)) ≡ 1
 flat_name t = flat_among t names (refl, (refl, (refl, (refl, (refl, (refl, (refl, (refl, (refl, (refl, (refl, (refl, tt))))))))))))
 
-mutual
-  low : (t : Tree) → height (resolved t) ≤ tree.height t
-  low (T.named t o) = omega (arith, flat_name t)
-  low (T.conjunction ts) = omega (arith, low_all ts)
-  low (T.disjunction ts) = omega (arith, low_all ts)
-  low (T.paren t) = omega (arith, low t)
-  low (T.struct o fs b) = omega (arith, low_under fs)
-  low (T.list ts end) = omega (arith, low_all ts, low_end end)
-  low (T.atom a) = omega arith
-  low (T.reference t o) = omega arith
+-- an operand that is read as opened is as high as it was
+opened_height : (e : Expression) → height (read_opened e) ≡ height e
+opened_height (cue.atom a) = refl
+opened_height (cue.kind k) = refl
+opened_height (cue.range least greatest) = refl
+opened_height (cue.reference n) = refl
+opened_height (cue.conjunction es) = refl
+opened_height (cue.disjunction es) = refl
+opened_height (cue.struct ds opened) = refl
+opened_height (cue.list es rest) = refl
 
-  low_all : (ts : Trees) → height_all (resolved_all ts) ≤ tree.height_all ts
-  low_all T.none = omega arith
-  low_all (T.more t ts) = omega (arith, low t, low_all ts)
+all_height : (es : Expressions) → height_all (all_opened es) ≡ height_all es
+all_height cue.no_expressions = refl
+all_height (cue.expression e es) = ap₂ max (opened_height e) (all_height es)
 
-  low_under : (fs : Fields) → height_fields (resolved_fields fs) ≤ tree.height_fields fs
-  low_under T.no_field = omega arith
-  low_under (T.field l m t fs) = omega (arith, low t, low_under fs)
+narrowed_height : (b : Bool) (es : Expressions) → height_all (narrowed_operands b es) ≡ height_all es
+narrowed_height true es = all_height es
+narrowed_height false es = refl
 
-  low_end : (end : End) → height_rest (resolved_end end) ≤ tree.height_end end
-  low_end T.closed = omega arith
-  low_end T.any = omega arith
-  low_end (T.each t) = low t
+-- the same of trees, where these are the closed bases
+module _ (bs : Bases) where
+  mutual
+    low : (t : Tree) → height (resolved bs t) ≤ tree.height t
+    low (T.named t o) = omega (arith, flat_name t)
+    low (T.conjunction ts) = omega (arith, narrowed_height (is_refinement bs ts) (resolved_all bs ts), low_all ts)
+    low (T.disjunction ts) = omega (arith, low_all ts)
+    low (T.paren t) = omega (arith, low t)
+    low (T.struct o fs b) = omega (arith, low_under fs)
+    low (T.list ts end) = omega (arith, low_all ts, low_end end)
+    low (T.atom a) = omega arith
+    low (T.reference t o) = omega arith
 
--- the bodies of one name are some of all
-low_bodies : (n : List ℕ) (ds : List DefinitionTree) → heights (map resolved (declared.bodies_of n ds)) ≤ tree.height_definitions ds
-low_bodies n [] = omega arith
-low_bodies n (d ∷ ds) = by (bytes_eq (defined_name d) n) (low_bodies n ds)
-  where
-    by : (b : Bool) → heights (map resolved (declared.bodies_of n ds)) ≤ tree.height_definitions ds
-        → heights (map resolved (map body (cond b (d ∷ filter (λ x. bytes_eq (defined_name x) n) ds) (filter (λ x. bytes_eq (defined_name x) n) ds)))) ≤ tree.height_definitions (d ∷ ds)
-    by true h = omega (arith, low (body d), h)
-    by false h = omega (arith, h)
+    low_all : (ts : Trees) → height_all (resolved_all bs ts) ≤ tree.height_all ts
+    low_all T.none = omega arith
+    low_all (T.more t ts) = omega (arith, low t, low_all ts)
 
-low_named : (ds : List DefinitionTree) (ns : List (List ℕ)) (n : List ℕ) (es : List Expression) → bodies (map (λ (d : List ℕ × List Tree). (d.0, map resolved d.1)) (map (λ (m : List ℕ). (m, declared.bodies_of m ds)) ns)) n ≡ Some es → heights es ≤ tree.height_definitions ds
-low_named ds [] n es is = cc
-low_named ds (m ∷ ns) n es is = by (bytes_eq n m) (low_named ds ns n es) is
-  where
-    by : (b : Bool) → (bodies (map (λ (d : List ℕ × List Tree). (d.0, map resolved d.1)) (map (λ (k : List ℕ). (k, declared.bodies_of k ds)) ns)) n ≡ Some es → heights es ≤ tree.height_definitions ds)
-        → cond b (Some (map resolved (declared.bodies_of m ds))) (bodies (map (λ (d : List ℕ × List Tree). (d.0, map resolved d.1)) (map (λ (k : List ℕ). (k, declared.bodies_of k ds)) ns)) n) ≡ Some es → heights es ≤ tree.height_definitions ds
-    by true rest e = let same : map resolved (declared.bodies_of m ds) ≡ es = cc in subst (λ bs. heights bs ≤ tree.height_definitions ds) same (low_bodies m ds)
-    by false rest e = rest e
+    low_under : (fs : Fields) → height_fields (resolved_fields bs fs) ≤ tree.height_fields fs
+    low_under T.no_field = omega arith
+    low_under (T.field l m t fs) = omega (arith, low t, low_under fs)
+
+    low_end : (end : End) → height_rest (resolved_end bs end) ≤ tree.height_end end
+    low_end T.closed = omega arith
+    low_end T.any = omega arith
+    low_end (T.each t) = low t
+
+  -- the bodies of one name are some of all
+  low_bodies : (n : List ℕ) (ds : List DefinitionTree) → heights (map (resolved bs) (declared.bodies_of n ds)) ≤ tree.height_definitions ds
+  low_bodies n [] = omega arith
+  low_bodies n (d ∷ ds) = by (bytes_eq (defined_name d) n) (low_bodies n ds)
+    where
+      by : (b : Bool) → heights (map (resolved bs) (declared.bodies_of n ds)) ≤ tree.height_definitions ds
+          → heights (map (resolved bs) (map body (cond b (d ∷ filter (λ x. bytes_eq (defined_name x) n) ds) (filter (λ x. bytes_eq (defined_name x) n) ds)))) ≤ tree.height_definitions (d ∷ ds)
+      by true h = omega (arith, low (body d), h)
+      by false h = omega (arith, h)
+
+  low_named : (ds : List DefinitionTree) (ns : List (List ℕ)) (n : List ℕ) (es : List Expression) → bodies (map (λ (d : List ℕ × List Tree). (d.0, map (resolved bs) d.1)) (map (λ (m : List ℕ). (m, declared.bodies_of m ds)) ns)) n ≡ Some es → heights es ≤ tree.height_definitions ds
+  low_named ds [] n es is = cc
+  low_named ds (m ∷ ns) n es is = by (bytes_eq n m) (low_named ds ns n es) is
+    where
+      by : (b : Bool) → (bodies (map (λ (d : List ℕ × List Tree). (d.0, map (resolved bs) d.1)) (map (λ (k : List ℕ). (k, declared.bodies_of k ds)) ns)) n ≡ Some es → heights es ≤ tree.height_definitions ds)
+          → cond b (Some (map (resolved bs) (declared.bodies_of m ds))) (bodies (map (λ (d : List ℕ × List Tree). (d.0, map (resolved bs) d.1)) (map (λ (k : List ℕ). (k, declared.bodies_of k ds)) ns)) n) ≡ Some es → heights es ≤ tree.height_definitions ds
+      by true rest e = let same : map (resolved bs) (declared.bodies_of m ds) ≡ es = cc in subst (λ fs. heights fs ≤ tree.height_definitions ds) same (low_bodies m ds)
+      by false rest e = rest e
 
 both_low : (ds es : List DefinitionTree) → tree.height_definitions ds ≤ 28 → tree.height_definitions es ≤ 28 → tree.height_definitions (ds ++ es) ≤ 28
 both_low [] es h k = k
@@ -85,6 +108,6 @@ low_spelled (s ∷ ss) (f ∷ fs) h = both_low (definitions f) (flat_map definit
 pub low_files : (ss : List (List ℕ)) (fs : List FileTree) → AreFiles ss fs → IsLow (environment_of_files fs)
 low_files ss fs h n es is =
     let ds = flat_map definitions fs in
-    let bound = low_named ds (declared.names ds) n es is in
+    let bound = low_named (bases ds) ds (declared.names ds) n es is in
     let all = low_spelled ss fs h in
     omega (arith, bound, all)

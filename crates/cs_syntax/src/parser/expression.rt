@@ -43,8 +43,7 @@ impl Parser<'_, '_> {
         requires { depth ≤ most_depth }
         ensures { Reads field_view result self.new (field_with (inner depth) (left self.old)) }
     {
-        let (label, quoted) = self.label()?;
-        let mark = self.mark();
+        let (label, quoted, mark) = self.head()?;
         self.expect(Kind::Colon)?;
         let value = self.inside(depth, true)?;
         Ok(Field {

@@ -3,7 +3,7 @@
 ghost use Rattle.std.specs.Prelude.{◌≡◌, string_bytes};
 ghost use Rattle.cs_syntax.specs.Left.{left, Reads, Skips};
 ghost use Rattle.cs_grammar.specs.View.{label_of};
-ghost use Rattle.cs_syntax.specs.Reading.{begins_field, goes_on_label, another_field, another_element, opening, rest_behind, may_end, label_at, mark_at, opening_at};
+ghost use Rattle.cs_syntax.specs.Reading.{begins_field, goes_on_label, goes_on_bracket, another_field, another_element, opening, rest_behind, may_end, label_at, mark_at, every_key_at, head_at, opening_at};
 
 use crate::parser::kind::kind_of;
 use crate::parser::name::is_reserved;
@@ -12,8 +12,17 @@ use cs_grammar::{FieldMark, Kind, SyntaxFault};
 use cs_lexer::unescape;
 
 impl Parser<'_, '_> {
-    // Whether the next token is a label: one with a mark or a colon after it, or a name that
-    // isn't an operand.
+    // Whether what stands after a `[` makes it a label: `string`, `]` and a colon.
+    fn goes_on_bracket(&self) -> bool
+        ensures { result ≡ goes_on_bracket (left self.now) }
+    {
+        self.is_at_string()
+            && self.is_behind(Kind::CloseList)
+            && self.behind().is_behind(Kind::Colon)
+    }
+
+    // Whether the next token begins a label: one with a mark or a colon after it, a name that
+    // isn't an operand, or the bracket of `[string]` with a colon after it.
     pub(crate) fn begins_field(&self) -> bool
         ensures { result ≡ begins_field (left self.now) }
     {
@@ -26,6 +35,7 @@ impl Parser<'_, '_> {
         match kind_of(&token) {
             Kind::Name => is_reserved(token.text) || goes_on,
             Kind::Text => goes_on,
+            Kind::OpenList => self.behind().goes_on_bracket(),
             _ => false,
         }
     }
@@ -76,7 +86,7 @@ impl Parser<'_, '_> {
 
     // The name or the text of a label, and whether it is quoted.
     #[tactic(auto, unfolding(crate::specs::Reading::label_at))]
-    pub(crate) fn label(&mut self) -> Result<(String, bool), SyntaxFault>
+    fn label(&mut self) -> Result<(String, bool), SyntaxFault>
         ensures { Reads (λ x. label_of (string_bytes x.0) x.1) result self.new (label_at (left self.old)) }
     {
         let Some(token) = self.take() else {
@@ -90,7 +100,7 @@ impl Parser<'_, '_> {
     }
 
     // The mark of a field.
-    pub(crate) fn mark(&mut self) -> FieldMark
+    fn mark(&mut self) -> FieldMark
         ensures { mark_at (left self.old) ≡ (result, left self.new) }
     {
         if self.skip(Kind::Question) {
@@ -100,6 +110,30 @@ impl Parser<'_, '_> {
             return FieldMark::Required;
         }
         FieldMark::Regular
+    }
+
+    // What follows the bracket of a label: `string` and `]`. The label has no text.
+    #[tactic(auto, unfolding(crate::specs::Reading::every_key_at))]
+    fn every_key(&mut self) -> Result<(String, bool, FieldMark), SyntaxFault>
+        ensures { Reads (λ x. (label_of (string_bytes x.0) x.1, x.2)) result self.new (every_key_at (left self.old)) }
+    {
+        let at = self.start();
+        self.expect_string()?;
+        self.expect(Kind::CloseList)?;
+        Ok((String::new(self.alloc), true, FieldMark::Every { at }))
+    }
+
+    // The text of a label, whether it is quoted, and its mark.
+    #[tactic(auto, unfolding(crate::specs::Reading::head_at))]
+    pub(crate) fn head(&mut self) -> Result<(String, bool, FieldMark), SyntaxFault>
+        ensures { Reads (λ x. (label_of (string_bytes x.0) x.1, x.2)) result self.new (head_at (left self.old)) }
+    {
+        if self.skip(Kind::OpenList) {
+            return self.every_key();
+        }
+        let (label, quoted) = self.label()?;
+        let mark = self.mark();
+        Ok((label, quoted, mark))
     }
 
     // What follows the last field of a struct: whether it is opened.

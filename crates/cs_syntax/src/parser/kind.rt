@@ -1,8 +1,10 @@
 // The tokens as the grammar sees them.
 
 ghost use Rattle.std.specs.Prelude.{◌≡◌};
-ghost use Rattle.cs_grammar.specs.View.{mark_kind, kind_of};
+ghost use Rattle.cs_grammar.specs.View.{mark_kind, kind_of, lexeme_view, word};
+ghost use Rattle.cs_syntax.specs.Reading.{names_string};
 
+use crate::parser::name::is_string;
 use cs_grammar::{Kind, Sort, Token};
 
 // What a mark is for the grammar.
@@ -50,4 +52,11 @@ pub(crate) fn kind_of(token: &Token<'_>) -> Kind
         Sort::Inserted => Kind::Inserted,
         Sort::End => Kind::End,
     }
+}
+
+// Whether a token is the name `string`.
+pub(crate) fn names_string(token: &Token<'_>) -> bool
+    ensures { result ≡ names_string (word (lexeme_view token.now)) }
+{
+    kind_of(token) == Kind::Name && is_string(token.text)
 }

@@ -2,7 +2,7 @@
 
 ghost use Rattle.std.specs.Prelude.{◌≡◌};
 ghost use Rattle.cs_grammar.specs.View.{bare_name};
-ghost use Rattle.cs_grammar.specs.Spells.{is_reserved, is_package};
+ghost use Rattle.cs_grammar.specs.Spells.{is_reserved, is_package, is_string};
 
 // Whether a name can't be an operand.
 pub(crate) fn is_reserved(text: &str) -> bool
@@ -16,6 +16,13 @@ pub(crate) fn is_package(text: &str) -> bool
     ensures { result ≡ is_package text.now }
 {
     text == "package"
+}
+
+// Whether a name in the brackets of a label stands for every key.
+pub(crate) fn is_string(text: &str) -> bool
+    ensures { result ≡ is_string text.now }
+{
+    text == "string"
 }
 
 // The name of a definition without its `#`.

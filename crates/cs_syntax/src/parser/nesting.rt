@@ -6,7 +6,7 @@ ghost use Rattle.cs_syntax.specs.Counting.{before_next, levels_next, level_opene
 ghost use Rattle.cs_grammar.specs.View.{lexemes_view, words};
 ghost use Rattle.cs_syntax.specs.Left.{levels_of};
 
-use crate::parser::kind::kind_of;
+use crate::parser::kind::{kind_of, names_string};
 use cs_grammar::{Kind, Token};
 use std::alloc::{AllocError, Global};
 
@@ -23,6 +23,10 @@ pub(crate) enum PrecedingToken {
     Label,
     /// The mark of such a label.
     Mark,
+    /// The `[` of a label after a colon.
+    LabelBracket,
+    /// The name `string` after such a bracket.
+    LabelName,
 }
 
 /// The nesting at a token.
@@ -36,12 +40,15 @@ pub(crate) struct NestingState {
     outer: Vec<usize>,
 }
 
-fn before_next(before: PrecedingToken, kind: Kind) -> PrecedingToken
-    ensures { result ≡ before_next before kind }
+fn before_next(before: PrecedingToken, kind: Kind, is_string: bool) -> PrecedingToken
+    ensures { result ≡ before_next before kind is_string }
 {
     match (before, kind) {
         (_, Kind::Colon) => PrecedingToken::Colon,
         (PrecedingToken::Colon, Kind::Name | Kind::Text) => PrecedingToken::Label,
+        (PrecedingToken::Colon, Kind::OpenList) => PrecedingToken::LabelBracket,
+        (PrecedingToken::LabelBracket, Kind::Name) if is_string => PrecedingToken::LabelName,
+        (PrecedingToken::LabelName, Kind::CloseList) => PrecedingToken::Label,
         (PrecedingToken::Label, Kind::Question | Kind::Bang) => PrecedingToken::Mark,
         _ => PrecedingToken::Other,
     }
@@ -52,7 +59,10 @@ fn short_colon(before: PrecedingToken) -> usize
 {
     match before {
         PrecedingToken::Label | PrecedingToken::Mark => 1,
-        PrecedingToken::Other | PrecedingToken::Colon => 0,
+        PrecedingToken::Other
+        | PrecedingToken::Colon
+        | PrecedingToken::LabelBracket
+        | PrecedingToken::LabelName => 0,
     }
 }
 
@@ -108,7 +118,7 @@ pub(crate) fn is_too_nested(alloc: Global, tokens: &[Token<'_>]) -> Result<bool,
         }
         let kind = kind_of(token);
         levels.pass(before, kind)?;
-        before = before_next(before, kind);
+        before = before_next(before, kind, names_string(token));
     }
     Ok(levels.nested > MOST_NESTED)
 }

@@ -5,9 +5,9 @@ ghost use Rattle.cs_grammar.specs.View.{lexeme_view, lexemes_view, word};
 ghost use Rattle.cs_lexer.specs.Quoted.{are_quoted};
 ghost use Rattle.cs_grammar.specs.Spells.{start_at};
 ghost use Rattle.cs_syntax.specs.Place.{is_left_out_name, fault_of};
-ghost use Rattle.cs_syntax.specs.Reading.{fault_at, after, expected, begins_with, behind_if, after_comma, comma_at, close_at, paren_end};
+ghost use Rattle.cs_syntax.specs.Reading.{fault_at, after, expected, begins_with, behind_if, after_comma, comma_at, close_at, paren_end, begins_string, string_at};
 
-use crate::parser::kind::kind_of;
+use crate::parser::kind::{kind_of, names_string};
 use cs_grammar::{Kind, SyntaxFault, Token};
 use std::alloc::Global;
 
@@ -132,6 +132,40 @@ impl<'t, 'a> Parser<'t, 'a> {
         }
         let behind = self.next + 1;
         behind < self.tokens.len() && kind_of(&self.tokens[behind]) == wanted
+    }
+
+    // The place after the next token.
+    pub(crate) fn behind(&self) -> Parser<'t, 'a>
+        ensures { left result ≡ drop 1 (left self.now) }
+    {
+        let passed = usize::from(self.peek().is_some());
+        Parser {
+            alloc: self.alloc,
+            tokens: self.tokens,
+            next: self.next + passed,
+        }
+    }
+
+    // Whether the next token is the name `string`.
+    pub(crate) fn is_at_string(&self) -> bool
+        ensures { result ≡ begins_string (left self.now) }
+    {
+        match self.peek() {
+            None => false,
+            Some(token) => names_string(&token),
+        }
+    }
+
+    // Passes over the name `string`, which has to be next.
+    pub(crate) fn expect_string(&mut self) -> Result<(), SyntaxFault>
+        ensures { ReadsPast result self.new (string_at (left self.old)) }
+    {
+        let stands = self.is_at_string();
+        if self.skip_if(stands) {
+            Ok(())
+        } else {
+            Err(self.fault())
+        }
     }
 
     // Passes over the next token, where it is wanted.

@@ -1,4 +1,4 @@
-use Rattle.std.proofs.Common.{◌≡◌, [], ◌∷◌, ◌++◌, map, take, length, true, false, Some, None, option_map, rules, sym, ap, ap₂, ◌∙◌, subst}
+use Rattle.std.proofs.Common.{◌≡◌, [], ◌∷◌, ◌++◌, map, take, length, true, false, Some, None, option_map, string_bytes, rules, sym, ap, ◌∙◌, subst}
 use Rattle.std.proofs.lemmas.Bool.{and_parts}
 use Rattle.std.proofs.lemmas.Simd.{map-map}
 use Rattle.std.specs.List.{list_all, filter_map}
@@ -11,13 +11,12 @@ use Rattle.cs_package.specs.Environment.{declared_names}
 use Rattle.cs_package.specs.View.{expression_of, expressions_of, is_known, is_known_part, part_of, mark_of, rest_of}
 use Rattle.cs_package.proofs.Views.{of-Definition, of-And, of-Or, of-Struct, of-List, known-And, known-Or, known-Struct, known-List}
 use Rattle.cs_package.specs.declared.shape.Shape.{Shape, the_lemmas}
-use Rattle.cs_profile.specs.SchemaDocument.{schema_view, schemas_view, definitions_view}
-use Rattle.cs_compile.specs.Grouped.{declared, with_schema, declarations_at, IsGrouped}
-use Rattle.cs_compile.specs.Translation.{schema_of, schemas_of, rest_schema, all_of, any_of, enumeration, list_schema, literals, properties_of, required_of, is_interval, lower_limit, upper_limit, greatest_of, least_of, interval_schema}
+use Rattle.cs_profile.specs.SchemaDocument.{schema_view, schemas_view}
+use Rattle.cs_compile.specs.Grouped.{declared, with_schema, declarations_at, AreValues}
+use Rattle.cs_compile.specs.Translation.{schema_of, schemas_of, rest_schema, all_of, any_of, enumeration, list_schema, literals, struct_schema, is_interval, lower_limit, upper_limit, greatest_of, least_of, interval_schema}
 use Rattle.cs_compile.proofs.Enumerations.{enumerated, not_enumerated}
-use Rattle.cs_compile.proofs.Grouped.{joined_is}
 use Rattle.cs_compile.proofs.Limits.{folded, unfolded}
-use Rattle.cs_compile.proofs.Parts.{declarations-more, named_at, no_groups, struct_is}
+use Rattle.cs_compile.proofs.Parts.{declared_is, declarations-more, named_at}
 use Rattle.cs_compile.proofs.Slots.{operands_seen}
 use Rattle.cs_compile.proofs.translate.+translate.Goals as goal
 
@@ -33,8 +32,8 @@ schema_of-schemas_of-requires-in-None t c =
     let n = length c.args.package.now in
     (search (rules, the_lemmas), subst (λ xs. list_all (is_known n) xs ≡ true) (sym c.deref-in-None.ensures.value) (sym (known-Or n c.in-Or.operands) ∙ ap (is_known n) (sym c.in-Or.is) ∙ c.requires))
 
-pub schema_of-groups_of-requires : goal.schema_of-groups_of-requires
-schema_of-groups_of-requires t c =
+pub schema_of-values_of-requires : goal.schema_of-values_of-requires
+schema_of-values_of-requires t c =
     let n = length c.args.package.now in
     (search (rules, the_lemmas), subst (λ xs. list_all (is_known_part n) xs ≡ true) (sym c.deref-in-Struct.ensures.value) (sym (known-Struct n c.in-Struct.parts c.in-Struct.opened) ∙ ap (is_known n) (sym c.in-Struct.is) ∙ c.requires))
 
@@ -92,17 +91,15 @@ schema_of-returns-in_ok-schemas_of-in-None t c =
     let made = operands_seen view _ _ c.in_ok-schemas_of-in-None.ensures ∙ ap (λ xs. schemas_of (expressions_of (map view xs))) c.deref-in-None.ensures.value in
     rw seen (subst (λ d. IfOk c.any_of.result (λ s. schema_view s ≡ d)) (ap any_of made ∙ not_enumerated (map view c.in-Or.operands.items) found) c.any_of.ensures)
 
-pub schema_of-returns-in_ok-required-in-Struct : goal.schema_of-returns-in_ok-required-in-Struct
-schema_of-returns-in_ok-required-in-Struct t c =
+pub schema_of-returns-in_ok-values-in-Struct : goal.schema_of-returns-in_ok-values-in-Struct
+schema_of-returns-in_ok-values-in-Struct t c =
     let ns = declared_names c.args.package.now in
     let ps = c.in-Struct.parts.items in
     let seen = ap (expression_of ns) c.in-Struct.is ∙ of-Struct ns c.in-Struct.parts c.in-Struct.opened in
-    let grouped : IsGrouped (declarations_at ns ps) c.in_ok-groups_of-in-Struct.field-0 = subst (λ xs. IsGrouped (declarations_at ns xs) c.in_ok-groups_of-in-Struct.field-0) c.deref-in-Struct.ensures.value c.in_ok-groups_of-in-Struct.ensures in
-    let both = sym (map-map with_schema (part_of ns) ps) in
-    rw seen (struct_is c.struct_schema.result (map (part_of ns) ps) c.in-Struct.opened (definitions_view c.in_ok-properties-in-Struct.properties.entries) c.in_ok-required-in-Struct.field-0.items
-    (c.in_ok-properties-in-Struct.ensures ∙ joined_is _ _ grouped ∙ ap properties_of both)
-    (c.in_ok-required-in-Struct.ensures ns ∙ ap (λ xs. required_of (declarations_at ns xs)) c.deref-in-Struct-2.ensures.value ∙ ap required_of both)
-    c.struct_schema.ensures)
+    let are : AreValues (declarations_at ns ps) c.in_ok-values-in-Struct.values = subst (λ xs. AreValues (declarations_at ns xs) c.in_ok-values-in-Struct.values) c.deref-in-Struct.ensures.value c.in_ok-values-in-Struct.ensures in
+    let made : IfOk c.struct_schema.result (λ s. schema_view s ≡ struct_schema (declarations_at ns ps) c.in-Struct.opened) =
+    subst (λ xs. AreValues (declarations_at ns xs) c.in_ok-values-in-Struct.values → IfOk c.struct_schema.result (λ s. schema_view s ≡ struct_schema (declarations_at ns xs) c.in-Struct.opened)) c.deref-in-Struct-2.ensures.value (c.struct_schema.ensures ns) are in
+    rw seen (subst (λ ds. IfOk c.struct_schema.result (λ s. schema_view s ≡ struct_schema ds c.in-Struct.opened)) (sym (declared_is (map (part_of ns) ps) ∙ map-map with_schema (part_of ns) ps)) made)
 
 pub schema_of-returns-in_ok-rest_of-in-List : goal.schema_of-returns-in_ok-rest_of-in-List
 schema_of-returns-in_ok-rest_of-in-List t c =
@@ -116,18 +113,15 @@ schema_of-returns-in_ok-rest_of-in-List t c =
 
 -- ---- one more
 
-pub groups_of-loop-part-init : goal.groups_of-loop-part-init
-groups_of-loop-part-init t c = no_groups c.new-groups.result c.new-groups.ensures.empty c.new-groups.ensures.ordered
-
-pub groups_of-loop-part-preserved : goal.groups_of-loop-part-preserved
-groups_of-loop-part-preserved t c =
+pub values_of-loop-part-preserved : goal.values_of-loop-part-preserved
+values_of-loop-part-preserved t c =
     let ns = declared_names c.args.package.now in
     let ps = c.args.parts.now in
     let i = c.loop-part.part-index in
     let p = c.part-item.result in
     let old = declarations_at ns (take i ps) in
-    let more = ap₂ (λ l d. old ++ declared l (mark_of p.mark) d ∷ []) c.deref.ensures c.in_ok-value.ensures ∙ sym (declarations-more ns ps i p c.loop-part-test.true c.part-item.is) in
-    subst (λ ds. IsGrouped ds c.add_value.new.groups) more (c.in_ok-add_value.ensures old (mark_of p.mark) c.loop-part.invariant)
+    let more = ap (λ d. old ++ declared (string_bytes p.label) (mark_of p.mark) d ∷ []) c.in_ok-value.ensures ∙ sym (declarations-more ns ps i p c.loop-part-test.true c.part-item.is) in
+    subst (λ ds. AreValues ds c.add_value.new.values) more (c.in_ok-add_value.ensures old c.loop-part.invariant)
 
 pub schemas_of-loop-shape-preserved : goal.schemas_of-loop-shape-preserved
 schemas_of-loop-shape-preserved t c =

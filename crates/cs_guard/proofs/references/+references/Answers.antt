@@ -1,34 +1,38 @@
-use Rattle.std.proofs.Common.{inl, inr, map, subst, arith}
+use Rattle.std.proofs.Common.{map, subst, arith}
 use Rattle.std.proofs.lemmas.List.{take_all}
 use Rattle.cs_package.specs.View.{expression_of, part_of, expressions_of, declarations_of, is_known, is_known_part}
 use Rattle.cs_guard.specs.Taken.{of_field, taken, taken_all, taken_fields}
-use Rattle.cs_guard.proofs.Pushes.{PushedAll, PushedParts, on_ok, pushed_next, shapes_join, parts_join, pushed_And, pushed_Or, pushed_List, pushed_Struct}
+use Rattle.cs_guard.proofs.Pushes.{PushedAll, PushedParts, PushedWhere, PushedPartsWhere, on_ok, pushed_next, shapes_join, parts_join, pushed_And, pushed_Or, pushed_List, pushed_Struct}
 use Rattle.cs_guard.proofs.references.+references.Goals as goal
 
 pub push_shape-returns-in-And : goal.push_shape-returns-in-And
 push_shape-returns-in-And t c =
     let f = c.args.followed in
     let old = c.args.numbers.now.items in
-    let new = c.push_all-in-And.new.numbers.items in
-    on_ok c.push_all-in-And.result (λ p. let q = subst (PushedAll f old new) c.deref-in-And.ensures.value p in elim c.in-And.is [
-      | inl is ↦ pushed_And f old new c.args.shape.now c.in-And.operands is q
-      | inr is ↦ pushed_Or f old new c.args.shape.now c.in-And.operands is q
-    ]) c.push_all-in-And.ensures
+    let new = c.push_all.new.numbers.items in
+    on_ok c.push_all.result (λ p. pushed_And f old new c.args.shape.now c.in-And.operands c.in-And.is (subst (PushedAll f old new) c.deref.ensures.value p)) c.push_all.ensures
+
+pub push_shape-returns-in-Or : goal.push_shape-returns-in-Or
+push_shape-returns-in-Or t c =
+    let f = c.args.followed in
+    let old = c.args.numbers.now.items in
+    let new = c.push_where.new.numbers.items in
+    on_ok c.push_where.result (λ p. pushed_Or f old new c.args.shape.now c.in-Or.operands c.in-Or.is (subst (λ o. PushedWhere f o old new c.in-Or.operands.items) c.behind_disjunction.ensures (subst (PushedWhere f c.behind_disjunction.result old new) c.deref-in-Or.ensures.value p))) c.push_where.ensures
 
 pub push_shape-returns-in-Struct : goal.push_shape-returns-in-Struct
 push_shape-returns-in-Struct t c =
     let f = c.args.followed in
     let old = c.args.numbers.now.items in
-    let new = c.push_parts.new.numbers.items in
-    on_ok c.push_parts.result (λ p. pushed_Struct f old new c.args.shape.now c.in-Struct.parts c.in-Struct.opened c.in-Struct.is (subst (PushedParts f old new) c.deref.ensures.value p)) c.push_parts.ensures
+    let new = c.push_parts_where.new.numbers.items in
+    on_ok c.push_parts_where.result (λ p. pushed_Struct f old new c.args.shape.now c.in-Struct.parts c.in-Struct.opened c.in-Struct.is (subst (λ o. PushedPartsWhere f o old new c.in-Struct.parts.items) c.inside_part.ensures (subst (PushedPartsWhere f c.inside_part.result old new) c.deref-in-Struct.ensures.value p))) c.push_parts_where.ensures
 
-pub push_shape-returns-in_ok-push_all-in-List : goal.push_shape-returns-in_ok-push_all-in-List
-push_shape-returns-in_ok-push_all-in-List t c =
+pub push_shape-returns-in_ok-push_where-in-List : goal.push_shape-returns-in_ok-push_where-in-List
+push_shape-returns-in_ok-push_where-in-List t c =
     let f = c.args.followed in
     let old = c.args.numbers.now.items in
-    let middle = c.push_all.new.numbers.items in
+    let middle = c.push_where-in-List.new.numbers.items in
     let new = c.push_end.new.numbers.items in
-    on_ok c.push_end.result (λ q. pushed_List f old middle new c.args.shape.now c.in-List.front c.in-List.end c.in-List.is (subst (PushedAll f old middle) c.deref-in-List.ensures.value c.in_ok-push_all-in-List.ensures) q) c.push_end.ensures
+    on_ok c.push_end.result (λ q. pushed_List f old middle new c.args.shape.now c.in-List.front c.in-List.end c.in-List.is (subst (λ o. PushedWhere f o old middle c.in-List.front.items) c.inside_part-in-List.ensures (subst (PushedWhere f c.inside_part-in-List.result old middle) c.deref-in-List.ensures.value c.in_ok-push_where-in-List.ensures)) q) c.push_end.ensures
 
 pub push_all-loop-shape-preserved : goal.push_all-loop-shape-preserved
 push_all-loop-shape-preserved t c =

@@ -1,6 +1,5 @@
 use Rattle.std.proofs.Common.{◌≡◌, ◌<◌, ℕ, map, drop, length, slice_index}
 use Rattle.std.specs.List.{list_all, AllByRecursion as Each}
-use Rattle.cs_document.specs.Document.{under}
 use Rattle.cs_flat.specs.View.{entry_of}
 use Rattle.cs_table.specs.Judged.{verdicts}
 use Rattle.cs_package.specs.Expression.{Declaration}
@@ -10,7 +9,7 @@ use Rattle.cs_instance.proofs.steps.declarations_hold.Given as goal
 
 abbrev pub invariant-loop-field : goal.invariant-loop-field
 invariant-loop-field l =
-    let holds = λ (d : Declaration ℕ). constraint.declaration_holds (λ y p. verdicts l.done y (slice_index l.inner p)) d (under d.label (map entry_of l.members)) in record {
+    let holds = λ (d : Declaration ℕ). constraint.declaration_holds (λ y p. verdicts l.done y (slice_index l.inner p)) d (map entry_of l.members) in record {
       same : list_all holds (map field_of l.fields) ≡ list_all holds (map field_of (drop l.field-index l.fields));
       below : Each (λ (p : Declaration ℕ). p.value < length l.inner) (map field_of (drop l.field-index l.fields));
     }

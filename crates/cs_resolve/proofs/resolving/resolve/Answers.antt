@@ -3,9 +3,11 @@ use Rattle.std.specs.List.{AllByRecursion, flat_map, list_all}
 use Rattle.std.proofs.lemmas.Result.{err_from_is_err_and}
 use Rattle.cs_grammar.specs.Tree.{FileTree, definitions}
 use Rattle.cs_grammar.specs.View.{file_view}
+use Rattle.cs_grammar.specs.declared.ast.File.{File}
 use Rattle.cs_resolve.specs.Declarations.{names, faults_from}
 use Rattle.cs_package.specs.Joined.{IsJoined}
 use Rattle.cs_resolve.specs.Opening.{unopened_files}
+use Rattle.cs_resolve.specs.Refinement.{Bases, bases}
 use Rattle.cs_resolve.specs.Resolved.{IsSmall, most_definitions, most_nodes}
 use Rattle.cs_resolve.specs.Size.{nodes_of_files}
 use Rattle.cs_package.specs.View.{bodies_of, is_known, names_of}
@@ -16,6 +18,10 @@ use Rattle.cs_resolve.proofs.OnePackage.{one_package}
 use Rattle.cs_resolve.proofs.OpeningRule.{opened_law}
 use Rattle.cs_resolve.proofs.resolving.resolve.Goals as goal
 use Rattle.cs_resolve.proofs.resolving.resolve.Goals.{then-len-gt-MOST_DEFINITIONS-via-then-len-gt-MOST_DEFINITIONS, then-len-gt-MOST_DEFINITIONS-via-else-len-gt-MOST_DEFINITIONS+then-not-has_few_nodes}
+
+-- the closed bases that files have
+abbrev closed_bases : List File → Bases
+closed_bases fs = bases (flat_map definitions (map file_view fs))
 
 module _ (fs : List FileTree) (es : List (String Global × String Global)) (found : names_of es ≡ names (flat_map definitions fs)) where
   count : length (names (flat_map definitions fs)) ≡ length es
@@ -57,14 +63,14 @@ returns-in_err-bodies-clause-refused c =
     let p = err_from_is_err_and c.from_residual-in_err-bodies.result c.from_residual-in_err-bodies.ensures.1 in
     let one = (one_package fs).0 (sym c.differing_file.ensures ∙ c.in_default.is) in
     let small = is_small fs es found c.has_few_nodes.result (omega (arith, c.if-len-gt-MOST_DEFINITIONS.false, c.len.ensures.len)) c.has_few_nodes.ensures c.if-not-has_few_nodes.false in
-    rw (p.1, p.2) (name-refusal e fs one small (refusal-same e _ _ (ap (λ ns. faults_from 0 ns fs) found) c.in_err-bodies.ensures))
+    rw (p.1, p.2) (name-refusal e fs one small (refusal-same e _ _ (ap (λ ns. faults_from 0 ns fs) found) (c.in_err-bodies.ensures (closed_bases c.args.files.items) c.in_ok-bases.ensures)))
 
 pub returns-in_err-bodies-clause-only : goal.returns-in_err-bodies-clause-only
 returns-in_err-bodies-clause-only c h =
     let fs = map file_view c.args.files.items in
     let found = c.in_ok-names.ensures.found in
     let p = err_from_is_err_and c.from_residual-in_err-bodies.result c.from_residual-in_err-bodies.ensures.1 in
-    rw (p.1, p.2) (refusal-none c.in_err-bodies.field-0.0 _ (ap (λ ns. faults_from 0 ns fs) found ∙ h.resolved) c.in_err-bodies.ensures)
+    rw (p.1, p.2) (refusal-none c.in_err-bodies.field-0.0 _ (ap (λ ns. faults_from 0 ns fs) found ∙ h.resolved) (c.in_err-bodies.ensures (closed_bases c.args.files.items) c.in_ok-bases.ensures))
 
 pub returns-in_err-check_opened-clause-refused : goal.returns-in_err-check_opened-clause-refused
 returns-in_err-check_opened-clause-refused c =
@@ -74,7 +80,7 @@ returns-in_err-check_opened-clause-refused c =
     let p = err_from_is_err_and c.from_residual-in_err-check_opened.result c.from_residual-in_err-check_opened.ensures.1 in
     let one = (one_package fs).0 (sym c.differing_file.ensures ∙ c.in_default.is) in
     let small = is_small fs es found c.has_few_nodes.result (omega (arith, c.if-len-gt-MOST_DEFINITIONS.false, c.len.ensures.len)) c.has_few_nodes.ensures c.if-not-has_few_nodes.false in
-    let resolved = sym (ap (λ ns. faults_from 0 ns fs) found) ∙ c.in_ok-bodies.ensures.1 in
+    let resolved = sym (ap (λ ns. faults_from 0 ns fs) found) ∙ (c.in_ok-bodies.ensures (closed_bases c.args.files.items) c.in_ok-bases.ensures).1 in
     rw (p.1, p.2) (opening-refusal c.in_err-check_opened.field-0.0 fs one small resolved c.in_err-check_opened.ensures)
 
 pub returns-in_err-check_opened-clause-only : goal.returns-in_err-check_opened-clause-only
@@ -87,18 +93,18 @@ pub package_of-requires : goal.package_of-requires
 package_of-requires c =
     let es = c.in_ok-names.names.entries in
     let vs = c.in_ok-bodies.bodies.items in
-    let there = c.in_ok-bodies.ensures.0 in
+    let there = (c.in_ok-bodies.ensures (closed_bases c.args.files.items) c.in_ok-bases.ensures).0 in
     record {
-      long = sym (length-names es) ∙ length-bodies (names_of es) vs _ there;
+      long = sym (length-names es) ∙ length-bodies (closed_bases c.args.files.items) (names_of es) vs _ there;
       table = c.in_ok-names.ensures.table;
       known = subst (λ n. AllByRecursion (λ v. list_all (is_known n) v.items ≡ true) vs) (length-names es) there.known;
-      joined = subst (AllByRecursion (AllByRecursion IsJoined)) (sym there.same) (joined-gathered (names_of es) (map file_view c.args.files.items) c.requires);
+      joined = subst (AllByRecursion (AllByRecursion IsJoined)) (sym there.same) (joined-gathered (closed_bases c.args.files.items) (names_of es) (map file_view c.args.files.items) c.requires);
     }
 
 pub returns-clause-found : goal.returns-clause-found
 returns-clause-found c =
     let ns = names_of c.in_ok-names.names.entries in
-    c.package_of.ensures ∙ environment-gathered (map file_view c.args.files.items) ns (bodies_of ns c.in_ok-bodies.bodies.items) c.in_ok-names.ensures.found c.in_ok-bodies.ensures.0.same
+    c.package_of.ensures ∙ environment-gathered (map file_view c.args.files.items) ns (bodies_of ns c.in_ok-bodies.bodies.items) c.in_ok-names.ensures.found (c.in_ok-bodies.ensures (closed_bases c.args.files.items) c.in_ok-bases.ensures).0.same
 
 pub returns-clause-accepted : goal.returns-clause-accepted
 returns-clause-accepted c =
@@ -108,6 +114,6 @@ returns-clause-accepted c =
     record {
       agree = (one_package fs).0 (sym c.differing_file.ensures ∙ c.in_default.is);
       small = is_small fs es found c.has_few_nodes.result (omega (arith, c.if-len-gt-MOST_DEFINITIONS.false, c.len.ensures.len)) c.has_few_nodes.ensures c.if-not-has_few_nodes.false;
-      resolved = sym (ap (λ ns. faults_from 0 ns fs) found) ∙ c.in_ok-bodies.ensures.1;
+      resolved = sym (ap (λ ns. faults_from 0 ns fs) found) ∙ (c.in_ok-bodies.ensures (closed_bases c.args.files.items) c.in_ok-bases.ensures).1;
       opened = (opened_law fs).0 c.in_ok-check_opened.ensures;
     }

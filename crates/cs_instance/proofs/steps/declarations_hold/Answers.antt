@@ -1,7 +1,0 @@
-use Rattle.std.proofs.Common.{map, ◌∙◌, sym}
-use Rattle.cs_flat.specs.View.{entry_of}
-use Rattle.cs_instance.proofs.Found.{found_below}
-use Rattle.cs_instance.proofs.steps.declarations_hold.Goals as goal
-
-pub holds_inside-holds-requires-clause-child : goal.holds_inside-holds-requires-clause-child
-holds_inside-holds-requires-clause-child c = found_below c.args.done.now.items _ (map entry_of c.args.members.now) c.in-Some.child c.requires.members (sym c.find.ensures ∙ c.in-Some.is)

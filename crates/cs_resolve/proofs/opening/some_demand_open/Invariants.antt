@@ -1,0 +1,11 @@
+use Rattle.std.proofs.Common.{◌≡◌, drop}
+use Rattle.std.specs.List.{list_any}
+use Rattle.cs_resolve.specs.Opening.{demands_open, named_fields, values}
+use Rattle.cs_resolve.specs.Checks.{TellsLabels}
+use Rattle.cs_grammar.specs.View.{fields_view}
+use Rattle.cs_resolve.proofs.opening.some_demand_open.Given as goal
+
+abbrev pub invariant-loop-field : goal.invariant-loop-field
+invariant-loop-field l =
+    let all = named_fields (fields_view l.field-items) in
+    TellsLabels l.repeats.names l.repeats.every all → list_any (λ n. demands_open (values n.name all)) all ≡ list_any (λ n. demands_open (values n.name all)) (named_fields (fields_view (drop l.field-index l.field-items)))

@@ -1,0 +1,100 @@
+-- What the table of closed bases says, for contracts of private functions.
+use Rattle.std.specs.Prelude.{◌≡◌, ℕ, ◌<◌, true, List, [], ◌∷◌, ◌++◌, Option, Some, None, is_some, slice_get, MatchOption, Vec}
+use Rattle.std.specs.Borrow.{Bor}
+use Rattle.std.specs.HashMap.{HashMap, get_by, keys}
+use Rattle.std.specs.HashSet.{HashSet, contains_by}
+use Rattle.std.specs.List.{list_any, IsDistinct}
+use Rattle.std.specs.Option.{option_map}
+use Rattle.std.specs.declared.alloc.Global.{Global}
+use Rattle.std.specs.Str.{bytes_eq}
+use Rattle.cs_grammar.specs.Tree.{Tree, Fields, DefinitionTree}
+use Rattle.cs_grammar.specs.View.{expr_view, fields_view}
+use Rattle.cs_grammar.specs.declared.ast.Expr.{Expr}
+use Rattle.cs_resolve.specs.Declarations.{bodies_of}
+use Rattle.cs_resolve.specs.Refinement as Refinement
+use Rattle.cs_resolve.specs.declared.refinement.Bases.{Bases}
+use Rattle.cs_resolve.specs.declared.narrowing.Narrowing.{Narrowing}
+
+-- which definition is narrowed, and by which fields
+abbrev pub narrowing_view : Narrowing → Refinement.Narrowing
+narrowing_view n = (n.base.now, fields_view n.fields.now.items)
+
+-- the set has just these texts
+abbrev pub HoldsTexts : {S : Type 0} → HashSet (Bor (List ℕ)) S → List (List ℕ) → Type 0
+HoldsTexts s ts = (t : List ℕ) → contains_by (λ k. bytes_eq t k.now) s ≡ list_any (bytes_eq t) ts
+
+-- these are the labels that are found, and the set has just them
+abbrev pub HoldsFound : {S : Type 0} → Option (List (List ℕ)) → HashSet (Bor (List ℕ)) S → Type 0
+HoldsFound found s = (ls : List (List ℕ)) × (found ≡ Some ls) × HoldsTexts s ls
+
+-- by the number of a set: these are the labels that are found, where a number is, and none where none is
+abbrev pub Numbers : {S : Type 0} → List (HashSet (Bor (List ℕ)) S) → Option ℕ → Option (List (List ℕ)) → Type 0
+Numbers sets number found = MatchOption number (found ≡ None) (λ i. MatchOption (slice_get sets i) ⊥ (HoldsFound found))
+
+-- the table says of each name what is given of it
+abbrev pub HoldBases : Bases → Refinement.Bases → Type 0
+HoldBases b bs = (n : List ℕ) → Numbers b.sets.items (get_by (λ k. bytes_eq n k.now) b.numbers) (bs n)
+
+-- ---- the only bodies of names
+
+abbrev pub only_body : List Tree → Option (Option Tree)
+only_body [] = None
+only_body (e ∷ []) = Some (Some e)
+only_body (e ∷ f ∷ es) = Some None
+
+-- the table has each name that is declared, with its only body, or none where it has several
+abbrev pub HoldsOnly : {S : Type 0} → HashMap (Bor (List ℕ)) (Option (Bor Expr)) S → List DefinitionTree → Type 0
+HoldsOnly m ds = (n : List ℕ) → option_map (option_map (λ e. expr_view e.now)) (get_by (λ k. bytes_eq n k.now) m) ≡ only_body (bodies_of n ds)
+
+-- an entry whose name has only one body
+abbrev pub only_entry : Option (Bor (List ℕ) × Option (Bor Expr)) → Option (Bor (List ℕ) × Bor Expr)
+only_entry None = None
+only_entry (Some (k, None)) = None
+only_entry (Some (k, Some e)) = Some (k, e)
+
+-- ---- the search for closed bases
+
+abbrev pub Has : Bases → List ℕ → Type 0
+Has b n = is_some (get_by (λ k. bytes_eq n k.now) b.numbers) ≡ true
+
+-- the set has the labels of the closed base n
+abbrev pub HoldsBase : {S : Type 0} → List DefinitionTree → List ℕ → HashSet (Bor (List ℕ)) S → Type 0
+HoldsBase ds n s = (ls : List (List ℕ)) × Refinement.IsBase ds n ls × HoldsTexts s ls
+
+-- each that was found is a closed base, with its labels, and stands there once
+pub record Sound (ds : List DefinitionTree) (b : Bases) : Type 0 where
+  pub each : (n : List ℕ) → MatchOption (get_by (λ k. bytes_eq n k.now) b.numbers) (Unit {0}) (λ i. MatchOption (slice_get b.sets.items i) ⊥ (HoldsBase ds n))
+  pub once : IsDistinct (λ k l. bytes_eq k.now l.now) (keys b.numbers)
+
+-- what was found stays, each in its place
+pub record Grown (old new : Bases) : Type 0 where
+  pub kept : (n : List ℕ) → Has old n → Has new n
+  pub more : List (Bor (List ℕ))
+  pub behind : keys new.numbers ≡ keys old.numbers ++ more
+
+-- n is a plain refinement of m
+pub record Refines (ds : List DefinitionTree) (n m : List ℕ) : Type 0 where
+  pub body : Tree
+  pub fields : Fields
+  pub labels : List (List ℕ)
+  pub is : bodies_of n ds ≡ body ∷ []
+  pub narrowed : Refinement.narrowing_in body ≡ Some (m, fields)
+  pub base : Refinement.IsBase ds m labels
+  pub fits : Refinement.narrows fields labels ≡ true
+
+-- the table lists n among those that may narrow m
+abbrev pub Lists : {S : Type 0} → HashMap (Bor (List ℕ)) (Vec (Bor (List ℕ)) Global) S → List ℕ → List ℕ → Type 0
+Lists r m n = MatchOption (get_by (λ k. bytes_eq m k.now) r) ⊥ (λ names. list_any (λ k. bytes_eq n k.now) names.items ≡ true)
+
+-- a literal is found, and what narrows is listed
+pub record IsSorted {S : Type 0} (b : Bases) (r : HashMap (Bor (List ℕ)) (Vec (Bor (List ℕ)) Global) S) (n : List ℕ) (e : Tree) : Type 0 where
+  pub literal : (fs : Fields) → Refinement.closed_literal e ≡ Some fs → Has b n
+  pub listed : (m : List ℕ) (fs : Fields) → Refinement.narrowing_in e ≡ Some (m, fs) → Lists r m n
+
+-- each only body is sorted
+abbrev pub AreSorted : {S : Type 0} → List DefinitionTree → Bases → HashMap (Bor (List ℕ)) (Vec (Bor (List ℕ)) Global) S → Type 0
+AreSorted ds b r = (n : List ℕ) (e : Tree) → bodies_of n ds ≡ e ∷ [] → IsSorted b r n e
+
+-- what refines the first so many that were found is found
+abbrev pub Closed : List DefinitionTree → Bases → ℕ → Type 0
+Closed ds b most = (i : ℕ) (k : Bor (List ℕ)) → i < most → slice_get (keys b.numbers) i ≡ Some k → (n : List ℕ) → Refines ds n k.now → Has b n

@@ -1,0 +1,285 @@
+// Plain refinement: a closed definition is narrowed by a struct literal with some of its labels.
+
+ghost use Rattle.std.specs.Prelude.{◌≡◌, ◌↔◌, ◌++◌, [], ◌∷◌, List, ℕ, true, map, length, slice_get, IfOk, OnOk, None, Some, IfSome, IsSome, MatchOption};
+ghost use Rattle.std.specs.List.{flat_map, list_any};
+ghost use Rattle.std.specs.Str.{bytes_eq};
+ghost use Rattle.cs_grammar.specs.View.{expr_view, exprs_view, fields_view, definition_view, file_view};
+ghost use Rattle.cs_grammar.specs.Tree.{DefinitionTree, definitions};
+ghost use Rattle.cs_resolve.specs.Declarations.{bodies_of};
+ghost use Rattle.cs_resolve.specs.Refinement as Refinement;
+ghost use Rattle.cs_resolve.specs.Refinement.{IsBase};
+ghost use Rattle.cs_resolve.specs.Narrowed.{HoldsTexts, HoldsFound, HoldBases, HoldsOnly, HoldsBase, Has, Sound, Grown, Refines, Lists, IsSorted, AreSorted, Closed, only_entry};
+
+use crate::narrowing::{Labels, body_narrowing, closed_literal, narrows, operands_narrowing};
+use cs_grammar::{Definition, Expr, Field, File};
+use indexmap::IndexMap;
+use std::alloc::{AllocError, Global};
+use std::collections::HashSet;
+
+/// The closed bases by name, each with the number of the set of its labels. A refinement shares the set of its base.
+#[derive(Drop)]
+pub(crate) struct Bases<'a> {
+    sets: Vec<HashSet<&'a str>>,
+    numbers: IndexMap<&'a str, usize>,
+}
+
+/// The only body of each name, and none where a name has several.
+type OnlyBodies<'a> = IndexMap<&'a str, Option<&'a Expr>>;
+
+/// The definitions that may narrow a base, by its name.
+type RefinerTable<'a> = IndexMap<&'a str, Vec<&'a str>>;
+
+/// The labels of the closed base of that name.
+fn labels_of<'b, 'a>(bases: &'b Bases<'a>, name: &str) -> Option<&'b Labels<'a>>
+    ensures { (bs : Refinement.Bases) → HoldBases bases.now bs
+        → MatchOption result (bs name.now ≡ None) (λ s. HoldsFound (bs name.now) s.now) }
+{
+    let number = bases.numbers.get(name)?;
+    bases.sets.get(*number)
+}
+
+/// Whether the operands of a conjunction are a plain refinement of one of the bases.
+pub(crate) fn is_refinement(bases: &Bases<'_>, operands: &Vec<Expr>) -> bool
+    ensures { (bs : Refinement.Bases) → HoldBases bases.now bs
+        → result ≡ Refinement.is_refinement bs (exprs_view operands.now.items) }
+{
+    let Some(narrowing) = operands_narrowing(operands) else {
+        return false;
+    };
+    match labels_of(bases, narrowing.base) {
+        Some(labels) => narrows(narrowing.fields, labels),
+        None => false,
+    }
+}
+
+/// Notes the body of a definition, the only one of its name unless the name has one already.
+fn note_only<'a>(bodies: &mut OnlyBodies<'a>, definition: &'a Definition) -> Result<(), AllocError>
+    ensures { OnOk result ((ds : List DefinitionTree) → HoldsOnly bodies.old ds
+        → HoldsOnly bodies.new (ds ++ definition_view definition.now ∷ [])) }
+{
+    let name = definition.name.as_str();
+    if bodies.contains_key(name) {
+        bodies.insert(name, None)?;
+    } else {
+        bodies.insert(name, Some(&definition.body))?;
+    }
+    Ok(())
+}
+
+fn note_all_only<'a>(
+    bodies: &mut OnlyBodies<'a>,
+    definitions: &'a Vec<Definition>,
+) -> Result<(), AllocError>
+    ensures { OnOk result ((ds : List DefinitionTree) → HoldsOnly bodies.old ds
+        → HoldsOnly bodies.new (ds ++ map definition_view definitions.now.items)) }
+{
+    for definition in definitions {
+        note_only(bodies, definition)?;
+    }
+    Ok(())
+}
+
+/// The only bodies of the names that files declare.
+fn only_bodies(alloc: Global, files: &Vec<File>) -> Result<OnlyBodies<'_>, AllocError>
+    ensures { IfOk result (λ m. HoldsOnly m (flat_map definitions (map file_view files.now.items))) }
+{
+    let mut bodies = IndexMap::new(alloc);
+    for file in files {
+        note_all_only(&mut bodies, &file.definitions)?;
+    }
+    Ok(bodies)
+}
+
+/// The labels of fields.
+fn texts_of(alloc: Global, fields: &Vec<Field>) -> Result<Labels<'_>, AllocError>
+    ensures { IfOk result (λ s. HoldsTexts s (Refinement.texts (fields_view fields.now.items))) }
+{
+    let mut labels = HashSet::new(alloc);
+    for field in fields {
+        labels.insert(field.label.as_str())?;
+    }
+    Ok(labels)
+}
+
+/// Adds a definition whose only body is a closed literal.
+fn add_literal<'a>(
+    alloc: Global,
+    bases: &mut Bases<'a>,
+    name: &'a str,
+    fields: &'a Vec<Field>,
+) -> Result<(), AllocError>
+    ensures kept { OnOk result ((n : List ℕ) → Has bases.old n → Has bases.new n) }
+    ensures added { OnOk result (Has bases.new name.now) }
+    ensures sound { OnOk result ((ds : List DefinitionTree) → IsBase ds name.now (Refinement.texts (fields_view fields.now.items))
+        → Sound ds bases.old → Sound ds bases.new) }
+{
+    let labels = texts_of(alloc, fields)?;
+    let number = bases.sets.len();
+    bases.sets.push(labels)?;
+    bases.numbers.insert(name, number)?;
+    Ok(())
+}
+
+/// Lists a definition among those that may narrow a base.
+fn add_refiner<'a>(
+    alloc: Global,
+    refiners: &mut RefinerTable<'a>,
+    base: &'a str,
+    name: &'a str,
+) -> Result<(), AllocError>
+    ensures kept { OnOk result ((m n : List ℕ) → Lists refiners.old m n → Lists refiners.new m n) }
+    ensures added { OnOk result (Lists refiners.new base.now name.now) }
+{
+    let mut names = match refiners.swap_remove(base) {
+        Some(names) => names,
+        None => Vec::new(alloc),
+    };
+    names.push(name)?;
+    drop(refiners.insert(base, names)?);
+    Ok(())
+}
+
+/// The name at a place of the table, with its body, if it has only one.
+fn only_body_at<'a>(bodies: &OnlyBodies<'a>, place: usize) -> Option<(&'a str, &'a Expr)>
+    ensures only { (ds : List DefinitionTree) → HoldsOnly bodies.now ds
+        → IfSome result (λ p. bodies_of p.0.now ds ≡ expr_view p.1.now ∷ []) }
+    ensures found { result ≡ only_entry (slice_get bodies.now.entries place) }
+{
+    let (name, only) = bodies.get_index(place)?;
+    let body = (*only)?;
+    Some((*name, body))
+}
+
+/// Adds a definition to the bases where its body is a closed literal, and lists it where its body narrows one.
+fn sort_body<'a>(
+    alloc: Global,
+    bases: &mut Bases<'a>,
+    refiners: &mut RefinerTable<'a>,
+    name: &'a str,
+    body: &'a Expr,
+) -> Result<(), AllocError>
+    ensures kept { OnOk result ((n : List ℕ) → Has bases.old n → Has bases.new n) }
+    ensures listed { OnOk result ((m n : List ℕ) → Lists refiners.old m n → Lists refiners.new m n) }
+    ensures sorted { OnOk result (IsSorted bases.new refiners.new name.now (expr_view body.now)) }
+    ensures sound { OnOk result ((ds : List DefinitionTree) → bodies_of name.now ds ≡ expr_view body.now ∷ []
+        → Sound ds bases.old → Sound ds bases.new) }
+{
+    if let Some(fields) = closed_literal(body) {
+        return add_literal(alloc, bases, name, fields);
+    }
+    if let Some(narrowing) = body_narrowing(body) {
+        return add_refiner(alloc, refiners, narrowing.base, name);
+    }
+    Ok(())
+}
+
+fn sort_bodies<'a>(
+    alloc: Global,
+    bodies: &OnlyBodies<'a>,
+    bases: &mut Bases<'a>,
+    refiners: &mut RefinerTable<'a>,
+) -> Result<(), AllocError>
+    ensures { OnOk result ((ds : List DefinitionTree) → HoldsOnly bodies.now ds → Sound ds bases.old
+        → Sound ds bases.new × AreSorted ds bases.new refiners.new) }
+{
+    for place in 0..bodies.len() {
+        if let Some((name, body)) = only_body_at(bodies, place) {
+            sort_body(alloc, bases, refiners, name, body)?;
+        }
+    }
+    Ok(())
+}
+
+/// The number of the labels of the base that a definition refines, if its only body is a refinement of one of these.
+fn refined_number(bodies: &OnlyBodies<'_>, bases: &Bases<'_>, name: &str) -> Option<usize>
+    ensures sound { (ds : List DefinitionTree) → HoldsOnly bodies.now ds → Sound ds bases.now
+        → IfSome result (λ i. MatchOption (slice_get bases.now.sets.items i) ⊥ (HoldsBase ds name.now)) }
+    ensures found { (ds : List DefinitionTree) → HoldsOnly bodies.now ds → Sound ds bases.now
+        → (m : List ℕ) → Has bases.now m → Refines ds name.now m → IsSome result }
+{
+    let body = (*bodies.get(name)?)?;
+    let narrowing = body_narrowing(body)?;
+    let number = *bases.numbers.get(narrowing.base)?;
+    let labels = bases.sets.get(number)?;
+    if narrows(narrowing.fields, labels) {
+        Some(number)
+    } else {
+        None
+    }
+}
+
+/// Adds a definition if it refines one of the bases.
+fn add_refinement<'a>(
+    bodies: &OnlyBodies<'a>,
+    bases: &mut Bases<'a>,
+    name: &'a str,
+) -> Result<(), AllocError>
+    ensures grown { OnOk result (Grown bases.old bases.new) }
+    ensures sound { OnOk result ((ds : List DefinitionTree) → HoldsOnly bodies.now ds → Sound ds bases.old
+        → Sound ds bases.new × ((m : List ℕ) → Has bases.old m → Refines ds name.now m → Has bases.new name.now)) }
+{
+    if let Some(number) = refined_number(bodies, bases, name) {
+        bases.numbers.insert(name, number)?;
+    }
+    Ok(())
+}
+
+fn add_refinements<'a>(
+    bodies: &OnlyBodies<'a>,
+    bases: &mut Bases<'a>,
+    names: &Vec<&'a str>,
+) -> Result<(), AllocError>
+    ensures grown { OnOk result (Grown bases.old bases.new) }
+    ensures sound { OnOk result ((ds : List DefinitionTree) → HoldsOnly bodies.now ds → Sound ds bases.old
+        → Sound ds bases.new × ((m n : List ℕ) → list_any (λ k. bytes_eq n k.now) names.now.items ≡ true → Has bases.old m
+        → Refines ds n m → Has bases.new n)) }
+{
+    for name in names {
+        add_refinement(bodies, bases, *name)?;
+    }
+    Ok(())
+}
+
+/// Adds all refinements. Each name is found at most once, so there are no more places to look at than names.
+fn find_refinements<'a>(
+    bodies: &OnlyBodies<'a>,
+    refiners: &RefinerTable<'a>,
+    bases: &mut Bases<'a>,
+) -> Result<(), AllocError>
+    ensures grown { OnOk result (Grown bases.old bases.new) }
+    ensures sound { OnOk result ((ds : List DefinitionTree) → HoldsOnly bodies.now ds → AreSorted ds bases.old refiners.now
+        → Sound ds bases.old → Sound ds bases.new × Closed ds bases.new (length bodies.now.entries)) }
+{
+    for place in 0..bodies.len() {
+        if let Some((name, _)) = bases.numbers.get_index(place)
+            && let Some(names) = refiners.get(*name)
+        {
+            add_refinements(bodies, bases, names)?;
+        }
+    }
+    Ok(())
+}
+
+/// The closed bases of files. Its time is linear in the files.
+///
+/// # Errors
+/// `AllocError`, where memory runs out.
+pub(crate) fn bases_of(alloc: Global, files: &Vec<File>) -> Result<Bases<'_>, AllocError>
+    ensures { IfOk result (λ b. HoldBases b (Refinement.bases (flat_map definitions (map file_view files.now.items)))) }
+{
+    let bodies = only_bodies(alloc, files)?;
+    let mut bases = Bases {
+        sets: Vec::new(alloc),
+        numbers: IndexMap::new(alloc),
+    };
+    let mut refiners = IndexMap::new(alloc);
+    sort_bodies(alloc, &bodies, &mut bases, &mut refiners)?;
+    find_refinements(&bodies, &refiners, &mut bases)?;
+    Ok(bases)
+}
+
+/// A law: the table of closed bases that is computed is the least one: each is a closed literal, or a plain refinement
+/// of another.
+pub fn refinement_law()
+    ensures bases { (ds : List DefinitionTree) (n : List ℕ) (ls : List (List ℕ)) → (Refinement.bases ds n ≡ Some ls) ↔ IsBase ds n ls }
+{}

@@ -1,0 +1,85 @@
+-- The bracket of a list begins no label: one that begins `[string]` ends there, and a colon is not what follows a list.
+use Rattle.std.proofs.Common.{◌≡◌, ℕ, Bool, true, false, List, [], ◌∷◌, refl}
+use Rattle.std.specs.Prelude.{◌&&◌, ◌||◌}
+use Rattle.cs_grammar.specs.Atom as atoms
+use Rattle.cs_grammar.specs.declared.kind.Kind.TheVariants as kinds
+use Rattle.cs_grammar.specs.Words.{Words, name, close_list, relation}
+use Rattle.cs_grammar.specs.Tree.{Tree, Trees, End}
+use Rattle.cs_grammar.specs.Spells.{explicit, inserted, list_here, list_after, positive, negative, limit_is, other_number, other_text, other_null, SpellsExpr, one_conj, disjunction_is, SpellsBars, no_bar, a_bar, SpellsConj, one_operand, conjunction_is, SpellsAmps, no_amp, an_amp, SpellsOperand, top_is, bottom_is, reference_is, name_is, number_is, text_is, bound_is, paren_is, struct_is, list_is, SpellsList, no_elements, rest_alone, elements, SpellsElements, no_more_elements, next_element, SpellsEnd, closed_is, rest_is}
+use Rattle.cs_syntax.specs.Reading.{begins_with, goes_on_label, begins_string, goes_on_bracket}
+
+-- ---- a list that begins with a name and `]`
+
+operand_ends : {e : Tree} {s : List ℕ} {p : ℕ} {ts us r : Words} → SpellsOperand e ts r → ts ≡ name s p ∷ us → r ≡ us
+operand_ends top_is is = absurd cc
+operand_ends bottom_is is = absurd cc
+operand_ends reference_is is = absurd cc
+operand_ends (name_is h e) is = cc
+operand_ends (number_is (positive h)) is = absurd cc
+operand_ends (number_is (negative e h)) is = absurd cc
+operand_ends text_is is = absurd cc
+operand_ends (bound_is (limit_is n)) is = absurd cc
+operand_ends (bound_is (other_number n)) is = absurd cc
+operand_ends (bound_is other_text) is = absurd cc
+operand_ends (bound_is (other_null h)) is = absurd cc
+operand_ends (paren_is e c) is = absurd cc
+operand_ends (struct_is s) is = absurd cc
+operand_ends (list_is s) is = absurd cc
+
+amps_end : {es : Trees} {q : ℕ} {ts us r : Words} → SpellsAmps es ts r → ts ≡ close_list q ∷ us → r ≡ close_list q ∷ us
+amps_end no_amp is = is
+amps_end (an_amp o a) is = absurd cc
+
+bars_end : {es : Trees} {q : ℕ} {ts us r : Words} → SpellsBars es ts r → ts ≡ close_list q ∷ us → r ≡ close_list q ∷ us
+bars_end no_bar is = is
+bars_end (a_bar c b) is = absurd cc
+
+elements_end : {es : Trees} {q : ℕ} {ts us r : Words} → SpellsElements es ts r → ts ≡ close_list q ∷ us → r ≡ close_list q ∷ us
+elements_end no_more_elements is = is
+elements_end (next_element e es) is = absurd cc
+
+end_ends : {end : End} {q : ℕ} {ts us r : Words} → SpellsEnd end ts r → ts ≡ close_list q ∷ us → r ≡ us
+end_ends (closed_is list_here) is = cc
+end_ends (closed_is (list_after explicit)) is = absurd cc
+end_ends (closed_is (list_after inserted)) is = absurd cc
+end_ends (rest_is s) is = absurd cc
+
+conj_ends : {e : Tree} {s : List ℕ} {p q : ℕ} {ts us r : Words} → SpellsConj e ts r → ts ≡ name s p ∷ close_list q ∷ us → r ≡ close_list q ∷ us
+conj_ends (one_operand o) is = operand_ends o is
+conj_ends (conjunction_is o a) is = amps_end a (operand_ends o is)
+
+expr_ends : {e : Tree} {s : List ℕ} {p q : ℕ} {ts us r : Words} → SpellsExpr e ts r → ts ≡ name s p ∷ close_list q ∷ us → r ≡ close_list q ∷ us
+expr_ends (one_conj c) is = conj_ends c is
+expr_ends (disjunction_is c b) is = bars_end b (conj_ends c is)
+
+list_ends : {es : Trees} {end : End} {s : List ℕ} {p q : ℕ} {ts us r : Words} → SpellsList es end ts r → ts ≡ name s p ∷ close_list q ∷ us → r ≡ us
+list_ends no_elements is = absurd cc
+list_ends (rest_alone s) is = absurd cc
+list_ends (elements e es end) is = end_ends end (elements_end es (expr_ends e is))
+
+-- ---- no colon stands behind it
+
+and_none : (b c d : Bool) → c && d ≡ false → b && (c && d) ≡ false
+and_none true c d h = h
+and_none false c d h = refl
+
+first : (b c : Bool) → b || c ≡ false → b ≡ false
+first true c h = h
+first false c h = refl
+
+no_colon : (ts : Words) → goes_on_label ts ≡ false → begins_with kinds.Colon ts ≡ false
+no_colon ts h = first (begins_with kinds.Colon ts) (begins_with kinds.Question ts || begins_with kinds.Bang ts) h
+
+-- what stands behind the bracket of a list does not go on a label
+pub list_no_label : {es : Trees} {end : End} {ts r : Words} → SpellsList es end ts r → goes_on_label r ≡ false → goes_on_bracket ts ≡ false
+list_no_label {ts = ts} {r = r} l h = by ts refl
+  where
+    by : (us : Words) → ts ≡ us → goes_on_bracket us ≡ false
+    by (name s p ∷ close_list q ∷ us) is = and_none (begins_string (name s p ∷ [])) true (begins_with kinds.Colon us) (no_colon us (rw (list_ends l is) at h))
+    by (name s p ∷ relation atoms.less q ∷ us) is = and_none (begins_string (name s p ∷ [])) false (begins_with kinds.Colon us) refl
+    by (name s p ∷ relation atoms.at_most q ∷ us) is = and_none (begins_string (name s p ∷ [])) false (begins_with kinds.Colon us) refl
+    by (name s p ∷ relation atoms.more q ∷ us) is = and_none (begins_string (name s p ∷ [])) false (begins_with kinds.Colon us) refl
+    by (name s p ∷ relation atoms.at_least q ∷ us) is = and_none (begins_string (name s p ∷ [])) false (begins_with kinds.Colon us) refl
+    by (name s p ∷ w ∷ us) is = and_none (begins_string (name s p ∷ [])) false (begins_with kinds.Colon us) refl
+    by (name s p ∷ []) is = and_none (begins_string (name s p ∷ [])) false false refl
+    by us is = refl
