@@ -12,15 +12,15 @@ set -eu
 # Steps alone: what is read on standard input, and the count that is printed. The growths of reading the input, and for
 # `flatten` and `copy` the document, come before those of the step.
 steps='lex < tree.cue => 17
-lex < forms.cue => 126
+lex < forms.cue => 135
 parse < tree.cue => 1
 parse < forms.cue => 4
 read < leaf.json => 2
 flatten < leaf.json => 5
 copy < leaf.json => 2
-read < all.json => 16
-flatten < all.json => 40
-copy < all.json => 16'
+read < all.json => 17
+flatten < all.json => 42
+copy < all.json => 17'
 
 # run WORD..: the program on $room/in with each growth refused in turn. `growths` is how many there are. Stops at a run that
 # meets a refusal and isn't refused.
