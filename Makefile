@@ -1,8 +1,11 @@
 # make            builds the proved program as bin/cue2schema
 # make run        builds it and runs it on examples/port.cue
+# make try        runs the program from its sources without the proofs, in about a minute: on examples/port.cue, or as
+#                 make try ARGS="vet --root '#P' --doc d.json port.cue"
 # make test       the gate: every proof from nothing, the must-fail edits, the tests, the program's stored run and its cases
 # make cases      the cases of the program alone, and those that need pipes, rights or special files
-# make edits      the edits that the gate doesn't try; CRATES="cs_x cs_y" for those of some crates
+# make edits      the edits that the gate doesn't try, of the crates that differ from what landed last: from the commit where this
+#                 branch left the one that it tracks, or from SINCE=REV; CRATES="cs_x cs_y" for those of some crates, ALL=1 for all
 # make memory     runs each command, and each step from bytes to a file or a document, with each of its growths of memory refused
 #                 in turn; a minute, once the programs are built
 # make hostile    runs the program on deep, long, wide and doubling inputs within a stack of 8 MiB and 1 GiB of memory, and says the
@@ -17,35 +20,40 @@ JOBS ?= $(shell nproc)
 SOURCES := crates.txt $(shell find crates -name out -prune -o \( -name '*.rt' -o -name '*.antt' \) -print)
 BUILT := crates/cue2schema/out/cue2schema
 
-.PHONY: all run test cases edits memory hostile bench install clean toolchain
+.PHONY: all run try test cases edits memory hostile bench install clean toolchain
 
 all: bin/cue2schema
 
 # The libraries side by side first: `rt run` proves them in turn. A crate that waits for another holds a place, so there
 # are twice as many places as processors.
-bin/cue2schema: $(SOURCES) | toolchain
+bin/cue2schema: $(SOURCES)
+	@$(MAKE) -s toolchain
 	cd crates/cue2schema && { rt all check --jobs $$((2 * $(JOBS))) > ../../proved.log 2>&1 || { tail -n 40 ../../proved.log; exit 1; }; }
 	cd crates/cue2schema && rt run -- export --root '#P' < ../../examples/port.cue > /dev/null
 	mkdir -p bin
 	cp $(BUILT) $@
 
+try: | toolchain
+	@tools/try.sh $(ARGS)
+
 run: bin/cue2schema
 	bin/cue2schema export --root '#P' < examples/port.cue
 
 # Both run, also where the first one fails.
-try = tools/cases.sh $(1); cases=$$?; tools/commands.sh $(1) && [ $$cases -eq 0 ]
+answers = tools/cases.sh $(1); cases=$$?; tools/commands.sh $(1) && [ $$cases -eq 0 ]
 
 # The gate leaves the program that it built; the cases never run on one that is older than a source.
 test: | toolchain
+	tools/edits_apply.sh
 	RT_JOBS=$(JOBS) rt ci
-	@if [ -x $(BUILT) ] && [ -z "$$(find $(SOURCES) -newer $(BUILT))" ]; then $(call try,$(BUILT)); else $(MAKE) -s cases; fi
+	@if [ -x $(BUILT) ] && [ -z "$$(find $(SOURCES) -newer $(BUILT))" ]; then $(call answers,$(BUILT)); else $(MAKE) -s cases; fi
 
 cases: bin/cue2schema
-	@$(call try,bin/cue2schema)
+	@$(call answers,bin/cue2schema)
 
 edits: | toolchain
 	tools/edits_apply.sh
-	JOBS=$(JOBS) tools/edits.sh $(CRATES)
+	JOBS=$(JOBS) tools/edits.sh $(or $(and $(ALL),--all),$(CRATES),--since $(SINCE))
 
 memory: bin/cue2schema | toolchain
 	cd crates/cs_bench && rt run < stdin > /dev/null
