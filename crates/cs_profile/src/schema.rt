@@ -116,85 +116,35 @@ impl Keywords {
 
     /// The keywords with a value for one of them; an empty list or map of schemas leaves it out, and so does a value
     /// that doesn't have the keyword's form. `$schema`, `$defs` and the texts for readers change nothing.
-    pub fn set(self, alloc: Global, keyword: Keyword, value: KeywordValue) -> Keywords
+    pub fn set(mut self, alloc: Global, keyword: Keyword, value: KeywordValue) -> Keywords
         ensures { slots_of result ≡ set_slot (name_of keyword) (value_at (form_of keyword) value) (slots_of self) }
     {
         match keyword {
-            Keyword::Ref => Keywords {
-                reference: value.reference(),
-                ..self
-            },
-            Keyword::AdditionalProperties => Keywords {
-                additional: value.schema(),
-                ..self
-            },
-            Keyword::AllOf => Keywords {
-                all_of: value.schemas(alloc),
-                ..self
-            },
-            Keyword::AnyOf => Keywords {
-                any_of: value.schemas(alloc),
-                ..self
-            },
-            Keyword::Const => Keywords {
-                equal: value.anything(),
-                ..self
-            },
-            Keyword::Enum => Keywords {
-                one_of: value.array(),
-                ..self
-            },
-            Keyword::ExclusiveMaximum => Keywords {
-                below: value.integer(),
-                ..self
-            },
-            Keyword::ExclusiveMinimum => Keywords {
-                above: value.integer(),
-                ..self
-            },
-            Keyword::Items => Keywords {
-                rest: value.schema(),
-                ..self
-            },
-            Keyword::Maximum => Keywords {
-                maximum: value.integer(),
-                ..self
-            },
-            Keyword::MinItems => Keywords {
-                min_items: value.integer(),
-                ..self
-            },
-            Keyword::Minimum => Keywords {
-                minimum: value.integer(),
-                ..self
-            },
-            Keyword::Not => Keywords {
-                negated: value.schema(),
-                ..self
-            },
-            Keyword::PrefixItems => Keywords {
-                prefix: value.schemas(alloc),
-                ..self
-            },
-            Keyword::Properties => Keywords {
-                properties: value.named_schemas(alloc),
-                ..self
-            },
-            Keyword::Required => Keywords {
-                required: value.texts(alloc),
-                ..self
-            },
-            Keyword::Type => Keywords {
-                kind: value.kind(),
-                ..self
-            },
+            Keyword::Ref => self.reference = value.reference(),
+            Keyword::AdditionalProperties => self.additional = value.schema(),
+            Keyword::AllOf => self.all_of = value.schemas(alloc),
+            Keyword::AnyOf => self.any_of = value.schemas(alloc),
+            Keyword::Const => self.equal = value.anything(),
+            Keyword::Enum => self.one_of = value.array(),
+            Keyword::ExclusiveMaximum => self.below = value.integer(),
+            Keyword::ExclusiveMinimum => self.above = value.integer(),
+            Keyword::Items => self.rest = value.schema(),
+            Keyword::Maximum => self.maximum = value.integer(),
+            Keyword::MinItems => self.min_items = value.integer(),
+            Keyword::Minimum => self.minimum = value.integer(),
+            Keyword::Not => self.negated = value.schema(),
+            Keyword::PrefixItems => self.prefix = value.schemas(alloc),
+            Keyword::Properties => self.properties = value.named_schemas(alloc),
+            Keyword::Required => self.required = value.texts(alloc),
+            Keyword::Type => self.kind = value.kind(),
             // these have no field
             Keyword::Comment
             | Keyword::Defs
             | Keyword::Description
             | Keyword::Schema
-            | Keyword::Title => self,
+            | Keyword::Title => {},
         }
+        self
     }
 }
 
