@@ -17,6 +17,8 @@ use Rattle.cs_compile.proofs.Enumerations.{by_literals, enumeration-depth}
 use Rattle.cs_compile.specs.Translation.{schema_of, schemas_of, declared_schemas, rest_schema, definition_schema, any_of, one_or_all, members_at, labels_of, values_of, properties_of, required_of, unless_empty, closing, struct_schema, fixed, list_schema, of_type, labelled, under_every_key}
 use Rattle.cs_compile.specs.Definitions.{AreDefinitions}
 use Rattle.cs_compile.specs.Grouped.{for_every_key}
+use Rattle.cs_grammar.specs.Limits.{most_height}
+use Rattle.cs_compile.specs.Whole.{most_depth}
 use Rattle.cs_package.specs.Height.{height, height_all, height_fields, height_rest, heights, IsLow}
 use Rattle.cs_compile.proofs.Interval.{by_conjunction, interval-depth}
 use Rattle.cs_compile.proofs.Root.{root_of}
@@ -212,13 +214,13 @@ mutual
   rest-depth cue.any = omega arith
   rest-depth (cue.each e) = let h = schema_of-depth e in omega arith
 
-body_schemas-depth : (es : List Expression) → heights es ≤ 28 → deepest (map schema_of es) ≤ 110
+body_schemas-depth : (es : List Expression) → heights es ≤ most_height → deepest (map schema_of es) ≤ 110
 body_schemas-depth [] low = omega arith
 body_schemas-depth (e ∷ es) low =
     let h = schema_of-depth e in
     max-le (omega (arith, le-max_left (height e) (heights es))) (body_schemas-depth es (omega (arith, le-max_right (height e) (heights es))))
 
-definition_schema-depth : (es : List Expression) → heights es ≤ 28 → depth (definition_schema es) ≤ 112
+definition_schema-depth : (es : List Expression) → heights es ≤ most_height → depth (definition_schema es) ≤ 112
 definition_schema-depth es low = one_or_all-depth (map schema_of es) 110 (body_schemas-depth es low)
 
 definitions-depth : (E : Environment) (root : List ℕ) (ms : Members) → IsLow E → AreDefinitions E root ms → members_depth ms ≤ 112
@@ -228,5 +230,5 @@ definitions-depth E root (member n d ms) low h =
     max-le one (definitions-depth E root ms low h.1)
 
 -- the root adds two levels
-pub root_of-depth : (E : Environment) (n : List ℕ) (ms : Members) → IsLow E → AreDefinitions E n ms → depth (root_of ms n) ≤ 114
-root_of-depth E n ms low h = let within = definitions-depth E n ms low h in two-levels (members_depth ms) 114 (omega arith)
+pub root_of-depth : (E : Environment) (n : List ℕ) (ms : Members) → IsLow E → AreDefinitions E n ms → depth (root_of ms n) ≤ most_depth
+root_of-depth E n ms low h = let within = definitions-depth E n ms low h in two-levels (members_depth ms) most_depth (omega arith)

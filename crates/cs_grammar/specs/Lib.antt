@@ -6,5 +6,6 @@ pub mod Atom
 pub mod Words
 pub mod Tree
 pub mod Spells
+pub mod Limits
 pub mod View
 pub mod Source

@@ -1,5 +1,6 @@
 -- How high resolved expressions are (own rule: it bounds how deep what is made of them is nested).
 use Rattle.std.specs.Prelude.{◌≡◌, ℕ, ◌+◌, ◌≤◌, max, List, [], ◌∷◌, Some}
+use Rattle.cs_grammar.specs.Limits.{most_height}
 use Rattle.cs_package.specs.Expression.{Expression, atom, kind, range, reference, conjunction, disjunction, struct, list, Expressions, no_expressions, expression, Declarations, no_declarations, declaration, Rest, closed, any, each}
 use Rattle.cs_package.specs.Environment.{Environment, bodies}
 
@@ -33,6 +34,6 @@ abbrev pub heights : List Expression → ℕ
 heights [] = 0
 heights (e ∷ es) = max (height e) (heights es)
 
--- no body of a definition is higher than 28
+-- no body of a definition is higher than the limit
 abbrev pub IsLow : Environment → Type 0
-IsLow E = (n : List ℕ) (es : List Expression) → bodies E n ≡ Some es → heights es ≤ 28
+IsLow E = (n : List ℕ) (es : List Expression) → bodies E n ≡ Some es → heights es ≤ most_height

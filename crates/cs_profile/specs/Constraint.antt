@@ -51,28 +51,54 @@ abbrev pub places_taken : List (Entry Document) → ℕ
 places_taken [] = 0
 places_taken (e ∷ es) = if bytes_eq (codes "prefixItems") e.0 then max (length (elements_of e.1)) (places_taken es) else places_taken es
 
+-- what a value asserts that is to be a text, an integer, a count, an array or an object: nothing where it isn't
+module _ {H I : Type 0} where
+  abbrev pub by_text : (List ℕ → Assertion H I) → Document → Assertion H I
+  by_text f (text t) = f t
+  by_text f _ = nothing
+
+  abbrev pub by_integer : (ℤ → Assertion H I) → Document → Assertion H I
+  by_integer f (integer z) = f z
+  by_integer f _ = nothing
+
+  abbrev pub by_count : (ℕ → Assertion H I) → Document → Assertion H I
+  by_count f (integer (pos n)) = f n
+  by_count f _ = nothing
+
+  abbrev pub by_list : (List Document → Assertion H I) → Document → Assertion H I
+  by_list f (list ds) = f (elements ds)
+  by_list f _ = nothing
+
+  abbrev pub by_object : (List (Entry Document) → Assertion H I) → Document → Assertion H I
+  by_object f (object ms) = f (entries ms)
+  by_object f _ = nothing
+
 -- what a keyword asserts by its value, beside the other keywords of its object, in a schema of the root R;
--- a value without the keyword's shape asserts nothing, and so does a key that names no keyword
+-- a key that names no keyword asserts nothing
 module _ (R : Document) (beside : List (Entry Document)) where
   abbrev pub assertion : Keyword → Document → Assertion Document Document
-  assertion keyword.Ref (text t) = valid_by (named R t)
-  assertion keyword.Type (text t) = option_map_or has_kind (under t kinds) nothing
+  assertion keyword.Schema v = nothing
+  assertion keyword.Defs v = nothing
+  assertion keyword.Ref v = by_text (λ t. valid_by (named R t)) v
+  assertion keyword.Type v = by_text (λ t. option_map_or has_kind (under t kinds) nothing) v
   assertion keyword.Const v = equals v
-  assertion keyword.Enum (list vs) = is_among (elements vs)
-  assertion keyword.Minimum (integer l) = at_least l
-  assertion keyword.Maximum (integer l) = at_most l
-  assertion keyword.ExclusiveMinimum (integer l) = above l
-  assertion keyword.ExclusiveMaximum (integer l) = below l
-  assertion keyword.Required (list ts) = has_keys (texts_in (elements ts))
-  assertion keyword.Properties (object ss) = at_keys (entries ss)
+  assertion keyword.Enum v = by_list is_among v
+  assertion keyword.Minimum v = by_integer at_least v
+  assertion keyword.Maximum v = by_integer at_most v
+  assertion keyword.ExclusiveMinimum v = by_integer above v
+  assertion keyword.ExclusiveMaximum v = by_integer below v
+  assertion keyword.Required v = by_list (λ ts. has_keys (texts_in ts)) v
+  assertion keyword.Properties v = by_object at_keys v
   assertion keyword.AdditionalProperties s = at_other_keys (map (λ e. e.0) (listed_under (codes "properties") beside)) s
-  assertion keyword.PrefixItems (list ss) = in_front (elements ss)
+  assertion keyword.PrefixItems v = by_list in_front v
   assertion keyword.Items s = behind (places_taken beside) s
-  assertion keyword.MinItems (integer (pos n)) = at_least_long n
-  assertion keyword.AllOf (list ss) = valid_by_all (elements ss)
-  assertion keyword.AnyOf (list ss) = valid_by_any (elements ss)
+  assertion keyword.MinItems v = by_count at_least_long v
+  assertion keyword.AllOf v = by_list valid_by_all v
+  assertion keyword.AnyOf v = by_list valid_by_any v
   assertion keyword.Not s = not_valid_by s
-  assertion _ _ = nothing
+  assertion keyword.Title v = nothing
+  assertion keyword.Description v = nothing
+  assertion keyword.Comment v = nothing
 
   abbrev pub assertion_at : Entry Document → Assertion Document Document
   assertion_at e = option_map_or (λ k. assertion k e.1) (under e.0 keywords) nothing

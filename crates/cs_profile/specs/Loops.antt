@@ -1,5 +1,5 @@
 -- Definitions that reach themselves without going into a document (JSON Schema Core 2020-12, section 9.4.1).
-use Rattle.std.specs.Prelude.{ℕ, List, [], ◌++◌, Option, Some, option_to_list, IsTrue}
+use Rattle.std.specs.Prelude.{ℕ, List, [], ◌++◌, Option, Some, None, option_to_list, IsTrue}
 use Rattle.std.specs.Option.{option_map_or}
 use Rattle.std.specs.Str.{bytes_eq}
 use Rattle.std.specs.List.{list_any}
@@ -22,12 +22,31 @@ pub record ByReach : Type 0 where
   pub elements : List (List ℕ)
 
 abbrev pub by_keyword : Option Keyword → ByReach → List (List ℕ)
+by_keyword None names = []
 by_keyword (Some keyword.Ref) names = names.name
-by_keyword (Some keyword.Not) names = names.itself
 by_keyword (Some keyword.AllOf) names = names.elements
 by_keyword (Some keyword.AnyOf) names = names.elements
--- every other keyword asks schemas of documents inside, or none
-by_keyword _ names = []
+by_keyword (Some keyword.Not) names = names.itself
+-- these ask schemas of documents inside
+by_keyword (Some keyword.Properties) names = []
+by_keyword (Some keyword.AdditionalProperties) names = []
+by_keyword (Some keyword.PrefixItems) names = []
+by_keyword (Some keyword.Items) names = []
+-- and these ask none
+by_keyword (Some keyword.Schema) names = []
+by_keyword (Some keyword.Defs) names = []
+by_keyword (Some keyword.Type) names = []
+by_keyword (Some keyword.Const) names = []
+by_keyword (Some keyword.Enum) names = []
+by_keyword (Some keyword.Minimum) names = []
+by_keyword (Some keyword.Maximum) names = []
+by_keyword (Some keyword.ExclusiveMinimum) names = []
+by_keyword (Some keyword.ExclusiveMaximum) names = []
+by_keyword (Some keyword.MinItems) names = []
+by_keyword (Some keyword.Required) names = []
+by_keyword (Some keyword.Title) names = []
+by_keyword (Some keyword.Description) names = []
+by_keyword (Some keyword.Comment) names = []
 
 abbrev mutual
   -- the names that a schema refers to directly, through `$ref`, `allOf`, `anyOf` and `not` alone

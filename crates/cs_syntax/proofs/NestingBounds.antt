@@ -1,7 +1,7 @@
 -- How many values of a spelled tree stand inside one another is bounded by how deep its words nest.
-use Rattle.std.proofs.Common.{◌≡◌, ℕ, suc, ◌+◌, ◌≤◌, ℤ, List, [], ◌∷◌, Bool, true, false, Option, Some, None, cond, refl, subst, arith}
+use Rattle.std.proofs.Common.{◌≡◌, ℕ, suc, ◌+◌, ◌≤◌, ℤ, List, [], ◌∷◌, Bool, true, false, Option, Some, None, cond, refl, ◌∙◌, subst, arith}
 use Rattle.std.proofs.lemmas.Bool.Decides.{nat_tests}
-use Rattle.std.specs.Prelude.{max, codes}
+use Rattle.std.specs.Prelude.{max, ◌||◌, codes}
 use Rattle.std.specs.Option.{unwrap_or}
 use Rattle.std.specs.Str.{bytes_eq}
 use Rattle.cs_grammar.specs.declared.ast.FieldMark.{FieldMark}
@@ -9,7 +9,7 @@ use Rattle.cs_grammar.specs.Words.{Word, Words, name, quoted, open_list, close_l
 use Rattle.cs_grammar.specs.Tree as T
 use Rattle.cs_grammar.specs.Tree.{Label, Tree, Trees, none, more, Fields, no_field, field, End, DefinitionTree, body, FileTree, definitions}
 use Rattle.cs_grammar.specs.Spells.{is_null, is_string, literal_of, Comma, explicit, inserted, ClosesParen, paren_here, paren_after, ClosesList, list_here, list_after, ClosesStruct, struct_here, struct_after, SpellsNumber, positive, negative, SpellsBound, limit_is, other_number, other_text, other_null, SpellsLabel, bare_label, quoted_label, SpellsMark, regular, optional, required, SpellsOpening, unopened, opened, SpellsValue, long, short, SpellsField, labelled, every_key, SpellsExpr, one_conj, disjunction_is, SpellsBars, no_bar, a_bar, SpellsConj, one_operand, conjunction_is, SpellsAmps, no_amp, an_amp, SpellsOperand, top_is, bottom_is, reference_is, name_is, number_is, text_is, bound_is, paren_is, struct_is, list_is, SpellsStruct, no_fields, dots_alone, fields, SpellsFields, no_more_fields, next_field, SpellsList, no_elements, rest_alone, elements, SpellsElements, no_more_elements, next_element, SpellsEnd, closed_is, rest_is, SpellsRest, any_is, each_is, defined, SpellsDefinitions, no_definition, next_definition, SpellsPackage, no_clause, clause, SpellsFile, spelled}
-use Rattle.cs_syntax.specs.Nesting.{OpenLevels, is_chained_label, counted_if, behind, nesting_at, nesting_from, nesting}
+use Rattle.cs_syntax.specs.Nesting.{OpenLevels, ends_with_chained_label, is_short, counted_if, behind, nesting_at, nesting_from, nesting}
 use Rattle.cs_syntax.proofs.NestingCounts.{nesting-cons}
 
 -- ---- values inside one another
@@ -155,17 +155,22 @@ name_flat s p = null_or (is_null s)
 
 -- ---- labels
 
-chained_name : (s : List ℕ) (p : ℕ) (ws : Words) → is_chained_label (name s p ∷ ws) ≡ begins_colon ws
+chained_name : (s : List ℕ) (p : ℕ) (ws : Words) → ends_with_chained_label (name s p ∷ ws) ≡ begins_colon ws
 chained_name s p [] = refl
 chained_name s p (colon q ∷ ws) = refl
 chained_name s p (w ∷ ws) = refl
 
-chained_text : (s : List ℕ) (p : ℕ) (ws : Words) → is_chained_label (quoted s p ∷ ws) ≡ begins_colon ws
+chained_text : (s : List ℕ) (p : ℕ) (ws : Words) → ends_with_chained_label (quoted s p ∷ ws) ≡ begins_colon ws
 chained_text s p [] = refl
 chained_text s p (colon q ∷ ws) = refl
 chained_text s p (w ∷ ws) = refl
 
-chained_bracket : (s : List ℕ) (q p o : ℕ) (ws : Words) → is_string s ≡ true → is_chained_label (close_list q ∷ name s p ∷ open_list o ∷ ws) ≡ begins_colon ws
+-- behind a label without a mark
+unmarked : (b : Bool) → b || false ≡ b
+unmarked true = refl
+unmarked false = refl
+
+chained_bracket : (s : List ℕ) (q p o : ℕ) (ws : Words) → is_string s ≡ true → is_short (close_list q ∷ name s p ∷ open_list o ∷ ws) ≡ begins_colon ws
 chained_bracket s q p o [] e = refl
 chained_bracket s q p o (colon r ∷ ws) e = e
 chained_bracket s q p o (w ∷ ws) e = refl
@@ -174,10 +179,10 @@ counted_runs : {k : ℕ} {ws ts : Words} {b c : Bool} (ns : OpenLevels) → b �
 counted_runs {k} {ws} {ts} ns e h = subst (λ b. Runs k ws (counted_if b ns) ts) e h
 
 value_begins : {k : ℕ} {l : Label} {m : FieldMark} {ws ts us vs : Words} {ns : OpenLevels} → SpellsLabel l ts us → SpellsMark m us vs → Runs k ws ns ts → ToValue k (counted_if (begins_colon ws) ns) vs
-value_begins {ws = ws} {ns = ns} (bare_label {s} {p}) regular h = (_, _, counted_runs ns (chained_name s p ws) (pass (pass h)))
+value_begins {ws = ws} {ns = ns} (bare_label {s} {p}) regular h = (_, _, counted_runs ns (unmarked _ ∙ chained_name s p ws) (pass (pass h)))
 value_begins {ws = ws} {ns = ns} (bare_label {s} {p}) optional h = (_, _, counted_runs ns (chained_name s p ws) (pass (pass (pass h))))
 value_begins {ws = ws} {ns = ns} (bare_label {s} {p}) required h = (_, _, counted_runs ns (chained_name s p ws) (pass (pass (pass h))))
-value_begins {ws = ws} {ns = ns} (quoted_label {s} {p}) regular h = (_, _, counted_runs ns (chained_text s p ws) (pass (pass h)))
+value_begins {ws = ws} {ns = ns} (quoted_label {s} {p}) regular h = (_, _, counted_runs ns (unmarked _ ∙ chained_text s p ws) (pass (pass h)))
 value_begins {ws = ws} {ns = ns} (quoted_label {s} {p}) optional h = (_, _, counted_runs ns (chained_text s p ws) (pass (pass (pass h))))
 value_begins {ws = ws} {ns = ns} (quoted_label {s} {p}) required h = (_, _, counted_runs ns (chained_text s p ws) (pass (pass (pass h))))
 

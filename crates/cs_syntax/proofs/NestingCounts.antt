@@ -1,8 +1,8 @@
 -- The state in which the code counts is that of the open levels and their short colons.
-use Rattle.std.proofs.Common.{◌≡◌, ℕ, suc, ◌+◌, ◌-◌, List, [], ◌∷◌, length, Bool, true, false, cond, refl, ap, sym, ◌∙◌, arith}
+use Rattle.std.proofs.Common.{◌≡◌, ℕ, suc, ◌+◌, ◌-◌, List, [], ◌∷◌, length, Bool, true, false, cond, refl, ap, ap₂, sym, ◌∙◌, arith}
 use Rattle.std.proofs.lemmas.List.Sums.{sum_by-cons}
 use Rattle.std.specs.List.{sum}
-use Rattle.std.specs.Prelude.{max, ◌&&◌}
+use Rattle.std.specs.Prelude.{max, ◌&&◌, ◌||◌}
 use Rattle.cs_grammar.specs.Atom as atoms
 use Rattle.cs_grammar.specs.declared.kind.Kind.{Kind}
 use Rattle.cs_grammar.specs.declared.kind.Kind.TheVariants as kinds
@@ -11,7 +11,7 @@ use Rattle.cs_syntax.specs.declared.parser.nesting.PrecedingToken.TheVariants as
 use Rattle.cs_grammar.specs.Words.{Word, Words, name, quoted, open_struct, close_struct, open_list, close_list, open_paren, close_paren, comma, nl, colon, question, bang, relation}
 use Rattle.cs_grammar.specs.Spells.{is_string}
 use Rattle.cs_syntax.specs.Reading.{word_kind, names_string}
-use Rattle.cs_syntax.specs.Nesting.{is_chained_label, is_short, closed, counted_if, behind, nesting_at, nesting_from}
+use Rattle.cs_syntax.specs.Nesting.{ends_with_chained_label, ends_with_chained_string, is_short, closed, counted_if, behind, nesting_at, nesting_from}
 use Rattle.cs_syntax.specs.Counting as counting
 use Rattle.cs_syntax.specs.Counting.{before_next, short_colon, levels_next, level_opened, level_closed, counted_from}
 
@@ -38,6 +38,10 @@ abbrev is_label : PrecedingToken → Bool
 is_label before.Label = true
 is_label _ = false
 
+abbrev is_end : PrecedingToken → Bool
+is_end before.LabelEnd = true
+is_end _ = false
+
 -- one word further, by its kind
 abbrev colon_kind : Kind → Bool
 colon_kind kinds.Colon = true
@@ -54,8 +58,11 @@ name_kind _ b n = false
 abbrev label_kind : Kind → PrecedingToken → Bool
 label_kind kinds.Name b = is_colon b
 label_kind kinds.Text b = is_colon b
-label_kind kinds.CloseList b = is_name b
 label_kind _ b = false
+
+abbrev end_kind : Kind → PrecedingToken → Bool
+end_kind kinds.CloseList b = is_name b
+end_kind _ b = false
 
 -- what the code's step does to each of these
 record Steps (b : PrecedingToken) (k : Kind) (n : Bool) : Type 0 where
@@ -63,16 +70,18 @@ record Steps (b : PrecedingToken) (k : Kind) (n : Bool) : Type 0 where
   to_bracket : is_bracket (before_next b k n) ≡ bracket_kind k b
   to_name : is_name (before_next b k n) ≡ name_kind k b n
   to_label : is_label (before_next b k n) ≡ label_kind k b
+  to_end : is_end (before_next b k n) ≡ end_kind k b
 
 steps : (b : PrecedingToken) (k : Kind) (n : Bool) → Steps b k n
-steps before.Colon kinds.Colon n = record { to_colon = refl; to_bracket = refl; to_name = refl; to_label = refl }
-steps before.Label kinds.Question n = record { to_colon = refl; to_bracket = refl; to_name = refl; to_label = refl }
-steps before.Mark kinds.Colon n = record { to_colon = refl; to_bracket = refl; to_name = refl; to_label = refl }
-steps before.Other kinds.Colon n = record { to_colon = refl; to_bracket = refl; to_name = refl; to_label = refl }
-steps before.LabelName kinds.CloseList n = record { to_colon = refl; to_bracket = refl; to_name = refl; to_label = refl }
-steps before.LabelBracket kinds.Name true = record { to_colon = refl; to_bracket = refl; to_name = refl; to_label = refl }
-steps before.LabelBracket kinds.Name false = record { to_colon = refl; to_bracket = refl; to_name = refl; to_label = refl }
-steps b k n = record { to_colon = refl; to_bracket = refl; to_name = refl; to_label = refl }
+steps before.Colon kinds.Colon n = record { to_colon = refl; to_bracket = refl; to_name = refl; to_label = refl; to_end = refl }
+steps before.Label kinds.Question n = record { to_colon = refl; to_bracket = refl; to_name = refl; to_label = refl; to_end = refl }
+steps before.Mark kinds.Colon n = record { to_colon = refl; to_bracket = refl; to_name = refl; to_label = refl; to_end = refl }
+steps before.LabelEnd kinds.Colon n = record { to_colon = refl; to_bracket = refl; to_name = refl; to_label = refl; to_end = refl }
+steps before.Other kinds.Colon n = record { to_colon = refl; to_bracket = refl; to_name = refl; to_label = refl; to_end = refl }
+steps before.LabelName kinds.CloseList n = record { to_colon = refl; to_bracket = refl; to_name = refl; to_label = refl; to_end = refl }
+steps before.LabelBracket kinds.Name true = record { to_colon = refl; to_bracket = refl; to_name = refl; to_label = refl; to_end = refl }
+steps before.LabelBracket kinds.Name false = record { to_colon = refl; to_bracket = refl; to_name = refl; to_label = refl; to_end = refl }
+steps b k n = record { to_colon = refl; to_bracket = refl; to_name = refl; to_label = refl; to_end = refl }
 
 -- ---- the same by words
 
@@ -91,19 +100,25 @@ after_name ws = false
 abbrev after_label : Words → Bool
 after_label (name s o ∷ ws) = after_colon ws
 after_label (quoted s o ∷ ws) = after_colon ws
-after_label (close_list o ∷ ws) = after_name ws
 after_label ws = false
 
-after_label_is : (ws : Words) → is_chained_label ws ≡ after_label ws
+after_label_is : (ws : Words) → ends_with_chained_label ws ≡ after_label ws
 after_label_is (name s o ∷ colon p ∷ ws) = refl
 after_label_is (name s o ∷ ws) = refl
 after_label_is (quoted s o ∷ colon p ∷ ws) = refl
 after_label_is (quoted s o ∷ ws) = refl
-after_label_is (close_list o ∷ name s p ∷ open_list q ∷ colon r ∷ ws) = refl
-after_label_is (close_list o ∷ name s p ∷ open_list q ∷ ws) = refl
-after_label_is (close_list o ∷ name s p ∷ ws) = refl
-after_label_is (close_list o ∷ ws) = refl
 after_label_is ws = refl
+
+abbrev after_end : Words → Bool
+after_end (close_list o ∷ ws) = after_name ws
+after_end ws = false
+
+after_end_is : (ws : Words) → ends_with_chained_string ws ≡ after_end ws
+after_end_is (close_list o ∷ name s p ∷ open_list q ∷ colon r ∷ ws) = refl
+after_end_is (close_list o ∷ name s p ∷ open_list q ∷ ws) = refl
+after_end_is (close_list o ∷ name s p ∷ ws) = refl
+after_end_is (close_list o ∷ ws) = refl
+after_end_is ws = refl
 
 -- ---- both agree
 
@@ -146,23 +161,34 @@ names (w ∷ ws) = (steps (before_of ws) (word_kind w) (names_string w)).to_name
 label_word : (w : Word) (ws : Words) → label_kind (word_kind w) (before_of ws) ≡ after_label (w ∷ ws)
 label_word (name s o) ws = colons ws
 label_word (quoted s o) ws = colons ws
-label_word (close_list o) ws = names ws
 label_word (relation atoms.less o) ws = refl
 label_word (relation atoms.at_most o) ws = refl
 label_word (relation atoms.more o) ws = refl
 label_word (relation atoms.at_least o) ws = refl
 label_word w ws = refl
 
-chained : (ws : Words) → is_chained_label ws ≡ is_label (before_of ws)
+chained : (ws : Words) → ends_with_chained_label ws ≡ is_label (before_of ws)
 chained [] = refl
 chained (w ∷ ws) = after_label_is (w ∷ ws) ∙ sym ((steps (before_of ws) (word_kind w) (names_string w)).to_label ∙ label_word w ws)
+
+end_word : (w : Word) (ws : Words) → end_kind (word_kind w) (before_of ws) ≡ after_end (w ∷ ws)
+end_word (close_list o) ws = names ws
+end_word (relation atoms.less o) ws = refl
+end_word (relation atoms.at_most o) ws = refl
+end_word (relation atoms.more o) ws = refl
+end_word (relation atoms.at_least o) ws = refl
+end_word w ws = refl
+
+ended : (ws : Words) → ends_with_chained_string ws ≡ is_end (before_of ws)
+ended [] = refl
+ended (w ∷ ws) = after_end_is (w ∷ ws) ∙ sym ((steps (before_of ws) (word_kind w) (names_string w)).to_end ∙ end_word w ws)
 
 -- ---- short colons
 
 abbrev short_kind : Kind → PrecedingToken → Bool → Bool
 short_kind kinds.Question b n = is_label b
 short_kind kinds.Bang b n = is_label b
-short_kind k b n = is_label (before_next b k n)
+short_kind k b n = is_label (before_next b k n) || is_end (before_next b k n)
 
 short_next : (b : PrecedingToken) (k : Kind) (n : Bool) → short_colon (before_next b k n) ≡ cond (short_kind k b n) 1 0
 short_next before.Other kinds.Colon n = refl
@@ -170,18 +196,23 @@ short_next before.Colon kinds.Colon n = refl
 short_next before.Label kinds.Colon n = refl
 short_next before.Mark kinds.Colon n = refl
 short_next before.LabelName kinds.Colon n = refl
+short_next before.LabelEnd kinds.Colon n = refl
+short_next before.LabelName kinds.CloseList n = refl
 short_next before.LabelBracket kinds.Name true = refl
 short_next before.LabelBracket kinds.Name false = refl
 short_next b k n = refl
 
+unmarked : (ws : Words) → (ends_with_chained_label ws || ends_with_chained_string ws) ≡ (is_label (before_of ws) || is_end (before_of ws))
+unmarked ws = ap₂ ◌||◌ (chained ws) (ended ws)
+
 short_word : (w : Word) (ws : Words) → is_short (w ∷ ws) ≡ short_kind (word_kind w) (before_of ws) (names_string w)
 short_word (question o) ws = chained ws
 short_word (bang o) ws = chained ws
-short_word (relation atoms.less o) ws = chained (relation atoms.less o ∷ ws)
-short_word (relation atoms.at_most o) ws = chained (relation atoms.at_most o ∷ ws)
-short_word (relation atoms.more o) ws = chained (relation atoms.more o ∷ ws)
-short_word (relation atoms.at_least o) ws = chained (relation atoms.at_least o ∷ ws)
-short_word w ws = chained (w ∷ ws)
+short_word (relation atoms.less o) ws = unmarked (relation atoms.less o ∷ ws)
+short_word (relation atoms.at_most o) ws = unmarked (relation atoms.at_most o ∷ ws)
+short_word (relation atoms.more o) ws = unmarked (relation atoms.more o ∷ ws)
+short_word (relation atoms.at_least o) ws = unmarked (relation atoms.at_least o ∷ ws)
+short_word w ws = unmarked (w ∷ ws)
 
 short_is : (ws : Words) → short_colon (before_of ws) ≡ cond (is_short ws) 1 0
 short_is [] = refl

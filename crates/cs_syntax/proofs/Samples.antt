@@ -102,9 +102,18 @@ in_one_another = refl
 abbrev every : Words
 every = W.open_list 0 ∷ W.name (codes "string") 0 ∷ W.close_list 0 ∷ []
 
--- `#A: [string]: `, and with `?` and `!`, as deep as `#A: a: [string]: b: int`, where three colons are short and a bracket is open behind one
-every_key_colons : map nesting (body (every ++ W.colon 0 ∷ []) ∷ body (every ++ W.question 0 ∷ W.colon 0 ∷ []) ∷ body (a ∷ W.colon 0 ∷ every) ∷ body (a ∷ W.colon 0 ∷ every ++ W.colon 0 ∷ []) ∷ body (a ∷ W.colon 0 ∷ every ++ W.colon 0 ∷ a ∷ W.colon 0 ∷ a ∷ []) ∷ body (every ++ W.colon 0 ∷ every ++ W.colon 0 ∷ every) ∷ []) ≡ 1 ∷ 1 ∷ 2 ∷ 2 ∷ 3 ∷ 3 ∷ []
+-- `#A: [string]:`, then behind one short colon the bracket of `[string]`, and `#A: a: [string]: a: a` and `#A: [string]: [string]: [string]`
+every_key_colons : map nesting (body (every ++ W.colon 0 ∷ []) ∷ body (a ∷ W.colon 0 ∷ every) ∷ body (a ∷ W.colon 0 ∷ every ++ W.colon 0 ∷ []) ∷ body (a ∷ W.colon 0 ∷ every ++ W.colon 0 ∷ a ∷ W.colon 0 ∷ a ∷ []) ∷ body (every ++ W.colon 0 ∷ every ++ W.colon 0 ∷ every) ∷ []) ≡ 1 ∷ 2 ∷ 2 ∷ 3 ∷ 3 ∷ []
 every_key_colons = refl
+
+-- so many times a label, and a colon behind each
+abbrev repeated : ℕ → Words → Words
+repeated zero ts = []
+repeated (suc n) ts = ts ++ W.colon 0 ∷ repeated n ts
+
+-- `#A: ` and 29 times `[string]: `, `[string]?: `, `[string]!: `, `a?: ` and `a!: `: a mark behind `[string]` makes no short colon, and only its bracket is open
+every_key_marks : map (λ ts. nesting (body (repeated 29 ts))) (every ∷ (every ++ W.question 0 ∷ []) ∷ (every ++ W.bang 0 ∷ []) ∷ (a ∷ W.question 0 ∷ []) ∷ (a ∷ W.bang 0 ∷ []) ∷ []) ≡ 29 ∷ 1 ∷ 1 ∷ 29 ∷ 29 ∷ []
+every_key_marks = refl
 
 -- `#A: [string]: a:`, where both colons are short, and `#A: [a]: a:`, `#A: ["string"]: a:`, `#A: & [string]: a:`, `#A: [string a]: a:`, where the first isn't
 every_key_words : map (λ ts. nesting (body (ts ++ W.colon 0 ∷ a ∷ W.colon 0 ∷ []))) (every ∷ (W.open_list 0 ∷ a ∷ W.close_list 0 ∷ []) ∷ (W.open_list 0 ∷ W.quoted (codes "string") 0 ∷ W.close_list 0 ∷ []) ∷ (W.amp 0 ∷ every) ∷ (W.open_list 0 ∷ W.name (codes "string") 0 ∷ a ∷ W.close_list 0 ∷ []) ∷ []) ≡ 2 ∷ 1 ∷ 1 ∷ 1 ∷ 1 ∷ []

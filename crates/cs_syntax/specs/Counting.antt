@@ -7,14 +7,14 @@ use Rattle.cs_syntax.specs.declared.parser.nesting.PrecedingToken.TheVariants as
 use Rattle.cs_grammar.specs.Words.{Words}
 use Rattle.cs_syntax.specs.Reading.{word_kind, names_string}
 
--- what stands before the next word: a colon; behind a colon a label, that label's mark, or the bracket of a label with its name; and whether this word is the name `string`
+-- what stands before the next word: a colon; behind a colon a name or a text, its mark, or a part of the label `[string]`; and whether this word is the name `string`
 abbrev pub before_next : PrecedingToken → Kind → Bool → PrecedingToken
 before_next b kinds.Colon n = before.Colon
 before_next before.Colon kinds.Name n = before.Label
 before_next before.Colon kinds.Text n = before.Label
 before_next before.Colon kinds.OpenList n = before.LabelBracket
 before_next before.LabelBracket kinds.Name n = if n then before.LabelName else before.Other
-before_next before.LabelName kinds.CloseList n = before.Label
+before_next before.LabelName kinds.CloseList n = before.LabelEnd
 before_next before.Label kinds.Question n = before.Mark
 before_next before.Label kinds.Bang n = before.Mark
 before_next b k n = before.Other
@@ -23,6 +23,7 @@ before_next b k n = before.Other
 abbrev pub short_colon : PrecedingToken → ℕ
 short_colon before.Label = 1
 short_colon before.Mark = 1
+short_colon before.LabelEnd = 1
 short_colon before.Other = 0
 short_colon before.Colon = 0
 short_colon before.LabelBracket = 0

@@ -34,7 +34,3 @@ height_definitions (d ∷ ds) = max (height (body d)) (height_definitions ds)
 -- the greatest height of a body
 abbrev pub file_height : FileTree → ℕ
 file_height f = height_definitions (definitions f)
-
--- how high a body may be (own rule)
-abbrev pub most_height : ℕ
-most_height = 28

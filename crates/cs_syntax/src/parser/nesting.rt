@@ -19,14 +19,16 @@ pub(crate) enum PrecedingToken {
     /// None of these.
     Other,
     Colon,
-    /// A label after a colon.
+    /// A name or a text after a colon: a label that may have a mark.
     Label,
     /// The mark of such a label.
     Mark,
-    /// The `[` of a label after a colon.
+    /// The `[` of a label `[string]` after a colon.
     LabelBracket,
     /// The name `string` after such a bracket.
     LabelName,
+    /// The `]` after such a name: the end of a label that has no mark.
+    LabelEnd,
 }
 
 /// The nesting at a token.
@@ -48,7 +50,7 @@ fn before_next(before: PrecedingToken, kind: Kind, is_string: bool) -> Preceding
         (PrecedingToken::Colon, Kind::Name | Kind::Text) => PrecedingToken::Label,
         (PrecedingToken::Colon, Kind::OpenList) => PrecedingToken::LabelBracket,
         (PrecedingToken::LabelBracket, Kind::Name) if is_string => PrecedingToken::LabelName,
-        (PrecedingToken::LabelName, Kind::CloseList) => PrecedingToken::Label,
+        (PrecedingToken::LabelName, Kind::CloseList) => PrecedingToken::LabelEnd,
         (PrecedingToken::Label, Kind::Question | Kind::Bang) => PrecedingToken::Mark,
         _ => PrecedingToken::Other,
     }
@@ -58,7 +60,7 @@ fn short_colon(before: PrecedingToken) -> usize
     ensures { result ≡ short_colon before }
 {
     match before {
-        PrecedingToken::Label | PrecedingToken::Mark => 1,
+        PrecedingToken::Label | PrecedingToken::Mark | PrecedingToken::LabelEnd => 1,
         PrecedingToken::Other
         | PrecedingToken::Colon
         | PrecedingToken::LabelBracket
