@@ -9,7 +9,7 @@ use Rattle.cs_grammar.specs.Values.{is_hexadecimal, integer_value, unescaped}
 use Rattle.cs_grammar.specs.declared.line.LineState.TheVariants.{Plain, WantsComma, Minus}
 use Rattle.cs_grammar.specs.Atom as atoms
 use Rattle.cs_grammar.specs.Cut.{run, begins_bad_number, begins_quotes, begins_comment, line_len, is_too_large, is_out_of_range, is_space, line_after, line_ended, comma_if, lexeme}
-use Rattle.cs_grammar.specs.View.{bare_name, word, words}
+use Rattle.cs_grammar.specs.TokenWords.{bare_name, word, words}
 use Rattle.cs_grammar.specs.Literal.{Literal, ends, plain, escape, four, eight}
 use Rattle.cs_grammar.specs.Words as W
 use Rattle.cs_grammar.specs.Tree as T

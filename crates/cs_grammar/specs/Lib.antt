@@ -2,8 +2,10 @@ pub mod Spelling
 pub mod Literal
 pub mod Values
 pub mod Cut
+pub mod Stuck
 pub mod Atom
 pub mod Words
+pub mod TokenWords
 pub mod Tree
 pub mod Spells
 pub mod View
