@@ -1,5 +1,5 @@
 pub mod Spelling
-pub mod Literal
+pub mod TextParts
 pub mod Values
 pub mod Cut
 pub mod Stuck

@@ -1,5 +1,5 @@
 pub use Rattle.cs_grammar.specs.Spelling
-pub use Rattle.cs_grammar.specs.Literal
+pub use Rattle.cs_grammar.specs.TextParts
 pub use Rattle.cs_grammar.specs.Values
 pub use Rattle.cs_grammar.specs.Cut
 pub use Rattle.cs_grammar.specs.Stuck
