@@ -7,10 +7,10 @@ use Rattle.cs_document.specs.View.{members_of}
 use Rattle.cs_profile.specs.Keywords.{reference_start, defined}
 use Rattle.cs_profile.specs.Shapes.{dialect}
 use Rattle.cs_profile.specs.Trim.{with_dialect}
-use Rattle.cs_profile.specs.SchemaDocument.{SchemaValue, document_of, schema_view, definitions_view, with_definitions, unless_no_map}
+use Rattle.cs_profile.specs.SchemaDocument.{SchemaValue, document_of, schema_view, definitions_view, unless_no_map}
+use Rattle.cs_profile.specs.Root.{reference_to, with_definitions}
 use Rattle.cs_profile.specs.Validity.{IsValidity}
 use Rattle.cs_compile.specs.Definitions.{definition_entries}
-use Rattle.cs_compile.specs.Whole.{reference_to}
 
 -- the root with these definitions, which refers to the definition n
 abbrev pub root_of : Members → List ℕ → Document

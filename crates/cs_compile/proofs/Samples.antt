@@ -9,7 +9,7 @@ use Rattle.cs_package.specs.Environment.{Environment, bodies}
 use Rattle.cs_profile.specs.Keywords.{defined}
 use Rattle.cs_profile.proofs.Rows.{says, typed}
 use Rattle.cs_compile.specs.Translation.{schema_of, definition_schema}
-use Rattle.cs_compile.specs.Whole.{reference_to}
+use Rattle.cs_profile.specs.Root.{reference_to}
 use Prim.Native.String.{String}
 
 -- ---- documents, written briefly

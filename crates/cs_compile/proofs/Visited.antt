@@ -11,7 +11,8 @@ use Rattle.cs_package.specs.Expression as cue
 use Rattle.cs_package.specs.Expression.{Expression, Expressions, operands, Declaration, Declarations, is_every, less, at_most, more, at_least, int, number, string, bool}
 use Rattle.cs_guard.specs.Reachable.{referred, referred_all, referred_fields, referred_rest}
 use Rattle.cs_profile.specs.Places.{at_key, at_index}
-use Rattle.cs_profile.specs.Profile.{Visit, first, fault_of, undefined_at, visits, member_visits, keyword_visits, element_visits, named_visits}
+use Rattle.cs_profile.specs.Profile.{Visit, first, fault_of, undefined_at, visits, member_visits, element_visits, named_visits}
+use Rattle.cs_profile.specs.Values.{keyword_visits}
 use Rattle.cs_profile.specs.SchemaDocument.{unless_no_list}
 use Rattle.cs_profile.specs.Shapes.{is_name, are_distinct_texts}
 use Rattle.cs_profile.specs.Trim.{with_member}

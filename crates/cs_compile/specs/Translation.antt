@@ -1,6 +1,6 @@
 -- The schema of each form of expression, a row for each form (own rule; the keywords are those of JSON Schema Validation
 -- 2020-12, section 6, and Core, sections 8.2.3.1 and 10). Keys stand in byte order.
-use Rattle.std.specs.Prelude.{◌≡◌, ℕ, suc, ℤ, pos, neg_ℤ, ◌+ℤ◌, ◌-ℤ◌, int_lt, List, [], ◌∷◌, ◌++◌, map, filter, flat_map, length, Bool, true, false, not, ◌&&◌, ◌||◌, Option, Some, None, IsSome, is_some, option_map, codes, if◌then◌else◌}
+use Rattle.std.specs.Prelude.{◌≡◌, ℕ, suc, ℤ, pos, neg_ℤ, ◌+ℤ◌, ◌-ℤ◌, int_lt, List, [], ◌∷◌, map, filter, flat_map, length, Bool, true, false, not, ◌&&◌, ◌||◌, Option, Some, None, IsSome, is_some, option_map, codes, if◌then◌else◌}
 use Rattle.std.specs.Int.{int_max, int_min}
 use Rattle.std.specs.List.{list_all, list_any, filter_map, fold}
 use Rattle.std.specs.Option.{option_map_or, unwrap_or}
@@ -11,7 +11,8 @@ use Rattle.cs_package.specs.Expression as cue
 use Rattle.cs_package.specs.Expression.{Expression, Expressions, operands, Kind, int, number, string, bool, Relation, less, at_most, more, at_least, DeclarationMark, regular, optional, required, every, is_every, Declaration, Declarations, Rest}
 use Rattle.cs_package.specs.Environment.{Environment, bodies}
 use Rattle.cs_guard.specs.Reachable.{Reaches}
-use Rattle.cs_profile.specs.Keywords.{defined, reference_start}
+use Rattle.cs_profile.specs.Keywords.{defined}
+use Rattle.cs_profile.specs.Root.{reference_to}
 use Rattle.cs_profile.specs.SchemaDocument.{unless_no_list}
 use Rattle.cs_profile.specs.Trim.{with_member}
 
@@ -49,10 +50,6 @@ constant v = object (member (codes "const") v no_members)
 
 abbrev pub but : Document → Members → Members
 but v ms = member (codes "not") (constant v) ms
-
--- a schema that refers to the definition n alone (JSON Schema Core 2020-12, section 8.2.3.1)
-abbrev pub reference_to : List ℕ → Document
-reference_to n = object (member (codes "$ref") (text (reference_start ++ n)) no_members)
 
 -- each value once, where it comes first
 abbrev pub firsts : {A : Type 0} → (A → A → Bool) → List A → List A

@@ -5,8 +5,8 @@ use Rattle.cs_package.specs.Environment.{Environment}
 use Rattle.cs_package.specs.Height.{IsLow}
 use Rattle.cs_guard.specs.Reachable.{Reaches}
 use Rattle.cs_instance.specs.Instance.{Rule, definition, IsInstance}
-pub use Rattle.cs_compile.specs.Translation.{reference_to}
 use Rattle.cs_profile.specs.Keywords.{defined}
+use Rattle.cs_profile.specs.Root.{reference_to}
 use Rattle.cs_profile.specs.SchemaDocument.{SchemaValue, document_of, schema_view}
 use Rattle.cs_profile.specs.Validity.{IsValidity}
 

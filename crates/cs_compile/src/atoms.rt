@@ -4,7 +4,8 @@ ghost use Rattle.cs_document.specs.Document.{object, member, integer, text};
 ghost use Rattle.cs_document.specs.View.{doc_view};
 ghost use Rattle.cs_package.specs.View.{kind_of, relation_of};
 ghost use Rattle.cs_profile.specs.SchemaDocument.{schema_view, slots_of, present, set_slot, kind_name};
-ghost use Rattle.cs_compile.specs.Translation.{constant, but, of_type, type_name, range_keywords, limit_name, reference_to};
+ghost use Rattle.cs_profile.specs.Root.{reference_to};
+ghost use Rattle.cs_compile.specs.Translation.{constant, but, of_type, type_name, range_keywords, limit_name};
 
 use crate::keywords::{limit_keyword, object, typed, untyped};
 use cs_document::Doc;

@@ -1,5 +1,6 @@
 pub use Rattle.cs_document.specs.Document
 pub use Rattle.cs_document.specs.Opened
+pub use Rattle.cs_document.specs.Inside
 pub use Rattle.cs_document.specs.View
 pub use Rattle.cs_document.specs.Order
 pub use Rattle.cs_flat.specs.Nodes

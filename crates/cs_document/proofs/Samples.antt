@@ -4,7 +4,8 @@ use Rattle.std.specs.List.{AllByRecursion, list_all}
 use Rattle.std.specs.Ordering.{is_lt, is_eq, is_gt}
 use Rattle.cs_document.specs.Document.{Document, null, boolean, integer, text, Members, no_members, IsDocument, document_eq, depth, put, under, get_member, entries}
 use Rattle.cs_document.specs.Order.{document_cmp}
-use Rattle.cs_document.specs.Opened.{opened, map_opened, InsideBelow, AscendsInside, a_null, a_boolean, an_integer, a_text, a_list, an_object}
+use Rattle.cs_document.specs.Opened.{opened, a_null, a_boolean, an_integer, a_text, a_list, an_object}
+use Rattle.cs_document.specs.Inside.{map_opened, InsideBelow, AscendsInside}
 use Rattle.cs_document.proofs.SampleDocuments.{number, array, members, map_of}
 
 -- ---- short forms

@@ -1,5 +1,6 @@
 pub mod Document
 pub mod Opened
+pub mod Inside
 pub mod View
 pub mod Order
 -- for contracts of private functions and proofs alone

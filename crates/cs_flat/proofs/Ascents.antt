@@ -6,7 +6,8 @@ use Rattle.std.specs.Ordering.{nat_cmp}
 use Rattle.std.specs.declared.cmp.Ordering.TheVariants.{Less}
 use Rattle.std.specs.Cmp.Lexicographic.{slice_cmp}
 use Rattle.cs_document.specs.Document.{Document, null, boolean, integer, text, list, object, Documents, no_documents, document, Members, no_members, member, Entry, KeysAbove, IsDocument, AreDocuments, AreMembers}
-use Rattle.cs_document.specs.Opened.{Opened, KeysAscend, AscendsInside, a_list, an_object}
+use Rattle.cs_document.specs.Opened.{Opened, a_list, an_object}
+use Rattle.cs_document.specs.Inside.{KeysAscend, AscendsInside}
 use Rattle.cs_document.proofs.Each.{each_append}
 use Rattle.cs_flat.specs.Items.{inside, element_numbers, member_numbers, items, items_behind, element_items, member_items}
 

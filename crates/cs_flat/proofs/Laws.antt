@@ -2,7 +2,8 @@
 use Rattle.std.proofs.Common.{◌≡◌, ℕ, suc, ◌+◌, ◌<◌, ◌≤◌, List, [], ◌∷◌, ◌++◌, length, map, length-append, refl, sym, ap, ap₂, ◌∙◌, subst, arith}
 use Rattle.std.specs.List.{AllByRecursion as Each}
 use Rattle.cs_document.specs.Document.{Document, null, boolean, integer, text, list, object, Documents, no_documents, document, Members, no_members, member, Entry, elements, entries}
-use Rattle.cs_document.specs.Opened.{Opened, a_list, an_object, opened, map_entry, map_opened, InsideBelow}
+use Rattle.cs_document.specs.Opened.{Opened, a_list, an_object, opened}
+use Rattle.cs_document.specs.Inside.{map_entry, map_opened, InsideBelow}
 use Rattle.cs_flat.specs.Nodes.{nodes, element_nodes, member_nodes, node_at}
 use Rattle.cs_flat.specs.Items.{inside, inside_elements, inside_members, element_numbers, member_numbers, items, items_behind, element_items, member_items, AreItems}
 use Rattle.cs_flat.proofs.Places.{EachFrom, joined, parted, raised, each_at}

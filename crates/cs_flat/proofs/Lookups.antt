@@ -7,7 +7,7 @@ use Rattle.std.specs.Ordering.{is_lt, is_eq, ordering_index, ordering_reverse}
 use Rattle.std.proofs.lemmas.Cmp.{nat_list_cmp_total, alike_right}
 use Rattle.std.proofs.lemmas.List.Sorted.{searchable_from_sorted}
 use Rattle.cs_document.specs.Document.{Entry, under}
-use Rattle.cs_document.specs.Opened.{KeysAscend}
+use Rattle.cs_document.specs.Inside.{KeysAscend}
 use Rattle.cs_flat.specs.View.{entry_of}
 
 -- an entry of the code

@@ -2,7 +2,8 @@
 -- directly inside. The number of a value is its place among the nodes.
 use Rattle.std.specs.Prelude.{◌≡◌, ℕ, suc, ◌+◌, List, [], ◌∷◌, ◌++◌, Some, length, slice_get}
 use Rattle.cs_document.specs.Document.{Document, null, boolean, integer, text, list, object, Documents, no_documents, document, Members, no_members, member, Entry}
-use Rattle.cs_document.specs.Opened.{Opened, a_null, a_boolean, an_integer, a_text, a_list, an_object, opened, map_opened, InsideBelow}
+use Rattle.cs_document.specs.Opened.{Opened, a_null, a_boolean, an_integer, a_text, a_list, an_object, opened}
+use Rattle.cs_document.specs.Inside.{map_opened, InsideBelow}
 use Rattle.cs_flat.specs.Nodes.{node_at}
 
 -- how many values stand inside

@@ -1,7 +1,7 @@
 // Look-up among the entries of a map.
 ghost use Rattle.std.specs.Prelude.{◌≡◌, map};
 ghost use Rattle.cs_document.specs.Document.{under};
-ghost use Rattle.cs_document.specs.Opened.{KeysAscend};
+ghost use Rattle.cs_document.specs.Inside.{KeysAscend};
 ghost use Rattle.cs_flat.specs.View.{entry_of};
 
 /// The number under a key (RFC 8259, section 4), looked for by halving.

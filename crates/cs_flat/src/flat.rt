@@ -54,7 +54,7 @@ impl Flat<'_> {
     ghost use Rattle.cs_document.specs.Document.{IsDocument};
     ghost use Rattle.cs_flat.specs.Nodes.{nodes, node_at};
     ghost use Rattle.cs_flat.specs.Items.{inside, items, AreItems};
-    ghost use Rattle.cs_document.specs.Opened.{AscendsInside};
+    ghost use Rattle.cs_document.specs.Inside.{AscendsInside};
     ghost use Rattle.cs_document.specs.View.{doc_view};
     ghost use Rattle.cs_flat.specs.View.{item_view};
 

@@ -29,7 +29,7 @@ impl<'a> Names<'a> {
     ghost use Rattle.std.specs.Prelude.{◌≡◌, map, is_some, IfOk, string_bytes};
     ghost use Rattle.std.specs.List.{list_all};
     ghost use Rattle.cs_document.specs.Document.{under};
-    ghost use Rattle.cs_document.specs.Opened.{KeysAscend};
+    ghost use Rattle.cs_document.specs.Inside.{KeysAscend};
     ghost use Rattle.cs_flat.specs.View.{entry_of};
 
     /// Takes memory for a reference to each text, and the time to sort them. Only memory can run out.

@@ -2,7 +2,7 @@
 use Rattle.std.proofs.Common.{◌≡◌, ℕ, List, [], ◌∷◌, Bool, true, false, cond, refl, arith}
 use Rattle.std.proofs.lemmas.Bool.Decides.{nat_tests}
 use Rattle.std.specs.Prelude.{◌==◌, ◌≢◌}
-use Rattle.cs_grammar.specs.View.{bare_name}
+use Rattle.cs_grammar.specs.TokenWords.{bare_name}
 
 pub bare_already : (bs : List ℕ) → ((rest : List ℕ) → bs ≢ 35 ∷ rest) → bs ≡ bare_name bs
 bare_already [] h = refl

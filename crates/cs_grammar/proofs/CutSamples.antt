@@ -10,7 +10,8 @@ use Rattle.cs_grammar.specs.declared.line.LineState.TheVariants.{Plain, WantsCom
 use Rattle.cs_grammar.specs.declared.fault.SyntaxFault.TheVariants.{NoToken, IntegerRange}
 use Rattle.cs_grammar.specs.Spelling.{is_integer, text_value, sort_of}
 use Rattle.cs_grammar.specs.Values.{integer_value}
-use Rattle.cs_grammar.specs.Cut.{IsLongest, BeginsNone, Begins, begins_bad_number, begins_quotes, begins_comment, is_out_of_range, lexeme, IsCut, blank, new_line, comment, token, finish, number, quotes, nothing, IsStuck, no_token, too_large, past_blank, past_line, past_comment, past_token}
+use Rattle.cs_grammar.specs.Cut.{IsLongest, Begins, begins_bad_number, begins_quotes, begins_comment, is_out_of_range, lexeme, IsCut, blank, new_line, comment, token, finish}
+use Rattle.cs_grammar.specs.Stuck.{BeginsNone, number, quotes, nothing, IsStuck, no_token, too_large, past_blank, past_line, past_comment, past_token}
 
 -- ---- no longer front is a token, by trying each
 

@@ -9,8 +9,8 @@ use Rattle.cs_grammar.specs.Values.{is_hexadecimal, integer_value, unescaped}
 use Rattle.cs_grammar.specs.declared.line.LineState.TheVariants.{Plain, WantsComma, Minus}
 use Rattle.cs_grammar.specs.Atom as atoms
 use Rattle.cs_grammar.specs.Cut.{run, begins_bad_number, begins_quotes, begins_comment, line_len, is_too_large, is_out_of_range, is_space, line_after, line_ended, comma_if, lexeme}
-use Rattle.cs_grammar.specs.View.{bare_name, word, words}
-use Rattle.cs_grammar.specs.Literal.{Literal, ends, plain, escape, four, eight}
+use Rattle.cs_grammar.specs.TokenWords.{bare_name, word, words}
+use Rattle.cs_grammar.specs.TextParts.{TextParts, ends, plain, escape, four, eight}
 use Rattle.cs_grammar.specs.Words as W
 use Rattle.cs_grammar.specs.Tree as T
 use Rattle.cs_grammar.specs.Spells.{is_reserved, literal_of, is_null, is_package, is_string, start_at, SpellsNumber, positive, negative}
@@ -249,6 +249,6 @@ too_small (negative e h) = let fits = rw e at h in omega (arith, ints, fits)
 -- ---- parts of a text
 
 -- `a\n\u00e9\U0001F600"`
-each_part : Literal (codes "a\\n\\u00e9\\U0001F600\"") (97 ∷ 10 ∷ 195 ∷ 169 ∷ 240 ∷ 159 ∷ 152 ∷ 128 ∷ [])
+each_part : TextParts (codes "a\\n\\u00e9\\U0001F600\"") (97 ∷ 10 ∷ 195 ∷ 169 ∷ 240 ∷ 159 ∷ 152 ∷ 128 ∷ [])
 unfolding encode
 each_part = plain refl (escape refl (four (record { digits = refl; character = refl }) (eight (record { digits = refl; character = refl }) ends)))

@@ -1,7 +1,8 @@
 -- Expressions, fields and words as the grammar sees them, form by form.
 use Rattle.std.proofs.Common.{◌≡◌, ℕ, Bool, List, refl, ap, rules, string_bytes, Box, Global, String, Vec}
 use Rattle.cs_grammar.specs.Tree as T
-use Rattle.cs_grammar.specs.View.{expr_view, exprs_view, fields_view, field_view, end_view, word_of}
+use Rattle.cs_grammar.specs.View.{expr_view, exprs_view, fields_view, field_view, end_view}
+use Rattle.cs_grammar.specs.TokenWords.{word_of}
 use Rattle.cs_grammar.specs.Words.{start}
 use Rattle.cs_grammar.specs.declared.ast.Expr as Exprs
 use Rattle.cs_grammar.specs.declared.ast.Expr.{Expr}

@@ -1,12 +1,10 @@
--- How a text is cut into tokens, from the left (CUE, lexical elements). A text is cut in one way, or is stuck at one place.
+-- How a text is cut into tokens, from the left (CUE, lexical elements). A text is cut in one way, or is stuck at one place (`Stuck`).
 use Rattle.std.specs.Prelude.{◌≡◌, ℕ, ◌+◌, ◌^◌, ◌<◌, ◌≤◌, List, [], ◌∷◌, take, drop, length, Bool, true, false, ◌==◌, ◌&&◌, ◌||◌, not, nat_lt, nat_le, if◌then◌else◌, Some, None}
 use Rattle.std.specs.List.{prefix_len}
 use Rattle.cs_grammar.specs.declared.token.Sort.{Sort}
 use Rattle.cs_grammar.specs.declared.token.Sort.TheVariants as sorts
 use Rattle.cs_grammar.specs.declared.line.LineState.{LineState}
 use Rattle.cs_grammar.specs.declared.line.LineState.TheVariants.{Plain, WantsComma, Minus}
-use Rattle.cs_grammar.specs.declared.fault.SyntaxFault.{SyntaxFault}
-use Rattle.cs_grammar.specs.declared.fault.SyntaxFault.TheVariants.{NoToken, IntegerRange}
 use Rattle.cs_grammar.specs.Spelling.{is_digit, is_run_byte, is_integer, sort_of}
 use Rattle.cs_grammar.specs.Values.{integer_value}
 
@@ -17,10 +15,6 @@ pub record IsLongest (bs : List ℕ) (n : ℕ) (s : Sort) : Type 0 where
   pub within : n ≤ length bs
   pub spelled : sort_of (take n bs) ≡ Some s
   pub longest : (m : ℕ) → n < m → m ≤ length bs → sort_of (take m bs) ≡ None
-
--- no front of it is a token
-abbrev pub BeginsNone : List ℕ → Type 0
-BeginsNone bs = (m : ℕ) → m ≤ length bs → sort_of (take m bs) ≡ None
 
 -- the longest run of letters, digits, `_` and `.`
 abbrev pub run : List ℕ → ℕ
@@ -118,31 +112,3 @@ pub data Cut : List ℕ → ℕ → LineState → List Lexeme → Type 0 where
 -- the tokens of a source
 abbrev pub IsCut : List ℕ → List Lexeme → Type 0
 IsCut bs ks = Cut bs 0 Plain ks
-
--- ---- where a text is stuck
-
--- no token of the profile begins here: a number of another form, three quotes, or nothing that is a token, a comment, a blank or the end of a line
-pub data NoneBegins : List ℕ → Type 0 where
-  number : {bs : List ℕ} → begins_bad_number bs ≡ true → NoneBegins bs
-  quotes : {bs : List ℕ} → begins_quotes bs ≡ true → NoneBegins bs
-  nothing : {x : ℕ} {bs : List ℕ} → is_space x ≡ false → (x == 10) ≡ false → begins_comment (x ∷ bs) ≡ false → BeginsNone (x ∷ bs) → NoneBegins (x ∷ bs)
-
--- an integer out of range begins here
-pub record TooLarge (l : LineState) (bs : List ℕ) (n : ℕ) : Type 0 where
-  pub no_bad_number : begins_bad_number bs ≡ false
-  pub no_quotes : begins_quotes bs ≡ false
-  pub no_comment : begins_comment bs ≡ false
-  pub out_of_range : is_too_large l (take n bs) ≡ true
-  pub token : IsLongest bs n sorts.Integer
-
--- Stuck bs o l f: the text bs, which begins at offset o behind a token that leaves the line as l, is cut so up to the offset of f, where what f says stands.
-pub data Stuck : List ℕ → ℕ → LineState → SyntaxFault → Type 0 where
-  no_token : {o : ℕ} {bs : List ℕ} {l : LineState} → NoneBegins bs → Stuck bs o l (NoToken o)
-  too_large : {o n : ℕ} {bs : List ℕ} {l : LineState} → TooLarge l bs n → Stuck bs o l (IntegerRange o)
-  past_blank : {x o : ℕ} {bs : List ℕ} {l : LineState} {f : SyntaxFault} → is_space x ≡ true → Stuck bs (o + 1) l f → Stuck (x ∷ bs) o l f
-  past_line : {x o : ℕ} {bs : List ℕ} {l : LineState} {f : SyntaxFault} → (x == 10) ≡ true → Stuck bs (o + 1) (line_ended l) f → Stuck (x ∷ bs) o l f
-  past_comment : {o : ℕ} {bs : List ℕ} {l : LineState} {f : SyntaxFault} → begins_comment bs ≡ true → Stuck (drop (line_len bs) bs) (o + line_len bs) (line_ended l) f → Stuck bs o l f
-  past_token : {n o : ℕ} {s : Sort} {bs : List ℕ} {l : LineState} {f : SyntaxFault} → Begins l bs n s → Stuck (drop n bs) (o + n) (line_after s (take n bs)) f → Stuck bs o l f
-
-abbrev pub IsStuck : List ℕ → SyntaxFault → Type 0
-IsStuck bs f = Stuck bs 0 Plain f

@@ -1,9 +1,11 @@
 pub mod Spelling
-pub mod Literal
+pub mod TextParts
 pub mod Values
 pub mod Cut
+pub mod Stuck
 pub mod Atom
 pub mod Words
+pub mod TokenWords
 pub mod Tree
 pub mod Spells
 pub mod Limits

@@ -1,7 +1,6 @@
--- What tokens, expressions and files stand for.
-use Rattle.std.specs.Prelude.{ℕ, Bool, List, [], ◌∷◌, map, ◌==◌, if◌then◌else◌, codes, string_bytes}
+-- What the tokens, expressions and files of the code stand for.
+use Rattle.std.specs.Prelude.{ℕ, Bool, List, [], ◌∷◌, map, string_bytes}
 use Rattle.std.specs.Option.{option_map}
-use Rattle.std.specs.Str.{bytes_eq}
 use Rattle.cs_grammar.specs.declared.ast.Expr.{Expr, fold-Expr}
 use Rattle.cs_grammar.specs.declared.ast.Expr.TheOpen.{Expr-F, Field-F, ListEnd-F}
 use Rattle.cs_grammar.specs.declared.ast.ListEnd.{ListEnd, fold-ListEnd}
@@ -12,15 +11,8 @@ use Rattle.cs_grammar.specs.declared.ast.Relation.TheVariants as relations
 use Rattle.cs_grammar.specs.declared.ast.Definition.{Definition}
 use Rattle.cs_grammar.specs.declared.ast.File.{File}
 use Rattle.cs_grammar.specs.declared.token.Token.{Token}
-use Rattle.cs_grammar.specs.declared.token.Sort.{Sort}
-use Rattle.cs_grammar.specs.declared.token.Sort.TheVariants as sorts
-use Rattle.cs_grammar.specs.declared.kind.Kind.{Kind}
-use Rattle.cs_grammar.specs.declared.kind.Kind.TheVariants as kinds
-use Rattle.cs_grammar.specs.Values.{integer_value, unescaped}
 use Rattle.cs_grammar.specs.Cut.{Lexeme, lexeme}
 use Rattle.cs_grammar.specs.Atom.{Relation, less, at_most, more, at_least}
-use Rattle.cs_grammar.specs.Words as W
-use Rattle.cs_grammar.specs.Words.{Word, Words}
 use Rattle.cs_grammar.specs.Tree as T
 use Rattle.cs_grammar.specs.Tree.{Label, Tree, Trees, Fields, End, DefinitionTree, FileTree}
 
@@ -31,87 +23,6 @@ lexeme_view t = lexeme t.sort t.text.now t.start
 
 abbrev pub lexemes_view : List Token → List Lexeme
 lexemes_view ts = map lexeme_view ts
-
--- what a mark is for the grammar
-abbrev pub mark_kind : List ℕ → Kind
-mark_kind t =
-    if bytes_eq t (codes "{") then kinds.OpenStruct else (
-    if bytes_eq t (codes "}") then kinds.CloseStruct else (
-    if bytes_eq t (codes "[") then kinds.OpenList else (
-    if bytes_eq t (codes "]") then kinds.CloseList else (
-    if bytes_eq t (codes "(") then kinds.OpenParen else (
-    if bytes_eq t (codes ")") then kinds.CloseParen else (
-    if bytes_eq t (codes ",") then kinds.Comma else (
-    if bytes_eq t (codes ":") then kinds.Colon else (
-    if bytes_eq t (codes "?") then kinds.Question else (
-    if bytes_eq t (codes "!") then kinds.Bang else (
-    if bytes_eq t (codes "&") then kinds.Amp else (
-    if bytes_eq t (codes "|") then kinds.Bar else (
-    if bytes_eq t (codes "...") then kinds.Dots else (
-    if bytes_eq t (codes "<") then kinds.Less else (
-    if bytes_eq t (codes "<=") then kinds.AtMost else (
-    if bytes_eq t (codes ">") then kinds.More else (
-    if bytes_eq t (codes ">=") then kinds.AtLeast else (
-    if bytes_eq t (codes "!=") then kinds.Unequal else (
-    if bytes_eq t (codes "-") then kinds.Minus else
-    kinds.LeftOut))))))))))))))))))
-
--- what a token is for the grammar
-abbrev pub kind_of : Sort → List ℕ → Kind
-kind_of sorts.Name t = kinds.Name
-kind_of sorts.Definition t = kinds.Definition
-kind_of sorts.Hidden t = kinds.Hidden
-kind_of sorts.Top t = kinds.Top
-kind_of sorts.Bottom t = kinds.Bottom
-kind_of sorts.Integer t = kinds.Integer
-kind_of sorts.Text t = kinds.Text
-kind_of sorts.Mark t = mark_kind t
-kind_of sorts.LeftOut t = kinds.LeftOut
-kind_of sorts.Inserted t = kinds.Inserted
-kind_of sorts.End t = kinds.End
-
--- the name of a definition without its `#`
-abbrev pub bare_name : List ℕ → List ℕ
-bare_name [] = []
-bare_name (x ∷ xs) = if x == 35 then xs else x ∷ xs
-
-abbrev pub word_of : Kind → List ℕ → ℕ → Word
-word_of kinds.Name t o = W.name t o
-word_of kinds.Definition t o = W.definition_name (bare_name t) o
-word_of kinds.Hidden t o = W.hidden o
-word_of kinds.Top t o = W.top_mark o
-word_of kinds.Bottom t o = W.bottom_mark o
-word_of kinds.Integer t o = W.numeral (integer_value t) o
-word_of kinds.Text t o = W.quoted (unescaped t) o
-word_of kinds.OpenStruct t o = W.open_struct o
-word_of kinds.CloseStruct t o = W.close_struct o
-word_of kinds.OpenList t o = W.open_list o
-word_of kinds.CloseList t o = W.close_list o
-word_of kinds.OpenParen t o = W.open_paren o
-word_of kinds.CloseParen t o = W.close_paren o
-word_of kinds.Comma t o = W.comma o
-word_of kinds.Colon t o = W.colon o
-word_of kinds.Question t o = W.question o
-word_of kinds.Bang t o = W.bang o
-word_of kinds.Amp t o = W.amp o
-word_of kinds.Bar t o = W.bar o
-word_of kinds.Dots t o = W.dots o
-word_of kinds.Less t o = W.relation less o
-word_of kinds.AtMost t o = W.relation at_most o
-word_of kinds.More t o = W.relation more o
-word_of kinds.AtLeast t o = W.relation at_least o
-word_of kinds.Unequal t o = W.unequal o
-word_of kinds.Minus t o = W.minus o
-word_of kinds.LeftOut t o = W.left_out o
-word_of kinds.Inserted t o = W.nl o
-word_of kinds.End t o = W.finish o
-
--- the word of a token
-abbrev pub word : Lexeme → Word
-word (lexeme s t o) = word_of (kind_of s t) t o
-
-abbrev pub words : List Lexeme → Words
-words ks = map word ks
 
 -- ---- trees
 

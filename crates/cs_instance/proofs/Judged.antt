@@ -2,7 +2,8 @@
 use Rattle.std.proofs.Common.{◌≡◌, ℕ, ◌<◌, ◌≤◌, List, Some, ap₂, lt_of_lt_of_le}
 use Rattle.std.specs.Prelude.{slice_get}
 use Rattle.cs_document.specs.Document.{Entry}
-use Rattle.cs_document.specs.Opened.{Opened, a_null, a_boolean, an_integer, a_text, a_list, an_object, InsideBelow}
+use Rattle.cs_document.specs.Opened.{Opened, a_null, a_boolean, an_integer, a_text, a_list, an_object}
+use Rattle.cs_document.specs.Inside.{InsideBelow}
 use Rattle.cs_document.proofs.Each.{each_map}
 use Rattle.cs_table.specs.Judged.{AllVerdicts}
 use Rattle.cs_instance.specs.declared.rules.Rule.{Rule}

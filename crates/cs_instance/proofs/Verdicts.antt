@@ -4,10 +4,12 @@ use Rattle.std.proofs.lemmas.Option.{slice_get-get_or}
 use Rattle.std.proofs.lemmas.List.{length-map}
 use Rattle.std.proofs.lemmas.List.Sorted.{length_permutation}
 use Rattle.cs_document.specs.Document.{Document}
-use Rattle.cs_document.specs.Opened.{a_null, opened, map_opened}
+use Rattle.cs_document.specs.Opened.{a_null, opened}
+use Rattle.cs_document.specs.Inside.{map_opened}
 use Rattle.cs_flat.specs.Nodes.{nodes, node_at}
 use Rattle.cs_flat.specs.Items.{items, AreItems}
-use Rattle.cs_table.specs.Judged.{AllVerdicts, Judgement, IsJudged, Table, verdicts, most_pairs}
+use Rattle.cs_table.specs.Judged.{AllVerdicts, Judgement, IsJudged, Table, verdicts}
+use Rattle.cs_table.specs.Limit.{most_pairs}
 use Rattle.cs_table.specs.Refused as limits
 use Rattle.cs_table.specs.declared.fault.TableFault.{TableFault}
 use Rattle.cs_table.specs.declared.fault.TableFault.TheVariants as table

@@ -4,7 +4,8 @@ use Rattle.std.specs.List.{AllByRecursion as Each}
 use mathlib.Core.HLevel.{×_prop, Unit-prop}
 use native.Mathlib.Bridge.{le_prop}
 use Rattle.cs_document.specs.Document.{Entry}
-use Rattle.cs_document.specs.Opened.{Opened, a_null, a_boolean, an_integer, a_text, a_list, an_object, InsideBelow}
+use Rattle.cs_document.specs.Opened.{Opened, a_null, a_boolean, an_integer, a_text, a_list, an_object}
+use Rattle.cs_document.specs.Inside.{InsideBelow}
 use Rattle.cs_package.specs.Expression.{Declaration}
 use Rattle.cs_instance.specs.Constraint.{Rest, nothing, anything, each, Constraint, all_of, any_of, object_of, list_of, always, never, the_null, the_boolean, the_integer, the_text, of_kind, in_range, bounded, another_integer, another_text, not_the_null}
 use Rattle.cs_instance.specs.Numbering.{PartsBelow, RestBelow}

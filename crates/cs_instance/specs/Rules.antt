@@ -3,7 +3,7 @@ use Rattle.std.specs.Prelude.{ℕ, ◌<◌, ◌*◌, List, [], ◌∷◌, ◌++�
 use Rattle.std.specs.List.Sorted.{IsPermutation}
 use Rattle.cs_document.specs.Document.{Document}
 use Rattle.cs_flat.specs.Nodes.{nodes}
-use Rattle.cs_table.specs.Judged.{most_pairs}
+use Rattle.cs_table.specs.Limit.{most_pairs}
 use Rattle.cs_package.specs.Expression as cue
 use Rattle.cs_package.specs.Expression.{Expression, Expressions, Declarations, Rest}
 use Rattle.cs_package.specs.Environment.{Environment, bodies}

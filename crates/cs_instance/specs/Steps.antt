@@ -1,7 +1,8 @@
 -- What a judge answers by numbered rules.
 use Rattle.std.specs.Prelude.{◌≡◌, ℕ, ◌<◌, Bool, false, List, Option, Some, None, map, length, slice_get, slice_index}
 use Rattle.std.specs.List.{AllByRecursion}
-use Rattle.cs_document.specs.Opened.{Opened, InsideBelow}
+use Rattle.cs_document.specs.Opened.{Opened}
+use Rattle.cs_document.specs.Inside.{InsideBelow}
 use Rattle.cs_table.specs.Judged.{AllVerdicts}
 use Rattle.cs_package.specs.Expression.{Declaration}
 use Rattle.cs_package.specs.View.{kind_of, relation_of, mark_of}

@@ -2,7 +2,7 @@
 ghost use Rattle.std.specs.Prelude.{◌≡◌, ◌<◌, ℕ, List, Bool, map, length, slice_index};
 ghost use Rattle.std.specs.List.{list_all, list_any, AllByRecursion};
 ghost use Rattle.cs_document.specs.Document.{Entry, under};
-ghost use Rattle.cs_document.specs.Opened.{InsideBelow};
+ghost use Rattle.cs_document.specs.Inside.{InsideBelow};
 ghost use Rattle.cs_flat.specs.View.{item_view, entry_of};
 ghost use Rattle.cs_table.specs.Judged.{verdicts};
 ghost use Rattle.cs_package.specs.Expression.{Declaration, is_every};

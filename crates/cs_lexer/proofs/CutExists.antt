@@ -9,7 +9,8 @@ use Rattle.cs_grammar.specs.declared.line.LineState.{LineState}
 use Rattle.cs_grammar.specs.declared.fault.SyntaxFault.{SyntaxFault}
 use Rattle.cs_grammar.specs.declared.fault.SyntaxFault.TheVariants.{NoToken, IntegerRange}
 use Rattle.cs_grammar.specs.Spelling.{sort_of}
-use Rattle.cs_grammar.specs.Cut.{IsLongest, BeginsNone, begins_bad_number, begins_quotes, begins_comment, line_len, is_out_of_range, Begins, is_space, line_after, line_ended, Lexeme, lexeme, comma_if, Cut, blank, new_line, comment, token, finish, number, quotes, nothing, Stuck, no_token, too_large, past_blank, past_line, past_comment, past_token}
+use Rattle.cs_grammar.specs.Cut.{IsLongest, begins_bad_number, begins_quotes, begins_comment, line_len, is_out_of_range, Begins, is_space, line_after, line_ended, Lexeme, lexeme, comma_if, Cut, blank, new_line, comment, token, finish}
+use Rattle.cs_grammar.specs.Stuck.{BeginsNone, number, quotes, nothing, Stuck, no_token, too_large, past_blank, past_line, past_comment, past_token}
 use Rattle.cs_lexer.proofs.Cutting.{comment_some}
 
 -- ---- there is a longest front that is a token, or none is

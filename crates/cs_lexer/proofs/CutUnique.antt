@@ -11,7 +11,8 @@ use Rattle.cs_lexer.proofs.Marks.{mark_has}
 use Rattle.cs_grammar.specs.declared.fault.SyntaxFault.{SyntaxFault}
 use Rattle.cs_grammar.specs.declared.fault.SyntaxFault.TheVariants.{NoToken, IntegerRange}
 use Rattle.cs_grammar.specs.Spelling.{is_digit, is_integer, sort_of}
-use Rattle.cs_grammar.specs.Cut.{IsLongest, run, is_space, begins_bad_number, begins_quotes, begins_comment, line_len, Begins, Lexeme, lexeme, line_after, line_ended, comma_if, Cut, blank, new_line, comment, token, finish, NoneBegins, number, quotes, nothing, TooLarge, is_too_large, is_out_of_range, Stuck, no_token, too_large, past_blank, past_line, past_comment, past_token}
+use Rattle.cs_grammar.specs.Cut.{IsLongest, run, is_space, begins_bad_number, begins_quotes, begins_comment, line_len, Begins, Lexeme, lexeme, line_after, line_ended, comma_if, Cut, blank, new_line, comment, token, finish, is_too_large, is_out_of_range}
+use Rattle.cs_grammar.specs.Stuck.{NoneBegins, number, quotes, nothing, TooLarge, Stuck, no_token, too_large, past_blank, past_line, past_comment, past_token}
 use Rattle.cs_lexer.proofs.ByteClasses.{digit_not_slash, no_comment_at}
 use Rattle.cs_lexer.proofs.Fronts.{BeginsMark, mark_is}
 

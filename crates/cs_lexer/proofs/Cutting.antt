@@ -15,7 +15,8 @@ use Rattle.cs_grammar.specs.declared.fault.SyntaxFault.{SyntaxFault}
 use Rattle.cs_grammar.specs.declared.fault.SyntaxFault.TheVariants.{NoToken, IntegerRange}
 use Rattle.cs_lexer.specs.Pieces.{Edges}
 use Rattle.cs_lexer.proofs.Runs.{prefix_within}
-use Rattle.cs_grammar.specs.Cut.{is_space, Begins, Lexeme, lexeme, line_after, line_ended, line_len, begins_comment, comma_if, Cut, blank, new_line, comment, token, finish, NoneBegins, TooLarge, Stuck, no_token, too_large, past_blank, past_line, past_comment, past_token}
+use Rattle.cs_grammar.specs.Cut.{is_space, Begins, Lexeme, lexeme, line_after, line_ended, line_len, begins_comment, comma_if, Cut, blank, new_line, comment, token, finish}
+use Rattle.cs_grammar.specs.Stuck.{NoneBegins, TooLarge, Stuck, no_token, too_large, past_blank, past_line, past_comment, past_token}
 
 pub record Before (bs : List ℕ) (at : ℕ) (l : LineState) (front : List Lexeme) : Type 0 where
   pub cut : (ks : List Lexeme) → Cut (drop at bs) at l ks → Cut bs 0 Plain (front ++ ks)

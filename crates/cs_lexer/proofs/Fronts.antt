@@ -8,7 +8,8 @@ use Rattle.cs_grammar.specs.declared.line.LineState.{LineState}
 use Rattle.cs_grammar.specs.declared.token.Sort.{Sort}
 use Rattle.cs_grammar.specs.declared.token.Sort.TheVariants as sorts
 use Rattle.cs_grammar.specs.Spelling.{is_letter, is_digit, used_marks, left_out_marks, mark_sort, sort_of}
-use Rattle.cs_grammar.specs.Cut.{BeginsNone, Begins, begins_comment, is_space, NoneBegins, nothing, is_out_of_range}
+use Rattle.cs_grammar.specs.Cut.{Begins, begins_comment, is_space, is_out_of_range}
+use Rattle.cs_grammar.specs.Stuck.{BeginsNone, NoneBegins, nothing}
 use Rattle.cs_lexer.specs.Pieces.{Edges, longest_mark}
 use Rattle.cs_lexer.proofs.Runs.{all_at}
 use Rattle.cs_lexer.proofs.ByteClasses.{no_quotes_at}

@@ -7,7 +7,7 @@ use Rattle.std.proofs.lemmas.Bool.{and_parts}
 use Rattle.cs_lexer.specs.declared.text.TextState.{TextState}
 use Rattle.cs_lexer.specs.declared.text.TextState.TheVariants.{Inside, Escaped, Digits}
 use Rattle.cs_grammar.specs.Spelling.{is_hex_digit, digit_value, escape_value, is_character, is_nothing, hex_number}
-use Rattle.cs_grammar.specs.Literal.{Literal, ends, plain, escape, four, eight}
+use Rattle.cs_grammar.specs.TextParts.{TextParts, ends, plain, escape, four, eight}
 use Rattle.cs_lexer.specs.Automaton.{closes, characters}
 
 -- more digits make no number smaller
@@ -60,7 +60,7 @@ escape_letter x c h = (by_u (x == 117) refl, by_U (x == 85) refl)
     by_U true e = let is : x ≡ 85 = grind (arith, nat_tests) in let k : None ≡ Some c = subst (λ y. escape_value y ≡ Some c) is h in absurd cc
     by_U false e = refl
 
-pub parts_close : {xs cs : List ℕ} → Literal xs cs → (closes Inside xs ≡ true) × (characters Inside xs ≡ cs)
+pub parts_close : {xs cs : List ℕ} → TextParts xs cs → (closes Inside xs ≡ true) × (characters Inside xs ≡ cs)
 parts_close ends = (refl, refl)
 parts_close (plain {x} {xs} {cs} h k) = let p = plain_step x h in let r = parts_close k in (rw (p.0, p.1, p.2) r.0, rw (p.0, p.1, p.2) (ap (λ us. x ∷ us) r.1))
 parts_close (escape {x} {c} {xs} {cs} h k) = let p = escape_letter x c h in let r = parts_close k in (rw (p.0, p.1, h) r.0, rw (p.0, p.1, h) (ap (λ us. c ∷ us) r.1))
@@ -84,12 +84,12 @@ record Numbered (left n : ℕ) (xs cs : List ℕ) : Type 0 where
   pub count : length digits ≡ left
   pub hex : list_all is_hex_digit digits ≡ true
   pub character : is_character (hex_number n digits) ≡ true
-  pub literal : Literal rest behind
+  pub literal : TextParts rest behind
   pub made : cs ≡ encode_utf8 (hex_number n digits) ++ behind
 
 abbrev Behind : TextState → List ℕ → List ℕ → Type 0
-Behind Inside xs cs = Literal xs cs
-Behind Escaped xs cs = Literal (92 ∷ xs) cs
+Behind Inside xs cs = TextParts xs cs
+Behind Escaped xs cs = TextParts (92 ∷ xs) cs
 Behind (Digits left n) xs cs = 0 < left → Numbered left n xs cs
 
 one_more : (left n x : ℕ) (xs cs : List ℕ) → is_hex_digit x ≡ true → 0 < left → Numbered (left - 1) (n * 16 + digit_value x) xs cs → Numbered left n (x ∷ xs) cs
@@ -105,10 +105,10 @@ one_more left n x xs cs hex some r = record {
   made = r.made;
 }
 
-four_of : {xs cs : List ℕ} → Numbered 4 0 xs cs → Literal (92 ∷ 117 ∷ xs) cs
+four_of : {xs cs : List ℕ} → Numbered 4 0 xs cs → TextParts (92 ∷ 117 ∷ xs) cs
 four_of {xs} {cs} h = made h.digits h.count h.hex h.character h.is h.made
   where
-    made : (ds : List ℕ) → length ds ≡ 4 → list_all is_hex_digit ds ≡ true → is_character (hex_number 0 ds) ≡ true → xs ≡ ds ++ h.rest → cs ≡ encode_utf8 (hex_number 0 ds) ++ h.behind → Literal (92 ∷ 117 ∷ xs) cs
+    made : (ds : List ℕ) → length ds ≡ 4 → list_all is_hex_digit ds ≡ true → is_character (hex_number 0 ds) ≡ true → xs ≡ ds ++ h.rest → cs ≡ encode_utf8 (hex_number 0 ds) ++ h.behind → TextParts (92 ∷ 117 ∷ xs) cs
     made [] len hex good e f = let never : ⊥ = omega arith in absurd never
     made (a ∷ []) len hex good e f = let never : ⊥ = omega arith in absurd never
     made (a ∷ b ∷ []) len hex good e f = let never : ⊥ = omega arith in absurd never
@@ -116,10 +116,10 @@ four_of {xs} {cs} h = made h.digits h.count h.hex h.character h.is h.made
     made (a ∷ b ∷ c ∷ d ∷ []) len hex good e f = rw (e, f) (four (record { digits = hex; character = good }) h.literal)
     made (a ∷ b ∷ c ∷ d ∷ x ∷ ds) len hex good e f = let never : ⊥ = omega arith in absurd never
 
-eight_of : {xs cs : List ℕ} → Numbered 8 0 xs cs → Literal (92 ∷ 85 ∷ xs) cs
+eight_of : {xs cs : List ℕ} → Numbered 8 0 xs cs → TextParts (92 ∷ 85 ∷ xs) cs
 eight_of {xs} {cs} n = made n.digits n.count n.hex n.character n.is n.made
   where
-    made : (ds : List ℕ) → length ds ≡ 8 → list_all is_hex_digit ds ≡ true → is_character (hex_number 0 ds) ≡ true → xs ≡ ds ++ n.rest → cs ≡ encode_utf8 (hex_number 0 ds) ++ n.behind → Literal (92 ∷ 85 ∷ xs) cs
+    made : (ds : List ℕ) → length ds ≡ 8 → list_all is_hex_digit ds ≡ true → is_character (hex_number 0 ds) ≡ true → xs ≡ ds ++ n.rest → cs ≡ encode_utf8 (hex_number 0 ds) ++ n.behind → TextParts (92 ∷ 85 ∷ xs) cs
     made [] len hex good p q = let never : ⊥ = omega arith in absurd never
     made (a ∷ []) len hex good p q = let never : ⊥ = omega arith in absurd never
     made (a ∷ b ∷ []) len hex good p q = let never : ⊥ = omega arith in absurd never
@@ -136,7 +136,7 @@ nothing_is [] h = refl
 nothing_is (x ∷ xs) h = absurd cc
 
 module _ (x : ℕ) (xs : List ℕ) (again : (s : TextState) → closes s xs ≡ true → Behind s xs (characters s xs)) where
-  inside_step : (q b l : Bool) → (x == 34) ≡ q → (x == 92) ≡ b → (x == 10) ≡ l → closes Inside (x ∷ xs) ≡ true → Literal (x ∷ xs) (characters Inside (x ∷ xs))
+  inside_step : (q b l : Bool) → (x == 34) ≡ q → (x == 92) ≡ b → (x == 10) ≡ l → closes Inside (x ∷ xs) ≡ true → TextParts (x ∷ xs) (characters Inside (x ∷ xs))
   inside_step true b l eq eb el h =
       let is : x ≡ 34 = grind (arith, nat_tests) in
       let none : xs ≡ [] = nothing_is xs (rw eq at h) in
@@ -144,22 +144,22 @@ module _ (x : ℕ) (xs : List ℕ) (again : (s : TextState) → closes s xs ≡ 
   inside_step false true l eq eb el h =
       let is : x ≡ 92 = grind (arith, nat_tests) in
       let k : closes Escaped xs ≡ true = rw (eq, eb) at h in
-      subst (λ y. Literal (y ∷ xs) (characters Inside (y ∷ xs))) (sym is) (again Escaped k)
+      subst (λ y. TextParts (y ∷ xs) (characters Inside (y ∷ xs))) (sym is) (again Escaped k)
   inside_step false false true eq eb el h = let k : false ≡ true = rw (eq, eb, el) at h in absurd cc
   inside_step false false false eq eb el h =
       let k : closes Inside xs ≡ true = rw (eq, eb, el) at h in
       let p : (x == 34 || x == 92 || x == 10) ≡ false = rw (eq, eb, el) refl in
       rw (eq, eb, el) (plain p (again Inside k))
 
-  escaped_step : (u v : Bool) (o : Option ℕ) → (x == 117) ≡ u → (x == 85) ≡ v → escape_value x ≡ o → closes Escaped (x ∷ xs) ≡ true → Literal (92 ∷ x ∷ xs) (characters Escaped (x ∷ xs))
+  escaped_step : (u v : Bool) (o : Option ℕ) → (x == 117) ≡ u → (x == 85) ≡ v → escape_value x ≡ o → closes Escaped (x ∷ xs) ≡ true → TextParts (92 ∷ x ∷ xs) (characters Escaped (x ∷ xs))
   escaped_step true v o eu ev eo h =
       let is : x ≡ 117 = grind (arith, nat_tests) in
       let k : closes (Digits 4 0) xs ≡ true = rw eu at h in
-      subst (λ y. Literal (92 ∷ y ∷ xs) (characters Escaped (y ∷ xs))) (sym is) (four_of (again (Digits 4 0) k (omega arith)))
+      subst (λ y. TextParts (92 ∷ y ∷ xs) (characters Escaped (y ∷ xs))) (sym is) (four_of (again (Digits 4 0) k (omega arith)))
   escaped_step false true o eu ev eo h =
       let is : x ≡ 85 = grind (arith, nat_tests) in
       let k : closes (Digits 8 0) xs ≡ true = rw (eu, ev) at h in
-      subst (λ y. Literal (92 ∷ y ∷ xs) (characters Escaped (y ∷ xs))) (sym is) (eight_of (again (Digits 8 0) k (omega arith)))
+      subst (λ y. TextParts (92 ∷ y ∷ xs) (characters Escaped (y ∷ xs))) (sym is) (eight_of (again (Digits 8 0) k (omega arith)))
   escaped_step false false None eu ev eo h = let k : false ≡ true = rw (eu, ev, eo) at h in absurd cc
   escaped_step false false (Some c) eu ev eo h =
       let k : closes Inside xs ≡ true = rw (eu, ev, eo) at h in
@@ -197,5 +197,5 @@ has_parts : (xs : List ℕ) (s : TextState) → closes s xs ≡ true → Behind 
 has_parts [] s h = absurd cc
 has_parts (x ∷ xs) s h = step x xs (has_parts xs) s h
 
-pub parts_of : (xs : List ℕ) → closes Inside xs ≡ true → Literal xs (characters Inside xs)
+pub parts_of : (xs : List ℕ) → closes Inside xs ≡ true → TextParts xs (characters Inside xs)
 parts_of xs h = has_parts xs Inside h

@@ -10,7 +10,8 @@ use Rattle.std.proofs.lemmas.Bool.{and_parts}
 use Rattle.cs_grammar.specs.declared.line.LineState.{LineState}
 use Rattle.cs_grammar.specs.declared.token.Sort.TheVariants as sorts
 use Rattle.cs_grammar.specs.Spelling.{is_letter, is_name_byte, begins_definition, is_definition_rest, sort_if, underscore_sort, sort_of}
-use Rattle.cs_grammar.specs.Cut.{BeginsNone, Begins, NoneBegins, nothing}
+use Rattle.cs_grammar.specs.Cut.{Begins}
+use Rattle.cs_grammar.specs.Stuck.{BeginsNone, NoneBegins, nothing}
 use Rattle.cs_lexer.specs.Pieces.{Edges, begins_name, begins_definition_name, begins_bottom_rest}
 use Rattle.cs_lexer.proofs.Runs.{all_prefix, past_prefix, prefix_within}
 use Rattle.cs_lexer.proofs.ByteClasses.{letter_not_digit, letter_not_quote, letter_not_slash, letter_names, definition_names, name_byte_ascii, no_quotes_at, no_comment_at, run_edges, edges_behind}

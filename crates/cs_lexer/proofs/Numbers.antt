@@ -10,7 +10,8 @@ use Rattle.std.proofs.lemmas.Bool.{and_parts}
 use Rattle.cs_grammar.specs.declared.line.LineState.{LineState}
 use Rattle.cs_grammar.specs.declared.token.Sort.TheVariants as sorts
 use Rattle.cs_grammar.specs.Spelling.{is_digit, is_hex_digit, is_run_byte, begins_digit, begins_piece, is_separated, is_hex_rest, is_nothing, is_integer, sort_of}
-use Rattle.cs_grammar.specs.Cut.{IsLongest, run, is_too_large, begins_bad_number, Begins, NoneBegins, number, TooLarge}
+use Rattle.cs_grammar.specs.Cut.{IsLongest, run, is_too_large, begins_bad_number, Begins}
+use Rattle.cs_grammar.specs.Stuck.{NoneBegins, number, TooLarge}
 use Rattle.cs_lexer.specs.Pieces.{Edges}
 use Rattle.cs_lexer.proofs.Runs.{past_prefix, prefix_within}
 use Rattle.cs_lexer.proofs.ByteClasses.{digit_not_letter, digit_not_hash, digit_not_underscore, digit_not_quote, digit_not_slash, digit_runs, run_byte_ascii, no_quotes_at, no_comment_at, run_edges}

@@ -11,7 +11,8 @@ use Rattle.cs_lexer.specs.declared.text.TextStep.{TextStep}
 use Rattle.cs_lexer.specs.declared.text.TextStep.TheVariants.{More, Ends, Fails}
 use Rattle.cs_grammar.specs.declared.token.Sort.TheVariants as sorts
 use Rattle.cs_grammar.specs.Spelling.{is_hex_digit, digit_value, escape_value, is_character, sort_if, sort_of}
-use Rattle.cs_grammar.specs.Cut.{BeginsNone, Begins, begins_quotes, NoneBegins, nothing}
+use Rattle.cs_grammar.specs.Cut.{Begins, begins_quotes}
+use Rattle.cs_grammar.specs.Stuck.{BeginsNone, NoneBegins, nothing}
 use Rattle.cs_lexer.specs.Pieces.{Edges}
 use Rattle.cs_lexer.specs.Automaton.{number_step, text_step, closes_by, closes, value_from, len_by, text_len}
 use Rattle.cs_lexer.proofs.ByteClasses.{no_comment_at}

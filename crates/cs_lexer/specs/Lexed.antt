@@ -4,7 +4,8 @@ use Rattle.std.specs.declared.alloc.Global.{Global}
 use Rattle.cs_grammar.specs.declared.fault.SyntaxFault.{SyntaxFault}
 use Rattle.cs_grammar.specs.declared.fault.SyntaxFault.TheVariants as faults
 use Rattle.cs_grammar.specs.declared.token.Token.{Token}
-use Rattle.cs_grammar.specs.Cut.{Lexeme, lexeme, IsStuck}
+use Rattle.cs_grammar.specs.Cut.{Lexeme, lexeme}
+use Rattle.cs_grammar.specs.Stuck.{IsStuck}
 use Rattle.cs_grammar.specs.View.{lexemes_view}
 
 -- the answer is y, seen by view, unless memory ran out

@@ -6,7 +6,8 @@ use Rattle.cs_grammar.specs.declared.line.LineState.{LineState}
 use Rattle.cs_lexer.specs.declared.piece.Piece.{Piece}
 use Rattle.cs_lexer.specs.declared.piece.Piece.TheVariants as pieces
 use Rattle.cs_grammar.specs.Spelling.{is_name_byte, begins_definition, mark_sort}
-use Rattle.cs_grammar.specs.Cut.{Begins, NoneBegins, TooLarge, is_space, begins_comment, line_len}
+use Rattle.cs_grammar.specs.Cut.{Begins, is_space, begins_comment, line_len}
+use Rattle.cs_grammar.specs.Stuck.{NoneBegins, TooLarge}
 
 -- the bytes at both ends of a token are ASCII
 pub record Edges (bs : List ℕ) (n : ℕ) : Type 0 where

@@ -1,7 +1,8 @@
 // The loop that cuts a source into tokens.
 
 ghost use Rattle.std.specs.Prelude.{◌≡◌, ◌⊎◌, List, [], ◌∷◌, ℕ, IfOk, IfErr};
-ghost use Rattle.cs_grammar.specs.Cut.{Lexeme, lexeme, IsCut, IsStuck, comma_if};
+ghost use Rattle.cs_grammar.specs.Cut.{Lexeme, lexeme, IsCut, comma_if};
+ghost use Rattle.cs_grammar.specs.Stuck.{IsStuck};
 ghost use Rattle.cs_grammar.specs.View.{lexemes_view};
 ghost use Rattle.cs_lexer.specs.Lexed.{Answers, AreSlices, IsRefusal, Puts, Refuses};
 

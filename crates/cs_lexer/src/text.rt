@@ -3,7 +3,7 @@
 ghost use Rattle.std.specs.Prelude.{◌≡◌, List, ℕ, ◌∷◌, Some};
 ghost use Rattle.cs_grammar.specs.Spelling.{is_character, escape_value, sort_of};
 ghost use Rattle.cs_grammar.specs.Values.{unescaped};
-ghost use Rattle.cs_grammar.specs.Literal.{Literal};
+ghost use Rattle.cs_grammar.specs.TextParts.{TextParts};
 ghost use Rattle.cs_grammar.specs.Cut.{begins_quotes};
 ghost use Rattle.cs_lexer.specs.Automaton.{number_step, text_step, text_len};
 
@@ -145,7 +145,7 @@ pub(crate) fn text_len(bytes: &[u8]) -> Option<usize>
 /// the last quote. What it stands for is their characters.
 pub fn text_parts()
     ensures parts { (xs : List ℕ)
-        → sort_of (34 ∷ xs) ≡ Some Sort.Text → Literal xs (unescaped (34 ∷ xs)) }
+        → sort_of (34 ∷ xs) ≡ Some Sort.Text → TextParts xs (unescaped (34 ∷ xs)) }
     ensures text { (xs cs : List ℕ)
-        → Literal xs cs → (sort_of (34 ∷ xs) ≡ Some Sort.Text) × (unescaped (34 ∷ xs) ≡ cs) }
+        → TextParts xs cs → (sort_of (34 ∷ xs) ≡ Some Sort.Text) × (unescaped (34 ∷ xs) ≡ cs) }
 {}

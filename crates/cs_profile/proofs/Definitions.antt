@@ -12,7 +12,8 @@ use Rattle.cs_profile.specs.Keywords.{listed_under, entries_of, defined}
 use Rattle.cs_profile.specs.Numbered.{by_text}
 use Rattle.cs_profile.specs.Shapes.{dialect}
 use Rattle.cs_profile.specs.Trim.{with_dialect, with_member}
-use Rattle.cs_profile.specs.SchemaDocument.{Slot, present, slots_of, schema_view, schema_step, keyword_slots, SchemaValue, IsWhole, document_of, definition_of, definitions_view, with_definitions, unless_no_map}
+use Rattle.cs_profile.specs.SchemaDocument.{Slot, present, slots_of, schema_view, schema_step, keyword_slots, SchemaValue, IsWhole, document_of, definition_of, definitions_view, unless_no_map}
+use Rattle.cs_profile.specs.Root.{with_definitions}
 use Rattle.cs_profile.specs.declared.schema.Schema.{Schema, out-Schema, the_lemmas}
 use Rattle.cs_profile.specs.declared.schema.Schema.TheOpen.{Schema-F}
 use Rattle.cs_profile.specs.declared.schema.Schema.TheFolds.{fold_out-Schema, map-Schema}

@@ -5,8 +5,9 @@ use Rattle.cs_profile.specs.Shapes.{form_at, has_form, keeping, is_kept, by_form
 use Rattle.cs_profile.specs.declared.keyword.Form.{Form}
 use Rattle.cs_profile.specs.declared.keyword.Form.TheVariants as form
 use Rattle.cs_profile.specs.Places.{at_key, at_index}
-use Rattle.cs_profile.specs.Profile.{Visit, first, or_else, fault_of, shape_fault, visits, member_visits, keyword_visits, list_visits, element_visits, map_visits, named_visits, value_visits}
-use Rattle.cs_profile.specs.Trim.{trimmed, trimmed_members, trimmed_list, trimmed_elements, trimmed_map, trimmed_named, trimmed_as, value_trims, with_member}
+use Rattle.cs_profile.specs.Profile.{Visit, first, or_else, fault_of, shape_fault, visits, member_visits, list_visits, element_visits, map_visits, named_visits}
+use Rattle.cs_profile.specs.Values.{keyword_visits, value_visits, value_trims}
+use Rattle.cs_profile.specs.Trim.{trimmed, trimmed_members, trimmed_list, trimmed_elements, trimmed_map, trimmed_named, trimmed_as, with_member}
 use Rattle.cs_profile.proofs.Walks.{first-append, first_past}
 
 abbrev pub Faultless : List Visit → Type 0

@@ -9,8 +9,9 @@ use Rattle.cs_document.specs.Document.{Document, null, boolean, integer, text, l
 use Rattle.cs_profile.specs.Keywords.{listed_under, entries_of, defined}
 use Rattle.cs_profile.specs.Shapes.{form_at, dialect}
 use Rattle.cs_profile.specs.declared.keyword.Form.TheVariants as form
-use Rattle.cs_profile.specs.Profile.{fault_of, member_visits, keyword_visits}
-use Rattle.cs_profile.specs.Trim.{trim, trimmed, trimmed_members, trimmed_named, trimmed_as, trimmed_value, value_trims, with_member}
+use Rattle.cs_profile.specs.Profile.{fault_of, member_visits}
+use Rattle.cs_profile.specs.Values.{keyword_visits, trimmed_value, value_trims}
+use Rattle.cs_profile.specs.Trim.{trim, trimmed, trimmed_members, trimmed_named, trimmed_as, with_member}
 use Rattle.cs_profile.proofs.Definitions.{not_put}
 use Rattle.cs_profile.proofs.Faultless.{Faultless, parted, joined}
 

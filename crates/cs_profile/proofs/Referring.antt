@@ -19,9 +19,10 @@ use Rattle.cs_profile.specs.declared.fault.SchemaFault.TheVariants as fault
 use Rattle.cs_profile.specs.Loops.{ByReach, by_keyword, value_names, direct_names, keyword_names, list_names, each_names, NoLoop}
 use Rattle.cs_profile.specs.Shapes.{form_at, form_in, keeping, is_kept, dialect}
 use Rattle.cs_profile.specs.Places.{at_key, at_index}
-use Rattle.cs_profile.specs.Profile.{Fault, Visit, first, or_else, undefined_at, reference_fault, keyword_at, visits, member_visits, list_visits, element_visits, map_visits, named_visits, keyword_visits, value_visits, within, walk_fault, name_fault, IsSchema}
+use Rattle.cs_profile.specs.Profile.{Fault, Visit, first, or_else, undefined_at, reference_fault, keyword_at, visits, member_visits, list_visits, element_visits, map_visits, named_visits, within, walk_fault, name_fault, IsSchema}
+use Rattle.cs_profile.specs.Values.{keyword_visits, value_visits, trimmed_value, value_trims}
 use Rattle.cs_profile.specs.Refusal.{IsLeastLoop, IsLoopRefusal, IsRefusal}
-use Rattle.cs_profile.specs.Trim.{trim, trimmed, trimmed_members, trimmed_list, trimmed_elements, trimmed_map, trimmed_named, trimmed_as, trimmed_value, value_trims, with_member}
+use Rattle.cs_profile.specs.Trim.{trim, trimmed, trimmed_members, trimmed_list, trimmed_elements, trimmed_map, trimmed_named, trimmed_as, with_member}
 use Rattle.cs_profile.proofs.Faultless.{left, inside, faultless_members}
 use Rattle.cs_profile.proofs.Profiles.{defined_trimmed, is_some-map, faultless_put}
 use Rattle.cs_profile.proofs.Walks.{first-append}

@@ -17,7 +17,8 @@ use Rattle.cs_profile.specs.Constraint.{Assertion, nothing, has_kind, places_tak
 use Rattle.cs_profile.specs.Validity.{if_array, if_object, if_there, front_holds, holds, is_satisfied, IsValidity}
 use Rattle.cs_profile.specs.Loops.{NoLoop}
 use Rattle.cs_profile.specs.Shapes.{form_of, form_in, keeping, is_kept, dialect}
-use Rattle.cs_profile.specs.Trim.{trim, trimmed, trimmed_members, trimmed_list, trimmed_elements, trimmed_as, trimmed_value, value_trims, with_member, KeepsValidity}
+use Rattle.cs_profile.specs.Trim.{trim, trimmed, trimmed_members, trimmed_list, trimmed_elements, trimmed_as, with_member, KeepsValidity}
+use Rattle.cs_profile.specs.Values.{trimmed_value, value_trims}
 use Rattle.cs_profile.proofs.Faultless.{left}
 use Rattle.cs_profile.proofs.Meanings.{one_meaning}
 use Rattle.cs_profile.proofs.Profiles.{below, entries_trimmed, listed_trimmed, defined_trimmed}

@@ -11,8 +11,10 @@ use Rattle.cs_document.specs.View.{documents_of, members_of}
 use Rattle.cs_profile.specs.Shapes.{dialect, form_at, keeping, is_kept, is_empty}
 use Rattle.cs_profile.specs.declared.keyword.Form.{Form}
 use Rattle.cs_profile.specs.declared.keyword.Form.TheVariants as form
-use Rattle.cs_profile.specs.Trim.{trim, trimmed, trimmed_members, trimmed_list, trimmed_elements, trimmed_map, trimmed_named, trimmed_as, trimmed_value, value_trims, with_dialect, with_member}
-use Rattle.cs_profile.specs.SchemaDocument.{Slot, present, slots_of, schema_view, schema_step, keyword_slots, SchemaValue, document_of, definitions_view, with_definitions, unless_no_map, unless_no_list, text_document}
+use Rattle.cs_profile.specs.Trim.{trim, trimmed, trimmed_members, trimmed_list, trimmed_elements, trimmed_map, trimmed_named, trimmed_as, with_dialect, with_member}
+use Rattle.cs_profile.specs.Values.{trimmed_value, value_trims}
+use Rattle.cs_profile.specs.SchemaDocument.{Slot, present, slots_of, schema_view, schema_step, keyword_slots, SchemaValue, document_of, definitions_view, unless_no_map, unless_no_list, text_document}
+use Rattle.cs_profile.specs.Root.{with_definitions}
 use Rattle.cs_profile.specs.declared.schema.Schema.{Schema, roll-Schema}
 use Rattle.cs_profile.specs.declared.schema.Schema.TheOpen.{Schema-F, Keywords-F}
 use Rattle.cs_profile.specs.declared.schema.Schema.TheFolds.{fold-roll-Schema, fold-roll-Keywords, map-Schema, map-Keywords, ind-Schema, ind-Keywords}

@@ -6,7 +6,9 @@ pub mod Shapes
 pub mod Places
 pub mod Profile
 pub mod Trim
+pub mod Root
 pub mod SchemaDocument
 pub mod Refusal
 -- for contracts of private functions and proofs alone
+pub mod Values
 pub mod Numbered

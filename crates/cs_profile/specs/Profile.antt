@@ -62,19 +62,6 @@ abbrev mutual
   named_visits place no_members = []
   named_visits place (member k v ms) = visits false (at_key place k) v ++ named_visits place ms
 
--- inside a value, by the schemas that it holds; for private contracts alone
-abbrev pub value_visits : List ℕ → Document → BySchemas (List Visit)
-value_visits place v = record {
-  none = [];
-  itself = visits false place v;
-  elements = list_visits place v;
-  members = map_visits place v;
-}
-
--- a keyword with what stands inside its value; for private contracts alone
-abbrev pub keyword_visits : Bool → List ℕ → List ℕ → Document → List Visit
-keyword_visits root place k v = keyword_at root place k v ∷ within (form_at root k) (value_visits (at_key place k) v)
-
 -- the first answer of a function over a list
 abbrev pub or_else : {A : Type 0} → Option A → Option A → Option A
 or_else None b = b

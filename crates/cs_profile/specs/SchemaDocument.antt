@@ -6,6 +6,7 @@ use Rattle.cs_document.specs.Document.{Document, boolean, integer, text, list, o
 use Rattle.cs_document.specs.View.{doc_view, list_view, documents_of, members_of}
 use Rattle.cs_profile.specs.Keywords.{reference_start}
 use Rattle.cs_profile.specs.Trim.{with_member, with_dialect}
+use Rattle.cs_profile.specs.Root.{with_definitions}
 use Rattle.cs_profile.specs.Profile.{walk_fault, name_fault, IsSchema}
 use Rattle.cs_profile.specs.declared.schema.Schema.{Schema, fold-Schema}
 use Rattle.cs_profile.specs.declared.schema.Schema.TheOpen.{Schema-F, Keywords-F}
@@ -113,11 +114,6 @@ value_at _ _ = None
 pub record SchemaValue : Type 0 where
   pub root : Schema
   pub definitions : List (String Global × Schema)
-
--- an object with its definitions
-abbrev pub with_definitions : Option Document → Document → Document
-with_definitions o (object ms) = object (with_member o (codes "$defs") ms)
-with_definitions o d = d
 
 -- the document that a root with its definitions stands for
 abbrev pub document_of : SchemaValue → Document

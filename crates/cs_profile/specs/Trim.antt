@@ -44,19 +44,6 @@ abbrev mutual
   trimmed_named no_members = no_members
   trimmed_named (member k v ms) = member k (trimmed false v) (trimmed_named ms)
 
--- a value trimmed, by the schemas that it holds; for private contracts alone
-abbrev pub value_trims : Document → BySchemas Document
-value_trims v = record {
-  none = v;
-  itself = trimmed false v;
-  elements = trimmed_list v;
-  members = trimmed_map v;
-}
-
--- a keyword's value, if it is kept; for private contracts alone
-abbrev pub trimmed_value : Bool → List ℕ → Document → Option Document
-trimmed_value root k v = trimmed_as (form_at root k) v (value_trims v)
-
 -- an object as root gets `$schema`
 abbrev pub with_dialect : Document → Document
 with_dialect (object ms) = object (put (codes "$schema") (text dialect) ms)

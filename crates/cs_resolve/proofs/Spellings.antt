@@ -9,7 +9,8 @@ use Rattle.cs_grammar.specs.Source.{IsSpelledBy}
 use Rattle.cs_grammar.specs.Cut.{Lexeme, lexeme, Cut, blank, new_line, comment, token, finish, comma_if, line_after, line_after_mark, line_ended}
 use Rattle.cs_grammar.specs.Spelling.{is_letter, is_digit, is_name_byte, is_integer, is_definition_rest, underscore_sort, mark_sort, sort_if, sort_of, used_marks, left_out_marks}
 use Rattle.cs_grammar.specs.Tree.{FileTree, defined_name, definitions}
-use Rattle.cs_grammar.specs.View.{bare_name, file_view, mark_kind, word_of, word, words}
+use Rattle.cs_grammar.specs.View.{file_view}
+use Rattle.cs_grammar.specs.TokenWords.{bare_name, mark_kind, word_of, word, words}
 use Rattle.cs_grammar.specs.Words as W
 use Rattle.cs_grammar.specs.Words.{Word}
 use Rattle.cs_grammar.specs.declared.ast.File.{File}

@@ -3,8 +3,9 @@ use Rattle.std.proofs.Common.{◌≡◌, ℕ, Bool, true, false, List, [], Optio
 use Rattle.cs_document.specs.Document.{Document, null, boolean, integer, text, list, object, no_documents, document}
 use Rattle.cs_profile.specs.Places.{at_key}
 use Rattle.cs_profile.specs.Shapes.{form_at, has_form}
-use Rattle.cs_profile.specs.Profile.{Fault, unknown, misshapen, Visit, first, or_else, fault_of, shape_fault, form_fault, within, value_visits, keyword_visits, visits}
-use Rattle.cs_profile.specs.Trim.{trimmed_as, trimmed_value, value_trims}
+use Rattle.cs_profile.specs.Profile.{Fault, unknown, misshapen, Visit, first, or_else, fault_of, shape_fault, form_fault, within, visits}
+use Rattle.cs_profile.specs.Values.{value_visits, keyword_visits, trimmed_value, value_trims}
+use Rattle.cs_profile.specs.Trim.{trimmed_as}
 use Rattle.cs_profile.specs.declared.keyword.Form.{Form}
 use Rattle.cs_profile.specs.declared.keyword.Form.TheVariants as form
 use Rattle.cs_profile.specs.declared.fault.SchemaFault.{SchemaFault}

@@ -9,7 +9,8 @@ use Rattle.cs_document.specs.Document.{Document, text}
 use Rattle.cs_profile.specs.Keywords.{reference_start, text_after}
 use Rattle.cs_profile.specs.Places.{at_key}
 use Rattle.cs_profile.specs.Shapes.{form_at}
-use Rattle.cs_profile.specs.Profile.{Fault, undefined, first, or_else, undefined_at, reference_fault, unless_defined, within, value_visits, keyword_visits}
+use Rattle.cs_profile.specs.Profile.{Fault, undefined, first, or_else, undefined_at, reference_fault, unless_defined, within}
+use Rattle.cs_profile.specs.Values.{value_visits, keyword_visits}
 use Rattle.cs_profile.specs.SchemaDocument.{schema_view}
 use Rattle.cs_profile.specs.declared.keyword.Form.{Form}
 use Rattle.cs_profile.specs.declared.schema.Schema.{Schema}

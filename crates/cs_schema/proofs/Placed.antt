@@ -6,7 +6,8 @@ use Rattle.cs_document.specs.Document.{Document, null, boolean, integer, text, l
 use Rattle.cs_profile.specs.Keywords.{reference_start, text_after}
 use Rattle.cs_profile.specs.Places.{at_key, at_index, escaped}
 use Rattle.cs_profile.specs.Shapes.{form_at, has_form, by_form}
-use Rattle.cs_profile.specs.Profile.{Fault, undefined, Visit, value_at, keyword_at, first, or_else, fault_of, shape_fault, form_fault, is_truth, undefined_at, reference_fault, unless_defined, within, value_visits, visits, member_visits, list_visits, element_visits, map_visits, named_visits}
+use Rattle.cs_profile.specs.Profile.{Fault, undefined, Visit, value_at, keyword_at, first, or_else, fault_of, shape_fault, form_fault, is_truth, undefined_at, reference_fault, unless_defined, within, visits, member_visits, list_visits, element_visits, map_visits, named_visits}
+use Rattle.cs_profile.specs.Values.{value_visits}
 use Rattle.cs_profile.specs.declared.keyword.Form.{Form}
 use Rattle.cs_profile.specs.declared.keyword.Form.TheVariants as form
 use Rattle.cs_schema.specs.Reading.{inside, below}

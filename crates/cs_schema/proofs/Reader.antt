@@ -7,7 +7,8 @@ use Rattle.cs_profile.specs.Shapes.{dialect, form_at, has_form}
 use Rattle.cs_profile.specs.Profile.{Fault, undefined, Visit, value_at, keyword_at, first, fault_of, or_else, shape_fault, form_fault, is_truth, undefined_at, reference_fault, unless_defined, visits, member_visits, walk_fault, name_fault, IsSchema}
 use Rattle.cs_profile.specs.declared.keyword.Form.{Form}
 use Rattle.cs_profile.specs.Trim.{trim, trimmed, trimmed_members, with_dialect}
-use Rattle.cs_profile.specs.SchemaDocument.{present, slots_of, schema_view, definitions_view, unless_no_map, SchemaValue, document_of, with_definitions, IsWellFormed}
+use Rattle.cs_profile.specs.SchemaDocument.{present, slots_of, schema_view, definitions_view, unless_no_map, SchemaValue, document_of, IsWellFormed}
+use Rattle.cs_profile.specs.Root.{with_definitions}
 use Rattle.cs_profile.specs.Refusal.{IsRefusal, IsLoopRefusal}
 use Rattle.cs_profile.specs.declared.fault.SchemaFault.{SchemaFault}
 use Rattle.cs_profile.specs.declared.fault.SchemaFault.TheVariants as fault

@@ -13,7 +13,8 @@ use Rattle.cs_document.proofs.Entries.{Entry}
 use Rattle.cs_profile.specs.Profile.{Fault, Visit, first}
 use Rattle.cs_profile.specs.Shapes.{has_form}
 use Rattle.cs_profile.specs.declared.keyword.Form.TheVariants as form
-use Rattle.cs_profile.specs.Trim.{trimmed, trimmed_members, trimmed_elements, trimmed_named, trimmed_value, with_member, trimmed_list}
+use Rattle.cs_profile.specs.Trim.{trimmed, trimmed_members, trimmed_elements, trimmed_named, with_member, trimmed_list}
+use Rattle.cs_profile.specs.Values.{trimmed_value}
 use Rattle.cs_profile.specs.SchemaDocument.{schema_view, schemas_view, definitions_view, unless_no_list}
 use Rattle.cs_schema.specs.Reading.{Refuses, IsReadAs}
 use Rattle.cs_profile.specs.declared.schema.KeywordValue.TheVariants as value

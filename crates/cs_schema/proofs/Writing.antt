@@ -10,7 +10,8 @@ use Rattle.cs_document.proofs.Entries.{Entry, entries-push}
 pub use Rattle.cs_document.proofs.Maps.{map_more as mapped_more}
 use Rattle.cs_profile.specs.Shapes.{dialect}
 use Rattle.cs_profile.specs.Trim.{with_member, with_dialect}
-use Rattle.cs_profile.specs.SchemaDocument.{Slot, present, slots_of, schema_view, definitions_view, unless_no_list, unless_no_map, SchemaValue, with_definitions, document_of}
+use Rattle.cs_profile.specs.SchemaDocument.{Slot, present, slots_of, schema_view, definitions_view, unless_no_list, unless_no_map, SchemaValue, document_of}
+use Rattle.cs_profile.specs.Root.{with_definitions}
 use Rattle.cs_profile.specs.Keywords.{all_keywords}
 use Rattle.cs_schema.specs.Writing.{put_some, put_all, slots_for}
 use Rattle.cs_profile.specs.declared.schema.Schema.{Schema, Object, the_lemmas}

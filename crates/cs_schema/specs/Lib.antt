@@ -6,6 +6,7 @@ pub use Rattle.cs_profile.specs.Shapes
 pub use Rattle.cs_profile.specs.Places
 pub use Rattle.cs_profile.specs.Profile
 pub use Rattle.cs_profile.specs.Trim
+pub use Rattle.cs_profile.specs.Root
 pub use Rattle.cs_profile.specs.SchemaDocument
 pub use Rattle.cs_profile.specs.Refusal
 -- for contracts of private functions and proofs alone

@@ -2,8 +2,8 @@
 use Rattle.std.specs.Prelude.{◌≡◌, ℕ, Bool, true, false, List, ◌∷◌, [], ◌++◌, Option, Some, None, codes, map, String, string_bytes, is_some, if◌then◌else◌}
 use Rattle.cs_document.specs.Document.{Document, under}
 use Rattle.cs_profile.specs.Shapes.{has_form, keeping, is_kept, by_form}
-use Rattle.cs_profile.specs.Profile.{Fault, unknown, misshapen, undefined, Visit, value_visits}
-use Rattle.cs_profile.specs.Trim.{value_trims}
+use Rattle.cs_profile.specs.Profile.{Fault, unknown, misshapen, undefined, Visit}
+use Rattle.cs_profile.specs.Values.{value_visits, value_trims}
 use Rattle.cs_profile.specs.SchemaDocument.{Slot, slots_of, unless_no_map, schema_view, definitions_view, value_at}
 use Rattle.cs_profile.specs.declared.keyword.Form.{Form}
 use Rattle.cs_profile.specs.declared.schema.Schema.{Schema}

@@ -3,7 +3,8 @@
 ghost use Rattle.std.specs.Prelude.{◌≡◌, None, OnOk, IfErr, [], false};
 ghost use Rattle.cs_document.specs.View.{doc_view, list_view, object_view};
 ghost use Rattle.cs_profile.specs.declared.keyword.Form.TheVariants as forms;
-ghost use Rattle.cs_profile.specs.Profile.{first, undefined_at, reference_fault, visits, member_visits, keyword_visits, element_visits, named_visits};
+ghost use Rattle.cs_profile.specs.Profile.{first, undefined_at, reference_fault, visits, member_visits, element_visits, named_visits};
+ghost use Rattle.cs_profile.specs.Values.{keyword_visits};
 ghost use Rattle.cs_schema.specs.Reading.{Refuses, inside, is_defined_in};
 
 use crate::places::{below_index, below_key, undefined};

@@ -10,11 +10,12 @@ use Rattle.cs_grammar.specs.Tree.{FileTree}
 use Rattle.cs_syntax.specs.Height.{file_height}
 use Rattle.cs_syntax.specs.Nesting.{nesting}
 use Rattle.cs_grammar.specs.Spells.{SpellsFile}
-use Rattle.cs_grammar.specs.View.{words}
+use Rattle.cs_grammar.specs.TokenWords.{words}
 use Rattle.cs_syntax.specs.Reading.{◌>>=◌, Gives, file_at}
 use Rattle.cs_syntax.specs.Within.{if_low, if_deep, file_within}
 use Rattle.cs_lexer.specs.Lexed.{Answers, IsRefusal}
-use Rattle.cs_syntax.specs.Answer.{IsFileRefusal, IsSpelled}
+use Rattle.cs_syntax.specs.Answer.{IsSpelled}
+use Rattle.cs_syntax.specs.Refusal.{IsFileRefusal}
 use Rattle.cs_lexer.proofs.CutUnique.{cut_once, cut_not_stuck}
 use Rattle.cs_syntax.proofs.Soundness.{file_found}
 use Rattle.cs_syntax.proofs.Completeness.{read_within, read_file}

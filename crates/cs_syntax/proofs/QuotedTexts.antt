@@ -13,7 +13,8 @@ use Rattle.cs_grammar.specs.declared.kind.Kind.{Kind}
 use Rattle.cs_grammar.specs.declared.kind.Kind.TheVariants as kinds
 use Rattle.cs_grammar.specs.Spelling.{is_letter, is_digit, is_name_byte, is_integer, is_definition_rest, used_marks, left_out_marks, mark_sort, sort_if, underscore_sort, sort_of}
 use Rattle.cs_grammar.specs.Cut.{Lexeme, comma_if, Cut, blank, new_line, comment, token, finish}
-use Rattle.cs_grammar.specs.View.{mark_kind, kind_of, lexemes_view}
+use Rattle.cs_grammar.specs.View.{lexemes_view}
+use Rattle.cs_grammar.specs.TokenWords.{mark_kind, kind_of}
 use Rattle.cs_lexer.specs.Quoted.{begins_quote, is_quoted, are_quoted}
 
 -- ---- what is a text

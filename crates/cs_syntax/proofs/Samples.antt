@@ -11,11 +11,12 @@ use Rattle.cs_grammar.specs.Words.{Word, Words}
 use Rattle.cs_grammar.specs.Tree as T
 use Rattle.cs_grammar.specs.Tree.{Tree, Trees, Fields, FileTree, file, definition}
 use Rattle.cs_grammar.specs.Spells.{SpellsFile}
-use Rattle.cs_grammar.specs.View.{words}
+use Rattle.cs_grammar.specs.TokenWords.{words}
 use Rattle.cs_syntax.specs.Height.{height, file_height}
 use Rattle.cs_syntax.specs.Nesting.{behind, nesting}
 use Rattle.cs_syntax.specs.Place.{is_left_out_name, is_left_out, fault_of, same, past, IsFaultIn}
-use Rattle.cs_syntax.specs.Answer.{IsMisplaced, IsTooHigh, IsSpelled}
+use Rattle.cs_syntax.specs.Answer.{IsSpelled}
+use Rattle.cs_syntax.specs.Refusal.{IsMisplaced, IsTooHigh}
 
 -- ---- heights
 

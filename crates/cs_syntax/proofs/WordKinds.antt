@@ -6,7 +6,8 @@ use Rattle.cs_grammar.specs.declared.kind.Kind.{Kind}
 use Rattle.cs_grammar.specs.declared.kind.Kind.TheVariants as kinds
 use Rattle.cs_grammar.specs.Words.{Words}
 use Rattle.cs_grammar.specs.Tree.{Tree}
-use Rattle.cs_grammar.specs.View.{word_of, words, lexemes_view}
+use Rattle.cs_grammar.specs.View.{lexemes_view}
+use Rattle.cs_grammar.specs.TokenWords.{word_of, words}
 pub use Rattle.cs_grammar.proofs.Views.{start_word_of}
 use Rattle.cs_syntax.specs.Place.{fault_of}
 use Rattle.cs_syntax.specs.Reading.{Fails, Read, fault_at, unsigned_at, unequal_at, unbracketed_at, operand_with, number_at, begins_with, before_end}

@@ -6,7 +6,8 @@ use Rattle.cs_grammar.specs.declared.token.Token.{Token}
 use Rattle.cs_syntax.specs.declared.parser.nesting.NestingState as rust
 use Rattle.cs_syntax.specs.Counting.{NestingState}
 use Rattle.cs_grammar.specs.Words.{Words}
-use Rattle.cs_grammar.specs.View.{lexemes_view, words}
+use Rattle.cs_grammar.specs.View.{lexemes_view}
+use Rattle.cs_grammar.specs.TokenWords.{words}
 use Rattle.cs_syntax.specs.Reading.{Fails}
 
 -- the tokens that are left, and their words

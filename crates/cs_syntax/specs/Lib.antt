@@ -1,8 +1,10 @@
 pub use Rattle.cs_grammar.specs.Spelling
-pub use Rattle.cs_grammar.specs.Literal
+pub use Rattle.cs_grammar.specs.TextParts
 pub use Rattle.cs_grammar.specs.Values
 pub use Rattle.cs_grammar.specs.Cut
+pub use Rattle.cs_grammar.specs.Stuck
 pub use Rattle.cs_grammar.specs.Words
+pub use Rattle.cs_grammar.specs.TokenWords
 pub use Rattle.cs_grammar.specs.Tree
 pub use Rattle.cs_grammar.specs.Spells
 pub use Rattle.cs_grammar.specs.View
@@ -12,6 +14,7 @@ pub mod Height
 pub mod Nesting
 pub mod Place
 pub mod Answer
+pub mod Refusal
 -- for contracts of private functions and proofs alone
 pub mod Left
 pub mod Reading

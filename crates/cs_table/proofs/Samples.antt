@@ -1,6 +1,7 @@
 -- The definitions, worked on samples.
 use Rattle.std.proofs.Common.{◌≡◌, ℕ, zero, suc, inl, inr, Bool, true, false, not, ◌*◌, [], ◌∷◌, refl, ap, arith}
-use Rattle.cs_table.specs.Judged.{Judgement, IsEarlier, LooksBack, IsJudged, Table, verdicts, most_pairs}
+use Rattle.cs_table.specs.Judged.{Judgement, IsEarlier, LooksBack, IsJudged, Table, verdicts}
+use Rattle.cs_table.specs.Limit.{most_pairs}
 
 -- ---- the order of pairs: by item, then by rule
 

@@ -25,10 +25,6 @@ LooksBack rules judge = (i r : ℕ) (f g : AllVerdicts) → AgreeBefore rules i 
 abbrev pub IsJudged : ℕ → ℕ → Judgement → AllVerdicts → Type 0
 IsJudged items rules judge f = (i r : ℕ) → i < items → r < rules → f i r ≡ judge i r f
 
--- how many pairs of an item and a rule a table may have
-abbrev pub most_pairs : ℕ
-most_pairs = 67108864
-
 -- a table of so many items and rules, with the verdicts given so far, item by item
 pub record Table : Type 0 where
   pub items : ℕ

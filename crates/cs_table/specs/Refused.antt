@@ -1,6 +1,6 @@
 -- When there is no table.
 use Rattle.std.specs.Prelude.{ℕ, ◌<◌, ◌*◌}
-use Rattle.cs_table.specs.Judged.{most_pairs}
+use Rattle.cs_table.specs.Limit.{most_pairs}
 use Rattle.cs_table.specs.declared.fault.TableFault.{TableFault}
 use Rattle.cs_table.specs.declared.fault.TableFault.TheVariants.{OutOfMemory, TooManyPairs}
 

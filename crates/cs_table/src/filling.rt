@@ -1,6 +1,7 @@
 // Tables filled from the first pair to the last.
 ghost use Rattle.std.specs.Prelude.{◌≡◌, ℕ, ◌<◌, ◌≤◌, ◌*◌, length, IfOk, IfErr, OnOk};
-ghost use Rattle.cs_table.specs.Judged.{AllVerdicts, IsJudged, verdicts, most_pairs};
+ghost use Rattle.cs_table.specs.Judged.{AllVerdicts, IsJudged, verdicts};
+ghost use Rattle.cs_table.specs.Limit.{most_pairs};
 ghost use Rattle.cs_table.specs.Refused.{IsRefusal};
 
 use crate::{Judge, TableFault, Verdicts};

@@ -17,7 +17,8 @@ pub struct Verdicts {
 
 impl Model for Verdicts {
     ghost use Rattle.std.specs.Prelude.{◌*◌, ◌≤◌};
-    ghost use Rattle.cs_table.specs.Judged.{Table, most_pairs};
+    ghost use Rattle.cs_table.specs.Judged.{Table};
+    ghost use Rattle.cs_table.specs.Limit.{most_pairs};
 
     ghost Value = { Table };
 
@@ -28,7 +29,8 @@ impl Model for Verdicts {
 
 impl Verdicts {
     ghost use Rattle.std.specs.Prelude.{◌≡◌, ◌<◌, ◌≤◌, ◌*◌, ◌++◌, [], ◌∷◌, length, IfOk, IfErr, OnOk};
-    ghost use Rattle.cs_table.specs.Judged.{verdicts, most_pairs};
+    ghost use Rattle.cs_table.specs.Judged.{verdicts};
+    ghost use Rattle.cs_table.specs.Limit.{most_pairs};
     ghost use Rattle.cs_table.specs.Refused.{IsRefusal};
 
     /// How many items the table has.

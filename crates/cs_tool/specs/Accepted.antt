@@ -3,7 +3,8 @@
 use Rattle.std.specs.Prelude.{◌≡◌, ◌⊎◌, ℕ, ◌<◌, ◌≤◌, List, [], ◌∷◌, length, take, sum_by, Some, slice_get, IsUtf8}
 use Rattle.std.specs.List.{AllByRecursion}
 use Rattle.cs_grammar.specs.Tree.{FileTree}
-use Rattle.cs_syntax.specs.Answer.{IsSpelled, IsFileRefusal}
+use Rattle.cs_syntax.specs.Answer.{IsSpelled}
+use Rattle.cs_syntax.specs.Refusal.{IsFileRefusal}
 use Rattle.cs_grammar.specs.declared.fault.SyntaxFault.{SyntaxFault}
 use Rattle.cs_package.specs.Environment.{Environment, Names}
 use Rattle.cs_resolve.specs.Resolved as resolve

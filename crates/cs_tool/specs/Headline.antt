@@ -9,7 +9,7 @@ use Rattle.cs_instance.specs.Instance as instance
 use Rattle.cs_instance.specs.Rules.{HasManyPairs}
 use Rattle.cs_schema.specs.Keywords.{defined}
 use Rattle.cs_schema.specs.Profile.{IsSchema}
-use Rattle.cs_schema.specs.SchemaDocument.{with_definitions}
+use Rattle.cs_schema.specs.Root.{reference_to, with_definitions}
 use Rattle.cs_schema.specs.Trim.{trim, with_dialect}
 use Rattle.cs_schema.specs.Validity.{IsValidity}
 use Rattle.cs_schema.specs.Validity as validity
@@ -17,7 +17,6 @@ use Rattle.cs_schema.specs.Refusal as schema
 use Rattle.cs_profile.specs.declared.fault.SchemaFault.{SchemaFault}
 use Rattle.cs_profile.specs.declared.fault.SchemaFault.TheVariants as schema_fault
 use Rattle.cs_validate.specs.Rules as validate
-use Rattle.cs_compile.specs.Whole.{reference_to}
 use Rattle.cs_tool.specs.Accepted.{DeclaresRoot, IsReady, First}
 use Rattle.cs_tool.specs.Translated.{IsTranslated}
 use Rattle.cs_tool.specs.declared.fault.Fault.{Fault}

@@ -6,7 +6,7 @@ use Rattle.std.specs.declared.alloc.AllocError.{AllocError}
 use Rattle.std.proofs.lemmas.List.{get_or_push, get_or_append_left}
 use Rattle.std.proofs.lemmas.Result.{IfOk-weaker}
 use Rattle.cs_document.specs.Document.{Document, boolean, Entry, under}
-use Rattle.cs_document.specs.Opened.{map_entry}
+use Rattle.cs_document.specs.Inside.{map_entry}
 use Rattle.cs_document.proofs.Each.{each_map}
 use Rattle.cs_profile.specs.Loops.{direct_names}
 use Rattle.cs_profile.specs.Constraint.{Assertion, nothing, valid_by, has_kind, equals, is_among, at_least, at_most, above, below, has_keys, at_keys, at_other_keys, in_front, behind, at_least_long, valid_by_all, valid_by_any, not_valid_by, Constraint, always, never, conjunction, constraint_of}

@@ -13,7 +13,8 @@ use Rattle.cs_profile.specs.Keywords.{keywords, elements_of, entries_of, listed_
 use Rattle.cs_profile.specs.Constraint.{assertion, assertion_at, constraint_of, Assertion, at_other_keys, behind, conjunction, places_taken}
 use Rattle.cs_profile.specs.Shapes.{form_in, dialect}
 use Rattle.cs_profile.specs.Trim.{with_dialect, with_member}
-use Rattle.cs_profile.specs.SchemaDocument.{Slot, present, slots_of, schema_view, SchemaValue, document_of, definitions_view, with_definitions, unless_no_map}
+use Rattle.cs_profile.specs.SchemaDocument.{Slot, present, slots_of, schema_view, SchemaValue, document_of, definitions_view, unless_no_map}
+use Rattle.cs_profile.specs.Root.{with_definitions}
 use Rattle.cs_profile.specs.declared.keyword.Keyword.{Keyword}
 use Rattle.cs_profile.specs.declared.keyword.Keyword.TheVariants as keyword
 use Rattle.cs_profile.specs.declared.schema.Schema.{Schema}

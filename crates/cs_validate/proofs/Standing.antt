@@ -4,7 +4,7 @@ use Rattle.std.specs.List.{AllByRecursion as Each}
 use Rattle.std.specs.Prelude.{option_to_list}
 use Rattle.std.proofs.lemmas.List.{get_or_at, length-map}
 use Rattle.cs_document.specs.Document.{Document, boolean, Entry, entries}
-use Rattle.cs_document.specs.Opened.{map_entry}
+use Rattle.cs_document.specs.Inside.{map_entry}
 use Rattle.cs_document.specs.View.{members_of}
 use Rattle.cs_profile.specs.Numbered.{numbered as numbers_from, names_in}
 use Rattle.cs_profile.specs.SchemaDocument.{present, slots_of, schema_view, schemas_view, definitions_view}

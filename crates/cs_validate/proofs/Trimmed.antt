@@ -7,9 +7,10 @@ use Rattle.std.specs.Cmp.Lexicographic.{slice_cmp}
 use Rattle.std.specs.Ordering.{match_ordering}
 use Rattle.cs_document.specs.Document.{Document, null, boolean, integer, text, list, object, Documents, no_documents, document, Members, no_members, member, put}
 use Rattle.cs_flat.specs.Nodes.{nodes}
-use Rattle.cs_table.specs.Judged.{most_pairs}
+use Rattle.cs_table.specs.Limit.{most_pairs}
 use Rattle.cs_profile.specs.Shapes.{form_at, keeping, is_kept, BySchemas, by_form, dialect}
-use Rattle.cs_profile.specs.Trim.{trim, trimmed, trimmed_members, trimmed_list, trimmed_elements, trimmed_map, trimmed_named, with_dialect, with_member, trimmed_as, value_trims}
+use Rattle.cs_profile.specs.Trim.{trim, trimmed, trimmed_members, trimmed_list, trimmed_elements, trimmed_map, trimmed_named, with_dialect, with_member, trimmed_as}
+use Rattle.cs_profile.specs.Values.{value_trims}
 use Rattle.cs_profile.specs.declared.keyword.Form.{Form}
 use Rattle.cs_profile.specs.declared.keyword.Form.TheVariants as form
 use Rattle.cs_validate.specs.Rules.{in_value, subschemas, member_schemas, list_schemas, element_schemas, map_schemas, named_schemas, rules_of, HasManyPairs}

@@ -8,7 +8,7 @@ use Rattle.std.proofs.lemmas.List.Sorted.{IsPermutation-map}
 use Rattle.std.proofs.lemmas.Option.{slice_get_within}
 use Rattle.std.proofs.lemmas.Simd.{map-map}
 use Rattle.cs_document.specs.Document.{Document, boolean, Entry}
-use Rattle.cs_document.specs.Opened.{map_entry}
+use Rattle.cs_document.specs.Inside.{map_entry}
 use Rattle.cs_document.proofs.Each.{each_of}
 use Rattle.cs_profile.specs.Constraint.{Assertion, valid_by, at_keys, at_other_keys, in_front, behind, valid_by_all, valid_by_any, not_valid_by, Constraint, always, never, conjunction, constraint_of}
 use Rattle.cs_profile.specs.Loops.{direct_names}

@@ -7,7 +7,8 @@ use Rattle.std.specs.Option.{option_map_or}
 use Rattle.std.specs.List.{list_all, list_any, AllByRecursion as Each}
 use Rattle.std.specs.Str.{bytes_eq}
 use Rattle.cs_document.specs.Document.{Document, Entry, under}
-use Rattle.cs_document.specs.Opened.{Opened, a_list, an_object, InsideBelow}
+use Rattle.cs_document.specs.Opened.{Opened, a_list, an_object}
+use Rattle.cs_document.specs.Inside.{InsideBelow}
 use Rattle.cs_document.proofs.Each.{each_map, each_drop, all_same, any_same}
 use Rattle.cs_flat.specs.Nodes.{node_at}
 use Rattle.cs_table.specs.Judged.{AllVerdicts, AgreeBefore}

@@ -2,7 +2,7 @@
 use Rattle.std.specs.Prelude.{◌≡◌, ℕ, ◌<◌, false, List, [], ◌∷◌, Some, option_map, option_to_list, map, length, slice_get, get_or}
 use Rattle.std.specs.List.{AllByRecursion, flat_map}
 use Rattle.cs_document.specs.Document.{Document, boolean, Entry}
-use Rattle.cs_document.specs.Opened.{map_entry}
+use Rattle.cs_document.specs.Inside.{map_entry}
 use Rattle.cs_profile.specs.Constraint.{Assertion, nothing, valid_by, has_kind, equals, is_among, at_least, at_most, above, below, has_keys, at_keys, at_other_keys, in_front, behind, at_least_long, valid_by_all, valid_by_any, not_valid_by, Constraint, always, never, conjunction, constraint_of}
 
 -- the same with f of each schema asked of the same document, and g of each asked of a document inside

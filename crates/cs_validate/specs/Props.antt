@@ -5,7 +5,8 @@ use Rattle.std.specs.List.{AllByRecursion as Each}
 use mathlib.Core.HLevel.{×_prop, Unit-prop}
 use native.Mathlib.Bridge.{le_prop}
 use Rattle.cs_document.specs.Document.{Entry}
-use Rattle.cs_document.specs.Opened.{Opened, a_null, a_boolean, an_integer, a_text, a_list, an_object, InsideBelow}
+use Rattle.cs_document.specs.Opened.{Opened, a_null, a_boolean, an_integer, a_text, a_list, an_object}
+use Rattle.cs_document.specs.Inside.{InsideBelow}
 use Rattle.cs_profile.specs.Constraint.{Assertion, nothing, valid_by, has_kind, equals, is_among, at_least, at_most, above, below, has_keys, at_keys, at_other_keys, in_front, behind, at_least_long, valid_by_all, valid_by_any, not_valid_by, Constraint, always, never, conjunction}
 use Rattle.cs_validate.specs.Numbering.{ClaimBelow, PartsBelow}
 

@@ -4,7 +4,7 @@ use Rattle.std.specs.Prelude.{◌<◌, ◌*◌, List, [], ◌∷◌, ◌++◌, B
 use Rattle.std.specs.List.Sorted.{IsPermutation}
 use Rattle.cs_document.specs.Document.{Document, null, boolean, integer, text, list, object, Documents, no_documents, document, Members, no_members, member}
 use Rattle.cs_flat.specs.Nodes.{nodes}
-use Rattle.cs_table.specs.Judged.{most_pairs}
+use Rattle.cs_table.specs.Limit.{most_pairs}
 use Rattle.cs_profile.specs.Shapes.{form_at, BySchemas, by_form}
 use Rattle.cs_profile.specs.declared.keyword.Form.{Form}
 

@@ -3,7 +3,8 @@ use Rattle.std.specs.Prelude.{◌≡◌, ℕ, suc, ◌+◌, ◌<◌, ℤ, pos, B
 use Rattle.std.specs.Option.{option_map_or}
 use Rattle.std.specs.List.{AllByRecursion, flat_map}
 use Rattle.cs_document.specs.Document.{Document}
-use Rattle.cs_document.specs.Opened.{Opened, InsideBelow}
+use Rattle.cs_document.specs.Opened.{Opened}
+use Rattle.cs_document.specs.Inside.{InsideBelow}
 use Rattle.cs_document.specs.View.{doc_view}
 use Rattle.cs_flat.specs.Nodes.{node_at}
 use Rattle.cs_table.specs.Judged.{AllVerdicts}

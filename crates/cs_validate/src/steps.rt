@@ -4,7 +4,7 @@ ghost use Rattle.std.specs.Option.{option_map_or};
 ghost use Rattle.std.specs.List.{list_all, list_any, AllByRecursion};
 ghost use Rattle.std.specs.Str.{bytes_eq};
 ghost use Rattle.cs_document.specs.Document.{Entry, under};
-ghost use Rattle.cs_document.specs.Opened.{InsideBelow, AscendsInside, KeysAscend};
+ghost use Rattle.cs_document.specs.Inside.{InsideBelow, AscendsInside, KeysAscend};
 ghost use Rattle.cs_document.specs.View.{doc_view};
 ghost use Rattle.cs_flat.specs.View.{item_view, entry_of};
 ghost use Rattle.cs_table.specs.Judged.{verdicts};

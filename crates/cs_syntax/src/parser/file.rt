@@ -5,14 +5,16 @@ ghost use Rattle.std.specs.Option.{option_map};
 ghost use Rattle.cs_grammar.specs.Words.{Words};
 ghost use Rattle.cs_grammar.specs.Tree.{FileTree};
 ghost use Rattle.cs_grammar.specs.Spells.{SpellsFile};
-ghost use Rattle.cs_grammar.specs.View.{definition_view, file_view, lexemes_view, words};
+ghost use Rattle.cs_grammar.specs.View.{definition_view, file_view, lexemes_view};
+ghost use Rattle.cs_grammar.specs.TokenWords.{words};
 ghost use Rattle.cs_syntax.specs.Left.{left, Reads};
 ghost use Rattle.cs_lexer.specs.Quoted.{are_quoted};
 ghost use Rattle.cs_syntax.specs.Reading.{Gives, definition_at, line_at, definitions_at, is_clause, clause_at, package_at, file_with, file_at, most_depth};
 ghost use Rattle.cs_syntax.specs.Within.{file_within};
 ghost use Rattle.cs_syntax.specs.Nesting.{nesting, most_nested};
 ghost use Rattle.cs_lexer.specs.Lexed.{Answers};
-ghost use Rattle.cs_syntax.specs.Answer.{IsFileRefusal, IsSpelled};
+ghost use Rattle.cs_syntax.specs.Answer.{IsSpelled};
+ghost use Rattle.cs_syntax.specs.Refusal.{IsFileRefusal};
 
 use crate::parser::height::are_low_bodies;
 use crate::parser::kind::kind_of;

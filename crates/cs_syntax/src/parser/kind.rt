@@ -1,7 +1,8 @@
 // The tokens as the grammar sees them.
 
 ghost use Rattle.std.specs.Prelude.{◌≡◌};
-ghost use Rattle.cs_grammar.specs.View.{mark_kind, kind_of, lexeme_view, word};
+ghost use Rattle.cs_grammar.specs.View.{lexeme_view};
+ghost use Rattle.cs_grammar.specs.TokenWords.{mark_kind, kind_of, word};
 ghost use Rattle.cs_syntax.specs.Reading.{names_string};
 
 use crate::parser::name::is_string;

@@ -1,7 +1,7 @@
 // Names.
 
 ghost use Rattle.std.specs.Prelude.{◌≡◌};
-ghost use Rattle.cs_grammar.specs.View.{bare_name};
+ghost use Rattle.cs_grammar.specs.TokenWords.{bare_name};
 ghost use Rattle.cs_grammar.specs.Spells.{is_reserved, is_package, is_string};
 
 // Whether a name can't be an operand.

@@ -3,7 +3,8 @@
 ghost use Rattle.std.specs.Prelude.{◌≡◌, ◌≤◌, nat_lt, IfOk, OnOk};
 ghost use Rattle.cs_syntax.specs.Nesting.{nesting, most_nested};
 ghost use Rattle.cs_syntax.specs.Counting.{before_next, levels_next, level_opened, level_closed, short_colon};
-ghost use Rattle.cs_grammar.specs.View.{lexemes_view, words};
+ghost use Rattle.cs_grammar.specs.View.{lexemes_view};
+ghost use Rattle.cs_grammar.specs.TokenWords.{words};
 ghost use Rattle.cs_syntax.specs.Left.{levels_of};
 
 use crate::parser::kind::{kind_of, names_string};

@@ -1,7 +1,8 @@
 // A place in the tokens.
 
 ghost use Rattle.std.specs.Prelude.{◌≡◌, drop, true};
-ghost use Rattle.cs_grammar.specs.View.{lexeme_view, lexemes_view, word};
+ghost use Rattle.cs_grammar.specs.View.{lexeme_view, lexemes_view};
+ghost use Rattle.cs_grammar.specs.TokenWords.{word};
 ghost use Rattle.cs_lexer.specs.Quoted.{are_quoted};
 ghost use Rattle.cs_grammar.specs.Spells.{start_at};
 ghost use Rattle.cs_syntax.specs.Place.{is_left_out_name, fault_of};

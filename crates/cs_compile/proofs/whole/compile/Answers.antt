@@ -5,7 +5,8 @@ use Rattle.cs_guard.specs.Numbered.{name_of}
 use Rattle.cs_instance.proofs.Verdicts.{one_name}
 use Rattle.cs_profile.specs.SchemaDocument.{schema_view, document_of}
 use Rattle.cs_compile.specs.Translation.{IsTranslation}
-use Rattle.cs_compile.specs.Whole.{Compiles, reference_to}
+use Rattle.cs_profile.specs.Root.{reference_to}
+use Rattle.cs_compile.specs.Whole.{Compiles}
 use Rattle.cs_compile.proofs.Compiled.{whole, translates, compiles}
 use Rattle.cs_compile.proofs.whole.compile.Goals as goal
 

@@ -1,6 +1,7 @@
 use Rattle.std.proofs.Common.{◌≡◌, ℕ, List, ◌∷◌, ◌+◌, ◌-◌, length, take, drop, false, sym, subst, arith}
 use Rattle.cs_grammar.specs.declared.token.Sort.TheVariants as sorts
-use Rattle.cs_grammar.specs.Cut.{Begins, begins_quotes, NoneBegins, quotes}
+use Rattle.cs_grammar.specs.Cut.{Begins, begins_quotes}
+use Rattle.cs_grammar.specs.Stuck.{NoneBegins, quotes}
 use Rattle.cs_lexer.specs.Pieces.{Edges}
 use Rattle.cs_lexer.proofs.ByteClasses.{opened}
 use Rattle.cs_lexer.proofs.Texts.{text_case, bad_text_case}

@@ -2,7 +2,8 @@ use Rattle.std.proofs.Common.{◌≡◌, suc, add-one, ◌+◌, false, [], ◌�
 use Rattle.cs_document.specs.View.{doc_view, list_view, object_view}
 use Rattle.cs_document.proofs.Maps.{drop_at}
 use Rattle.cs_profile.specs.Places.{at_key as key_place, at_index as index_place}
-use Rattle.cs_profile.specs.Profile.{first, undefined_at, visits, member_visits, keyword_visits, element_visits, named_visits}
+use Rattle.cs_profile.specs.Profile.{first, undefined_at, visits, member_visits, element_visits, named_visits}
+use Rattle.cs_profile.specs.Values.{keyword_visits}
 use Rattle.cs_profile.proofs.Walks.{first_past}
 use Rattle.cs_schema.specs.Reading.{Refuses, below, is_defined_in}
 use Rattle.cs_schema.proofs.Placed.{names_placed}

@@ -7,9 +7,10 @@ use Rattle.cs_document.specs.Document.{no_members}
 use Rattle.cs_document.proofs.Views.{view-List}
 use Rattle.cs_document.proofs.Entries.{Entry}
 use Rattle.cs_document.proofs.Maps.{texts, insert_last, texts_more, drop_at, drop_past, take_at}
-use Rattle.cs_profile.specs.Profile.{first, fault_of, visits, member_visits, keyword_visits, element_visits, named_visits}
+use Rattle.cs_profile.specs.Profile.{first, fault_of, visits, member_visits, element_visits, named_visits}
+use Rattle.cs_profile.specs.Values.{keyword_visits, trimmed_value}
 use Rattle.cs_profile.specs.Places.{at_key as key_place, at_index as index_place}
-use Rattle.cs_profile.specs.Trim.{trimmed_elements, trimmed_value, with_member}
+use Rattle.cs_profile.specs.Trim.{trimmed_elements, with_member}
 use Rattle.cs_profile.specs.SchemaDocument.{schemas_view, definitions_view, present, value_at}
 use Rattle.cs_profile.specs.declared.keyword.Form.TheVariants as form
 use Rattle.cs_profile.specs.Keywords.{name_of}

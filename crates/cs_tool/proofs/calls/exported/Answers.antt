@@ -5,7 +5,8 @@ use Rattle.cs_document.specs.Document.{Document, depth}
 use Rattle.cs_doc.specs.Texts.{Reads, text_of}
 use Rattle.cs_package.specs.Environment.{Environment, Names}
 use Rattle.cs_package.specs.Height.{IsLow}
-use Rattle.cs_schema.specs.SchemaDocument.{document_of, with_definitions, definitions_view, unless_no_map}
+use Rattle.cs_schema.specs.SchemaDocument.{document_of, definitions_view, unless_no_map}
+use Rattle.cs_schema.specs.Root.{with_definitions}
 use Rattle.cs_schema.specs.Trim.{with_dialect}
 use Rattle.cs_compile.specs.Translation.{IsTranslation}
 use Rattle.cs_tool.specs.Translated.{IsTranslated}

@@ -3,7 +3,8 @@ use Rattle.std.proofs.lemmas.List.{map-append}
 use Rattle.cs_grammar.specs.Tree.{FileTree}
 use Rattle.cs_grammar.specs.View.{file_view}
 use Rattle.cs_lexer.specs.Lexed.{Answers}
-use Rattle.cs_syntax.specs.Answer.{IsSpelled, IsFileRefusal}
+use Rattle.cs_syntax.specs.Answer.{IsSpelled}
+use Rattle.cs_syntax.specs.Refusal.{IsFileRefusal}
 use Rattle.cs_grammar.specs.declared.fault.SyntaxFault.{SyntaxFault}
 use Rattle.cs_grammar.specs.declared.fault.SyntaxFault.TheVariants as syntax
 use Rattle.cs_tool.specs.Accepted.{AreFiles, IsFirstMisspelled, FilesRefusal}

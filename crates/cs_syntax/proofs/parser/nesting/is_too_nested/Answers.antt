@@ -1,7 +1,8 @@
 use Rattle.std.proofs.Common.{reverse, sym, ap, ◌∙◌}
 use Rattle.std.specs.Prelude.{nat_lt}
 use Rattle.cs_syntax.specs.declared.parser.nesting.PrecedingToken.TheVariants as before
-use Rattle.cs_grammar.specs.View.{lexemes_view, words}
+use Rattle.cs_grammar.specs.View.{lexemes_view}
+use Rattle.cs_grammar.specs.TokenWords.{words}
 use Rattle.cs_syntax.specs.Counting.{counted_from}
 use Rattle.cs_syntax.specs.Left.{levels_of}
 use Rattle.cs_syntax.proofs.Depths.{high_stops}

@@ -1,6 +1,7 @@
 use Rattle.std.proofs.Common.{◌≡◌, drop}
 use Rattle.std.specs.Prelude.{nat_lt}
-use Rattle.cs_grammar.specs.View.{lexemes_view, words}
+use Rattle.cs_grammar.specs.View.{lexemes_view}
+use Rattle.cs_grammar.specs.TokenWords.{words}
 use Rattle.cs_syntax.specs.Nesting.{nesting}
 use Rattle.cs_syntax.specs.Counting.{counted_from}
 use Rattle.cs_syntax.specs.Left.{levels_of}
