@@ -7,7 +7,8 @@ use Rattle.cs_grammar.specs.Stuck.{IsStuck}
 use Rattle.cs_grammar.specs.Tree.{FileTree}
 use Rattle.cs_grammar.specs.Spells.{SpellsFile}
 use Rattle.cs_grammar.specs.TokenWords.{words}
-use Rattle.cs_syntax.specs.Height.{file_height, most_height}
+use Rattle.cs_grammar.specs.Limits.{most_height}
+use Rattle.cs_syntax.specs.Height.{file_height}
 use Rattle.cs_syntax.specs.Nesting.{nesting, most_nested}
 use Rattle.cs_syntax.specs.Place.{IsFaultIn}
 
