@@ -12,8 +12,11 @@ use Rattle.cs_profile.proofs.Chains.{none_loop}
 use Rattle.cs_profile.specs.declared.fault.SchemaFault.{SchemaFault}
 use Rattle.cs_profile.specs.declared.fault.SchemaFault.TheVariants as schema
 use Rattle.cs_validate.specs.Rules.{HasManyPairs}
-use Rattle.cs_tool.specs.Accepted.{IsAccepted, IsReady}
-use Rattle.cs_tool.specs.Headline.{IsExport, IsVerdict, IsValidated, IsAgreement, IsNoSchema, IsSchemaText, IsReadyToValidate, IsReadyToAgree, SchemaHasManyPairs, ValidateRefusal, AgreeRefusal}
+use Rattle.cs_tool.specs.Accepted.{IsAccepted}
+use Rattle.cs_tool.specs.Headline.{IsExport, IsVerdict, IsValidated}
+use Rattle.cs_tool.specs.Agreement.{IsAgreement}
+use Rattle.cs_tool.specs.Ready.{IsReady, IsReadyToValidate, IsReadyToAgree, SchemaHasManyPairs}
+use Rattle.cs_tool.specs.CallRefusals.{IsNoSchema, IsSchemaText, ValidateRefusal, AgreeRefusal}
 use Rattle.cs_tool.specs.Translated.{IsTranslated}
 use Rattle.cs_tool.specs.declared.fault.Fault.{Fault}
 use Rattle.cs_tool.specs.declared.fault.Fault.TheVariants.{OutOfMemory, SchemaNotJson, Keyword, Shape, Reference, Loop, NotJson, NotInteger, TooManyPairs}

@@ -8,9 +8,12 @@ ghost use Rattle.cs_instance.specs.Rules.{HasManyPairs};
 ghost use Rattle.cs_schema.specs.Profile.{IsSchema};
 ghost use Rattle.cs_schema.specs.SchemaDocument.{document_of};
 ghost use Rattle.cs_schema.specs.Trim.{trim};
-ghost use Rattle.cs_tool.specs.Accepted.{IsAccepted, IsReady};
+ghost use Rattle.cs_tool.specs.Accepted.{IsAccepted};
+ghost use Rattle.cs_tool.specs.Headline.{IsExport, IsVerdict, IsValidated};
 ghost use Rattle.cs_tool.specs.Translated.{IsTranslated};
-ghost use Rattle.cs_tool.specs.Headline.{IsExport, IsVerdict, IsValidated, IsAgreement, IsReadyToVet, IsReadyToValidate, IsReadyToAgree, ExportRefusal, VetRefusal, ValidateRefusal, AgreeRefusal, VerdictRefusal, SchemaTextRefusal};
+ghost use Rattle.cs_tool.specs.Agreement.{IsAgreement};
+ghost use Rattle.cs_tool.specs.Ready.{IsReady, IsReadyToVet, IsReadyToValidate, IsReadyToAgree};
+ghost use Rattle.cs_tool.specs.CallRefusals.{ExportRefusal, VetRefusal, ValidateRefusal, AgreeRefusal, VerdictRefusal, SchemaTextRefusal};
 
 use crate::Fault;
 use crate::packages::package_of;
@@ -26,7 +29,7 @@ use std::alloc::Global;
 /// without a newline. The root is named with its `#`.
 ///
 /// A refusal reports the first condition that the sources and the root fail, in the order of `First`
-/// (`specs/Accepted.antt`).
+/// (`specs/First.antt`).
 pub fn export(alloc: Global, sources: &[&[u8]], root: &str) -> Result<Vec<u8>, Fault>
     ensures found { IfOk result
         (λ text. IsExport (map (λ s. s.now) sources.now) root.now text.items) }
@@ -69,7 +72,7 @@ fn text_of_schema(alloc: Global, schema: &SchemaDoc) -> Result<Vec<u8>, Fault>
 
 /// Whether the document is an instance of the root definition of the sources.
 ///
-/// Refusals in order: the first condition that the sources and the root fail, as `First` has them (`specs/Accepted.antt`);
+/// Refusals in order: the first condition that the sources and the root fail, as `First` has them (`specs/First.antt`);
 /// `NotJson` and `NotInteger`, of the document; then `TooManyPairs`, of the document and the rules of the root.
 pub fn vet(alloc: Global, sources: &[&[u8]], root: &str, doc: &[u8]) -> Result<bool, Fault>
     ensures found { IfOk result

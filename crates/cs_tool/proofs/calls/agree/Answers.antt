@@ -2,8 +2,12 @@ use Rattle.std.proofs.Common.{◌≡◌, ℕ, List, Bor, map, inl, inr, sym, sub
 use Rattle.std.proofs.lemmas.Result.{err_from_is_err_and}
 use Rattle.cs_package.specs.Environment.{Environment, Names}
 use Rattle.cs_instance.specs.Rules.{HasManyPairs}
-use Rattle.cs_tool.specs.Accepted.{DeclaresRoot, SourcesFault, IsReady, First}
-use Rattle.cs_tool.specs.Headline.{IsAgreement, IsValidated, ExportRefusal, AgreeRefusal, ValidateRefusal, VerdictRefusal}
+use Rattle.cs_tool.specs.Accepted.{DeclaresRoot}
+use Rattle.cs_tool.specs.Headline.{IsValidated}
+use Rattle.cs_tool.specs.Agreement.{IsAgreement}
+use Rattle.cs_tool.specs.First.{SourcesFault, First}
+use Rattle.cs_tool.specs.Ready.{IsReady}
+use Rattle.cs_tool.specs.CallRefusals.{ExportRefusal, AgreeRefusal, ValidateRefusal, VerdictRefusal}
 use Rattle.cs_tool.specs.declared.fault.Fault.{Fault}
 use Rattle.cs_tool.specs.declared.fault.Fault.TheVariants.{OutOfMemory, UnknownRoot, NotJson, NotInteger, TooManyPairs}
 use Rattle.cs_tool.proofs.SchemaTexts.{refused, answered, is_ready, is_ready_to_validate, same_answer, agreement}

@@ -17,7 +17,7 @@ use Rattle.cs_validate.proofs.Trimmed.{many_trimmed, many_untrimmed}
 use Rattle.cs_validate.specs.declared.fault.ValidateFault.{ValidateFault}
 use Rattle.cs_validate.specs.declared.fault.ValidateFault.TheVariants as validate
 use Rattle.cs_tool.specs.Conversions.{of_document, of_schema, of_validate}
-use Rattle.cs_tool.specs.Headline.{IsSchemaText, SchemaTextRefusal, ValidateRefusal}
+use Rattle.cs_tool.specs.CallRefusals.{IsSchemaText, SchemaTextRefusal, ValidateRefusal}
 use Rattle.cs_tool.specs.declared.fault.Fault.{Fault}
 use Rattle.cs_tool.specs.declared.fault.Fault.TheVariants.{OutOfMemory, SchemaNotJson, NotInteger}
 use Rattle.cs_tool.proofs.SchemaTexts.{answered}

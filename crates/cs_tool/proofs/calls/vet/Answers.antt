@@ -4,7 +4,8 @@ use Rattle.cs_package.specs.Environment.{Environment, Names, name_at}
 use Rattle.cs_instance.specs.Rules.{HasManyPairs}
 use Rattle.std.proofs.lemmas.Result.{IfErr-weaker, err_from_is_err_and}
 use Rattle.cs_tool.specs.Accepted.{IsAccepted, DeclaresRoot}
-use Rattle.cs_tool.specs.Headline.{IsReadyToVet, VerdictRefusal, VetRefusal}
+use Rattle.cs_tool.specs.Ready.{IsReadyToVet}
+use Rattle.cs_tool.specs.CallRefusals.{VerdictRefusal, VetRefusal}
 use Rattle.cs_tool.specs.declared.fault.Fault.{Fault}
 use Rattle.cs_tool.specs.declared.fault.Fault.TheVariants.{OutOfMemory, NotJson, NotInteger, TooManyPairs}
 use Rattle.cs_tool.proofs.calls.vet.Goals as goal

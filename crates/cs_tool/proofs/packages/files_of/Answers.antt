@@ -6,7 +6,8 @@ use Rattle.cs_lexer.specs.Lexed.{Answers}
 use Rattle.cs_syntax.specs.Answer.{IsSpelled, IsFileRefusal}
 use Rattle.cs_grammar.specs.declared.fault.SyntaxFault.{SyntaxFault}
 use Rattle.cs_grammar.specs.declared.fault.SyntaxFault.TheVariants as syntax
-use Rattle.cs_tool.specs.Accepted.{AreFiles, IsFirstMisspelled, FilesRefusal}
+use Rattle.cs_tool.specs.Accepted.{AreFiles}
+use Rattle.cs_tool.specs.First.{IsFirstMisspelled, FilesRefusal}
 use Rattle.cs_tool.specs.Conversions.{of_syntax}
 use Rattle.cs_tool.specs.declared.fault.Fault.{Fault}
 use Rattle.cs_tool.specs.declared.fault.Fault.TheVariants.{OutOfMemory}

@@ -11,7 +11,8 @@ use Rattle.cs_guard.specs.Cycles.{IsRefusal}
 use Rattle.cs_guard.specs.Guarded.{IsGuarded}
 use Rattle.cs_guard.specs.declared.fault.GuardFault.{GuardFault}
 use Rattle.cs_guard.specs.declared.fault.GuardFault.TheVariants as guard
-use Rattle.cs_tool.specs.Accepted.{AreTexts, AreFiles, IsAccepted, IsUnguarded, SourcesRefusal}
+use Rattle.cs_tool.specs.Accepted.{AreTexts, AreFiles, IsAccepted}
+use Rattle.cs_tool.specs.First.{IsUnguarded, SourcesRefusal}
 use Rattle.cs_tool.specs.Conversions.{of_guard}
 use Rattle.cs_tool.specs.declared.fault.Fault.{Fault}
 use Rattle.cs_tool.proofs.packages.package_of.Goals as goal
