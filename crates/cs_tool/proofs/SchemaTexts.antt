@@ -1,20 +1,15 @@
 -- Texts that are read as schemas: what can't refuse them.
-use Rattle.std.proofs.Common.{◌≡◌, ℕ, Bool, List, Option, Some, None, inl, inr, refl, sym, ap, ap₂, subst, subst₂, ◌∙◌, ◌∷◌}
+use Rattle.std.proofs.Common.{◌≡◌, ℕ, List, Option, Some, None, inl, inr, refl, subst, subst₂}
 use Rattle.std.specs.Option.{IsSome, option_and_then}
 use Rattle.cs_document.specs.Document.{Document}
 use Rattle.cs_doc.specs.Texts.{Reads, IsJson, HasOtherNumber}
-use Rattle.cs_package.specs.Environment.{Environment, Names}
-use Rattle.cs_instance.specs.Instance.{definition, IsInstance}
 use Rattle.cs_profile.specs.Profile.{IsSchema}
 use Rattle.cs_profile.specs.Refusal.{IsRefusal}
-use Rattle.cs_profile.specs.Validity.{IsValidity}
 use Rattle.cs_profile.proofs.Chains.{none_loop}
 use Rattle.cs_profile.specs.declared.fault.SchemaFault.{SchemaFault}
 use Rattle.cs_profile.specs.declared.fault.SchemaFault.TheVariants as schema
 use Rattle.cs_validate.specs.Rules.{HasManyPairs}
-use Rattle.cs_tool.specs.Accepted.{IsAccepted}
-use Rattle.cs_tool.specs.Headline.{IsExport, IsVerdict, IsValidated}
-use Rattle.cs_tool.specs.Agreement.{IsAgreement}
+use Rattle.cs_tool.specs.Headline.{IsExport}
 use Rattle.cs_tool.specs.Ready.{IsReady, IsReadyToValidate, IsReadyToAgree, SchemaHasManyPairs}
 use Rattle.cs_tool.specs.CallRefusals.{IsNoSchema, IsSchemaText, ValidateRefusal, AgreeRefusal}
 use Rattle.cs_tool.specs.Translated.{IsTranslated}
@@ -107,34 +102,3 @@ module _ (sources : List (List ℕ)) (root schema_text : List ℕ) (exported : I
   refused t e h =
       by_document schema_text t is_schema_text e h (AgreeRefusal sources root t) tt (λ n. (is_ready, n)) (λ other. (is_ready, other))
       (λ many. (is_ready, inr (record { schema_text = schema_text; exported = exported; translated = translated; many = many })))
-
-bare_once : (n m : List ℕ) → (35 ∷ n) ≡ (35 ∷ m) → n ≡ m
-bare_once n m e = cc
-
-pub one_name : (E : Environment) (root n m : List ℕ) → Names E root n → Names E root m → n ≡ m
-one_name E root n m a b = bare_once n m (sym a.text ∙ b.text)
-
--- both sides answer the same
-module _ (sources : List (List ℕ)) (root text schema_text : List ℕ) (E : Environment) (one : (F : Environment) → IsAccepted sources F → E ≡ F)
-    (exported : IsExport sources root schema_text) (a b : Bool) (verdict : IsVerdict sources root text a) (validated : IsValidated schema_text text b) where
-  same_environment : exported.environment ≡ verdict.environment
-  same_environment = sym (one exported.environment exported.declares.accepted) ∙ one verdict.environment verdict.declares.accepted
-
-  same_name : exported.name ≡ verdict.name
-  same_name = one_name verdict.environment root exported.name verdict.name (subst (λ F. Names F root exported.name) same_environment exported.declares.named) verdict.declares.named
-
-  pub same_answer : a ≡ b
-  same_answer =
-      let I = exported.one_instance.some.0 in
-      let is_I = exported.one_instance.some.1 in
-      let V = exported.one_validity.some.0 in
-      let is_V = exported.one_validity.some.1 in
-      let x = verdict.document in
-      let schema_is = one_document schema_text exported.schema validated.schema exported.read validated.read_schema in
-      let x_is = one_document text x validated.document verdict.read validated.read in
-      let judged : b ≡ V exported.schema x = validated.holds V (subst (λ s. IsValidity s V) schema_is is_V) ∙ ap₂ V (sym schema_is) (sym x_is) in
-      let held : a ≡ I (definition exported.name) x = verdict.holds I (subst (λ F. IsInstance F I) same_environment is_I) ∙ ap (λ n. I (definition n) x) (sym same_name) in
-      held ∙ sym (exported.admits V I is_V is_I x verdict.proper) ∙ sym judged
-
-  pub agreement : IsTranslated sources root schema_text → IsAgreement sources root text a
-  agreement translated = record { verdict = verdict; schema_text = schema_text; exported = exported; translated = translated; validated = subst (IsValidated schema_text text) (sym same_answer) validated }

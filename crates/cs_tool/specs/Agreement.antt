@@ -1,6 +1,5 @@
 -- What the call of both sides answers.
 use Rattle.std.specs.Prelude.{ℕ, List, Bool}
-use Rattle.cs_tool.specs.Translated.{IsTranslated}
 use Rattle.cs_tool.specs.Headline.{IsExport, IsVerdict, IsValidated}
 
 -- the answer is that of both sides: whether the document is an instance of the root definition that the sources spell,
@@ -9,5 +8,4 @@ pub record IsAgreement (sources : List (List ℕ)) (root text : List ℕ) (answe
   pub verdict : IsVerdict sources root text answer
   pub schema_text : List ℕ
   pub exported : IsExport sources root schema_text
-  pub translated : IsTranslated sources root schema_text
   pub validated : IsValidated schema_text text answer

@@ -59,6 +59,7 @@ pub record IsValidated (schema_text text : List ℕ) (answer : Bool) : Type 0 wh
   pub profile : IsSchema schema
   pub document : Document
   pub read : Reads text document
+  pub proper : IsDocument document
   -- the document has no more pairs with the schema's rules than a table may have
   pub within : ¬ (validate.HasManyPairs schema document)
   pub one_validity : validity.OneMeaning schema

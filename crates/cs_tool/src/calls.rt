@@ -3,7 +3,7 @@ ghost use Rattle.std.specs.Prelude.{◌≡◌, ℕ, ◌≤◌, List, IfOk, IfErr
 ghost use Rattle.cs_document.specs.Document.{Document, depth};
 ghost use Rattle.cs_doc.specs.Texts.{Reads, text_of};
 ghost use Rattle.cs_document.specs.View.{doc_view};
-ghost use Rattle.cs_package.specs.Environment.{Environment, Names};
+ghost use Rattle.cs_package.specs.Environment.{Names};
 ghost use Rattle.cs_instance.specs.Rules.{HasManyPairs};
 ghost use Rattle.cs_schema.specs.Profile.{IsSchema};
 ghost use Rattle.cs_schema.specs.SchemaDocument.{document_of};
@@ -46,8 +46,8 @@ pub fn export(alloc: Global, sources: &[&[u8]], root: &str) -> Result<Vec<u8>, F
 fn exported(alloc: Global, guarded: &Guarded, root: &str) -> Result<Vec<u8>, Fault>
     ensures found { (sources : List (List ℕ)) → IsAccepted sources guarded.now
         → IfOk result (λ text. IsExport sources root.now text.items) }
-    ensures translated { (sources : List (List ℕ)) → ((E : Environment) → IsAccepted sources E → guarded.now ≡ E)
-        → IsAccepted sources guarded.now → IfOk result (λ text. IsTranslated sources root.now text.items) }
+    ensures translated { (sources : List (List ℕ)) → IsAccepted sources guarded.now
+        → IfOk result (λ text. IsTranslated sources root.now text.items) }
     ensures refused { (sources : List (List ℕ)) → IsAccepted sources guarded.now
         → IfErr result (λ e. ExportRefusal sources root.now e) }
     ensures only { (n : List ℕ) → Names guarded.now root.now n → IsOkUnless result Fault.OutOfMemory }

@@ -23,7 +23,6 @@ pub(crate) fn package_of(alloc: Global, sources: &[&[u8]]) -> Result<Guarded, Fa
     ensures accepted { IfOk result (λ g. IsAccepted (map (λ s. s.now) sources.now) g) }
     ensures refused { IfErr result (λ e. SourcesRefusal (map (λ s. s.now) sources.now) e) }
     ensures only { (E : Environment) → IsAccepted (map (λ s. s.now) sources.now) E → IsOkUnless result Fault.OutOfMemory }
-    ensures unique { (E : Environment) → IsAccepted (map (λ s. s.now) sources.now) E → IfOk result (λ g. g ≡ E) }
 {
     if !fits(sources) {
         return Err(Fault::SourcesTooLong);
@@ -39,8 +38,6 @@ fn files_of(alloc: Global, texts: &[&str]) -> Result<Vec<File>, Fault>
     ensures spelled { IfOk result (λ v. AreFiles (map (λ t. t.now) texts.now) (map file_view v.items)) }
     ensures refused { IfErr result (λ e. FilesRefusal (map (λ t. t.now) texts.now) e) }
     ensures only { (fs : List FileTree) → AreFiles (map (λ t. t.now) texts.now) fs → IsOkUnless result Fault.OutOfMemory }
-    ensures unique { (fs : List FileTree) → AreFiles (map (λ t. t.now) texts.now) fs
-        → IfOk result (λ v. map file_view v.items ≡ fs) }
 {
     let mut files = Vec::with_capacity(alloc, texts.len())?;
     for (number, text) in texts.iter().enumerate() {

@@ -137,6 +137,7 @@ returns-clause-found c =
       profile = schema.accepted;
       document = document;
       read = c.in_ok-doc.ensures.found;
+      proper = c.in_ok-doc.ensures.document;
       within = λ many. c.in_ok-is_valid.ensures.within (subst (λ R. HasManyPairs R document) (sym schema.found) (many_trimmed (doc_view c.in_ok-schema_text.field-0) document many));
       one_validity = schema.one_meaning;
       holds = untrimmed (doc_view c.in_ok-schema_text.field-0) document answer one schema.meaning judged;
