@@ -10,7 +10,7 @@ use Rattle.cs_profile.specs.declared.fault.SchemaFault.{SchemaFault}
 use Rattle.cs_profile.specs.declared.fault.SchemaFault.TheVariants as schema
 use Rattle.cs_validate.specs.Rules.{HasManyPairs}
 use Rattle.cs_tool.specs.Headline.{IsExport}
-use Rattle.cs_tool.specs.Ready.{IsReady, IsReadyToValidate, IsReadyToAgree, SchemaHasManyPairs}
+use Rattle.cs_tool.specs.Ready.{IsReady, VetInput, ValidateInput, SchemaHasManyPairs, IsReadyToValidate, IsReadyToAgree}
 use Rattle.cs_tool.specs.CallRefusals.{IsNoSchema, IsSchemaText, ValidateRefusal, AgreeRefusal}
 use Rattle.cs_tool.specs.Translated.{IsTranslated}
 use Rattle.cs_tool.specs.declared.fault.Fault.{Fault}
@@ -59,12 +59,14 @@ by_document s t is _ h P memory json integer pairs = absurd h
 -- a schema and a document are judged, unless memory runs out
 pub answered : (s t : List ℕ) → IsReadyToValidate s t → (e : Fault) → ValidateRefusal s t e → e ≡ OutOfMemory
 answered s t is e h =
-    by_document s t (record { document = is.schema; read = is.read_schema; profile = is.profile }) e h (λ f. f ≡ OutOfMemory) refl
-    (λ n. absurd (n (is_json t is.document is.read)))
-    (λ other. absurd (no_other t is.document is.read other))
+    let x = is.input in
+    by_document s t (record { document = x.schema; read = x.read_schema; profile = x.profile }) e h (λ f. f ≡ OutOfMemory) refl
+    (λ n. absurd (n (is_json t x.document x.read)))
+    (λ other. absurd (no_other t x.document x.read other))
     (λ many.
-    let same = one_document s many.schema is.schema many.read_schema is.read_schema in
-    let same_document = one_document t many.document is.document many.read is.read in
+    let y = many.input in
+    let same = one_document s y.schema x.schema y.read_schema x.read_schema in
+    let same_document = one_document t y.document x.document y.read x.read in
     absurd (is.within (subst₂ HasManyPairs same same_document many.many)))
 
 module _ (sources : List (List ℕ)) (root schema_text : List ℕ) (exported : IsExport sources root schema_text) (translated : IsTranslated sources root schema_text) where
@@ -74,26 +76,24 @@ module _ (sources : List (List ℕ)) (root schema_text : List ℕ) (exported : I
   pub is_ready : IsReady sources root
   is_ready = (exported.environment, exported.name, exported.declares)
 
-  -- a text that can be judged by both can be judged by the exported text
-  pub is_ready_to_validate : (t : List ℕ) → IsReadyToAgree sources root t → IsReadyToValidate schema_text t
-  is_ready_to_validate t ready = record {
+  input : (t : List ℕ) → VetInput sources root t → ValidateInput schema_text t
+  input t x = record {
     schema = exported.schema;
     read_schema = exported.read;
     profile = exported.profile;
-    document = ready.vetted.document;
-    read = ready.vetted.read;
+    document = x.document;
+    read = x.read;
+  }
+
+  -- a text that can be judged by both can be judged by the exported text
+  pub is_ready_to_validate : (t : List ℕ) → IsReadyToAgree sources root t → IsReadyToValidate schema_text t
+  is_ready_to_validate t ready = record {
+    input = input t ready.vetted.input;
     within = λ many. ready.within (record {
       schema_text = schema_text;
       exported = exported;
       translated = translated;
-      many = record {
-        schema = exported.schema;
-        read_schema = exported.read;
-        profile = exported.profile;
-        document = ready.vetted.document;
-        read = ready.vetted.read;
-        many = many;
-      };
+      many = record { input = input t ready.vetted.input; many = many };
     });
   }
 

@@ -14,45 +14,33 @@ use Rattle.cs_tool.specs.Translated.{IsTranslated}
 abbrev pub IsReady : List (List ℕ) → List ℕ → Type 0
 IsReady sources root = (E : Environment) × (n : List ℕ) × DeclaresRoot sources root E n
 
--- the sources declare the root, and the text is read as a document that has no more pairs with the root's rules than a
--- table may have
-pub record IsReadyToVet (sources : List (List ℕ)) (root text : List ℕ) : Type 0 where
+-- what `vet` judges: the root that the sources declare, and the document that the text is read as
+pub record VetInput (sources : List (List ℕ)) (root text : List ℕ) : Type 0 where
   pub environment : Environment
   pub name : List ℕ
   pub declares : DeclaresRoot sources root environment name
   pub document : Document
   pub read : Reads text document
-  pub within : ¬ (HasManyPairs environment name document)
 
--- the text is read as a document that has more pairs with the rules of the root that the sources declare than a table may
--- have
+-- what `validate` judges: the schema of the profile that the one text is read as, and the document that the other is
+pub record ValidateInput (schema_text text : List ℕ) : Type 0 where
+  pub schema : Document
+  pub read_schema : Reads schema_text schema
+  pub profile : IsSchema schema
+  pub document : Document
+  pub read : Reads text document
+
+-- ---- too many pairs
+
+-- the document has more pairs with the rules of the root than a table may have
 pub record RootHasManyPairs (sources : List (List ℕ)) (root text : List ℕ) : Type 0 where
-  pub environment : Environment
-  pub name : List ℕ
-  pub declares : DeclaresRoot sources root environment name
-  pub document : Document
-  pub read : Reads text document
-  pub many : HasManyPairs environment name document
+  pub input : VetInput sources root text
+  pub many : HasManyPairs input.environment input.name input.document
 
--- the one text is read as a schema of the profile, and the other as a document that has no more pairs with the schema's
--- rules than a table may have
-pub record IsReadyToValidate (schema_text text : List ℕ) : Type 0 where
-  pub schema : Document
-  pub read_schema : Reads schema_text schema
-  pub profile : IsSchema schema
-  pub document : Document
-  pub read : Reads text document
-  pub within : ¬ (validate.HasManyPairs schema document)
-
--- the one text is read as a schema of the profile, and the other as a document that has more pairs with the schema's rules
--- than a table may have
+-- the document has more pairs with the schema's rules than a table may have
 pub record SchemaHasManyPairs (schema_text text : List ℕ) : Type 0 where
-  pub schema : Document
-  pub read_schema : Reads schema_text schema
-  pub profile : IsSchema schema
-  pub document : Document
-  pub read : Reads text document
-  pub many : validate.HasManyPairs schema document
+  pub input : ValidateInput schema_text text
+  pub many : validate.HasManyPairs input.schema input.document
 
 -- the text is read as a document that has more pairs with the exported schema's rules than a table may have
 pub record ExportHasManyPairs (sources : List (List ℕ)) (root text : List ℕ) : Type 0 where
@@ -61,7 +49,19 @@ pub record ExportHasManyPairs (sources : List (List ℕ)) (root text : List ℕ)
   pub translated : IsTranslated sources root schema_text
   pub many : SchemaHasManyPairs schema_text text
 
--- the text can be judged by the root and by the exported schema
+-- ---- what is answered, unless memory runs out
+
+-- there is what `vet` judges, and the document has no more pairs with the rules of the root than a table may have
+pub record IsReadyToVet (sources : List (List ℕ)) (root text : List ℕ) : Type 0 where
+  pub input : VetInput sources root text
+  pub within : ¬ (HasManyPairs input.environment input.name input.document)
+
+-- there is what `validate` judges, and the document has no more pairs with the schema's rules than a table may have
+pub record IsReadyToValidate (schema_text text : List ℕ) : Type 0 where
+  pub input : ValidateInput schema_text text
+  pub within : ¬ (validate.HasManyPairs input.schema input.document)
+
+-- `vet` can judge, and the document has no more pairs with the exported schema's rules than a table may have
 pub record IsReadyToAgree (sources : List (List ℕ)) (root text : List ℕ) : Type 0 where
   pub vetted : IsReadyToVet sources root text
   pub within : ¬ (ExportHasManyPairs sources root text)

@@ -37,12 +37,12 @@ module _ (sources : List (List ℕ)) (root text : List ℕ) where
   by_verdict ready E n declares OutOfMemory h = tt
   by_verdict ready E n declares NotJson h = (ready, h)
   by_verdict ready E n declares NotInteger h = (ready, h)
-  by_verdict ready E n declares TooManyPairs h = (ready, inl (record { environment = E; name = n; declares = declares; document = h.0; read = h.1; many = h.2 }))
+  by_verdict ready E n declares TooManyPairs h = (ready, inl (record { input = record { environment = E; name = n; declares = declares; document = h.0; read = h.1 }; many = h.2 }))
   by_verdict ready E n declares _ h = absurd h
 
 pub returns-in_err-guarded-clause-only : goal.returns-in_err-guarded-clause-only
 returns-in_err-guarded-clause-only c = λ ready.
-    let r = ready.vetted in
+    let r = ready.vetted.input in
     let p = err_from_is_err_and c.from_residual.result c.from_residual.ensures.1 in
     rw (p.1, p.2) (c.in_err-guarded.ensures.only r.environment r.declares.accepted)
 
@@ -54,7 +54,7 @@ returns-in_err-schema-clause-refused c =
 
 pub returns-in_err-schema-clause-only : goal.returns-in_err-schema-clause-only
 returns-in_err-schema-clause-only c = λ ready.
-    let r = ready.vetted in
+    let r = ready.vetted.input in
     let same = one_environment r.declares.accepted c.in_ok-guarded.ensures.accepted in
     let p = err_from_is_err_and c.from_residual-in_err-schema.result c.from_residual-in_err-schema.ensures.1 in
     rw (p.1, p.2) (c.in_err-schema.ensures.only r.name (subst (λ F. Names F c.args.root.now r.name) same r.declares.named))
@@ -74,10 +74,10 @@ returns-in_err-is_instance-clause-refused c =
 
 pub returns-in_err-is_instance-clause-only : goal.returns-in_err-is_instance-clause-only
 returns-in_err-is_instance-clause-only c = λ ready.
-    let r = ready.vetted in
+    let r = ready.vetted.input in
     let same = one_environment r.declares.accepted c.in_ok-guarded.ensures.accepted in
     let p = err_from_is_err_and c.from_residual-in_err-is_instance.result c.from_residual-in_err-is_instance.ensures.1 in
-    rw (p.1, p.2) (c.in_err-is_instance.ensures.only r.name r.document (subst (λ F. Names F c.args.root.now r.name) same r.declares.named) r.read (subst (λ F. ¬ (HasManyPairs F r.name r.document)) same r.within))
+    rw (p.1, p.2) (c.in_err-is_instance.ensures.only r.name r.document (subst (λ F. Names F c.args.root.now r.name) same r.declares.named) r.read (subst (λ F. ¬ (HasManyPairs F r.name r.document)) same ready.vetted.within))
 
 pub returns-in_err-is_valid-clause-refused : goal.returns-in_err-is_valid-clause-refused
 returns-in_err-is_valid-clause-refused c =

@@ -51,11 +51,7 @@ module _ (s t : List ℕ) where
   by_judging : (d x : Document) → Reads s d → IsSchema d → Reads t x → (e : ValidateFault) → judging.IsRefusal e (trim d) x → ValidateRefusal s t (of_validate e)
   by_judging d x read_schema profile read validate.OutOfMemory h = tt
   by_judging d x read_schema profile read validate.TooManyPairs h = record {
-    schema = d;
-    read_schema = read_schema;
-    profile = profile;
-    document = x;
-    read = read;
+    input = record { schema = d; read_schema = read_schema; profile = profile; document = x; read = read };
     many = many_untrimmed d x h;
   }
 

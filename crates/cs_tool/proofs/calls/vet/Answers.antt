@@ -25,24 +25,24 @@ module _ (sources : List (List ℕ)) (root : List ℕ) (E : Environment) where
   by_verdict n text declares OutOfMemory h = tt
   by_verdict n text declares NotJson h = ((E, n, declares), h)
   by_verdict n text declares NotInteger h = ((E, n, declares), h)
-  by_verdict n text declares TooManyPairs h = record { environment = E; name = n; declares = declares; document = h.0; read = h.1; many = h.2 }
+  by_verdict n text declares TooManyPairs h = record { input = record { environment = E; name = n; declares = declares; document = h.0; read = h.1 }; many = h.2 }
   by_verdict n text declares _ h = absurd h
 
   -- the sources declare no other environment
   module _ (accepted : IsAccepted sources E) (text : List ℕ) (r : IsReadyToVet sources root text) where
-    same : r.environment ≡ E
-    same = one_environment r.declares.accepted accepted
+    same : r.input.environment ≡ E
+    same = one_environment r.input.declares.accepted accepted
 
-    declared : Names E root r.name
-    declared = subst (λ F. Names F root r.name) same r.declares.named
+    declared : Names E root r.input.name
+    declared = subst (λ F. Names F root r.input.name) same r.input.declares.named
 
-    within : ¬ (HasManyPairs E r.name r.document)
-    within = subst (λ F. ¬ (HasManyPairs F r.name r.document)) same r.within
+    within : ¬ (HasManyPairs E r.input.name r.input.document)
+    within = subst (λ F. ¬ (HasManyPairs F r.input.name r.input.document)) same r.within
 
 pub returns-in_err-guarded-clause-only : goal.returns-in_err-guarded-clause-only
 returns-in_err-guarded-clause-only c = λ r.
     let p = err_from_is_err_and c.from_residual.result c.from_residual.ensures.1 in
-    rw (p.1, p.2) (c.in_err-guarded.ensures.only r.environment r.declares.accepted)
+    rw (p.1, p.2) (c.in_err-guarded.ensures.only r.input.environment r.input.declares.accepted)
 
 pub returns-then-is_none-clause-only : goal.returns-then-is_none-clause-only
 returns-then-is_none-clause-only c = λ r.
@@ -51,7 +51,7 @@ returns-then-is_none-clause-only c = λ r.
     let root = c.args.root.now in
     let E = c.package.result.now in
     let unknown = none_known c.find.result ((n : List ℕ) → Names E root n → ⊥) c.if-is_none.ensures c.find.ensures.unknown in
-    absurd (unknown r.name (declared sources root E (subst (IsAccepted sources) (sym c.package.ensures.kept) c.in_ok-guarded.ensures.accepted) c.args.doc.now r))
+    absurd (unknown r.input.name (declared sources root E (subst (IsAccepted sources) (sym c.package.ensures.kept) c.in_ok-guarded.ensures.accepted) c.args.doc.now r))
 
 pub returns-clause-found : goal.returns-clause-found
 returns-clause-found c =
@@ -77,4 +77,4 @@ returns-clause-only c = λ r.
     let root = c.args.root.now in
     let E = c.in_ok-guarded.guarded in
     let accepted = c.in_ok-guarded.ensures.accepted in
-    c.verdict.ensures.only r.name r.document (declared sources root E accepted c.args.doc.now r) r.read (within sources root E accepted c.args.doc.now r)
+    c.verdict.ensures.only r.input.name r.input.document (declared sources root E accepted c.args.doc.now r) r.input.read (within sources root E accepted c.args.doc.now r)
