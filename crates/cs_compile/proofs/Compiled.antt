@@ -12,7 +12,8 @@ use Rattle.cs_profile.specs.Validity.{IsValidity}
 use Rattle.cs_compile.specs.Translation.{definition_schema, IsTranslation}
 use Rattle.cs_compile.specs.Definitions.{definition_entries, AreDefinitions}
 use Rattle.cs_profile.specs.Root.{reference_to}
-use Rattle.cs_compile.specs.Whole.{most_depth, Compiles}
+use Rattle.cs_compile.specs.Depth.{most_depth}
+use Rattle.cs_compile.specs.Whole.{Compiles}
 use Rattle.cs_guard.specs.Guarded.{IsGuarded}
 use Rattle.cs_guard.specs.Reachable.{Reaches}
 use Rattle.std.specs.Option.{option_map_or}

@@ -18,7 +18,7 @@ use Rattle.cs_compile.specs.Translation.{schema_of, schemas_of, declared_schemas
 use Rattle.cs_compile.specs.Definitions.{AreDefinitions}
 use Rattle.cs_compile.specs.Grouped.{for_every_key}
 use Rattle.cs_grammar.specs.Limits.{most_height}
-use Rattle.cs_compile.specs.Whole.{most_depth}
+use Rattle.cs_compile.specs.Depth.{most_depth}
 use Rattle.cs_package.specs.Height.{height, height_all, height_fields, height_rest, heights, IsLow}
 use Rattle.cs_compile.proofs.Interval.{by_conjunction, interval-depth}
 use Rattle.cs_compile.proofs.Root.{root_of}

@@ -1,4 +1,5 @@
 pub mod Translation
+pub mod Depth
 pub mod Whole
 -- for contracts of private functions and proofs alone
 pub mod Definitions

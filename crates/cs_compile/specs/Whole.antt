@@ -9,10 +9,7 @@ use Rattle.cs_profile.specs.Keywords.{defined}
 use Rattle.cs_profile.specs.Root.{reference_to}
 use Rattle.cs_profile.specs.SchemaDocument.{SchemaValue, document_of, schema_view}
 use Rattle.cs_profile.specs.Validity.{IsValidity}
-
--- how deep a schema nests whose bodies are no higher than `most_height`: four levels for each level of a body, and two more
-abbrev pub most_depth : ℕ
-most_depth = 114
+use Rattle.cs_compile.specs.Depth.{most_depth}
 
 -- the schema of the environment at its definition n: it refers to that definition, defines just the names that n reaches, and
 -- validates just the instances of n; where no body is too high, it nests no deeper than `most_depth`

@@ -1,4 +1,6 @@
 pub mod Places
 pub mod Low
+pub mod Declared
 pub mod Samples
 pub mod SchemaTexts
+pub mod BothSides

@@ -1,19 +1,17 @@
 -- Texts that are read as schemas: what can't refuse them.
-use Rattle.std.proofs.Common.{◌≡◌, ℕ, Bool, List, Option, Some, None, inl, inr, refl, sym, ap, ap₂, subst, subst₂, ◌∙◌, ◌∷◌}
+use Rattle.std.proofs.Common.{◌≡◌, ℕ, List, Option, Some, None, inl, inr, refl, subst, subst₂}
 use Rattle.std.specs.Option.{IsSome, option_and_then}
 use Rattle.cs_document.specs.Document.{Document}
 use Rattle.cs_doc.specs.Texts.{Reads, IsJson, HasOtherNumber}
-use Rattle.cs_package.specs.Environment.{Environment, Names}
-use Rattle.cs_instance.specs.Instance.{definition, IsInstance}
 use Rattle.cs_profile.specs.Profile.{IsSchema}
 use Rattle.cs_profile.specs.Refusal.{IsRefusal}
-use Rattle.cs_profile.specs.Validity.{IsValidity}
 use Rattle.cs_profile.proofs.Chains.{none_loop}
 use Rattle.cs_profile.specs.declared.fault.SchemaFault.{SchemaFault}
 use Rattle.cs_profile.specs.declared.fault.SchemaFault.TheVariants as schema
 use Rattle.cs_validate.specs.Rules.{HasManyPairs}
-use Rattle.cs_tool.specs.Accepted.{IsAccepted, IsReady}
-use Rattle.cs_tool.specs.Headline.{IsExport, IsVerdict, IsValidated, IsAgreement, IsNoSchema, IsSchemaText, IsReadyToValidate, IsReadyToAgree, SchemaHasManyPairs, ValidateRefusal, AgreeRefusal}
+use Rattle.cs_tool.specs.Headline.{IsExport}
+use Rattle.cs_tool.specs.Ready.{IsReady, VetInput, ValidateInput, SchemaHasManyPairs, IsReadyToValidate, IsReadyToAgree}
+use Rattle.cs_tool.specs.CallRefusals.{IsNoSchema, IsSchemaText, ValidateRefusal, AgreeRefusal}
 use Rattle.cs_tool.specs.Translated.{IsTranslated}
 use Rattle.cs_tool.specs.declared.fault.Fault.{Fault}
 use Rattle.cs_tool.specs.declared.fault.Fault.TheVariants.{OutOfMemory, SchemaNotJson, Keyword, Shape, Reference, Loop, NotJson, NotInteger, TooManyPairs}
@@ -61,12 +59,14 @@ by_document s t is _ h P memory json integer pairs = absurd h
 -- a schema and a document are judged, unless memory runs out
 pub answered : (s t : List ℕ) → IsReadyToValidate s t → (e : Fault) → ValidateRefusal s t e → e ≡ OutOfMemory
 answered s t is e h =
-    by_document s t (record { document = is.schema; read = is.read_schema; profile = is.profile }) e h (λ f. f ≡ OutOfMemory) refl
-    (λ n. absurd (n (is_json t is.document is.read)))
-    (λ other. absurd (no_other t is.document is.read other))
+    let x = is.input in
+    by_document s t (record { document = x.schema; read = x.read_schema; profile = x.profile }) e h (λ f. f ≡ OutOfMemory) refl
+    (λ n. absurd (n (is_json t x.document x.read)))
+    (λ other. absurd (no_other t x.document x.read other))
     (λ many.
-    let same = one_document s many.schema is.schema many.read_schema is.read_schema in
-    let same_document = one_document t many.document is.document many.read is.read in
+    let y = many.input in
+    let same = one_document s y.schema x.schema y.read_schema x.read_schema in
+    let same_document = one_document t y.document x.document y.read x.read in
     absurd (is.within (subst₂ HasManyPairs same same_document many.many)))
 
 module _ (sources : List (List ℕ)) (root schema_text : List ℕ) (exported : IsExport sources root schema_text) (translated : IsTranslated sources root schema_text) where
@@ -76,26 +76,24 @@ module _ (sources : List (List ℕ)) (root schema_text : List ℕ) (exported : I
   pub is_ready : IsReady sources root
   is_ready = (exported.environment, exported.name, exported.declares)
 
-  -- a text that can be judged by both can be judged by the exported text
-  pub is_ready_to_validate : (t : List ℕ) → IsReadyToAgree sources root t → IsReadyToValidate schema_text t
-  is_ready_to_validate t ready = record {
+  input : (t : List ℕ) → VetInput sources root t → ValidateInput schema_text t
+  input t x = record {
     schema = exported.schema;
     read_schema = exported.read;
     profile = exported.profile;
-    document = ready.vetted.document;
-    read = ready.vetted.read;
+    document = x.document;
+    read = x.read;
+  }
+
+  -- a text that can be judged by both can be judged by the exported text
+  pub is_ready_to_validate : (t : List ℕ) → IsReadyToAgree sources root t → IsReadyToValidate schema_text t
+  is_ready_to_validate t ready = record {
+    input = input t ready.vetted.input;
     within = λ many. ready.within (record {
       schema_text = schema_text;
       exported = exported;
       translated = translated;
-      many = record {
-        schema = exported.schema;
-        read_schema = exported.read;
-        profile = exported.profile;
-        document = ready.vetted.document;
-        read = ready.vetted.read;
-        many = many;
-      };
+      many = record { input = input t ready.vetted.input; many = many };
     });
   }
 
@@ -104,34 +102,3 @@ module _ (sources : List (List ℕ)) (root schema_text : List ℕ) (exported : I
   refused t e h =
       by_document schema_text t is_schema_text e h (AgreeRefusal sources root t) tt (λ n. (is_ready, n)) (λ other. (is_ready, other))
       (λ many. (is_ready, inr (record { schema_text = schema_text; exported = exported; translated = translated; many = many })))
-
-bare_once : (n m : List ℕ) → (35 ∷ n) ≡ (35 ∷ m) → n ≡ m
-bare_once n m e = cc
-
-pub one_name : (E : Environment) (root n m : List ℕ) → Names E root n → Names E root m → n ≡ m
-one_name E root n m a b = bare_once n m (sym a.text ∙ b.text)
-
--- both sides answer the same
-module _ (sources : List (List ℕ)) (root text schema_text : List ℕ) (E : Environment) (one : (F : Environment) → IsAccepted sources F → E ≡ F)
-    (exported : IsExport sources root schema_text) (a b : Bool) (verdict : IsVerdict sources root text a) (validated : IsValidated schema_text text b) where
-  same_environment : exported.environment ≡ verdict.environment
-  same_environment = sym (one exported.environment exported.declares.accepted) ∙ one verdict.environment verdict.declares.accepted
-
-  same_name : exported.name ≡ verdict.name
-  same_name = one_name verdict.environment root exported.name verdict.name (subst (λ F. Names F root exported.name) same_environment exported.declares.named) verdict.declares.named
-
-  pub same_answer : a ≡ b
-  same_answer =
-      let I = exported.one_instance.some.0 in
-      let is_I = exported.one_instance.some.1 in
-      let V = exported.one_validity.some.0 in
-      let is_V = exported.one_validity.some.1 in
-      let x = verdict.document in
-      let schema_is = one_document schema_text exported.schema validated.schema exported.read validated.read_schema in
-      let x_is = one_document text x validated.document verdict.read validated.read in
-      let judged : b ≡ V exported.schema x = validated.holds V (subst (λ s. IsValidity s V) schema_is is_V) ∙ ap₂ V (sym schema_is) (sym x_is) in
-      let held : a ≡ I (definition exported.name) x = verdict.holds I (subst (λ F. IsInstance F I) same_environment is_I) ∙ ap (λ n. I (definition n) x) (sym same_name) in
-      held ∙ sym (exported.admits V I is_V is_I x verdict.proper) ∙ sym judged
-
-  pub agreement : IsTranslated sources root schema_text → IsAgreement sources root text a
-  agreement translated = record { verdict = verdict; schema_text = schema_text; exported = exported; translated = translated; validated = subst (IsValidated schema_text text) (sym same_answer) validated }

@@ -1,21 +1,12 @@
--- Which sources are accepted, and the first condition that sources and a root fail (own rules; the grammar is that of
--- the CUE language specification, "Source file organization").
-use Rattle.std.specs.Prelude.{◌≡◌, ◌⊎◌, ℕ, ◌<◌, ◌≤◌, List, [], ◌∷◌, length, take, sum_by, Some, slice_get, IsUtf8}
+-- Which sources are accepted, and what they declare (own rules; the grammar is that of the CUE language specification,
+-- "Source file organization").
+use Rattle.std.specs.Prelude.{◌≡◌, ℕ, ◌≤◌, List, [], ◌∷◌, length, sum_by, IsUtf8}
 use Rattle.std.specs.List.{AllByRecursion}
 use Rattle.cs_grammar.specs.Tree.{FileTree}
 use Rattle.cs_syntax.specs.Answer.{IsSpelled}
-use Rattle.cs_syntax.specs.Refusal.{IsFileRefusal}
-use Rattle.cs_grammar.specs.declared.fault.SyntaxFault.{SyntaxFault}
 use Rattle.cs_package.specs.Environment.{Environment, Names}
-use Rattle.cs_resolve.specs.Resolved as resolve
 use Rattle.cs_resolve.specs.Resolved.{environment_of_files, IsPackage}
-use Rattle.cs_resolve.specs.declared.fault.ResolveFault.{ResolveFault}
-use Rattle.cs_guard.specs.Cycles as guard
 use Rattle.cs_guard.specs.Guarded.{IsGuarded}
-use Rattle.cs_guard.specs.declared.fault.GuardFault.{GuardFault}
-use Rattle.cs_tool.specs.declared.fault.Fault.{Fault}
-use Rattle.cs_tool.specs.declared.fault.Fault.TheVariants.{SourcesTooLong, NotUtf8, NoToken, Syntax, LeftOut, IntegerRange, TooHigh, PackageName, UnknownName, FieldReference, NotOpened, Cycle, UnknownRoot, TooLarge, OutOfMemory, ChainTooLong}
-use Rattle.cs_tool.specs.Conversions.{of_syntax, of_resolve, of_guard}
 
 -- the bytes that the sources of a call may have together, and those that they have
 abbrev pub most_bytes : ℕ
@@ -49,95 +40,3 @@ pub record IsAccepted (sources : List (List ℕ)) (E : Environment) : Type 0 whe
 pub record DeclaresRoot (sources : List (List ℕ)) (root : List ℕ) (E : Environment) (n : List ℕ) : Type 0 where
   pub accepted : IsAccepted sources E
   pub named : Names E root n
-
--- the sources declare the root
-abbrev pub IsReady : List (List ℕ) → List ℕ → Type 0
-IsReady sources root = (E : Environment) × (n : List ℕ) × DeclaresRoot sources root E n
-
--- ---- each condition, where it is the first that fails
-
--- the source of that number is no UTF-8, and those before it are
-pub record IsFirstOther (sources : List (List ℕ)) (number : ℕ) : Type 0 where
-  pub source : List ℕ
-  pub there : slice_get sources number ≡ Some source
-  pub other : ¬ (IsUtf8 source)
-  pub before : AllByRecursion IsUtf8 (take number sources)
-
--- a source spells no file, and that is its fault; those before it spell files
-pub record IsFirstMisspelled (sources : List (List ℕ)) (f : Fault) : Type 0 where
-  pub number : ℕ
-  pub source : List ℕ
-  pub there : slice_get sources number ≡ Some source
-  pub files : List FileTree
-  pub before : AreFiles (take number sources) files
-  pub fault : SyntaxFault
-  pub refused : IsFileRefusal source fault
-  pub told : f ≡ of_syntax number fault
-
--- the sources are texts of which one spells no file
-pub record IsMisspelled (sources : List (List ℕ)) (f : Fault) : Type 0 where
-  pub texts : AreTexts sources
-  pub first : IsFirstMisspelled sources f
-
--- the sources spell files, and that is why these are no package
-pub record IsNoPackage (sources : List (List ℕ)) (f : Fault) : Type 0 where
-  pub texts : AreTexts sources
-  pub files : List FileTree
-  pub spelled : AreFiles sources files
-  pub fault : ResolveFault
-  pub refused : resolve.IsRefusal fault files
-  pub told : f ≡ of_resolve fault
-
--- the sources are a package, and that is why its recursion isn't guarded
-pub record IsUnguarded (sources : List (List ℕ)) (f : Fault) : Type 0 where
-  pub texts : AreTexts sources
-  pub files : List FileTree
-  pub spelled : AreFiles sources files
-  pub one_package : IsPackage files
-  pub fault : GuardFault
-  pub refused : guard.IsRefusal fault (environment_of_files files)
-  pub told : f ≡ of_guard fault
-
--- the sources are accepted, and don't declare the root
-pub record IsUnknownRoot (sources : List (List ℕ)) (root : List ℕ) : Type 0 where
-  pub environment : Environment
-  pub accepted : IsAccepted sources environment
-  pub unknown : (n : List ℕ) → ¬ (Names environment root n)
-
--- the fault tells the first condition that the sources fail, whatever the root is
-abbrev pub SourcesFault : List (List ℕ) → Fault → Type 0
-SourcesFault sources SourcesTooLong = most_bytes < bytes_of sources
-SourcesFault sources (NotUtf8 number) = (bytes_of sources ≤ most_bytes) × IsFirstOther sources number
-SourcesFault sources (NoToken number offset) = IsMisspelled sources (NoToken number offset)
-SourcesFault sources (Syntax number offset) = IsMisspelled sources (Syntax number offset)
-SourcesFault sources (IntegerRange number offset) = IsMisspelled sources (IntegerRange number offset)
-SourcesFault sources (TooHigh number) = IsMisspelled sources (TooHigh number)
-SourcesFault sources (LeftOut number offset) = IsMisspelled sources (LeftOut number offset)
-SourcesFault sources (PackageName number) = IsNoPackage sources (PackageName number)
-SourcesFault sources TooLarge = IsNoPackage sources TooLarge
-SourcesFault sources (UnknownName number offset) = IsNoPackage sources (UnknownName number offset)
-SourcesFault sources (FieldReference number offset) = IsNoPackage sources (FieldReference number offset)
-SourcesFault sources (NotOpened number offset) = IsNoPackage sources (NotOpened number offset)
-SourcesFault sources (Cycle names) = IsUnguarded sources (Cycle names)
-SourcesFault sources ChainTooLong = IsUnguarded sources ChainTooLong
-SourcesFault sources _ = ⊥
-
--- the fault tells the first condition that the sources and the root fail: the root comes after the sources
-abbrev pub First : List (List ℕ) → List ℕ → Fault → Type 0
-First sources root f = SourcesFault sources f ⊎ ((f ≡ UnknownRoot) × IsUnknownRoot sources root)
-
--- ---- the parts, where memory may run out at any time; for private contracts alone
-
-abbrev pub TextsRefusal : List (List ℕ) → Fault → Type 0
-TextsRefusal sources OutOfMemory = Unit {0}
-TextsRefusal sources (NotUtf8 number) = IsFirstOther sources number
-TextsRefusal sources _ = ⊥
-
-abbrev pub FilesRefusal : List (List ℕ) → Fault → Type 0
-FilesRefusal sources OutOfMemory = Unit {0}
-FilesRefusal sources f = IsFirstMisspelled sources f
-
--- the refusals of the sources, whatever the root is
-abbrev pub SourcesRefusal : List (List ℕ) → Fault → Type 0
-SourcesRefusal sources OutOfMemory = Unit {0}
-SourcesRefusal sources f = SourcesFault sources f

@@ -1,8 +1,12 @@
+pub mod Accepted
+pub mod Headline
+pub mod Translated
+pub mod Agreement
 pub mod Refusals
 pub mod Conversions
-pub mod Accepted
-pub mod Translated
-pub mod Headline
+pub mod First
+pub mod Ready
+pub mod CallRefusals
 pub mod Streams
 pub mod Runs
 -- for contracts of private functions and proofs alone

@@ -6,8 +6,11 @@ use Rattle.cs_tool.specs.declared.fault.Fault.{Fault}
 use Rattle.cs_tool.specs.declared.fault.Fault.TheVariants.{OutOfMemory, SourcesTooLong, InputTooLong, ReadFailed, WriteFailed}
 use Rattle.cs_tool.specs.declared.request.Request.{Request}
 use Rattle.cs_tool.specs.declared.request.Request.TheVariants.{Export, Vet, Validate, Agree}
-use Rattle.cs_tool.specs.Accepted.{most_bytes, IsReady}
-use Rattle.cs_tool.specs.Headline.{IsExport, IsVerdict, IsValidated, IsAgreement, IsReadyToVet, IsReadyToValidate, IsReadyToAgree, ExportRefusal, VetRefusal, ValidateRefusal, AgreeRefusal}
+use Rattle.cs_tool.specs.Accepted.{most_bytes}
+use Rattle.cs_tool.specs.Headline.{IsExport, IsVerdict, IsValidated}
+use Rattle.cs_tool.specs.Agreement.{IsAgreement}
+use Rattle.cs_tool.specs.Ready.{IsReady, IsReadyToVet, IsReadyToValidate, IsReadyToAgree}
+use Rattle.cs_tool.specs.CallRefusals.{ExportRefusal, VetRefusal, ValidateRefusal, AgreeRefusal}
 use Rattle.cs_tool.specs.Streams.{IsWholeInput, IsLonger, AppendsFront}
 
 -- ---- the call that a request makes

@@ -3,14 +3,17 @@ ghost use Rattle.std.specs.Prelude.{◌≡◌, ℕ, ◌≤◌, List, IfOk, IfErr
 ghost use Rattle.cs_document.specs.Document.{Document, depth};
 ghost use Rattle.cs_doc.specs.Texts.{Reads, text_of};
 ghost use Rattle.cs_document.specs.View.{doc_view};
-ghost use Rattle.cs_package.specs.Environment.{Environment, Names};
+ghost use Rattle.cs_package.specs.Environment.{Names};
 ghost use Rattle.cs_instance.specs.Rules.{HasManyPairs};
 ghost use Rattle.cs_schema.specs.Profile.{IsSchema};
 ghost use Rattle.cs_schema.specs.SchemaDocument.{document_of};
 ghost use Rattle.cs_schema.specs.Trim.{trim};
-ghost use Rattle.cs_tool.specs.Accepted.{IsAccepted, IsReady};
+ghost use Rattle.cs_tool.specs.Accepted.{IsAccepted};
+ghost use Rattle.cs_tool.specs.Headline.{IsExport, IsVerdict, IsValidated};
 ghost use Rattle.cs_tool.specs.Translated.{IsTranslated};
-ghost use Rattle.cs_tool.specs.Headline.{IsExport, IsVerdict, IsValidated, IsAgreement, IsReadyToVet, IsReadyToValidate, IsReadyToAgree, ExportRefusal, VetRefusal, ValidateRefusal, AgreeRefusal, VerdictRefusal, SchemaTextRefusal};
+ghost use Rattle.cs_tool.specs.Agreement.{IsAgreement};
+ghost use Rattle.cs_tool.specs.Ready.{IsReady, IsReadyToVet, IsReadyToValidate, IsReadyToAgree};
+ghost use Rattle.cs_tool.specs.CallRefusals.{ExportRefusal, VetRefusal, ValidateRefusal, AgreeRefusal, VerdictRefusal, SchemaTextRefusal};
 
 use crate::Fault;
 use crate::packages::package_of;
@@ -26,7 +29,7 @@ use std::alloc::Global;
 /// without a newline. The root is named with its `#`.
 ///
 /// A refusal reports the first condition that the sources and the root fail, in the order of `First`
-/// (`specs/Accepted.antt`).
+/// (`specs/First.antt`).
 pub fn export(alloc: Global, sources: &[&[u8]], root: &str) -> Result<Vec<u8>, Fault>
     ensures found { IfOk result
         (λ text. IsExport (map (λ s. s.now) sources.now) root.now text.items) }
@@ -43,8 +46,8 @@ pub fn export(alloc: Global, sources: &[&[u8]], root: &str) -> Result<Vec<u8>, F
 fn exported(alloc: Global, guarded: &Guarded, root: &str) -> Result<Vec<u8>, Fault>
     ensures found { (sources : List (List ℕ)) → IsAccepted sources guarded.now
         → IfOk result (λ text. IsExport sources root.now text.items) }
-    ensures translated { (sources : List (List ℕ)) → ((E : Environment) → IsAccepted sources E → guarded.now ≡ E)
-        → IsAccepted sources guarded.now → IfOk result (λ text. IsTranslated sources root.now text.items) }
+    ensures translated { (sources : List (List ℕ)) → IsAccepted sources guarded.now
+        → IfOk result (λ text. IsTranslated sources root.now text.items) }
     ensures refused { (sources : List (List ℕ)) → IsAccepted sources guarded.now
         → IfErr result (λ e. ExportRefusal sources root.now e) }
     ensures only { (n : List ℕ) → Names guarded.now root.now n → IsOkUnless result Fault.OutOfMemory }
@@ -69,7 +72,7 @@ fn text_of_schema(alloc: Global, schema: &SchemaDoc) -> Result<Vec<u8>, Fault>
 
 /// Whether the document is an instance of the root definition of the sources.
 ///
-/// Refusals in order: the first condition that the sources and the root fail, as `First` has them (`specs/Accepted.antt`);
+/// Refusals in order: the first condition that the sources and the root fail, as `First` has them (`specs/First.antt`);
 /// `NotJson` and `NotInteger`, of the document; then `TooManyPairs`, of the document and the rules of the root.
 pub fn vet(alloc: Global, sources: &[&[u8]], root: &str, doc: &[u8]) -> Result<bool, Fault>
     ensures found { IfOk result

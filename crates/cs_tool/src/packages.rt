@@ -4,7 +4,8 @@ ghost use Rattle.std.specs.List.{AllByRecursion};
 ghost use Rattle.cs_grammar.specs.Tree.{FileTree};
 ghost use Rattle.cs_grammar.specs.View.{file_view};
 ghost use Rattle.cs_package.specs.Environment.{Environment};
-ghost use Rattle.cs_tool.specs.Accepted.{most_bytes, bytes_of, AreFiles, IsAccepted, SourcesRefusal, TextsRefusal, FilesRefusal};
+ghost use Rattle.cs_tool.specs.Accepted.{most_bytes, bytes_of, AreFiles, IsAccepted};
+ghost use Rattle.cs_tool.specs.First.{SourcesRefusal, TextsRefusal, FilesRefusal};
 
 use crate::Fault;
 use crate::conversions::of_syntax;
@@ -17,12 +18,11 @@ use std::alloc::Global;
 pub const MOST_BYTES: usize = 1_048_576;
 
 /// The guarded package that the sources spell. A refusal reports the first condition that they fail, in the order of
-/// `SourcesFault` (`specs/Accepted.antt`).
+/// `SourcesFault` (`specs/First.antt`).
 pub(crate) fn package_of(alloc: Global, sources: &[&[u8]]) -> Result<Guarded, Fault>
     ensures accepted { IfOk result (λ g. IsAccepted (map (λ s. s.now) sources.now) g) }
     ensures refused { IfErr result (λ e. SourcesRefusal (map (λ s. s.now) sources.now) e) }
     ensures only { (E : Environment) → IsAccepted (map (λ s. s.now) sources.now) E → IsOkUnless result Fault.OutOfMemory }
-    ensures unique { (E : Environment) → IsAccepted (map (λ s. s.now) sources.now) E → IfOk result (λ g. g ≡ E) }
 {
     if !fits(sources) {
         return Err(Fault::SourcesTooLong);
@@ -38,8 +38,6 @@ fn files_of(alloc: Global, texts: &[&str]) -> Result<Vec<File>, Fault>
     ensures spelled { IfOk result (λ v. AreFiles (map (λ t. t.now) texts.now) (map file_view v.items)) }
     ensures refused { IfErr result (λ e. FilesRefusal (map (λ t. t.now) texts.now) e) }
     ensures only { (fs : List FileTree) → AreFiles (map (λ t. t.now) texts.now) fs → IsOkUnless result Fault.OutOfMemory }
-    ensures unique { (fs : List FileTree) → AreFiles (map (λ t. t.now) texts.now) fs
-        → IfOk result (λ v. map file_view v.items ≡ fs) }
 {
     let mut files = Vec::with_capacity(alloc, texts.len())?;
     for (number, text) in texts.iter().enumerate() {

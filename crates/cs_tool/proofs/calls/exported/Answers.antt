@@ -13,6 +13,8 @@ use Rattle.cs_tool.specs.Translated.{IsTranslated}
 use Rattle.cs_tool.specs.Accepted.{IsAccepted}
 use Rattle.cs_tool.specs.Headline.{IsExport}
 use Rattle.cs_tool.proofs.Low.{low_files}
+use Rattle.cs_tool.proofs.Declared.{one_environment}
+use Rattle.cs_tool.proofs.SchemaTexts.{one_document}
 use Rattle.cs_tool.proofs.calls.exported.Goals as goal
 
 low : (sources : List (List ℕ)) (E : Environment) → IsAccepted sources E → IsLow E
@@ -44,18 +46,18 @@ returns-clause-found c = λ sources accepted.
     }) c.text_of_schema.ensures.found
 
 -- what the text is read as is the one schema, and the sources declare the one environment
-translation : (sources : List (List ℕ)) (root text : List ℕ) (E : Environment) (schema : Document) → ((F : Environment) → IsAccepted sources F → E ≡ F) → Reads text schema
+translation : (sources : List (List ℕ)) (root text : List ℕ) (E : Environment) (schema : Document) → IsAccepted sources E → Reads text schema
     → ((n : List ℕ) → Names E root n → IsTranslation E n schema) → IsTranslated sources root text
-translation sources root text E schema one read is F n read_as declares reads =
-    let same : schema ≡ read_as = cc (read.1, reads.1) in
-    let there = one F declares.accepted in
+translation sources root text E schema accepted read is F n read_as declares reads =
+    let same = one_document text schema read_as read reads in
+    let there = one_environment accepted declares.accepted in
     subst₂ (λ G d. IsTranslation G n d) there same (is n (subst (λ G. Names G root n) (sym there) declares.named))
 
 pub returns-clause-translated : goal.returns-clause-translated
-returns-clause-translated c = λ sources one accepted.
+returns-clause-translated c = λ sources accepted.
     let schema = document_of c.in_ok-schema.schema in
     let nested = c.in_ok-schema.ensures.found.2.nested (low _ _ accepted) in
     IfOk-weaker _ (λ (v : Vec ℕ Global). (v.items ≡ text_of schema) × (depth schema ≤ 127 → Reads v.items schema))
     (λ (v : Vec ℕ Global). IsTranslated sources c.args.root.now v.items)
-    (λ v h. translation sources c.args.root.now v.items c.args.guarded.now schema one (h.1 (omega (arith, nested))) c.in_ok-schema.ensures.translated)
+    (λ v h. translation sources c.args.root.now v.items c.args.guarded.now schema accepted (h.1 (omega (arith, nested))) c.in_ok-schema.ensures.translated)
     c.text_of_schema.ensures.found

@@ -17,7 +17,7 @@ use Rattle.cs_validate.proofs.Trimmed.{many_trimmed, many_untrimmed}
 use Rattle.cs_validate.specs.declared.fault.ValidateFault.{ValidateFault}
 use Rattle.cs_validate.specs.declared.fault.ValidateFault.TheVariants as validate
 use Rattle.cs_tool.specs.Conversions.{of_document, of_schema, of_validate}
-use Rattle.cs_tool.specs.Headline.{IsSchemaText, SchemaTextRefusal, ValidateRefusal}
+use Rattle.cs_tool.specs.CallRefusals.{IsSchemaText, SchemaTextRefusal, ValidateRefusal}
 use Rattle.cs_tool.specs.declared.fault.Fault.{Fault}
 use Rattle.cs_tool.specs.declared.fault.Fault.TheVariants.{OutOfMemory, SchemaNotJson, NotInteger}
 use Rattle.cs_tool.proofs.SchemaTexts.{answered}
@@ -51,11 +51,7 @@ module _ (s t : List ℕ) where
   by_judging : (d x : Document) → Reads s d → IsSchema d → Reads t x → (e : ValidateFault) → judging.IsRefusal e (trim d) x → ValidateRefusal s t (of_validate e)
   by_judging d x read_schema profile read validate.OutOfMemory h = tt
   by_judging d x read_schema profile read validate.TooManyPairs h = record {
-    schema = d;
-    read_schema = read_schema;
-    profile = profile;
-    document = x;
-    read = read;
+    input = record { schema = d; read_schema = read_schema; profile = profile; document = x; read = read };
     many = many_untrimmed d x h;
   }
 
@@ -137,6 +133,7 @@ returns-clause-found c =
       profile = schema.accepted;
       document = document;
       read = c.in_ok-doc.ensures.found;
+      proper = c.in_ok-doc.ensures.document;
       within = λ many. c.in_ok-is_valid.ensures.within (subst (λ R. HasManyPairs R document) (sym schema.found) (many_trimmed (doc_view c.in_ok-schema_text.field-0) document many));
       one_validity = schema.one_meaning;
       holds = untrimmed (doc_view c.in_ok-schema_text.field-0) document answer one schema.meaning judged;

@@ -11,9 +11,10 @@ use Rattle.cs_instance.specs.Refusal.{IsRefusal}
 use Rattle.cs_instance.specs.declared.fault.InstanceFault.{InstanceFault}
 use Rattle.cs_instance.specs.declared.fault.InstanceFault.TheVariants as instance
 use Rattle.cs_tool.specs.Conversions.{of_document, of_instance}
-use Rattle.cs_tool.specs.Headline.{VerdictRefusal}
+use Rattle.cs_tool.specs.CallRefusals.{VerdictRefusal}
 use Rattle.cs_tool.specs.declared.fault.Fault.TheVariants.{OutOfMemory}
-use Rattle.cs_tool.proofs.SchemaTexts.{one_document, one_name}
+use Rattle.cs_tool.proofs.Declared.{one_name}
+use Rattle.cs_tool.proofs.SchemaTexts.{one_document}
 use Rattle.cs_tool.proofs.calls.verdict.Goals as goal
 
 module _ (E : Environment) (n text : List ℕ) where

@@ -7,7 +7,8 @@ use Rattle.cs_syntax.specs.Answer.{IsSpelled}
 use Rattle.cs_syntax.specs.Refusal.{IsFileRefusal}
 use Rattle.cs_grammar.specs.declared.fault.SyntaxFault.{SyntaxFault}
 use Rattle.cs_grammar.specs.declared.fault.SyntaxFault.TheVariants as syntax
-use Rattle.cs_tool.specs.Accepted.{AreFiles, IsFirstMisspelled, FilesRefusal}
+use Rattle.cs_tool.specs.Accepted.{AreFiles}
+use Rattle.cs_tool.specs.First.{IsFirstMisspelled, FilesRefusal}
 use Rattle.cs_tool.specs.Conversions.{of_syntax}
 use Rattle.cs_tool.specs.declared.fault.Fault.{Fault}
 use Rattle.cs_tool.specs.declared.fault.Fault.TheVariants.{OutOfMemory}
@@ -19,21 +20,6 @@ files_push [] [] s f before here = (here, tt)
 files_push [] (g ∷ fs) s f before here = absurd before
 files_push (t ∷ ss) [] s f before here = absurd before
 files_push (t ∷ ss) (g ∷ fs) s f before here = (before.0, files_push ss fs s f before.1 here)
-
--- the files of all but the last, and the last
-record Split (ss : List (List ℕ)) (s : List ℕ) (fs : List FileTree) : Type 0 where
-  front : List FileTree
-  last : FileTree
-  is : fs ≡ front ++ last ∷ []
-  before : AreFiles ss front
-  here : IsSpelled s last
-
-split : (ss : List (List ℕ)) (s : List ℕ) (fs : List FileTree) → AreFiles (ss ++ s ∷ []) fs → Split ss s fs
-split [] s [] h = absurd h
-split [] s (f ∷ []) h = record { front = []; last = f; is = refl; before = tt; here = h.0 }
-split [] s (f ∷ g ∷ fs) h = absurd h.1
-split (t ∷ ss) s [] h = absurd h
-split (t ∷ ss) s (f ∷ fs) h = let e = split ss s fs h.1 in record { front = f ∷ e.front; last = e.last; is = ap (λ gs. f ∷ gs) e.is; before = (h.0, e.before); here = e.here }
 
 -- where all spell files, each one does
 spells : (ss : List (List ℕ)) (fs : List FileTree) (i : ℕ) (d : List ℕ) → i < length ss → AreFiles ss fs → (f : FileTree) × IsSpelled (get_or ss i d) f
@@ -63,16 +49,11 @@ module _ {X : Type 0} (now : X → List ℕ) (xs : List X) (i : ℕ) (d : X) (lt
   files_more : (fs : List FileTree) (f : FileTree) → AreFiles (take i (map now xs)) fs → IsSpelled (now (get_or xs i d)) f → AreFiles (take (i + 1) (map now xs)) (fs ++ f ∷ [])
   files_more fs f before here = subst (λ ss. AreFiles ss (fs ++ f ∷ [])) (sym (one_more now xs i d lt)) (files_push (take i (map now xs)) fs (now (get_or xs i d)) f before here)
 
-  one_file_more : (fs : List FileTree) (f : FileTree) → ((gs : List FileTree) → AreFiles (take i (map now xs)) gs → fs ≡ gs) → ((g : FileTree) → IsSpelled (now (get_or xs i d)) g → f ≡ g) → (gs : List FileTree) → AreFiles (take (i + 1) (map now xs)) gs → fs ++ f ∷ [] ≡ gs
-  one_file_more fs f before here gs all =
-      let e = split (take i (map now xs)) (now (get_or xs i d)) gs (subst (λ ss. AreFiles ss gs) (one_more now xs i d lt) all) in
-      ap (λ hs. hs ++ f ∷ []) (before e.front e.before) ∙ ap (λ g. e.front ++ g ∷ []) (here e.last e.here) ∙ sym e.is
-
 pub returns-in-Err-clause-refused : goal.returns-in-Err-clause-refused
 returns-in-Err-clause-refused c =
     let now : Bor (List ℕ) → List ℕ = λ t. t.now in
     let none : Bor (List ℕ) = record { ref_ptr = (0, 0); now = [] } in
-    subst (FilesRefusal (map now c.args.texts.now)) (sym c.of_syntax.ensures) (first_misspelled now c.args.texts.now c.loop-number.number none c.loop-number-test.true _ c.loop-number.invariant.spelled c.in-Err.fault c.in-Err.ensures.refused)
+    subst (FilesRefusal (map now c.args.texts.now)) (sym c.of_syntax.ensures) (first_misspelled now c.args.texts.now c.loop-number.number none c.loop-number-test.true _ c.loop-number.invariant c.in-Err.fault c.in-Err.ensures.refused)
 
 pub returns-in-Err-clause-only : goal.returns-in-Err-clause-only
 returns-in-Err-clause-only c = λ fs all.
@@ -86,7 +67,5 @@ loop-number-preserved c =
     let none : Bor (List ℕ) = record { ref_ptr = (0, 0); now = [] } in
     let files = c.loop-number.files.items in
     let f = file_view c.in-Ok.file in
-    let pushed = ap (map file_view) c.in_ok-push-in-Ok.ensures.items ∙ map-append file_view files (c.in-Ok.file ∷ []) in record {
-      spelled = subst (AreFiles _) (sym pushed) (files_more now c.args.texts.now c.loop-number.number none c.loop-number-test.true (map file_view files) f c.loop-number.invariant.spelled c.in-Ok.ensures.found);
-      one = λ gs all. pushed ∙ one_file_more now c.args.texts.now c.loop-number.number none c.loop-number-test.true (map file_view files) f c.loop-number.invariant.one c.in-Ok.ensures.only gs all;
-    }
+    let pushed = ap (map file_view) c.in_ok-push-in-Ok.ensures.items ∙ map-append file_view files (c.in-Ok.file ∷ []) in
+    subst (AreFiles _) (sym pushed) (files_more now c.args.texts.now c.loop-number.number none c.loop-number-test.true (map file_view files) f c.loop-number.invariant c.in-Ok.ensures.found)

@@ -11,9 +11,11 @@ use Rattle.cs_guard.specs.Cycles.{IsRefusal}
 use Rattle.cs_guard.specs.Guarded.{IsGuarded}
 use Rattle.cs_guard.specs.declared.fault.GuardFault.{GuardFault}
 use Rattle.cs_guard.specs.declared.fault.GuardFault.TheVariants as guard
-use Rattle.cs_tool.specs.Accepted.{AreTexts, AreFiles, IsAccepted, IsUnguarded, SourcesRefusal}
-use Rattle.cs_tool.specs.Conversions.{of_guard}
+use Rattle.cs_tool.specs.Accepted.{AreTexts, AreFiles, IsAccepted}
+use Rattle.cs_tool.specs.First.{IsUnguarded, SourcesRefusal}
+use Rattle.cs_tool.specs.Conversions.{of_resolve, of_guard}
 use Rattle.cs_tool.specs.declared.fault.Fault.{Fault}
+use Rattle.cs_tool.proofs.Declared.{one_files}
 use Rattle.cs_tool.proofs.packages.package_of.Goals as goal
 
 each_spelled : (ss : List (List ℕ)) (fs : List FileTree) → AreFiles ss fs → AllByRecursion (λ f. (t : List ℕ) × IsSpelledBy t f) fs
@@ -41,6 +43,17 @@ module _ (sources : List (List ℕ)) (texts : AreTexts sources) (files : List Fi
   by_guard (guard.Cycle names) h = unguarded _ (guard.Cycle names) refl h
   by_guard guard.ChainTooLong h = unguarded _ guard.ChainTooLong refl h
 
+-- what is accepted has the files that the sources spell
+module _ (sources : List (List ℕ)) (files : List FileTree) (spelled : AreFiles sources files) (E : Environment) (accepted : IsAccepted sources E) where
+  same_files : accepted.files ≡ files
+  same_files = one_files sources accepted.files files accepted.spelled spelled
+
+  are_package : IsPackage files
+  are_package = subst IsPackage same_files accepted.one_package
+
+  is_guarded : IsGuarded (environment_of_files files)
+  is_guarded = subst IsGuarded (accepted.declares ∙ ap environment_of_files same_files) accepted.guarded
+
 pub resolve-requires : goal.resolve-requires
 resolve-requires c = All-from_recursion _ _ (each_spelled _ (map file_view c.in_ok-files.files.items) c.in_ok-files.ensures.spelled)
 
@@ -56,6 +69,27 @@ returns-in_err-package-clause-refused c =
     let refused = subst (IsRefusal e) c.in_ok-resolve.ensures.found c.in_err-package.ensures.refused in
     let p = err_from_is_err_and c.from_residual-in_err-package.result c.from_residual-in_err-package.ensures.1 in
     rw (p.1, p.2) (by_guard sources texts files spelled c.in_ok-resolve.ensures.accepted e refused)
+
+pub returns-in_err-resolve-clause-only : goal.returns-in_err-resolve-clause-only
+returns-in_err-resolve-clause-only c = λ E accepted.
+    let now : Bor (List ℕ) → List ℕ = λ s. s.now in
+    let sources = map now c.args.sources.now in
+    let files = map file_view c.in_ok-files.files.items in
+    let same = ap (map now) c.deref.ensures.value ∙ c.in_ok-texts.ensures.texts in
+    let spelled = subst (λ ss. AreFiles ss files) same c.in_ok-files.ensures.spelled in
+    let p = err_from_is_err_and c.from_residual-in_err-resolve.result c.from_residual-in_err-resolve.ensures.1 in
+    rw (p.1, p.2) (ap of_resolve (c.in_err-resolve.ensures.only (are_package sources files spelled E accepted)))
+
+pub returns-in_err-package-clause-only : goal.returns-in_err-package-clause-only
+returns-in_err-package-clause-only c = λ E accepted.
+    let now : Bor (List ℕ) → List ℕ = λ s. s.now in
+    let sources = map now c.args.sources.now in
+    let files = map file_view c.in_ok-files.files.items in
+    let same = ap (map now) c.deref.ensures.value ∙ c.in_ok-texts.ensures.texts in
+    let spelled = subst (λ ss. AreFiles ss files) same c.in_ok-files.ensures.spelled in
+    let guarded = subst IsGuarded (sym c.in_ok-resolve.ensures.found) (is_guarded sources files spelled E accepted) in
+    let p = err_from_is_err_and c.from_residual-in_err-package.result c.from_residual-in_err-package.ensures.1 in
+    rw (p.1, p.2) (ap of_guard (c.in_err-package.ensures.only guarded))
 
 pub returns-clause-accepted : goal.returns-clause-accepted
 returns-clause-accepted c =

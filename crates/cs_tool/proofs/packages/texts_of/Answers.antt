@@ -2,7 +2,7 @@ use Rattle.std.proofs.Common.{◌≡◌, ℕ, zero, suc, ◌+◌, ◌<◌, List,
 use Rattle.std.specs.Prelude.{IsUtf8}
 use Rattle.std.specs.List.{AllByRecursion}
 use Rattle.std.proofs.lemmas.List.{map-append, take_more}
-use Rattle.cs_tool.specs.Accepted.{IsFirstOther}
+use Rattle.cs_tool.specs.First.{IsFirstOther}
 use Rattle.cs_tool.proofs.Places.{inside, at_place, there, one_more}
 use Rattle.cs_tool.proofs.packages.texts_of.Goals as goal
 

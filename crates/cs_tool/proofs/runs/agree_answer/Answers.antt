@@ -1,6 +1,7 @@
 use Rattle.std.proofs.Common.{ℕ, List, Bor, map, sym, ap, subst, ◌∙◌}
 use Rattle.std.proofs.lemmas.Result.{err_from_is_err_and}
-use Rattle.cs_tool.specs.Headline.{IsReadyToAgree, AgreeRefusal}
+use Rattle.cs_tool.specs.Ready.{IsReadyToAgree}
+use Rattle.cs_tool.specs.CallRefusals.{AgreeRefusal}
 use Rattle.cs_tool.proofs.runs.agree_answer.Goals as goal
 
 abbrev now : Bor (List ℕ) → List ℕ

@@ -3,7 +3,7 @@ use Rattle.std.specs.declared.alloc.Global.{Global}
 use Rattle.std.proofs.lemmas.Result.{err_from_is_err_and}
 use Rattle.std.specs.Io.KnownBytes.{Keeps}
 use Rattle.std.proofs.KnownBytes.{Keeps-refl}
-use Rattle.cs_tool.specs.Accepted.{First}
+use Rattle.cs_tool.specs.First.{First}
 use Rattle.cs_tool.specs.Runs.{Call, export, vet, validate, agree, sources_or, text_or, call_of, ReadsInput, IsReadyCall, IsCallRefusal, LineRefusal, Leaves}
 use Rattle.cs_tool.specs.declared.fault.Fault.{Fault}
 use Rattle.cs_tool.specs.declared.fault.Fault.TheVariants.{WriteFailed, UnknownRoot}

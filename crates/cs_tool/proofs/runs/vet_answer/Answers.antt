@@ -1,6 +1,7 @@
 use Rattle.std.proofs.Common.{ℕ, List, Bor, map, sym, ap, subst, ◌∙◌}
 use Rattle.std.proofs.lemmas.Result.{err_from_is_err_and}
-use Rattle.cs_tool.specs.Headline.{IsReadyToVet, VetRefusal}
+use Rattle.cs_tool.specs.Ready.{IsReadyToVet}
+use Rattle.cs_tool.specs.CallRefusals.{VetRefusal}
 use Rattle.cs_tool.proofs.runs.vet_answer.Goals as goal
 
 abbrev now : Bor (List ℕ) → List ℕ

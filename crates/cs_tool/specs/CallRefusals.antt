@@ -1,0 +1,76 @@
+-- Which refusal of a call comes when; memory may run out at any time.
+use Rattle.std.specs.Prelude.{ℕ, ◌⊎◌, List}
+use Rattle.cs_document.specs.Document.{Document}
+use Rattle.cs_doc.specs.Texts.{Reads, IsJson, HasOtherNumber}
+use Rattle.cs_package.specs.Environment.{Environment}
+use Rattle.cs_instance.specs.Rules.{HasManyPairs}
+use Rattle.cs_schema.specs.Profile.{IsSchema}
+use Rattle.cs_schema.specs.Refusal as schema
+use Rattle.cs_profile.specs.declared.fault.SchemaFault.{SchemaFault}
+use Rattle.cs_profile.specs.declared.fault.SchemaFault.TheVariants as schema_fault
+use Rattle.cs_tool.specs.First.{First}
+use Rattle.cs_tool.specs.Ready.{IsReady, RootHasManyPairs, SchemaHasManyPairs, ExportHasManyPairs}
+use Rattle.cs_tool.specs.declared.fault.Fault.{Fault}
+use Rattle.cs_tool.specs.declared.fault.Fault.TheVariants.{OutOfMemory, SchemaNotJson, Keyword, Shape, Reference, Loop, NotJson, NotInteger, TooManyPairs}
+
+abbrev pub ExportRefusal : List (List ℕ) → List ℕ → Fault → Type 0
+ExportRefusal sources root OutOfMemory = Unit {0}
+ExportRefusal sources root f = First sources root f
+
+-- the document's text comes after the sources and the root, and the pairs come last
+abbrev pub VetRefusal : List (List ℕ) → List ℕ → List ℕ → Fault → Type 0
+VetRefusal sources root text OutOfMemory = Unit {0}
+VetRefusal sources root text NotJson = IsReady sources root × ¬ (IsJson text)
+VetRefusal sources root text NotInteger = IsReady sources root × HasOtherNumber text
+VetRefusal sources root text TooManyPairs = RootHasManyPairs sources root text
+VetRefusal sources root text f = First sources root f
+
+-- the schema's text is read as a document, which is no schema of the profile by this fault
+pub record IsNoSchema (schema_text : List ℕ) (f : SchemaFault) : Type 0 where
+  pub document : Document
+  pub read : Reads schema_text document
+  pub refused : schema.IsRefusal f document
+
+-- the schema's text is read as a schema of the profile
+pub record IsSchemaText (schema_text : List ℕ) : Type 0 where
+  pub document : Document
+  pub read : Reads schema_text document
+  pub profile : IsSchema document
+
+-- the document's text comes after the schema's, and the pairs come last
+abbrev pub ValidateRefusal : List ℕ → List ℕ → Fault → Type 0
+ValidateRefusal schema_text text OutOfMemory = Unit {0}
+ValidateRefusal schema_text text SchemaNotJson = ¬ (IsJson schema_text)
+ValidateRefusal schema_text text (Keyword place name) = IsNoSchema schema_text (schema_fault.Keyword place name)
+ValidateRefusal schema_text text (Shape place name) = IsNoSchema schema_text (schema_fault.Shape place name)
+ValidateRefusal schema_text text (Reference place name) = IsNoSchema schema_text (schema_fault.Reference place name)
+ValidateRefusal schema_text text (Loop names) = IsNoSchema schema_text (schema_fault.Loop names)
+ValidateRefusal schema_text text NotInteger = HasOtherNumber schema_text ⊎ (IsSchemaText schema_text × HasOtherNumber text)
+ValidateRefusal schema_text text NotJson = IsSchemaText schema_text × ¬ (IsJson text)
+ValidateRefusal schema_text text TooManyPairs = SchemaHasManyPairs schema_text text
+ValidateRefusal schema_text text _ = ⊥
+
+-- the conditions of an export come first, then the document's text, and last its pairs with the rules of the root or of the
+-- exported schema
+abbrev pub AgreeRefusal : List (List ℕ) → List ℕ → List ℕ → Fault → Type 0
+AgreeRefusal sources root text OutOfMemory = Unit {0}
+AgreeRefusal sources root text NotJson = IsReady sources root × ¬ (IsJson text)
+AgreeRefusal sources root text NotInteger = IsReady sources root × HasOtherNumber text
+AgreeRefusal sources root text TooManyPairs = IsReady sources root × (RootHasManyPairs sources root text ⊎ ExportHasManyPairs sources root text)
+AgreeRefusal sources root text f = First sources root f
+
+-- ---- the parts, for private contracts alone
+
+-- a text is judged by a definition of an environment
+abbrev pub VerdictRefusal : Environment → List ℕ → List ℕ → Fault → Type 0
+VerdictRefusal E name text OutOfMemory = Unit {0}
+VerdictRefusal E name text NotJson = ¬ (IsJson text)
+VerdictRefusal E name text NotInteger = HasOtherNumber text
+VerdictRefusal E name text TooManyPairs = (d : Document) × Reads text d × HasManyPairs E name d
+VerdictRefusal E name text _ = ⊥
+
+abbrev pub SchemaTextRefusal : List ℕ → Fault → Type 0
+SchemaTextRefusal schema_text OutOfMemory = Unit {0}
+SchemaTextRefusal schema_text SchemaNotJson = ¬ (IsJson schema_text)
+SchemaTextRefusal schema_text NotInteger = HasOtherNumber schema_text
+SchemaTextRefusal schema_text _ = ⊥

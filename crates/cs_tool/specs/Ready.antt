@@ -1,0 +1,67 @@
+-- What the calls answer to unless memory runs out, and the documents that have too many pairs.
+use Rattle.std.specs.Prelude.{ℕ, List}
+use Rattle.cs_document.specs.Document.{Document}
+use Rattle.cs_doc.specs.Texts.{Reads}
+use Rattle.cs_package.specs.Environment.{Environment}
+use Rattle.cs_instance.specs.Rules.{HasManyPairs}
+use Rattle.cs_schema.specs.Profile.{IsSchema}
+use Rattle.cs_validate.specs.Rules as validate
+use Rattle.cs_tool.specs.Accepted.{DeclaresRoot}
+use Rattle.cs_tool.specs.Headline.{IsExport}
+use Rattle.cs_tool.specs.Translated.{IsTranslated}
+
+-- the sources declare the root
+abbrev pub IsReady : List (List ℕ) → List ℕ → Type 0
+IsReady sources root = (E : Environment) × (n : List ℕ) × DeclaresRoot sources root E n
+
+-- what `vet` judges: the root that the sources declare, and the document that the text is read as
+pub record VetInput (sources : List (List ℕ)) (root text : List ℕ) : Type 0 where
+  pub environment : Environment
+  pub name : List ℕ
+  pub declares : DeclaresRoot sources root environment name
+  pub document : Document
+  pub read : Reads text document
+
+-- what `validate` judges: the schema of the profile that the one text is read as, and the document that the other is
+pub record ValidateInput (schema_text text : List ℕ) : Type 0 where
+  pub schema : Document
+  pub read_schema : Reads schema_text schema
+  pub profile : IsSchema schema
+  pub document : Document
+  pub read : Reads text document
+
+-- ---- too many pairs
+
+-- the document has more pairs with the rules of the root than a table may have
+pub record RootHasManyPairs (sources : List (List ℕ)) (root text : List ℕ) : Type 0 where
+  pub input : VetInput sources root text
+  pub many : HasManyPairs input.environment input.name input.document
+
+-- the document has more pairs with the schema's rules than a table may have
+pub record SchemaHasManyPairs (schema_text text : List ℕ) : Type 0 where
+  pub input : ValidateInput schema_text text
+  pub many : validate.HasManyPairs input.schema input.document
+
+-- the text is read as a document that has more pairs with the exported schema's rules than a table may have
+pub record ExportHasManyPairs (sources : List (List ℕ)) (root text : List ℕ) : Type 0 where
+  pub schema_text : List ℕ
+  pub exported : IsExport sources root schema_text
+  pub translated : IsTranslated sources root schema_text
+  pub many : SchemaHasManyPairs schema_text text
+
+-- ---- what is answered, unless memory runs out
+
+-- there is what `vet` judges, and the document has no more pairs with the rules of the root than a table may have
+pub record IsReadyToVet (sources : List (List ℕ)) (root text : List ℕ) : Type 0 where
+  pub input : VetInput sources root text
+  pub within : ¬ (HasManyPairs input.environment input.name input.document)
+
+-- there is what `validate` judges, and the document has no more pairs with the schema's rules than a table may have
+pub record IsReadyToValidate (schema_text text : List ℕ) : Type 0 where
+  pub input : ValidateInput schema_text text
+  pub within : ¬ (validate.HasManyPairs input.schema input.document)
+
+-- `vet` can judge, and the document has no more pairs with the exported schema's rules than a table may have
+pub record IsReadyToAgree (sources : List (List ℕ)) (root text : List ℕ) : Type 0 where
+  pub vetted : IsReadyToVet sources root text
+  pub within : ¬ (ExportHasManyPairs sources root text)
