@@ -8,3 +8,4 @@ pub mod Tree
 pub mod Spells
 pub mod View
 pub mod Source
+pub mod Labels
