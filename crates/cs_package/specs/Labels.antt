@@ -1,5 +1,7 @@
 -- Expressions in which each declaration of a struct literal has a label: none is `[string]: T`, at any depth. Those of
 -- the profile's first edition are such.
+use Rattle.std.specs.List.{AllByRecursion}
+use Rattle.cs_package.specs.Environment.{Environment}
 use Rattle.cs_package.specs.Expression.{Expression, atom, kind, range, reference, conjunction, disjunction, struct, list, Expressions, no_expressions, expression, Declarations, no_declarations, declaration, DeclarationMark, regular, optional, required, every, Rest, closed, any, each}
 
 -- the mark of a declaration with a label
@@ -33,3 +35,7 @@ abbrev mutual
   IsLabelledRest closed = Unit {0}
   IsLabelledRest any = Unit {0}
   IsLabelledRest (each e) = IsLabelled e
+
+-- so is each body of a definition
+abbrev pub IsLabelledEnvironment : Environment → Type 0
+IsLabelledEnvironment E = AllByRecursion (λ d. AllByRecursion IsLabelled d.1) E
