@@ -84,18 +84,17 @@ bodies_labelled [] h = tt
 bodies_labelled (b ∷ bs) h = (h.0, bodies_labelled bs h.1)
 
 -- the bodies of a name, where it is declared
-SomeLabelled : Option (List Expression) → Type 0
+abbrev SomeLabelled : Option (List Expression) → Type 0
 SomeLabelled None = Unit {0}
 SomeLabelled (Some bs) = Each IsLabelled bs
 
+one_labelled : (b : Bool) (bs : List Expression) (o : Option (List Expression)) → Each IsLabelled bs → SomeLabelled o → SomeLabelled (cond b (Some bs) o)
+one_labelled true bs o h k = h
+one_labelled false bs o h k = k
+
 found_labelled : (E : Environment) (n : List ℕ) → IsLabelledEnvironment E → SomeLabelled (bodies E n)
-unfolding SomeLabelled
 found_labelled [] n h = tt
-found_labelled (d ∷ E) n h = by (bytes_eq n d.0)
-  where
-    by : (b : Bool) → SomeLabelled (cond b (Some d.1) (bodies E n))
-    by true = h.0
-    by false = found_labelled E n h.1
+found_labelled (d ∷ E) n h = one_labelled (bytes_eq n d.0) d.1 (bodies E n) h.0 (found_labelled E n h.1)
 
 module _ (E : Environment) (labelled : IsLabelledEnvironment E) where
   asks_labels : (r : Rule) → IsEarlierRule r → AsksLabels (constraint_of E r)
@@ -105,8 +104,58 @@ module _ (E : Environment) (labelled : IsLabelledEnvironment E) where
       by None = tt
       by (Some bs) = tt
   asks_labels (node (cue.struct ds o)) h = declarations_labelled ds h
-  asks_labels (node (cue.atom a)) h = by a
-    where
-      by : (b : cue.Atom) → AsksLabels (constraint_of E (node (cue.atom b)))
-      by _ = tt
+  asks_labels (node (cue.atom cue.top)) h = tt
   asks_labels (node _) h = tt
+
+  here_labelled : (r : Rule) → IsEarlierRule r → Each IsEarlierRule (here_parts (constraint_of E r))
+  here_labelled (definition n) h = by (bodies E n) (found_labelled E n labelled)
+    where
+      by : (o : Option (List Expression)) → SomeLabelled o → Each IsEarlierRule (here_parts (all_bodies o))
+      by None k = tt
+      by (Some bs) k = bodies_labelled bs k
+  here_labelled (node (cue.reference n)) h = (tt, tt)
+  here_labelled (node (cue.conjunction es)) h = operands_labelled es h
+  here_labelled (node (cue.disjunction es)) h = operands_labelled es h
+  here_labelled (node (cue.atom cue.top)) h = tt
+  here_labelled (node _) h = tt
+
+  inner_labelled : (r : Rule) → IsEarlierRule r → Each IsLabelled (inner_parts (constraint_of E r))
+  inner_labelled (definition n) h = by (bodies E n)
+    where
+      by : (o : Option (List Expression)) → Each IsLabelled (inner_parts (all_bodies o))
+      by None = tt
+      by (Some bs) = tt
+  inner_labelled (node (cue.struct ds o)) h = values_labelled ds h
+  inner_labelled (node (cue.list es r)) h = elements_labelled es r h.0 h.1
+  inner_labelled (node (cue.atom cue.top)) h = tt
+  inner_labelled (node _) h = tt
+
+  -- an instance relation is one by the older reading
+  pub still_instance : (I : Rule → Document → Bool) → IsInstance E I → IsInstanceEarlier E I
+  still_instance I is r x h = is r x ∙ satisfied_by_labels (λ part. I part x) (λ y e. I (node e) y) (constraint_of E r) (opened x) (asks_labels r h)
+
+  -- and what was one agrees with it, on all that it speaks of
+  module _ (guarded : IsGuarded E) (I J : Rule → Document → Bool) (is : IsInstance E I) (was : IsInstanceEarlier E J) where
+    abbrev Agree : Rule → Document → Type 0
+    Agree r x = IsEarlierRule r → I r x ≡ J r x
+
+    agree_here : (x : Document) (rs : List Rule) → Each (λ p. Agree p x) rs → Each IsEarlierRule rs → Each (λ p. I p x ≡ J p x) rs
+    agree_here x [] h k = tt
+    agree_here x (r ∷ rs) h k = (h.0 k.0, agree_here x rs h.1 k.1)
+
+    agree_inside : (y : Document) (es : List Expression) → ((p : Rule) → Agree p y) → Each IsLabelled es → Each (λ e. I (node e) y ≡ J (node e) y) es
+    agree_inside y [] h k = tt
+    agree_inside y (e ∷ es) h k = (h (node e) k.0, agree_inside y es h k.1)
+
+    step : (r : Rule) (x : Document) → Each (λ p. Agree p x) (here_parts (constraint_of E r)) → Each (λ y. (p : Rule) → Agree p y) (children x) → Agree r x
+    step r x here kids h =
+        let parts = inner_parts (constraint_of E r) in
+        let now : I r x ≡ is_satisfied (λ p. J p x) (λ y e. J (node e) y) (constraint_of E r) (opened x) =
+        is r x
+        ∙ satisfied_same (λ p. I p x) (λ p. J p x) (λ y e. I (node e) y) (λ y e. J (node e) y) (constraint_of E r) (opened x)
+        (agree_here x (here_parts (constraint_of E r)) here (here_labelled r h))
+        (each_within (λ y. Each (λ e. I (node e) y ≡ J (node e) y) parts) x (each_map _ _ (λ y k. agree_inside y parts k (inner_labelled r h)) (children x) kids)) in
+        now ∙ satisfied_by_labels (λ part. J part x) (λ y e. J (node e) y) (constraint_of E r) (opened x) (asks_labels r h) ∙ sym (was r x h)
+
+    pub same_instances : (r : Rule) (x : Document) → IsEarlierRule r → I r x ≡ J r x
+    same_instances = guarded-induction E guarded Agree step
