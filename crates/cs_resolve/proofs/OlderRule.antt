@@ -10,10 +10,10 @@ use Rattle.cs_package.specs.Environment.{Environment}
 use Rattle.cs_package.specs.View.{mark_of}
 use Rattle.std.specs.Str.{bytes_eq}
 use Rattle.cs_resolve.specs.Declarations.{names, bodies_of, declared}
-use Rattle.cs_resolve.specs.Earlier.{no_bases, IsOpenedEarlier, earlier_environment}
+use Rattle.cs_resolve.specs.Earlier.{no_bases, IsOpenedEarlier, earlier_environment, IsPackageEarlier}
 use Rattle.cs_resolve.specs.Opening.{has_literal_or_reference, Literal, literals, operands, named_fields, named_bodies, values_of_each, joined, conjunctions, conjunctions_all, conjunctions_fields, conjunctions_end, KeepsRule, IsOpened}
 use Rattle.cs_resolve.specs.Refinement.{Bases, bases, Narrowing, has_every_key, closed_literal, referred, narrowing_of, or_else, narrowing, narrowed, is_some_labels, is_refinement}
-use Rattle.cs_resolve.specs.Resolved.{narrowed_operands, resolved, resolved_all, resolved_fields, resolved_end, environment_of_files}
+use Rattle.cs_resolve.specs.Resolved.{narrowed_operands, resolved, resolved_all, resolved_fields, resolved_end, environment_of_files, IsPackage}
 
 abbrev Keeps : List (List Tree) → Type 0
 Keeps cs = AllByRecursion KeepsRule cs
@@ -214,3 +214,6 @@ pub same_environment : (fs : List FileTree) → IsOpenedEarlier fs → environme
 same_environment fs h =
     let ds = flat_map definitions fs in
     declared_same (bases ds) (names ds) ds (kept_right KeepsRule (values_of_each (named_bodies ds)) (inner no_bases ds) h)
+
+pub still_package : (fs : List FileTree) (E : Environment) → IsPackageEarlier fs E → IsPackage fs
+still_package fs E h = record { agree = h.agree; small = h.small; resolved = h.resolved; opened = still_opened fs h.opened }

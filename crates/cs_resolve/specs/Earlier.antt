@@ -24,9 +24,10 @@ IsOpenedEarlier fs =
 abbrev pub earlier_environment : List FileTree → Environment
 earlier_environment fs = map (λ d. (d.0, map (resolved no_bases) d.1)) (declared (flat_map definitions fs))
 
--- the files were one package: but for the opening rule as they are now
-pub record IsPackageEarlier (fs : List FileTree) : Type 0 where
+-- the files were one package, which declared the environment
+pub record IsPackageEarlier (fs : List FileTree) (E : Environment) : Type 0 where
   pub agree : IsOnePackage fs
   pub small : IsSmall fs
   pub resolved : IsResolved fs
   pub opened : IsOpenedEarlier fs
+  pub declares : E ≡ earlier_environment fs

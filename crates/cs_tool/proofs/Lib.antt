@@ -1,4 +1,5 @@
 pub mod Places
 pub mod Low
+pub mod EarlierSources
 pub mod Samples
 pub mod SchemaTexts

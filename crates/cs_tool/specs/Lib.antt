@@ -1,6 +1,7 @@
 pub mod Refusals
 pub mod Conversions
 pub mod Accepted
+pub mod Earlier
 pub mod Translated
 pub mod Headline
 pub mod Streams
