@@ -11,3 +11,4 @@ pub mod Spells
 pub mod Limits
 pub mod View
 pub mod Source
+pub mod Labels

@@ -19,7 +19,7 @@ use Rattle.cs_guard.specs.Reachable.{referred, referred_of, RefersTo, Reaches, A
 use Rattle.cs_guard.proofs.Chains.{alone-guarded}
 use Rattle.cs_guard.proofs.Numbers.{on_contains, contains_on}
 use Rattle.cs_guard.proofs.Walks.{reaches_within}
-use Rattle.cs_guard.proofs.Ways.{mixed, RefersMixedly}
+use Rattle.cs_guard.specs.Earlier.{mixed, RefersMixedly}
 
 -- ---- short forms
 

@@ -9,6 +9,7 @@ use Rattle.cs_package.specs.Environment.{Environment, bodies}
 use Rattle.cs_graph.specs.Chains.{Chain}
 use Rattle.cs_guard.specs.Limits as limits
 use Rattle.cs_guard.specs.Limits.{most_references}
+use Rattle.cs_guard.specs.Earlier.{mixed, mixed_all, mixed_fields, mixed_of, RefersMixedly, IsGuardedEarlier}
 use Rattle.cs_guard.specs.Guarded.{IsGuarded}
 use Rattle.cs_guard.specs.References.{direct, direct_all, unless_optional, inside, inside_all, inside_fields, strong, strong_all, RefersStrongly}
 
@@ -94,26 +95,6 @@ strong-is-either e m = (strong-either e m, λ either. elim either [ inl d ↦ di
 
 -- ---- with and without `|` at once
 
--- the names of the references that are reached through `&`, `|`, regular and required fields and fixed list elements alike
-abbrev mutual
-  pub mixed : Expression → List (List ℕ)
-  mixed (cue.atom a) = []
-  mixed (cue.kind k) = []
-  mixed (cue.range least greatest) = []
-  mixed (cue.reference n) = n ∷ []
-  mixed (cue.conjunction es) = mixed_all es
-  mixed (cue.disjunction es) = mixed_all es
-  mixed (cue.struct ds opened) = mixed_fields ds
-  mixed (cue.list es rest) = mixed_all es
-
-  pub mixed_all : Expressions → List (List ℕ)
-  mixed_all cue.no_expressions = []
-  mixed_all (cue.expression e es) = mixed e ++ mixed_all es
-
-  pub mixed_fields : Declarations → List (List ℕ)
-  mixed_fields cue.no_declarations = []
-  mixed_fields (cue.declaration l m e ds) = unless_optional m (mixed e) ++ mixed_fields ds
-
 mutual
   direct-mixed : (e : Expression) → Within (direct e) (mixed e)
   direct-mixed (cue.reference n) = λ m c. c
@@ -152,13 +133,6 @@ mutual
 pub strong-mixed : (e : Expression) → Within (strong e) (mixed e)
 strong-mixed e m c = elim (strong-either e m c) [ inl d ↦ direct-mixed e m d | inr i ↦ inside-mixed e m i ]
 
--- the names that the definition n refers to in these ways, in any of its bodies
-abbrev pub mixed_of : Environment → List ℕ → List (List ℕ)
-mixed_of E n = flat_map mixed (unwrap_or (bodies E n) [])
-
-abbrev pub RefersMixedly : Environment → List ℕ → List ℕ → Type 0
-RefersMixedly E n m = Contains (mixed_of E n) m
-
 bodies-mixed : (bs : List Expression) → Within (flat_map strong bs) (flat_map mixed bs)
 bodies-mixed [] = none-within []
 bodies-mixed (b ∷ bs) = joined-within (strong b) (flat_map strong bs) (mixed b) (flat_map mixed bs) (strong-mixed b) (bodies-mixed bs)
@@ -180,5 +154,5 @@ module _ {X : Type 0} (R S : X → X → Type 0) (more : (x y : X) → R x y →
   }
 
 -- an environment without a cycle and a long chain of references with and without `|` at once is guarded
-pub mixedly-guarded : (E : Environment) → limits.IsGuarded (RefersMixedly E) → IsGuarded E
+pub mixedly-guarded : (E : Environment) → IsGuardedEarlier E → IsGuarded E
 mixedly-guarded E = fewer-guarded (RefersStrongly E) (RefersMixedly E) (strongly-mixedly E)

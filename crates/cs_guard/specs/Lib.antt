@@ -4,6 +4,7 @@ pub mod Guarded
 pub mod Cycles
 pub mod Numbered
 pub mod Reachable
+pub mod Earlier
 -- for contracts of private functions and proofs alone
 pub mod Ranks
 pub mod Pushed

@@ -4,6 +4,7 @@ pub mod Numbering
 pub mod Rules
 pub mod Judging
 pub mod Refusal
+pub mod Earlier
 -- for contracts of private functions and proofs alone
 pub mod Steps
 pub mod Props

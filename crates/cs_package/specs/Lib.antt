@@ -3,5 +3,6 @@ pub mod Environment
 pub mod Joined
 pub mod Height
 pub mod View
+pub mod Labels
 -- for contracts of private functions and proofs alone
 pub mod Code

@@ -20,7 +20,7 @@ use Rattle.cs_resolve.specs.Steps.{gathered}
 -- ---- names
 
 -- one of two
-either : {X : Type 0} (P : X → Type 0) (b : Bool) (x y : X) → P x → P y → P (cond b x y)
+pub either : {X : Type 0} (P : X → Type 0) (b : Bool) (x y : X) → P x → P y → P (cond b x y)
 either P true x y p q = p
 either P false x y p q = q
 

@@ -28,6 +28,7 @@ pub mod NarrowingSteps
 pub mod OpenedShapes
 pub mod Refined
 pub mod OlderRule
+pub mod LabelledBodies
 pub mod BaseLaw
 pub mod OnlyBodies
 pub mod TextSets

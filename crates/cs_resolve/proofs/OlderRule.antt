@@ -10,13 +10,10 @@ use Rattle.cs_package.specs.Environment.{Environment}
 use Rattle.cs_package.specs.View.{mark_of}
 use Rattle.std.specs.Str.{bytes_eq}
 use Rattle.cs_resolve.specs.Declarations.{names, bodies_of, declared}
+use Rattle.cs_resolve.specs.Earlier.{no_bases, IsOpenedEarlier, earlier_environment, IsPackageEarlier}
 use Rattle.cs_resolve.specs.Opening.{has_literal_or_reference, Literal, literals, operands, named_fields, named_bodies, values_of_each, joined, conjunctions, conjunctions_all, conjunctions_fields, conjunctions_end, KeepsRule, IsOpened}
 use Rattle.cs_resolve.specs.Refinement.{Bases, bases, Narrowing, has_every_key, closed_literal, referred, narrowing_of, or_else, narrowing, narrowed, is_some_labels, is_refinement}
-use Rattle.cs_resolve.specs.Resolved.{narrowed_operands, resolved, resolved_all, resolved_fields, resolved_end, environment_of_files}
-
--- no definition is a closed base
-abbrev no_bases : Bases
-no_bases n = None
+use Rattle.cs_resolve.specs.Resolved.{narrowed_operands, resolved, resolved_all, resolved_fields, resolved_end, environment_of_files, IsPackage}
 
 abbrev Keeps : List (List Tree) → Type 0
 Keeps cs = AllByRecursion KeepsRule cs
@@ -208,20 +205,15 @@ module _ (bs : Bases) where
   declared_same [] ds h = refl
   declared_same (n ∷ ns) ds h = ap₂ (λ es rest. (n, es) ∷ rest) (bodies_same (λ d. bytes_eq (defined_name d) n) ds h) (declared_same ns ds h)
 
--- the older rule: no conjunction is exempt
-abbrev pub KeepsOlderRule : List FileTree → Type 0
-KeepsOlderRule fs = Keeps (values_of_each (named_bodies (flat_map definitions fs)) ++ inner no_bases (flat_map definitions fs))
-
-pub still_opened : (fs : List FileTree) → KeepsOlderRule fs → IsOpened fs
+pub still_opened : (fs : List FileTree) → IsOpenedEarlier fs → IsOpened fs
 still_opened fs h =
     let ds = flat_map definitions fs in
     subst (λ cs. Keeps (values_of_each (named_bodies ds) ++ cs)) (sym (inner_same (bases ds) ds (kept_right KeepsRule (values_of_each (named_bodies ds)) (inner no_bases ds) h))) h
 
--- each literal resolved as it is written
-abbrev pub older_environment : List FileTree → Environment
-older_environment fs = map (with_resolved no_bases) (declared (flat_map definitions fs))
-
-pub same_environment : (fs : List FileTree) → KeepsOlderRule fs → environment_of_files fs ≡ older_environment fs
+pub same_environment : (fs : List FileTree) → IsOpenedEarlier fs → environment_of_files fs ≡ earlier_environment fs
 same_environment fs h =
     let ds = flat_map definitions fs in
     declared_same (bases ds) (names ds) ds (kept_right KeepsRule (values_of_each (named_bodies ds)) (inner no_bases ds) h)
+
+pub still_package : (fs : List FileTree) (E : Environment) → IsPackageEarlier fs E → IsPackage fs
+still_package fs E h = record { agree = h.agree; small = h.small; resolved = h.resolved; opened = still_opened fs h.opened }

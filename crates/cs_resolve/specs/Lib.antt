@@ -3,6 +3,7 @@ pub use Rattle.cs_package.specs.Environment
 pub use Rattle.cs_package.specs.Joined
 pub use Rattle.cs_package.specs.Height
 pub use Rattle.cs_package.specs.View
+pub use Rattle.cs_package.specs.Labels
 pub mod Predeclared
 pub mod Scopes
 pub mod Declarations
@@ -13,6 +14,7 @@ pub mod Size
 pub mod PackageName
 pub mod Resolved
 pub mod Offsets
+pub mod Earlier
 -- for contracts of private functions and proofs alone
 pub use Rattle.cs_package.specs.Code
 pub mod Steps

@@ -8,6 +8,8 @@ pub mod Places
 pub mod FileAnswers
 pub mod NestingCounts
 pub mod NestingBounds
+pub mod LabelledWords
+pub mod EarlierNesting
 pub mod Depths
 pub mod Heights
 pub mod GrammarSamples

@@ -9,12 +9,14 @@ pub use Rattle.cs_grammar.specs.Tree
 pub use Rattle.cs_grammar.specs.Spells
 pub use Rattle.cs_grammar.specs.View
 pub use Rattle.cs_grammar.specs.Source
+pub use Rattle.cs_grammar.specs.Labels
 pub use Rattle.cs_lexer.specs.Lexed
 pub mod Height
 pub mod Nesting
 pub mod Place
 pub mod Answer
 pub mod Refusal
+pub mod Earlier
 -- for contracts of private functions and proofs alone
 pub mod Left
 pub mod Reading

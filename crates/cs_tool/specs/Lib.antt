@@ -7,6 +7,7 @@ pub mod Conversions
 pub mod First
 pub mod Ready
 pub mod CallRefusals
+pub mod Earlier
 pub mod Streams
 pub mod Runs
 -- for contracts of private functions and proofs alone

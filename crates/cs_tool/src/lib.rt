@@ -4,6 +4,7 @@
 mod calls;
 mod commands;
 mod conversions;
+mod earlier;
 mod fault;
 mod packages;
 mod reads;
@@ -14,6 +15,7 @@ mod writes;
 
 pub use calls::{agree, export, validate, vet};
 pub use commands::command;
+pub use earlier::earlier_law;
 pub use fault::Fault;
 pub use packages::MOST_BYTES;
 pub use reads::read_up_to;

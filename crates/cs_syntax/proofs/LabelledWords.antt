@@ -1,0 +1,156 @@
+-- In the words that a file without `[string]` spells, no `]` stands directly before a colon or the mark of a label.
+use Rattle.std.proofs.Common.{◌≡◌, ℕ, ℤ, Bool, true, false, ◌&&◌, List, [], ◌∷◌, Option, refl}
+use Rattle.std.specs.List.{AllByRecursion}
+use Rattle.cs_grammar.specs.declared.ast.FieldMark.{FieldMark}
+use Rattle.cs_grammar.specs.Labels.{HasLabel, IsLabelled, AreLabelled, AreLabelledFields, IsLabelledEnd, IsLabelledFile}
+use Rattle.cs_grammar.specs.Spells.{Comma, explicit, inserted, ClosesParen, paren_here, paren_after, ClosesList, list_here, list_after, ClosesStruct, struct_here, struct_after, SpellsNumber, positive, negative, SpellsBound, limit_is, other_number, other_text, other_null, SpellsLabel, bare_label, quoted_label, SpellsMark, regular, optional, required, SpellsOpening, unopened, opened, SpellsValue, long, short, SpellsField, labelled, every_key, SpellsExpr, one_conj, disjunction_is, SpellsBars, no_bar, a_bar, SpellsConj, one_operand, conjunction_is, SpellsAmps, no_amp, an_amp, SpellsOperand, top_is, bottom_is, reference_is, name_is, number_is, text_is, bound_is, paren_is, struct_is, list_is, SpellsStruct, no_fields, dots_alone, fields, SpellsFields, no_more_fields, next_field, SpellsList, no_elements, rest_alone, elements, SpellsElements, no_more_elements, next_element, SpellsEnd, closed_is, rest_is, SpellsRest, any_is, each_is, SpellsDefinition, defined, SpellsDefinitions, no_definition, next_definition, SpellsPackage, no_clause, clause, SpellsFile, spelled}
+use Rattle.cs_grammar.specs.Tree.{Label, Tree, Trees, Fields, End, DefinitionTree, body, FileTree}
+use Rattle.cs_grammar.specs.Words.{Word, Words, close_list, colon, question, bang}
+
+-- what goes on behind a label: a colon, or a mark
+abbrev pub goes_on : Word → Bool
+goes_on (colon o) = true
+goes_on (question o) = true
+goes_on (bang o) = true
+goes_on _ = false
+
+-- `]`
+abbrev pub closes : Word → Bool
+closes (close_list o) = true
+closes _ = false
+
+abbrev pub begins : (Word → Bool) → Words → Bool
+begins p [] = false
+begins p (w ∷ ts) = p w
+
+-- no `]` stands directly before a word that goes on behind a label
+abbrev pub Apart : Words → Type 0
+Apart [] = Unit {0}
+Apart (w ∷ ts) = (closes w && begins goes_on ts ≡ false) × Apart ts
+
+-- words that may stand behind a `]`, too
+record Follows (ts : Words) : Type 0 where
+  quiet : begins goes_on ts ≡ false
+  apart : Apart ts
+
+-- ---- marks, numbers and labels
+
+of_comma : {ts r : Words} → Comma ts r → Apart r → Follows ts
+of_comma explicit h = record { quiet = refl; apart = (refl, h) }
+of_comma inserted h = record { quiet = refl; apart = (refl, h) }
+
+of_paren_end : {ts r : Words} → ClosesParen ts r → Apart r → Follows ts
+of_paren_end paren_here h = record { quiet = refl; apart = (refl, h) }
+of_paren_end paren_after h = record { quiet = refl; apart = (refl, (refl, h)) }
+
+of_list_end : {ts r : Words} → ClosesList ts r → Follows r → Follows ts
+of_list_end list_here h = record { quiet = refl; apart = (h.quiet, h.apart) }
+of_list_end (list_after c) h = of_comma c (h.quiet, h.apart)
+
+of_struct_end : {ts r : Words} → ClosesStruct ts r → Apart r → Follows ts
+of_struct_end struct_here h = record { quiet = refl; apart = (refl, h) }
+of_struct_end (struct_after c) h = of_comma c (refl, h)
+
+of_number : {z : ℤ} {ts r : Words} → SpellsNumber z ts r → Apart r → Follows ts
+of_number (positive fits) h = record { quiet = refl; apart = (refl, h) }
+of_number (negative is fits) h = record { quiet = refl; apart = (refl, (refl, h)) }
+
+of_bound : {e : Tree} {ts r : Words} → SpellsBound e ts r → Apart r → Follows ts
+of_bound (limit_is n) h = record { quiet = refl; apart = (refl, (of_number n h).apart) }
+of_bound (other_number n) h = record { quiet = refl; apart = (refl, (of_number n h).apart) }
+of_bound other_text h = record { quiet = refl; apart = (refl, (refl, h)) }
+of_bound (other_null is) h = record { quiet = refl; apart = (refl, (refl, h)) }
+
+of_label : {l : Label} {ts r : Words} → SpellsLabel l ts r → Apart r → Follows ts
+of_label bare_label h = record { quiet = refl; apart = (refl, h) }
+of_label quoted_label h = record { quiet = refl; apart = (refl, h) }
+
+of_mark : {m : FieldMark} {ts r : Words} → SpellsMark m ts r → Apart r → Apart ts
+of_mark regular h = (refl, h)
+of_mark optional h = (refl, (refl, h))
+of_mark required h = (refl, (refl, h))
+
+of_opening : {b : Bool} {ts r : Words} → SpellsOpening b ts r → Apart r → Follows ts
+of_opening (unopened c) h = of_struct_end c h
+of_opening (opened c d) h = of_comma c (refl, (of_struct_end d h).apart)
+
+-- ---- values
+
+mutual
+  of_value : {e : Tree} {ts r : Words} → SpellsValue e ts r → IsLabelled e → Follows r → Follows ts
+  of_value (long e) is h = of_expr e is h
+  of_value (short o f) is h = of_field f is.0 is.1 h
+
+  of_field : {l : Label} {m : FieldMark} {e : Tree} {ts r : Words} → SpellsField l m e ts r → HasLabel m → IsLabelled e → Follows r → Follows ts
+  of_field (labelled l m v) marked is h = of_label l (of_mark m (of_value v is h).apart)
+  of_field (every_key s v) marked is h = absurd marked
+
+  of_expr : {e : Tree} {ts r : Words} → SpellsExpr e ts r → IsLabelled e → Follows r → Follows ts
+  of_expr (one_conj c) is h = of_conj c is h
+  of_expr (disjunction_is c b) is h = of_conj c is.0 (of_bars b is.1 h)
+
+  of_bars : {es : Trees} {ts r : Words} → SpellsBars es ts r → AreLabelled es → Follows r → Follows ts
+  of_bars no_bar is h = h
+  of_bars (a_bar c b) is h = record { quiet = refl; apart = (refl, (of_conj c is.0 (of_bars b is.1 h)).apart) }
+
+  of_conj : {e : Tree} {ts r : Words} → SpellsConj e ts r → IsLabelled e → Follows r → Follows ts
+  of_conj (one_operand o) is h = of_operand o is h
+  of_conj (conjunction_is o a) is h = of_operand o is.0 (of_amps a is.1 h)
+
+  of_amps : {es : Trees} {ts r : Words} → SpellsAmps es ts r → AreLabelled es → Follows r → Follows ts
+  of_amps no_amp is h = h
+  of_amps (an_amp o a) is h = record { quiet = refl; apart = (refl, (of_operand o is.0 (of_amps a is.1 h)).apart) }
+
+  of_operand : {e : Tree} {ts r : Words} → SpellsOperand e ts r → IsLabelled e → Follows r → Follows ts
+  of_operand top_is is h = record { quiet = refl; apart = (refl, h.apart) }
+  of_operand bottom_is is h = record { quiet = refl; apart = (refl, h.apart) }
+  of_operand reference_is is h = record { quiet = refl; apart = (refl, h.apart) }
+  of_operand (name_is k e) is h = record { quiet = refl; apart = (refl, h.apart) }
+  of_operand (number_is n) is h = of_number n h.apart
+  of_operand text_is is h = record { quiet = refl; apart = (refl, h.apart) }
+  of_operand (bound_is b) is h = of_bound b h.apart
+  of_operand (paren_is e c) is h = record { quiet = refl; apart = (refl, (of_expr e is (of_paren_end c h.apart)).apart) }
+  of_operand (struct_is s) is h = record { quiet = refl; apart = (refl, (of_struct s is h).apart) }
+  of_operand (list_is s) is h = record { quiet = refl; apart = (refl, (of_list s is.0 is.1 h).apart) }
+
+  of_struct : {fs : Fields} {b : Bool} {ts r : Words} → SpellsStruct fs b ts r → AreLabelledFields fs → Follows r → Follows ts
+  of_struct no_fields is h = record { quiet = refl; apart = (refl, h.apart) }
+  of_struct (dots_alone c) is h = record { quiet = refl; apart = (refl, (of_struct_end c h.apart).apart) }
+  of_struct (fields f fs o) is h = of_field f is.0 is.1 (of_fields fs is.2 (of_opening o h.apart))
+
+  of_fields : {fs : Fields} {ts r : Words} → SpellsFields fs ts r → AreLabelledFields fs → Follows r → Follows ts
+  of_fields no_more_fields is h = h
+  of_fields (next_field c f fs) is h = of_comma c (of_field f is.0 is.1 (of_fields fs is.2 h)).apart
+
+  of_list : {es : Trees} {end : End} {ts r : Words} → SpellsList es end ts r → AreLabelled es → IsLabelledEnd end → Follows r → Follows ts
+  of_list no_elements is last h = record { quiet = refl; apart = (h.quiet, h.apart) }
+  of_list (rest_alone s) is last h = record { quiet = refl; apart = (refl, (of_rest s last h).apart) }
+  of_list (elements e es s) is last h = of_expr e is.0 (of_elements es is.1 (of_end s last h))
+
+  of_elements : {es : Trees} {ts r : Words} → SpellsElements es ts r → AreLabelled es → Follows r → Follows ts
+  of_elements no_more_elements is h = h
+  of_elements (next_element e es) is h = record { quiet = refl; apart = (refl, (of_expr e is.0 (of_elements es is.1 h)).apart) }
+
+  of_end : {end : End} {ts r : Words} → SpellsEnd end ts r → IsLabelledEnd end → Follows r → Follows ts
+  of_end (closed_is c) last h = of_list_end c h
+  of_end (rest_is s) last h = record { quiet = refl; apart = (refl, (refl, (of_rest s last h).apart)) }
+
+  of_rest : {end : End} {ts r : Words} → SpellsRest end ts r → IsLabelledEnd end → Follows r → Follows ts
+  of_rest (any_is c) last h = of_list_end c h
+  of_rest (each_is e c) last h = of_expr e last (of_list_end c h)
+
+-- ---- files
+
+of_definition : {d : DefinitionTree} {ts r : Words} → SpellsDefinition d ts r → IsLabelled (body d) → Follows r → Follows ts
+of_definition (defined v) is h = record { quiet = refl; apart = (refl, (refl, (of_value v is h).apart)) }
+
+of_definitions : {ds : List DefinitionTree} {ts r : Words} → SpellsDefinitions ds ts r → AllByRecursion (λ d. IsLabelled (body d)) ds → Follows r → Follows ts
+of_definitions no_definition is h = h
+of_definitions (next_definition d c ds) is h = of_definition d is.0 (of_comma c (of_definitions ds is.1 h).apart)
+
+of_package : {c : Option (List ℕ)} {ts r : Words} → SpellsPackage c ts r → Apart r → Apart ts
+of_package no_clause h = h
+of_package (clause is c) h = (refl, (refl, (of_comma c h).apart))
+
+pub words_apart : (f : FileTree) (ts : Words) → SpellsFile f ts → IsLabelledFile f → Apart ts
+words_apart f ts (spelled p ds) is = of_package p (of_definitions ds is (record { quiet = refl; apart = (refl, tt) })).apart
