@@ -12,7 +12,7 @@ use Rattle.cs_profile.specs.Validity.{IsValidity}
 use Rattle.cs_compile.specs.Translation.{definition_schema, IsTranslation}
 use Rattle.cs_compile.specs.Definitions.{definition_entries, AreDefinitions}
 use Rattle.cs_profile.specs.Root.{reference_to}
-use Rattle.cs_compile.specs.Depth.{most_depth}
+use Rattle.cs_compile.specs.Depth.{most_schema_depth}
 use Rattle.cs_compile.specs.Whole.{Compiles}
 use Rattle.cs_guard.specs.Guarded.{IsGuarded}
 use Rattle.cs_guard.specs.Reachable.{Reaches}
@@ -72,5 +72,5 @@ module _ (E : Environment) (n : List ℕ) (s : SchemaValue) (root : schema_view 
     root = root;
     definitions = λ m. subst (λ d. IsSome (defined d m) ↔ Reaches E n m) (sym is_root) (nothing_else E n ms are each m, there E n ms are each m);
     meaning = λ V I. subst (λ d. IsValidity d V → IsInstance E I → (x : Document) → IsDocument x → V d x ≡ I (definition n) x) (sym is_root) (λ g h x is. valid E n ms are each guarded V I g h x is);
-    nested = λ low. subst (λ d. depth d ≤ most_depth) (sym is_root) (root_of-depth E n ms low are);
+    nested = λ low. subst (λ d. depth d ≤ most_schema_depth) (sym is_root) (root_of-depth E n ms low are);
   }

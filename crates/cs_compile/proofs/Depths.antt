@@ -18,7 +18,7 @@ use Rattle.cs_compile.specs.Translation.{schema_of, schemas_of, declared_schemas
 use Rattle.cs_compile.specs.Definitions.{AreDefinitions}
 use Rattle.cs_compile.specs.Grouped.{for_every_key}
 use Rattle.cs_grammar.specs.Limits.{most_height}
-use Rattle.cs_compile.specs.Depth.{most_depth}
+use Rattle.cs_compile.specs.Depth.{most_schema_depth}
 use Rattle.cs_package.specs.Height.{height, height_all, height_fields, height_rest, heights, IsLow}
 use Rattle.cs_compile.proofs.Interval.{by_conjunction, interval-depth}
 use Rattle.cs_compile.proofs.Root.{root_of}
@@ -230,5 +230,5 @@ definitions-depth E root (member n d ms) low h =
     max-le one (definitions-depth E root ms low h.1)
 
 -- the root adds two levels
-pub root_of-depth : (E : Environment) (n : List ℕ) (ms : Members) → IsLow E → AreDefinitions E n ms → depth (root_of ms n) ≤ most_depth
-root_of-depth E n ms low h = let within = definitions-depth E n ms low h in two-levels (members_depth ms) most_depth (omega arith)
+pub root_of-depth : (E : Environment) (n : List ℕ) (ms : Members) → IsLow E → AreDefinitions E n ms → depth (root_of ms n) ≤ most_schema_depth
+root_of-depth E n ms low h = let within = definitions-depth E n ms low h in two-levels (members_depth ms) most_schema_depth (omega arith)

@@ -2,5 +2,5 @@
 use Rattle.std.specs.Prelude.{ℕ}
 
 -- how deep a schema nests whose bodies are no higher than `most_height`: four levels for each level of a body, and two more
-abbrev pub most_depth : ℕ
-most_depth = 114
+abbrev pub most_schema_depth : ℕ
+most_schema_depth = 114

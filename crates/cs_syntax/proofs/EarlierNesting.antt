@@ -1,12 +1,12 @@
 -- What the first edition spelled nests as it did, so it is spelled still.
-use Rattle.std.proofs.Common.{◌≡◌, ℕ, ◌≤◌, max, Bool, true, false, ◌&&◌, List, [], ◌∷◌, refl, sym, ap, subst}
+use Rattle.std.proofs.Common.{◌≡◌, ℕ, ◌≤◌, max, Bool, true, false, ◌&&◌, ◌||◌, List, [], ◌∷◌, refl, sym, ap, subst}
 use Rattle.std.proofs.lemmas.Bool.{false≢true}
 use Rattle.cs_grammar.specs.Tree.{FileTree}
-use Rattle.cs_grammar.specs.View.{words}
-use Rattle.cs_grammar.specs.Words.{Word, Words, name, quoted, close_list, colon, question, bang}
+use Rattle.cs_grammar.specs.TokenWords.{words}
+use Rattle.cs_grammar.specs.Words.{Word, Words, close_list, colon, question, bang}
 use Rattle.cs_syntax.specs.Answer.{IsSpelled}
-use Rattle.cs_syntax.specs.Earlier.{is_chained_earlier, is_short_earlier, behind_earlier, nesting_from_earlier, earlier_nesting, IsSpelledEarlier}
-use Rattle.cs_syntax.specs.Nesting.{OpenLevels, is_chained_label, is_short, counted_if, behind, nesting_at, nesting_from, nesting, most_nested}
+use Rattle.cs_syntax.specs.Earlier.{is_short_earlier, behind_earlier, nesting_from_earlier, earlier_nesting, IsSpelledEarlier}
+use Rattle.cs_syntax.specs.Nesting.{OpenLevels, ends_with_chained_label, ends_with_chained_string, is_short, counted_if, behind, nesting_at, nesting_from, nesting, most_nested}
 use Rattle.cs_syntax.proofs.LabelledWords.{goes_on, closes, begins, Apart, words_apart}
 
 turned : (a b : Bool) → a && b ≡ false → b && a ≡ false
@@ -22,31 +22,23 @@ abbrev Ready : Words → Type 0
 Ready [] = Unit {0}
 Ready (w ∷ before) = goes_on w && begins closes before ≡ false
 
-chained_same : (before : Words) → begins closes before ≡ false → is_chained_earlier before ≡ is_chained_label before
-chained_same [] h = refl
-chained_same (name s o ∷ []) h = refl
-chained_same (name s o ∷ w ∷ before) h = of_name w
-  where
-    of_name : (v : Word) → is_chained_earlier (name s o ∷ v ∷ before) ≡ is_chained_label (name s o ∷ v ∷ before)
-    of_name (colon p) = refl
-    of_name _ = refl
-chained_same (quoted s o ∷ []) h = refl
-chained_same (quoted s o ∷ w ∷ before) h = of_text w
-  where
-    of_text : (v : Word) → is_chained_earlier (quoted s o ∷ v ∷ before) ≡ is_chained_label (quoted s o ∷ v ∷ before)
-    of_text (colon p) = refl
-    of_text _ = refl
-chained_same (close_list o ∷ before) h = absurd (false≢true (sym h))
-chained_same (w ∷ before) h = refl
+no_string : (before : Words) → begins closes before ≡ false → ends_with_chained_string before ≡ false
+no_string [] h = refl
+no_string (close_list o ∷ before) h = absurd (false≢true (sym h))
+no_string (w ∷ before) h = refl
 
-short_same : (before : Words) → Ready before → begins closes before ≡ false → is_short_earlier before ≡ is_short before
-short_same [] ready h = refl
-short_same (question o ∷ before) ready h = chained_same before ready
-short_same (bang o ∷ before) ready h = chained_same before ready
-short_same (w ∷ before) ready h = chained_same (w ∷ before) h
+or_left : (a b : Bool) → b ≡ false → a ≡ a || b
+or_left true b h = refl
+or_left false b h = sym h
+
+short_same : (before : Words) → begins closes before ≡ false → is_short_earlier before ≡ is_short before
+short_same [] h = refl
+short_same (question o ∷ before) h = refl
+short_same (bang o ∷ before) h = refl
+short_same (w ∷ before) h = or_left (ends_with_chained_label (w ∷ before)) (ends_with_chained_string (w ∷ before)) (no_string (w ∷ before) h)
 
 behind_same : (before : Words) (w : Word) (ns : OpenLevels) → Ready before → goes_on w && begins closes before ≡ false → behind_earlier before w ns ≡ behind before w ns
-behind_same before (colon o) ns ready h = ap (λ b. counted_if b ns) (short_same before ready h)
+behind_same before (colon o) ns ready h = ap (λ b. counted_if b ns) (short_same before h)
 behind_same before _ ns ready h = refl
 
 -- ---- all words

@@ -1,25 +1,20 @@
 -- What a source spelled by the profile's first edition, before `[string]: T` was taken: no label is `[string]`.
-use Rattle.std.specs.Prelude.{ℕ, ◌≤◌, Bool, true, false, max, List, [], ◌∷◌}
+use Rattle.std.specs.Prelude.{ℕ, ◌≤◌, Bool, max, List, [], ◌∷◌}
 use Rattle.cs_grammar.specs.Cut.{Lexeme, IsCut}
 use Rattle.cs_grammar.specs.Labels.{IsLabelledFile}
 use Rattle.cs_grammar.specs.Spells.{SpellsFile}
 use Rattle.cs_grammar.specs.Tree.{FileTree}
-use Rattle.cs_grammar.specs.View.{words}
-use Rattle.cs_grammar.specs.Words.{Word, Words, name, quoted, colon, question, bang}
-use Rattle.cs_syntax.specs.Height.{file_height, most_height}
-use Rattle.cs_syntax.specs.Nesting.{OpenLevels, counted_if, behind, nesting_at, most_nested}
+use Rattle.cs_grammar.specs.TokenWords.{words}
+use Rattle.cs_grammar.specs.Words.{Word, Words, colon, question, bang}
+use Rattle.cs_grammar.specs.Limits.{most_height}
+use Rattle.cs_syntax.specs.Height.{file_height}
+use Rattle.cs_syntax.specs.Nesting.{OpenLevels, ends_with_chained_label, counted_if, behind, nesting_at, most_nested}
 
--- the words before a place, the newest first, are a name or a text that stands directly behind a colon
-abbrev pub is_chained_earlier : Words → Bool
-is_chained_earlier (name s o ∷ colon p ∷ before) = true
-is_chained_earlier (quoted s o ∷ colon p ∷ before) = true
-is_chained_earlier _ = false
-
--- a colon behind these words is short by these labels alone
+-- a colon behind these words, the newest first, is short where its label is a name or a text that stands directly behind another colon
 abbrev pub is_short_earlier : Words → Bool
-is_short_earlier (question o ∷ before) = is_chained_earlier before
-is_short_earlier (bang o ∷ before) = is_chained_earlier before
-is_short_earlier before = is_chained_earlier before
+is_short_earlier (question o ∷ before) = ends_with_chained_label before
+is_short_earlier (bang o ∷ before) = ends_with_chained_label before
+is_short_earlier before = ends_with_chained_label before
 
 -- the levels behind a word: a colon counts where it is short by these labels, and every other word is as it is now
 abbrev pub behind_earlier : Words → Word → OpenLevels → OpenLevels

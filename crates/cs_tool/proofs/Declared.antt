@@ -3,7 +3,7 @@ use Rattle.std.proofs.Common.{◌≡◌, ℕ, List, [], ◌∷◌, refl, sym, ap
 use Rattle.cs_grammar.specs.Cut.{Lexeme}
 use Rattle.cs_grammar.specs.Tree.{FileTree}
 use Rattle.cs_grammar.specs.Spells.{SpellsFile}
-use Rattle.cs_grammar.specs.View.{words}
+use Rattle.cs_grammar.specs.TokenWords.{words}
 use Rattle.cs_lexer.proofs.CutUnique.{cut_once}
 use Rattle.cs_syntax.specs.Answer.{IsSpelled}
 use Rattle.cs_syntax.proofs.FileAnswers.{file_once}

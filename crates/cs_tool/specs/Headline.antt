@@ -14,7 +14,7 @@ use Rattle.cs_schema.specs.Trim.{trim, with_dialect}
 use Rattle.cs_schema.specs.Validity.{IsValidity}
 use Rattle.cs_schema.specs.Validity as validity
 use Rattle.cs_validate.specs.Rules as validate
-use Rattle.cs_compile.specs.Depth.{most_depth}
+use Rattle.cs_compile.specs.Depth.{most_schema_depth}
 use Rattle.cs_tool.specs.Accepted.{DeclaresRoot}
 
 -- the text is the schema of the root definition that the sources spell
@@ -23,10 +23,10 @@ pub record IsExport (sources : List (List ℕ)) (root text : List ℕ) : Type 0 
   pub environment : Environment
   pub name : List ℕ
   pub declares : DeclaresRoot sources root environment name
-  -- the text is the compact text of a schema of the profile, nests no deeper than `most_depth` (114) and is read as that schema
+  -- the text is the compact text of a schema of the profile, nests no deeper than `most_schema_depth` (114) and is read as that schema
   pub schema : Document
   pub written : text ≡ text_of schema
-  pub nested : depth schema ≤ most_depth
+  pub nested : depth schema ≤ most_schema_depth
   pub read : Reads text schema
   pub profile : IsSchema schema
   pub trimmed : trim schema ≡ schema
