@@ -1,7 +1,8 @@
 #!/bin/sh
 # Says which names of the tables in docs/DEFINITIONS.md and docs/PROOF.md aren't where these say: for each row of a table whose last
 # column is `file`, each name in backticks in its first cell has to be defined in a file of its last cell. A file is named from
-# `crates` on, or from the folder of the crate that the heading names. Status 1 where one is missing.
+# `crates` on, or from the folder of the crate that the heading names. Says too which other file of the crate's definitions or proofs
+# has the name. Status 1 where one is missing.
 #
 #     tools/definitions.sh [PAGE..]
 set -eu
@@ -33,6 +34,19 @@ function read_file(file,   line, n, words, i, status) {
     close(file)
 }
 
+# The other files of the crate that define a name.
+function elsewhere(file, name,   folder, command, other, found) {
+    folder = file
+    sub(/\/(specs|proofs)\/.*/, "", folder)
+    command = "ls " folder "/specs/*.antt " folder "/proofs/*.antt 2> /dev/null"
+    while ((command | getline other) > 0) {
+        if (!(other in seen)) read_file(other)
+        if ((other, name) in defined) found = found " " other
+    }
+    close(command)
+    return found == "" ? "" : ", but in" found
+}
+
 function fault(text) {
     print FILENAME ":" FNR ": " text
     failed = 1
@@ -58,6 +72,7 @@ function fault(text) {
         if (!(file in seen)) read_file(file)
         if (seen[file]) files = files " " file
         else fault("there is no " file)
+        sought = file
     }
     m = split(files, paths, " ")
     n = spans_of(cells[1])
@@ -65,7 +80,7 @@ function fault(text) {
         split(spans[i], words, " ")
         found = 0
         for (j = 1; j <= m; j++) if ((paths[j], words[1]) in defined) found = 1
-        if (!found && m) fault(words[1] " is not in" files)
+        if (!found) fault(words[1] " is not in" (m ? files : " " sought) elsewhere(sought, words[1]))
     }
 }
 END { exit failed }
