@@ -1,3 +1,8 @@
+-- What the proofs of this crate show: a package's calls read its environment, place by place and name by name (`found_at`,
+-- `found_nowhere` in `Environments`, by induction on the table).
+
+-- environments; shapes as expressions
 pub mod Environments
 pub mod Views
+-- samples
 mod Samples

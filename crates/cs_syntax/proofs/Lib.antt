@@ -1,16 +1,25 @@
+-- What the proofs of this crate show: what the parser reads is spelled (`file_found` in `Soundness`, by induction on the depth), what is
+-- spelled within the limits is read (`read_file` in `Completeness`, by induction on the spelling), so words spell one file (`file_once`
+-- in `FileAnswers`), and a fault stands at a word (`file_fault` in `Places`).
+
+-- words, quoted texts, and the code beside the reader of the definitions
 pub mod WordKinds
 pub mod QuotedTexts
 pub mod Reader
+-- completeness, with the lists that a label's bracket begins
 pub mod BracketLabels
 pub mod Completeness
+-- soundness, faults, and what the call answers
 pub mod Soundness
 pub mod Places
 pub mod FileAnswers
+-- nesting: how the code counts it, how it bounds the parser's depth (`inside_low`); heights
 pub mod NestingCounts
 pub mod NestingBounds
 pub mod LabelledWords
 pub mod EarlierNesting
 pub mod Depths
 pub mod Heights
+-- samples
 pub mod GrammarSamples
 pub mod Samples

@@ -1,2 +1,6 @@
+-- What the proofs of this crate show: a judge that looks back has one table (`only_table` in `Tables`, by induction on the item and then on the
+-- rule), and a verdict that is given keeps the earlier ones.
+
 pub mod Tables
+-- samples
 mod Samples
