@@ -28,7 +28,7 @@ parts() { # page
             sub(/`.*$/, "", cell)
             return cell
         }
-        function write(name, text) { print text > (room "/" name); close(room "/" name) }
+        function write(name, text) { printf "%s", text > (room "/" name); close(room "/" name) }
         function begin(text) {
             number++
             write(number ".command", text)
@@ -83,7 +83,7 @@ parts() { # page
             number++
             write(number ".row", kind)
             write(number ".input", code(cells[answer - 1]))
-            write(number ".answer", code(cells[answer]))
+            write(number ".answer", code(cells[answer]) "\n")
             if (instead && code(cells[instead]) != "") write(number ".instead", code(cells[instead]))
         }
         END { print number + 0 > (room "/count") }
