@@ -130,11 +130,12 @@ row() {
     fi
 }
 
-# page NAME: its commands in one shell, then each of them and each row
+# page NAME: its commands in one shell, which may end early, then what each of them printed, and each row
 page() {
     mkdir "$room/here"
     parts "$top/$1"
     (cd "$room/here" && room=$room PATH=$room/path:$PATH sh "$room/session") > "$room/stray" 2>&1 || true
+    number=0
     for number in $(seq "$(cat "$room/count")"); do
         if [ -e "$room/$number.row" ]; then
             row "$1" "$number"
@@ -142,16 +143,19 @@ page() {
             [ -e "$room/$number.out" ] || echo 'not run' > "$room/$number.out"
             compare "$1: $(cat "$room/$number.command")" "$room/$number.out" "$room/$number.wanted"
         else
-            status=$(cat "$room/$number.status" || echo none)
-            mv "$room/$number.out" "$room/out" || : > "$room/out"
-            : > "$room/said"
+            status=$(cat "$room/$number.status" 2> "$room/said" || echo none)
+            mv "$room/$number.out" "$room/out" 2> "$room/said" || : > "$room/out"
             if [ "$status" = 0 ]; then count "$1" yes; else count "$1: $(head -n 1 "$room/$number.command") .." no; fi
         fi
     done
+    status=-
+    [ "$number" -gt 0 ] || count "$1: nothing to run" no
     rm -rf "$room/here" "$room"/[0-9]*
 }
 
 mkdir "$room/path"
+: > "$room/out"
+: > "$room/said"
 ln -s "$program" "$room/path/cue2schema"
 [ $# -gt 0 ] || set -- README.md docs/USAGE.md docs/PROFILE.md docs/REFUSALS.md
 for name in "$@"; do page "$name"; done
