@@ -42,7 +42,9 @@ fn validate<'a>(alloc: Global) -> Result<Command<'a>, AllocError> {
         .about("Says whether a JSON document is valid against a schema")
         .after_help("Example: cue2schema validate --schema port.schema.json --doc port.json")
         .arg(schema(alloc))?
-        .arg(document(alloc))
+        .arg(document(alloc).help(
+            "The file of the JSON document; standard input where there is none",
+        ))
 }
 
 fn agree<'a>(alloc: Global) -> Result<Command<'a>, AllocError> {
@@ -57,8 +59,8 @@ fn agree<'a>(alloc: Global) -> Result<Command<'a>, AllocError> {
 fn root<'a>(alloc: Global) -> Arg<'a> {
     Arg::new(alloc, "root")
         .long("root")
-        .value_name("#NAME")
-        .help("The root definition, with its #")
+        .value_name("'#NAME'")
+        .help("The root definition with its #, quoted for the shell")
         .required(true)
         .allow_hyphen_values(true)
         .action(ArgAction::Set)
