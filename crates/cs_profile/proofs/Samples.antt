@@ -1,6 +1,7 @@
 -- What the definitions say of single keywords, names, values, places and loops, by computation.
 use Rattle.std.proofs.Common.{◌≡◌, ℕ, negsuc, ◌<◌, Bool, true, false, List, [], ◌∷◌, inl, inr, map, length, Option, Some, None, option_map, Vec, Global, String as Text, string_bytes, bytes_eq, codes, refl, sym, subst, if◌then◌else◌, arith}
 use Rattle.std.specs.Fmt.{digits}
+use Rattle.std.specs.Prelude.{replicate}
 use Rattle.std.specs.Option.{option_map_or}
 use Rattle.std.specs.List.{list_all, list_any, IsDistinct}
 use Rattle.cs_document.specs.Document.{Document, null, boolean, integer, text, list, under}
@@ -13,6 +14,7 @@ use Rattle.cs_profile.specs.Keywords as schema
 use Rattle.cs_profile.specs.Shapes.{kept, left_out, left_out_if_empty, keeping, form_at, is_name_code, is_name, has_form, is_kept, by_form}
 use Rattle.cs_profile.specs.declared.keyword.Form.{Form}
 use Rattle.cs_profile.specs.declared.keyword.Form.TheVariants as form
+use Rattle.cs_profile.specs.Constraint.{nothing, assertion_at}
 use Rattle.cs_profile.specs.Places.{at_key, at_index}
 use Rattle.cs_graph.specs.Chains.{Chain}
 use Rattle.cs_graph.proofs.Paths.{chain_short, no_cycle}
@@ -298,6 +300,12 @@ least = (refl, (refl, tt))
 
 not_least : ¬ (LeastFirst (codes "B" ∷ codes "C" ∷ codes "A" ∷ []))
 not_least h = let last = h.1 in cc
+
+-- ---- values without their keyword's shape, which assert nothing
+
+unshaped : map (λ (e : String × Document). assertion_at (boolean true) [] (codes e.0, e.1)) (("$ref", n 1) ∷ ("type", n 1) ∷ ("type", t "any") ∷ ("enum", n 1) ∷ ("minimum", t "1") ∷ ("maximum", null) ∷ ("exclusiveMinimum", l []) ∷ ("exclusiveMaximum", o []) ∷ ("minItems", integer (negsuc 0)) ∷ ("minItems", t "1") ∷ ("required", t "a") ∷ ("properties", l []) ∷ ("prefixItems", o []) ∷ ("allOf", o []) ∷ ("anyOf", boolean true) ∷ [])
+    ≡ replicate 15 nothing
+unshaped = refl
 
 -- ---- the keywords of an object, each under its name
 
