@@ -16,14 +16,15 @@ pub struct Inputs<'a> {
 pub fn answered_twice(alloc: Global, call: &str, inputs: Inputs<'_>) -> Result<Vec<u8>, Stop> {
     let mut lines = Vec::new(alloc);
     for _ in 0..2 {
-        push_line(&mut lines, answer(alloc, call, inputs))?;
+        let answer = answer(alloc, call, inputs);
+        push_line(&mut lines, &answer)?;
     }
     Ok(lines)
 }
 
-fn push_line(lines: &mut Vec<u8>, answer: Result<Vec<u8>, Fault>) -> Result<(), Stop> {
+fn push_line(lines: &mut Vec<u8>, answer: &Result<Vec<u8>, Fault>) -> Result<(), Stop> {
     match answer {
-        Ok(text) => lines.extend_from_slice(&text)?,
+        Ok(text) => lines.extend_from_slice(text)?,
         Err(Fault::OutOfMemory) => lines.extend_from_slice(b"error 15")?,
         Err(_) => return Err(Stop::Refused),
     }
