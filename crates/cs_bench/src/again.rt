@@ -57,21 +57,19 @@ fn text_of(alloc: Global, truth: bool) -> Result<Vec<u8>, AllocError> {
     text.to_vec(alloc)
 }
 
-/// What `run` writes for the request of `agree`, whose source it reads. A refusal after a part of the line is told as a failed
-/// write.
+/// What `run` writes for the request of `agree`, whose source it reads.
 fn run_over(alloc: Global, inputs: Inputs<'_>) -> Result<Vec<u8>, Fault> {
-    let request = request_of(alloc, inputs)?;
-    let mut input = inputs.text;
     // `valid` or `invalid` and a newline, so that the writer never grows
     let mut output = Vec::with_capacity(alloc, 8)?;
-    match run(alloc, request, &mut input, &mut output) {
-        Err(_) if !output.is_empty() => Err(Fault::WriteFailed),
-        Err(fault) => Err(fault),
-        Ok(_) => {
-            output.pop();
-            Ok(output)
-        },
-    }
+    write_over(alloc, inputs, &mut output)?;
+    output.pop();
+    Ok(output)
+}
+
+fn write_over(alloc: Global, inputs: Inputs<'_>, output: &mut Vec<u8>) -> Result<bool, Fault> {
+    let request = request_of(alloc, inputs)?;
+    let mut input = inputs.text;
+    run(alloc, request, &mut input, output)
 }
 
 fn request_of(alloc: Global, inputs: Inputs<'_>) -> Result<Request, AllocError> {
