@@ -45,6 +45,9 @@ answers = tools/cases.sh $(1); cases=$$?; tools/pages.sh $(1); pages=$$?; tools/
 # The gate leaves the program that it built; the cases never run on one that is older than a source.
 test: | toolchain
 	tools/edits_apply.sh
+	tools/recursions.sh
+	tools/definitions.sh
+	tools/contracts.sh
 	RT_JOBS=$(JOBS) rt ci
 	@if [ -x $(BUILT) ] && [ -z "$$(find $(SOURCES) -newer $(BUILT))" ]; then $(call answers,$(BUILT)); else $(MAKE) -s cases; fi
 

@@ -41,6 +41,11 @@ try_run() {
     if is_run "$1" "$2" "$3"; then count "commands: $4" yes; else count "commands: $4: wanted $1, '$2', '$3'" no; fi
 }
 
+# listed FORMAT: the numbers from 0 to 49,997 by a format of printf, with a comma between them
+listed() {
+    awk -v form="$1" 'BEGIN { for (i = 0; i < 49998; i++) printf "%s" form, (i ? "," : ""), i }'
+}
+
 mkdir "$room/here"
 cd "$room/here"
 port='{"P":{"maximum":65535,"minimum":1,"type":"integer"}}'
@@ -57,9 +62,19 @@ mkdir folder
 printf '#P: int' > "$(printf 'f\374r.cue')"
 # A schema of 95,000 bytes, more than a pipe holds.
 { printf '#P: int'; yes '|int' | head -n 4999 | tr -d '\n'; } > wide.cue
-# 11,200 operands, which are 11,202 rules and 22,402 schemas, and 3,000 values.
-{ printf '#P: !=1'; yes '&!=1' | head -n 11199 | tr -d '\n'; } > twice.cue
-{ printf '[0'; yes ',0' | head -n 2998 | tr -d '\n'; printf ']'; } > values.json
+# 5,000 operands, which are 5,002 rules and 10,002 schemas, and 8,001 values.
+{ printf '#A: !=1'; yes '&!=1' | head -n 4999 | tr -d '\n'; } > twice.cue
+{ printf '[0'; yes ',0' | head -n 7999 | tr -d '\n'; printf ']'; } > zeros.json
+# 49,999 literals; 49,998 fields, whose schema has more than 5 MiB, and that schema.
+{ printf '#P: 0'; seq 49998 | sed 's/^/|/' | tr -d '\n'; } > literals.cue
+{ printf '#P: {'; listed 'field%08d:int64'; printf '}'; } > fields.cue
+{
+    printf '{"$defs":{"P":{"additionalProperties":false,"properties":{'
+    listed '"field%08d":{"maximum":9223372036854775807,"minimum":-9223372036854775808,"type":"integer"}'
+    printf '},"required":['
+    listed '"field%08d"'
+    printf '],"type":"object"}},"$ref":"#/$defs/P",%s}\n' "$dialect"
+} > fields.json
 # Inputs at the limits, which hold blanks alone, and one byte more; and ten GiB of zeros, which take no room.
 head -c 1048576 /dev/zero | tr '\0' ' ' > source-limit
 { cat source-limit; printf ' '; } > source-over
@@ -181,10 +196,20 @@ try 'error 28' 'run validate --schema input-over --doc one'
 try 'error 25' 'run agree --root "#P" --doc input-limit port.cue'
 try 'error 28' 'run agree --root "#P" --doc input-over port.cue'
 
+# Many files: each is read to its end and let go before the next one, and all of them have one limit.
+try valid 'run vet --root "#P" --doc one $(yes port.cue | head -n 300)'
+try valid 'ulimit -n 100; run vet --root "#P" --doc one $(yes port.cue | head -n 200)'
+try 'error 1' 'run export --root "#P" source-limit one missing.cue'
+try 'error 1' 'run export --root "#P" one source-limit missing.cue'
+
+# Large answers that are given where there is memory.
+try "{\"P\":{\"enum\":[$(seq -s , 0 49998)]}}" 'run export --root "#P" literals.cue'
+try_run 0 'all of it' '' 'run export --root "#P" fields.cue | cmp - fields.json && echo "all of it"'
+
 # Too many pairs of values and schemas, where those of values and rules are few enough.
-try invalid 'run vet --root "#P" --doc values.json twice.cue'
-try 'error 27' 'run export --root "#P" twice.cue > twice.json; run validate --schema twice.json --doc values.json'
-try 'error 27' 'run agree --root "#P" --doc values.json twice.cue'
+try invalid 'run vet --root "#A" --doc zeros.json twice.cue'
+try 'error 27' 'run export --root "#A" twice.cue > twice.json; run validate --schema twice.json --doc zeros.json'
+try 'error 27' 'run agree --root "#A" --doc zeros.json twice.cue'
 
 # Inputs without an end, in 400 MB of memory: reading stops at the limit.
 try 'error 1' 'ulimit -v 400000; yes | run export --root "#P"'

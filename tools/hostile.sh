@@ -125,6 +125,15 @@ nested 127 '[' '' ']' > lists
 try 'schema of 127 nested lists' 0 'error 22' 'validate --schema lists --doc null'
 nested 126 '{"a":' '{}' '}' > maps
 try 'schema of 127 nested maps' 0 'error 21' 'validate --schema maps --doc null'
+# Sources as deep as they may be: what goes into each part twice takes 2 to the 28th steps.
+{ printf '#A: '; nested 28 '[' '' ']'; } > deep.cue
+nested 28 '[' '' ']' > lists
+deepest="$(nested 27 '{"items":false,"minItems":1,"prefixItems":[' '{"items":false,"type":"array"}' '],"type":"array"}')"
+try 'source of 28 nested lists: export' 0 "{\"A\":$deepest}" 'export --root #A deep.cue'
+try 'source of 28 nested lists: agree' 2408 valid 'agree --root #A --doc lists deep.cue'
+{ printf '#A: ['; many 1499 "$(nested 26 '[' '' ']'),"; nested 26 '[' '' ']'; printf ']'; } > deep.cue
+{ printf '['; many 99 'null,'; printf 'null]'; } > nulls
+try '1,500 times 26 nested lists, 101 values: vet' 3939202 invalid 'vet --root #A --doc nulls deep.cue'
 # Documents, schemas and sources that open without end.
 fill 60000000 '[' > open
 try '60,000,000 open lists: vet' 0 'error 25' 'vet --root #A --doc open any.cue'
@@ -198,6 +207,9 @@ try '5,000,000 zeros: validate true' 5000001 valid 'validate --schema true --doc
 try '33,554,431 zeros, more than 1 GiB holds' 0 'error 15' 'validate --schema true --doc values'
 { printf '['; many 4999999 '[],'; printf '[]]'; } > values
 try '5,000,000 empty lists: validate true' 5000001 valid 'validate --schema true --doc values'
+{ printf '['; many 2999999 '0,'; printf '0]'; } > values
+printf '#A: [...int]' > rest.cue
+try '3,000,000 zeros: vet [...int]' 9000003 valid 'vet --root #A --doc values rest.cue'
 rm values
 
 # Keys and texts that agree but for their last bytes.
@@ -252,6 +264,10 @@ try '300,000 definitions in a loop' 0 'error 24' 'validate --schema schema --doc
 try '300,000 definitions that refer to none' 0 'error 23' 'validate --schema schema --doc seven'
 { printf '{"$defs":{"a":true},"allOf":['; many 499999 '{"$ref":"#/$defs/a"},'; printf 'true]}'; } > schema
 try '499,999 references to one definition' 500002 valid 'validate --schema schema --doc seven'
+{ printf '{"$defs":{'; listed 300000 '"d%06d":true'; printf ',"e":{"allOf":['; listed 300000 '{"$ref":"#/$defs/d%06d"}'; printf ']}},"$ref":"#/$defs/e"}'; } > schema
+try 'a definition of 300,000 references, 101 values' 60600202 valid 'validate --schema schema --doc nulls'
+{ printf '{"anyOf":['; many 500000 'false,'; printf 'true]}'; } > schema
+try 'anyOf of 500,000 false and a true' 500002 valid 'validate --schema schema --doc seven'
 { printf '{"properties":{'; listed 1000000 '"k%07d":true'; printf '}}'; } > schema
 try '1,000,000 properties' 1000001 valid 'validate --schema schema --doc seven'
 { printf '{'; listed 1000000 '"k%07d":true'; printf '}'; } > schema

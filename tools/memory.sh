@@ -4,6 +4,9 @@
 # print nothing, say `error 15` and end with status 5, and the last one must give the whole answer. A line for each command says
 # how many growths it has, or what a run did instead; fails where there is such a run. Takes a minute on 4 processors.
 #
+# A step `again` makes a call twice in one process, on the same inputs: where a growth of one of them is refused, that one has to
+# answer 15, and the other one the whole answer.
+#
 #     tools/memory.sh PROGRAM BENCH        JOBS=N: so many commands side by side
 #
 # A growth is a call of `malloc` or `realloc`. The kit's compiler builds refused_growth.c, which refuses one of them.
@@ -20,12 +23,22 @@ flatten < leaf.json => 5
 copy < leaf.json => 2
 read < all.json => 17
 flatten < all.json => 42
-copy < all.json => 17'
+copy < all.json => 17
+again export #T < tree.cue => {"T":{"additionalProperties":false,"properties":{"kids":{"items":{"$ref":"#/$defs/T"},"type":"array"},"v":{"type":"integer"}},"required":["v"],"type":"object"}}
+again vet #T {"v":1,"kids":[{"v":2}]} < tree.cue => valid
+again validate - {"v":1,"kids":[{}]} < tree.schema.json => invalid
+again agree #T {"v":1,"kids":[{"v":2}]} < tree.cue => valid
+again run #T {"v":1,"kids":[{"v":2}]} < tree.cue => valid
+again agree #D {"a":1,"b":2} < either.cue => invalid
+again export #W < choice.cue => {"W":{"allOf":[{"not":{"const":null}},{"enum":[1,"s",null]}]}}
+again run #W null < choice.cue => invalid'
 
 # run WORD..: the program on $room/in with each growth refused in turn. `growths` is how many there are. Stops at a run that
 # meets a refusal and isn't refused.
 run() {
     growths=0
+    first=0
+    second=0
     while :; do
         : > "$room/met"
         status=0
@@ -33,7 +46,7 @@ run() {
             < "$room/in" > "$room/out" 2> "$room/said" 9> "$room/met" || status=$?
         if [ ! -s "$room/met" ]; then return; fi
         growths=$((growths + 1))
-        if ! is_refused; then return; fi
+        if ! is_refused && ! is_answered_once; then return; fi
     done
 }
 
@@ -43,17 +56,49 @@ is_refused() {
         && { IFS= read -r said && [ "$said" = 'error 15' ] && ! read -r said && [ -z "$said" ]; } < "$room/said"
 }
 
+# Whether one of the two calls of a step `again` answered 15, and the other one all. `first` and `second` count which.
+is_answered_once() {
+    [ -n "$line" ] || return 1
+    if is_run 0 "error 15
+$line" ''; then
+        first=$((first + 1))
+    elif is_run 0 "$line
+error 15" ''; then
+        second=$((second + 1))
+    else
+        return 1
+    fi
+}
+
 # whether the last run met no refusal and did what is wanted
 is_answered_well() {
     if [ -s "$room/met" ]; then return 1; fi
+    if [ -n "$line" ]; then
+        [ "$first" -gt 0 ] && [ "$second" -gt 0 ] && is_run 0 "$line
+$line" ''
+        return
+    fi
     case $1 in
         [0-9]*) is_run 0 "$1" '' ;;
         *) is_wanted "$1" ;;
     esac
 }
 
+# line_of ROW: what a call of a step `again` answers, nothing for another row
+line_of() {
+    case $1 in
+        again*' => {'*)
+            root=${1#again * \#}
+            root=${root%% *}
+            printf '%s\n' "{\"\$defs\":${1#* => },\"\$ref\":\"#/\$defs/$root\",$dialect}"
+            ;;
+        again*) printf '%s\n' "${1#* => }" ;;
+    esac
+}
+
 # one ROW: a command with all its growths
 one() {
+    line=$(line_of "$1")
     run_line "${1%% => *}"
     if [ "$growths" -gt 0 ] && is_answered_well "${1#* => }"; then
         printf '%5d growths: %s %s\n' "$growths" "$(basename "$program")" "${1%% => *}"

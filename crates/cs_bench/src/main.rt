@@ -6,16 +6,21 @@
 // - `read`, `flatten`, `copy`: a JSON text; the values at the top of its document, or all of them, or those at the top of a
 //   copy. `flatten` and `copy` read once.
 // - `fill`: how many items a table has, with 8,192 rules; its judgements.
+// The word `again` makes a call of the tool twice, and prints a line for each answer: behind it stand the call, the root and the
+// document, and standard input is the source, or the schema. The call is `export`, `vet`, `validate`, `agree`, or `run` for
+// `agree` over a reader and a writer.
 // Where memory runs out, it ends as `cue2schema` does: by `error 15` and status 5.
 #![tactic(auto)]
 
+mod again;
 mod documents;
 mod sources;
 mod stop;
 mod tables;
 
+use again::Inputs;
 use std::alloc::Global;
-use std::io::Read;
+use std::io::{Read, Write};
 use std::process::ExitCode;
 use std::str;
 use stop::Stop;
@@ -42,26 +47,42 @@ fn printed(rt: &HostRuntime) -> Result<(), Stop> {
     for word in std::env::args(rt)? {
         words.push(word)?;
     }
+    if word_at(words.as_slice(), 1, "lex") == "again" {
+        let lines = answered_twice(rt.alloc(), input.as_slice(), words.as_slice())?;
+        rt.stdout().write_all(&lines)?;
+        return Ok(());
+    }
     let count = counted(rt.alloc(), input.as_slice(), words.as_slice())?;
     println!(rt; "{count}")?;
     Ok(())
 }
 
+/// A word of the process.
+fn word_at<'a>(words: &'a [String], place: usize, default: &'a str) -> &'a str {
+    match words.get(place) {
+        Some(word) => word.as_str(),
+        None => default,
+    }
+}
+
+/// What the call that the words name answers twice.
+fn answered_twice(alloc: Global, text: &[u8], words: &[String]) -> Result<Vec<u8>, Stop> {
+    let inputs = Inputs {
+        text,
+        root: word_at(words, 3, ""),
+        doc: word_at(words, 4, "").as_bytes(),
+    };
+    again::answered_twice(alloc, word_at(words, 2, ""), inputs)
+}
+
 /// What the words ask for.
 fn counted(alloc: Global, input: &[u8], words: &[String]) -> Result<usize, Stop> {
-    let step = match words.get(1) {
-        Some(word) => word.as_str(),
-        None => "lex",
-    };
-    let times = match words.get(2) {
-        Some(word) => word.parse::<u32>()?,
-        None => 1,
-    };
-    match step {
+    let times = word_at(words, 2, "1").parse::<u32>()?;
+    match word_at(words, 1, "lex") {
         "read" => documents::read(alloc, input, times),
         "flatten" => documents::flattened(alloc, input, times),
         "copy" => documents::copied(alloc, input, times),
         "fill" => tables::filled(alloc, str::from_utf8(input)?, times),
-        _ => sources::counted(alloc, str::from_utf8(input)?, step, times),
+        step => sources::counted(alloc, str::from_utf8(input)?, step, times),
     }
 }

@@ -10,6 +10,7 @@ paint => -
 vet --root #P => -
 vet --doc d => -
 validate --doc d => -
+validate --schema --doc d => -
 agree --root #P => -
 export => -
 export --root #P --root #P => -

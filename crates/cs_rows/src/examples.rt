@@ -31,6 +31,7 @@ const PACKAGES: &str =
 #P: >3 => #P => "P":{"exclusiveMinimum":3,"type":"number"} => 4 => 3 "a"
 #P: >= -3 => #P => "P":{"minimum":-3,"type":"number"} => -3 => -4 "a"
 #P: int % #Q: string => #P => "P":{"type":"integer"} => 1 => "a"
+#⟨300×P⟩: int => #⟨300×P⟩ => "⟨300×P⟩":{"type":"integer"} => 1 => "a"
 #P: int % #P: >2 => #P => "P":{"allOf":[{"type":"integer"},{"exclusiveMinimum":2,"type":"number"}]} => 3 => 2
 package p;#P: >2 % #Q: int % package p;#P: int => #P => "P":{"allOf":[{"exclusiveMinimum":2,"type":"number"},{"type":"integer"}]} => 3 => 2
 #Q: int % #P: ((int) & (<9 & >1)) => #P => "P":{"allOf":[{"type":"integer"},{"allOf":[{"exclusiveMaximum":9,"type":"number"},{"exclusiveMinimum":1,"type":"number"}]}]} => 8 => 9

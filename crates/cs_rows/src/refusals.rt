@@ -4,15 +4,57 @@ use cs_tool::{Fault, agree, export, validate, vet};
 use std::alloc::{AllocError, Global};
 use std::test::Fail;
 
-/// Whether that is the number of a refusal with its file and offset, 0 where it has none; all of them 0 for no refusal.
+/// The number of each refusal, and words of what it means that its message has and no other one.
+const MESSAGES: &str = r##"1 => more than 1,048,576 bytes
+2 => a source is not UTF-8
+3 => no token begins
+4 => a token is out of place
+5 => this form of CUE
+6 => an integer does not fit
+7 => deeper than 28
+8 => another package
+9 => a name is not declared
+10 => refers to a field
+11 => a struct literal in a conjunction
+12 => in a cycle
+13 => not declare the root
+14 => more than 1,000 definitions or 50,000 nodes
+15 => out of memory
+16 => longer than 64
+20 => the schema is not JSON
+21 => a keyword of the schema is not supported
+22 => a value of the wrong form
+23 => `$ref`
+24 => in a loop
+25 => the document is not JSON
+26 => a number is not an integer
+27 => the document is too large
+28 => more than 67,108,864 bytes
+30 => could not be read
+31 => could not be written"##;
+
+/// Whether the message of a refusal has the words of its number.
+pub(crate) fn is_said(alloc: Global, fault: &Fault) -> Result<bool, AllocError> {
+    let message = format!(in alloc; "{fault}")?;
+    for row in MESSAGES.lines() {
+        let (number, words) = cell(row);
+        if number.parse::<u32>().unwrap_or(0) == fault.number() {
+            return Ok(message.contains(words.trim()));
+        }
+    }
+    Ok(false)
+}
+
+/// Whether that is the number of a refusal with its file and offset, 0 where it has none; all of them 0 for no refusal. Its
+/// message has to say what its number means.
 fn is_told(alloc: Global, refusal: &Option<Fault>, wanted: &str) -> Result<bool, AllocError> {
-    let (number, file, offset) = match refusal {
-        None => (0, None, None),
-        Some(fault) => (fault.number(), fault.file(), fault.offset()),
+    let Some(fault) = refusal else {
+        return Ok(wanted == "0 in 0 at 0");
     };
-    let (file, offset) = (file.unwrap_or(0), offset.unwrap_or(0));
+    let number = fault.number();
+    let (file, offset) = (fault.file().unwrap_or(0), fault.offset().unwrap_or(0));
     let told = format!(in alloc; "{number} in {file} at {offset}")?;
-    Ok(told.as_str() == wanted)
+    Ok(told.as_str() == wanted && is_said(alloc, fault)?)
 }
 
 /// Whether `vet` and `agree` answer so.
@@ -48,6 +90,7 @@ const PACKAGES: &str = r##"#P: int => #P => 0 in 0 at 0
 #P: int & >= => #P => 4 in 0 at 12
 #P: i => #P => 9 in 0 at 4
 #A0: #A1 & => #P => 4 in 0 at 10
+#A: *1 | int => #A => 5 in 0 at 4
 #N: [1;2] => #N => 4 in 0 at 7
 #S: !="s => #S => 3 in 0 at 6
 #M: 9_223_372_036_854_775_808 => #M => 6 in 0 at 4
@@ -77,6 +120,7 @@ package p;#A: {x: #B} => #A => 9 in 0 at 18
 ⟨0× ⟩ % \xff => #A => 2 in 1 at 0
 #A: { % \xff => #A => 2 in 1 at 0
 \xff % \xff => #A => 2 in 0 at 0
+⟨299×#P: int % ⟩#P: int => #P => 0 in 0 at 0
 #A: ⟨24998×_ & ⟩_ % #A: ⟨24998×_ & ⟩_; => #A => 0 in 0 at 0
 #A: ⟨24998×_ & ⟩_ % #A: ⟨24998×_ & ⟩_;#B: _ => #A => 14 in 0 at 0
 #A: ⟨24998×_ & ⟩_ % #A: ⟨24998×_ & ⟩_;#B: zzz => #A => 14 in 0 at 0"##;
@@ -146,6 +190,8 @@ true => 1 => 0 in 0 at 0
 {"$ref":"#/$defs/A"} => [1 => 23 in 0 at 0
 {"$defs":{"A":{"not":{"$ref":"#/$defs/A"}}}} => 1 => 24 in 0 at 0
 {"$defs":{"A":{"not":{"$ref":"#/$defs/A"}}}} => 1.5 => 24 in 0 at 0
+{"$defs":{"⟨300×a⟩":true},"$ref":"#/$defs/⟨300×a⟩"} => 1 => 0 in 0 at 0
+{"properties":{"⟨2000×k⟩":{"pattern":"x"}}} => 1 => 21 in 0 at 0
 {"allOf":[⟨8190×true,⟩true]} => [⟨8190×0,⟩0] => 0 in 0 at 0
 {"allOf":[⟨8190×true,⟩true]} => [⟨8191×0,⟩0] => 27 in 0 at 0
 {"allOf":[⟨8190×true,⟩true]} => [⟨8191×0.5,⟩0.5] => 26 in 0 at 0"##;

@@ -1,4 +1,5 @@
 // `run` and `write_fault`, over readers and writers that fail.
+use crate::refusals::is_said;
 use crate::requests::request_of;
 use crate::tables::{Row, cell, check, expanded};
 use cs_tool::{Fault, run, write_fault};
@@ -168,7 +169,10 @@ const LINES: &str = r##"10 => error 10 at 21
 13 => error 13
 16 => error 16
 15 => error 15
-7 => error 7"##;
+7 => error 7
+28 => error 28
+30 => error 30
+31 => error 31"##;
 
 /// A refusal of that number.
 fn fault_of(number: &str) -> Fault {
@@ -180,18 +184,21 @@ fn fault_of(number: &str) -> Fault {
         },
         "13" => Fault::UnknownRoot,
         "16" => Fault::ChainTooLong,
+        "28" => Fault::InputTooLong,
+        "30" => Fault::ReadFailed,
+        "31" => Fault::WriteFailed,
         _ => Fault::OutOfMemory,
     }
 }
 
-/// Whether a row's refusal is reported by its line and a newline.
+/// Whether a row's refusal is reported by its line and a newline, and has its message.
 pub(crate) fn is_line(alloc: Global, row: &str) -> Result<bool, Fault> {
     let (number, wanted) = cell(row);
     let fault = fault_of(number);
     let mut output = Vec::new(alloc);
     write_fault(&fault, &mut output)?;
     let text = std::str::from_utf8(&output).unwrap_or("?");
-    Ok(text.strip_suffix("\n") == Some(wanted.trim()))
+    Ok(text.strip_suffix("\n") == Some(wanted.trim()) && is_said(alloc, &fault)?)
 }
 
 #[test]

@@ -109,14 +109,16 @@ impl Write for Output {
     }
 }
 
-/// Gives so many blanks.
+/// Gives so many blanks, and counts the calls.
 #[derive(Drop)]
 pub(crate) struct Blanks {
     pub(crate) left: usize,
+    pub(crate) calls: usize,
 }
 
 impl Read for Blanks {
     fn read(&mut self, buf: &mut [u8]) -> io::Result<usize> {
+        self.calls = self.calls.saturating_add(1);
         let count = buf.len().min(self.left);
         buf[..count].fill(b' ');
         self.left -= count;

@@ -198,19 +198,27 @@ agree => - => 1 => 1048577 => 1
 validate => true => - => 67108864 => 25
 validate => true => - => 67108865 => 28"##;
 
-/// What the row's request answers.
-fn over_blanks(alloc: Global, case: Case<'_>, output: &mut Output) -> Result<bool, Fault> {
-    let left = case.input.parse::<usize>().unwrap_or(0);
+/// What the row's request answers over that input.
+fn over_blanks(
+    alloc: Global,
+    case: Case<'_>,
+    input: &mut Blanks,
+    output: &mut Output,
+) -> Result<bool, Fault> {
     let request = request_of(alloc, case)?;
-    run(alloc, request, &mut Blanks { left }, output)
+    run(alloc, request, input, output)
 }
 
-/// Whether the row's request is refused as it says, with nothing written.
+/// Whether the row's request is refused as it says, with nothing written, after no more reads than the input has parts of 4,096
+/// bytes and one for its end.
 pub(crate) fn are_blanks_refused(alloc: Global, row: &str) -> bool {
     let case = case_of(row);
+    let left = case.input.parse::<usize>().unwrap_or(0);
+    let mut input = Blanks { left, calls: 0 };
     let mut output = Output::new(alloc, 1000, 1000, None);
-    let answer = over_blanks(alloc, case, &mut output);
-    answer.is_err() && is_wanted(case, &answer, output.text())
+    let answer = over_blanks(alloc, case, &mut input, &mut output);
+    let is_read_in_parts = input.calls <= left / 4096 + 1;
+    is_read_in_parts && answer.is_err() && is_wanted(case, &answer, output.text())
 }
 
 #[test]
