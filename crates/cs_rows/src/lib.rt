@@ -1,4 +1,4 @@
-// Worked examples: the calls of `cs_tool`.
+// Worked examples, and hostile input: the calls of `cs_tool`.
 #![tactic(auto)]
 
 #[cfg(test)]
@@ -7,6 +7,8 @@ mod chains;
 mod commands;
 #[cfg(test)]
 mod examples;
+#[cfg(test)]
+mod hostile;
 #[cfg(test)]
 mod keywords;
 #[cfg(test)]

@@ -1,5 +1,6 @@
 // Every front of a source and of a schema, byte by byte.
-use crate::tables::{Row, cell, check, has_word};
+use crate::hostile::tables::{Row, check, has_word};
+use crate::tables::cell;
 use cs_tool::{Fault, validate, vet};
 use std::alloc::Global;
 use std::test::Fail;

@@ -1,6 +1,7 @@
 // `run` and `write_fault`, with the first, the second, the third read or write failing and so on, until a run meets none.
-use crate::fakes::{Blanks, Input, Output};
-use crate::tables::{Row, cell, check};
+use crate::hostile::fakes::{Blanks, Input, Output};
+use crate::hostile::tables::{Row, check};
+use crate::tables::cell;
 use cs_tool::{Fault, Request, export, run, write_fault};
 use std::alloc::{AllocError, Global};
 use std::io::ErrorKind;

@@ -1,5 +1,5 @@
 // Definitions that double, and as many pairs as there may be, by every call that judges.
-use crate::tables::has_word;
+use crate::hostile::tables::has_word;
 use cs_tool::{agree, export, validate, vet};
 use std::alloc::{AllocError, Global};
 use std::test::Fail;

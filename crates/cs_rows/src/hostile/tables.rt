@@ -1,5 +1,5 @@
 // Tables of examples: a row a line, its cells parted by `=>`.
-use crate::{fronts, streams};
+use crate::hostile::{fronts, streams};
 use cs_tool::Fault;
 use std::alloc::Global;
 use std::test::Fail;
@@ -36,14 +36,6 @@ fn holds(alloc: Global, row: &str, rows: Row) -> bool {
         Row::Source => fronts::is_vetted(alloc, row),
         Row::Stream => streams::is_told(alloc, row),
         Row::Blanks => streams::are_blanks_refused(alloc, row),
-    }
-}
-
-/// The row's first cell, without the blanks around it, and the cells after it.
-pub(crate) fn cell(row: &str) -> (&str, &str) {
-    match row.split_once("=>") {
-        Some((first, rest)) => (first.trim(), rest),
-        None => (row.trim(), ""),
     }
 }
 
