@@ -2,6 +2,8 @@
 -- (CUE language specification, "Expressions").
 use Rattle.std.specs.Prelude.{ℕ, ℤ, Bool, true, false, List, [], ◌∷◌, Option}
 use Rattle.cs_grammar.specs.Atom.{Atom}
+use Rattle.cs_grammar.specs.declared.ast.FieldMark.{FieldMark}
+use Rattle.cs_grammar.specs.declared.ast.FieldMark.TheVariants as marks
 pub use Rattle.cs_grammar.specs.Atom.{Relation, less, at_most, more, at_least, top, bottom, null, boolean, integer, text, bound, not_integer, not_text, not_null}
 
 -- the predeclared kinds
@@ -17,6 +19,13 @@ is_every every = true
 is_every regular = false
 is_every optional = false
 is_every required = false
+
+-- the mark of a declaration, by that of its field
+abbrev pub mark_of : FieldMark → DeclarationMark
+mark_of marks.Regular = regular
+mark_of marks.Optional = optional
+mark_of marks.Required = required
+mark_of (marks.Every o) = every
 
 mutual
   pub data Expression : Type 0 where

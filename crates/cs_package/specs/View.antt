@@ -14,21 +14,14 @@ use Rattle.cs_package.specs.declared.shape.Shape.{Shape, fold-Shape}
 use Rattle.cs_package.specs.declared.shape.Shape.TheOpen.{Shape-F, ShapeEnd-F, Part-F}
 use Rattle.cs_package.specs.declared.shape.ShapeEnd.{ShapeEnd, fold-ShapeEnd}
 use Rattle.cs_package.specs.declared.shape.Part.{Part, fold-Part}
-use Rattle.cs_grammar.specs.declared.ast.FieldMark.{FieldMark}
-use Rattle.cs_grammar.specs.declared.ast.FieldMark.TheVariants as marks
 pub use Rattle.cs_grammar.specs.View.{relation_of}
+pub use Rattle.cs_package.specs.Expression.{mark_of}
 
 abbrev pub kind_of : Kind → cue.Kind
 kind_of kinds.Int = cue.int
 kind_of kinds.Number = cue.number
 kind_of kinds.Text = cue.string
 kind_of kinds.Bool = cue.bool
-
-abbrev pub mark_of : FieldMark → cue.DeclarationMark
-mark_of marks.Regular = cue.regular
-mark_of marks.Optional = cue.optional
-mark_of marks.Required = cue.required
-mark_of (marks.Every o) = cue.every
 
 abbrev pub expressions_of : List Expression → Expressions
 expressions_of [] = cue.no_expressions

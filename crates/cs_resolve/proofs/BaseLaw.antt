@@ -1,17 +1,21 @@
--- A definition is a closed base just where the computation finds it: the names on the way to a literal are distinct, so
+-- A definition is a closed base just where the computation finds it, and so with a plain refinement: the names on the way to a literal are distinct, so
 -- as many steps as there are definitions are enough.
 use Rattle.std.proofs.Common.{◌≡◌, ℕ, zero, suc, ◌+◌, ◌-◌, ◌<◌, ◌≤◌, ◌↔◌, Bool, true, false, ◌||◌, cond, if◌then◌else◌, List, [], ◌∷◌, ◌⊎◌, inl, inr, Option, Some, None, map, filter, length, refl, sym, ap, ◌∙◌, subst, arith}
-use Rattle.std.specs.List.{IsDistinct, AllByRecursion}
+use Rattle.std.specs.List.{IsDistinct, AllByRecursion, flat_map}
+use Rattle.std.proofs.Math.Path.{fun_ext}
 use Rattle.std.specs.Set.{is_member}
 use Rattle.std.specs.Str.{bytes_eq}
 use Rattle.std.proofs.lemmas.Cmp.{nat_list_eq_equiv}
 use Rattle.std.proofs.lemmas.List.{length-map}
 use Rattle.std.proofs.lemmas.Map.Made.{length-le_from_is_member}
 use Rattle.std.proofs.lemmas.Slice.Eq.{bytes_eq-Decides}
-use Rattle.cs_grammar.specs.Tree.{Tree, atom, named, reference, conjunction, disjunction, paren, struct, list, Fields, DefinitionTree, defined_name, body}
+use Rattle.cs_grammar.specs.Tree.{Tree, atom, named, reference, conjunction, disjunction, paren, struct, list, Trees, Fields, DefinitionTree, defined_name, body, FileTree, definitions}
+use Rattle.cs_package.specs.Environment.{Environment}
 use Rattle.cs_package.proofs.Environments.{bytes_eq-sym}
 use Rattle.cs_resolve.specs.Declarations.{bodies_of}
-use Rattle.cs_resolve.specs.Refinement.{closed_literal, Narrowing, narrowing_in, narrows, texts, IsBase, by_literal, by_refinement, Bases, narrowed_labels, narrowed, labels_or, base_of, bases_within, bases}
+use Rattle.cs_resolve.specs.Refinement.{closed_literal, Narrowing, narrowing, narrowing_in, narrows, texts, IsBase, by_literal, by_refinement, IsRefinement, Refinements, AreRefinements}
+use Rattle.cs_resolve.specs.Resolved.{environment_of_files, IsPackage}
+use Rattle.cs_resolve.specs.ClosedBases.{Bases, narrowed_labels, narrowed, labels_or, base_of, bases_within, bases, is_some_labels, is_refinement}
 
 abbrev Labels : Type 0
 Labels = Option (List (List ℕ))
@@ -232,3 +236,42 @@ least ds n ls = (found_within ds (length ds) n ls, λ h. let w = within ds n ls 
 -- a base has one list of labels
 pub one_labels : (ds : List DefinitionTree) (n : List ℕ) (ls ms : List (List ℕ)) → IsBase ds n ls → IsBase ds n ms → ls ≡ ms
 one_labels ds n ls ms a b = let e : Some ls ≡ Some ms = sym ((least ds n ls).1 a) ∙ (least ds n ms).1 b in cc
+
+-- ---- plain refinements
+
+module _ (ds : List DefinitionTree) (es : Trees) where
+  is_found : IsRefinement ds es → is_refinement (bases ds) es ≡ true
+  is_found r =
+      ap (λ n. is_some_labels (narrowed (bases ds) n)) r.joins
+      ∙ ap (λ o. is_some_labels (narrowed_labels o r.fields)) ((least ds r.base r.labels).1 r.closed)
+      ∙ ap (λ b. is_some_labels (if b then Some r.labels else None)) r.fits
+
+  found_is : is_refinement (bases ds) es ≡ true → IsRefinement ds es
+  found_is h = joining (narrowing es) refl h
+    where
+      joining : (n : Option Narrowing) → narrowing es ≡ n → is_some_labels (narrowed (bases ds) n) ≡ true → IsRefinement ds es
+      joining None e g = cc
+      joining (Some (m, fs)) e g = closing (bases ds m) refl g
+        where
+          closing : (o : Labels) → bases ds m ≡ o → is_some_labels (narrowed_labels o fs) ≡ true → IsRefinement ds es
+          closing None there k = cc
+          closing (Some ls) there k = by (narrows fs ls) refl k
+            where
+              by : (b : Bool) → narrows fs ls ≡ b → is_some_labels (cond b (Some ls) None) ≡ true → IsRefinement ds es
+              by true fits same = record { base = m; fields = fs; labels = ls; joins = e; closed = (least ds m ls).0 there; fits = fits }
+              by false fits same = cc
+
+pub found_refinements : (ds : List DefinitionTree) → AreRefinements ds (is_refinement (bases ds))
+found_refinements ds es = (found_is ds es, is_found ds es)
+
+same_truth : (a b : Bool) → (a ≡ true → b ≡ true) → (b ≡ true → a ≡ true) → a ≡ b
+same_truth true b to from = sym (to refl)
+same_truth false true to from = from refl
+same_truth false false to from = refl
+
+pub one_refinements : (ds : List DefinitionTree) (rs qs : Refinements) → AreRefinements ds rs → AreRefinements ds qs → rs ≡ qs
+one_refinements ds rs qs h k = fun_ext (λ es. same_truth (rs es) (qs es) (λ e. (k es).1 ((h es).0 e)) (λ e. (h es).1 ((k es).0 e)))
+
+pub one_environment : (fs : List FileTree) (E F : Environment) → IsPackage fs E → IsPackage fs F → E ≡ F
+one_environment fs E F h k =
+    h.declares ∙ ap (λ rs. environment_of_files rs fs) (one_refinements (flat_map definitions fs) h.refinements k.refinements h.are_refinements k.are_refinements) ∙ sym k.declares

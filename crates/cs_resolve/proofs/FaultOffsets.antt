@@ -7,9 +7,10 @@ use Rattle.cs_grammar.specs.Source.{IsSpelledBy}
 use Rattle.cs_grammar.specs.Tree.{FileTree, definitions}
 use Rattle.cs_resolve.specs.Declarations.{places_of, names, faults_from, faults_of_files}
 use Rattle.cs_resolve.specs.Offsets.{StandsBefore, AreInOrder, offset, place}
-use Rattle.cs_resolve.specs.Opening.{Named, named_bodies, unopened_definitions, unopened_from, unopened_files}
-use Rattle.cs_resolve.specs.Refinement.{Bases, bases}
-use Rattle.cs_resolve.specs.Resolved.{AreSpelled}
+use Rattle.cs_resolve.specs.Opening.{Named, named_bodies}
+use Rattle.cs_resolve.specs.Unopened.{unopened_definitions, unopened_from, unopened_files}
+use Rattle.cs_resolve.specs.Refinement.{Refinements}
+use Rattle.cs_resolve.specs.Refusal.{AreSpelled}
 use Rattle.cs_resolve.specs.Scopes.{NameFault, faults}
 use Rattle.cs_resolve.proofs.MarkOrder.{marks-rise}
 use Rattle.cs_resolve.proofs.PickedOffsets.{own, Rise, picks_rise, place_picks_of, faults_pick, literal_picks_of}
@@ -82,15 +83,14 @@ names_in_order fs h =
 
 -- ---- literals
 
-literals_rise : (bs : Bases) (all : List Named) (t : List ℕ) (g : FileTree) → IsSpelledBy t g → Rise own 0 (unopened_definitions bs all (definitions g))
-literals_rise bs all t g h = let m = marks-rise t g h in picks_rise own (literal_picks_of bs all (definitions g)) 0 m.0 m.1
+literals_rise : (rs : Refinements) (all : List Named) (t : List ℕ) (g : FileTree) → IsSpelledBy t g → Rise own 0 (unopened_definitions rs all (definitions g))
+literals_rise rs all t g h = let m = marks-rise t g h in picks_rise own (literal_picks_of rs all (definitions g)) 0 m.0 m.1
 
-literals_told : (bs : Bases) (all : List Named) (i : ℕ) (gs : List FileTree) → unopened_from bs i all gs ≡ told_from own (λ g. unopened_definitions bs all (definitions g)) (literals_rise bs all) i gs
-literals_told bs all i [] = refl
-literals_told bs all i (g ∷ gs) = ap (λ ps. numbered own i (unopened_definitions bs all (definitions g)) ++ ps) (literals_told bs all (suc i) gs)
+literals_told : (rs : Refinements) (all : List Named) (i : ℕ) (gs : List FileTree) → unopened_from rs i all gs ≡ told_from own (λ g. unopened_definitions rs all (definitions g)) (literals_rise rs all) i gs
+literals_told rs all i [] = refl
+literals_told rs all i (g ∷ gs) = ap (λ ps. numbered own i (unopened_definitions rs all (definitions g)) ++ ps) (literals_told rs all (suc i) gs)
 
-pub literals_in_order : (fs : List FileTree) → AreSpelled fs → AreInOrder (unopened_files fs)
-literals_in_order fs h =
-    let bs = bases (flat_map definitions fs) in
+pub literals_in_order : (rs : Refinements) (fs : List FileTree) → AreSpelled fs → AreInOrder (unopened_files rs fs)
+literals_in_order rs fs h =
     let all = named_bodies (flat_map definitions fs) in
-    subst AreInOrder (sym (literals_told bs all 0 fs)) (in_files own (λ g. unopened_definitions bs all (definitions g)) (literals_rise bs all) 0 fs h).ordered
+    subst AreInOrder (sym (literals_told rs all 0 fs)) (in_files own (λ g. unopened_definitions rs all (definitions g)) (literals_rise rs all) 0 fs h).ordered

@@ -1,14 +1,17 @@
 -- Faults of names, part by part, and what is refused for the first of them.
 use Rattle.std.proofs.Common.{◌≡◌, ℕ, ◌+◌, ◌<◌, List, [], ◌∷◌, ◌++◌, map, drop, length, get_or, Option, Some, None, option_map, slice_get, inl, inr, refl, sym, ap, ◌∙◌, subst, add-one}
 use Rattle.std.proofs.lemmas.Option.{same_Some}
-use Rattle.cs_grammar.specs.Tree.{FileTree}
+use Rattle.std.specs.List.{flat_map}
+use Rattle.cs_grammar.specs.Tree.{FileTree, definitions}
 use Rattle.cs_grammar.specs.View.{definition_view, file_view}
 use Rattle.cs_grammar.specs.declared.ast.File.{File}
 use Rattle.cs_resolve.specs.Checks.{Refuses}
 use Rattle.cs_resolve.specs.Declarations.{faults_from, faults_of_files, places_of}
-use Rattle.cs_resolve.specs.Opening.{unopened_files}
+use Rattle.cs_resolve.specs.Unopened.{unopened_files}
 use Rattle.cs_resolve.specs.PackageName.{IsOnePackage}
-use Rattle.cs_resolve.specs.Resolved.{IsRefusal, IsResolved, IsSmall}
+use Rattle.cs_resolve.specs.Refinement.{Refinements, AreRefinements}
+use Rattle.cs_resolve.specs.Resolved.{IsResolved, IsSmall}
+use Rattle.cs_resolve.specs.Refusal.{IsRefusal}
 use Rattle.cs_resolve.specs.Scopes.{NameFault}
 use Rattle.cs_resolve.specs.Steps.{faults_in, IsNameRefusal}
 use Rattle.cs_resolve.specs.declared.fault.ResolveFault.{ResolveFault}
@@ -49,13 +52,13 @@ name-refusal _ fs one small h = absurd h
 abbrev unopened : ℕ × ℕ → ResolveFault
 unopened p = NotOpened p.0 p.1
 
-pub opening-refusal : (e : ResolveFault) (fs : List FileTree) → IsOnePackage fs → IsSmall fs → IsResolved fs → Refuses e (λ p. NotOpened p.0 p.1) (unopened_files fs) → IsRefusal e fs
-opening-refusal e fs one small resolved (inl memory) = subst (λ x. IsRefusal x fs) (sym memory) tt
-opening-refusal e fs one small resolved (inr first) = by (slice_get (unopened_files fs) 0) refl first
+pub opening-refusal : (e : ResolveFault) (fs : List FileTree) (rs : Refinements) → AreRefinements (flat_map definitions fs) rs → IsOnePackage fs → IsSmall fs → IsResolved fs → Refuses e (λ p. NotOpened p.0 p.1) (unopened_files rs fs) → IsRefusal e fs
+opening-refusal e fs rs are one small resolved (inl memory) = subst (λ x. IsRefusal x fs) (sym memory) tt
+opening-refusal e fs rs are one small resolved (inr first) = by (slice_get (unopened_files rs fs) 0) refl first
   where
-    by : (o : Option (ℕ × ℕ)) → slice_get (unopened_files fs) 0 ≡ o → option_map unopened o ≡ Some e → IsRefusal e fs
+    by : (o : Option (ℕ × ℕ)) → slice_get (unopened_files rs fs) 0 ≡ o → option_map unopened o ≡ Some e → IsRefusal e fs
     by None is has = cc
-    by (Some p) is has = subst (λ x. IsRefusal x fs) (same_Some (unopened p) e has) (one, small, resolved, is)
+    by (Some p) is has = subst (λ x. IsRefusal x fs) (same_Some (unopened p) e has) (one, small, resolved, record { refinements = rs; are_refinements = are; first = is })
 
 -- where no literal is at fault
 pub opening-none : (e : ResolveFault) (xs : List (ℕ × ℕ)) → xs ≡ [] → Refuses e (λ p. NotOpened p.0 p.1) xs → e ≡ OutOfMemory

@@ -9,13 +9,15 @@ use Rattle.cs_package.specs.Expression.{Expression, Expressions, Declarations}
 use Rattle.cs_package.specs.View.{expressions_of}
 use Rattle.cs_resolve.specs.Declarations.{distinct, bodies_of, faults_of_files}
 use Rattle.cs_resolve.specs.Offsets.{StandsBefore}
-use Rattle.cs_resolve.specs.Opening.{has_literal_or_reference, Literal, literals, conjunctions, demands_open, unopened, unopened_files}
+use Rattle.cs_resolve.specs.Opening.{has_literal_or_reference, Literal, literals, conjunctions}
+use Rattle.cs_resolve.specs.Unopened.{demands_open, unopened}
 use Rattle.cs_resolve.specs.PackageName.{differing_file}
 use Rattle.cs_resolve.specs.Predeclared.{predeclared}
-use Rattle.cs_resolve.specs.Refinement.{Bases}
+use Rattle.cs_resolve.specs.Earlier.{no_refinements}
 use Rattle.cs_resolve.specs.Resolved.{resolved}
 use Rattle.cs_resolve.specs.Scopes.{names_field, innermost, Place, a_name, a_reference, places, faults, unknown, of_field}
 use Rattle.cs_resolve.specs.Size.{nodes}
+use Rattle.cs_resolve.proofs.Refined.{unopened_of}
 
 -- ---- short forms
 
@@ -44,10 +46,6 @@ around e =
 -- `{}`
 abbrev empty : Tree
 empty = struct 7 no_field false
-
--- no definition is a closed base
-abbrev no_bases : Bases
-no_bases n = None
 
 abbrev file_of : List DefinitionTree → FileTree
 file_of ds = file None ds
@@ -122,7 +120,7 @@ literals_of_forms : map literals (around empty)
     ≡ (shut 7 ∷ []) ∷ (shut 7 ∷ []) ∷ (shut 7 ∷ []) ∷ (shut 1 ∷ shut 7 ∷ []) ∷ (open_at 1 ∷ shut 7 ∷ []) ∷ (shut 7 ∷ []) ∷ (shut 7 ∷ []) ∷ (shut 7 ∷ []) ∷ []
 literals_of_forms = refl
 
-conjunctions_of_leaves : map (conjunctions no_bases) leaves ≡ [] ∷ [] ∷ [] ∷ [] ∷ [] ∷ [] ∷ [] ∷ [] ∷ [] ∷ [] ∷ [] ∷ [] ∷ []
+conjunctions_of_leaves : map (conjunctions no_refinements) leaves ≡ [] ∷ [] ∷ [] ∷ [] ∷ [] ∷ [] ∷ [] ∷ [] ∷ [] ∷ [] ∷ [] ∷ [] ∷ []
 conjunctions_of_leaves = refl
 
 -- `null & 1`
@@ -133,12 +131,12 @@ abbrev inner : List Tree
 inner = atom null ∷ atom (integer (pos 1)) ∷ []
 
 -- inside each form; a literal has one for each field, of the values of its label
-conjunctions_of_forms : map (conjunctions no_bases) (around both)
+conjunctions_of_forms : map (conjunctions no_refinements) (around both)
     ≡ ((atom top ∷ both ∷ []) ∷ inner ∷ []) ∷ (inner ∷ []) ∷ (inner ∷ []) ∷ ((both ∷ []) ∷ inner ∷ []) ∷ ((atom top ∷ []) ∷ (both ∷ []) ∷ inner ∷ []) ∷ (inner ∷ []) ∷ (inner ∷ []) ∷ (inner ∷ []) ∷ []
 conjunctions_of_forms = refl
 
 -- `{a: null, b: _, "a": 1}`: the values of `a` are joined, and those of `b` are one
-conjunctions_of_labels : conjunctions no_bases (struct 0 (field a Regular (atom null) (field b Regular (atom top) (field quoted_a Regular (atom (integer (pos 1))) no_field))) false) ≡ inner ∷ (atom top ∷ []) ∷ inner ∷ []
+conjunctions_of_labels : conjunctions no_refinements (struct 0 (field a Regular (atom null) (field b Regular (atom top) (field quoted_a Regular (atom (integer (pos 1))) no_field))) false) ≡ inner ∷ (atom top ∷ []) ∷ inner ∷ []
 conjunctions_of_labels = refl
 
 -- a conjunction asks from the second operand on that isn't plain
@@ -147,14 +145,14 @@ demands_open_of_operands : map demands_open ([] ∷ (empty ∷ []) ∷ (empty �
 demands_open_of_operands = refl
 
 -- where a conjunction around them asks, the literals that don't end with `...`, in order
-unopened_where_demanded : map (unopened no_bases true) (around empty) ≡ (7 ∷ []) ∷ (7 ∷ []) ∷ (7 ∷ []) ∷ (1 ∷ 7 ∷ []) ∷ (7 ∷ []) ∷ (7 ∷ []) ∷ (7 ∷ []) ∷ (7 ∷ []) ∷ []
+unopened_where_demanded : map (unopened no_refinements true) (around empty) ≡ (7 ∷ []) ∷ (7 ∷ []) ∷ (7 ∷ []) ∷ (1 ∷ 7 ∷ []) ∷ (7 ∷ []) ∷ (7 ∷ []) ∷ (7 ∷ []) ∷ (7 ∷ []) ∷ []
 unopened_where_demanded = refl
 
-unopened_elsewhere : map (unopened no_bases false) (around empty) ≡ [] ∷ [] ∷ [] ∷ [] ∷ [] ∷ [] ∷ [] ∷ [] ∷ []
+unopened_elsewhere : map (unopened no_refinements false) (around empty) ≡ [] ∷ [] ∷ [] ∷ [] ∷ [] ∷ [] ∷ [] ∷ [] ∷ []
 unopened_elsewhere = refl
 
 -- `#A: 1` in one file, and `#A: {}`, `#B: {}` and `#A: #B` in the next: the literal of #A, in the file at number 1
-literal_in_file_1 : unopened_files (file_of (definition (codes "A") 0 (atom null) ∷ []) ∷ file_of (definition (codes "A") 0 empty ∷ definition (codes "B") 10 (struct 14 no_field false) ∷ definition (codes "A") 17 (reference (codes "B") 21) ∷ []) ∷ []) ≡ (1, 7) ∷ []
+literal_in_file_1 : unopened_of (file_of (definition (codes "A") 0 (atom null) ∷ []) ∷ file_of (definition (codes "A") 0 empty ∷ definition (codes "B") 10 (struct 14 no_field false) ∷ definition (codes "A") 17 (reference (codes "B") 21) ∷ []) ∷ []) ≡ (1, 7) ∷ []
 literal_in_file_1 = refl
 
 -- ---- scopes
@@ -191,7 +189,7 @@ faults_in_order = refl
 
 -- ---- what is resolved
 
-resolved_leaves : map (resolved no_bases) leaves
+resolved_leaves : map (resolved no_refinements) leaves
     ≡ cue.atom cue.top ∷ cue.atom cue.bottom ∷ cue.atom cue.null ∷ cue.atom (cue.boolean true) ∷ cue.atom (cue.integer (pos 1)) ∷ cue.atom (cue.text (codes "s")) ∷ cue.kind cue.int ∷ cue.reference (codes "A")
     ∷ cue.atom (cue.bound cue.more (pos 1)) ∷ cue.atom (cue.not_integer (pos 1)) ∷ cue.atom (cue.not_text (codes "s")) ∷ cue.atom cue.not_null ∷ []
 resolved_leaves = refl
@@ -200,13 +198,13 @@ abbrev two : Expressions
 two = expressions_of (cue.atom cue.top ∷ cue.atom cue.null ∷ [])
 
 -- a parenthesis is dropped
-resolved_forms : map (resolved no_bases) (around (atom null))
+resolved_forms : map (resolved no_refinements) (around (atom null))
     ≡ cue.conjunction two ∷ cue.disjunction two ∷ cue.atom cue.null ∷ cue.struct (cue.declaration (codes "a") cue.regular (cue.atom cue.null) cue.no_declarations) false
     ∷ cue.struct (cue.declaration (codes "b") cue.optional (cue.atom cue.top) (cue.declaration (codes "a") cue.required (cue.atom cue.null) cue.no_declarations)) true
     ∷ cue.list two cue.closed ∷ cue.list (expressions_of (cue.atom cue.null ∷ [])) cue.any ∷ cue.list cue.no_expressions (cue.each (cue.atom cue.null)) ∷ []
 resolved_forms = refl
 
-resolved_bounds : map (λ r. resolved no_bases (atom (bound r (pos 5)))) (atoms.less ∷ atoms.at_most ∷ atoms.more ∷ atoms.at_least ∷ [])
+resolved_bounds : map (λ r. resolved no_refinements (atom (bound r (pos 5)))) (atoms.less ∷ atoms.at_most ∷ atoms.more ∷ atoms.at_least ∷ [])
     ≡ cue.atom (cue.bound cue.less (pos 5)) ∷ cue.atom (cue.bound cue.at_most (pos 5)) ∷ cue.atom (cue.bound cue.more (pos 5)) ∷ cue.atom (cue.bound cue.at_least (pos 5)) ∷ []
 resolved_bounds = refl
 

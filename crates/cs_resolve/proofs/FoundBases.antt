@@ -15,7 +15,8 @@ use Rattle.std.proofs.lemmas.Option.{slice_get_within}
 use Rattle.std.proofs.lemmas.Slice.Eq.{bytes_eq-Decides}
 use Rattle.cs_grammar.specs.Tree.{DefinitionTree}
 use Rattle.cs_grammar.specs.declared.ast.Expr.{Expr}
-use Rattle.cs_resolve.specs.Refinement.{IsBase, by_literal, by_refinement, bases}
+use Rattle.cs_resolve.specs.Refinement.{IsBase, by_literal, by_refinement}
+use Rattle.cs_resolve.specs.ClosedBases.{bases}
 use Rattle.cs_resolve.specs.Narrowed.{HoldsOnly, HoldsBase, HoldsFound, HoldBases, Numbers, Has, Sound, Grown, Refines, AreSorted, Closed}
 use Rattle.cs_resolve.specs.declared.refinement.Bases.{Bases}
 use Rattle.cs_resolve.proofs.BaseLaw.{least}

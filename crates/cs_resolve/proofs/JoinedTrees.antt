@@ -13,8 +13,9 @@ use Rattle.cs_package.specs.Expression as cue
 use Rattle.cs_package.specs.Expression.{Expression, Expressions}
 use Rattle.cs_package.specs.Joined.{HasTwo, IsJoined, AreJoined, AreJoinedFields, IsJoinedRest}
 use Rattle.cs_resolve.specs.Predeclared as Predeclared
-use Rattle.cs_resolve.specs.Refinement.{Bases, is_refinement}
-use Rattle.cs_resolve.specs.Resolved.{read_opened, all_opened, narrowed_operands, resolved, resolved_all, resolved_fields, resolved_end, AreSpelled}
+use Rattle.cs_resolve.specs.Refinement.{Refinements}
+use Rattle.cs_resolve.specs.Resolved.{read_opened, all_opened, narrowed_operands, resolved, resolved_all, resolved_fields, resolved_end}
+use Rattle.cs_resolve.specs.Refusal.{AreSpelled}
 use Rattle.cs_resolve.specs.Steps.{gathered}
 
 -- ---- names
@@ -61,11 +62,11 @@ narrowed_joined : (b : Bool) (es : Expressions) → HasTwo es × AreJoined es �
 narrowed_joined true es h = (two_opened es h.0, all_opened_joined es h.1)
 narrowed_joined false es h = h
 
--- ---- where these are the closed bases
+-- ---- where these are the plain refinements
 
-module _ (bs : Bases) where
+module _ (rs : Refinements) where
   abbrev Joined : Tree → Type 0
-  Joined t = IsJoined (resolved bs t)
+  Joined t = IsJoined (resolved rs t)
 
   literal : (s : List ℕ) (o : ℕ) (a b c : Bool) → Joined (unwrap_or (cond a (Some (T.atom T.null)) (cond b (Some (T.atom (T.boolean true))) (cond c (Some (T.atom (T.boolean false))) None))) (T.named s o))
   literal s o true b c = tt
@@ -97,15 +98,15 @@ module _ (bs : Bases) where
     of_expr (one_conj c) = of_conj c
     of_expr (disjunction_is c b) = (tt, (of_conj c, of_bars b))
 
-    of_bars : {es : Trees} {ts r : Words} → SpellsBars es ts r → AreJoined (resolved_all bs es)
+    of_bars : {es : Trees} {ts r : Words} → SpellsBars es ts r → AreJoined (resolved_all rs es)
     of_bars no_bar = tt
     of_bars (a_bar c b) = (of_conj c, of_bars b)
 
     of_conj : {e : Tree} {ts r : Words} → SpellsConj e ts r → Joined e
     of_conj (one_operand o) = of_operand o
-    of_conj (conjunction_is {e} {f} {fs} o a) = narrowed_joined (is_refinement bs (T.more e (T.more f fs))) (resolved_all bs (T.more e (T.more f fs))) (tt, (of_operand o, of_amps a))
+    of_conj (conjunction_is {e} {f} {fs} o a) = narrowed_joined (rs (T.more e (T.more f fs))) (resolved_all rs (T.more e (T.more f fs))) (tt, (of_operand o, of_amps a))
 
-    of_amps : {es : Trees} {ts r : Words} → SpellsAmps es ts r → AreJoined (resolved_all bs es)
+    of_amps : {es : Trees} {ts r : Words} → SpellsAmps es ts r → AreJoined (resolved_all rs es)
     of_amps no_amp = tt
     of_amps (an_amp o a) = (of_operand o, of_amps a)
 
@@ -121,29 +122,29 @@ module _ (bs : Bases) where
     of_operand (struct_is s) = of_struct s
     of_operand (list_is l) = of_list l
 
-    of_struct : {fs : Fields} {b : Bool} {ts r : Words} → SpellsStruct fs b ts r → AreJoinedFields (resolved_fields bs fs)
+    of_struct : {fs : Fields} {b : Bool} {ts r : Words} → SpellsStruct fs b ts r → AreJoinedFields (resolved_fields rs fs)
     of_struct no_fields = tt
     of_struct (dots_alone c) = tt
     of_struct (fields f fs o) = (of_field f, of_fields fs)
 
-    of_fields : {fs : Fields} {ts r : Words} → SpellsFields fs ts r → AreJoinedFields (resolved_fields bs fs)
+    of_fields : {fs : Fields} {ts r : Words} → SpellsFields fs ts r → AreJoinedFields (resolved_fields rs fs)
     of_fields no_more_fields = tt
     of_fields (next_field c f fs) = (of_field f, of_fields fs)
 
-    of_list : {es : Trees} {end : End} {ts r : Words} → SpellsList es end ts r → AreJoined (resolved_all bs es) × IsJoinedRest (resolved_end bs end)
+    of_list : {es : Trees} {end : End} {ts r : Words} → SpellsList es end ts r → AreJoined (resolved_all rs es) × IsJoinedRest (resolved_end rs end)
     of_list no_elements = (tt, tt)
     of_list (rest_alone e) = (tt, of_rest e)
     of_list (elements e es end) = ((of_expr e, of_elements es), of_end end)
 
-    of_elements : {es : Trees} {ts r : Words} → SpellsElements es ts r → AreJoined (resolved_all bs es)
+    of_elements : {es : Trees} {ts r : Words} → SpellsElements es ts r → AreJoined (resolved_all rs es)
     of_elements no_more_elements = tt
     of_elements (next_element e es) = (of_expr e, of_elements es)
 
-    of_end : {end : End} {ts r : Words} → SpellsEnd end ts r → IsJoinedRest (resolved_end bs end)
+    of_end : {end : End} {ts r : Words} → SpellsEnd end ts r → IsJoinedRest (resolved_end rs end)
     of_end (closed_is c) = tt
     of_end (rest_is e) = of_rest e
 
-    of_rest : {end : End} {ts r : Words} → SpellsRest end ts r → IsJoinedRest (resolved_end bs end)
+    of_rest : {end : End} {ts r : Words} → SpellsRest end ts r → IsJoinedRest (resolved_end rs end)
     of_rest (any_is c) = tt
     of_rest (each_is e c) = of_expr e
 
@@ -178,14 +179,14 @@ module _ (bs : Bases) where
   abbrev AllJoined : List Expression → Type 0
   AllJoined es = AllByRecursion IsJoined es
 
-  of_bodies : (p : DefinitionTree → Bool) (ds : List DefinitionTree) → AreBodiesJoined ds → AllJoined (map (resolved bs) (map body (filter p ds)))
+  of_bodies : (p : DefinitionTree → Bool) (ds : List DefinitionTree) → AreBodiesJoined ds → AllJoined (map (resolved rs) (map body (filter p ds)))
   of_bodies p [] h = tt
-  of_bodies p (d ∷ ds) h = either (λ es. AllJoined (map (resolved bs) (map body es))) (p d) (d ∷ filter p ds) (filter p ds) (h.0, of_bodies p ds h.1) (of_bodies p ds h.1)
+  of_bodies p (d ∷ ds) h = either (λ es. AllJoined (map (resolved rs) (map body es))) (p d) (d ∷ filter p ds) (filter p ds) (h.0, of_bodies p ds h.1) (of_bodies p ds h.1)
 
-  of_names : (ns : List (List ℕ)) (ds : List DefinitionTree) → AreBodiesJoined ds → AllByRecursion AllJoined (gathered bs ns ds)
+  of_names : (ns : List (List ℕ)) (ds : List DefinitionTree) → AreBodiesJoined ds → AllByRecursion AllJoined (gathered rs ns ds)
   of_names [] ds h = tt
   of_names (n ∷ ns) ds h = (of_bodies (λ d. bytes_eq (defined_name d) n) ds h, of_names ns ds h)
 
   -- the resolved bodies that spelled files give to names
-  pub joined-gathered : (ns : List (List ℕ)) (fs : List FileTree) → AreSpelled fs → AllByRecursion AllJoined (gathered bs ns (flat_map definitions fs))
+  pub joined-gathered : (ns : List (List ℕ)) (fs : List FileTree) → AreSpelled fs → AllByRecursion AllJoined (gathered rs ns (flat_map definitions fs))
   joined-gathered ns fs h = of_names ns (flat_map definitions fs) (of_files fs h)

@@ -1,5 +1,5 @@
 -- Files without `[string]` declare an environment without it.
-use Rattle.std.proofs.Common.{ℕ, Bool, true, false, cond, List, [], ◌∷◌, ◌++◌, map, filter, Option, Some, None, unwrap_or}
+use Rattle.std.proofs.Common.{ℕ, Bool, true, false, cond, List, [], ◌∷◌, ◌++◌, map, filter, Option, Some, unwrap_or}
 use Rattle.std.specs.List.{AllByRecursion, flat_map}
 use Rattle.std.specs.Str.{bytes_eq}
 use Rattle.cs_grammar.specs.declared.ast.FieldMark.{FieldMark}
@@ -8,14 +8,12 @@ use Rattle.cs_grammar.specs.Labels as tree
 use Rattle.cs_grammar.specs.Tree as T
 use Rattle.cs_grammar.specs.Tree.{Tree, Trees, Fields, End, DefinitionTree, defined_name, body, FileTree, definitions}
 use Rattle.cs_package.specs.Expression as cue
-use Rattle.cs_package.specs.Expression.{Expression, Expressions}
+use Rattle.cs_package.specs.Expression.{Expression, Expressions, mark_of}
 use Rattle.cs_package.specs.Labels.{HasLabel, IsLabelled, AreLabelled, AreLabelledFields, IsLabelledRest, IsLabelledEnvironment}
-use Rattle.cs_package.specs.View.{mark_of}
-use Rattle.cs_resolve.specs.Declarations.{names, bodies_of, declared}
-use Rattle.cs_resolve.specs.Earlier.{no_bases, earlier_environment}
+use Rattle.cs_resolve.specs.Declarations.{names, bodies_of}
 use Rattle.cs_resolve.specs.Predeclared as Predeclared
-use Rattle.cs_resolve.specs.Refinement.{Bases, is_refinement}
-use Rattle.cs_resolve.specs.Resolved.{read_opened, all_opened, narrowed_operands, resolved, resolved_all, resolved_fields, resolved_end}
+use Rattle.cs_resolve.specs.Refinement.{Refinements}
+use Rattle.cs_resolve.specs.Resolved.{read_opened, all_opened, narrowed_operands, resolved, resolved_all, resolved_fields, resolved_end, environment_of_files}
 use Rattle.cs_resolve.proofs.JoinedTrees.{either}
 
 -- ---- names
@@ -59,43 +57,43 @@ mark_labelled Optional h = tt
 mark_labelled Required h = tt
 mark_labelled (Every o) h = h
 
--- where these are the closed bases
-module _ (bs : Bases) where
+-- where these are the plain refinements
+module _ (rs : Refinements) where
   mutual
-    resolved_labelled : (t : Tree) → tree.IsLabelled t → IsLabelled (resolved bs t)
+    resolved_labelled : (t : Tree) → tree.IsLabelled t → IsLabelled (resolved rs t)
     resolved_labelled (T.atom a) h = tt
     resolved_labelled (T.named t o) h = among t Predeclared.names all_names
     resolved_labelled (T.reference t o) h = tt
-    resolved_labelled (T.conjunction ts) h = narrowed_labelled (is_refinement bs ts) (resolved_all bs ts) (all_labelled ts h)
+    resolved_labelled (T.conjunction ts) h = narrowed_labelled (rs ts) (resolved_all rs ts) (all_labelled ts h)
     resolved_labelled (T.disjunction ts) h = all_labelled ts h
     resolved_labelled (T.paren t) h = resolved_labelled t h
     resolved_labelled (T.struct o fs opened) h = fields_labelled fs h
     resolved_labelled (T.list ts end) h = (all_labelled ts h.0, end_labelled end h.1)
 
-    all_labelled : (ts : Trees) → tree.AreLabelled ts → AreLabelled (resolved_all bs ts)
+    all_labelled : (ts : Trees) → tree.AreLabelled ts → AreLabelled (resolved_all rs ts)
     all_labelled T.none h = tt
     all_labelled (T.more t ts) h = (resolved_labelled t h.0, all_labelled ts h.1)
 
-    fields_labelled : (fs : Fields) → tree.AreLabelledFields fs → AreLabelledFields (resolved_fields bs fs)
+    fields_labelled : (fs : Fields) → tree.AreLabelledFields fs → AreLabelledFields (resolved_fields rs fs)
     fields_labelled T.no_field h = tt
     fields_labelled (T.field l m t fs) h = (mark_labelled m h.0, resolved_labelled t h.1, fields_labelled fs h.2)
 
-    end_labelled : (end : End) → tree.IsLabelledEnd end → IsLabelledRest (resolved_end bs end)
+    end_labelled : (end : End) → tree.IsLabelledEnd end → IsLabelledRest (resolved_end rs end)
     end_labelled T.closed h = tt
     end_labelled T.any h = tt
     end_labelled (T.each t) h = resolved_labelled t h
 
   -- ---- definitions
 
-  bodies_labelled : (p : DefinitionTree → Bool) (ds : List DefinitionTree) → AllByRecursion (λ d. tree.IsLabelled (body d)) ds → AllByRecursion IsLabelled (map (resolved bs) (map body (filter p ds)))
+  bodies_labelled : (p : DefinitionTree → Bool) (ds : List DefinitionTree) → AllByRecursion (λ d. tree.IsLabelled (body d)) ds → AllByRecursion IsLabelled (map (resolved rs) (map body (filter p ds)))
   bodies_labelled p [] h = tt
   bodies_labelled p (d ∷ ds) h = by (p d) (resolved_labelled (body d) h.0) (bodies_labelled p ds h.1)
     where
-      by : (b : Bool) → IsLabelled (resolved bs (body d)) → AllByRecursion IsLabelled (map (resolved bs) (map body (filter p ds))) → AllByRecursion IsLabelled (map (resolved bs) (map body (cond b (d ∷ filter p ds) (filter p ds))))
+      by : (b : Bool) → IsLabelled (resolved rs (body d)) → AllByRecursion IsLabelled (map (resolved rs) (map body (filter p ds))) → AllByRecursion IsLabelled (map (resolved rs) (map body (cond b (d ∷ filter p ds) (filter p ds))))
       by true first rest = (first, rest)
       by false first rest = rest
 
-  declared_labelled : (ns : List (List ℕ)) (ds : List DefinitionTree) → AllByRecursion (λ d. tree.IsLabelled (body d)) ds → IsLabelledEnvironment (map (λ (d : List ℕ × List Tree). (d.0, map (resolved bs) d.1)) (map (λ n. (n, bodies_of n ds)) ns))
+  declared_labelled : (ns : List (List ℕ)) (ds : List DefinitionTree) → AllByRecursion (λ d. tree.IsLabelled (body d)) ds → IsLabelledEnvironment (map (λ (d : List ℕ × List Tree). (d.0, map (resolved rs) d.1)) (map (λ n. (n, bodies_of n ds)) ns))
   declared_labelled [] ds h = tt
   declared_labelled (n ∷ ns) ds h = (bodies_labelled (λ d. bytes_eq (defined_name d) n) ds h, declared_labelled ns ds h)
 
@@ -107,5 +105,5 @@ definitions_labelled : (fs : List FileTree) → AllByRecursion tree.IsLabelledFi
 definitions_labelled [] h = tt
 definitions_labelled (f ∷ fs) h = both (λ d. tree.IsLabelled (body d)) (definitions f) (flat_map definitions fs) h.0 (definitions_labelled fs h.1)
 
-pub environment_labelled : (fs : List FileTree) → AllByRecursion tree.IsLabelledFile fs → IsLabelledEnvironment (earlier_environment fs)
-environment_labelled fs h = let ds = flat_map definitions fs in declared_labelled no_bases (names ds) ds (definitions_labelled fs h)
+pub environment_labelled : (rs : Refinements) (fs : List FileTree) → AllByRecursion tree.IsLabelledFile fs → IsLabelledEnvironment (environment_of_files rs fs)
+environment_labelled rs fs h = let ds = flat_map definitions fs in declared_labelled rs (names ds) ds (definitions_labelled fs h)

@@ -1,6 +1,6 @@
 -- What the proofs of this crate show: the bodies gathered by name are the environment of the files (`environment-gathered` in `Gathered`),
--- the opening rule and what breaks it (`opened_law`, `told_law` in `OpeningRule`), the closed bases (`least` in `BaseLaw`, `hold_bases` in
--- `FoundBases`), and the order of faults (`names_in_order`, `literals_in_order` in `FaultOffsets`).
+-- the opening rule and what breaks it (`opened_law`, `told_law` in `OpeningRule`), the closed bases and plain refinements (`least`, `one_environment` in `BaseLaw`,
+-- `hold_bases` in `FoundBases`), and the order of faults (`names_in_order`, `literals_in_order` in `FaultOffsets`).
 
 -- samples
 pub mod Samples

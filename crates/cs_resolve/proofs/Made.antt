@@ -9,7 +9,7 @@ use Rattle.cs_grammar.specs.declared.ast.Expr.{Expr}
 use Rattle.cs_grammar.specs.declared.ast.Field.{Field}
 use Rattle.cs_package.specs.Expression as cue
 use Rattle.cs_package.specs.Expression.{Expression, Declaration}
-use Rattle.cs_resolve.specs.Refinement.{Bases}
+use Rattle.cs_resolve.specs.Refinement.{Refinements}
 use Rattle.cs_resolve.specs.Resolved.{resolved, resolved_all, resolved_fields}
 use Rattle.cs_resolve.specs.Scopes.{key_places, places, places_all, places_fields}
 use Rattle.cs_resolve.specs.Steps.{faults_in, IsNameRefusal}
@@ -60,10 +60,10 @@ module _ {A B C : Type 0} (M : Making A B C) where
       refused-same e (M.found_at a ++ M.found (drop (i + 1) xs)) (M.found ys) (sym (cut M.found M.found_at M.parts xs i a l is made.2) ∙ ap M.found same) (refused-left e (M.found_at a) (M.found (drop (i + 1) xs)) here)
 
 -- the declaration of a field
-abbrev pub declared : Bases → Field → Declaration Expression
-declared bs f = record { label = (field_view f).label.text; mark = mark_of (field_view f).mark; value = resolved bs (field_view f).value }
+abbrev pub declared : Refinements → Field → Declaration Expression
+declared rs f = record { label = (field_view f).label.text; mark = mark_of (field_view f).mark; value = resolved rs (field_view f).value }
 
-module _ (bs : Bases) (file : ℕ) (ns : List (List ℕ)) (scopes : List (List Label)) where
+module _ (rs : Refinements) (file : ℕ) (ns : List (List ℕ)) (scopes : List (List Label)) where
   abbrev pub of_exprs : Making Expr Shape Expression
   of_exprs = record {
     found = λ es. faults_in file ns (places_all scopes (exprs_view es));
@@ -71,7 +71,7 @@ module _ (bs : Bases) (file : ℕ) (ns : List (List ℕ)) (scopes : List (List L
     parts = λ e es. faults_in-append file ns (places scopes (expr_view e)) (places_all scopes (exprs_view es));
     none = refl;
     seen = expression_of ns;
-    meant = λ e. resolved bs (expr_view e);
+    meant = λ e. resolved rs (expr_view e);
     known = is_known (length ns);
   }
 
@@ -82,17 +82,17 @@ module _ (bs : Bases) (file : ℕ) (ns : List (List ℕ)) (scopes : List (List L
     parts = λ f fs. faults_in-append file ns (key_places scopes (field_view f).mark ++ places scopes (field_view f).value) (places_fields scopes (fields_view fs));
     none = refl;
     seen = part_of ns;
-    meant = declared bs;
+    meant = declared rs;
     known = is_known_part (length ns);
   }
 
-pub all_resolved : (bs : Bases) (es : List Expr) → expressions_of (map (λ e. resolved bs (expr_view e)) es) ≡ resolved_all bs (exprs_view es)
-all_resolved bs [] = refl
-all_resolved bs (e ∷ es) = ap (cue.expression (resolved bs (expr_view e))) (all_resolved bs es)
+pub all_resolved : (rs : Refinements) (es : List Expr) → expressions_of (map (λ e. resolved rs (expr_view e)) es) ≡ resolved_all rs (exprs_view es)
+all_resolved rs [] = refl
+all_resolved rs (e ∷ es) = ap (cue.expression (resolved rs (expr_view e))) (all_resolved rs es)
 
-pub all_declared : (bs : Bases) (fs : List Field) → declarations_of (map (declared bs) fs) ≡ resolved_fields bs (fields_view fs)
-all_declared bs [] = refl
-all_declared bs (f ∷ fs) = ap (cue.declaration (field_view f).label.text (mark_of (field_view f).mark) (resolved bs (field_view f).value)) (all_declared bs fs)
+pub all_declared : (rs : Refinements) (fs : List Field) → declarations_of (map (declared rs) fs) ≡ resolved_fields rs (fields_view fs)
+all_declared rs [] = refl
+all_declared rs (f ∷ fs) = ap (cue.declaration (field_view f).label.text (mark_of (field_view f).mark) (resolved rs (field_view f).value)) (all_declared rs fs)
 
 pub same_declaration : (p q : Declaration Expression) → p.label ≡ q.label → p.mark ≡ q.mark → p.value ≡ q.value → p ≡ q
 same_declaration p q a b c = λ j. record { label = a j; mark = b j; value = c j }

@@ -3,7 +3,7 @@ use Rattle.std.proofs.Common.{◌≡◌, ℕ, Bool, true, false, List, [], ◌�
 use Rattle.cs_grammar.specs.Tree.{Label, Tree, atom, named, reference, conjunction, paren, struct, Trees, none, more, Fields, no_field, field, DefinitionTree, definition}
 use Rattle.cs_grammar.specs.Atom.{integer}
 use Rattle.cs_grammar.specs.declared.ast.FieldMark.TheVariants.{Regular, Every}
-use Rattle.cs_resolve.specs.Refinement.{bases, is_refinement}
+use Rattle.cs_resolve.specs.ClosedBases.{bases, is_refinement}
 
 abbrev plain : List ℕ → Label
 plain t = record { text = t; quotes = false }

@@ -5,15 +5,16 @@ use Rattle.std.specs.List.{AllByRecursion, flat_map}
 use Rattle.std.proofs.lemmas.Bool.{false≢true}
 use Rattle.cs_grammar.specs.Tree.{Tree, atom, named, reference, conjunction, disjunction, paren, struct, list, Trees, none, more, Fields, no_field, field, End, closed, any, each, DefinitionTree, defined_name, body, FileTree, definitions}
 use Rattle.cs_package.specs.Expression as cue
-use Rattle.cs_package.specs.Expression.{Expression}
+use Rattle.cs_package.specs.Expression.{Expression, mark_of}
 use Rattle.cs_package.specs.Environment.{Environment}
-use Rattle.cs_package.specs.View.{mark_of}
 use Rattle.std.specs.Str.{bytes_eq}
-use Rattle.cs_resolve.specs.Declarations.{names, bodies_of, declared}
-use Rattle.cs_resolve.specs.Earlier.{no_bases, IsOpenedEarlier, earlier_environment, IsPackageEarlier}
+use Rattle.cs_resolve.specs.Declarations.{names, bodies_of}
+use Rattle.cs_resolve.specs.Earlier.{no_refinements, IsPackageEarlier}
 use Rattle.cs_resolve.specs.Opening.{has_literal_or_reference, Literal, literals, operands, named_fields, named_bodies, values_of_each, joined, conjunctions, conjunctions_all, conjunctions_fields, conjunctions_end, KeepsRule, IsOpened}
-use Rattle.cs_resolve.specs.Refinement.{Bases, bases, Narrowing, has_every_key, closed_literal, referred, narrowing_of, or_else, narrowing, narrowed, is_some_labels, is_refinement}
+use Rattle.cs_resolve.specs.Refinement.{Refinements, AreRefinements, Narrowing, has_every_key, closed_literal, referred, narrowing_of, or_else, narrowing}
+use Rattle.cs_resolve.specs.ClosedBases.{bases, is_refinement}
 use Rattle.cs_resolve.specs.Resolved.{narrowed_operands, resolved, resolved_all, resolved_fields, resolved_end, environment_of_files, IsPackage}
+use Rattle.cs_resolve.proofs.BaseLaw.{found_refinements}
 
 abbrev Keeps : List (List Tree) → Type 0
 Keeps cs = AllByRecursion KeepsRule cs
@@ -107,113 +108,132 @@ none_narrowed (more a none) h = refl
 none_narrowed (more a (more b none)) h = no_narrowing a b h
 none_narrowed (more a (more b (more c es))) h = refl
 
-none_refined : (bs : Bases) (es : Trees) → KeepsRule (operands es) → is_refinement bs es ≡ false
-none_refined bs es h = ap (λ n. is_some_labels (narrowed bs n)) (none_narrowed es h)
+-- where these are the plain refinements, other operands are none
+abbrev Narrow : Refinements → Type 0
+Narrow rs = (es : Trees) → narrowing es ≡ None → rs es ≡ false
 
--- without closed bases nothing is a plain refinement
-nothing_refined : (es : Trees) → is_refinement no_bases es ≡ false
-nothing_refined es = by (narrowing es)
+no_both : (o : Option Narrowing) (n : Narrowing) → o ≡ None → o ≡ Some n → ⊥
+no_both None n h k = cc
+no_both (Some m) n h k = cc
+
+others_apart : (ds : List DefinitionTree) (rs : Refinements) → AreRefinements ds rs → Narrow rs
+others_apart ds rs are es absent = by (rs es) refl
   where
-    by : (n : Option Narrowing) → is_some_labels (narrowed no_bases n) ≡ false
-    by None = refl
-    by (Some n) = refl
+    by : (b : Bool) → rs es ≡ b → rs es ≡ false
+    by true e = let r = (are es).0 e in absurd (no_both (narrowing es) (r.base, r.fields) absent r.joins)
+    by false e = e
 
 -- the conjunctions inside the bodies of definitions
-abbrev inner : Bases → List DefinitionTree → List (List Tree)
-inner bs ds = flat_map (λ d. conjunctions bs (body d)) ds
+abbrev inner : Refinements → List DefinitionTree → List (List Tree)
+inner rs ds = flat_map (λ d. conjunctions rs (body d)) ds
 
 -- a name with its resolved bodies
-abbrev with_resolved : Bases → List ℕ × List Tree → List ℕ × List Expression
-with_resolved bs d = (d.0, map (resolved bs) d.1)
+abbrev with_resolved : Refinements → List ℕ × List Tree → List ℕ × List Expression
+with_resolved rs d = (d.0, map (resolved rs) d.1)
 
 -- ---- expressions
 
-module _ (bs : Bases) where
+module _ (rs : Refinements) (narrow : Narrow rs) where
   -- the operands of a conjunction keep the rule
-  own_operands : (es : Trees) → Keeps (conjunctions no_bases (conjunction es)) → KeepsRule (operands es)
-  own_operands es h = (subst (λ b. Keeps (cond b [] (operands es ∷ []) ++ conjunctions_all no_bases es)) (nothing_refined es) h).0
+  own_operands : (es : Trees) → Keeps (conjunctions no_refinements (conjunction es)) → KeepsRule (operands es)
+  own_operands es h = h.0
 
-  inner_operands : (es : Trees) → Keeps (conjunctions no_bases (conjunction es)) → Keeps (conjunctions_all no_bases es)
-  inner_operands es h = kept_right KeepsRule (joined no_bases es) (conjunctions_all no_bases es) h
+  inner_operands : (es : Trees) → Keeps (conjunctions no_refinements (conjunction es)) → Keeps (conjunctions_all no_refinements es)
+  inner_operands es h = kept_right KeepsRule (joined no_refinements es) (conjunctions_all no_refinements es) h
 
-  no_refinement : (es : Trees) → Keeps (conjunctions no_bases (conjunction es)) → is_refinement bs es ≡ is_refinement no_bases es
-  no_refinement es h = none_refined bs es (own_operands es h) ∙ sym (nothing_refined es)
+  no_refinement : (es : Trees) → Keeps (conjunctions no_refinements (conjunction es)) → rs es ≡ no_refinements es
+  no_refinement es h = narrow es (none_narrowed es (own_operands es h))
 
   mutual
-    pub resolved_same : (e : Tree) → Keeps (conjunctions no_bases e) → resolved bs e ≡ resolved no_bases e
+    pub resolved_same : (e : Tree) → Keeps (conjunctions no_refinements e) → resolved rs e ≡ resolved no_refinements e
     resolved_same (atom a) h = refl
     resolved_same (named n o) h = refl
     resolved_same (reference n o) h = refl
     resolved_same (conjunction es) h = ap cue.conjunction (ap₂ narrowed_operands (no_refinement es h) (resolved_same_all es (inner_operands es h)))
     resolved_same (disjunction es) h = ap cue.disjunction (resolved_same_all es h)
     resolved_same (paren e) h = resolved_same e h
-    resolved_same (struct o fs opened) h = ap (λ ds. cue.struct ds opened) (resolved_same_fields fs (kept_right KeepsRule (values_of_each (named_fields fs)) (conjunctions_fields no_bases fs) h))
-    resolved_same (list es end) h = ap₂ cue.list (resolved_same_all es (kept_left KeepsRule (conjunctions_all no_bases es) (conjunctions_end no_bases end) h)) (resolved_same_end end (kept_right KeepsRule (conjunctions_all no_bases es) (conjunctions_end no_bases end) h))
+    resolved_same (struct o fs opened) h = ap (λ ds. cue.struct ds opened) (resolved_same_fields fs (kept_right KeepsRule (values_of_each (named_fields fs)) (conjunctions_fields no_refinements fs) h))
+    resolved_same (list es end) h = ap₂ cue.list (resolved_same_all es (kept_left KeepsRule (conjunctions_all no_refinements es) (conjunctions_end no_refinements end) h)) (resolved_same_end end (kept_right KeepsRule (conjunctions_all no_refinements es) (conjunctions_end no_refinements end) h))
 
-    resolved_same_all : (es : Trees) → Keeps (conjunctions_all no_bases es) → resolved_all bs es ≡ resolved_all no_bases es
+    resolved_same_all : (es : Trees) → Keeps (conjunctions_all no_refinements es) → resolved_all rs es ≡ resolved_all no_refinements es
     resolved_same_all none h = refl
-    resolved_same_all (more e es) h = ap₂ cue.expression (resolved_same e (kept_left KeepsRule (conjunctions no_bases e) (conjunctions_all no_bases es) h)) (resolved_same_all es (kept_right KeepsRule (conjunctions no_bases e) (conjunctions_all no_bases es) h))
+    resolved_same_all (more e es) h = ap₂ cue.expression (resolved_same e (kept_left KeepsRule (conjunctions no_refinements e) (conjunctions_all no_refinements es) h)) (resolved_same_all es (kept_right KeepsRule (conjunctions no_refinements e) (conjunctions_all no_refinements es) h))
 
-    resolved_same_fields : (fs : Fields) → Keeps (conjunctions_fields no_bases fs) → resolved_fields bs fs ≡ resolved_fields no_bases fs
+    resolved_same_fields : (fs : Fields) → Keeps (conjunctions_fields no_refinements fs) → resolved_fields rs fs ≡ resolved_fields no_refinements fs
     resolved_same_fields no_field h = refl
-    resolved_same_fields (field l m e fs) h = ap₂ (cue.declaration l.text (mark_of m)) (resolved_same e (kept_left KeepsRule (conjunctions no_bases e) (conjunctions_fields no_bases fs) h)) (resolved_same_fields fs (kept_right KeepsRule (conjunctions no_bases e) (conjunctions_fields no_bases fs) h))
+    resolved_same_fields (field l m e fs) h = ap₂ (cue.declaration l.text (mark_of m)) (resolved_same e (kept_left KeepsRule (conjunctions no_refinements e) (conjunctions_fields no_refinements fs) h)) (resolved_same_fields fs (kept_right KeepsRule (conjunctions no_refinements e) (conjunctions_fields no_refinements fs) h))
 
-    resolved_same_end : (end : End) → Keeps (conjunctions_end no_bases end) → resolved_end bs end ≡ resolved_end no_bases end
+    resolved_same_end : (end : End) → Keeps (conjunctions_end no_refinements end) → resolved_end rs end ≡ resolved_end no_refinements end
     resolved_same_end closed h = refl
     resolved_same_end any h = refl
     resolved_same_end (each e) h = ap cue.each (resolved_same e h)
 
   mutual
-    pub conjunctions_same : (e : Tree) → Keeps (conjunctions no_bases e) → conjunctions bs e ≡ conjunctions no_bases e
+    pub conjunctions_same : (e : Tree) → Keeps (conjunctions no_refinements e) → conjunctions rs e ≡ conjunctions no_refinements e
     conjunctions_same (atom a) h = refl
     conjunctions_same (named n o) h = refl
     conjunctions_same (reference n o) h = refl
     conjunctions_same (conjunction es) h = ap₂ (λ b cs. cond b [] (operands es ∷ []) ++ cs) (no_refinement es h) (conjunctions_same_all es (inner_operands es h))
     conjunctions_same (disjunction es) h = conjunctions_same_all es h
     conjunctions_same (paren e) h = conjunctions_same e h
-    conjunctions_same (struct o fs opened) h = ap (λ cs. values_of_each (named_fields fs) ++ cs) (conjunctions_same_fields fs (kept_right KeepsRule (values_of_each (named_fields fs)) (conjunctions_fields no_bases fs) h))
-    conjunctions_same (list es end) h = ap₂ (λ cs ds. cs ++ ds) (conjunctions_same_all es (kept_left KeepsRule (conjunctions_all no_bases es) (conjunctions_end no_bases end) h)) (conjunctions_same_end end (kept_right KeepsRule (conjunctions_all no_bases es) (conjunctions_end no_bases end) h))
+    conjunctions_same (struct o fs opened) h = ap (λ cs. values_of_each (named_fields fs) ++ cs) (conjunctions_same_fields fs (kept_right KeepsRule (values_of_each (named_fields fs)) (conjunctions_fields no_refinements fs) h))
+    conjunctions_same (list es end) h = ap₂ (λ cs ds. cs ++ ds) (conjunctions_same_all es (kept_left KeepsRule (conjunctions_all no_refinements es) (conjunctions_end no_refinements end) h)) (conjunctions_same_end end (kept_right KeepsRule (conjunctions_all no_refinements es) (conjunctions_end no_refinements end) h))
 
-    conjunctions_same_all : (es : Trees) → Keeps (conjunctions_all no_bases es) → conjunctions_all bs es ≡ conjunctions_all no_bases es
+    conjunctions_same_all : (es : Trees) → Keeps (conjunctions_all no_refinements es) → conjunctions_all rs es ≡ conjunctions_all no_refinements es
     conjunctions_same_all none h = refl
-    conjunctions_same_all (more e es) h = ap₂ (λ cs ds. cs ++ ds) (conjunctions_same e (kept_left KeepsRule (conjunctions no_bases e) (conjunctions_all no_bases es) h)) (conjunctions_same_all es (kept_right KeepsRule (conjunctions no_bases e) (conjunctions_all no_bases es) h))
+    conjunctions_same_all (more e es) h = ap₂ (λ cs ds. cs ++ ds) (conjunctions_same e (kept_left KeepsRule (conjunctions no_refinements e) (conjunctions_all no_refinements es) h)) (conjunctions_same_all es (kept_right KeepsRule (conjunctions no_refinements e) (conjunctions_all no_refinements es) h))
 
-    conjunctions_same_fields : (fs : Fields) → Keeps (conjunctions_fields no_bases fs) → conjunctions_fields bs fs ≡ conjunctions_fields no_bases fs
+    conjunctions_same_fields : (fs : Fields) → Keeps (conjunctions_fields no_refinements fs) → conjunctions_fields rs fs ≡ conjunctions_fields no_refinements fs
     conjunctions_same_fields no_field h = refl
-    conjunctions_same_fields (field l m e fs) h = ap₂ (λ cs ds. cs ++ ds) (conjunctions_same e (kept_left KeepsRule (conjunctions no_bases e) (conjunctions_fields no_bases fs) h)) (conjunctions_same_fields fs (kept_right KeepsRule (conjunctions no_bases e) (conjunctions_fields no_bases fs) h))
+    conjunctions_same_fields (field l m e fs) h = ap₂ (λ cs ds. cs ++ ds) (conjunctions_same e (kept_left KeepsRule (conjunctions no_refinements e) (conjunctions_fields no_refinements fs) h)) (conjunctions_same_fields fs (kept_right KeepsRule (conjunctions no_refinements e) (conjunctions_fields no_refinements fs) h))
 
-    conjunctions_same_end : (end : End) → Keeps (conjunctions_end no_bases end) → conjunctions_end bs end ≡ conjunctions_end no_bases end
+    conjunctions_same_end : (end : End) → Keeps (conjunctions_end no_refinements end) → conjunctions_end rs end ≡ conjunctions_end no_refinements end
     conjunctions_same_end closed h = refl
     conjunctions_same_end any h = refl
     conjunctions_same_end (each e) h = conjunctions_same e h
 
   -- ---- definitions
 
-  inner_same : (ds : List DefinitionTree) → Keeps (inner no_bases ds) → inner bs ds ≡ inner no_bases ds
+  inner_same : (ds : List DefinitionTree) → Keeps (inner no_refinements ds) → inner rs ds ≡ inner no_refinements ds
   inner_same [] h = refl
-  inner_same (d ∷ ds) h = ap₂ (λ cs es. cs ++ es) (conjunctions_same (body d) (kept_left KeepsRule (conjunctions no_bases (body d)) (inner no_bases ds) h)) (inner_same ds (kept_right KeepsRule (conjunctions no_bases (body d)) (inner no_bases ds) h))
+  inner_same (d ∷ ds) h = ap₂ (λ cs es. cs ++ es) (conjunctions_same (body d) (kept_left KeepsRule (conjunctions no_refinements (body d)) (inner no_refinements ds) h)) (inner_same ds (kept_right KeepsRule (conjunctions no_refinements (body d)) (inner no_refinements ds) h))
 
-  bodies_same : (p : DefinitionTree → Bool) (ds : List DefinitionTree) → Keeps (inner no_bases ds) → map (resolved bs) (map body (filter p ds)) ≡ map (resolved no_bases) (map body (filter p ds))
+  bodies_same : (p : DefinitionTree → Bool) (ds : List DefinitionTree) → Keeps (inner no_refinements ds) → map (resolved rs) (map body (filter p ds)) ≡ map (resolved no_refinements) (map body (filter p ds))
   bodies_same p [] h = refl
-  bodies_same p (d ∷ ds) h = by (p d) (resolved_same (body d) (kept_left KeepsRule (conjunctions no_bases (body d)) (inner no_bases ds) h)) (bodies_same p ds (kept_right KeepsRule (conjunctions no_bases (body d)) (inner no_bases ds) h))
+  bodies_same p (d ∷ ds) h = by (p d) (resolved_same (body d) (kept_left KeepsRule (conjunctions no_refinements (body d)) (inner no_refinements ds) h)) (bodies_same p ds (kept_right KeepsRule (conjunctions no_refinements (body d)) (inner no_refinements ds) h))
     where
-      by : (b : Bool) → resolved bs (body d) ≡ resolved no_bases (body d) → map (resolved bs) (map body (filter p ds)) ≡ map (resolved no_bases) (map body (filter p ds)) → map (resolved bs) (map body (cond b (d ∷ filter p ds) (filter p ds))) ≡ map (resolved no_bases) (map body (cond b (d ∷ filter p ds) (filter p ds)))
+      by : (b : Bool) → resolved rs (body d) ≡ resolved no_refinements (body d) → map (resolved rs) (map body (filter p ds)) ≡ map (resolved no_refinements) (map body (filter p ds)) → map (resolved rs) (map body (cond b (d ∷ filter p ds) (filter p ds))) ≡ map (resolved no_refinements) (map body (cond b (d ∷ filter p ds) (filter p ds)))
       by true first rest = ap₂ (λ e es. e ∷ es) first rest
       by false first rest = rest
 
-  declared_same : (ns : List (List ℕ)) (ds : List DefinitionTree) → Keeps (inner no_bases ds) → map (with_resolved bs) (map (λ n. (n, bodies_of n ds)) ns) ≡ map (with_resolved no_bases) (map (λ n. (n, bodies_of n ds)) ns)
+  declared_same : (ns : List (List ℕ)) (ds : List DefinitionTree) → Keeps (inner no_refinements ds) → map (with_resolved rs) (map (λ n. (n, bodies_of n ds)) ns) ≡ map (with_resolved no_refinements) (map (λ n. (n, bodies_of n ds)) ns)
   declared_same [] ds h = refl
   declared_same (n ∷ ns) ds h = ap₂ (λ es rest. (n, es) ∷ rest) (bodies_same (λ d. bytes_eq (defined_name d) n) ds h) (declared_same ns ds h)
 
-pub still_opened : (fs : List FileTree) → IsOpenedEarlier fs → IsOpened fs
-still_opened fs h =
-    let ds = flat_map definitions fs in
-    subst (λ cs. Keeps (values_of_each (named_bodies ds) ++ cs)) (sym (inner_same (bases ds) ds (kept_right KeepsRule (values_of_each (named_bodies ds)) (inner no_bases ds) h))) h
+module _ (fs : List FileTree) (h : IsOpened no_refinements fs) (rs : Refinements) (are : AreRefinements (flat_map definitions fs) rs) where
+  abbrev ds : List DefinitionTree
+  ds = flat_map definitions fs
 
-pub same_environment : (fs : List FileTree) → IsOpenedEarlier fs → environment_of_files fs ≡ earlier_environment fs
-same_environment fs h =
-    let ds = flat_map definitions fs in
-    declared_same (bases ds) (names ds) ds (kept_right KeepsRule (values_of_each (named_bodies ds)) (inner no_bases ds) h)
+  inside : Keeps (inner no_refinements ds)
+  inside = kept_right KeepsRule (values_of_each (named_bodies ds)) (inner no_refinements ds) h
 
-pub still_package : (fs : List FileTree) (E : Environment) → IsPackageEarlier fs E → IsPackage fs
-still_package fs E h = record { agree = h.agree; small = h.small; resolved = h.resolved; opened = still_opened fs h.opened }
+  still_opened : IsOpened rs fs
+  still_opened = subst (λ cs. Keeps (values_of_each (named_bodies ds) ++ cs)) (sym (inner_same rs (others_apart ds rs are) ds inside)) h
+
+  same_environment : environment_of_files rs fs ≡ environment_of_files no_refinements fs
+  same_environment = declared_same rs (others_apart ds rs are) (names ds) ds inside
+
+pub still_package : (fs : List FileTree) (E : Environment) → IsPackageEarlier fs E → IsPackage fs E
+still_package fs E h =
+    let ds = flat_map definitions fs in
+    let rs = is_refinement (bases ds) in
+    let are = found_refinements ds in
+    record {
+      agree = h.agree;
+      small = h.small;
+      resolved = h.resolved;
+      refinements = rs;
+      are_refinements = are;
+      opened = still_opened fs h.opened rs are;
+      declares = h.declares ∙ sym (same_environment fs h.opened rs are);
+    }

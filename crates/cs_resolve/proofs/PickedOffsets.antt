@@ -7,8 +7,9 @@ use Rattle.cs_grammar.specs.declared.ast.FieldMark.{FieldMark}
 use Rattle.cs_grammar.specs.declared.ast.FieldMark.TheVariants.{Regular, Optional, Required, Every}
 use Rattle.cs_resolve.specs.Declarations.{places_of}
 use Rattle.cs_resolve.specs.Offsets.{offset}
-use Rattle.cs_resolve.specs.Opening.{one, Named, named_fields, values, joined_demand_open, declared_for, demands_open, demands_open_of, at_fault, unopened, unopened_all, unopened_fields, unopened_end, unopened_definitions}
-use Rattle.cs_resolve.specs.Refinement.{Bases}
+use Rattle.cs_resolve.specs.Opening.{one, Named, named_fields, values, declared_for}
+use Rattle.cs_resolve.specs.Unopened.{joined_demand_open, demands_open, demands_open_of, at_fault, unopened, unopened_all, unopened_fields, unopened_end, unopened_definitions}
+use Rattle.cs_resolve.specs.Refinement.{Refinements}
 use Rattle.cs_resolve.specs.Predeclared.{predeclared}
 use Rattle.cs_resolve.specs.Scopes.{labels, names_field, Place, a_name, a_reference, key_places, places, places_all, places_fields, places_end, name_faults, reference_faults, place_faults, faults}
 use Rattle.cs_resolve.proofs.MarkOrder.{key_marks, marks, marks_all, marks_in, marks_end, marks_of, Within}
@@ -120,29 +121,29 @@ behind_key Required k = k
 behind_key (Every o) k = left k
 
 mutual
-  literal_picks : (bs : Bases) (demanded : Bool) (e : Tree) → Picks own (unopened bs demanded e) (marks e)
-  literal_picks bs demanded (named t o) = left nothing
-  literal_picks bs demanded (reference t o) = left nothing
-  literal_picks bs demanded (conjunction es) = literal_picks_all bs (demanded || joined_demand_open bs es) es
-  literal_picks bs demanded (disjunction es) = literal_picks_all bs demanded es
-  literal_picks bs demanded (paren e) = literal_picks bs demanded e
-  literal_picks bs demanded (struct o fs opened) = join_picks own (at_fault_picks demanded opened o) (literal_picks_in bs demanded (named_fields fs) fs)
-  literal_picks bs demanded (list es end) = join_picks own (literal_picks_all bs demanded es) (literal_picks_end bs demanded end)
-  literal_picks bs demanded _ = nothing
+  literal_picks : (rs : Refinements) (demanded : Bool) (e : Tree) → Picks own (unopened rs demanded e) (marks e)
+  literal_picks rs demanded (named t o) = left nothing
+  literal_picks rs demanded (reference t o) = left nothing
+  literal_picks rs demanded (conjunction es) = literal_picks_all rs (demanded || joined_demand_open rs es) es
+  literal_picks rs demanded (disjunction es) = literal_picks_all rs demanded es
+  literal_picks rs demanded (paren e) = literal_picks rs demanded e
+  literal_picks rs demanded (struct o fs opened) = join_picks own (at_fault_picks demanded opened o) (literal_picks_in rs demanded (named_fields fs) fs)
+  literal_picks rs demanded (list es end) = join_picks own (literal_picks_all rs demanded es) (literal_picks_end rs demanded end)
+  literal_picks rs demanded _ = nothing
 
-  literal_picks_all : (bs : Bases) (demanded : Bool) (es : Trees) → Picks own (unopened_all bs demanded es) (marks_all es)
-  literal_picks_all bs demanded none = nothing
-  literal_picks_all bs demanded (more e es) = join_picks own (literal_picks bs demanded e) (literal_picks_all bs demanded es)
+  literal_picks_all : (rs : Refinements) (demanded : Bool) (es : Trees) → Picks own (unopened_all rs demanded es) (marks_all es)
+  literal_picks_all rs demanded none = nothing
+  literal_picks_all rs demanded (more e es) = join_picks own (literal_picks rs demanded e) (literal_picks_all rs demanded es)
 
-  literal_picks_in : (bs : Bases) (demanded : Bool) (all : List Named) (fs : Fields) → Picks own (unopened_fields bs demanded all fs) (marks_in fs)
-  literal_picks_in bs demanded all no_field = nothing
-  literal_picks_in bs demanded all (field l m e fs) = join_picks own (behind_key m (literal_picks bs (demanded || demands_open_of (declared_for l m) all) e)) (literal_picks_in bs demanded all fs)
+  literal_picks_in : (rs : Refinements) (demanded : Bool) (all : List Named) (fs : Fields) → Picks own (unopened_fields rs demanded all fs) (marks_in fs)
+  literal_picks_in rs demanded all no_field = nothing
+  literal_picks_in rs demanded all (field l m e fs) = join_picks own (behind_key m (literal_picks rs (demanded || demands_open_of (declared_for l m) all) e)) (literal_picks_in rs demanded all fs)
 
-  literal_picks_end : (bs : Bases) (demanded : Bool) (end : End) → Picks own (unopened_end bs demanded end) (marks_end end)
-  literal_picks_end bs demanded closed = nothing
-  literal_picks_end bs demanded any = nothing
-  literal_picks_end bs demanded (each e) = literal_picks bs demanded e
+  literal_picks_end : (rs : Refinements) (demanded : Bool) (end : End) → Picks own (unopened_end rs demanded end) (marks_end end)
+  literal_picks_end rs demanded closed = nothing
+  literal_picks_end rs demanded any = nothing
+  literal_picks_end rs demanded (each e) = literal_picks rs demanded e
 
-pub literal_picks_of : (bs : Bases) (all : List Named) (ds : List DefinitionTree) → Picks own (unopened_definitions bs all ds) (marks_of ds)
-literal_picks_of bs all [] = nothing
-literal_picks_of bs all (d ∷ ds) = join_picks own (literal_picks bs (demands_open (values (one (defined_name d)) all)) (body d)) (literal_picks_of bs all ds)
+pub literal_picks_of : (rs : Refinements) (all : List Named) (ds : List DefinitionTree) → Picks own (unopened_definitions rs all ds) (marks_of ds)
+literal_picks_of rs all [] = nothing
+literal_picks_of rs all (d ∷ ds) = join_picks own (literal_picks rs (demands_open (values (one (defined_name d)) all)) (body d)) (literal_picks_of rs all ds)

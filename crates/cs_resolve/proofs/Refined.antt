@@ -1,13 +1,18 @@
 -- Samples of plain refinement in the opening rule and in what is resolved. A wrong expectation stops the check here.
 use Rattle.std.proofs.Common.{◌≡◌, ℕ, Bool, true, false, List, [], ◌∷◌, None, pos, codes, refl}
-use Rattle.cs_grammar.specs.Tree.{Label, Tree, atom, named, reference, conjunction, paren, struct, list, none, more, Fields, no_field, field, each, DefinitionTree, definition, FileTree, file}
+use Rattle.std.specs.List.{flat_map}
+use Rattle.cs_grammar.specs.Tree.{Label, Tree, atom, named, reference, conjunction, paren, struct, list, none, more, Fields, no_field, field, each, DefinitionTree, definition, FileTree, file, definitions}
 use Rattle.cs_grammar.specs.Atom.{integer, text, not_null}
 use Rattle.cs_grammar.specs.declared.ast.FieldMark.TheVariants.{Regular}
 use Rattle.cs_package.specs.Expression as cue
 use Rattle.cs_package.specs.Expression.{Expression, Expressions}
+use Rattle.cs_package.specs.Environment.{Environment}
 use Rattle.cs_package.specs.View.{expressions_of}
-use Rattle.cs_resolve.specs.Opening.{conjunctions, unopened, unopened_files}
-use Rattle.cs_resolve.specs.Refinement.{Bases, bases}
+use Rattle.cs_resolve.specs.Opening.{conjunctions}
+use Rattle.cs_resolve.specs.Unopened.{unopened, unopened_files}
+use Rattle.cs_resolve.specs.ClosedBases.{bases, is_refinement}
+use Rattle.cs_resolve.specs.Earlier.{no_refinements}
+use Rattle.cs_resolve.specs.Refinement.{Refinements}
 use Rattle.cs_resolve.specs.Resolved.{resolved, environment_of_files}
 
 -- ---- short forms
@@ -51,8 +56,18 @@ and_three e f g = conjunction (more e (more f (more g none)))
 abbrev base : DefinitionTree
 base = definition (codes "B") 0 (struct 4 (field k Regular (named (codes "string") 8) no_field) false)
 
-abbrev given : Bases
-given = bases (base ∷ [])
+abbrev given : Refinements
+given = is_refinement (bases (base ∷ []))
+
+-- by the plain refinements of files: their literals at fault, and what they declare
+abbrev refined : List FileTree → Refinements
+refined fs = is_refinement (bases (flat_map definitions fs))
+
+abbrev pub unopened_of : List FileTree → List (ℕ × ℕ)
+unopened_of fs = unopened_files (refined fs) fs
+
+abbrev environment_of : List FileTree → Environment
+environment_of fs = environment_of_files (refined fs) fs
 
 -- a package of #B and of `#C: e`
 abbrev with_b : Tree → List FileTree
@@ -91,7 +106,7 @@ a_conjunction : conjunctions given (and b (struct 9 no_field true)) ≡ (b ∷ s
 a_conjunction = refl
 
 -- of files, where #C is declared in another one than #B
-in_files : unopened_files (file None (definition (codes "C") 0 (and b (x_at 9)) ∷ []) ∷ file None (base ∷ []) ∷ []) ≡ []
+in_files : unopened_of (file None (definition (codes "C") 0 (and b (x_at 9)) ∷ []) ∷ file None (base ∷ []) ∷ []) ≡ []
 in_files = refl
 
 -- ---- what isn't
@@ -115,30 +130,30 @@ around_is_plain : unopened given false (and (paren (and b (x_at 9))) (atom not_n
 around_is_plain = refl
 
 -- `#C: #C & {k: "x"}`
-of_itself : unopened_files (with_b (and (to (codes "C")) (x_at 29))) ≡ (0, 29) ∷ []
+of_itself : unopened_of (with_b (and (to (codes "C")) (x_at 29))) ≡ (0, 29) ∷ []
 of_itself = refl
 
 -- `#C: #C & {}`, and `#C: #D & {}` with `#D: #C & {}`
-of_itself_by_nothing : unopened_files (with_b (and (to (codes "C")) (empty_at 29))) ≡ (0, 29) ∷ []
+of_itself_by_nothing : unopened_of (with_b (and (to (codes "C")) (empty_at 29))) ≡ (0, 29) ∷ []
 of_itself_by_nothing = refl
 
-in_a_circle : unopened_files (file None (definition (codes "C") 0 (and (to (codes "D")) (empty_at 9)) ∷ definition (codes "D") 20 (and (to (codes "C")) (empty_at 29)) ∷ []) ∷ []) ≡ (0, 9) ∷ (0, 29) ∷ []
+in_a_circle : unopened_of (file None (definition (codes "C") 0 (and (to (codes "D")) (empty_at 9)) ∷ definition (codes "D") 20 (and (to (codes "C")) (empty_at 29)) ∷ []) ∷ []) ≡ (0, 9) ∷ (0, 29) ∷ []
 in_a_circle = refl
 
 -- `#D: #C & {k: "x"}` with `#C: #B & {}`: a plain refinement is a base, wherever it stands
-of_a_refinement : unopened_files (file None (definition (codes "D") 0 (and (x_at 9) (to (codes "C"))) ∷ definition (codes "C") 20 (and b (empty_at 29)) ∷ base ∷ []) ∷ []) ≡ []
+of_a_refinement : unopened_of (file None (definition (codes "D") 0 (and (x_at 9) (to (codes "C"))) ∷ definition (codes "C") 20 (and b (empty_at 29)) ∷ base ∷ []) ∷ []) ≡ []
 of_a_refinement = refl
 
 -- #B has two bodies: its own literal is at fault, and that of #C
-base_of_two_bodies : unopened_files (file None (base ∷ base ∷ definition (codes "C") 20 (and b (x_at 29)) ∷ []) ∷ []) ≡ (0, 4) ∷ (0, 4) ∷ (0, 29) ∷ []
+base_of_two_bodies : unopened_of (file None (base ∷ base ∷ definition (codes "C") 20 (and b (x_at 29)) ∷ []) ∷ []) ≡ (0, 4) ∷ (0, 4) ∷ (0, 29) ∷ []
 base_of_two_bodies = refl
 
 -- #C has two bodies, of which each asks
-two_refinements : unopened_files (file None (base ∷ definition (codes "C") 20 (and b (x_at 29)) ∷ definition (codes "C") 40 b ∷ []) ∷ []) ≡ (0, 29) ∷ []
+two_refinements : unopened_of (file None (base ∷ definition (codes "C") 20 (and b (x_at 29)) ∷ definition (codes "C") 40 b ∷ []) ∷ []) ≡ (0, 29) ∷ []
 two_refinements = refl
 
 -- #B ends with `...`, so it is no base
-open_base : unopened_files (file None (definition (codes "B") 0 (opened_at 4) ∷ definition (codes "C") 20 (and b (x_at 29)) ∷ []) ∷ []) ≡ (0, 29) ∷ []
+open_base : unopened_of (file None (definition (codes "B") 0 (opened_at 4) ∷ definition (codes "C") 20 (and b (x_at 29)) ∷ []) ∷ []) ≡ (0, 29) ∷ []
 open_base = refl
 
 -- ---- what is resolved
@@ -160,11 +175,11 @@ read_alone = refl
 read_with_others : resolved given (and_three b (x_at 9) (atom not_null)) ≡ cue.conjunction (expressions_of (cue.reference (codes "B") ∷ x_read false ∷ cue.atom cue.not_null ∷ []))
 read_with_others = refl
 
-read_without_base : resolved (λ n. None) (and b (x_at 9)) ≡ cue.conjunction (expressions_of (cue.reference (codes "B") ∷ x_read false ∷ []))
+read_without_base : resolved no_refinements (and b (x_at 9)) ≡ cue.conjunction (expressions_of (cue.reference (codes "B") ∷ x_read false ∷ []))
 read_without_base = refl
 
 -- `#B: {k: string}` keeps its closed literal, and `#C: #B & {k: "x"}` is read so
-environment_of_both : environment_of_files (with_b (and b (x_at 29)))
+environment_of_both : environment_of (with_b (and b (x_at 29)))
     ≡ (codes "B", cue.struct (cue.declaration (codes "k") cue.regular (cue.kind cue.string) cue.no_declarations) false ∷ [])
     ∷ (codes "C", cue.conjunction (expressions_of (cue.reference (codes "B") ∷ x_read true ∷ [])) ∷ []) ∷ []
 environment_of_both = refl

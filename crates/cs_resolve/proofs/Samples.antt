@@ -8,13 +8,15 @@ use Rattle.cs_grammar.specs.Spells.{every_label}
 use Rattle.cs_package.specs.Expression as cue
 use Rattle.cs_package.specs.Height.{height, heights}
 use Rattle.cs_resolve.specs.Resolved.{environment_of_files}
-use Rattle.cs_resolve.specs.Opening.{conjunctions, unopened, unopened_files}
-use Rattle.cs_resolve.specs.Refinement.{Bases}
+use Rattle.cs_resolve.specs.Opening.{conjunctions}
+use Rattle.cs_resolve.specs.Unopened.{unopened}
+use Rattle.cs_resolve.specs.Earlier.{no_refinements}
 use Rattle.cs_resolve.specs.Size.{nodes}
 use Rattle.cs_resolve.specs.Scopes.{places, faults, unknown, of_field}
 use Rattle.cs_resolve.specs.Declarations.{names, faults_of_files}
 use Rattle.cs_resolve.specs.PackageName.{differing_file}
 use Rattle.std.proofs.Common.{Some, None}
+use Rattle.cs_resolve.proofs.Refined.{unopened_of}
 
 abbrev plain : List ℕ → Label
 plain t = record { text = t; quotes = false }
@@ -30,87 +32,83 @@ one t = field (plain t) Regular (atom (integer (pos 1))) no_field
 abbrev every : ℕ → Tree → Fields → Fields
 every o e fs = field every_label (Every o) e fs
 
--- no definition is a closed base
-abbrev no_bases : Bases
-no_bases n = None
-
 -- ---- the opening rule
 
 -- `{a: {p: 1, ...}, b: {q: 1}, b: {r: 1, ...}, a: {s: 1}}`: the literals of q and s, in this order
-first_of_all : unopened no_bases false (struct 4 (field (plain (codes "a")) Regular (struct 8 (one (codes "p")) true)
+first_of_all : unopened no_refinements false (struct 4 (field (plain (codes "a")) Regular (struct 8 (one (codes "p")) true)
     (field (plain (codes "b")) Regular (struct 24 (one (codes "q")) false)
     (field (plain (codes "b")) Regular (struct 35 (one (codes "r")) true)
     (field (plain (codes "a")) Regular (struct 51 (one (codes "s")) false) no_field)))) false) ≡ 24 ∷ 51 ∷ []
 first_of_all = refl
 
 -- `{a: {b: 1}, ...} & {...}`: the literal inside
-inside : unopened no_bases false (conjunction (more (struct 4 (field (plain (codes "a")) Regular (struct 8 (one (codes "b")) false) no_field) true) (more (struct 23 no_field true) none))) ≡ 8 ∷ []
+inside : unopened no_refinements false (conjunction (more (struct 4 (field (plain (codes "a")) Regular (struct 8 (one (codes "b")) false) no_field) true) (more (struct 23 no_field true) none))) ≡ 8 ∷ []
 inside = refl
 
 -- `(#A & {x: 1, ...}) & int`: a parenthesis is one operand
-one_operand : unopened no_bases false (conjunction (more (paren (conjunction (more (reference (codes "A") 5) (more (struct 10 (one (codes "x")) true) none)))) (more (named (codes "int") 30) none))) ≡ []
+one_operand : unopened no_refinements false (conjunction (more (paren (conjunction (more (reference (codes "A") 5) (more (struct 10 (one (codes "x")) true) none)))) (more (named (codes "int") 30) none))) ≡ []
 one_operand = refl
 
 -- `(#A & #B) & {x: 1}`: two operands that aren't plain
-two_operands : unopened no_bases false (conjunction (more (paren (conjunction (more (reference (codes "A") 5) (more (reference (codes "B") 10) none)))) (more (struct 16 (one (codes "x")) false) none))) ≡ 16 ∷ []
+two_operands : unopened no_refinements false (conjunction (more (paren (conjunction (more (reference (codes "A") 5) (more (reference (codes "B") 10) none)))) (more (struct 16 (one (codes "x")) false) none))) ≡ 16 ∷ []
 two_operands = refl
 
 -- `{"a": #A, a: {x: 1}}`: a quoted label and an identifier are one label
-one_label : unopened no_bases false (struct 4 (field (quoted (codes "a")) Regular (reference (codes "A") 10) (field (plain (codes "a")) Regular (struct 17 (one (codes "x")) false) no_field)) false) ≡ 17 ∷ []
+one_label : unopened no_refinements false (struct 4 (field (quoted (codes "a")) Regular (reference (codes "A") 10) (field (plain (codes "a")) Regular (struct 17 (one (codes "x")) false) no_field)) false) ≡ 17 ∷ []
 one_label = refl
 
 -- `#A: {x: 1}` in one file and `#A: {...}` in the next: the literal of the first file
-two_files : unopened_files (file None (definition (codes "A") 0 (struct 4 (one (codes "x")) false) ∷ []) ∷ file None (definition (codes "A") 0 (struct 4 no_field true) ∷ []) ∷ []) ≡ (0, 4) ∷ []
+two_files : unopened_of (file None (definition (codes "A") 0 (struct 4 (one (codes "x")) false) ∷ []) ∷ file None (definition (codes "A") 0 (struct 4 no_field true) ∷ []) ∷ []) ≡ (0, 4) ∷ []
 two_files = refl
 
 -- `#A: {a: b: int, a: c: int}`: two short fields of one label, so both literals, each at its own label
-short_fields : unopened_files (file None (definition (codes "A") 0 (struct 4 (field (plain (codes "a")) Regular (struct 8 (field (plain (codes "b")) Regular (named (codes "int") 11) no_field) false)
+short_fields : unopened_of (file None (definition (codes "A") 0 (struct 4 (field (plain (codes "a")) Regular (struct 8 (field (plain (codes "b")) Regular (named (codes "int") 11) no_field) false)
     (field (plain (codes "a")) Regular (struct 19 (field (plain (codes "c")) Regular (named (codes "int") 22) no_field) false) no_field)) false) ∷ []) ∷ []) ≡ (0, 8) ∷ (0, 19) ∷ []
 short_fields = refl
 
 -- `#B: 1` and `#A: {a: {x: 1}, ...}` in one file and `#A: #B` in the next: the literal inside the opened one
-inside_a_body : unopened_files (file None (definition (codes "B") 0 (atom (integer (pos 1))) ∷ definition (codes "A") 6 (struct 10 (field (plain (codes "a")) Regular (struct 14 (one (codes "x")) false) no_field) true) ∷ []) ∷ file None (definition (codes "A") 0 (reference (codes "B") 4) ∷ []) ∷ []) ≡ (0, 14) ∷ []
+inside_a_body : unopened_of (file None (definition (codes "B") 0 (atom (integer (pos 1))) ∷ definition (codes "A") 6 (struct 10 (field (plain (codes "a")) Regular (struct 14 (one (codes "x")) false) no_field) true) ∷ []) ∷ file None (definition (codes "A") 0 (reference (codes "B") 4) ∷ []) ∷ []) ≡ (0, 14) ∷ []
 inside_a_body = refl
 
 -- ---- the opening rule for `[string]`
 
 -- `{[string]: {x: 1}, a: {y: 1}}`: both literals, since `a` is declared by both
-label_and_every : unopened no_bases false (struct 4 (every 6 (struct 15 (one (codes "x")) false) (field (plain (codes "a")) Regular (struct 26 (one (codes "y")) false) no_field)) false) ≡ 15 ∷ 26 ∷ []
+label_and_every : unopened no_refinements false (struct 4 (every 6 (struct 15 (one (codes "x")) false) (field (plain (codes "a")) Regular (struct 26 (one (codes "y")) false) no_field)) false) ≡ 15 ∷ 26 ∷ []
 label_and_every = refl
 
 -- `{a: {y: 1}, [string]: {x: 1}}`: likewise in the other order
-every_behind : unopened no_bases false (struct 4 (field (plain (codes "a")) Regular (struct 8 (one (codes "y")) false) (every 17 (struct 26 (one (codes "x")) false) no_field)) false) ≡ 8 ∷ 26 ∷ []
+every_behind : unopened no_refinements false (struct 4 (field (plain (codes "a")) Regular (struct 8 (one (codes "y")) false) (every 17 (struct 26 (one (codes "x")) false) no_field)) false) ≡ 8 ∷ 26 ∷ []
 every_behind = refl
 
 -- `{[string]: #B, a: {x: 1}}`: the literal of `a`
-every_reference : unopened no_bases false (struct 4 (every 6 (reference (codes "B") 15) (field (plain (codes "a")) Regular (struct 22 (one (codes "x")) false) no_field)) false) ≡ 22 ∷ []
+every_reference : unopened no_refinements false (struct 4 (every 6 (reference (codes "B") 15) (field (plain (codes "a")) Regular (struct 22 (one (codes "x")) false) no_field)) false) ≡ 22 ∷ []
 every_reference = refl
 
 -- `{[string]: {x: 1, ...}, a: {y: 1, ...}}`: none
-every_opened : unopened no_bases false (struct 4 (every 6 (struct 15 (one (codes "x")) true) (field (plain (codes "a")) Regular (struct 31 (one (codes "y")) true) no_field)) false) ≡ []
+every_opened : unopened no_refinements false (struct 4 (every 6 (struct 15 (one (codes "x")) true) (field (plain (codes "a")) Regular (struct 31 (one (codes "y")) true) no_field)) false) ≡ []
 every_opened = refl
 
 -- `{[string]: {x: 1}, a: int}`: none, since `int` is plain; and `{[string]: int, a: {x: 1}, b: {y: 1}}`: none
-every_and_plain : unopened no_bases false (struct 4 (every 6 (struct 15 (one (codes "x")) false) (field (plain (codes "a")) Regular (named (codes "int") 26) no_field)) false) ≡ []
+every_and_plain : unopened no_refinements false (struct 4 (every 6 (struct 15 (one (codes "x")) false) (field (plain (codes "a")) Regular (named (codes "int") 26) no_field)) false) ≡ []
 every_and_plain = refl
 
-plain_every : unopened no_bases false (struct 4 (every 6 (named (codes "int") 15) (field (plain (codes "a")) Regular (struct 23 (one (codes "x")) false) (field (plain (codes "b")) Regular (struct 34 (one (codes "y")) false) no_field))) false) ≡ []
+plain_every : unopened no_refinements false (struct 4 (every 6 (named (codes "int") 15) (field (plain (codes "a")) Regular (struct 23 (one (codes "x")) false) (field (plain (codes "b")) Regular (struct 34 (one (codes "y")) false) no_field))) false) ≡ []
 plain_every = refl
 
 -- `{[string]: {x: 1}, a: int, b: #B}`: the literal, which `b` asks for
-every_of_some : unopened no_bases false (struct 4 (every 6 (struct 15 (one (codes "x")) false) (field (plain (codes "a")) Regular (named (codes "int") 26) (field (plain (codes "b")) Regular (reference (codes "B") 34) no_field))) false) ≡ 15 ∷ []
+every_of_some : unopened no_refinements false (struct 4 (every 6 (struct 15 (one (codes "x")) false) (field (plain (codes "a")) Regular (named (codes "int") 26) (field (plain (codes "b")) Regular (reference (codes "B") 34) no_field))) false) ≡ 15 ∷ []
 every_of_some = refl
 
 -- `{[string]: {x: 1}, [string]: {y: 1}}`: a repeated label, also without labels
-two_every : unopened no_bases false (struct 4 (every 6 (struct 15 (one (codes "x")) false) (every 24 (struct 33 (one (codes "y")) false) no_field)) false) ≡ 15 ∷ 33 ∷ []
+two_every : unopened no_refinements false (struct 4 (every 6 (struct 15 (one (codes "x")) false) (every 24 (struct 33 (one (codes "y")) false) no_field)) false) ≡ 15 ∷ 33 ∷ []
 two_every = refl
 
 -- `{"": {x: 1}, a: {[string]: {y: 1}}}`: none, since `[string]` is that of the inner literal alone
-inner_every : unopened no_bases false (struct 4 (field (quoted []) Regular (struct 9 (one (codes "x")) false) (field (plain (codes "a")) Regular (struct 20 (every 22 (struct 31 (one (codes "y")) false) no_field) false) no_field)) false) ≡ []
+inner_every : unopened no_refinements false (struct 4 (field (quoted []) Regular (struct 9 (one (codes "x")) false) (field (plain (codes "a")) Regular (struct 20 (every 22 (struct 31 (one (codes "y")) false) no_field) false) no_field)) false) ≡ []
 inner_every = refl
 
 -- the conjunctions of `{[string]: #A, a: #B, "": #C}`: that of every key, and with it those of `a` and of the empty label
-every_in_each : conjunctions no_bases (struct 4 (every 6 (reference (codes "A") 15) (field (plain (codes "a")) Regular (reference (codes "B") 22) (field (quoted []) Regular (reference (codes "C") 30) no_field))) false)
+every_in_each : conjunctions no_refinements (struct 4 (every 6 (reference (codes "A") 15) (field (plain (codes "a")) Regular (reference (codes "B") 22) (field (quoted []) Regular (reference (codes "C") 30) no_field))) false)
     ≡ (reference (codes "A") 15 ∷ []) ∷ (reference (codes "A") 15 ∷ reference (codes "B") 22 ∷ []) ∷ (reference (codes "A") 15 ∷ reference (codes "C") 30 ∷ []) ∷ []
 every_in_each = refl
 
@@ -190,7 +188,7 @@ two_names = refl
 -- ---- environments
 
 -- `#A: int`, `#B: 1`, `#A: >2 & 3`: two definitions, of which the first has two bodies
-two_bodies : environment_of_files (file None (definition (codes "A") 0 (named (codes "int") 4) ∷ []) ∷ file None (definition (codes "B") 0 (atom (integer (pos 1))) ∷ []) ∷ file None (definition (codes "A") 0 (conjunction (more (atom (bound atoms.more (pos 2))) (more (atom (integer (pos 3))) none))) ∷ []) ∷ [])
+two_bodies : environment_of_files no_refinements (file None (definition (codes "A") 0 (named (codes "int") 4) ∷ []) ∷ file None (definition (codes "B") 0 (atom (integer (pos 1))) ∷ []) ∷ file None (definition (codes "A") 0 (conjunction (more (atom (bound atoms.more (pos 2))) (more (atom (integer (pos 3))) none))) ∷ []) ∷ [])
     ≡ (codes "A", cue.kind cue.int ∷ cue.conjunction (cue.expression (cue.atom (cue.bound cue.more (pos 2))) (cue.expression (cue.atom (cue.integer (pos 3))) cue.no_expressions)) ∷ []) ∷ (codes "B", cue.atom (cue.integer (pos 1)) ∷ []) ∷ []
 two_bodies = refl
 

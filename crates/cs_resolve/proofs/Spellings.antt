@@ -17,7 +17,7 @@ use Rattle.cs_grammar.specs.declared.ast.File.{File}
 use Rattle.cs_grammar.specs.declared.token.Sort.{Sort}
 use Rattle.cs_grammar.specs.declared.token.Sort.TheVariants as sorts
 use Rattle.cs_package.specs.Environment.{IsDefinitionName}
-use Rattle.cs_resolve.specs.Resolved.{AreSpelled}
+use Rattle.cs_resolve.specs.Refusal.{AreSpelled}
 use Rattle.cs_resolve.proofs.DefinedNames.{of_file}
 
 -- what a word names, if it is the name of a definition, is one

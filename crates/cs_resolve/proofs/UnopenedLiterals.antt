@@ -5,8 +5,9 @@ use Rattle.std.proofs.lemmas.Bool.{false≢true, or_cases, or_left, or_right}
 use Rattle.std.proofs.lemmas.Slice.Eq.{bytes_eq-Decides}
 use Rattle.cs_grammar.specs.Tree.{Tree, conjunction, disjunction, paren, struct, list, Trees, none, more, Fields, no_field, field, End, closed, any, each, DefinitionTree, defined_name, body}
 use Rattle.cs_package.proofs.Environments.{bytes_eq-refl}
-use Rattle.cs_resolve.specs.Opening.{Literal, literals, literals_all, literals_fields, literals_end, operands, Declared, one, every_key, Named, declared_for, joined, joined_demand_open, covers, named_fields, named_bodies, values, values_of_each, conjunctions, conjunctions_all, conjunctions_fields, conjunctions_end, all_conjunctions, demands_open, demands_open_of, at_fault, unopened, unopened_all, unopened_fields, unopened_end, unopened_definitions}
-use Rattle.cs_resolve.specs.Refinement.{Bases, bases, is_refinement}
+use Rattle.cs_resolve.specs.Opening.{Literal, literals, literals_all, literals_fields, literals_end, operands, Declared, one, every_key, Named, declared_for, joined, covers, named_fields, named_bodies, values, values_of_each, conjunctions, conjunctions_all, conjunctions_fields, conjunctions_end, all_conjunctions}
+use Rattle.cs_resolve.specs.Unopened.{joined_demand_open, demands_open, demands_open_of, at_fault, unopened, unopened_all, unopened_fields, unopened_end, unopened_definitions}
+use Rattle.cs_resolve.specs.Refinement.{Refinements}
 use Rattle.cs_resolve.proofs.Elements.{or_map, Has, has_left, has_right, has_cases, has_element, element_of}
 
 operands-literals : (es : Trees) → flat_map literals (operands es) ≡ literals_all es
@@ -116,8 +117,8 @@ module _ (o : ℕ) where
           ]
 
   -- where `&` joins es: the literals in its operands, where these are a conjunction that asks
-  joined_demands : (bs : Bases) (es : Trees) → ((joined_demand_open bs es ≡ true) × Has Lacks (literals_all es)) ↔ Has DemandsOf (joined bs es)
-  joined_demands bs es = by (is_refinement bs es)
+  joined_demands : (rs : Refinements) (es : Trees) → ((joined_demand_open rs es ≡ true) × Has Lacks (literals_all es)) ↔ Has DemandsOf (joined rs es)
+  joined_demands rs es = by (rs es)
     where
       by : (b : Bool) → (((demands_open (operands es) && not b) ≡ true) × Has Lacks (literals_all es)) ↔ Has DemandsOf (cond b [] (operands es ∷ []))
       by true = (λ l. absurd (false≢true (sym (and-false (demands_open (operands es))) ∙ l.0)), λ c. absurd c)
@@ -271,34 +272,34 @@ module _ (o : ℕ) where
   -- ---- expressions
 
   mutual
-    pub told : (bs : Bases) (demanded : Bool) (t : Tree) → Tells demanded (unopened bs demanded t) (literals t) (conjunctions bs t)
-    told bs demanded (conjunction es) =
-        let own = joined_demand_open bs es in
-        inside demanded own (unopened_all bs (demanded || own) es) (literals_all es) (joined bs es) (conjunctions_all bs es) (joined_demands bs es) (told_all bs (demanded || own) es)
-    told bs demanded (disjunction es) = told_all bs demanded es
-    told bs demanded (paren e) = told bs demanded e
-    told bs demanded (struct p fs opened) =
+    pub told : (rs : Refinements) (demanded : Bool) (t : Tree) → Tells demanded (unopened rs demanded t) (literals t) (conjunctions rs t)
+    told rs demanded (conjunction es) =
+        let own = joined_demand_open rs es in
+        inside demanded own (unopened_all rs (demanded || own) es) (literals_all es) (joined rs es) (conjunctions_all rs es) (joined_demands rs es) (told_all rs (demanded || own) es)
+    told rs demanded (disjunction es) = told_all rs demanded es
+    told rs demanded (paren e) = told rs demanded e
+    told rs demanded (struct p fs opened) =
         let ns = named_fields fs in
-        two_parts demanded (at_fault demanded opened p) (unopened_fields bs demanded ns fs) (record { at = p; opened = opened } ∷ []) (literals_fields fs) [] (values_of_each ns ++ conjunctions_fields bs fs)
+        two_parts demanded (at_fault demanded opened p) (unopened_fields rs demanded ns fs) (record { at = p; opened = opened } ∷ []) (literals_fields fs) [] (values_of_each ns ++ conjunctions_fields rs fs)
         (told_at demanded opened p)
-        (with_values demanded ns (unopened_fields bs demanded ns fs) (literals_fields fs) (conjunctions_fields bs fs) (told_in bs demanded ns fs))
-    told bs demanded (list es end) = two_parts demanded (unopened_all bs demanded es) (unopened_end bs demanded end) (literals_all es) (literals_end end) (conjunctions_all bs es) (conjunctions_end bs end) (told_all bs demanded es) (told_end bs demanded end)
-    told bs demanded _ = no_part demanded
+        (with_values demanded ns (unopened_fields rs demanded ns fs) (literals_fields fs) (conjunctions_fields rs fs) (told_in rs demanded ns fs))
+    told rs demanded (list es end) = two_parts demanded (unopened_all rs demanded es) (unopened_end rs demanded end) (literals_all es) (literals_end end) (conjunctions_all rs es) (conjunctions_end rs end) (told_all rs demanded es) (told_end rs demanded end)
+    told rs demanded _ = no_part demanded
 
-    told_all : (bs : Bases) (demanded : Bool) (es : Trees) → Tells demanded (unopened_all bs demanded es) (literals_all es) (conjunctions_all bs es)
-    told_all bs demanded none = no_part demanded
-    told_all bs demanded (more e es) = two_parts demanded (unopened bs demanded e) (unopened_all bs demanded es) (literals e) (literals_all es) (conjunctions bs e) (conjunctions_all bs es) (told bs demanded e) (told_all bs demanded es)
+    told_all : (rs : Refinements) (demanded : Bool) (es : Trees) → Tells demanded (unopened_all rs demanded es) (literals_all es) (conjunctions_all rs es)
+    told_all rs demanded none = no_part demanded
+    told_all rs demanded (more e es) = two_parts demanded (unopened rs demanded e) (unopened_all rs demanded es) (literals e) (literals_all es) (conjunctions rs e) (conjunctions_all rs es) (told rs demanded e) (told_all rs demanded es)
 
-    told_in : (bs : Bases) (demanded : Bool) (all : List Named) (fs : Fields) → TellsNamed demanded all (unopened_fields bs demanded all fs) (literals_fields fs) (conjunctions_fields bs fs) (named_fields fs)
-    told_in bs demanded all no_field = no_name demanded all
-    told_in bs demanded all (field l m e fs) =
+    told_in : (rs : Refinements) (demanded : Bool) (all : List Named) (fs : Fields) → TellsNamed demanded all (unopened_fields rs demanded all fs) (literals_fields fs) (conjunctions_fields rs fs) (named_fields fs)
+    told_in rs demanded all no_field = no_name demanded all
+    told_in rs demanded all (field l m e fs) =
         let own = demands_open_of (declared_for l m) all in
-        named_part demanded own (Has (DemandsNamed all) (named_fields fs)) (unopened bs (demanded || own) e) (unopened_fields bs demanded all fs) (literals e) (literals_fields fs) (conjunctions bs e) (conjunctions_fields bs fs) (told bs (demanded || own) e) (told_in bs demanded all fs)
+        named_part demanded own (Has (DemandsNamed all) (named_fields fs)) (unopened rs (demanded || own) e) (unopened_fields rs demanded all fs) (literals e) (literals_fields fs) (conjunctions rs e) (conjunctions_fields rs fs) (told rs (demanded || own) e) (told_in rs demanded all fs)
 
-    told_end : (bs : Bases) (demanded : Bool) (end : End) → Tells demanded (unopened_end bs demanded end) (literals_end end) (conjunctions_end bs end)
-    told_end bs demanded closed = no_part demanded
-    told_end bs demanded any = no_part demanded
-    told_end bs demanded (each e) = told bs demanded e
+    told_end : (rs : Refinements) (demanded : Bool) (end : End) → Tells demanded (unopened_end rs demanded end) (literals_end end) (conjunctions_end rs end)
+    told_end rs demanded closed = no_part demanded
+    told_end rs demanded any = no_part demanded
+    told_end rs demanded (each e) = told rs demanded e
 
   -- ---- definitions
 
@@ -306,35 +307,35 @@ module _ (o : ℕ) where
   abbrev inner_literals : List DefinitionTree → List Literal
   inner_literals ds = flat_map (λ d. literals (body d)) ds
 
-  abbrev inner : Bases → List DefinitionTree → List (List Tree)
-  inner bs ds = flat_map (λ d. conjunctions bs (body d)) ds
+  abbrev inner : Refinements → List DefinitionTree → List (List Tree)
+  inner rs ds = flat_map (λ d. conjunctions rs (body d)) ds
 
-  told_definitions : (bs : Bases) (all : List Named) (ds : List DefinitionTree) → TellsNamed false all (unopened_definitions bs all ds) (inner_literals ds) (inner bs ds) (named_bodies ds)
-  told_definitions bs all [] = no_name false all
-  told_definitions bs all (d ∷ ds) =
+  told_definitions : (rs : Refinements) (all : List Named) (ds : List DefinitionTree) → TellsNamed false all (unopened_definitions rs all ds) (inner_literals ds) (inner rs ds) (named_bodies ds)
+  told_definitions rs all [] = no_name false all
+  told_definitions rs all (d ∷ ds) =
       let own = demands_open (values (one (defined_name d)) all) in
-      named_part false own (Has (DemandsNamed all) (named_bodies ds)) (unopened bs own (body d)) (unopened_definitions bs all ds) (literals (body d)) (inner_literals ds) (conjunctions bs (body d)) (inner bs ds) (told bs own (body d)) (told_definitions bs all ds)
+      named_part false own (Has (DemandsNamed all) (named_bodies ds)) (unopened rs own (body d)) (unopened_definitions rs all ds) (literals (body d)) (inner_literals ds) (conjunctions rs (body d)) (inner rs ds) (told rs own (body d)) (told_definitions rs all ds)
 
   -- o is told of all definitions just where one of their conjunctions asks for such a literal
-  pub told_of_all : (ds : List DefinitionTree) → Has IsAt (unopened_definitions (bases ds) (named_bodies ds) ds) ↔ Has DemandsOf (all_conjunctions ds)
-  told_of_all ds = (λ t. elim (both.0 t) [ inl l ↦ absurd (false≢true l.0) | inr c ↦ c ], λ c. both.1 (inr c))
+  pub told_of_all : (rs : Refinements) (ds : List DefinitionTree) → Has IsAt (unopened_definitions rs (named_bodies ds) ds) ↔ Has DemandsOf (all_conjunctions rs ds)
+  told_of_all rs ds = (λ t. elim (both.0 t) [ inl l ↦ absurd (false≢true l.0) | inr c ↦ c ], λ c. both.1 (inr c))
     where
-      both : Tells false (unopened_definitions (bases ds) (named_bodies ds) ds) (inner_literals ds) (all_conjunctions ds)
-      both = with_values false (named_bodies ds) (unopened_definitions (bases ds) (named_bodies ds) ds) (inner_literals ds) (inner (bases ds) ds) (told_definitions (bases ds) (named_bodies ds) ds)
+      both : Tells false (unopened_definitions rs (named_bodies ds) ds) (inner_literals ds) (all_conjunctions rs ds)
+      both = with_values false (named_bodies ds) (unopened_definitions rs (named_bodies ds) ds) (inner_literals ds) (inner rs ds) (told_definitions rs (named_bodies ds) ds)
 
   -- the definition d asks for such a literal of its body, where all are the bodies of the package
-  abbrev pub DemandedOf : Bases → List Named → DefinitionTree → Type 0
-  DemandedOf bs all d = DemandedIn (demands_open (values (one (defined_name d)) all)) (literals (body d)) (conjunctions bs (body d))
+  abbrev pub DemandedOf : Refinements → List Named → DefinitionTree → Type 0
+  DemandedOf rs all d = DemandedIn (demands_open (values (one (defined_name d)) all)) (literals (body d)) (conjunctions rs (body d))
 
   -- o is told of some definitions just where one of them asks for such a literal
-  pub told_of_some : (bs : Bases) (all : List Named) (ds : List DefinitionTree) → Has IsAt (unopened_definitions bs all ds) ↔ Has (DemandedOf bs all) ds
-  told_of_some bs all ds = (to ds, from ds)
+  pub told_of_some : (rs : Refinements) (all : List Named) (ds : List DefinitionTree) → Has IsAt (unopened_definitions rs all ds) ↔ Has (DemandedOf rs all) ds
+  told_of_some rs all ds = (to ds, from ds)
     where
-      to : (ds : List DefinitionTree) → Has IsAt (unopened_definitions bs all ds) → Has (DemandedOf bs all) ds
+      to : (ds : List DefinitionTree) → Has IsAt (unopened_definitions rs all ds) → Has (DemandedOf rs all) ds
       to [] t = absurd t
-      to (d ∷ ds) t = or_map (has_cases IsAt (unopened bs (demands_open (values (one (defined_name d)) all)) (body d)) (unopened_definitions bs all ds) t) (told bs (demands_open (values (one (defined_name d)) all)) (body d)).0 (to ds)
+      to (d ∷ ds) t = or_map (has_cases IsAt (unopened rs (demands_open (values (one (defined_name d)) all)) (body d)) (unopened_definitions rs all ds) t) (told rs (demands_open (values (one (defined_name d)) all)) (body d)).0 (to ds)
 
-      from : (ds : List DefinitionTree) → Has (DemandedOf bs all) ds → Has IsAt (unopened_definitions bs all ds)
+      from : (ds : List DefinitionTree) → Has (DemandedOf rs all) ds → Has IsAt (unopened_definitions rs all ds)
       from [] a = absurd a
-      from (d ∷ ds) (inl a) = has_left IsAt (unopened bs (demands_open (values (one (defined_name d)) all)) (body d)) (unopened_definitions bs all ds) ((told bs (demands_open (values (one (defined_name d)) all)) (body d)).1 a)
-      from (d ∷ ds) (inr a) = has_right IsAt (unopened bs (demands_open (values (one (defined_name d)) all)) (body d)) (unopened_definitions bs all ds) (from ds a)
+      from (d ∷ ds) (inl a) = has_left IsAt (unopened rs (demands_open (values (one (defined_name d)) all)) (body d)) (unopened_definitions rs all ds) ((told rs (demands_open (values (one (defined_name d)) all)) (body d)).1 a)
+      from (d ∷ ds) (inr a) = has_right IsAt (unopened rs (demands_open (values (one (defined_name d)) all)) (body d)) (unopened_definitions rs all ds) (from ds a)

@@ -5,7 +5,7 @@ use Rattle.std.specs.HashSet.{HashSet, contains_by}
 use Rattle.std.specs.List.{list_any, list_all}
 use Rattle.std.specs.Str.{bytes_eq}
 use Rattle.cs_grammar.specs.Tree.{Label, Trees, Fields, End}
-use Rattle.cs_resolve.specs.Refinement.{Bases}
+use Rattle.cs_resolve.specs.Refinement.{Refinements}
 use Rattle.cs_resolve.specs.Resolved.{resolved_all, resolved_fields, resolved_end}
 use Rattle.cs_resolve.specs.Scopes.{has_label, names_field}
 use Rattle.cs_package.specs.View.{expression_of, expressions_of, part_of, declarations_of, rest_of, is_known, is_known_part, is_known_end}
@@ -26,14 +26,14 @@ HoldAround sets scopes = (t : List ℕ) → list_any (has_text t) sets ≡ names
 
 -- the shapes stand for the resolved expressions, as one does (IsShapeOf); likewise the declarations of a struct
 -- literal, and the end of a list
-pub record AreShapesOf (bs : Bases) (ns : List (List ℕ)) (ss : List Shape) (ts : Trees) : Type 0 where
-  pub same : expressions_of (map (expression_of ns) ss) ≡ resolved_all bs ts
+pub record AreShapesOf (rs : Refinements) (ns : List (List ℕ)) (ss : List Shape) (ts : Trees) : Type 0 where
+  pub same : expressions_of (map (expression_of ns) ss) ≡ resolved_all rs ts
   pub known : list_all (is_known (length ns)) ss ≡ true
 
-pub record ArePartsOf (bs : Bases) (ns : List (List ℕ)) (ps : List Part) (fs : Fields) : Type 0 where
-  pub same : declarations_of (map (part_of ns) ps) ≡ resolved_fields bs fs
+pub record ArePartsOf (rs : Refinements) (ns : List (List ℕ)) (ps : List Part) (fs : Fields) : Type 0 where
+  pub same : declarations_of (map (part_of ns) ps) ≡ resolved_fields rs fs
   pub known : list_all (is_known_part (length ns)) ps ≡ true
 
-pub record IsEndOf (bs : Bases) (ns : List (List ℕ)) (s : ShapeEnd) (e : End) : Type 0 where
-  pub same : rest_of ns s ≡ resolved_end bs e
+pub record IsEndOf (rs : Refinements) (ns : List (List ℕ)) (s : ShapeEnd) (e : End) : Type 0 where
+  pub same : rest_of ns s ≡ resolved_end rs e
   pub known : is_known_end (length ns) s ≡ true

@@ -9,10 +9,13 @@ pub mod Scopes
 pub mod Declarations
 pub mod Plain
 pub mod Refinement
+pub mod ClosedBases
 pub mod Opening
+pub mod Unopened
 pub mod Size
 pub mod PackageName
 pub mod Resolved
+pub mod Refusal
 pub mod Offsets
 pub mod Earlier
 -- for contracts of private functions and proofs alone

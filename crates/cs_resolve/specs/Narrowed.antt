@@ -11,6 +11,7 @@ use Rattle.cs_grammar.specs.Tree.{Tree, Fields, DefinitionTree}
 use Rattle.cs_grammar.specs.View.{expr_view, fields_view}
 use Rattle.cs_grammar.specs.declared.ast.Expr.{Expr}
 use Rattle.cs_resolve.specs.Declarations.{bodies_of}
+use Rattle.cs_resolve.specs.ClosedBases as ClosedBases
 use Rattle.cs_resolve.specs.Refinement as Refinement
 use Rattle.cs_resolve.specs.declared.refinement.Bases.{Bases}
 use Rattle.cs_resolve.specs.declared.narrowing.Narrowing.{Narrowing}
@@ -32,8 +33,14 @@ abbrev pub Numbers : {S : Type 0} → List (HashSet (Bor (List ℕ)) S) → Opti
 Numbers sets number found = MatchOption number (found ≡ None) (λ i. MatchOption (slice_get sets i) ⊥ (HoldsFound found))
 
 -- the table says of each name what is given of it
-abbrev pub HoldBases : Bases → Refinement.Bases → Type 0
+abbrev pub HoldBases : Bases → ClosedBases.Bases → Type 0
 HoldBases b bs = (n : List ℕ) → Numbers b.sets.items (get_by (λ k. bytes_eq n k.now) b.numbers) (bs n)
+
+-- by the table it is told which operands that `&` joins are a plain refinement
+pub record TellsRefinements (b : Bases) (rs : Refinement.Refinements) : Type 0 where
+  pub labels : ClosedBases.Bases
+  pub held : HoldBases b labels
+  pub same : ClosedBases.is_refinement labels ≡ rs
 
 -- ---- the only bodies of names
 

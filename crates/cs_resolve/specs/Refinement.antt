@@ -1,5 +1,5 @@
 -- Plain refinement (own rule): a closed definition is narrowed by a literal with some of its labels.
-use Rattle.std.specs.Prelude.{◌≡◌, ℕ, zero, suc, Bool, true, false, ◌&&◌, ◌||◌, not, List, [], ◌∷◌, map, length, Option, Some, None, if◌then◌else◌}
+use Rattle.std.specs.Prelude.{◌≡◌, ◌↔◌, ℕ, Bool, true, false, ◌&&◌, ◌||◌, not, List, [], ◌∷◌, map, Option, Some, None, if◌then◌else◌}
 use Rattle.std.specs.List.{list_any}
 use Rattle.std.specs.Str.{bytes_eq}
 use Rattle.cs_grammar.specs.declared.ast.FieldMark.{FieldMark}
@@ -90,45 +90,21 @@ pub data IsBase (ds : List DefinitionTree) : List ℕ → List (List ℕ) → Ty
   by_literal : {n : List ℕ} {e : Tree} {fs : Fields} → bodies_of n ds ≡ e ∷ [] → closed_literal e ≡ Some fs → IsBase ds n (texts fs)
   by_refinement : {n m : List ℕ} {e : Tree} {fs : Fields} {ls : List (List ℕ)} → bodies_of n ds ≡ e ∷ [] → narrowing_in e ≡ Some (m, fs) → IsBase ds m ls → narrows fs ls ≡ true → IsBase ds n ls
 
--- ---- the same, by computation
-
--- the labels of each definition that is a closed base
-abbrev pub Bases : Type 0
-Bases = List ℕ → Option (List (List ℕ))
-
-abbrev pub narrowed_labels : Option (List (List ℕ)) → Fields → Option (List (List ℕ))
-narrowed_labels None fs = None
-narrowed_labels (Some ls) fs = if narrows fs ls then Some ls else None
-
-abbrev pub narrowed : Bases → Option Narrowing → Option (List (List ℕ))
-narrowed bs None = None
-narrowed bs (Some (m, fs)) = narrowed_labels (bs m) fs
-
-abbrev pub labels_or : Option Fields → Option (List (List ℕ)) → Option (List (List ℕ))
-labels_or None ls = ls
-labels_or (Some fs) ls = Some (texts fs)
-
--- the labels that a definition has by its bodies, where these are the bases that it may refine
-abbrev pub base_of : Bases → List Tree → Option (List (List ℕ))
-base_of bs [] = None
-base_of bs (e ∷ []) = labels_or (closed_literal e) (narrowed bs (narrowing_in e))
-base_of bs (e ∷ f ∷ es) = None
-
--- those that are less than so many refinements away from a literal
-abbrev pub bases_within : ℕ → List DefinitionTree → Bases
-bases_within zero ds n = None
-bases_within (suc k) ds n = base_of (bases_within k ds) (bodies_of n ds)
-
--- all of them: as many steps as there are definitions are enough
-abbrev pub bases : List DefinitionTree → Bases
-bases ds = bases_within (length ds) ds
-
 -- ---- plain refinements
 
-abbrev pub is_some_labels : Option (List (List ℕ)) → Bool
-is_some_labels None = false
-is_some_labels (Some ls) = true
+-- operands that `&` joins are a plain refinement: one names a closed base, and the other narrows it
+pub record IsRefinement (ds : List DefinitionTree) (es : Trees) : Type 0 where
+  pub base : List ℕ
+  pub fields : Fields
+  pub labels : List (List ℕ)
+  pub joins : narrowing es ≡ Some (base, fields)
+  pub closed : IsBase ds base labels
+  pub fits : narrows fields labels ≡ true
 
--- whether operands that `&` joins are a plain refinement of one of these
-abbrev pub is_refinement : Bases → Trees → Bool
-is_refinement bs es = is_some_labels (narrowed bs (narrowing es))
+-- which operands that `&` joins are a plain refinement
+abbrev pub Refinements : Type 0
+Refinements = Trees → Bool
+
+-- they are just those of the definitions
+abbrev pub AreRefinements : List DefinitionTree → Refinements → Type 0
+AreRefinements ds rs = (es : Trees) → (rs es ≡ true) ↔ IsRefinement ds es

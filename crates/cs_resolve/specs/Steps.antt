@@ -6,7 +6,7 @@ use Rattle.cs_grammar.specs.Tree.{Tree, DefinitionTree}
 use Rattle.cs_package.specs.Expression.{Expression}
 use Rattle.cs_resolve.specs.Scopes.{Place, NameFault, unknown, of_field, faults}
 use Rattle.cs_resolve.specs.Declarations.{bodies_of}
-use Rattle.cs_resolve.specs.Refinement.{Bases}
+use Rattle.cs_resolve.specs.Refinement.{Refinements}
 use Rattle.cs_resolve.specs.Resolved.{resolved}
 use Rattle.cs_package.specs.View as View
 use Rattle.cs_package.specs.View.{expression_of, is_known}
@@ -19,8 +19,8 @@ abbrev pub faults_in : ℕ → List (List ℕ) → List Place → List (ℕ × N
 faults_in file names ps = map (λ x. (file, x)) (faults names ps)
 
 -- the resolved bodies that definitions give to each of the names
-abbrev pub gathered : Bases → List (List ℕ) → List DefinitionTree → List (List Expression)
-gathered bs names ds = map (λ n. map (resolved bs) (bodies_of n ds)) names
+abbrev pub gathered : Refinements → List (List ℕ) → List DefinitionTree → List (List Expression)
+gathered rs names ds = map (λ n. map (resolved rs) (bodies_of n ds)) names
 
 -- the refusal is for want of memory, or is the first of these faults of names
 abbrev pub IsNameRefusal : ResolveFault → List (ℕ × NameFault) → Type 0
@@ -36,13 +36,13 @@ abbrev pub Resolves : {X : Type 0} → Result X ResolveFault → (X → Type 0) 
 Resolves (Ok x) IsSo faults = IsSo x × (faults ≡ [])
 Resolves (Err e) IsSo faults = IsNameRefusal e faults
 
--- the shape stands for the resolved expression, where the closed bases and the names of the definitions are these, and
+-- the shape stands for the resolved expression, where the plain refinements and the names of the definitions are these, and
 -- refers to these names alone
-pub record IsShapeOf (bs : Bases) (ns : List (List ℕ)) (s : Shape) (t : Tree) : Type 0 where
-  pub same : expression_of ns s ≡ resolved bs t
+pub record IsShapeOf (rs : Refinements) (ns : List (List ℕ)) (s : Shape) (t : Tree) : Type 0 where
+  pub same : expression_of ns s ≡ resolved rs t
   pub known : is_known (length ns) s ≡ true
 
 -- these are the resolved bodies that definitions give to each of the names, as shapes that refer to these names alone
-pub record AreBodiesOf (bs : Bases) (ns : List (List ℕ)) (vs : List (Vec Shape Global)) (ds : List DefinitionTree) : Type 0 where
-  pub same : View.bodies_of ns vs ≡ gathered bs ns ds
+pub record AreBodiesOf (rs : Refinements) (ns : List (List ℕ)) (vs : List (Vec Shape Global)) (ds : List DefinitionTree) : Type 0 where
+  pub same : View.bodies_of ns vs ≡ gathered rs ns ds
   pub known : AllByRecursion (λ v. list_all (is_known (length ns)) v.items ≡ true) vs

@@ -5,10 +5,11 @@ ghost use Rattle.std.specs.Prelude.{◌≡◌, ◌+◌, ◌++◌, [], ◌∷◌,
 ghost use Rattle.cs_grammar.specs.View.{expr_view, exprs_view, end_view, field_view, fields_view, definition_view, file_view};
 ghost use Rattle.cs_grammar.specs.Tree.{FileTree, definitions};
 ghost use Rattle.std.specs.List.{flat_map};
-ghost use Rattle.cs_resolve.specs.Opening as Opening;
-ghost use Rattle.cs_resolve.specs.Opening.{Declared, one, every_key, Named, values, named_fields, named_bodies, declared_for, IsOpened, IsUnopenedAt, unopened, unopened_all, unopened_fields, unopened_end, unopened_definitions, unopened_files};
-ghost use Rattle.cs_resolve.specs.Refinement as Refinement;
-ghost use Rattle.cs_resolve.specs.Narrowed.{HoldBases};
+ghost use Rattle.cs_resolve.specs.Opening.{Declared, one, every_key, Named, values, named_fields, named_bodies, declared_for, IsOpened};
+ghost use Rattle.cs_resolve.specs.Refinement.{Refinements};
+ghost use Rattle.cs_resolve.specs.Narrowed.{TellsRefinements};
+ghost use Rattle.cs_resolve.specs.Unopened as Unopened;
+ghost use Rattle.cs_resolve.specs.Unopened.{IsUnopenedAt, unopened, unopened_all, unopened_fields, unopened_end, unopened_definitions, unopened_files};
 ghost use Rattle.cs_resolve.specs.Checks.{Checks, CountsAs, Repeats, TellsLabels, is_every_key, with_own_name, named_by, unplain};
 
 use crate::ResolveFault;
@@ -31,7 +32,7 @@ struct LabelRepeats<'a> {
 
 /// Whether a conjunction of these operands asks its literals to end with `...`.
 fn demands_open(operands: &Vec<Expr>) -> bool
-    ensures { result ≡ Opening.demands_open (map expr_view operands.now.items) }
+    ensures { result ≡ Unopened.demands_open (map expr_view operands.now.items) }
 {
     operands
         .iter()
@@ -42,8 +43,8 @@ fn demands_open(operands: &Vec<Expr>) -> bool
 
 /// Whether operands that `&` joins ask their literals to end with `...`. Those of a plain refinement don't.
 fn joined_demand_open(bases: &Bases<'_>, operands: &Vec<Expr>) -> bool
-    ensures { (bs : Refinement.Bases) → HoldBases bases.now bs
-        → result ≡ Opening.joined_demand_open bs (exprs_view operands.now.items) }
+    ensures { (rs : Refinements) → TellsRefinements bases.now rs
+        → result ≡ Unopened.joined_demand_open rs (exprs_view operands.now.items) }
 {
     demands_open(operands) && !is_refinement(bases, operands)
 }
@@ -62,7 +63,7 @@ fn note<'a>(repeats: &mut RepeatTable<'a>, name: &'a str, value: &Expr) -> Resul
 
 /// Whether the values of a name ask their literals to end with `...`.
 fn name_demands_open(repeats: &RepeatTable<'_>, name: &str) -> bool
-    ensures { (ns : List Named) → Repeats repeats.now ns → result ≡ Opening.demands_open (values (one name.now) ns) }
+    ensures { (ns : List Named) → Repeats repeats.now ns → result ≡ Unopened.demands_open (values (one name.now) ns) }
 {
     match repeats.get(name) {
         Some(again) => *again,
@@ -148,7 +149,7 @@ fn are_several(own: Option<bool>, every: Option<bool>) -> bool
 /// Whether the conjunction of a label asks its literals to end with `...`: its own values and those of `[string]`.
 fn label_demands_open(repeats: &LabelRepeats<'_>, label: &str) -> bool
     ensures { (ns : List Named) → TellsLabels repeats.now.names repeats.now.every ns
-        → result ≡ Opening.demands_open (values (one label.now) ns) }
+        → result ≡ Unopened.demands_open (values (one label.now) ns) }
 {
     are_several(repeats.names.get(label).copied(), repeats.every)
 }
@@ -156,7 +157,7 @@ fn label_demands_open(repeats: &LabelRepeats<'_>, label: &str) -> bool
 /// Whether the conjunction of a field's label, or of `[string]` alone, asks its literals to end with `...`.
 fn field_demands_open(repeats: &LabelRepeats<'_>, field: &Field) -> bool
     ensures { (ns : List Named) → TellsLabels repeats.now.names repeats.now.every ns
-        → result ≡ Opening.demands_open (values (declared_for (field_view field.now).label (field_view field.now).mark) ns) }
+        → result ≡ Unopened.demands_open (values (declared_for (field_view field.now).label (field_view field.now).mark) ns) }
 {
     if is_every(field) {
         are_several(None, repeats.every)
@@ -168,7 +169,7 @@ fn field_demands_open(repeats: &LabelRepeats<'_>, field: &Field) -> bool
 /// Whether some conjunction of a struct literal's values asks its literals to end with `...`.
 fn some_demand_open(repeats: &LabelRepeats<'_>, fields: &Vec<Field>) -> bool
     ensures { TellsLabels repeats.now.names repeats.now.every (named_fields (fields_view fields.now.items))
-        → result ≡ Opening.demands_open_of every_key (named_fields (fields_view fields.now.items)) }
+        → result ≡ Unopened.demands_open_of every_key (named_fields (fields_view fields.now.items)) }
 {
     for field in fields {
         if field_demands_open(repeats, field) {
@@ -181,8 +182,8 @@ fn some_demand_open(repeats: &LabelRepeats<'_>, fields: &Vec<Field>) -> bool
 /// Whether a conjunction that holds a field's value asks its literals to end with `...`. A value of `[string]` is in that
 /// of each label; `some` says whether one of them asks.
 fn demands_open_of(repeats: &LabelRepeats<'_>, some: bool, field: &Field) -> bool
-    ensures { (ns : List Named) → TellsLabels repeats.now.names repeats.now.every ns → some ≡ Opening.demands_open_of every_key ns
-        → result ≡ Opening.demands_open_of (declared_for (field_view field.now).label (field_view field.now).mark) ns }
+    ensures { (ns : List Named) → TellsLabels repeats.now.names repeats.now.every ns → some ≡ Unopened.demands_open_of every_key ns
+        → result ≡ Unopened.demands_open_of (declared_for (field_view field.now).label (field_view field.now).mark) ns }
 {
     if is_every(field) {
         some
@@ -200,8 +201,8 @@ fn check_expr(
     demanded: bool,
     expr: &Expr,
 ) -> Result<(), ResolveFault>
-    ensures { (bs : Refinement.Bases) → HoldBases bases.now bs
-        → Checks result (ResolveFault.NotOpened file) (unopened bs demanded (expr_view expr.now)) }
+    ensures { (rs : Refinements) → TellsRefinements bases.now rs
+        → Checks result (ResolveFault.NotOpened file) (unopened rs demanded (expr_view expr.now)) }
 {
     match expr {
         Expr::And(operands) => {
@@ -233,8 +234,8 @@ fn check_all(
     demanded: bool,
     operands: &Vec<Expr>,
 ) -> Result<(), ResolveFault>
-    ensures { (bs : Refinement.Bases) → HoldBases bases.now bs
-        → Checks result (ResolveFault.NotOpened file) (unopened_all bs demanded (exprs_view operands.now.items)) }
+    ensures { (rs : Refinements) → TellsRefinements bases.now rs
+        → Checks result (ResolveFault.NotOpened file) (unopened_all rs demanded (exprs_view operands.now.items)) }
 {
     for operand in operands {
         check_expr(alloc, bases, file, demanded, operand)?;
@@ -250,9 +251,9 @@ fn check_fields(
     demanded: bool,
     fields: &Vec<Field>,
 ) -> Result<(), ResolveFault>
-    ensures { (bs : Refinement.Bases) → HoldBases bases.now bs
+    ensures { (rs : Refinements) → TellsRefinements bases.now rs
         → Checks result (ResolveFault.NotOpened file)
-        (unopened_fields bs demanded (named_fields (fields_view fields.now.items)) (fields_view fields.now.items)) }
+        (unopened_fields rs demanded (named_fields (fields_view fields.now.items)) (fields_view fields.now.items)) }
 {
     let repeats = label_repeats(alloc, fields)?;
     let some = some_demand_open(&repeats, fields);
@@ -271,8 +272,8 @@ fn check_end(
     demanded: bool,
     end: &ListEnd,
 ) -> Result<(), ResolveFault>
-    ensures { (bs : Refinement.Bases) → HoldBases bases.now bs
-        → Checks result (ResolveFault.NotOpened file) (unopened_end bs demanded (end_view end.now)) }
+    ensures { (rs : Refinements) → TellsRefinements bases.now rs
+        → Checks result (ResolveFault.NotOpened file) (unopened_end rs demanded (end_view end.now)) }
 {
     match end {
         ListEnd::Closed | ListEnd::Any => Ok(()),
@@ -313,8 +314,8 @@ fn check_definitions(
     file: usize,
     definitions: &Vec<Definition>,
 ) -> Result<(), ResolveFault>
-    ensures { (bs : Refinement.Bases) (all : List Named) → HoldBases bases.now bs → Repeats repeats.now all
-        → Checks result (ResolveFault.NotOpened file) (unopened_definitions bs all (map definition_view definitions.now.items)) }
+    ensures { (rs : Refinements) (all : List Named) → TellsRefinements bases.now rs → Repeats repeats.now all
+        → Checks result (ResolveFault.NotOpened file) (unopened_definitions rs all (map definition_view definitions.now.items)) }
 {
     for definition in definitions {
         let demanded = name_demands_open(repeats, definition.name.as_str());
@@ -330,8 +331,8 @@ pub(crate) fn check_opened(
     bases: &Bases<'_>,
     files: &Vec<File>,
 ) -> Result<(), ResolveFault>
-    requires { HoldBases bases.now (Refinement.bases (flat_map definitions (map file_view files.now.items))) }
-    ensures { Checks result (λ p. ResolveFault.NotOpened p.0 p.1) (unopened_files (map file_view files.now.items)) }
+    ensures { (rs : Refinements) → TellsRefinements bases.now rs
+        → Checks result (λ p. ResolveFault.NotOpened p.0 p.1) (unopened_files rs (map file_view files.now.items)) }
 {
     let repeats = body_repeats(alloc, files)?;
     for (number, file) in files.iter().enumerate() {
@@ -340,10 +341,11 @@ pub(crate) fn check_opened(
     Ok(())
 }
 
-/// A law: no literal is at fault just where each conjunction has at most one operand that isn't plain, or all struct
+/// A law, whatever the plain refinements are: no literal is at fault just where each conjunction has at most one operand that isn't plain, or all struct
 /// literals in its operands end with `...`; and the literals at fault are just those that don't end with `...` though
 /// a conjunction that holds them asks it.
 pub fn opening_law()
-    ensures kept { (fs : List FileTree) → (unopened_files fs ≡ []) ↔ IsOpened fs }
-    ensures at_fault { (fs : List FileTree) (i o : ℕ) → Contains (unopened_files fs) (i, o) ↔ IsUnopenedAt fs i o }
+    ensures kept { (rs : Refinements) (fs : List FileTree) → (unopened_files rs fs ≡ []) ↔ IsOpened rs fs }
+    ensures at_fault { (rs : Refinements) (fs : List FileTree) (i o : ℕ)
+        → Contains (unopened_files rs fs) (i, o) ↔ IsUnopenedAt rs fs i o }
 {}

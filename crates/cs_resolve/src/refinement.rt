@@ -4,10 +4,13 @@ ghost use Rattle.std.specs.Prelude.{◌≡◌, ◌↔◌, ◌++◌, [], ◌∷�
 ghost use Rattle.std.specs.List.{flat_map, list_any};
 ghost use Rattle.std.specs.Str.{bytes_eq};
 ghost use Rattle.cs_grammar.specs.View.{expr_view, exprs_view, fields_view, definition_view, file_view};
-ghost use Rattle.cs_grammar.specs.Tree.{DefinitionTree, definitions};
+ghost use Rattle.cs_grammar.specs.Tree.{DefinitionTree, FileTree, definitions};
+ghost use Rattle.cs_package.specs.Environment.{Environment};
 ghost use Rattle.cs_resolve.specs.Declarations.{bodies_of};
+ghost use Rattle.cs_resolve.specs.ClosedBases as ClosedBases;
 ghost use Rattle.cs_resolve.specs.Refinement as Refinement;
-ghost use Rattle.cs_resolve.specs.Refinement.{IsBase};
+ghost use Rattle.cs_resolve.specs.Refinement.{IsBase, Refinements, AreRefinements};
+ghost use Rattle.cs_resolve.specs.Resolved.{IsPackage};
 ghost use Rattle.cs_resolve.specs.Narrowed.{HoldsTexts, HoldsFound, HoldBases, HoldsOnly, HoldsBase, Has, Sound, Grown, Refines, Lists, IsSorted, AreSorted, Closed, only_entry};
 
 use crate::narrowing::{Labels, body_narrowing, closed_literal, narrows, operands_narrowing};
@@ -31,7 +34,7 @@ type RefinerTable<'a> = IndexMap<&'a str, Vec<&'a str>>;
 
 /// The labels of the closed base of that name.
 fn labels_of<'b, 'a>(bases: &'b Bases<'a>, name: &str) -> Option<&'b Labels<'a>>
-    ensures { (bs : Refinement.Bases) → HoldBases bases.now bs
+    ensures { (bs : ClosedBases.Bases) → HoldBases bases.now bs
         → MatchOption result (bs name.now ≡ None) (λ s. HoldsFound (bs name.now) s.now) }
 {
     let number = bases.numbers.get(name)?;
@@ -40,8 +43,8 @@ fn labels_of<'b, 'a>(bases: &'b Bases<'a>, name: &str) -> Option<&'b Labels<'a>>
 
 /// Whether the operands of a conjunction are a plain refinement of one of the bases.
 pub(crate) fn is_refinement(bases: &Bases<'_>, operands: &Vec<Expr>) -> bool
-    ensures { (bs : Refinement.Bases) → HoldBases bases.now bs
-        → result ≡ Refinement.is_refinement bs (exprs_view operands.now.items) }
+    ensures { (bs : ClosedBases.Bases) → HoldBases bases.now bs
+        → result ≡ ClosedBases.is_refinement bs (exprs_view operands.now.items) }
 {
     let Some(narrowing) = operands_narrowing(operands) else {
         return false;
@@ -265,7 +268,7 @@ fn find_refinements<'a>(
 /// # Errors
 /// `AllocError`, where memory runs out.
 pub(crate) fn bases_of(alloc: Global, files: &Vec<File>) -> Result<Bases<'_>, AllocError>
-    ensures { IfOk result (λ b. HoldBases b (Refinement.bases (flat_map definitions (map file_view files.now.items)))) }
+    ensures { IfOk result (λ b. HoldBases b (ClosedBases.bases (flat_map definitions (map file_view files.now.items)))) }
 {
     let bodies = only_bodies(alloc, files)?;
     let mut bases = Bases {
@@ -278,8 +281,12 @@ pub(crate) fn bases_of(alloc: Global, files: &Vec<File>) -> Result<Bases<'_>, Al
     Ok(bases)
 }
 
-/// A law: the table of closed bases that is computed is the least one: each is a closed literal, or a plain refinement
-/// of another.
+/// A law: closed bases that are computed, in as many steps as there are definitions, are those of the least relation: each is
+/// a closed literal, or a plain refinement of another. So there are plain refinements of definitions, and no others, and
+/// files are a package of one environment.
 pub fn refinement_law()
-    ensures bases { (ds : List DefinitionTree) (n : List ℕ) (ls : List (List ℕ)) → (Refinement.bases ds n ≡ Some ls) ↔ IsBase ds n ls }
+    ensures bases { (ds : List DefinitionTree) (n : List ℕ) (ls : List (List ℕ)) → (ClosedBases.bases ds n ≡ Some ls) ↔ IsBase ds n ls }
+    ensures found { (ds : List DefinitionTree) → AreRefinements ds (ClosedBases.is_refinement (ClosedBases.bases ds)) }
+    ensures one { (ds : List DefinitionTree) (rs qs : Refinements) → AreRefinements ds rs → AreRefinements ds qs → rs ≡ qs }
+    ensures environment { (fs : List FileTree) (E F : Environment) → IsPackage fs E → IsPackage fs F → E ≡ F }
 {}

@@ -4,10 +4,11 @@ ghost use Rattle.std.specs.List.{All, AllByRecursion, flat_map};
 ghost use Rattle.cs_grammar.specs.Tree.{Tree, DefinitionTree, definition, defined_name, definitions};
 ghost use Rattle.cs_grammar.specs.View.{definition_view, file_view};
 ghost use Rattle.cs_resolve.specs.Declarations.{distinct, names, places_of, faults_from};
-ghost use Rattle.cs_package.specs.Environment.{written, IsDefinitionName};
-ghost use Rattle.cs_resolve.specs.Refinement as Refinement;
-ghost use Rattle.cs_resolve.specs.Narrowed.{HoldBases};
-ghost use Rattle.cs_resolve.specs.Resolved.{environment_of_files, AreSpelled, IsPackage, IsRefusal};
+ghost use Rattle.cs_package.specs.Environment.{Environment, written, IsDefinitionName};
+ghost use Rattle.cs_resolve.specs.Refinement.{Refinements};
+ghost use Rattle.cs_resolve.specs.Narrowed.{TellsRefinements};
+ghost use Rattle.cs_resolve.specs.Refusal.{AreSpelled, IsRefusal};
+ghost use Rattle.cs_resolve.specs.Resolved.{IsPackage};
 ghost use Rattle.cs_resolve.specs.Steps.{faults_in, AreBodiesOf, IsShapeOf, Resolves};
 ghost use Rattle.cs_package.specs.View.{names_of, IsTable};
 
@@ -30,10 +31,9 @@ use std::alloc::{AllocError, Global};
 /// `FieldReference`, `NotOpened`. `OutOfMemory`.
 pub fn resolve(alloc: Global, files: Vec<File>) -> Result<Package, ResolveFault>
     requires { AreSpelled (map file_view files.items) }
-    ensures found { IfOk result (λ p. p ≡ environment_of_files (map file_view files.items)) }
-    ensures accepted { OnOk result (IsPackage (map file_view files.items)) }
+    ensures found { IfOk result (λ p. IsPackage (map file_view files.items) p) }
     ensures refused { IfErr result (λ e. IsRefusal e (map file_view files.items)) }
-    ensures only { IsPackage (map file_view files.items) → IsOkUnless result ResolveFault.OutOfMemory }
+    ensures only { (E : Environment) → IsPackage (map file_view files.items) E → IsOkUnless result ResolveFault.OutOfMemory }
 {
     if let Some(file) = differing_file(&files) {
         return Err(ResolveFault::PackageName { file });
@@ -101,8 +101,8 @@ fn declared_bodies(
     files: &Vec<File>,
 ) -> Result<Vec<Vec<Shape>>, ResolveFault>
     requires { IsTable names.now.entries }
-    ensures { (bs : Refinement.Bases) → HoldBases bases.now bs → Resolves result
-        (λ v. AreBodiesOf bs (names_of names.now.entries) v.items (flat_map definitions (map file_view files.now.items)))
+    ensures { (rs : Refinements) → TellsRefinements bases.now rs → Resolves result
+        (λ v. AreBodiesOf rs (names_of names.now.entries) v.items (flat_map definitions (map file_view files.now.items)))
         (faults_from 0 (names_of names.now.entries) (map file_view files.now.items)) }
 {
     let mut bodies = no_bodies(alloc, names.len())?;
@@ -136,10 +136,10 @@ fn add_bodies(
     requires table { IsTable names.now.entries }
     requires long { length names.now.entries ≡ length bodies.old.items }
     ensures long { length bodies.new.items ≡ length bodies.old.items }
-    ensures added { OnOk result ((bs : Refinement.Bases) (ds : List DefinitionTree) → HoldBases bases.now bs
-        → AreBodiesOf bs (names_of names.now.entries) bodies.old.items ds
-        → AreBodiesOf bs (names_of names.now.entries) bodies.new.items (ds ++ map definition_view definitions.now.items)) }
-    ensures faults { (bs : Refinement.Bases) → HoldBases bases.now bs → Resolves result (λ _. Unit {0})
+    ensures added { OnOk result ((rs : Refinements) (ds : List DefinitionTree) → TellsRefinements bases.now rs
+        → AreBodiesOf rs (names_of names.now.entries) bodies.old.items ds
+        → AreBodiesOf rs (names_of names.now.entries) bodies.new.items (ds ++ map definition_view definitions.now.items)) }
+    ensures faults { (rs : Refinements) → TellsRefinements bases.now rs → Resolves result (λ _. Unit {0})
         (faults_in file (names_of names.now.entries) (places_of (map definition_view definitions.now.items))) }
 {
     for definition in definitions {
@@ -159,9 +159,9 @@ fn add_body(
     requires table { IsTable names.now.entries }
     requires long { length names.now.entries ≡ length bodies.old.items }
     ensures long { length bodies.new.items ≡ length bodies.old.items }
-    ensures added { OnOk result ((bs : Refinement.Bases) (ds : List DefinitionTree) (o : ℕ) (t : Tree)
-        → AreBodiesOf bs (names_of names.now.entries) bodies.old.items ds → IsShapeOf bs (names_of names.now.entries) shape t
-        → AreBodiesOf bs (names_of names.now.entries) bodies.new.items (ds ++ definition name.now o t ∷ [])) }
+    ensures added { OnOk result ((rs : Refinements) (ds : List DefinitionTree) (o : ℕ) (t : Tree)
+        → AreBodiesOf rs (names_of names.now.entries) bodies.old.items ds → IsShapeOf rs (names_of names.now.entries) shape t
+        → AreBodiesOf rs (names_of names.now.entries) bodies.new.items (ds ++ definition name.now o t ∷ [])) }
 {
     if let Some(i) = names.get_index_of(name) {
         bodies[i].push(shape)?;

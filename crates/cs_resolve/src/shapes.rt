@@ -4,8 +4,8 @@ ghost use Rattle.std.specs.List.{list_any, list_all};
 ghost use Rattle.cs_grammar.specs.Tree.{Label, named, reference};
 ghost use Rattle.cs_grammar.specs.View.{expr_view, exprs_view, field_view, fields_view, end_view};
 ghost use Rattle.cs_resolve.specs.Around.{has_text, HoldsLabels, HoldAround, AreShapesOf, ArePartsOf, IsEndOf};
-ghost use Rattle.cs_resolve.specs.Refinement as Refinement;
-ghost use Rattle.cs_resolve.specs.Narrowed.{HoldBases};
+ghost use Rattle.cs_resolve.specs.Refinement.{Refinements};
+ghost use Rattle.cs_resolve.specs.Narrowed.{TellsRefinements};
 ghost use Rattle.cs_resolve.specs.Resolved.{read_opened, narrowed_operands};
 ghost use Rattle.cs_resolve.specs.Scopes.{key_places, places, places_all, places_fields, places_end, labels};
 ghost use Rattle.cs_resolve.specs.Steps.{faults_in, IsShapeOf, Resolves};
@@ -57,8 +57,8 @@ fn name_shape(
     name: &str,
     at: usize,
 ) -> Result<Shape, ResolveFault>
-    ensures { (bs : Refinement.Bases) (ns : List (List ℕ)) (scopes : List (List Label)) → HoldAround around.now.items scopes
-        → Resolves result (λ s. IsShapeOf bs ns s (named name.now at))
+    ensures { (rs : Refinements) (ns : List (List ℕ)) (scopes : List (List Label)) → HoldAround around.now.items scopes
+        → Resolves result (λ s. IsShapeOf rs ns s (named name.now at))
         (faults_in file ns (places scopes (named name.now at))) }
 {
     if names_field(around, name) {
@@ -88,8 +88,8 @@ fn reference_shape(
     name: &str,
     at: usize,
 ) -> Result<Shape, ResolveFault>
-    ensures { (bs : Refinement.Bases) (scopes : List (List Label))
-        → Resolves result (λ s. IsShapeOf bs (names_of names.now.entries) s (reference name.now at))
+    ensures { (rs : Refinements) (scopes : List (List Label))
+        → Resolves result (λ s. IsShapeOf rs (names_of names.now.entries) s (reference name.now at))
         (faults_in file (names_of names.now.entries) (places scopes (reference name.now at))) }
 {
     match names.get_index_of(name) {
@@ -133,8 +133,8 @@ fn shape_of<'a>(
     expr: &'a Expr,
 ) -> Result<Shape, ResolveFault>
     ensures kept { OnOk result (around.new.items ≡ around.old.items) }
-    ensures shape { (bs : Refinement.Bases) (scopes : List (List Label)) → HoldBases bases.now bs → HoldAround around.old.items scopes
-        → Resolves result (λ s. IsShapeOf bs (names_of names.now.entries) s (expr_view expr.now))
+    ensures shape { (rs : Refinements) (scopes : List (List Label)) → TellsRefinements bases.now rs → HoldAround around.old.items scopes
+        → Resolves result (λ s. IsShapeOf rs (names_of names.now.entries) s (expr_view expr.now))
         (faults_in file (names_of names.now.entries) (places scopes (expr_view expr.now))) }
 {
     match expr {
@@ -187,8 +187,8 @@ fn shapes_of<'a>(
     exprs: &'a Vec<Expr>,
 ) -> Result<Vec<Shape>, ResolveFault>
     ensures kept { OnOk result (around.new.items ≡ around.old.items) }
-    ensures shapes { (bs : Refinement.Bases) (scopes : List (List Label)) → HoldBases bases.now bs → HoldAround around.old.items scopes
-        → Resolves result (λ v. AreShapesOf bs (names_of names.now.entries) v.items (exprs_view exprs.now.items))
+    ensures shapes { (rs : Refinements) (scopes : List (List Label)) → TellsRefinements bases.now rs → HoldAround around.old.items scopes
+        → Resolves result (λ v. AreShapesOf rs (names_of names.now.entries) v.items (exprs_view exprs.now.items))
         (faults_in file (names_of names.now.entries) (places_all scopes (exprs_view exprs.now.items))) }
 {
     let mut shapes = Vec::with_capacity(alloc, exprs.len())?;
@@ -210,8 +210,8 @@ fn parts_of<'a>(
     fields: &'a Vec<Field>,
 ) -> Result<Vec<Part>, ResolveFault>
     ensures kept { OnOk result (around.new.items ≡ around.old.items) }
-    ensures parts { (bs : Refinement.Bases) (scopes : List (List Label)) → HoldBases bases.now bs → HoldAround around.old.items scopes
-        → Resolves result (λ v. ArePartsOf bs (names_of names.now.entries) v.items (fields_view fields.now.items))
+    ensures parts { (rs : Refinements) (scopes : List (List Label)) → TellsRefinements bases.now rs → HoldAround around.old.items scopes
+        → Resolves result (λ v. ArePartsOf rs (names_of names.now.entries) v.items (fields_view fields.now.items))
         (faults_in file (names_of names.now.entries)
         (places_fields (labels (fields_view fields.now.items) ∷ scopes) (fields_view fields.now.items))) }
 {
@@ -242,8 +242,8 @@ fn shape_end<'a>(
     end: &'a ListEnd,
 ) -> Result<ShapeEnd, ResolveFault>
     ensures kept { OnOk result (around.new.items ≡ around.old.items) }
-    ensures end { (bs : Refinement.Bases) (scopes : List (List Label)) → HoldBases bases.now bs → HoldAround around.old.items scopes
-        → Resolves result (λ s. IsEndOf bs (names_of names.now.entries) s (end_view end.now))
+    ensures end { (rs : Refinements) (scopes : List (List Label)) → TellsRefinements bases.now rs → HoldAround around.old.items scopes
+        → Resolves result (λ s. IsEndOf rs (names_of names.now.entries) s (end_view end.now))
         (faults_in file (names_of names.now.entries) (places_end scopes (end_view end.now))) }
 {
     match end {
@@ -265,8 +265,8 @@ pub(crate) fn body_shape(
     body: &Expr,
 ) -> Result<Shape, ResolveFault>
     requires { IsTable names.now.entries }
-    ensures { (bs : Refinement.Bases) → HoldBases bases.now bs
-        → Resolves result (λ s. IsShapeOf bs (names_of names.now.entries) s (expr_view body.now))
+    ensures { (rs : Refinements) → TellsRefinements bases.now rs
+        → Resolves result (λ s. IsShapeOf rs (names_of names.now.entries) s (expr_view body.now))
         (faults_in file (names_of names.now.entries) (places [] (expr_view body.now))) }
 {
     let mut around = Vec::new(alloc);

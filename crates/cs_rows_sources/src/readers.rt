@@ -114,6 +114,51 @@ fn each_form_is_resolved(rt: HostRuntime) -> Result<(), Fail> {
     Ok(())
 }
 
+/// Whether the declarations are `k: "x"` alone.
+fn are_k_and_x(parts: &[Part]) -> bool {
+    match parts {
+        [part] => match &part.value {
+            Shape::Text(text) => is_part(part, "k", FieldMark::Regular) && text.as_str() == "x",
+            _ => false,
+        },
+        _ => false,
+    }
+}
+
+/// Whether the one body joins the definition and `{k: "x", ...}`.
+fn is_narrowed_by_an_open_literal(bodies: &[Shape], definition: usize) -> bool {
+    match bodies {
+        [Shape::And(operands)] => match operands.as_slice() {
+            [Shape::Definition(number), Shape::Struct { parts, opened }] => {
+                *number == definition && *opened && are_k_and_x(parts.as_slice())
+            }
+            _ => false,
+        },
+        _ => false,
+    }
+}
+
+/// Whether the one body is a struct literal that doesn't end with `...`.
+fn is_a_closed_literal(bodies: &[Shape]) -> bool {
+    match bodies {
+        [Shape::Struct { opened, .. }] => !*opened,
+        _ => false,
+    }
+}
+
+fn has_a_base_and_a_refinement(package: &Package) -> bool {
+    package.count() == 2
+        && is_a_closed_literal(package.bodies(0))
+        && is_narrowed_by_an_open_literal(package.bodies(1), 0)
+}
+
+#[test]
+fn literal_that_narrows_is_open_in_the_package(rt: HostRuntime) -> Result<(), Fail> {
+    let package = package_of(rt.alloc(), &["#B: {k: string}\n#C: #B & {k: \"x\"}"])?;
+    assert!(rt; has_a_base_and_a_refinement(&package));
+    Ok(())
+}
+
 /// The rank of a definition, where there is one.
 fn rank(guarded: &Guarded, name: &str) -> Option<usize> {
     let number = guarded.package().find(name)?;

@@ -8,7 +8,8 @@ use Rattle.cs_lexer.proofs.CutUnique.{cut_once}
 use Rattle.cs_syntax.specs.Answer.{IsSpelled}
 use Rattle.cs_syntax.proofs.FileAnswers.{file_once}
 use Rattle.cs_package.specs.Environment.{Environment, Names}
-use Rattle.cs_resolve.specs.Resolved.{environment_of_files}
+use Rattle.cs_resolve.specs.Resolved.{IsPackage}
+use Rattle.cs_resolve.proofs.BaseLaw as resolve
 use Rattle.cs_tool.specs.Accepted.{AreFiles, IsAccepted}
 
 one_file : (s : List ℕ) (f g : FileTree) → IsSpelled s f → IsSpelled s g → f ≡ g
@@ -25,7 +26,7 @@ one_files (s ∷ ss) (f ∷ fs) (g ∷ gs) a b = let first = one_file s f g a.0 
 
 -- sources declare one environment
 pub one_environment : {sources : List (List ℕ)} {E F : Environment} → IsAccepted sources E → IsAccepted sources F → E ≡ F
-one_environment {sources = ss} a b = a.declares ∙ ap environment_of_files (one_files ss a.files b.files a.spelled b.spelled) ∙ sym b.declares
+one_environment {sources = ss} {E = E} {F = F} a b = resolve.one_environment b.files E F (subst (λ fs. IsPackage fs E) (one_files ss a.files b.files a.spelled b.spelled) a.one_package) b.one_package
 
 bare_once : (n m : List ℕ) → (35 ∷ n) ≡ (35 ∷ m) → n ≡ m
 bare_once n m e = cc

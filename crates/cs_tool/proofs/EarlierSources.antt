@@ -11,8 +11,9 @@ use Rattle.cs_instance.specs.Instance.{Rule, definition, IsInstance}
 use Rattle.cs_instance.proofs.Labels.{still_instance, same_instances}
 use Rattle.cs_package.specs.Environment.{Environment}
 use Rattle.cs_package.specs.Labels.{IsLabelledEnvironment}
+use Rattle.cs_resolve.specs.Earlier.{no_refinements}
 use Rattle.cs_resolve.proofs.LabelledBodies.{environment_labelled}
-use Rattle.cs_resolve.proofs.OlderRule.{same_environment, still_package}
+use Rattle.cs_resolve.proofs.OlderRule.{still_package}
 use Rattle.cs_syntax.proofs.EarlierNesting.{still_spelled}
 use Rattle.cs_tool.specs.Accepted.{AreFiles, IsAccepted}
 use Rattle.cs_tool.specs.Earlier.{AreFilesEarlier, IsAcceptedEarlier}
@@ -31,7 +32,7 @@ files_labelled (s ∷ ss) (f ∷ fs) h = (h.0.labelled, files_labelled ss fs h.1
 
 module _ (sources : List (List ℕ)) (E : Environment) (h : IsAcceptedEarlier sources E) where
   labelled : IsLabelledEnvironment E
-  labelled = subst IsLabelledEnvironment (sym h.one_package.declares) (environment_labelled h.files (files_labelled sources h.files h.spelled))
+  labelled = subst IsLabelledEnvironment (sym h.one_package.declares) (environment_labelled no_refinements h.files (files_labelled sources h.files h.spelled))
 
   guarded : IsGuarded E
   guarded = mixedly-guarded E h.guarded
@@ -42,7 +43,6 @@ module _ (sources : List (List ℕ)) (E : Environment) (h : IsAcceptedEarlier so
     files = h.files;
     spelled = still_files sources h.files h.spelled;
     one_package = still_package h.files E h.one_package;
-    declares = h.one_package.declares ∙ sym (same_environment h.files h.one_package.opened);
     guarded = guarded;
   }
 

@@ -12,7 +12,7 @@ use Rattle.cs_package.specs.Expression as cue
 use Rattle.cs_package.specs.Expression.{Expression, Expressions, atom, bottom}
 use Rattle.cs_package.specs.Height.{height, height_all, height_fields, height_rest, heights, IsLow}
 use Rattle.cs_resolve.specs.Predeclared.{names, among, predeclared}
-use Rattle.cs_resolve.specs.Refinement.{Bases, bases, is_refinement}
+use Rattle.cs_resolve.specs.Refinement.{Refinements}
 use Rattle.cs_resolve.specs.Resolved.{read_opened, all_opened, narrowed_operands, resolved, resolved_all, resolved_fields, resolved_end, environment_of_files}
 use Rattle.cs_tool.specs.Accepted.{AreFiles}
 
@@ -49,12 +49,12 @@ narrowed_height : (b : Bool) (es : Expressions) → height_all (narrowed_operand
 narrowed_height true es = all_height es
 narrowed_height false es = refl
 
--- the same of trees, where these are the closed bases
-module _ (bs : Bases) where
+-- the same of trees, where these are the plain refinements
+module _ (rs : Refinements) where
   mutual
-    low : (t : Tree) → height (resolved bs t) ≤ tree.height t
+    low : (t : Tree) → height (resolved rs t) ≤ tree.height t
     low (T.named t o) = omega (arith, flat_name t)
-    low (T.conjunction ts) = omega (arith, narrowed_height (is_refinement bs ts) (resolved_all bs ts), low_all ts)
+    low (T.conjunction ts) = omega (arith, narrowed_height (rs ts) (resolved_all rs ts), low_all ts)
     low (T.disjunction ts) = omega (arith, low_all ts)
     low (T.paren t) = omega (arith, low t)
     low (T.struct o fs b) = omega (arith, low_under fs)
@@ -62,36 +62,36 @@ module _ (bs : Bases) where
     low (T.atom a) = omega arith
     low (T.reference t o) = omega arith
 
-    low_all : (ts : Trees) → height_all (resolved_all bs ts) ≤ tree.height_all ts
+    low_all : (ts : Trees) → height_all (resolved_all rs ts) ≤ tree.height_all ts
     low_all T.none = omega arith
     low_all (T.more t ts) = omega (arith, low t, low_all ts)
 
-    low_under : (fs : Fields) → height_fields (resolved_fields bs fs) ≤ tree.height_fields fs
+    low_under : (fs : Fields) → height_fields (resolved_fields rs fs) ≤ tree.height_fields fs
     low_under T.no_field = omega arith
     low_under (T.field l m t fs) = omega (arith, low t, low_under fs)
 
-    low_end : (end : End) → height_rest (resolved_end bs end) ≤ tree.height_end end
+    low_end : (end : End) → height_rest (resolved_end rs end) ≤ tree.height_end end
     low_end T.closed = omega arith
     low_end T.any = omega arith
     low_end (T.each t) = low t
 
   -- the bodies of one name are some of all
-  low_bodies : (n : List ℕ) (ds : List DefinitionTree) → heights (map (resolved bs) (declared.bodies_of n ds)) ≤ tree.height_definitions ds
+  low_bodies : (n : List ℕ) (ds : List DefinitionTree) → heights (map (resolved rs) (declared.bodies_of n ds)) ≤ tree.height_definitions ds
   low_bodies n [] = omega arith
   low_bodies n (d ∷ ds) = by (bytes_eq (defined_name d) n) (low_bodies n ds)
     where
-      by : (b : Bool) → heights (map (resolved bs) (declared.bodies_of n ds)) ≤ tree.height_definitions ds
-          → heights (map (resolved bs) (map body (cond b (d ∷ filter (λ x. bytes_eq (defined_name x) n) ds) (filter (λ x. bytes_eq (defined_name x) n) ds)))) ≤ tree.height_definitions (d ∷ ds)
+      by : (b : Bool) → heights (map (resolved rs) (declared.bodies_of n ds)) ≤ tree.height_definitions ds
+          → heights (map (resolved rs) (map body (cond b (d ∷ filter (λ x. bytes_eq (defined_name x) n) ds) (filter (λ x. bytes_eq (defined_name x) n) ds)))) ≤ tree.height_definitions (d ∷ ds)
       by true h = omega (arith, low (body d), h)
       by false h = omega (arith, h)
 
-  low_named : (ds : List DefinitionTree) (ns : List (List ℕ)) (n : List ℕ) (es : List Expression) → bodies (map (λ (d : List ℕ × List Tree). (d.0, map (resolved bs) d.1)) (map (λ (m : List ℕ). (m, declared.bodies_of m ds)) ns)) n ≡ Some es → heights es ≤ tree.height_definitions ds
+  low_named : (ds : List DefinitionTree) (ns : List (List ℕ)) (n : List ℕ) (es : List Expression) → bodies (map (λ (d : List ℕ × List Tree). (d.0, map (resolved rs) d.1)) (map (λ (m : List ℕ). (m, declared.bodies_of m ds)) ns)) n ≡ Some es → heights es ≤ tree.height_definitions ds
   low_named ds [] n es is = cc
   low_named ds (m ∷ ns) n es is = by (bytes_eq n m) (low_named ds ns n es) is
     where
-      by : (b : Bool) → (bodies (map (λ (d : List ℕ × List Tree). (d.0, map (resolved bs) d.1)) (map (λ (k : List ℕ). (k, declared.bodies_of k ds)) ns)) n ≡ Some es → heights es ≤ tree.height_definitions ds)
-          → cond b (Some (map (resolved bs) (declared.bodies_of m ds))) (bodies (map (λ (d : List ℕ × List Tree). (d.0, map (resolved bs) d.1)) (map (λ (k : List ℕ). (k, declared.bodies_of k ds)) ns)) n) ≡ Some es → heights es ≤ tree.height_definitions ds
-      by true rest e = let same : map (resolved bs) (declared.bodies_of m ds) ≡ es = cc in subst (λ fs. heights fs ≤ tree.height_definitions ds) same (low_bodies m ds)
+      by : (b : Bool) → (bodies (map (λ (d : List ℕ × List Tree). (d.0, map (resolved rs) d.1)) (map (λ (k : List ℕ). (k, declared.bodies_of k ds)) ns)) n ≡ Some es → heights es ≤ tree.height_definitions ds)
+          → cond b (Some (map (resolved rs) (declared.bodies_of m ds))) (bodies (map (λ (d : List ℕ × List Tree). (d.0, map (resolved rs) d.1)) (map (λ (k : List ℕ). (k, declared.bodies_of k ds)) ns)) n) ≡ Some es → heights es ≤ tree.height_definitions ds
+      by true rest e = let same : map (resolved rs) (declared.bodies_of m ds) ≡ es = cc in subst (λ fs. heights fs ≤ tree.height_definitions ds) same (low_bodies m ds)
       by false rest e = rest e
 
 both_low : (ds es : List DefinitionTree) → tree.height_definitions ds ≤ 28 → tree.height_definitions es ≤ 28 → tree.height_definitions (ds ++ es) ≤ 28
@@ -105,9 +105,9 @@ low_spelled (s ∷ ss) [] h = absurd h
 low_spelled (s ∷ ss) (f ∷ fs) h = both_low (definitions f) (flat_map definitions fs) h.0.low (low_spelled ss fs h.1)
 
 -- what spelled files declare is low
-pub low_files : (ss : List (List ℕ)) (fs : List FileTree) → AreFiles ss fs → IsLow (environment_of_files fs)
-low_files ss fs h n es is =
+pub low_files : (rs : Refinements) (ss : List (List ℕ)) (fs : List FileTree) → AreFiles ss fs → IsLow (environment_of_files rs fs)
+low_files rs ss fs h n es is =
     let ds = flat_map definitions fs in
-    let bound = low_named (bases ds) ds (declared.names ds) n es is in
+    let bound = low_named rs ds (declared.names ds) n es is in
     let all = low_spelled ss fs h in
     omega (arith, bound, all)

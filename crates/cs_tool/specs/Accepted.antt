@@ -1,11 +1,11 @@
 -- Which sources are accepted, and what they declare (own rules; the grammar is that of the CUE language specification,
 -- "Source file organization").
-use Rattle.std.specs.Prelude.{◌≡◌, ℕ, ◌≤◌, List, [], ◌∷◌, length, sum_by, IsUtf8}
+use Rattle.std.specs.Prelude.{ℕ, ◌≤◌, List, [], ◌∷◌, length, sum_by, IsUtf8}
 use Rattle.std.specs.List.{AllByRecursion}
 use Rattle.cs_grammar.specs.Tree.{FileTree}
 use Rattle.cs_syntax.specs.Answer.{IsSpelled}
 use Rattle.cs_package.specs.Environment.{Environment, Names}
-use Rattle.cs_resolve.specs.Resolved.{environment_of_files, IsPackage}
+use Rattle.cs_resolve.specs.Resolved.{IsPackage}
 use Rattle.cs_guard.specs.Guarded.{IsGuarded}
 
 -- the bytes that the sources of a call may have together, and those that they have
@@ -32,8 +32,7 @@ pub record IsAccepted (sources : List (List ℕ)) (E : Environment) : Type 0 whe
   pub texts : AreTexts sources
   pub files : List FileTree
   pub spelled : AreFiles sources files
-  pub one_package : IsPackage files
-  pub declares : E ≡ environment_of_files files
+  pub one_package : IsPackage files E
   pub guarded : IsGuarded E
 
 -- the sources are accepted and declare the environment E, and the root is its definition n

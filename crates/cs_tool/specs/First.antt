@@ -5,8 +5,8 @@ use Rattle.cs_grammar.specs.Tree.{FileTree}
 use Rattle.cs_grammar.specs.declared.fault.SyntaxFault.{SyntaxFault}
 use Rattle.cs_syntax.specs.Refusal.{IsFileRefusal}
 use Rattle.cs_package.specs.Environment.{Environment, Names}
-use Rattle.cs_resolve.specs.Resolved as resolve
-use Rattle.cs_resolve.specs.Resolved.{environment_of_files, IsPackage}
+use Rattle.cs_resolve.specs.Refusal as resolve
+use Rattle.cs_resolve.specs.Resolved.{IsPackage}
 use Rattle.cs_resolve.specs.declared.fault.ResolveFault.{ResolveFault}
 use Rattle.cs_guard.specs.Cycles as guard
 use Rattle.cs_guard.specs.declared.fault.GuardFault.{GuardFault}
@@ -54,9 +54,10 @@ pub record IsUnguarded (sources : List (List ℕ)) (f : Fault) : Type 0 where
   pub texts : AreTexts sources
   pub files : List FileTree
   pub spelled : AreFiles sources files
-  pub one_package : IsPackage files
+  pub environment : Environment
+  pub one_package : IsPackage files environment
   pub fault : GuardFault
-  pub refused : guard.IsRefusal fault (environment_of_files files)
+  pub refused : guard.IsRefusal fault environment
   pub told : f ≡ of_guard fault
 
 -- the sources are accepted, and don't declare the root

@@ -1,6 +1,7 @@
 use Rattle.std.proofs.Common.{◌≡◌, drop}
 use Rattle.std.specs.List.{list_any}
-use Rattle.cs_resolve.specs.Opening.{demands_open, named_fields, values}
+use Rattle.cs_resolve.specs.Opening.{named_fields, values}
+use Rattle.cs_resolve.specs.Unopened.{demands_open}
 use Rattle.cs_resolve.specs.Checks.{TellsLabels}
 use Rattle.cs_grammar.specs.View.{fields_view}
 use Rattle.cs_resolve.proofs.opening.some_demand_open.Given as goal

@@ -26,19 +26,19 @@ module _ (file : ℕ) (ns : List (List ℕ)) where
 pub loop-definition-init : goal.loop-definition-init
 loop-definition-init c = record {
   long = refl;
-  added = λ bs ds held before. subst (λ es. AreBodiesOf bs (names_of c.args.names.now.entries) c.args.bodies.now.items es) (sym (append-nil ds)) before;
-  faults = λ bs held. refl;
+  added = λ rs ds held before. subst (λ es. AreBodiesOf rs (names_of c.args.names.now.entries) c.args.bodies.now.items es) (sym (append-nil ds)) before;
+  faults = λ rs held. refl;
 }
 
 pub returns-in_err-shape-clause-faults : goal.returns-in_err-shape-clause-faults
-returns-in_err-shape-clause-faults c bs held =
+returns-in_err-shape-clause-faults c rs held =
     let ns = names_of c.args.names.now.entries in
     let ds = c.deref-definition-items.result.now in
     let l = c.loop-definition in
     let e = c.in_err-shape.field-0.0 in
     let p = err_from_is_err_and c.from_residual.result c.from_residual.ensures.1 in
     let F = found c.args.file ns in
-    let whole = refusal-at F (found_at c.args.file ns) (parts c.args.file ns) e ds l.definition-index c.definition-item.result c.loop-definition-test.true c.definition-item.is (l.invariant.faults bs held) (c.in_err-shape.ensures bs held) in
+    let whole = refusal-at F (found_at c.args.file ns) (parts c.args.file ns) e ds l.definition-index c.definition-item.result c.loop-definition-test.true c.definition-item.is (l.invariant.faults rs held) (c.in_err-shape.ensures rs held) in
     rw (p.1, p.2) (refusal-same e (F ds) (F c.args.definitions.now.items) (ap F c.deref-definition-items.ensures.value) whole)
 
 pub loop-definition-preserved : goal.loop-definition-preserved
@@ -52,24 +52,24 @@ loop-definition-preserved c =
     let more = map_more definition_view ds i d within c.definition-item.is in
     record {
       long = c.in_ok-add_body.ensures.long ∙ l.invariant.long;
-      added = λ bs es held before.
-          subst (λ gs. AreBodiesOf bs ns c.add_body.new.bodies.items gs)
+      added = λ rs es held before.
+          subst (λ gs. AreBodiesOf rs ns c.add_body.new.bodies.items gs)
           (append_assoc es (map definition_view (take i ds)) (definition c.as_str.result.now d.at (expr_view d.body) ∷ []) ∙ ap (λ n. es ++ (map definition_view (take i ds) ++ definition n d.at (expr_view d.body) ∷ [])) c.as_str.ensures.value ∙ ap (λ r. es ++ r) (sym more))
-          (c.in_ok-add_body.ensures.added bs (es ++ map definition_view (take i ds)) d.at (expr_view d.body) (l.invariant.added bs es held before) (c.in_ok-shape.ensures bs held).0);
-      faults = λ bs held. none_more (found c.args.file ns) (found_at c.args.file ns) (parts c.args.file ns) ds i d within c.definition-item.is (l.invariant.faults bs held) (c.in_ok-shape.ensures bs held).1;
+          (c.in_ok-add_body.ensures.added rs (es ++ map definition_view (take i ds)) d.at (expr_view d.body) (l.invariant.added rs es held before) (c.in_ok-shape.ensures rs held).0);
+      faults = λ rs held. none_more (found c.args.file ns) (found_at c.args.file ns) (parts c.args.file ns) ds i d within c.definition-item.is (l.invariant.faults rs held) (c.in_ok-shape.ensures rs held).1;
     }
 
 pub returns-clause-added : goal.returns-clause-added
-returns-clause-added c bs ds held before =
+returns-clause-added c rs ds held before =
     let l = c.loop-definition in
     let ns = names_of c.args.names.now.entries in
     let items = c.deref-definition-items.result.now in
     let all = take_all l.definition-index items c.loop-definition-test.false ∙ c.deref-definition-items.ensures.value in
-    subst (λ es. AreBodiesOf bs ns l.bodies.items (ds ++ map definition_view es)) all (l.invariant.added bs ds held before)
+    subst (λ es. AreBodiesOf rs ns l.bodies.items (ds ++ map definition_view es)) all (l.invariant.added rs ds held before)
 
 pub returns-clause-faults : goal.returns-clause-faults
-returns-clause-faults c bs held =
+returns-clause-faults c rs held =
     let ds = c.deref-definition-items.result.now in
     let l = c.loop-definition in
     let F = found c.args.file (names_of c.args.names.now.entries) in
-    (tt, ap F (sym c.deref-definition-items.ensures.value) ∙ l.invariant.faults bs held ∙ ap F (drop_all l.definition-index ds c.loop-definition-test.false))
+    (tt, ap F (sym c.deref-definition-items.ensures.value) ∙ l.invariant.faults rs held ∙ ap F (drop_all l.definition-index ds c.loop-definition-test.false))

@@ -19,12 +19,12 @@ loop-number-init c =
     let long : length vs ≡ length es = omega (arith, c.len.ensures.len, c.in_ok-bodies.ensures.long) in
     record {
       long = sym long;
-      bodies = λ bs held. bodies-none bs (names_of es) vs (long ∙ sym (length-names es)) c.in_ok-bodies.ensures.empty;
-      faults = λ bs held. refl;
+      bodies = λ rs held. bodies-none rs (names_of es) vs (long ∙ sym (length-names es)) c.in_ok-bodies.ensures.empty;
+      faults = λ rs held. refl;
     }
 
 pub returns-in_err-add_bodies : goal.returns-in_err-add_bodies
-returns-in_err-add_bodies c bs held =
+returns-in_err-add_bodies c rs held =
     let fs = c.deref-file-items.result.now in
     let f = c.file-item.result in
     let l = c.loop-number in
@@ -35,8 +35,8 @@ returns-in_err-add_bodies c bs held =
     let ns = names_of c.args.names.now.entries in
     let found = faults_in i ns (places_of (map definition_view f.definitions.items)) in
     let rest = faults_from (i + 1) ns (map file_view (drop (i + 1) fs)) in
-    let first = refusal-first e found rest (c.in_err-add_bodies.ensures.faults bs held) in
-    let all = ap (λ gs. faults_from 0 ns (map file_view gs)) (sym c.deref-file-items.ensures.value) ∙ l.invariant.faults bs held ∙ faults-cut ns fs i f within c.file-item.is in
+    let first = refusal-first e found rest (c.in_err-add_bodies.ensures.faults rs held) in
+    let all = ap (λ gs. faults_from 0 ns (map file_view gs)) (sym c.deref-file-items.ensures.value) ∙ l.invariant.faults rs held ∙ faults-cut ns fs i f within c.file-item.is in
     rw (p.1, p.2) (refusal-same e (found ++ rest) (faults_from 0 ns (map file_view c.args.files.now.items)) (sym all) first)
 
 pub loop-number-preserved : goal.loop-number-preserved
@@ -50,17 +50,17 @@ loop-number-preserved c =
     let before = flat_map definitions (map file_view (take i fs)) in
     record {
       long = omega (arith, l.invariant.long, c.in_ok-add_bodies.ensures.long);
-      bodies = λ bs held. subst (λ ds. AreBodiesOf bs ns c.add_bodies.new.bodies.items ds) (sym (definitions_more fs i f within c.file-item.is)) (c.in_ok-add_bodies.ensures.added bs before held (l.invariant.bodies bs held));
-      faults = λ bs held. l.invariant.faults bs held ∙ faults-cut ns fs i f within c.file-item.is ∙ ap (λ xs. xs ++ faults_from (i + 1) ns (map file_view (drop (i + 1) fs))) (c.in_ok-add_bodies.ensures.faults bs held).1;
+      bodies = λ rs held. subst (λ ds. AreBodiesOf rs ns c.add_bodies.new.bodies.items ds) (sym (definitions_more fs i f within c.file-item.is)) (c.in_ok-add_bodies.ensures.added rs before held (l.invariant.bodies rs held));
+      faults = λ rs held. l.invariant.faults rs held ∙ faults-cut ns fs i f within c.file-item.is ∙ ap (λ xs. xs ++ faults_from (i + 1) ns (map file_view (drop (i + 1) fs))) (c.in_ok-add_bodies.ensures.faults rs held).1;
     }
 
 pub returns : goal.returns
-returns c bs held =
+returns c rs held =
     let fs = c.deref-file-items.result.now in
     let l = c.loop-number in
     let ns = names_of c.args.names.now.entries in
     let same = c.deref-file-items.ensures.value in
     let all = c.loop-number-test.false in (
-      subst (λ gs. AreBodiesOf bs ns l.bodies.items (flat_map definitions (map file_view gs))) (take_all l.number fs all ∙ same) (l.invariant.bodies bs held),
-      ap (λ gs. faults_from 0 ns (map file_view gs)) (sym same) ∙ l.invariant.faults bs held ∙ ap (λ gs. faults_from l.number ns (map file_view gs)) (drop_all l.number fs all),
+      subst (λ gs. AreBodiesOf rs ns l.bodies.items (flat_map definitions (map file_view gs))) (take_all l.number fs all ∙ same) (l.invariant.bodies rs held),
+      ap (λ gs. faults_from 0 ns (map file_view gs)) (sym same) ∙ l.invariant.faults rs held ∙ ap (λ gs. faults_from l.number ns (map file_view gs)) (drop_all l.number fs all),
     )

@@ -5,7 +5,7 @@ use Rattle.cs_grammar.specs.Source.{IsSpelledBy}
 use Rattle.cs_grammar.specs.Tree.{FileTree, defined_name, definitions}
 use Rattle.cs_grammar.specs.View.{definition_view, file_view}
 use Rattle.cs_resolve.specs.Declarations.{distinct}
-use Rattle.cs_resolve.specs.Resolved.{AreSpelled}
+use Rattle.cs_resolve.specs.Refusal.{AreSpelled}
 use Rattle.cs_package.specs.View.{names_of}
 use Rattle.cs_package.proofs.Environments.{table-empty}
 use Rattle.cs_resolve.proofs.Spellings.{names-spelled}

@@ -4,4 +4,4 @@ use Rattle.cs_resolve.specs.Around.{has_text}
 use Rattle.cs_resolve.proofs.shapes.body_shape.Goals as goal
 
 pub returns : goal.returns
-returns c bs held = c.shape_of.ensures.shape bs [] held (λ t. ap (list_any (has_text t)) c.new-around.ensures.items)
+returns c rs held = c.shape_of.ensures.shape rs [] held (λ t. ap (list_any (has_text t)) c.new-around.ensures.items)

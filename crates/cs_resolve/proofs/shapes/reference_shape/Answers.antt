@@ -8,7 +8,7 @@ use Rattle.cs_package.proofs.Views.{of-Definition, known-Definition}
 use Rattle.cs_resolve.proofs.shapes.reference_shape.Goals as goal
 
 pub returns-in-Some : goal.returns-in-Some
-returns-in-Some c bs scopes =
+returns-in-Some c rs scopes =
     let es = c.args.names.now.entries in
     let ns = names_of es in
     let t = c.args.name.now in
@@ -19,4 +19,4 @@ returns-in-Some c bs scopes =
     )
 
 pub returns-in-None : goal.returns-in-None
-returns-in-None c bs scopes = ap (λ b. slice_get (map (λ x. (c.args.file, x)) (reference_faults c.args.at b ++ [])) 0) (declared-is c.args.name.now c.args.names.now.entries ∙ sym c.in-None.ensures.found)
+returns-in-None c rs scopes = ap (λ b. slice_get (map (λ x. (c.args.file, x)) (reference_faults c.args.at b ++ [])) 0) (declared-is c.args.name.now c.args.names.now.entries ∙ sym c.in-None.ensures.found)

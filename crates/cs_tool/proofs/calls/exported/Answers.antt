@@ -18,7 +18,7 @@ use Rattle.cs_tool.proofs.SchemaTexts.{one_document}
 use Rattle.cs_tool.proofs.calls.exported.Goals as goal
 
 low : (sources : List (List ℕ)) (E : Environment) → IsAccepted sources E → IsLow E
-low sources E a = subst IsLow (sym a.declares) (low_files sources a.files a.spelled)
+low sources E a = subst IsLow (sym a.one_package.declares) (low_files a.one_package.refinements sources a.files a.spelled)
 
 pub returns-clause-found : goal.returns-clause-found
 returns-clause-found c = λ sources accepted.

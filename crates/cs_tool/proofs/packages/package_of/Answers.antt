@@ -6,7 +6,8 @@ use Rattle.cs_grammar.specs.Tree.{FileTree}
 use Rattle.cs_grammar.specs.View.{file_view}
 use Rattle.cs_grammar.specs.Source.{IsSpelledBy}
 use Rattle.cs_package.specs.Environment.{Environment}
-use Rattle.cs_resolve.specs.Resolved.{environment_of_files, IsPackage}
+use Rattle.cs_resolve.specs.Resolved.{IsPackage}
+use Rattle.cs_resolve.proofs.BaseLaw.{one_environment}
 use Rattle.cs_guard.specs.Cycles.{IsRefusal}
 use Rattle.cs_guard.specs.Guarded.{IsGuarded}
 use Rattle.cs_guard.specs.declared.fault.GuardFault.{GuardFault}
@@ -24,35 +25,31 @@ each_spelled [] (f ∷ fs) h = absurd h
 each_spelled (s ∷ ss) [] h = absurd h
 each_spelled (s ∷ ss) (f ∷ fs) h = ((s, record { tokens = h.0.tokens; cut = h.0.cut; spelled = h.0.spelled }), each_spelled ss fs h.1)
 
-module _ (sources : List (List ℕ)) (texts : AreTexts sources) (files : List FileTree) (spelled : AreFiles sources files) (one_package : IsPackage files) where
-  accepted : (E P : Environment) → E ≡ P → P ≡ environment_of_files files → IsGuarded P → IsAccepted sources E
-  accepted E P same declares guarded = record {
+module _ (sources : List (List ℕ)) (texts : AreTexts sources) (files : List FileTree) (spelled : AreFiles sources files) (P : Environment) (one_package : IsPackage files P) where
+  accepted : (E : Environment) → E ≡ P → IsGuarded P → IsAccepted sources E
+  accepted E same guarded = record {
     texts = texts;
     files = files;
     spelled = spelled;
-    one_package = one_package;
-    declares = same ∙ declares;
+    one_package = subst (IsPackage files) (sym same) one_package;
     guarded = subst IsGuarded (sym same) guarded;
   }
 
-  unguarded : (e : Fault) (fault : GuardFault) → e ≡ of_guard fault → IsRefusal fault (environment_of_files files) → IsUnguarded sources e
-  unguarded e fault told refused = record { texts = texts; files = files; spelled = spelled; one_package = one_package; fault = fault; refused = refused; told = told }
+  unguarded : (e : Fault) (fault : GuardFault) → e ≡ of_guard fault → IsRefusal fault P → IsUnguarded sources e
+  unguarded e fault told refused = record { texts = texts; files = files; spelled = spelled; environment = P; one_package = one_package; fault = fault; refused = refused; told = told }
 
-  by_guard : (fault : GuardFault) → IsRefusal fault (environment_of_files files) → SourcesRefusal sources (of_guard fault)
+  by_guard : (fault : GuardFault) → IsRefusal fault P → SourcesRefusal sources (of_guard fault)
   by_guard guard.OutOfMemory h = tt
   by_guard (guard.Cycle names) h = unguarded _ (guard.Cycle names) refl h
   by_guard guard.ChainTooLong h = unguarded _ guard.ChainTooLong refl h
 
--- what is accepted has the files that the sources spell
+-- what is accepted has the files that the sources spell, and the environment of their package
 module _ (sources : List (List ℕ)) (files : List FileTree) (spelled : AreFiles sources files) (E : Environment) (accepted : IsAccepted sources E) where
-  same_files : accepted.files ≡ files
-  same_files = one_files sources accepted.files files accepted.spelled spelled
+  are_package : IsPackage files E
+  are_package = subst (λ fs. IsPackage fs E) (one_files sources accepted.files files accepted.spelled spelled) accepted.one_package
 
-  are_package : IsPackage files
-  are_package = subst IsPackage same_files accepted.one_package
-
-  is_guarded : IsGuarded (environment_of_files files)
-  is_guarded = subst IsGuarded (accepted.declares ∙ ap environment_of_files same_files) accepted.guarded
+  is_guarded : (P : Environment) → IsPackage files P → IsGuarded P
+  is_guarded P one_package = subst IsGuarded (one_environment files E P are_package one_package) accepted.guarded
 
 pub resolve-requires : goal.resolve-requires
 resolve-requires c = All-from_recursion _ _ (each_spelled _ (map file_view c.in_ok-files.files.items) c.in_ok-files.ensures.spelled)
@@ -66,9 +63,8 @@ returns-in_err-package-clause-refused c =
     let same = ap (map now) c.deref.ensures.value ∙ c.in_ok-texts.ensures.texts in
     let spelled = subst (λ ss. AreFiles ss files) same c.in_ok-files.ensures.spelled in
     let e = c.in_err-package.field-0.0 in
-    let refused = subst (IsRefusal e) c.in_ok-resolve.ensures.found c.in_err-package.ensures.refused in
     let p = err_from_is_err_and c.from_residual-in_err-package.result c.from_residual-in_err-package.ensures.1 in
-    rw (p.1, p.2) (by_guard sources texts files spelled c.in_ok-resolve.ensures.accepted e refused)
+    rw (p.1, p.2) (by_guard sources texts files spelled _ c.in_ok-resolve.ensures.found e c.in_err-package.ensures.refused)
 
 pub returns-in_err-resolve-clause-only : goal.returns-in_err-resolve-clause-only
 returns-in_err-resolve-clause-only c = λ E accepted.
@@ -78,7 +74,7 @@ returns-in_err-resolve-clause-only c = λ E accepted.
     let same = ap (map now) c.deref.ensures.value ∙ c.in_ok-texts.ensures.texts in
     let spelled = subst (λ ss. AreFiles ss files) same c.in_ok-files.ensures.spelled in
     let p = err_from_is_err_and c.from_residual-in_err-resolve.result c.from_residual-in_err-resolve.ensures.1 in
-    rw (p.1, p.2) (ap of_resolve (c.in_err-resolve.ensures.only (are_package sources files spelled E accepted)))
+    rw (p.1, p.2) (ap of_resolve (c.in_err-resolve.ensures.only E (are_package sources files spelled E accepted)))
 
 pub returns-in_err-package-clause-only : goal.returns-in_err-package-clause-only
 returns-in_err-package-clause-only c = λ E accepted.
@@ -87,7 +83,7 @@ returns-in_err-package-clause-only c = λ E accepted.
     let files = map file_view c.in_ok-files.files.items in
     let same = ap (map now) c.deref.ensures.value ∙ c.in_ok-texts.ensures.texts in
     let spelled = subst (λ ss. AreFiles ss files) same c.in_ok-files.ensures.spelled in
-    let guarded = subst IsGuarded (sym c.in_ok-resolve.ensures.found) (is_guarded sources files spelled E accepted) in
+    let guarded = is_guarded sources files spelled E accepted _ c.in_ok-resolve.ensures.found in
     let p = err_from_is_err_and c.from_residual-in_err-package.result c.from_residual-in_err-package.ensures.1 in
     rw (p.1, p.2) (ap of_guard (c.in_err-package.ensures.only guarded))
 
@@ -99,4 +95,4 @@ returns-clause-accepted c =
     let files = map file_view c.in_ok-files.files.items in
     let same = ap (map now) c.deref.ensures.value ∙ c.in_ok-texts.ensures.texts in
     let spelled = subst (λ ss. AreFiles ss files) same c.in_ok-files.ensures.spelled in
-    accepted sources texts files spelled c.in_ok-resolve.ensures.accepted _ _ c.in_ok-package.ensures.found c.in_ok-resolve.ensures.found c.in_ok-package.ensures.guarded
+    accepted sources texts files spelled _ c.in_ok-resolve.ensures.found _ c.in_ok-package.ensures.found c.in_ok-package.ensures.guarded
