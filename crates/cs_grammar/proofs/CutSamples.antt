@@ -45,7 +45,7 @@ tried bs n (suc k) h m lt le = step bs n k m h lt le (λ e less. tried bs n k e 
 longest : (bs : List ℕ) (n : ℕ) (s : Sort) → nat_le n (length bs) ≡ true → sort_of (take n bs) ≡ Some s → none_among bs n (length bs) ≡ true → IsLongest bs n s
 longest bs n s h e none = record { within = grind (arith, nat_tests); spelled = e; longest = tried bs n (length bs) none }
 
-begins : (l : LineState) (bs : List ℕ) (n : ℕ) (s : Sort) → begins_bad_number bs ≡ false → begins_quotes bs ≡ false → begins_comment bs ≡ false → is_out_of_range l s (take n bs) ≡ false
+pub begins : (l : LineState) (bs : List ℕ) (n : ℕ) (s : Sort) → begins_bad_number bs ≡ false → begins_quotes bs ≡ false → begins_comment bs ≡ false → is_out_of_range l s (take n bs) ≡ false
     → nat_le n (length bs) ≡ true → sort_of (take n bs) ≡ Some s → none_among bs n (length bs) ≡ true → Begins l bs n s
 begins l bs n s digit three slashes range h e none = record { no_bad_number = digit; no_quotes = three; no_comment = slashes; in_range = range; token = longest bs n s h e none }
 

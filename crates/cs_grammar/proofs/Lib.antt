@@ -8,3 +8,4 @@ pub mod BareNames
 -- samples
 pub mod Samples
 pub mod CutSamples
+mod LabelSamples

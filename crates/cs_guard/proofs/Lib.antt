@@ -16,3 +16,4 @@ pub mod Finds
 pub mod Walks
 -- samples
 pub mod Samples
+pub mod EarlierSamples

@@ -19,40 +19,39 @@ use Rattle.cs_guard.specs.Reachable.{referred, referred_of, RefersTo, Reaches, A
 use Rattle.cs_guard.proofs.Chains.{alone-guarded}
 use Rattle.cs_guard.proofs.Numbers.{on_contains, contains_on}
 use Rattle.cs_guard.proofs.Walks.{reaches_within}
-use Rattle.cs_guard.specs.Earlier.{mixed, RefersMixedly}
 
 -- ---- short forms
 
-abbrev T : List ℕ
+abbrev pub T : List ℕ
 T = codes "T"
 
-abbrev A : List ℕ
+abbrev pub A : List ℕ
 A = codes "A"
 
-abbrev B : List ℕ
+abbrev pub B : List ℕ
 B = codes "B"
 
-abbrev int : Expression
+abbrev pub int : Expression
 int = cue.kind cue.int
 
-abbrev null : Expression
+abbrev pub null : Expression
 null = cue.atom cue.null
 
 -- a struct literal, and declarations in front of others
-abbrev literal : Declarations → Expression
+abbrev pub literal : Declarations → Expression
 literal ds = cue.struct ds false
 
-abbrev regular : List ℕ → Expression → Declarations → Declarations
+abbrev pub regular : List ℕ → Expression → Declarations → Declarations
 regular l e ds = cue.declaration l cue.regular e ds
 
-abbrev optional : List ℕ → Expression → Declarations → Declarations
+abbrev pub optional : List ℕ → Expression → Declarations → Declarations
 optional l e ds = cue.declaration l cue.optional e ds
 
 abbrev required : List ℕ → Expression → Declarations → Declarations
 required l e ds = cue.declaration l cue.required e ds
 
 -- `[string]: e`
-abbrev every : Expression → Declarations → Declarations
+abbrev pub every : Expression → Declarations → Declarations
 every e ds = cue.declaration [] cue.every e ds
 
 -- what #T refers to, where it has these bodies
@@ -127,7 +126,7 @@ refer = cue.reference A
 abbrev two : List Expression
 two = refer ∷ cue.reference B ∷ []
 
-abbrev forms : List Expression
+abbrev pub forms : List Expression
 forms = refer ∷ cue.conjunction (expressions_of two) ∷ cue.disjunction (expressions_of two)
     ∷ literal (regular A refer (optional A (cue.reference T) (required B (cue.reference B) no_declarations))) ∷ cue.struct (regular A refer no_declarations) true
     ∷ cue.list (expressions_of two) cue.closed ∷ cue.list (expressions_of two) cue.any ∷ cue.list (expressions_of two) (cue.each (cue.reference T)) ∷ cue.list cue.no_expressions (cue.each refer)
@@ -142,10 +141,7 @@ strong_names = refl
 inside_names : map inside forms ≡ (A ∷ []) ∷ (A ∷ B ∷ []) ∷ [] ∷ (A ∷ B ∷ []) ∷ (A ∷ []) ∷ (A ∷ B ∷ []) ∷ (A ∷ B ∷ []) ∷ (A ∷ B ∷ []) ∷ [] ∷ (A ∷ []) ∷ [] ∷ []
 inside_names = refl
 
-mixed_names : map mixed forms ≡ (A ∷ []) ∷ (A ∷ B ∷ []) ∷ (A ∷ B ∷ []) ∷ (A ∷ B ∷ []) ∷ (A ∷ []) ∷ (A ∷ B ∷ []) ∷ (A ∷ B ∷ []) ∷ (A ∷ B ∷ []) ∷ [] ∷ (A ∷ B ∷ []) ∷ (A ∷ B ∷ []) ∷ []
-mixed_names = refl
-
-abbrev atoms : List Expression
+abbrev pub atoms : List Expression
 atoms = cue.atom cue.top ∷ cue.atom cue.bottom ∷ cue.atom cue.null ∷ cue.atom (cue.boolean true) ∷ cue.atom (cue.integer (pos 1)) ∷ cue.atom (cue.text A) ∷ int ∷ cue.range (pos 0) None ∷ cue.atom (cue.bound cue.less (pos 1)) ∷ cue.atom (cue.not_integer (pos 1)) ∷ cue.atom (cue.not_text A) ∷ cue.atom cue.not_null ∷ []
 
 without_names : map direct atoms ≡ [] ∷ [] ∷ [] ∷ [] ∷ [] ∷ [] ∷ [] ∷ [] ∷ [] ∷ [] ∷ [] ∷ [] ∷ []
@@ -166,7 +162,7 @@ around = (λ e. cue.conjunction (expressions_of (int ∷ e ∷ []))) ∷ (λ e. 
     ∷ (λ e. cue.list (expressions_of (e ∷ [])) cue.closed) ∷ (λ e. cue.list cue.no_expressions (cue.each e)) ∷ []
 
 -- how many references are taken in each of them
-abbrev counts : (Expression → List (List ℕ)) → List (List ℕ)
+abbrev pub counts : (Expression → List (List ℕ)) → List (List ℕ)
 counts f = map (λ outer. map (λ inner. length (f (outer (inner refer)))) around) around
 
 strong_counts : counts strong ≡
@@ -251,10 +247,10 @@ not_too_deep_at_64 h = let c = h.1 in let l = chain_of_64.short c.start c.steps 
 -- ---- cycles
 
 -- #A: {next: #A}
-abbrev itself : Environment
+abbrev pub itself : Environment
 itself = (A, literal (regular (codes "next") (cue.reference A) no_declarations) ∷ []) ∷ []
 
-first_of : (n : List ℕ) (ns : List (List ℕ)) → Contains (n ∷ ns) n
+pub first_of : (n : List ℕ) (ns : List (List ℕ)) → Contains (n ∷ ns) n
 first_of n ns = (0, omega arith, refl)
 
 itself_refused : IsGuarded itself → ⊥
@@ -273,7 +269,7 @@ itself_perhaps_guarded = alone-guarded itself_perhaps alone
 -- ---- cycles that end in an operand of `|`
 
 -- #T has this body alone
-abbrev alone_with : Expression → Environment
+abbrev pub alone_with : Expression → Environment
 alone_with e = (T, e ∷ []) ∷ []
 
 -- where the body refers to none strongly
@@ -293,10 +289,10 @@ required_tail : IsGuarded (alone_with (literal (required (codes "tail") t_or_nul
 required_tail = weak-guarded _ refl
 
 -- #T: int | {l: #T, r: #T}
-abbrev expressions : Expression
+abbrev pub expressions : Expression
 expressions = cue.disjunction (expressions_of (int ∷ literal (regular (codes "l") (cue.reference T) (regular (codes "r") (cue.reference T) no_declarations)) ∷ []))
 
-expressions_guarded : IsGuarded (alone_with expressions)
+pub expressions_guarded : IsGuarded (alone_with expressions)
 expressions_guarded = weak-guarded expressions refl
 
 -- #T: [int, null | #T]
@@ -322,10 +318,6 @@ by_name = (A, literal (regular (codes "next") (cue.reference B) no_declarations)
 -- each of the two references is strong for itself
 by_name_refused : IsGuarded by_name → ⊥
 by_name_refused h = h.no_cycle A (B ∷ []) (first_of B [], (first_of A [], tt))
-
--- with and without `|` at once, #T: int | {l: #T, r: #T} would refer to itself
-expressions_mixed : limits.IsGuarded (RefersMixedly (alone_with expressions)) → ⊥
-expressions_mixed h = h.no_cycle T [] (first_of T (T ∷ []), tt)
 
 -- the first byte
 abbrev first_byte : List ℕ → ℕ

@@ -27,5 +27,6 @@ pub mod Verdicts
 -- samples
 mod Rows
 mod Samples
+mod EarlierSamples
 mod Doubling
 mod RuleRows

@@ -6,3 +6,4 @@ pub mod Environments
 pub mod Views
 -- samples
 mod Samples
+mod LabelSamples

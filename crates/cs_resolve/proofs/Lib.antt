@@ -8,6 +8,7 @@ pub mod Forms
 pub mod Limits
 pub mod Narrowings
 pub mod Refined
+pub mod EarlierSamples
 -- trees level by level, lists and sums
 pub mod Trees
 pub mod Elements

@@ -23,3 +23,4 @@ pub mod Heights
 -- samples
 pub mod GrammarSamples
 pub mod Samples
+pub mod EarlierSamples

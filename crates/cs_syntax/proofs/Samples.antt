@@ -60,14 +60,14 @@ at_the_limit = refl
 
 -- ---- nesting
 
-abbrev a : Word
+abbrev pub a : Word
 a = W.name (codes "a") 0
 
-abbrev q : Word
+abbrev pub q : Word
 q = W.quoted (codes "a") 0
 
 -- `#A:`, and what stands behind it
-abbrev body : Words → Words
+abbrev pub body : Words → Words
 body ts = W.definition_name (codes "A") 0 ∷ W.colon 0 ∷ ts
 
 abbrev one_word : Word
@@ -100,7 +100,7 @@ in_one_another : map nesting (body (a ∷ W.colon 0 ∷ a ∷ W.colon 0 ∷ a �
 in_one_another = refl
 
 -- the label for every key, `[string]`
-abbrev every : Words
+abbrev pub every : Words
 every = W.open_list 0 ∷ W.name (codes "string") 0 ∷ W.close_list 0 ∷ []
 
 -- `#A: [string]:`, then behind one short colon the bracket of `[string]`, and `#A: a: [string]: a: a` and `#A: [string]: [string]: [string]`
@@ -108,7 +108,7 @@ every_key_colons : map nesting (body (every ++ W.colon 0 ∷ []) ∷ body (a ∷
 every_key_colons = refl
 
 -- so many times a label, and a colon behind each
-abbrev repeated : ℕ → Words → Words
+abbrev pub repeated : ℕ → Words → Words
 repeated zero ts = []
 repeated (suc n) ts = ts ++ W.colon 0 ∷ repeated n ts
 
@@ -132,7 +132,7 @@ other_levels : map nesting (body (a ∷ W.colon 0 ∷ W.open_list 0 ∷ one_word
 other_levels = refl
 
 -- words of each sort, in the order of their definition
-abbrev sorts : Words
+abbrev pub sorts : Words
 sorts = a ∷ W.definition_name (codes "A") 0 ∷ W.hidden 0 ∷ W.top_mark 0 ∷ W.bottom_mark 0 ∷ one_word ∷ q ∷ W.open_struct 0 ∷ W.close_struct 0 ∷ W.open_list 0 ∷ W.close_list 0 ∷ W.open_paren 0 ∷ W.close_paren 0 ∷ W.comma 0 ∷ W.nl 0 ∷ W.colon 0 ∷ W.question 0 ∷ W.bang 0 ∷ W.amp 0 ∷ W.bar 0 ∷ W.dots 0 ∷ W.relation atoms.less 0 ∷ W.unequal 0 ∷ W.minus 0 ∷ W.left_out 0 ∷ W.finish 0 ∷ []
 
 -- the levels behind a word, where a label behind a colon stands before it, and 2 and 1 short colons are open
