@@ -13,4 +13,3 @@ pub mod BothSides
 pub mod EarlierSources
 -- samples
 pub mod Samples
-mod EarlierSamples
