@@ -1,4 +1,4 @@
--- The schema of an expression validates just the instances of the expression, and that of a definition just its instances.
+-- The schema of an expression validates exactly the instances of the expression, and that of a definition exactly its instances.
 use Rattle.std.proofs.Common.{◌≡◌, ℕ, ℤ, List, [], ◌∷◌, map, Bool, true, false, not, ◌&&◌, ◌||◌, Option, Some, None, bytes_eq, int_le, refl, sym, ap, ap₂, ◌∙◌, if◌then◌else◌}
 use Rattle.std.specs.Prelude.{option_map}
 use Rattle.std.specs.Option.{option_map_or}

@@ -26,7 +26,7 @@ each_apply : {X : Type 0} (P Q : X → Type 0) (xs : List X) → Each (λ x. P x
 each_apply P Q [] f h = tt
 each_apply P Q (x ∷ xs) f h = (f.0 h.0, each_apply P Q xs f.1 h.1)
 
--- what stands directly inside a document are documents
+-- what is directly inside a document are documents
 elements_documents : (ds : Documents) → AreDocuments ds → Each IsDocument (elements ds)
 elements_documents no_documents is = tt
 elements_documents (document d ds) is = (is.0, elements_documents ds is.1)

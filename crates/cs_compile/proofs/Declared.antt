@@ -33,7 +33,7 @@ at_first E root n l e d true o same is h more =
     subst (λ m. IsDefinition E root m d) key (subst (IsDefinition E root l) value h)
 at_first E root n l e d false o apart is h more = more is
 
--- what stands under a name is its definition
+-- what is under a name is its definition
 pub definition_under : (E : Environment) (root n : List ℕ) (ms : Members) (d : Document) → AreDefinitions E root ms → under n (entries ms) ≡ Some d → IsDefinition E root n d
 definition_under E root n no_members d h is = cc
 definition_under E root n (member l e ms) d h is = at_first E root n l e d (bytes_eq n l) (under n (entries ms)) refl is h.0 (definition_under E root n ms d h.1)

@@ -63,7 +63,7 @@ pub each_firsts : {X : Type 0} (same : X → X → Bool) (P : X → Type 0) (xs 
 each_firsts same P [] h = tt
 each_firsts same P (x ∷ xs) h = (h.0, each_filter (λ y. not (same x y)) P (firsts same xs) (each_firsts same P xs h.1))
 
--- one value more: it stands last unless it was there
+-- one value more: it is last unless it was there
 pub firsts-last : {X : Type 0} (same : X → X → Bool) → ((x y : X) → same x y ≡ same y x) → (xs : List X) (x : X) → firsts same (xs ++ x ∷ []) ≡ firsts same xs ++ (if list_any (same x) xs then [] else x ∷ [])
 firsts-last same turned [] x = refl
 firsts-last same turned (y ∷ xs) x =

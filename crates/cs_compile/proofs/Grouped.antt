@@ -38,7 +38,7 @@ same_at a b e = (bytes_eq-Decides a b).0 (sym (is_eq-slice_cmp a b) ∙ ap is_eq
 turned : (a b : List ℕ) (o : Ordering) → byte_cmp a b ≡ o → byte_cmp b a ≡ ordering_reverse o
 turned a b o e = nat_list_cmp_total.antisymm b a ∙ ap ordering_reverse e
 
--- a label goes past a smaller one, and stands before a larger one
+-- a label goes past a smaller one, and is before a larger one
 past : (l k : List ℕ) (ks : List (List ℕ)) → byte_cmp l k ≡ Greater → with_label (k ∷ ks) l ≡ k ∷ with_label ks l
 past l k ks e = rw e refl
 

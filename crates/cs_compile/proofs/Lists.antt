@@ -1,4 +1,4 @@
--- The schema of a list validates just the instances of the list.
+-- The schema of a list validates exactly the instances of the list.
 use Rattle.std.proofs.Common.{◌≡◌, ℕ, suc, max, List, [], ◌∷◌, Bool, true, false, ◌&&◌, Option, Some, None, codes, nat_le, length, drop, pos, refl, ap, ◌∙◌, arith}
 use Rattle.std.specs.Option.{option_map_or}
 use Rattle.std.specs.List.{list_all}

@@ -1,4 +1,4 @@
--- The name of a definition may stand in a `$ref`.
+-- The name of a definition may be in a `$ref`.
 use Rattle.std.proofs.Common.{◌≡◌, ℕ, List, [], ◌∷◌, true, ◌&&◌, refl, ap₂, arith}
 use Rattle.std.specs.List.{list_all}
 use Rattle.std.proofs.lemmas.Bool.Decides.{nat_tests}

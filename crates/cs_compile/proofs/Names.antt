@@ -25,7 +25,7 @@ turned true false x y r apart = refl
 turned false true x y r apart = refl
 turned false false x y r apart = refl
 
--- what stands under a name, after d was put under the name k
+-- what is under a name, after d was put under the name k
 pub under-put : (n k : List ℕ) (d : Document) (ms : Members) → under n (entries (put k d ms)) ≡ (if bytes_eq n k then Some d else under n (entries ms))
 under-put n k d no_members = refl
 under-put n k d (member l e ms) = go (slice_cmp nat_cmp k l) refl (under-put n k d ms)

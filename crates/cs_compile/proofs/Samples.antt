@@ -291,7 +291,7 @@ declared = (codes "A", cue.kind int ∷ []) ∷ (codes "B", cue.kind string ∷ 
 abbrev schema : Document
 schema = named_map (("$defs", named_map (("A", typed "integer") ∷ ("B", typed "string") ∷ [])) ∷ ("$ref", text (codes "#/$defs/A")) ∷ [])
 
--- what stands under each declared name, and under another one
+-- what is under each declared name, and under another one
 defines : map (defined schema) (codes "A" ∷ codes "B" ∷ codes "C" ∷ []) ≡ Some (typed "integer") ∷ Some (typed "string") ∷ None ∷ []
 defines = refl
 

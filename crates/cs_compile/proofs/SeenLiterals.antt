@@ -17,7 +17,7 @@ use Rattle.cs_compile.specs.declared.literals.Literal.TheVariants as variant
 abbrev pub literal_cmp : Literal → Literal → Ordering
 literal_cmp = (literal_ord.ghosts).cmp
 
--- literals tie just where they are the same document
+-- literals tie exactly where they are the same document
 same_literal : (k q : Literal) → is_eq (literal_cmp k q) ≡ document_eq (literal_view k) (literal_view q)
 same_literal variant.Null variant.Null = refl
 same_literal (variant.Bool true) (variant.Bool true) = refl

@@ -1,4 +1,4 @@
--- The schema of a struct validates just the instances of the struct.
+-- The schema of a struct validates exactly the instances of the struct.
 use Rattle.std.proofs.Common.{◌≡◌, ℕ, List, [], ◌∷◌, ◌++◌, map, filter, Bool, true, false, not, ◌&&◌, ◌||◌, Option, Some, None, is_some, codes, bytes_eq, refl, sym, ap, ap₂, ◌∙◌, if◌then◌else◌}
 use Rattle.std.specs.Option.{option_map_or}
 use Rattle.std.specs.List.{list_all, list_any}

@@ -31,7 +31,7 @@ pub record IsClean (is_defined : List ℕ → Bool) (vs : List Visit) : Type 0 w
   pub named : first (undefined_at is_defined) vs ≡ None
 
 module _ (is_defined : List ℕ → Bool) where
-  -- a name of a definition that stands there
+  -- a name of a definition that is there
   abbrev pub Known : List ℕ → Type 0
   Known n = (is_name n ≡ true) × (is_defined n ≡ true)
 
@@ -44,11 +44,11 @@ module _ (is_defined : List ℕ → Bool) where
   pub clean-nothing : IsClean is_defined []
   clean-nothing = record { shaped = refl; named = refl }
 
-  -- a schema that is clean wherever it stands below the root
+  -- a schema that is clean wherever it is below the root
   abbrev CleanSchema : Document → Type 0
   CleanSchema d = (p : List ℕ) → IsClean is_defined (visits false p d)
 
-  -- ---- schemas that stand in a list, or under keys
+  -- ---- schemas that are in a list, or under keys
 
   elements-clean : (ds : Documents) → Each CleanSchema (elements ds) → (p : List ℕ) (i : ℕ) → IsClean is_defined (element_visits p i ds)
   elements-clean no_documents h p i = clean-nothing

@@ -1,3 +1,4 @@
+-- The schema of each form, and what `compile` makes of a package.
 pub mod Translation
 pub mod Depth
 pub mod Whole

@@ -1,5 +1,5 @@
 -- The schema of each form of expression, a row for each form (own rule; the keywords are those of JSON Schema Validation
--- 2020-12, section 6, and Core, sections 8.2.3.1 and 10). Keys stand in byte order.
+-- 2020-12, section 6, and Core, sections 8.2.3.1 and 10). Keys are in byte order.
 use Rattle.std.specs.Prelude.{◌≡◌, ℕ, suc, ℤ, pos, neg_ℤ, ◌+ℤ◌, ◌-ℤ◌, int_lt, List, [], ◌∷◌, map, filter, flat_map, length, Bool, true, false, not, ◌&&◌, ◌||◌, Option, Some, None, IsSome, is_some, option_map, codes, if◌then◌else◌}
 use Rattle.std.specs.Int.{int_max, int_min}
 use Rattle.std.specs.List.{list_all, list_any, filter_map, fold}

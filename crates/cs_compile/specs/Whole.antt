@@ -11,8 +11,8 @@ use Rattle.cs_profile.specs.SchemaDocument.{SchemaValue, document_of, schema_vie
 use Rattle.cs_profile.specs.Validity.{IsValidity}
 use Rattle.cs_compile.specs.Depth.{most_schema_depth}
 
--- the schema of the environment at its definition n: it refers to that definition, defines just the names that n reaches, and
--- validates just the instances of n; where no body is too high, it nests no deeper than `most_schema_depth`
+-- the schema of the environment at its definition n: it refers to that definition, defines exactly the names that n reaches, and
+-- validates exactly the instances of n; where no body is too high, it nests no deeper than `most_schema_depth`
 pub record Compiles (E : Environment) (n : List ℕ) (s : SchemaValue) : Type 0 where
   pub root : schema_view s.root ≡ reference_to n
   pub definitions : (m : List ℕ) → IsSome (defined (document_of s) m) ↔ Reaches E n m

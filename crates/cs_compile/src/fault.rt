@@ -1,3 +1,4 @@
+// The refusals of `compile`.
 use std::alloc::AllocError;
 use thiserror::Error;
 

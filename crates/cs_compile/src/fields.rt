@@ -80,7 +80,7 @@ fn add_labelled(
     Ok(())
 }
 
-/// The schema of maps with a value of a schema under every key. It stands in an object of its own, since
+/// The schema of maps with a value of a schema under every key. It is in an object of its own, since
 /// `additionalProperties` leaves out the keys of the `properties` beside it.
 fn under_every_key(alloc: Global, value: Schema) -> Result<Schema, AllocError>
     ensures { IfOk result (λ s. schema_view s ≡ for_every_key (schema_view value)) }

@@ -100,7 +100,7 @@ fn values_of(alloc: Global, package: &Package, parts: &[Part]) -> Result<Values,
     Ok(values)
 }
 
-/// The value of `items`: the schema of what stands behind a list's fixed elements, or nothing where they may be
+/// The value of `items`: the schema of what is behind a list's fixed elements, or nothing where they may be
 /// anything.
 #[cycle(translate)]
 fn rest_of(alloc: Global, package: &Package, end: &ShapeEnd) -> Result<KeywordValue, AllocError>

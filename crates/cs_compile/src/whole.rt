@@ -20,7 +20,7 @@ use std::alloc::{AllocError, Global};
 use std::collections::BTreeMap;
 
 /// The schema of a root definition, named with its `#`: the root is a `$ref` to its schema, and `$defs`
-/// has just the definitions that it reaches by any reference. It validates just the instances of the root.
+/// has exactly the definitions that it reaches by any reference. It validates exactly the instances of the root.
 /// Each definition is written by the table of the translation.
 ///
 /// # Errors

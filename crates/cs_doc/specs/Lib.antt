@@ -1,3 +1,4 @@
+-- The texts of documents. What documents and their items are is handed on from the crates below.
 pub use Rattle.cs_document.specs.Document
 pub use Rattle.cs_document.specs.Opened
 pub use Rattle.cs_document.specs.Inside

@@ -1,3 +1,4 @@
+// From the text of a document to the document.
 ghost use Rattle.std.specs.Prelude.{◌≡◌, Some, None, IfOk, IsErrOf};
 ghost use Rattle.serde_json.specs.View.{view, items_view, members_view};
 ghost use Rattle.cs_doc.specs.Texts.{document_of, documents_of, members_of, Reads, IsJson, HasOtherNumber};

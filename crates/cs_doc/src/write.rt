@@ -1,3 +1,4 @@
+// From a document to its text.
 ghost use Rattle.std.specs.Prelude.{◌≡◌, ◌≤◌, ◌++◌, IfOk, OnOk, IsOkUnless};
 ghost use Rattle.json.specs.Tree.{json_tokens, items_tokens, members_tokens};
 ghost use Rattle.serde_json.specs.Read.{max_depth};
@@ -25,7 +26,7 @@ pub fn write_doc(alloc: Global, doc: &Doc) -> Result<Vec<u8>, DocFault>
     Ok(out.into_inner())
 }
 
-/// Writes the tokens of a document. The writer borrows texts and keys, so none stands in memory twice.
+/// Writes the tokens of a document. The writer borrows texts and keys, so none is in memory twice.
 #[cycle(write)]
 fn write(doc: &Doc, out: &mut Writer) -> Result<(), AllocError>
     ensures tokens { OnOk result (out.new.tokens

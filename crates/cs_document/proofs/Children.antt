@@ -13,7 +13,7 @@ children (list ds) = elements ds
 children (object ms) = values (entries ms)
 children _ = []
 
--- what stands inside an opened document
+-- what is inside an opened document
 abbrev pub within : {A : Type 0} → Opened A → List A
 within (a_list ys) = ys
 within (an_object ms) = values ms

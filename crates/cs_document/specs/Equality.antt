@@ -66,6 +66,6 @@ document_eq-laws = record {
   trans = λ a b c h k. subst (λ x. document_eq a x ≡ true) (document_eq-true b c k) h;
 }
 
--- the test answers yes just where the documents are the same
+-- the test answers yes exactly where the documents are the same
 pub document_eq-Decides : (a b : Document) → Decides (document_eq a b) (a ≡ b)
 document_eq-Decides a b = (document_eq-true a b, λ same. subst (λ x. document_eq a x ≡ true) same (document_eq-refl a))

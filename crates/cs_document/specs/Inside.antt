@@ -1,4 +1,4 @@
--- What stands inside a document opened once: f of each, numbers below one, and keys in their order.
+-- What is inside a document opened once: f of each, numbers below one, and keys in their order.
 use Rattle.std.specs.Prelude.{◌≡◌, ℕ, ◌<◌, List, [], ◌∷◌, map}
 use Rattle.std.specs.List.{AllByRecursion}
 use Rattle.std.specs.Ordering.{nat_cmp}

@@ -1,3 +1,4 @@
+-- What documents are: their levels, what code has of them, and their order.
 pub mod Document
 pub mod Opened
 pub mod Inside

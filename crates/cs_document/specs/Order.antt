@@ -16,7 +16,7 @@ kind (list ds) = 4
 kind (object ms) = 5
 
 -- by kind; then false before true, integers by value, texts by their bytes, lists element by element, and maps member by
--- member, by key and then by value. A list or map that is the start of another stands before it.
+-- member, by key and then by value. A list or map that is the start of another is before it.
 abbrev mutual
   pub document_cmp : Document → Document → Ordering
   document_cmp null null = Equal

@@ -1,4 +1,4 @@
--- The order of documents is total, and `Equal` just where they are the same.
+-- The order of documents is total, and `Equal` exactly where they are the same.
 use Rattle.std.specs.Prelude.{◌≡◌, ℕ, List, Bool, true, false, refl}
 use Rattle.std.specs.Bool.{beq}
 use Rattle.std.specs.Cmp.{IsTotalOrder, IsEquivalence, both_tied, alike_right, nat_cmp_total, bool_cmp_total, int_cmp_total, decided}
@@ -11,7 +11,7 @@ use Rattle.cs_document.specs.Document.{Document, null, boolean, integer, text, l
 use Rattle.cs_document.specs.Equality.{document_eq-true, document_eq-Decides}
 use Rattle.cs_document.specs.Order.{kind, document_cmp, documents_cmp, members_cmp}
 
--- ---- `Equal` just where the equality holds
+-- ---- `Equal` exactly where the equality holds
 
 truths : (a b : Bool) → beq a b ≡ is_eq (bool_cmp a b)
 truths true true = refl

@@ -1,3 +1,4 @@
+// Copies of documents.
 ghost use Rattle.std.specs.Prelude.{◌≡◌, IfOk, IsOkUnless};
 ghost use Rattle.cs_document.specs.View.{doc_view, list_view, object_view};
 

@@ -1,3 +1,4 @@
+// Documents as a type.
 use std::collections::BTreeMap;
 
 /// A document: a value of JSON whose numbers are signed integers of 64 bits (RFC 8259, section 3).

@@ -1,3 +1,5 @@
+// The refusals of documents. No function here reads a text: `NotJson` and `NotInteger` are those of `cs_doc`, of which
+// `Doc::copy` answers the same type.
 use std::alloc::{AllocError, AllocFailed};
 use thiserror::Error;
 

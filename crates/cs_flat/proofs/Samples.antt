@@ -51,7 +51,7 @@ maps_nodes = refl
 at_places : map (node_at (nodes one)) (0 ∷ 1 ∷ []) ≡ number 1 ∷ one ∷ []
 at_places = refl
 
--- ---- how many stand inside
+-- ---- how many are inside
 
 counts : map inside (null ∷ boolean true ∷ number 5 ∷ text (codes "a") ∷ array [] ∷ named_map [] ∷ one ∷ map_k ∷ twins ∷ maps ∷ nested ∷ [])
     ≡ 0 ∷ 0 ∷ 0 ∷ 0 ∷ 0 ∷ 0 ∷ 1 ∷ 1 ∷ 4 ∷ 3 ∷ 5 ∷ []

@@ -6,7 +6,7 @@ use Rattle.cs_document.specs.Opened.{Opened, a_null, a_boolean, an_integer, a_te
 use Rattle.cs_document.specs.Inside.{map_opened, InsideBelow}
 use Rattle.cs_flat.specs.Nodes.{node_at}
 
--- how many values stand inside
+-- how many values are inside
 abbrev mutual
   pub inside : Document → ℕ
   inside null = 0
@@ -24,7 +24,7 @@ abbrev mutual
   inside_members no_members = 0
   inside_members (member k d ms) = suc (inside d + inside_members ms)
 
--- the numbers of values behind n others: each stands behind those inside it
+-- the numbers of values behind n others: each is behind those inside it
 abbrev pub element_numbers : ℕ → Documents → List ℕ
 element_numbers n no_documents = []
 element_numbers n (document d ds) = (n + inside d) ∷ element_numbers (suc (n + inside d)) ds

@@ -1,3 +1,4 @@
+-- The values of a document, and its items.
 pub mod Nodes
 pub mod Items
 pub mod View

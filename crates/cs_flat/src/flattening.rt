@@ -71,7 +71,7 @@ fn push_elements<'a>(
     Ok(numbers)
 }
 
-/// Pushes the items of what stands under a map's keys, and answers the keys, each with a number.
+/// Pushes the items of what is under a map's keys, and answers the keys, each with a number.
 #[cycle(flatten)]
 fn push_members<'a>(
     alloc: Global,

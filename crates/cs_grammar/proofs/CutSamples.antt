@@ -76,7 +76,7 @@ dots =
     token {n = 1} (begins Plain (codes "}") 1 sorts.Mark refl refl refl refl refl refl refl) (
     finish {l = WantsComma})))
 
--- the end of a line leaves the `-` that stands before the least integer
+-- the end of a line leaves the `-` that is before the least integer
 least : IsCut (codes "-\n9223372036854775808") (lexeme sorts.Mark (codes "-") 0 ∷ lexeme sorts.Integer (codes "9223372036854775808") 2 ∷ lexeme sorts.Inserted [] 21 ∷ lexeme sorts.End [] 21 ∷ [])
 unfolding is_integer integer_value
 least =

@@ -49,7 +49,7 @@ abbrev pub is_out_of_range : LineState → Sort → List ℕ → Bool
 is_out_of_range l sorts.Integer t = is_too_large l t
 is_out_of_range l _ t = false
 
--- a token stands here, and neither a comment nor what is refused
+-- a token is here, and neither a comment nor what is refused
 pub record Begins (l : LineState) (bs : List ℕ) (n : ℕ) (s : Sort) : Type 0 where
   pub no_bad_number : begins_bad_number bs ≡ false
   pub no_quotes : begins_quotes bs ≡ false

@@ -1,3 +1,4 @@
+-- Tokens, trees and the grammar, from the characters up.
 pub mod Spelling
 pub mod TextParts
 pub mod Values

@@ -53,12 +53,12 @@ abbrev pub begins_piece : List ℕ → Bool
 begins_piece [] = false
 begins_piece (x ∷ xs) = is_digit x || (x == 95 && begins_digit xs)
 
--- digits, and underscores that each stand before a digit
+-- digits, and underscores that each are before a digit
 abbrev pub is_separated : List ℕ → Bool
 is_separated [] = true
 is_separated (x ∷ xs) = begins_piece (x ∷ xs) && is_separated xs
 
--- what stands behind the `0` of a hexadecimal integer: `x`, and one or more digits
+-- what is behind the `0` of a hexadecimal integer: `x`, and one or more digits
 abbrev pub is_hex_rest : List ℕ → Bool
 is_hex_rest [] = false
 is_hex_rest (x ∷ []) = false
@@ -106,7 +106,7 @@ followed (Some c) None = None
 followed (Some c) (Some cs) = Some (c ++ cs)
 
 unfoldable mutual
-  -- The characters of what stands behind the first quote of a text, by their UTF-8: characters other than newline (10), `"` (34) and `\` (92), or escapes, and then the last quote. There are none where anything else stands.
+  -- The characters of what is behind the first quote of a text, by their UTF-8: characters other than newline (10), `"` (34) and `\` (92), or escapes, and then the last quote. There are none where anything else stands.
   pub text_value : List ℕ → Option (List ℕ)
   text_value [] = None
   text_value (x ∷ xs) =
@@ -133,7 +133,7 @@ unfoldable mutual
 
 -- ---- names and marks (CUE, identifiers, operators and punctuation)
 
--- what stands behind the `#` of a definition's name: a letter or `_`, then letters, digits and `_`
+-- what is behind the `#` of a definition's name: a letter or `_`, then letters, digits and `_`
 abbrev pub is_definition_rest : List ℕ → Bool
 is_definition_rest [] = false
 is_definition_rest (x ∷ xs) = begins_definition x && list_all is_name_byte xs
@@ -153,7 +153,7 @@ abbrev pub sort_if : Bool → Sort → Option Sort
 sort_if true s = Some s
 sort_if false s = None
 
--- a token that begins with `_`, by what stands behind it: `_`, a hidden name, which may have a `#` (35) behind its `_`, or `_|_`
+-- a token that begins with `_`, by what is behind it: `_`, a hidden name, which may have a `#` (35) behind its `_`, or `_|_`
 abbrev pub underscore_sort : List ℕ → Option Sort
 underscore_sort [] = Some sorts.Top
 underscore_sort (y ∷ ys) =

@@ -23,7 +23,7 @@ is_null s = bytes_eq s (codes "null")
 abbrev pub is_package : List ℕ → Bool
 is_package s = bytes_eq s (codes "package")
 
--- the name that stands in brackets for every key
+-- the name that is in brackets for every key
 abbrev pub is_string : List ℕ → Bool
 is_string s = bytes_eq s (codes "string")
 
@@ -88,7 +88,7 @@ pub data SpellsMark : FieldMark → Words → Words → Type 0 where
   optional : {p q : ℕ} {r : Words} → SpellsMark Optional (question p ∷ colon q ∷ r) r
   required : {p q : ℕ} {r : Words} → SpellsMark Required (bang p ∷ colon q ∷ r) r
 
--- what stands behind the last field of a struct: [ comma `...` ] [ comma ] `}`
+-- what is behind the last field of a struct: [ comma `...` ] [ comma ] `}`
 pub data SpellsOpening : Bool → Words → Words → Type 0 where
   unopened : {ts r : Words} → ClosesStruct ts r → SpellsOpening false ts r
   opened : {p : ℕ} {ts us r : Words} → Comma ts (dots p ∷ us) → ClosesStruct us r → SpellsOpening true ts r
@@ -139,7 +139,7 @@ mutual
     struct_is : {p : ℕ} {fs : Fields} {b : Bool} {ts r : Words} → SpellsStruct fs b ts r → SpellsOperand (struct p fs b) (open_struct p ∷ ts) r
     list_is : {p : ℕ} {es : Trees} {end : End} {ts r : Words} → SpellsList es end ts r → SpellsOperand (list es end) (open_list p ∷ ts) r
 
-  -- what stands behind `{`: `}`; `...` [ comma ] `}`; or Field { comma Field } [ comma `...` ] [ comma ] `}`
+  -- what is behind `{`: `}`; `...` [ comma ] `}`; or Field { comma Field } [ comma `...` ] [ comma ] `}`
   pub data SpellsStruct : Fields → Bool → Words → Words → Type 0 where
     no_fields : {p : ℕ} {r : Words} → SpellsStruct no_field false (close_struct p ∷ r) r
     dots_alone : {p : ℕ} {ts r : Words} → ClosesStruct ts r → SpellsStruct no_field true (dots p ∷ ts) r
@@ -150,7 +150,7 @@ mutual
     no_more_fields : {r : Words} → SpellsFields no_field r r
     next_field : {l : Label} {m : FieldMark} {e : Tree} {fs : Fields} {ts us vs r : Words} → Comma ts us → SpellsField l m e us vs → SpellsFields fs vs r → SpellsFields (field l m e fs) ts r
 
-  -- what stands behind `[`: `]`; `...` [ Expr ] [ comma ] `]`; or Expr { `,` Expr } [ `,` `...` [ Expr ] ] [ comma ] `]`
+  -- what is behind `[`: `]`; `...` [ Expr ] [ comma ] `]`; or Expr { `,` Expr } [ `,` `...` [ Expr ] ] [ comma ] `]`
   pub data SpellsList : Trees → End → Words → Words → Type 0 where
     no_elements : {p : ℕ} {r : Words} → SpellsList none closed (close_list p ∷ r) r
     rest_alone : {p : ℕ} {end : End} {ts r : Words} → SpellsRest end ts r → SpellsList none end (dots p ∷ ts) r
@@ -161,12 +161,12 @@ mutual
     no_more_elements : {r : Words} → SpellsElements none r r
     next_element : {p : ℕ} {e : Tree} {es : Trees} {ts us r : Words} → SpellsExpr e ts us → SpellsElements es us r → SpellsElements (more e es) (comma p ∷ ts) r
 
-  -- what stands behind the last element: [ `,` `...` [ Expr ] ] [ comma ] `]`
+  -- what is behind the last element: [ `,` `...` [ Expr ] ] [ comma ] `]`
   pub data SpellsEnd : End → Words → Words → Type 0 where
     closed_is : {ts r : Words} → ClosesList ts r → SpellsEnd closed ts r
     rest_is : {p q : ℕ} {end : End} {ts r : Words} → SpellsRest end ts r → SpellsEnd end (comma p ∷ dots q ∷ ts) r
 
-  -- what stands behind the `...` of a list: [ Expr ] [ comma ] `]`
+  -- what is behind the `...` of a list: [ Expr ] [ comma ] `]`
   pub data SpellsRest : End → Words → Words → Type 0 where
     any_is : {ts r : Words} → ClosesList ts r → SpellsRest any ts r
     each_is : {e : Tree} {ts us r : Words} → SpellsExpr e ts us → ClosesList us r → SpellsRest (each e) ts r

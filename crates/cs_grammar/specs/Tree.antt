@@ -1,10 +1,10 @@
--- The tree of a file, apart from where it lies in memory. Offsets are kept where a fault may stand.
+-- The tree of a file, apart from where it lies in memory. Offsets are kept where a fault may be.
 use Rattle.std.specs.Prelude.{ℕ, Bool, List, Option}
 use Rattle.cs_grammar.specs.declared.ast.FieldMark.{FieldMark}
 use Rattle.cs_grammar.specs.Atom.{Atom}
 pub use Rattle.cs_grammar.specs.Atom.{top, bottom, null, boolean, integer, text, bound, not_integer, not_text, not_null}
 
--- a label of a struct literal, and whether it stands in quotes
+-- a label of a struct literal, and whether it is in quotes
 pub record Label : Type 0 where
   pub text : List ℕ
   pub quotes : Bool
@@ -29,13 +29,13 @@ mutual
     no_field : Fields
     field : Label → FieldMark → Tree → Fields → Fields
 
-  -- what stands behind the last element of a list: nothing, `...`, or `...` and an expression
+  -- what is behind the last element of a list: nothing, `...`, or `...` and an expression
   pub data End : Type 0 where
     closed : End
     any : End
     each : Tree → End
 
--- a definition: its name without its `#`, where it stands, and its body
+-- a definition: its name without its `#`, where it is, and its body
 pub data DefinitionTree : Type 0 where
   definition : List ℕ → ℕ → Tree → DefinitionTree
 

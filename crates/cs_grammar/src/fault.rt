@@ -1,3 +1,4 @@
+// The refusals of `lex` and `parse_file`.
 use std::alloc::{AllocError, AllocFailed};
 use thiserror::Error;
 

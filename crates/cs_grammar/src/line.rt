@@ -1,4 +1,5 @@
-// The state of a line after a token, for the comma that its end inserts.
+// The state of a line after a token, for the comma that its end inserts. It is here and not in `cs_lexer`, which alone
+// computes with it, since the definition of a cut speaks of it.
 
 /// What the token before a place means for what follows it.
 #[derive(Clone, Copy, PartialEq, Eq)]

@@ -1,3 +1,5 @@
+// Tokens and their sorts.
+
 /// The sorts of tokens (CUE, lexical elements).
 #[derive(Clone, Copy, Debug, PartialEq, Eq)]
 pub enum Sort {

@@ -5,7 +5,7 @@ use Rattle.std.proofs.lemmas.List.{append-nil, take_all, drop_all}
 use Rattle.std.proofs.lemmas.Option.{slice_get-map, slice_get_within, get_or_from_slice_get}
 use Rattle.std.specs.Option.{option_map}
 use Rattle.cs_graph.specs.Chains.{NoCycle}
-use Rattle.cs_graph.specs.Graph.{Graph, Refers, AreHeights, FallAlong, IsLowestCycle}
+use Rattle.cs_graph.specs.Graph.{Graph, Refers, AreHeights, FallAlong}
 use Rattle.cs_graph.specs.Walk.{State, Keeps, IsDone, height_of}
 use Rattle.cs_graph.specs.declared.walk.VisitState.{VisitState}
 use Rattle.cs_graph.specs.declared.walk.VisitState.TheVariants.{Done}
@@ -41,11 +41,6 @@ module _ (G : Graph) (M : List VisitState) (s : State G M []) (all : (n : ℕ) �
         let c = own.chain in
         record { steps = c.steps; chain = c.chain; long = c.long ∙ sym (read_height M n d.height d.done); longest = chain_short (Refers G) (λ k. get_or (map height_of M) k 0) falls_of n };
   }
-
--- where there is no cycle, none is reported
-pub no_cycle_reported : (G : Graph) (ns : List ℕ) → NoCycle (Refers G) → IsLowestCycle G ns → ⊥
-no_cycle_reported G [] none c = c.cycle.0
-no_cycle_reported G (n ∷ ns) none c = none n ns c.cycle.0
 
 -- a slice of the whole, as written
 pub written_back : {X : Type 0} (old new : List X) (n : ℕ) → n ≡ length old → length new ≡ length old → take n (new ++ drop (length new) old) ≡ new

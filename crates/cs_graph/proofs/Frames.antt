@@ -146,7 +146,7 @@ module _ (G : Graph) (M : List VisitState) (S : List Frame) (last f : Frame) (w 
           fewer = omega (arith, less, length-append (S ++ f ∷ []) (frame_of n ∷ []), length-append S (f ∷ []));
         }
 
-    -- the next number stands on the path: it closes a cycle
+    -- the next number is on the path: it closes a cycle
     pub cycle_closed : slice_get M n ≡ Some Open → (ns : List ℕ) → IsTurned (tail_from n (numbers_of (S ++ f ∷ []))) ns → IsLowestFirst ns → IsLowestCycle G ns
     cycle_closed at ns t low =
         let P = numbers_of S ++ f.number ∷ [] in

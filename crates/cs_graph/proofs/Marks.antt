@@ -117,9 +117,6 @@ keeps_set M i a v at undone old = record {
   ];
 }
 
-pub keeps_more : (A B C : List VisitState) → Keeps A B → Keeps B C → Keeps A C
-keeps_more A B C f g = record { done = λ n h found. g.done n h (f.done n h found); entered = λ n found. f.entered n (g.entered n found) }
-
 pub keeps_same : (A : List VisitState) → Keeps A A
 keeps_same A = record { done = λ n h found. found; entered = λ n found. found }
 

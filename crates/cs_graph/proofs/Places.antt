@@ -1,4 +1,4 @@
--- What stands in a list, and lists in which nothing stands twice.
+-- What is in a list, and lists in which nothing stands twice.
 use Rattle.std.proofs.Common.{◌≡◌, ℕ, zero, suc, ◌<◌, List, [], ◌∷◌, ◌++◌, ◌⊎◌, inl, inr, length, take, drop, get_or, refl, sym, subst, arith}
 use Rattle.std.specs.List.{All}
 use Rattle.cs_graph.specs.Chains.{On, Distinct}
@@ -72,6 +72,6 @@ distinct_turned xs ys d = distinct_join ys xs (distinct_back xs ys d) (distinct_
 pub distinct_push : {X : Type 0} (x : X) (xs : List X) → Distinct xs → (On x xs → ⊥) → Distinct (xs ++ x ∷ [])
 distinct_push x xs d h = distinct_join xs (x ∷ []) d ((λ o. o), tt) (λ y a b. elim b [ inl e ↦ h (let Q : _ → Type 0 = λ z. On z xs in subst Q e a) | inr o ↦ absurd o ])
 
--- the last stands nowhere before
+-- the last is nowhere before
 pub last_apart : {X : Type 0} (x : X) (xs : List X) → Distinct (xs ++ x ∷ []) → On x xs → ⊥
 last_apart x xs d o = distinct_apart x xs (x ∷ []) d o (inl refl)

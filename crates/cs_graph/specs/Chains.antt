@@ -1,7 +1,7 @@
 -- Chains, cycles and heights. Whether one thing refers to another is a relation R.
 use Rattle.std.specs.Prelude.{◌≡◌, ℕ, ◌≤◌, List, [], ◌∷◌, ◌++◌, length, ◌⊎◌}
 
--- x stands in the list
+-- x is in the list
 abbrev pub On : {X : Type 0} → X → List X → Type 0
 On x [] = ⊥
 On x (y ∷ ys) = (x ≡ y) ⊎ On x ys

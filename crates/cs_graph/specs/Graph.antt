@@ -26,7 +26,7 @@ abbrev pub IsLowestFirst : List ℕ → Type 0
 IsLowestFirst [] = Unit {0}
 IsLowestFirst (n ∷ ns) = (m : ℕ) → On m ns → n ≤ m
 
--- each refers to the next and the last to the first, none stands twice, and the lowest stands first
+-- each refers to the next and the last to the first, none stands twice, and the lowest is first
 pub record IsLowestCycle (G : Graph) (ns : List ℕ) : Type 0 where
   pub cycle : IsCycle (Refers G) ns
   pub lowest : IsLowestFirst ns

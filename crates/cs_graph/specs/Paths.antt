@@ -17,7 +17,7 @@ abbrev pub told : ℕ → List ℕ → ℕ → List ℕ
 told n [] m = if m == n then m ∷ [] else []
 told n (k ∷ ks) m = (k ∷ ks) ++ m ∷ []
 
--- the front of the one stands behind in the other
+-- the front of the one is behind in the other
 pub record IsTurned (old new : List ℕ) : Type 0 where
   pub front : List ℕ
   pub back : List ℕ

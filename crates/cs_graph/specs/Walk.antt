@@ -1,4 +1,4 @@
--- What holds while a graph is walked: each number is new, open (its frame stands on the path), or done.
+-- What holds while a graph is walked: each number is new, open (its frame is on the path), or done.
 use Rattle.std.specs.Prelude.{◌≡◌, ℕ, ◌+◌, ◌*◌, ◌<◌, ◌≤◌, Bool, true, false, List, [], Option, Some, None, Result, Ok, Err, map, length, slice_get, get_or, take, count_by}
 use Rattle.cs_graph.specs.Chains.{On, Distinct, Chain}
 use Rattle.cs_graph.specs.Graph.{Graph, Refers, IsRefusal}

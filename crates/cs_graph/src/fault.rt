@@ -1,3 +1,4 @@
+// The refusals of `heights`.
 use std::alloc::{AllocError, AllocFailed};
 use thiserror::Error;
 

@@ -19,7 +19,7 @@ use Rattle.cs_guard.specs.Numbered.{name_of, IsGraphOf}
 use Rattle.cs_graph.proofs.Paths.{none_closed}
 use Rattle.cs_graph.proofs.Named.{StandsFor, on_map, map_on, chain_along, chain_back, height_named, no_cycle_named, closed_named, closed_inside, distinct_named, distinct_by}
 
--- ---- what stands in a list
+-- ---- what is in a list
 
 pub on_contains : {X : Type 0} (x : X) (xs : List X) → On x xs → Contains xs x
 on_contains x [] o = absurd o

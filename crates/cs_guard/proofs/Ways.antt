@@ -90,6 +90,7 @@ mutual
         ]
       ]
 
+-- a law for readers of `strong`, which no proof cites: strong references are the direct ones and those inside
 pub strong-is-either : (e : Expression) (m : List ℕ) → Contains (strong e) m ↔ (Contains (direct e) m ⊎ Contains (inside e) m)
 strong-is-either e m = (strong-either e m, λ either. elim either [ inl d ↦ direct-strong e m d | inr i ↦ inside-strong e m i ])
 

@@ -10,7 +10,7 @@ pub record Marked (seen : List Bool) (order : List ℕ) : Type 0 where
   pub marked : (i : ℕ) → slice_get seen i ≡ Some true → On i order
   pub many : count_by (λ b. b) seen ≡ length order
 
--- these are found too: each that is new stands behind the old ones
+-- these are found too: each that is new is behind the old ones
 pub record Added (numbers : List ℕ) (old : List Bool) (order : List ℕ) (new : List Bool) (longer : List ℕ) : Type 0 where
   pub marked : Marked new longer
   pub long : length new ≡ length old

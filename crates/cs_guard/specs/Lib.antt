@@ -1,3 +1,4 @@
+-- What refers to what, and which environments are guarded.
 pub mod References
 pub mod Limits
 pub mod Guarded

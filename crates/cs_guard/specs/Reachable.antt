@@ -49,7 +49,7 @@ pub record Reaches (E : Environment) (n m : List ℕ) : Type 0 where
   pub chain : Chain (RefersTo E) n steps
   pub last : last_of n steps ≡ m
 
--- just those that n reaches, each once, n first
+-- exactly those that n reaches, each once, n first
 pub record AreReachable (E : Environment) (n : List ℕ) (ns : List (List ℕ)) : Type 0 where
   pub each : (m : List ℕ) → Contains ns m ↔ Reaches E n m
   pub distinct : IsDistinct bytes_eq ns

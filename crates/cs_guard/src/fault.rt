@@ -1,3 +1,4 @@
+// The refusals of `guard`.
 use std::alloc::AllocError;
 use thiserror::Error;
 

@@ -52,7 +52,7 @@ rest_is cue.closed = refl
 rest_is cue.any = refl
 rest_is (cue.each e) = append-nil (subexpressions e)
 
--- a node put behind some stands before them
+-- a node put behind some is before them
 to_front : (x : Rule) (xs ys zs : List Rule) → Same (xs ++ ys) zs → Same ((xs ++ x ∷ []) ++ ys) (x ∷ zs)
 to_front x xs ys zs h = then (equal ((xs ++ x ∷ []) ++ ys) (xs ++ x ∷ ys) (append_assoc xs (x ∷ []) ys)) (then (IsPermutation-middle xs x ys) (IsPermutation-cons x (xs ++ ys) zs h))
 

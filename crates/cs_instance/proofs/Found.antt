@@ -1,4 +1,4 @@
--- What stands under a label is one of the members.
+-- What is under a label is one of the members.
 use Rattle.std.proofs.Common.{◌≡◌, ℕ, zero, suc, ◌<◌, true, false, List, [], ◌∷◌, length, drop, Bool, Some, if◌then◌else◌, refl, arith}
 use Rattle.std.specs.List.{AllByRecursion as Each}
 use Rattle.std.specs.Str.{bytes_eq}

@@ -1,4 +1,4 @@
--- A literal without `[string]` asks only what stands under its labels, and allows only those. So the definitions of an
+-- A literal without `[string]` asks only what is under its labels, and allows only those. So the definitions of an
 -- environment without it have the instances that they had.
 use Rattle.std.proofs.Common.{◌≡◌, ℕ, Bool, true, false, ◌&&◌, ◌||◌, List, [], ◌∷◌, cond, if◌then◌else◌, map, Option, Some, None, refl, sym, ap, ap₂, ◌∙◌}
 use Rattle.std.specs.List.{list_all, list_any, AllByRecursion as Each}

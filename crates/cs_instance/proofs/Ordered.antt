@@ -155,7 +155,7 @@ in_bodies f h (b ∷ bs) m c =
       | inr k ↦ Contains-append_right (f b) (flat_map f bs) m (in_bodies f h bs m k)
     ]
 
--- an element of a map stands at some place
+-- an element of a map is at some place
 on_place : (f : ℕ × ℕ → List ℕ) (ds : List (ℕ × ℕ)) (m : List ℕ) → On m (map f ds) → (j : ℕ) × (j < length ds) × (f (get_or ds j (0, 0)) ≡ m)
 on_place f [] m o = absurd o
 on_place f (d ∷ ds) m (inl e) = (0, omega arith, sym e)

@@ -13,7 +13,7 @@ use Rattle.cs_instance.specs.Instance.{Rule, node, IsInstance}
 use Rattle.cs_instance.proofs.Meaning.{is_settled, value_after, computed}
 use Rattle.cs_instance.proofs.Rows.{all_of, any_of, int, string, more_than, refers_to, list_of, regular, optional, required, every, end, closed, opened, word}
 
--- of these documents, just those beside an expression are its instances
+-- of these documents, exactly those beside an expression are its instances
 pub record Admits (E : Environment) (documents : List Document) (rows : List (Expression × List Document)) : Type 0 where
   pub instances : (I : Rule → Document → Bool) → IsInstance E I → map (λ r. filter (I (node r.0)) documents) rows ≡ map (λ (r : Expression × List Document). r.1) rows
 

@@ -9,7 +9,7 @@ use Rattle.cs_document.specs.Document.{Entry, under}
 use Rattle.cs_document.specs.Opened.{Opened, a_null, a_boolean, an_integer, a_text, a_list, an_object}
 use Rattle.cs_package.specs.Expression.{Kind, int, number, string, bool, Relation, less, at_most, more, at_least, DeclarationMark, regular, optional, required, every, is_every, Declaration}
 
--- what stands behind the fixed elements of a list
+-- what is behind the fixed elements of a list
 pub data Rest (N : Type 0) : Type 0 where
   nothing anything : Rest N
   each : N → Rest N
@@ -104,9 +104,9 @@ may_be_absent every = true
 abbrev pub allows : {N : Type 0} → Declaration N → List ℕ → Bool
 allows d k = is_every d.mark || bytes_eq k d.label
 
--- `inside y e` says whether y, which stands directly inside the document, is an instance of e
+-- `inside y e` says whether y, which is directly inside the document, is an instance of e
 module _ {A N : Type 0} (inside : A → N → Bool) where
-  -- a declaration, at what stands under its label: the value there is an instance of the declared one, and
+  -- a declaration, at what is under its label: the value there is an instance of the declared one, and
   -- only a label that isn't asked for may be no key
   abbrev pub value_holds : Declaration N → Option A → Bool
   value_holds d None = may_be_absent d.mark

@@ -11,7 +11,7 @@ use Rattle.cs_instance.specs.Constraint.{Constraint, object_of, value_holds, is_
 use Rattle.cs_instance.specs.Instance.{Rule, definition, node, constraint_of}
 
 module _ {A N : Type 0} (inside : A → N → Bool) where
-  -- each declaration holds of what stands under its label, and unless the literal is opened each key is the label of some
+  -- each declaration holds of what is under its label, and unless the literal is opened each key is the label of some
   -- declaration
   abbrev pub fields_hold_earlier : List (Declaration N) → Bool → List (Entry A) → Bool
   fields_hold_earlier ds opened ms =

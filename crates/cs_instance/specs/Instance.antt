@@ -43,7 +43,7 @@ constraint_of E (node (cue.disjunction es)) = any_of (map node (operands es))
 constraint_of E (node (cue.struct ds opened)) = object_of (declarations ds) opened
 constraint_of E (node (cue.list es rest)) = list_of (operands es) (rest_of rest)
 
--- I is the instance relation of the environment: a document is an instance of a rule just where it meets what
+-- I is the instance relation of the environment: a document is an instance of a rule exactly where it meets what
 -- the rule asks, by I itself
 abbrev pub IsInstance : Environment → (Rule → Document → Bool) → Type 0
 IsInstance E I = (r : Rule) (x : Document) → I r x ≡ is_satisfied (λ part. I part x) (λ y e. I (node e) y) (constraint_of E r) (opened x)

@@ -1,3 +1,4 @@
+-- What an instance is, and the rules that documents are judged by.
 pub mod Constraint
 pub mod Instance
 pub mod Numbering

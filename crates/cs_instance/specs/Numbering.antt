@@ -63,7 +63,7 @@ PartsBelow n m (list_of es rest) = AllByRecursion (λ p. p < m) es × RestBelow 
 abbrev pub rule_at : List Rule → ℕ → Rule
 rule_at rules r = get_or rules r (node (atom top))
 
--- for each rule what it asks, by the places of its parts in the list: those asked of the same document stand before it
+-- for each rule what it asks, by the places of its parts in the list: those asked of the same document are before it
 pub record IsNumbering (E : Environment) (rules : List Rule) (asked : List (Constraint ℕ ℕ)) : Type 0 where
   pub count : length asked ≡ length rules
   pub asks : (r : ℕ) (c : Constraint ℕ ℕ) → slice_get asked r ≡ Some c → map_constraint (λ part. part) node (constraint_of E (rule_at rules r)) ≡ map_constraint (rule_at rules) (rule_at rules) c

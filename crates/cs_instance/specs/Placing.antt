@@ -78,7 +78,7 @@ abbrev mutual
 abbrev pub IsKnown : List (List ℕ) → List ℕ → List Rule → List ℕ → Type 0
 IsKnown names numbers placed n = (i : ℕ) → get_or names i [] ≡ n → (i < length numbers) × (slice_get placed (slice_index numbers i) ≡ Some (definition n))
 
--- with an expression numbered k, its rules stand behind those before, and what it asks of documents inside waits behind the rest
+-- with an expression numbered k, its rules are behind those before, and what it asks of documents inside waits behind the rest
 abbrev pub Places : List ℕ → List Coded → List Coded → List (Bor Shape) → List (Bor Shape) → (List (List ℕ) → Expression) → ℕ → Type 0
 Places numbers old new before after e k =
     (names : List (List ℕ)) → (waiting names after ≡ waiting names before ++ left_by (e names))
@@ -109,7 +109,7 @@ left_with E n = left_by_all (bodies_of E n)
 abbrev pub rules_in : List Expression → List Rule
 rules_in es = map node (flat_map subexpressions es)
 
--- with the definition n numbered, its rules stand behind those before
+-- with the definition n numbered, its rules are behind those before
 pub record PlacesOne (E : Environment) (names : List (List ℕ)) (n : List ℕ) (i : ℕ) (old new : List ℕ) (placed : List Rule) (rules : List Coded) (pending : List (Bor Shape)) : Type 0 where
   pub numbered : AreNumbered E (placed ++ placed_with E n) (waiting names pending) rules
   pub number : slice_get (placed ++ placed_with E n) (slice_index new i) ≡ Some (definition n)
@@ -118,7 +118,7 @@ pub record PlacesOne (E : Environment) (names : List (List ℕ)) (n : List ℕ) 
 
 -- ---- what waits
 
--- with what waited numbered in its order as far as `inner` goes, the rules stand behind those placed before; what still
+-- with what waited numbered in its order as far as `inner` goes, the rules are behind those placed before; what still
 -- waits and all that is in it make up the rest, and refers to definitions that have numbers
 pub record PlacesWaiting (E : Environment) (names : List (List ℕ)) (numbers : List ℕ) (placed : List Rule) (first : List Expression) (rules : List Coded) (pending : List (Bor Shape)) (inner : List ℕ) : Type 0 where
   pub more : List Rule

@@ -41,7 +41,7 @@ asked_of (rule.Any v) = any_of v.items
 asked_of (rule.Struct v opened) = object_of (map field_of v.items) opened
 asked_of (rule.List v end) = list_of v.items (ending_of end)
 
--- the same, with the numbers that stand in that list
+-- the same, with the numbers that are in that list
 abbrev pub numbered : List ℕ → Rule → Constraint ℕ ℕ
 numbered inner r = map_constraint (λ k. k) (slice_index inner) (asked_of r)
 

@@ -19,7 +19,7 @@ pub(crate) struct Numbering<'a> {
 }
 
 /// Judges the values of a document by the definitions that a root reaches and the expressions in their bodies: the items
-/// of [`cs_flat::Flat`] by rules, each of which stands after those that it asks of the same value.
+/// of [`cs_flat::Flat`] by rules, each of which is after those that it asks of the same value.
 #[derive(Drop)]
 pub struct InstanceJudge<'a> {
     pub(crate) numbering: Numbering<'a>,

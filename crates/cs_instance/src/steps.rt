@@ -61,7 +61,7 @@ fn any_holds(parts: &[usize], item: usize, done: &Verdicts) -> bool
     false
 }
 
-/// What stands under a label.
+/// What is under a label.
 fn find(members: &[(&str, usize)], label: &str) -> Option<usize>
     ensures { result ≡ under label.now (map entry_of members.now) }
 {
@@ -107,7 +107,7 @@ fn holds_inside(child: usize, part: usize, inner: &[usize], done: &Verdicts) -> 
     done.get(child, inner[part])
 }
 
-/// Whether what stands under a declaration's label is as declared.
+/// Whether what is under a declaration's label is as declared.
 fn value_holds(
     field: &Field<'_>,
     members: &[(&str, usize)],

@@ -54,7 +54,7 @@ pub(crate) fn wait_all<'a>(
     Ok(places)
 }
 
-/// What stands behind the fixed elements waits.
+/// What is behind the fixed elements waits.
 pub(crate) fn wait_end<'a>(
     end: &'a ShapeEnd,
     pending: &mut Vec<&'a Shape>,

@@ -57,7 +57,7 @@ pub no_comment_at : (x : ℕ) (xs : List ℕ) → (x == 47) ≡ false → begins
 no_comment_at x [] h = refl
 no_comment_at x (y ∷ xs) h = rw h refl
 
--- a text by its first byte and what stands behind it
+-- a text by its first byte and what is behind it
 pub opened : (bs : List ℕ) (k : ℕ) → 0 < length bs → get_or bs 0 0 ≡ k → k ∷ take (length bs - 1) (drop 1 bs) ≡ bs
 opened [] k some is = let never : ⊥ = omega arith in absurd never
 opened (x ∷ xs) k some is = let rest : take (length (x ∷ xs) - 1) (drop 1 (x ∷ xs)) ≡ xs = take_all (length (x ∷ xs) - 1) xs (omega arith) in rw (rest, is) refl

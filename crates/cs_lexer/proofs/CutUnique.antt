@@ -55,7 +55,7 @@ stuck_goes (past_line h k) = a_line h (stuck_goes k)
 stuck_goes (past_comment h k) = a_comment h (stuck_goes k)
 stuck_goes (past_token h k) = a_token h (stuck_goes k)
 
--- ---- what stands at the front
+-- ---- what is at the front
 
 data Front : Type 0 where
   at_end : Front

@@ -22,9 +22,6 @@ pub record Before (bs : List ℕ) (at : ℕ) (l : LineState) (front : List Lexem
   pub cut : (ks : List Lexeme) → Cut (drop at bs) at l ks → Cut bs 0 Plain (front ++ ks)
   pub stuck : (f : SyntaxFault) → Stuck (drop at bs) at l f → Stuck bs 0 Plain f
 
-pub begin : (bs : List ℕ) → Before bs 0 Plain []
-begin bs = record { cut = λ ks h. h; stuck = λ f h. h }
-
 pub comma_front : (front ks : List Lexeme) (l : LineState) (o : ℕ) → (front ++ comma_if l o []) ++ ks ≡ front ++ comma_if l o ks
 comma_front front ks WantsComma o = append_assoc front (comma_if WantsComma o []) ks
 comma_front front ks Plain o = append_assoc front [] ks

@@ -75,7 +75,7 @@ parts_close (eight {a} {b} {c} {d} {e} {f} {g} {h} {xs} {cs} i k) =
 
 -- ---- a text has these parts
 
--- so many digits that go on the number n, and what stands behind them
+-- so many digits that go on the number n, and what is behind them
 record Numbered (left n : ℕ) (xs cs : List ℕ) : Type 0 where
   pub digits : List ℕ
   pub rest : List ℕ

@@ -86,7 +86,7 @@ module _ (l : LineState) (y : ℕ) (ys : List ℕ) (good : begins_definition y �
     token = record { within = omega (arith, prefix_within is_name_byte ys); spelled = rw rest_good refl; longest = hidden_longer };
   }
 
--- what stands behind the `#` of a name
+-- what is behind the `#` of a name
 behind_hash : (P : List ℕ → Type 0) (xs : List ℕ) → begins_definition_name xs ≡ true → ((y : ℕ) (ys : List ℕ) → begins_definition y ≡ true → P (35 ∷ y ∷ ys)) → P xs
 behind_hash P [] h k = absurd cc
 behind_hash P (x ∷ []) h k = absurd cc

@@ -2,7 +2,6 @@
 use Rattle.std.proofs.Common.{◌≡◌, ℕ, ◌+◌, ◌*◌, ◌<◌, ◌≤◌, ◌^◌, List, [], ◌∷◌, length, drop, get_or, drop-cons, Bool, true, false, cond, ap, ◌∙◌, sym, arith}
 use Rattle.std.proofs.Math.Numerals.{add-one}
 use Rattle.std.proofs.Math.Nat.{le-mul_of_pos_right}
-use Rattle.std.proofs.Math.ListN.{drop_of_length-le}
 use Rattle.std.specs.Prelude.{◌==◌}
 use Rattle.cs_grammar.specs.Spelling.{digit_value}
 use Rattle.cs_grammar.specs.Values.{digits_after}
@@ -26,12 +25,6 @@ module _ (base : ℕ) (some : 0 < base) where
 
     pub next_digit : i < length bs → (get_or bs i 0 == 95) ≡ false → digits_after base (n * base + digit_value (get_or bs i 0)) (drop (i + 1) bs) ≡ digits_after base 0 bs
     next_digit lt h = rw h at (at_digit lt)
-
-    pub past_underscore : i < length bs → (get_or bs i 0 == 95) ≡ true → digits_after base n (drop (i + 1) bs) ≡ digits_after base 0 bs
-    past_underscore lt h = rw h at (at_digit lt)
-
-    pub no_digit : length bs ≤ i → n ≡ digits_after base 0 bs
-    no_digit le = sym (ap (digits_after base n) (drop_of_length-le bs le)) ∙ sofar
 
     pub sum_fits : i < length bs → (get_or bs i 0 == 95) ≡ false → digits_after base 0 bs < 2 ^ 64 → n * base + digit_value (get_or bs i 0) < 2 ^ 64
     sum_fits lt h fits = omega (arith, digits_grow (drop (i + 1) bs) (n * base + digit_value (get_or bs i 0)), next_digit lt h)

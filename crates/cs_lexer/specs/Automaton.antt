@@ -15,7 +15,7 @@ number_step left n =
     if nat_lt 1 left then (if nat_le n 1114111 then More (Digits (left - 1) n) else Fails) else
     (if is_character n then More Inside else Fails)
 
--- What a byte does in a text: the text goes on, ends or is none. It stands behind whole characters (`Inside`), behind a backslash (`Escaped`), or behind `\u` or `\U` and some digits (`Digits`: how many are still to come, and their number so far).
+-- What a byte does in a text: the text goes on, ends or is none. It is behind whole characters (`Inside`), behind a backslash (`Escaped`), or behind `\u` or `\U` and some digits (`Digits`: how many are still to come, and their number so far).
 abbrev pub text_step : TextState → ℕ → TextStep
 text_step Inside x = if x == 34 then Ends else (if x == 92 then More Escaped else (if x == 10 then Fails else More Inside))
 text_step Escaped x = if x == 117 then More (Digits 4 0) else (if x == 85 then More (Digits 8 0) else (if is_some (escape_value x) then More Inside else Fails))

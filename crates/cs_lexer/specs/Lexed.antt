@@ -20,7 +20,7 @@ Refuses (Ok x) f = ⊥
 Refuses (Err faults.OutOfMemory) f = Unit {0}
 Refuses (Err e) f = e ≡ f
 
--- From the offset o on the tokens stand in the source in order, none over another: the text of each is what stands at its start.
+-- From the offset o on the tokens are in the source in order, none over another: the text of each is what is at its start.
 abbrev pub AreSlices : List ℕ → ℕ → List Lexeme → Type 0
 AreSlices source o [] = Unit {0}
 AreSlices source o (lexeme s t p ∷ ks) = (o ≤ p) × (p + length t ≤ length source) × (t ≡ take (length t) (drop p source)) × AreSlices source (p + length t) ks

@@ -1,3 +1,4 @@
+-- What `lex` answers and refuses.
 pub mod Lexed
 pub mod Quoted
 -- for contracts of private functions and proofs alone

@@ -22,7 +22,7 @@ pub(crate) fn is_hex_digit(x: u8) -> bool
     matches!(x, b'0'..=b'9' | b'A'..=b'F' | b'a'..=b'f')
 }
 
-// The value of a decimal or hexadecimal digit.
+/// The value of a decimal or hexadecimal digit.
 pub(crate) fn digit_value(x: u8) -> u8
     ensures { result ≡ digit_value x }
 {
@@ -34,28 +34,28 @@ pub(crate) fn digit_value(x: u8) -> u8
     }
 }
 
-// A byte after the first of a name.
+/// A byte after the first of a name.
 pub(crate) fn is_name_byte(x: u8) -> bool
     ensures { result ≡ is_name_byte x }
 {
     is_letter(x) || is_digit(x) || x == b'_'
 }
 
-// A byte with which the name of a definition may begin, after its `#`.
+/// A byte with which the name of a definition may begin, after its `#`.
 pub(crate) fn begins_definition(x: u8) -> bool
     ensures { result ≡ begins_definition x }
 {
     is_letter(x) || x == b'_'
 }
 
-// A byte of a run that begins with a digit.
+/// A byte of a run that begins with a digit.
 pub(crate) fn is_run_byte(x: u8) -> bool
     ensures { result ≡ is_run_byte x }
 {
     matches!(x, b'A'..=b'Z' | b'a'..=b'z' | b'0'..=b'9' | b'_' | b'.')
 }
 
-// A blank within a line.
+/// A blank within a line.
 pub(crate) fn is_space(x: u8) -> bool
     ensures { result ≡ is_space x }
 {

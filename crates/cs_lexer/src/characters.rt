@@ -27,7 +27,7 @@ pub fn unescape(alloc: Global, text: &str) -> Result<String, SyntaxFault>
     }
 }
 
-// The characters of a text between its quotes, or none where it isn't one.
+/// The characters of a text between its quotes, or none where it isn't one.
 fn characters(alloc: Global, inside: &str) -> Result<String, AllocError>
     ensures { IfOk result (λ s. string_bytes s ≡ value_from TextState.Inside (inside.now ++ codes "\"")) }
 {
@@ -57,7 +57,7 @@ fn characters(alloc: Global, inside: &str) -> Result<String, AllocError>
     }
 }
 
-// Puts the character that an ASCII byte of a text ends, if it ends one.
+/// Puts the character that an ASCII byte of a text ends, if it ends one.
 fn put_character(found: &mut String, state: TextState, x: u8) -> Result<(), AllocError>
     requires { x < 128 }
     ensures { OnOk result ((next : TextState) → text_step state x ≡ TextStep.More next
@@ -81,7 +81,7 @@ fn put_character(found: &mut String, state: TextState, x: u8) -> Result<(), Allo
     }
 }
 
-// Puts the character of a number, if it is one of a character.
+/// Puts the character of a number, if it is one of a character.
 fn put_number(found: &mut String, number: u64) -> Result<(), AllocError>
     ensures { OnOk result (is_character number ≡ true
         → string_bytes found.new ≡ string_bytes found.old ++ encode_utf8 number) }

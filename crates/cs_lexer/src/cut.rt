@@ -11,7 +11,7 @@ use crate::piece::{Piece, read_piece};
 use cs_grammar::{LineState, Sort, SyntaxFault, Token};
 use std::alloc::Global;
 
-// Puts a token without a text.
+/// Puts a token without a text.
 fn put(tokens: &mut Vec<Token<'_>>, sort: Sort, start: usize) -> Result<(), SyntaxFault>
     ensures { Puts result tokens.old.items tokens.new.items (lexeme sort [] start ∷ []) }
 {
@@ -20,7 +20,7 @@ fn put(tokens: &mut Vec<Token<'_>>, sort: Sort, start: usize) -> Result<(), Synt
     Ok(())
 }
 
-// Inserts a comma at the end of a line, where one is wanted.
+/// Inserts a comma at the end of a line, where one is wanted.
 fn end_line(tokens: &mut Vec<Token<'_>>, line: LineState, start: usize) -> Result<(), SyntaxFault>
     ensures { Puts result tokens.old.items tokens.new.items (comma_if line start []) }
 {

@@ -5,7 +5,7 @@ ghost use Rattle.cs_grammar.specs.Cut.{line_after, line_after_mark, line_ended};
 
 use cs_grammar::{LineState, Sort};
 
-// What a token means for what follows it.
+/// What a token means for what follows it.
 pub(crate) fn line_after(sort: Sort, text: &[u8]) -> LineState
     ensures { result ≡ line_after sort text.now }
 {
@@ -32,7 +32,7 @@ fn line_after_mark(text: &[u8]) -> LineState
     }
 }
 
-// What is left of it at the end of a line.
+/// What is left of it at the end of a line.
 pub(crate) fn line_ended(line: LineState) -> LineState
     ensures { result ≡ line_ended line }
 {

@@ -6,7 +6,7 @@ ghost use Rattle.cs_lexer.specs.Pieces.{longest_mark};
 
 use cs_grammar::Sort;
 
-// The sort of a text that is a mark.
+/// The sort of a text that is a mark.
 pub(crate) fn mark_sort(text: &[u8]) -> Option<Sort>
     ensures { result ≡ mark_sort text.now }
 {
@@ -37,7 +37,7 @@ pub(crate) fn mark_sort(text: &[u8]) -> Option<Sort>
     }
 }
 
-// The longest mark at the front of the bytes: its sort and its length.
+/// The longest mark at the front of the bytes: its sort and its length.
 pub(crate) fn longest_mark(bytes: &[u8]) -> Option<(Sort, usize)>
     ensures { result ≡ longest_mark bytes.now }
 {

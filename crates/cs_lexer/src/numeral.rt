@@ -7,7 +7,7 @@ ghost use Rattle.cs_grammar.specs.Values.{digits_after, integer_value, is_hexade
 
 use crate::bytes::{digit_value, is_digit, is_hex_digit};
 
-// Whether the bytes begin with a digit, or an underscore before a digit.
+/// Whether the bytes begin with a digit, or an underscore before a digit.
 fn begins_piece(bytes: &[u8]) -> bool
     ensures { result ≡ begins_piece bytes.now }
 {
@@ -18,7 +18,7 @@ fn begins_piece(bytes: &[u8]) -> bool
     }
 }
 
-// Whether a text is digits, and underscores that each come before a digit.
+/// Whether a text is digits, and underscores that each come before a digit.
 fn is_separated(text: &[u8]) -> bool
     ensures { result ≡ is_separated text.now }
 {
@@ -36,7 +36,7 @@ fn all_hex_digits(text: &[u8]) -> bool
     text.iter().all(|x| is_hex_digit(*x))
 }
 
-// Whether a text is `x` and one or more hexadecimal digits.
+/// Whether a text is `x` and one or more hexadecimal digits.
 fn is_hex_rest(text: &[u8]) -> bool
     ensures { result ≡ is_hex_rest text.now }
 {
@@ -46,8 +46,8 @@ fn is_hex_rest(text: &[u8]) -> bool
     }
 }
 
-// Whether a text is an integer: `0`, decimal digits with single underscores between them that do
-// not begin with 0, or `0x` and hexadecimal digits.
+/// Whether a text is an integer: `0`, decimal digits with single underscores between them that do
+/// not begin with 0, or `0x` and hexadecimal digits.
 #[tactic(auto, unfolding(cs_grammar::specs::Spelling::is_integer))]
 pub(crate) fn is_integer(text: &[u8]) -> bool
     ensures { result ≡ is_integer text.now }
@@ -60,7 +60,7 @@ pub(crate) fn is_integer(text: &[u8]) -> bool
     }
 }
 
-// The number that digits stand for in a base, if it has at most 64 bits.
+/// The number that digits stand for in a base, if it has at most 64 bits.
 fn digits_value(base: u64, digits: &[u8]) -> Option<u64>
     requires { 0 < base }
     ensures { SomeIff result (digits_after base 0 digits.now < 2 ^ 64) (digits_after base 0 digits.now) }

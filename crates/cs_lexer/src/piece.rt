@@ -29,21 +29,21 @@ pub(crate) enum Piece {
     TooLarge,
 }
 
-// The length of the name at the front of the bytes.
+/// The length of the name at the front of the bytes.
 fn name_len(bytes: &[u8]) -> usize
     ensures { result ≡ prefix_len is_name_byte bytes.now }
 {
     bytes.iter().take_while(|x| is_name_byte(**x)).count()
 }
 
-// The length of the run of a number.
+/// The length of the run of a number.
 fn run_len(bytes: &[u8]) -> usize
     ensures { result ≡ run bytes.now }
 {
     bytes.iter().take_while(|x| is_run_byte(**x)).count()
 }
 
-// Whether the bytes begin with a comment.
+/// Whether the bytes begin with a comment.
 pub(crate) fn begins_comment(bytes: &[u8]) -> bool
     ensures { result ≡ begins_comment bytes.now }
 {
@@ -53,14 +53,14 @@ pub(crate) fn begins_comment(bytes: &[u8]) -> bool
     }
 }
 
-// The length of what is left of the line.
+/// The length of what is left of the line.
 fn line_len(bytes: &[u8]) -> usize
     ensures { result ≡ line_len bytes.now }
 {
     bytes.iter().take_while(|x| **x != b'\n').count()
 }
 
-// Whether an integer is out of range: the least one needs its minus.
+/// Whether an integer is out of range: the least one needs its minus.
 fn is_too_large(line: LineState, text: &[u8]) -> bool
     ensures { result ≡ is_too_large line text.now }
 {
@@ -88,7 +88,7 @@ fn number_piece(line: LineState, bytes: &[u8]) -> Piece
     Piece::Token(Sort::Integer, len)
 }
 
-// Whether the bytes begin with a byte of a name.
+/// Whether the bytes begin with a byte of a name.
 fn begins_name(bytes: &[u8]) -> bool
     ensures { result ≡ begins_name bytes.now }
 {
@@ -98,7 +98,7 @@ fn begins_name(bytes: &[u8]) -> bool
     }
 }
 
-// Whether the bytes begin with the name of a definition.
+/// Whether the bytes begin with the name of a definition.
 fn begins_definition_name(bytes: &[u8]) -> bool
     ensures { result ≡ begins_definition_name bytes.now }
 {
@@ -108,7 +108,7 @@ fn begins_definition_name(bytes: &[u8]) -> bool
     }
 }
 
-// Whether the bytes begin with what makes `_` to `_|_`.
+/// Whether the bytes begin with what makes `_` to `_|_`.
 fn begins_bottom_rest(bytes: &[u8]) -> bool
     ensures { result ≡ begins_bottom_rest bytes.now }
 {
@@ -126,7 +126,7 @@ fn definition_piece(line: LineState, bytes: &[u8]) -> Piece
     Piece::Token(Sort::Definition, name_len(&bytes[1..]) + 1)
 }
 
-// A token that begins with `_`: a hidden name, `_|_` or `_`.
+/// A token that begins with `_`: a hidden name, `_|_` or `_`.
 fn underscore_piece(line: LineState, bytes: &[u8]) -> Piece
     requires some { 0 < length bytes.now }
     requires underscore { slice_index bytes.now 0 ≡ 95 }
@@ -159,7 +159,7 @@ fn text_piece(line: LineState, bytes: &[u8]) -> Piece
     }
 }
 
-// What is at the front of the bytes, after tokens that leave the line so.
+/// What is at the front of the bytes, after tokens that leave the line so.
 pub(crate) fn read_piece(line: LineState, bytes: &[u8]) -> Piece
     requires { 0 < length bytes.now }
     ensures { IsPiece line bytes.now result }

@@ -10,7 +10,7 @@ ghost use Rattle.cs_lexer.specs.Automaton.{number_step, text_step, text_len};
 use crate::bytes::{digit_value, is_hex_digit};
 use cs_grammar::Sort;
 
-// What comes before a place in a text.
+/// What comes before a place in a text.
 #[derive(Clone, Copy)]
 pub(crate) enum TextState {
     // Whole characters.
@@ -21,7 +21,7 @@ pub(crate) enum TextState {
     Digits { left: u8, number: u32 },
 }
 
-// What a byte does in a text.
+/// What a byte does in a text.
 #[derive(Clone, Copy)]
 pub(crate) enum TextStep {
     // The text goes on.
@@ -32,7 +32,7 @@ pub(crate) enum TextStep {
     Fails,
 }
 
-// Whether the bytes begin with three quotes.
+/// Whether the bytes begin with three quotes.
 pub(crate) fn begins_quotes(bytes: &[u8]) -> bool
     ensures { result ≡ begins_quotes bytes.now }
 {
@@ -42,7 +42,7 @@ pub(crate) fn begins_quotes(bytes: &[u8]) -> bool
     }
 }
 
-// The character that a letter after a backslash stands for.
+/// The character that a letter after a backslash stands for.
 pub(crate) fn escape_value(x: u8) -> Option<u8>
     ensures { result ≡ escape_value x }
 {
@@ -61,14 +61,14 @@ pub(crate) fn escape_value(x: u8) -> Option<u8>
     }
 }
 
-// Whether a number is that of a character, and not of a surrogate.
+/// Whether a number is that of a character, and not of a surrogate.
 fn is_character(number: u64) -> bool
     ensures { result ≡ is_character number }
 {
     number < 0xD800 || (number >= 0xE000 && number <= 0x10FFFF)
 }
 
-// What a digit does within an escape by number.
+/// What a digit does within an escape by number.
 fn number_step(left: u8, number: u64) -> TextStep
     ensures { result ≡ number_step left number }
 {
@@ -87,7 +87,7 @@ fn number_step(left: u8, number: u64) -> TextStep
     }
 }
 
-// What a byte does after a backslash.
+/// What a byte does after a backslash.
 fn escape_step(x: u8) -> TextStep
     ensures { result ≡ text_step TextState.Escaped x }
 {
@@ -104,7 +104,7 @@ fn escape_step(x: u8) -> TextStep
     }
 }
 
-// What a byte does in a text.
+/// What a byte does in a text.
 pub(crate) fn text_step(state: TextState, x: u8) -> TextStep
     ensures { result ≡ text_step state x }
 {
@@ -126,7 +126,7 @@ pub(crate) fn text_step(state: TextState, x: u8) -> TextStep
     }
 }
 
-// The length of a text after its first quote, with its last one.
+/// The length of a text after its first quote, with its last one.
 pub(crate) fn text_len(bytes: &[u8]) -> Option<usize>
     ensures { result ≡ text_len TextState.Inside bytes.now }
 {

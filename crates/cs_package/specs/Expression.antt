@@ -40,7 +40,7 @@ mutual
     disjunction : Expressions → Expression
     -- a struct literal, and whether it ends with `...`
     struct : Declarations → Bool → Expression
-    -- a list literal: its fixed elements, and what stands behind them
+    -- a list literal: its fixed elements, and what is behind them
     list : Expressions → Rest → Expression
 
   pub data Expressions : Type 0 where

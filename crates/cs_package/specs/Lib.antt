@@ -1,3 +1,4 @@
+-- Resolved expressions, environments, and what packages are.
 pub mod Expression
 pub mod Environment
 pub mod Joined

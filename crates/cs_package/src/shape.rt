@@ -1,3 +1,4 @@
+// Resolved expressions.
 use cs_grammar::{FieldMark, Relation};
 
 /// A resolved expression: names are replaced by the kinds and ranges that they name, references by the

@@ -59,7 +59,7 @@ module _ (known : List ℕ → Bool) where
   known_reference place k v e h =
       known_in place v (subst (λ n. undefined_at known (keyword_at false place n v) ≡ None) (sym (name_of-named k keyword.Ref e)) h)
 
-  -- ---- what stands inside a keyword's value
+  -- ---- what is inside a keyword's value
 
   clean_inside : (place k : List ℕ) (v : Document) (w : Keyword) → under k keywords ≡ Some w → Clean (keyword_visits false place k v) → Clean (by_form (form_of w) (value_visits (at_key place k) v))
   clean_inside place k v w e h = by (stands false w) refl

@@ -54,7 +54,7 @@ pub found_definition : (v : SchemaValue) (n : List ℕ) (r : Option (Bor Schema)
     → option_map (λ s. schema_view s.now) r ≡ definition_of v n
 found_definition v n r e = copied schema_view r ∙ ap (option_map schema_view) e ∙ found schema_view n v.definitions
 
--- ---- what stands under `$defs`
+-- ---- what is under `$defs`
 
 pub not_present : (k : List ℕ) (ss : List Slot) → has_slot k ss ≡ false → listed_under k (entries (present ss)) ≡ []
 not_present k [] h = refl

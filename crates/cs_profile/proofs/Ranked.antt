@@ -54,7 +54,7 @@ same_read [] i d e l = absurd (omega (arith, l))
 same_read (x ∷ xs) zero d e l = refl
 same_read (x ∷ xs) (suc i) d e l = same_read xs i d e (omega (arith, l))
 
--- what stands under a key has a place, and what has a place stands under its key, or something else does
+-- what is under a key has a place, and what has a place is under its key, or something else is
 place_under : {A : Type 0} (es : List (Entry A)) (n : List ℕ) (a : A) → under n es ≡ Some a → (i : ℕ) × (slice_get es i ≡ Some (n, a))
 place_under [] n a e = cc
 place_under {A} (f ∷ es) n a e = by (bytes_eq n f.0) refl (place_under es n a) e
@@ -78,7 +78,7 @@ under_place {A} (f ∷ es) (suc i) n a e = by (bytes_eq n f.0) (under_place es i
     by true next = (f.1, refl)
     by false next = next
 
--- ---- what stands in a list
+-- ---- what is in a list
 
 any_on : (m : List ℕ) (ns : List (List ℕ)) → On m ns → list_any (same_bytes m) ns ≡ true
 any_on m [] o = absurd o

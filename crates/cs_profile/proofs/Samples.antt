@@ -146,7 +146,7 @@ different_texts = record { each = refl; none = refl }
 one_text : Shaped form.Text (t "" ∷ t "x" ∷ []) (n 1 ∷ null ∷ l (t "x" ∷ []) ∷ o [] ∷ [])
 one_text = record { each = refl; none = refl }
 
--- whether a value is a schema is told where it stands
+-- whether a value is a schema is said where it is
 one_schema : Shaped form.Schema (boolean true ∷ o [] ∷ n 1 ∷ null ∷ []) []
 one_schema = record { each = refl; none = refl }
 

@@ -37,7 +37,7 @@ keys_below : (es : List (Entry Document)) → map (λ e. e.0) (map below es) ≡
 keys_below [] = refl
 keys_below (e ∷ es) = ap (λ (ks : List (List ℕ)). e.0 ∷ ks) (keys_below es)
 
--- ---- what stands beside a keyword
+-- ---- what is beside a keyword
 
 -- the keys of `properties`
 abbrev property_keys : List (Entry Document) → List (List ℕ)
@@ -160,7 +160,7 @@ module _ (R R' : Document) (same : (n : List ℕ) → defined R' n ≡ option_ma
     stands_alike k v ns ms w e h true s = ap₂ ◌&&◌ (ap (λ o. asks (option_map_or (λ q. assertion R' c q (left (form_of w) v)) o nothing)) e ∙ kept_alike w v) h
     stands_alike k v ns ms w e h false s = h ∙ sym (ap (λ a. a && all_ask_below (entries ms)) (lost w v s))
 
-    -- below the root a key that does not stand there stays, and asks nothing
+    -- below the root a key that has no place there stays, and asks nothing
     no_keyword : (k : List ℕ) (v : Document) (ns ms : Members) (o : Option Keyword) → under k keywords ≡ o → asks (option_map_or (λ q. assertion R' c q v) o nothing) ≡ true → asks_below (option_map_or (λ q. assertion R b q v) o nothing) ≡ true
         → all_ask (entries ns) ≡ all_ask_below (entries ms) → all_ask (entries (member k v ns)) ≡ (asks_below (option_map_or (λ q. assertion R b q v) o nothing) && all_ask_below (entries ms))
     no_keyword k v ns ms o e one other h = ap₂ ◌&&◌ (ap (λ p. asks (option_map_or (λ q. assertion R' c q v) p nothing)) e ∙ one ∙ sym other) h

@@ -30,7 +30,7 @@ wrong_shape : map walk_fault (says "minimum" (t "3") ∷ says "allOf" (l []) ∷
 unfolding at_key
 wrong_shape = refl
 
--- each keyword with a value that has not its shape; `const` takes any value, and a schema is looked at where it stands
+-- each keyword with a value that has not its shape; `const` takes any value, and a schema is looked at where it is
 abbrev wrong : List (String × Document)
 wrong =
     ("$ref", t "#/$defs/") ∷ ("type", t "int") ∷ ("enum", o []) ∷ ("minimum", t "3") ∷ ("maximum", null) ∷ ("exclusiveMinimum", boolean true) ∷ ("exclusiveMaximum", l []) ∷ ("minItems", integer (negsuc 0))
@@ -66,7 +66,7 @@ right : map (λ (e : String × Document). walk_fault (says "not" (says e.0 e.1))
     ≡ None ∷ None ∷ None ∷ None ∷ None ∷ None ∷ None ∷ None ∷ None ∷ None ∷ None ∷ None ∷ None ∷ None ∷ None ∷ None ∷ None ∷ None ∷ None ∷ None ∷ []
 right = refl
 
--- `$defs` and `$schema` stand in the root alone, and other keys nowhere
+-- `$defs` and `$schema` are in the root alone, and other keys nowhere
 unknown_below : map walk_fault (
     says "not" (says "$defs" (o [])) ∷ says "properties" (says "$defs" (says "$schema" (t "https://json-schema.org/draft/2020-12/schema"))) ∷ says "items" (says "items" (says "$defs" (o [])))
     ∷ says "anyOf" (l (boolean true ∷ says "oneOf" null ∷ [])) ∷ says "additionalProperties" (says "format" (t "date")) ∷ [])
@@ -88,7 +88,7 @@ references_named = refl
 abbrev to : String → Document
 to name = says "$ref" (text (codes name))
 
--- with the place of the schema below the root that refers to it; what stands in a `const` refers to nothing
+-- with the place of the schema below the root that refers to it; what is in a `const` refers to nothing
 references_below : map name_fault (
     says "not" (to "#/$defs/A") ∷ says "properties" (says "a/b" (to "#/$defs/A")) ∷ says "allOf" (l (boolean true ∷ to "#/$defs/A" ∷ [])) ∷ says "$defs" (says "B" (says "items" (to "#/$defs/A"))) ∷ says "$defs" (says "A" (to "#/$defs/A"))
     ∷ says "const" (to "#/$defs/A") ∷ [])

@@ -70,7 +70,7 @@ abbrev pub entries_of : Document → List (Entry Document)
 entries_of (object ms) = entries ms
 entries_of _ = []
 
--- the entries of what stands under a keyword
+-- the entries of what is under a keyword
 abbrev pub listed_under : List ℕ → List (Entry Document) → List (Entry Document)
 listed_under k es = flat_map (λ e. if bytes_eq k e.0 then entries_of e.1 else []) es
 

@@ -1,3 +1,4 @@
+-- What a schema is, what it asserts, and which documents are schemas of the profile.
 pub mod Keywords
 pub mod Constraint
 pub mod Validity

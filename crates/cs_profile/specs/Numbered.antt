@@ -41,7 +41,7 @@ rows_of es ds = map (λ d. numbers_of es (direct_names (schema_view d.1))) ds
 abbrev pub name_of_number : List (String Global × Schema) → ℕ → List ℕ
 name_of_number ds i = get_or (names_in ds) i []
 
--- what a schema document keeps: each definition has a number, and what stands there is the definition's rank
+-- what a schema document keeps: each definition has a number, and what is there is the definition's rank
 pub record AreRanks (v : SchemaValue) (numbers : List (String Global × ℕ)) (ranks : List ℕ) : Type 0 where
   pub whole : IsWhole v
   pub all : by_text numbers ≡ numbered 0 (names_in v.definitions)

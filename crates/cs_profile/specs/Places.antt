@@ -9,7 +9,7 @@ abbrev pub escaped : List ℕ → List ℕ
 escaped [] = []
 escaped (c ∷ cs) = escaped_code c ++ escaped cs
 
--- the place of what stands under a key
+-- the place of what is under a key
 unfoldable pub at_key : List ℕ → List ℕ → List ℕ
 at_key place key = place ++ (codes "/" ++ escaped key)
 

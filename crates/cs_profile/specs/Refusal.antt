@@ -16,7 +16,7 @@ abbrev pub LeastFirst : List (List ℕ) → Type 0
 LeastFirst [] = Unit {0}
 LeastFirst (n ∷ ns) = AllByRecursion (λ m. slice_cmp nat_cmp n m ≡ Less) ns
 
--- each of the names refers directly to the next and the last to the first, no name stands twice, and the least stands first
+-- each of the names refers directly to the next and the last to the first, no name stands twice, and the least is first
 pub record IsLeastLoop (d : Document) (names : List (List ℕ)) : Type 0 where
   pub loop : IsLoop d names
   pub distinct : IsDistinct bytes_eq names

@@ -27,7 +27,7 @@ kind_name kind.Number = codes "number"
 kind_name kind.String = codes "string"
 kind_name kind.Integer = codes "integer"
 
--- a keyword with its value, where it stands
+-- a keyword with its value, where it is there
 abbrev pub Slot : Type 0
 Slot = Entry (Option Document)
 

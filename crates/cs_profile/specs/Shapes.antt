@@ -1,4 +1,4 @@
--- The form of each keyword's value, where the keyword may stand, and what trimming does with it (the profile: own rule).
+-- The form of each keyword's value, where the keyword may be, and what trimming does with it (the profile: own rule).
 use Rattle.std.specs.Prelude.{ℕ, pos, List, [], ◌∷◌, ◌++◌, Bool, true, false, not, ◌&&◌, ◌||◌, nat_eq, leb, Option, Some, None, is_some, option_and_then, codes, if◌then◌else◌}
 use Rattle.std.specs.Str.{bytes_eq}
 use Rattle.std.specs.List.{list_any, list_all}
@@ -43,7 +43,7 @@ stands root _ = true
 abbrev pub form_in : Bool → Keyword → Option Form
 form_in root w = if stands root w then Some (form_of w) else None
 
--- the form of what stands under a key, in the root or below it
+-- the form of what is under a key, in the root or below it
 abbrev pub form_at : Bool → List ℕ → Option Form
 form_at root k = option_and_then (form_in root) (under k keywords)
 
@@ -90,7 +90,7 @@ are_distinct_texts seen no_documents = true
 are_distinct_texts seen (document (text s) ds) = not (list_any (bytes_eq s) seen) && are_distinct_texts (seen ++ s ∷ []) ds
 are_distinct_texts seen (document _ ds) = false
 
--- whether a value has the shape; a value that is to be a schema is looked at where it stands
+-- whether a value has the shape; a value that is to be a schema is looked at where it is
 abbrev pub has_form : Form → Document → Bool
 has_form form.Dialect (text s) = bytes_eq s dialect
 has_form form.Reference (text s) = names_definition (text_after reference_start s)

@@ -34,12 +34,12 @@ module _ {A : Type 0} where
   if_object p (an_object ms) = p ms
   if_object p _ = true
 
--- what stands under a key, if it is there, passes a test
+-- what is under a key, if it is there, passes a test
 abbrev pub if_there : {A : Type 0} → (A → Bool) → Option A → Bool
 if_there p o = option_map_or p o true
 
 -- `here s` says whether the schema s validates the document, and `inside y s` whether it validates y, which
--- stands directly inside the document
+-- is directly inside the document
 module _ {A H I : Type 0} (here : H → Bool) (inside : A → I → Bool) where
   -- each element that has a schema at its place is valid by it
   abbrev pub front_holds : List I → List A → Bool

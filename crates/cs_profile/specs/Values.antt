@@ -15,7 +15,7 @@ value_visits place v = record {
   members = map_visits place v;
 }
 
--- a keyword with what stands inside its value
+-- a keyword with what is inside its value
 abbrev pub keyword_visits : Bool → List ℕ → List ℕ → Document → List Visit
 keyword_visits root place k v = keyword_at root place k v ∷ within (form_at root k) (value_visits (at_key place k) v)
 

@@ -1,3 +1,4 @@
+// The refusals of schemas, when they are read or made.
 use std::alloc::{AllocError, AllocFailed};
 use thiserror::Error;
 

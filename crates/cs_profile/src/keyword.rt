@@ -1,3 +1,4 @@
+// The keywords of the profile, with their names and the forms of their values.
 ghost use Rattle.std.specs.Prelude.{◌≡◌};
 ghost use Rattle.cs_document.specs.Document.{under};
 ghost use Rattle.cs_profile.specs.Keywords.{name_of, keywords};

@@ -1,3 +1,4 @@
+// What holds of every schema document.
 ghost use Rattle.cs_profile.specs.SchemaDocument.{document_of};
 ghost use Rattle.cs_profile.specs.Validity.{OneMeaning};
 
@@ -7,6 +8,5 @@ use crate::SchemaDoc;
 pub fn one_meaning(schema: &SchemaDoc)
     ensures { OneMeaning (document_of schema.now) }
 {
-    // for the proof: what every schema document is
     schema.whole_law(); // for the proof: no definition reaches itself
 }

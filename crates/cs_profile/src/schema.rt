@@ -1,3 +1,4 @@
+// Schemas and their keywords.
 use crate::Keyword;
 use cs_document::Doc;
 use std::alloc::Global;

@@ -1,3 +1,4 @@
+// A root schema with its definitions.
 ghost use Rattle.std.specs.Prelude.{◌≡◌, ◌<◌, ◌↔◌, ℕ, List, option_map, IsSome, IfSome, IfOk, IfErr, OnOk, IsOkUnless};
 ghost use Rattle.cs_profile.specs.Keywords.{defined};
 ghost use Rattle.cs_profile.specs.Trim.{trim};

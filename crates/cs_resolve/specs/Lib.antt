@@ -1,3 +1,4 @@
+-- What files declare: scopes, the opening rule and its limits. What packages are is handed on from the crate below.
 pub use Rattle.cs_package.specs.Expression
 pub use Rattle.cs_package.specs.Environment
 pub use Rattle.cs_package.specs.Joined

@@ -13,6 +13,7 @@ mod resolving;
 mod shapes;
 mod size;
 
+// The types of the package that `resolve` answers, for callers of this crate alone.
 pub use cs_package::{FieldMark, Kind, Package, Part, Relation, Shape, ShapeEnd};
 pub use fault::ResolveFault;
 pub use offsets::offsets_law;

@@ -1,4 +1,4 @@
--- What stands at a place: its walk and its faults are those at the empty place, with the place in front.
+-- What is at a place: its walk and its faults are those at the empty place, with the place in front.
 use Rattle.std.proofs.Common.{◌≡◌, ℕ, suc, Bool, true, false, List, [], ◌∷◌, ◌++◌, map, Option, Some, None, option_map, codes, bytes_eq, refl, sym, ap, ap₂, ◌∙◌, append_assoc, append-nil, if◌then◌else◌}
 use Rattle.std.proofs.lemmas.List.{map-append}
 use Rattle.std.specs.Fmt.{decimal}
@@ -105,7 +105,7 @@ mutual
 
 -- ---- faults
 
--- a fault of a visit stands at the visit's place
+-- a fault of a visit is at the visit's place
 abbrev pub IsPlaced : (Visit → Option Fault) → Type 0
 IsPlaced f = (p : List ℕ) (v : Visit) → f (placed p v) ≡ option_map (below p) (f v)
 

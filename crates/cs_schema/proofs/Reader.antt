@@ -24,7 +24,7 @@ use Rattle.cs_profile.proofs.Views.{view-Always, view-Object}
 
 -- ---- which names are defined
 
--- the definitions that stand beside the keywords
+-- the definitions that are beside the keywords
 listed : (p : Parts) → listed_under (codes "$defs") (entries (present (slots p))) ≡ named schema_view p.definitions.entries
 listed p =
     with_defs (definitions_view p.definitions.entries) (present (slots_of p.keywords)) (not_present (codes "$defs") (slots_of p.keywords) (no_definitions p.keywords))

@@ -1,4 +1,4 @@
--- Keywords that are put in their order stand in that order.
+-- Keywords that are put in their order are in that order.
 use Rattle.std.proofs.Common.{◌≡◌, ◌↔◌, IsTrue, length, ℕ, Bool, false, List, [], ◌∷◌, ◌++◌, map, Option, Some, None, String, Global, Box, Less, Greater, nat_cmp, string_bytes, codes, refl, sym, ap, ◌∙◌, rules}
 use Rattle.std.proofs.lemmas.Cmp.{nat_list_cmp_total}
 use Rattle.std.specs.Cmp.Lexicographic.{slice_cmp}

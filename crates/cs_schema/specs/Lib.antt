@@ -1,3 +1,4 @@
+-- What the reader and the writer keep. What schemas are is handed on from the crate below.
 pub use Rattle.cs_profile.specs.Keywords
 pub use Rattle.cs_profile.specs.Constraint
 pub use Rattle.cs_profile.specs.Validity

@@ -34,7 +34,7 @@ slots p = (codes "$defs", unless_no_map (definitions_view p.definitions.entries)
 abbrev pub is_defined_in : List (String Global × Schema) → List ℕ → Bool
 is_defined_in es n = is_some (under n (map (λ m. (string_bytes m.0, schema_view m.1)) es))
 
--- a fault of what stands at a place, with that place in front of its own
+-- a fault of what is at a place, with that place in front of its own
 abbrev pub below : List ℕ → Fault → Fault
 below place (unknown p n) = unknown (place ++ p) n
 below place (misshapen p n) = misshapen (place ++ p) n

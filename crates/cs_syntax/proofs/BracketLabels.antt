@@ -57,7 +57,7 @@ list_ends no_elements is = absurd cc
 list_ends (rest_alone s) is = absurd cc
 list_ends (elements e es end) is = end_ends end (elements_end es (expr_ends e is))
 
--- ---- no colon stands behind it
+-- ---- no colon is behind it
 
 and_none : (b c d : Bool) → c && d ≡ false → b && (c && d) ≡ false
 and_none true c d h = h
@@ -70,7 +70,7 @@ first false c h = refl
 no_colon : (ts : Words) → goes_on_label ts ≡ false → begins_with kinds.Colon ts ≡ false
 no_colon ts h = first (begins_with kinds.Colon ts) (begins_with kinds.Question ts || begins_with kinds.Bang ts) h
 
--- what stands behind the bracket of a list does not go on a label
+-- what is behind the bracket of a list does not go on a label
 pub list_no_label : {es : Trees} {end : End} {ts r : Words} → SpellsList es end ts r → goes_on_label r ≡ false → goes_on_bracket ts ≡ false
 list_no_label {ts = ts} {r = r} l h = by ts refl
   where

@@ -49,7 +49,7 @@ nesting_same before (w ∷ ts) ns ready link h =
     let now = turned (begins closes before) (goes_on w) link in
     ap (max (nesting_at ns)) (subst (λ ms. nesting_from_earlier (w ∷ before) ms ts ≡ nesting_from (w ∷ before) (behind before w ns) ts) (sym (behind_same before w ns ready now)) (nesting_same (w ∷ before) ts (behind before w ns) now h.0 h.1))
 
--- where no `]` stands directly before a colon or a mark, words nest as they did
+-- where no `]` is directly before a colon or a mark, words nest as they did
 pub same_nesting : (ts : Words) → Apart ts → earlier_nesting ts ≡ nesting ts
 same_nesting ts h = nesting_same [] ts (0 ∷ []) tt refl h
 

@@ -70,7 +70,7 @@ every_read = refl
 pub every_spelled : SpellsFile (one_file every_tree) every_form
 every_spelled = file_found every_form (one_file every_tree) every_read
 
--- the bracket that is open at `string`; the colon behind `]` is short, since its label stands behind another
+-- the bracket that is open at `string`; the colon behind `]` is short, since its label is behind another
 pub every_nested : nesting every_form ≡ 1
 every_nested = refl
 

@@ -1,4 +1,4 @@
--- In the words that a file without `[string]` spells, no `]` stands directly before a colon or the mark of a label.
+-- In the words that a file without `[string]` spells, no `]` is directly before a colon or the mark of a label.
 use Rattle.std.proofs.Common.{◌≡◌, ℕ, ℤ, Bool, true, false, ◌&&◌, List, [], ◌∷◌, Option, refl}
 use Rattle.std.specs.List.{AllByRecursion}
 use Rattle.cs_grammar.specs.declared.ast.FieldMark.{FieldMark}
@@ -23,12 +23,12 @@ abbrev pub begins : (Word → Bool) → Words → Bool
 begins p [] = false
 begins p (w ∷ ts) = p w
 
--- no `]` stands directly before a word that goes on behind a label
+-- no `]` is directly before a word that goes on behind a label
 abbrev pub Apart : Words → Type 0
 Apart [] = Unit {0}
 Apart (w ∷ ts) = (closes w && begins goes_on ts ≡ false) × Apart ts
 
--- words that may stand behind a `]`, too
+-- words that may be behind a `]`, too
 record Follows (ts : Words) : Type 0 where
   quiet : begins goes_on ts ≡ false
   apart : Apart ts

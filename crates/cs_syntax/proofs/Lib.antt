@@ -1,6 +1,6 @@
 -- What the proofs of this crate show: what the parser reads is spelled (`file_found` in `Soundness`, by induction on the depth), what is
 -- spelled within the limits is read (`read_file` in `Completeness`, by induction on the spelling), so words spell one file (`file_once`
--- in `FileAnswers`), and a fault stands at a word (`file_fault` in `Places`).
+-- in `FileAnswers`), and a fault is at a word (`file_fault` in `Places`).
 
 -- words, quoted texts, and the code beside the reader of the definitions
 pub mod WordKinds

@@ -1,4 +1,4 @@
--- How many values of a spelled tree stand inside one another is bounded by how deep its words nest.
+-- How many values of a spelled tree are inside one another is bounded by how deep its words nest.
 use Rattle.std.proofs.Common.{◌≡◌, ℕ, suc, ◌+◌, ◌≤◌, ℤ, List, [], ◌∷◌, Bool, true, false, Option, Some, None, cond, refl, ◌∙◌, subst, arith}
 use Rattle.std.proofs.lemmas.Bool.Decides.{nat_tests}
 use Rattle.std.specs.Prelude.{max, ◌||◌, codes}
@@ -14,7 +14,7 @@ use Rattle.cs_syntax.proofs.NestingCounts.{nesting-cons}
 
 -- ---- values inside one another
 
--- the values that stand inside an expression, one inside the other: of a bracket's content, and of a field
+-- the values that are inside an expression, one inside the other: of a bracket's content, and of a field
 abbrev mutual
   pub inside : Tree → ℕ
   inside (T.conjunction es) = inside_all es

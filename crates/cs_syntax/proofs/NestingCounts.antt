@@ -15,7 +15,7 @@ use Rattle.cs_syntax.specs.Nesting.{ends_with_chained_label, ends_with_chained_s
 use Rattle.cs_syntax.specs.Counting as counting
 use Rattle.cs_syntax.specs.Counting.{before_next, short_colon, levels_next, level_opened, level_closed, counted_from}
 
--- ---- what stands before a word
+-- ---- what is before a word
 
 -- the words passed, the newest first
 abbrev before_of : Words → PrecedingToken

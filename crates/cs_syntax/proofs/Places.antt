@@ -1,4 +1,4 @@
--- A fault stands at a word: what is left is an end of the words, and a fault is that of the first word of such an end.
+-- A fault is at a word: what is left is an end of the words, and a fault is that of the first word of such an end.
 use Rattle.std.proofs.Common.{◌≡◌, ℕ, zero, suc, ℤ, Bool, true, false, [], ◌∷◌, List, length, drop, Option, Some, None, Result, Ok, Err, refl, ap, ◌∙◌}
 use Rattle.cs_grammar.specs.declared.fault.SyntaxFault.{SyntaxFault}
 use Rattle.cs_grammar.specs.declared.fault.SyntaxFault.TheVariants as faults

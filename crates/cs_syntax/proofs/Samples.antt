@@ -66,7 +66,7 @@ a = W.name (codes "a") 0
 abbrev pub q : Word
 q = W.quoted (codes "a") 0
 
--- `#A:`, and what stands behind it
+-- `#A:`, and what is behind it
 abbrev pub body : Words → Words
 body ts = W.definition_name (codes "A") 0 ∷ W.colon 0 ∷ ts
 
@@ -135,7 +135,7 @@ other_levels = refl
 abbrev pub sorts : Words
 sorts = a ∷ W.definition_name (codes "A") 0 ∷ W.hidden 0 ∷ W.top_mark 0 ∷ W.bottom_mark 0 ∷ one_word ∷ q ∷ W.open_struct 0 ∷ W.close_struct 0 ∷ W.open_list 0 ∷ W.close_list 0 ∷ W.open_paren 0 ∷ W.close_paren 0 ∷ W.comma 0 ∷ W.nl 0 ∷ W.colon 0 ∷ W.question 0 ∷ W.bang 0 ∷ W.amp 0 ∷ W.bar 0 ∷ W.dots 0 ∷ W.relation atoms.less 0 ∷ W.unequal 0 ∷ W.minus 0 ∷ W.left_out 0 ∷ W.finish 0 ∷ []
 
--- the levels behind a word, where a label behind a colon stands before it, and 2 and 1 short colons are open
+-- the levels behind a word, where a label behind a colon is before it, and 2 and 1 short colons are open
 levels_behind : map (λ w. behind (a ∷ W.colon 0 ∷ []) w (2 ∷ 1 ∷ [])) sorts ≡ replicate 7 (2 ∷ 1 ∷ []) ++ (0 ∷ 2 ∷ 1 ∷ []) ∷ (1 ∷ []) ∷ (0 ∷ 2 ∷ 1 ∷ []) ∷ (1 ∷ []) ∷ (0 ∷ 2 ∷ 1 ∷ []) ∷ (1 ∷ []) ∷ (0 ∷ 1 ∷ []) ∷ (0 ∷ 1 ∷ []) ∷ (3 ∷ 1 ∷ []) ∷ replicate 10 (2 ∷ 1 ∷ [])
 levels_behind = refl
 

@@ -210,7 +210,7 @@ head_of (open_list o ∷ ts) = every_of o ts
 head_of (relation atoms.less p ∷ ts) = labelled_of (relation atoms.less p ∷ ts)
 head_of ts = labelled_of ts
 
--- ---- what stands behind the last field
+-- ---- what is behind the last field
 
 opening_none : (ts : Words) → IfRead (λ b r. SpellsOpening b ts r) (opening_if ts None)
 opening_none ts = if_left (ClosesStruct ts) (λ b r. SpellsOpening b ts r) (close_at kinds.CloseStruct ts) _ (closes_struct_of ts) (λ us c. unopened c)
@@ -267,7 +267,7 @@ plain_of ts = tt
 
 -- ---- what reads inside, and what is read by it
 
--- what is read inside is a value or, where no short form may stand, an expression
+-- what is read inside is a value or, where no short form is allowed, an expression
 record IsSound (r : Bool → Read Tree) : Type 0 where
   values : (ts : Words) → IfRead (λ e us. SpellsValue e ts us) (r true ts)
   exprs : (ts : Words) → IfRead (λ e us. SpellsExpr e ts us) (r false ts)
@@ -475,7 +475,7 @@ package_of ts = no_clause
 ok_is : (x y : FileTree) → ◌≡◌ {A = Result FileTree SyntaxFault} (Ok x) (Ok y) → x ≡ y
 ok_is x y e = cc
 
--- what stands behind the definitions of a file
+-- what is behind the definitions of a file
 end_file : (ts us vs : Words) (c : Option (List ℕ)) (ds : List DefinitionTree) (f : FileTree) → SpellsPackage c ts us → SpellsDefinitions ds us vs → (expected kinds.End vs >>= λ ws. whole (file c ds) ws) ≡ Ok f → SpellsFile f ts
 end_file ts us (finish q ∷ []) c ds f s t e = subst (λ x. SpellsFile x ts) (ok_is (file c ds) f e) (spelled s t)
 end_file ts us (finish q ∷ w ∷ vs) c ds f s t e = absurd cc

@@ -7,7 +7,7 @@ use Rattle.cs_syntax.specs.declared.parser.nesting.PrecedingToken.TheVariants as
 use Rattle.cs_grammar.specs.Words.{Words}
 use Rattle.cs_syntax.specs.Reading.{word_kind, names_string}
 
--- what stands before the next word: a colon; behind a colon a name or a text, its mark, or a part of the label `[string]`; and whether this word is the name `string`
+-- what is before the next word: a colon; behind a colon a name or a text, its mark, or a part of the label `[string]`; and whether this word is the name `string`
 abbrev pub before_next : PrecedingToken → Kind → Bool → PrecedingToken
 before_next b kinds.Colon n = before.Colon
 before_next before.Colon kinds.Name n = before.Label

@@ -10,7 +10,7 @@ use Rattle.cs_grammar.specs.Limits.{most_height}
 use Rattle.cs_syntax.specs.Height.{file_height}
 use Rattle.cs_syntax.specs.Nesting.{OpenLevels, ends_with_chained_label, counted_if, behind, nesting_at, most_nested}
 
--- a colon behind these words, the newest first, is short where its label is a name or a text that stands directly behind another colon
+-- a colon behind these words, the newest first, is short where its label is a name or a text that is directly behind another colon
 abbrev pub is_short_earlier : Words → Bool
 is_short_earlier (question o ∷ before) = ends_with_chained_label before
 is_short_earlier (bang o ∷ before) = ends_with_chained_label before

@@ -1,3 +1,4 @@
+-- The files that sources spell within the limits. Tokens, trees and the grammar are handed on from the crates below.
 pub use Rattle.cs_grammar.specs.Spelling
 pub use Rattle.cs_grammar.specs.TextParts
 pub use Rattle.cs_grammar.specs.Values

@@ -4,18 +4,18 @@ use Rattle.std.specs.List.{sum}
 use Rattle.cs_grammar.specs.Words.{Word, Words, name, definition_name, hidden, top_mark, bottom_mark, numeral, quoted, open_struct, close_struct, open_list, close_list, open_paren, close_paren, comma, nl, colon, question, bang, amp, bar, dots, relation, unequal, minus, left_out, finish}
 use Rattle.cs_grammar.specs.Spells.{is_string}
 
--- These words, the newest first, end with a name or a text that stands directly behind a colon.
+-- These words, the newest first, end with a name or a text that is directly behind a colon.
 abbrev pub ends_with_chained_label : Words → Bool
 ends_with_chained_label (name s o ∷ colon p ∷ before) = true
 ends_with_chained_label (quoted s o ∷ colon p ∷ before) = true
 ends_with_chained_label _ = false
 
--- They end with `[string]` that stands directly behind a colon.
+-- They end with `[string]` that is directly behind a colon.
 abbrev pub ends_with_chained_string : Words → Bool
 ends_with_chained_string (close_list o ∷ name s p ∷ open_list q ∷ colon r ∷ before) = is_string s
 ends_with_chained_string _ = false
 
--- A colon behind these words, the newest first, is short: its label, with its mark, stands directly behind another colon.
+-- A colon behind these words, the newest first, is short: its label, with its mark, is directly behind another colon.
 -- `[string]` is a label that takes no mark.
 abbrev pub is_short : Words → Bool
 is_short (question o ∷ before) = ends_with_chained_label before

@@ -1,4 +1,4 @@
--- Which fault a word out of place is, and where it stands.
+-- Which fault a word out of place is, and where it is.
 use Rattle.std.specs.Prelude.{◌≡◌, ℕ, Bool, true, false, List, [], ◌∷◌, codes}
 use Rattle.std.specs.List.{list_any}
 use Rattle.std.specs.Str.{bytes_eq}

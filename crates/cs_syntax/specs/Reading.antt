@@ -75,7 +75,7 @@ word_kind (minus o) = kinds.Minus
 word_kind (left_out o) = kinds.LeftOut
 word_kind (finish o) = kinds.End
 
--- the words behind one of that kind, where it stands
+-- the words behind one of that kind, where it is there
 abbrev pub after : Kind → Words → Option Words
 after k [] = None
 after k (w ∷ ts) = if sameb the_type (word_kind w) k then Some ts else None
@@ -109,7 +109,7 @@ number_behind ts (Some us) = unsigned_at true us
 unfoldable pub number_at : Read ℤ
 number_at ts = number_behind ts (after kinds.Minus ts)
 
--- ---- what stands here
+-- ---- what is here
 
 -- a word of that kind
 abbrev pub begins_with : Kind → Words → Bool
@@ -215,7 +215,7 @@ abbrev pub null_or : Bool → List ℕ → ℕ → Words → Result (Tree × Wor
 null_or true s p ts = Ok (atom not_null, ts)
 null_or false s p ts = Err (fault_of (name s p))
 
--- what stands behind `!=`
+-- what is behind `!=`
 unfoldable pub unequal_at : Read Tree
 unequal_at (quoted s p ∷ ts) = Ok (atom (not_text s), ts)
 unequal_at (name s p ∷ ts) = null_or (is_null s) s p ts
@@ -251,7 +251,7 @@ unbracketed_at (minus p ∷ ts) = integer_at (minus p ∷ ts)
 unbracketed_at ts = Err (fault_at ts)
 
 -- ---- fields
--- In what follows `r true` reads the values that stand inside, and `r false` the expressions, where no short form may stand.
+-- In what follows `r true` reads the values that are inside, and `r false` the expressions, where no short form is allowed.
 
 unfoldable pub label_at : Read Label
 label_at (name s p ∷ ts) = Ok (record { text = s; quotes = false }, ts)
@@ -271,7 +271,7 @@ mark_at ts = mark_if ts (after kinds.Question ts) (after kinds.Bang ts)
 abbrev pub string_at : Words → Result Words SyntaxFault
 string_at ts = or_fault ts (behind_if (begins_string ts) ts)
 
--- what stands behind the bracket of a label
+-- what is behind the bracket of a label
 unfoldable pub every_key_at : Read (Label × FieldMark)
 every_key_at ts = do
   us ← string_at ts
@@ -304,7 +304,7 @@ opening_if ts (Some us) = do
   ws ← close_at kinds.CloseStruct vs
   Ok (true, ws)
 
--- what stands behind the last field
+-- what is behind the last field
 abbrev pub opening_at : Read Bool
 opening_at ts = opening_if ts (opening ts)
 
@@ -323,7 +323,7 @@ struct_if r ts None None = do
   b ← opening_at fs.1
   Ok ((f.0 ∷ fs.0, b.0), b.1)
 
--- what stands behind `{`
+-- what is behind `{`
 unfoldable pub struct_with : (Bool → Read Tree) → Read (List Seen × Bool)
 struct_with r ts = struct_if r ts (after kinds.CloseStruct ts) (after kinds.Dots ts)
 
@@ -338,7 +338,7 @@ rest_if r false ts = do
   us ← close_at kinds.CloseList e.1
   Ok (each e.0, us)
 
--- what stands behind the `...` of a list
+-- what is behind the `...` of a list
 unfoldable pub rest_with : (Bool → Read Tree) → Read End
 rest_with r ts = rest_if r (may_end ts) ts
 
@@ -350,7 +350,7 @@ end_if r ts (Some us) = do
   vs ← expected kinds.Dots us
   rest_with r vs
 
--- what stands behind the last element
+-- what is behind the last element
 unfoldable pub end_with : (Bool → Read Tree) → Read End
 end_with r ts = end_if r ts (rest_behind ts)
 
@@ -369,7 +369,7 @@ list_if r ts None None = do
   x ← end_with r es.1
   Ok ((e.0 ∷ es.0, x.0), x.1)
 
--- what stands behind `[`
+-- what is behind `[`
 unfoldable pub list_with : (Bool → Read Tree) → Read (List Tree × End)
 list_with r ts = list_if r ts (after kinds.CloseList ts) (after kinds.Dots ts)
 
@@ -485,7 +485,7 @@ file_with d ts = do
   us ← expected kinds.End ds.1
   whole (file c.0 ds.0) us
 
--- how deep values stand in a file whose words nest no deeper than they may: the body is one value, and so many stand
+-- how deep values are in a file whose words nest no deeper than they may: the body is one value, and so many stand
 -- inside it
 abbrev pub most_depth : ℕ
 most_depth = most_nested + 1

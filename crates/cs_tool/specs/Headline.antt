@@ -30,10 +30,10 @@ pub record IsExport (sources : List (List ℕ)) (root text : List ℕ) : Type 0 
   pub read : Reads text schema
   pub profile : IsSchema schema
   pub trimmed : trim schema ≡ schema
-  -- it refers to the root's definition, and defines just the names that this one reaches, itself among them
+  -- it refers to the root's definition, and defines exactly the names that this one reaches, itself among them
   pub refers : (ds : Option Document) × (schema ≡ with_dialect (with_definitions ds (reference_to name)))
   pub definitions : (m : List ℕ) → IsSome (defined schema m) ↔ Reaches environment name m
-  -- there is one instance relation and one validity, and each document is valid just where it is an instance of the root
+  -- there is one instance relation and one validity, and each document is valid exactly where it is an instance of the root
   pub one_instance : instance.OneMeaning environment
   pub one_validity : validity.OneMeaning schema
   pub admits : (V : Document → Document → Bool) (I : Rule → Document → Bool) → IsValidity schema V → IsInstance environment I

@@ -1,3 +1,4 @@
+-- What the calls answer and refuse.
 pub mod Accepted
 pub mod Headline
 pub mod Translated

@@ -1,3 +1,5 @@
+// The calls of a run with their bytes.
+
 /// What a run is asked to do: the call of its name, on these bytes. Where `files` is empty, the bytes of the input are the
 /// one source, and where `doc` is absent, they are the document. A root is named with its `#`.
 #[derive(Drop)]

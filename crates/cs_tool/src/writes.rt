@@ -1,3 +1,4 @@
+// Writing an answer, or the line of a refusal.
 ghost use Rattle.std.specs.Prelude.{◌≡◌, ◌+◌, ◌≤◌, [], ◌++◌, length, take, OnOk, OnErr, Err};
 ghost use Rattle.std.specs.Io.KnownBytes.{Appends};
 ghost use Rattle.cs_tool.specs.Streams.{AppendsFront};
@@ -7,7 +8,7 @@ use crate::Fault;
 use itoa::Buffer;
 use std::io::Write;
 
-// A line has two numbers of at most 20 digits, and 11 bytes round them.
+/// A line has two numbers of at most 20 digits, and 11 bytes round them.
 const LINE_ROOM: usize = 64;
 
 /// Writes the text and flushes. After an error the writer has a front of the text.
@@ -34,7 +35,7 @@ pub fn write_fault<W: Write>(fault: &Fault, output: &mut W) -> Result<(), Fault>
     write_text(output, &line[..end])
 }
 
-// Puts the fault's line at the front, and returns how long it is.
+/// Puts the fault's line at the front, and returns how long it is.
 fn fill_line(fault: &Fault, line: &mut [u8; LINE_ROOM]) -> usize
     ensures within { result ≤ LINE_ROOM }
     ensures text { take result line.new ≡ fault_line fault.now }
@@ -49,7 +50,7 @@ fn fill_line(fault: &Fault, line: &mut [u8; LINE_ROOM]) -> usize
     put(line, end, b"\n")
 }
 
-// Puts a part at a place, and returns where it ends.
+/// Puts a part at a place, and returns where it ends.
 fn put(line: &mut [u8], at: usize, part: &[u8]) -> usize
     requires { at + length part.now ≤ length line.old }
     ensures end { result ≡ at + length part.now }
@@ -60,7 +61,7 @@ fn put(line: &mut [u8], at: usize, part: &[u8]) -> usize
     end
 }
 
-// Every error counts, an interruption too.
+/// Every error counts, an interruption too.
 fn write_part<W: Write>(output: &mut W, text: &[u8]) -> Result<(), Fault>
     ensures all { OnOk result (Appends (W.contents output.old) (W.contents output.new) text.now) }
     ensures front { OnErr result

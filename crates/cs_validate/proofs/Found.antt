@@ -1,4 +1,4 @@
--- What stands under a key is one of the members, and a key is a name where something stands under it.
+-- What is under a key is one of the members, and a key is a name where something is under it.
 use Rattle.std.proofs.Common.{◌≡◌, ℕ, ◌<◌, Bool, true, false, ◌||◌, List, [], ◌∷◌, Some, is_some, String, Global, string_bytes, if◌then◌else◌, refl, arith}
 use Rattle.std.specs.List.{list_any, AllByRecursion as Each}
 use Rattle.std.specs.Str.{bytes_eq}

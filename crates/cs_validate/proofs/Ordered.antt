@@ -32,7 +32,7 @@ use Rattle.cs_validate.specs.declared.definitions.Ranked.{Ranked}
 use Rattle.cs_validate.specs.declared.rules.Rule.{Rule as Coded}
 use Rattle.cs_validate.proofs.Placed.{each_push, known_more}
 
--- ---- a definition stands under its name
+-- ---- a definition is under its name
 
 apart : (s t : String Global) → string_cmp t s ≡ Less → bytes_eq (string_bytes s) (string_bytes t) ≡ false
 apart s t l = by (bytes_eq (string_bytes s) (string_bytes t)) refl
@@ -181,7 +181,7 @@ module _ (R : Document) (ds : List Ranked) (ranked : AreRanked R ds) (i : ℕ) (
   pub ranked_here : IsRanked R d
   ranked_here = subst (IsRanked R) (sym is) (All-get_or (IsRanked R) ds i d within ranked.ranks)
 
-  -- it stands before
+  -- it is before
   before : (m : List ℕ) → Contains (direct_names (schema_of d)) m → Contains (map name_of ds) m → Contains (map name_of (take i ds)) m
   before m c on =
       let j = on.0 in

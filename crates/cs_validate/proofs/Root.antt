@@ -105,7 +105,7 @@ module _ (R : Document) where
 
 -- ---- the schemas in the root
 
--- what stands before a schema in what is placed with it
+-- what is before a schema in what is placed with it
 abbrev pub before : Document → List Document
 before (object ms) = placed_by_members ms
 before _ = []

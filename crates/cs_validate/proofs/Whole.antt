@@ -32,7 +32,7 @@ exchange a b c d =
     let three = equal (a ++ ((c ++ b) ++ d)) ((a ++ c) ++ (b ++ d)) (ap (λ xs. a ++ xs) (append_assoc c b d) ∙ sym (append_assoc a c (b ++ d))) in
     joined one (joined two three)
 
--- what stands behind some stands before them
+-- what is behind some is before them
 pub to_front : (x : Document) (xs ys zs : List Document) → Same (xs ++ ys) zs → Same ((xs ++ x ∷ []) ++ ys) (x ∷ zs)
 to_front x xs ys zs h = joined (equal ((xs ++ x ∷ []) ++ ys) (xs ++ x ∷ ys) (append_assoc xs (x ∷ []) ys)) (joined (IsPermutation-middle xs x ys) (IsPermutation-cons x (xs ++ ys) zs h))
 
@@ -112,7 +112,7 @@ parts_whole P Q xs ys A B h k =
     joined (equal _ _ (ap (λ zs. (P ++ Q) ++ zs) (inside_append xs ys)))
     (joined (exchange P Q (inside xs) (inside ys)) (IsPermutation-append (P ++ inside xs) A (Q ++ inside ys) B h k))
 
--- what waits of a member stands in two places
+-- what waits of a member is in two places
 left_apart : (a b c d : List Document) (Q X : List Document) → Same (Q ++ inside ((a ++ c) ++ (b ++ d))) X → Same (Q ++ inside ((a ++ b) ++ (c ++ d))) X
 left_apart a b c d Q X h =
     let turned = exchange (inside a) (inside b) (inside c) (inside d) in

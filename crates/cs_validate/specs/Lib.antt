@@ -1,3 +1,4 @@
+-- The rules that documents are judged by. What validity is, is in `cs_profile`.
 pub mod Numbering
 pub mod Rules
 pub mod Judging

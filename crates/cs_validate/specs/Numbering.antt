@@ -62,7 +62,7 @@ PartsBelow n m (conjunction claims) = AllByRecursion (ClaimBelow n m) claims
 abbrev pub schema_at : List Document → ℕ → Document
 schema_at rules r = get_or rules r (boolean false)
 
--- for each schema what it asks, by the places of its parts in the list: those asked of the same document stand before it
+-- for each schema what it asks, by the places of its parts in the list: those asked of the same document are before it
 pub record IsNumbering (R : Document) (rules : List Document) (asked : List (Constraint ℕ ℕ)) : Type 0 where
   pub count : length asked ≡ length rules
   pub asks : (r : ℕ) (c : Constraint ℕ ℕ) → slice_get asked r ≡ Some c → said (constraint_of R (schema_at rules r)) ≡ said (map_constraint (schema_at rules) (schema_at rules) c)

@@ -92,14 +92,14 @@ abbrev mutual
 abbrev pub IsKnown : Document → List (Entry ℕ) → List Document → List ℕ → Type 0
 IsKnown R numbers placed n = (option_map (schema_at placed) (under n numbers) ≡ defined R n) × AllByRecursion (λ k. k < length placed) (option_to_list (under n numbers))
 
--- with schemas numbered, their rules stand behind those before, and what they ask of documents inside waits behind the rest
+-- with schemas numbered, their rules are behind those before, and what they ask of documents inside waits behind the rest
 abbrev pub PlacesAll : List (Entry ℕ) → List Coded → List Coded → List (Bor Schema) → List (Bor Schema) → List Document → List ℕ → Type 0
 PlacesAll numbers old new before after ss ks =
     (waiting after ≡ waiting before ++ flat_map left_by ss)
     × ((R : Document) (placed : List Document) → AreNumbered R placed (waiting before) old → AllByRecursion (IsKnown R numbers placed) (flat_map direct_names ss)
     → AreNumbered R (placed ++ flat_map placed_by ss) (waiting after) new × AreAt (placed ++ flat_map placed_by ss) ks ss)
 
--- with a schema numbered k, its rules stand behind those before, and what it asks of documents inside waits behind the rest
+-- with a schema numbered k, its rules are behind those before, and what it asks of documents inside waits behind the rest
 abbrev pub Places : List (Entry ℕ) → List Coded → List Coded → List (Bor Schema) → List (Bor Schema) → Document → ℕ → Type 0
 Places numbers old new before after s k =
     (waiting after ≡ waiting before ++ left_by s)

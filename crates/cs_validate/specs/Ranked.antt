@@ -40,7 +40,7 @@ pub record AreRanked (R : Document) (ds : List Ranked) : Type 0 where
   pub sorted : IsNonDecreasingBy (λ d. d.rank) ds
   pub all : (n : List ℕ) → Contains (map name_of ds) n ⊎ (defined R n ≡ None)
 
--- with the schema s of the name n numbered, its rules stand behind those before, and n has its number
+-- with the schema s of the name n numbered, its rules are behind those before, and n has its number
 pub record PlacesOne (n : List ℕ) (s : Document) (numbers new : List (Entry ℕ)) (r0 r1 : List Coded) (b0 b1 : List (Bor Schema)) : Type 0 where
   pub number : ℕ
   pub placed : Places numbers r0 r1 b0 b1 s number
@@ -53,7 +53,7 @@ pub record ArePlacedBy (R : Document) (ds : List Ranked) (numbers : List (Entry 
   pub known : AllByRecursion (IsKnown R numbers (flat_map placed_by (map schema_of ds))) (map name_of ds)
   pub others : (n : List ℕ) → Contains (map name_of ds) n ⊎ (under n numbers ≡ None)
 
--- with what waited numbered in its order as far as `inner` goes, the rules stand behind those placed before; what still
+-- with what waited numbered in its order as far as `inner` goes, the rules are behind those placed before; what still
 -- waits and all that is in it make up the rest
 pub record PlacesWaiting (R : Document) (placed first : List Document) (rules : List Coded) (pending : List (Bor Schema)) (inner : List ℕ) : Type 0 where
   pub more : List Document

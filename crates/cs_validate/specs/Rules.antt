@@ -8,7 +8,7 @@ use Rattle.cs_table.specs.Limit.{most_pairs}
 use Rattle.cs_profile.specs.Shapes.{form_at, BySchemas, by_form}
 use Rattle.cs_profile.specs.declared.keyword.Form.{Form}
 
--- what stands in a keyword's value, by the schemas that it holds
+-- what is in a keyword's value, by the schemas that it holds
 abbrev pub in_value : {A : Type 0} → Option Form → BySchemas (List A) → List A
 in_value None answers = []
 in_value (Some f) answers = by_form f answers

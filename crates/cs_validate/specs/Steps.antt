@@ -58,7 +58,7 @@ prefix_place c = items_place c + one_if c.keywords.now.rest
 abbrev pub properties_place : Conjunction → ℕ
 properties_place c = prefix_place c + length c.keywords.now.prefix.items
 
--- what each keyword asks, if it stands, in the byte order of their names
+-- what each keyword asks, if it is there, in the byte order of their names
 abbrev pub claims_of : Conjunction → List (Option (Assertion ℕ ℕ))
 claims_of c =
     option_map (λ n. valid_by c.reference) c.keywords.now.reference
@@ -86,7 +86,7 @@ asked_of (rule.Truth true) = always
 asked_of (rule.Truth false) = never
 asked_of (rule.Object c) = conjunction (flat_map option_to_list (claims_of c))
 
--- the same, with the numbers that stand in that list
+-- the same, with the numbers that are in that list
 abbrev pub numbered : List ℕ → Rule → Constraint ℕ ℕ
 numbered inner r = map_constraint (λ k. k) (slice_index inner) (asked_of r)
 

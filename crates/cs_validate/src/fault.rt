@@ -1,3 +1,4 @@
+// The refusals of the judge of validity.
 use cs_table::TableFault;
 use std::alloc::AllocError;
 use thiserror::Error;

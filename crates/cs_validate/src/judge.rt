@@ -18,7 +18,7 @@ pub(crate) struct Numbering<'a> {
 }
 
 /// Judges the values of a document by a schema document, its definitions and every schema inside them: the items of
-/// [`cs_flat::Flat`] by rules, each of which stands after those that it asks of the same value.
+/// [`cs_flat::Flat`] by rules, each of which is after those that it asks of the same value.
 #[derive(Drop)]
 pub struct ValidJudge<'a> {
     pub(crate) numbering: Numbering<'a>,

@@ -29,6 +29,6 @@ pub(crate) struct Conjunction<'a> {
     /// `not`
     pub(crate) negated: Option<usize>,
     /// The place of the first schema that is asked of documents inside: those of `additionalProperties`, `items`,
-    /// `prefixItems` and `properties` stand one after another.
+    /// `prefixItems` and `properties` are one after another.
     pub(crate) first: usize,
 }

@@ -52,7 +52,7 @@ fn some_holds(parts: &[usize], item: usize, done: &Verdicts) -> bool
     false
 }
 
-/// Whether the definition that `$ref` names, if it stands, is defined and validates a value (Core, section 8.2.3.1).
+/// Whether the definition that `$ref` names, if it is there, is defined and validates a value (Core, section 8.2.3.1).
 fn reference_holds(conjunction: &Conjunction<'_>, item: usize, done: &Verdicts) -> bool
     requires item { item < done.now.items }
     requires parts { IfSome conjunction.now.keywords.now.reference (λ n. AllByRecursion (λ q. q < done.now.rules) (option_to_list conjunction.now.reference)) }
@@ -65,7 +65,7 @@ fn reference_holds(conjunction: &Conjunction<'_>, item: usize, done: &Verdicts) 
     }
 }
 
-/// Whether the schema of `not`, if it stands, doesn't validate a value (Core, section 10.2.1.4).
+/// Whether the schema of `not`, if it is there, doesn't validate a value (Core, section 10.2.1.4).
 fn negation_holds(negated: Option<usize>, item: usize, done: &Verdicts) -> bool
     requires item { item < done.now.items }
     requires parts { AllByRecursion (λ q. q < done.now.rules) (option_to_list negated) }
@@ -151,7 +151,7 @@ fn rest_holds(
     each_holds(&children[front..], part, inner, done)
 }
 
-/// Whether the value under a key, if it stands, is valid by the schema at a place of `inner`.
+/// Whether the value under a key, if it is there, is valid by the schema at a place of `inner`.
 fn property_holds(
     name: &str,
     place: usize,
@@ -171,7 +171,7 @@ fn property_holds(
     }
 }
 
-/// Whether the value under each declared name, if it stands, is valid by the name's schema: these stand from a place of
+/// Whether the value under each declared name, if it is there, is valid by the name's schema: these stand from a place of
 /// `inner` on (Core, section 10.3.2.1).
 fn properties_hold(
     properties: &BTreeMap<String, Schema>,
@@ -237,7 +237,7 @@ fn others_hold(
 
 // ---- all keywords
 
-/// The place behind that of a schema, if it stands.
+/// The place behind that of a schema, if it is there.
 fn behind(place: usize, schema: &Option<Schema>) -> usize
     requires { IfSome schema.now (λ s. place + 1 < 2 ^ 64) }
     ensures { result ≡ place + one_if schema.now }

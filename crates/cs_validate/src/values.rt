@@ -29,7 +29,7 @@ fn is_of_kind(kind: JsonKind, value: &Item<'_>) -> bool
     }
 }
 
-/// Whether a value has the kind that `type` names, if it stands.
+/// Whether a value has the kind that `type` names, if it is there.
 fn has_kind(kind: Option<JsonKind>, value: &Item<'_>) -> bool
     ensures { result ≡ if_there (λ j. validity.is_of_kind (kind_of j) (item_view value.now)) kind }
 {
@@ -39,7 +39,7 @@ fn has_kind(kind: Option<JsonKind>, value: &Item<'_>) -> bool
     }
 }
 
-/// Whether a value equals that of `const`, if it stands (Validation, section 6.1.3).
+/// Whether a value equals that of `const`, if it is there (Validation, section 6.1.3).
 fn is_equal(value: &Option<Doc>, doc: &Doc) -> bool
     ensures { result ≡ if_there (λ v. document_eq (doc_view v) (doc_view doc.now)) value.now }
 {
@@ -49,7 +49,7 @@ fn is_equal(value: &Option<Doc>, doc: &Doc) -> bool
     }
 }
 
-/// Whether a value is one of those of `enum`, if it stands (Validation, section 6.1.2).
+/// Whether a value is one of those of `enum`, if it is there (Validation, section 6.1.2).
 fn is_listed(values: &Option<DocSet<'_>>, doc: &Doc) -> bool
     ensures { result ≡ if_there (λ vs. list_any (λ v. document_eq v (doc_view doc.now)) vs) values.now }
 {
@@ -87,7 +87,7 @@ pub(crate) fn integer_holds(keywords: &Keywords, n: i64) -> bool
     is_not_above(keywords, n) && is_not_below(keywords, n)
 }
 
-/// Whether a list isn't shorter than `minItems`, if it stands (Validation, section 6.4.5).
+/// Whether a list isn't shorter than `minItems`, if it is there (Validation, section 6.4.5).
 pub(crate) fn length_holds(least: Option<i64>, length: usize) -> bool
     ensures { result ≡ if_there (λ l. is_long l length) least }
 {

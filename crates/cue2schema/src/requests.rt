@@ -58,7 +58,7 @@ fn files_of(rt: &HostRuntime, words: &ArgMatches<'_>) -> Result<Vec<Vec<u8>>, Fa
     }
 }
 
-/// The word after `--root`, as it stands.
+/// The word after `--root`, as it is.
 fn root_of(alloc: Global, words: &ArgMatches<'_>) -> Result<String, Fault> {
     Ok(String::from_str(alloc, word_of(words, "root"))?)
 }

@@ -12,7 +12,7 @@ use crate::parser::place::Parser;
 use cs_grammar::{Expr, Field, Kind, ListEnd, SyntaxFault};
 
 impl Parser<'_, '_> {
-    // A value, which may be a field alone, or an expression, where no such short form is allowed.
+    /// A value, which may be a field alone, or an expression, where no such short form is allowed.
     #[cycle(parse)]
     #[tactic(auto, unfolding(crate::specs::Reading::inner))]
     pub(crate) fn inside(&mut self, depth: usize, short: bool) -> Result<Expr, SyntaxFault>
@@ -36,7 +36,7 @@ impl Parser<'_, '_> {
         })
     }
 
-    // A field: its label, its mark, a colon and its value.
+    /// A field: its label, its mark, a colon and its value.
     #[cycle(parse)]
     #[tactic(auto, unfolding(crate::specs::Reading::field_with))]
     fn field(&mut self, depth: usize) -> Result<Field, SyntaxFault>
@@ -54,7 +54,7 @@ impl Parser<'_, '_> {
         })
     }
 
-    // The fields after the first.
+    /// The fields after the first.
     #[cycle(parse)]
     fn fields(&mut self, depth: usize) -> Result<Vec<Field>, SyntaxFault>
         requires { depth ≤ most_depth }
@@ -71,7 +71,7 @@ impl Parser<'_, '_> {
         Ok(fields)
     }
 
-    // What follows the bracket that opens a struct: its fields, and whether it is opened.
+    /// What follows the bracket that opens a struct: its fields, and whether it is opened.
     #[cycle(parse)]
     #[tactic(auto, unfolding(crate::specs::Reading::struct_with))]
     fn structure(&mut self, depth: usize) -> Result<(Vec<Field>, bool), SyntaxFault>
@@ -93,7 +93,7 @@ impl Parser<'_, '_> {
         Ok((fields, opened))
     }
 
-    // What follows the `...` of a list.
+    /// What follows the `...` of a list.
     #[cycle(parse)]
     #[tactic(auto, unfolding(crate::specs::Reading::rest_with))]
     fn list_rest(&mut self, depth: usize) -> Result<ListEnd, SyntaxFault>
@@ -109,7 +109,7 @@ impl Parser<'_, '_> {
         Ok(ListEnd::Each(Box::new(self.alloc, each)?))
     }
 
-    // What follows the last element of a list.
+    /// What follows the last element of a list.
     #[cycle(parse)]
     #[tactic(auto, unfolding(crate::specs::Reading::end_with))]
     fn list_end(&mut self, depth: usize) -> Result<ListEnd, SyntaxFault>
@@ -124,7 +124,7 @@ impl Parser<'_, '_> {
         self.list_rest(depth)
     }
 
-    // The elements after the first.
+    /// The elements after the first.
     #[cycle(parse)]
     fn elements(&mut self, depth: usize) -> Result<Vec<Expr>, SyntaxFault>
         requires { depth ≤ most_depth }
@@ -141,7 +141,7 @@ impl Parser<'_, '_> {
         Ok(elements)
     }
 
-    // What follows the bracket that opens a list.
+    /// What follows the bracket that opens a list.
     #[cycle(parse)]
     #[tactic(auto, unfolding(crate::specs::Reading::list_with))]
     fn list(&mut self, depth: usize) -> Result<(Vec<Expr>, ListEnd), SyntaxFault>
@@ -163,7 +163,7 @@ impl Parser<'_, '_> {
         Ok((front, end))
     }
 
-    // An operand.
+    /// An operand.
     #[cycle(parse)]
     #[tactic(auto, unfolding(crate::specs::Reading::operand_with))]
     fn operand(&mut self, depth: usize) -> Result<Expr, SyntaxFault>
@@ -195,7 +195,7 @@ impl Parser<'_, '_> {
         }
     }
 
-    // The operands of `&` after the first.
+    /// The operands of `&` after the first.
     #[cycle(parse)]
     fn amps(&mut self, depth: usize) -> Result<Vec<Expr>, SyntaxFault>
         requires { depth ≤ most_depth }
@@ -212,7 +212,7 @@ impl Parser<'_, '_> {
         Ok(operands)
     }
 
-    // Operands joined by `&`; one alone makes no `And`.
+    /// Operands joined by `&`; one alone makes no `And`.
     #[cycle(parse)]
     #[tactic(auto, unfolding(crate::specs::Reading::conj_with))]
     fn conj(&mut self, depth: usize) -> Result<Expr, SyntaxFault>
@@ -228,7 +228,7 @@ impl Parser<'_, '_> {
         Ok(Expr::And(operands))
     }
 
-    // The operands of `|` after the first.
+    /// The operands of `|` after the first.
     #[cycle(parse)]
     fn bars(&mut self, depth: usize) -> Result<Vec<Expr>, SyntaxFault>
         requires { depth ≤ most_depth }
@@ -245,7 +245,7 @@ impl Parser<'_, '_> {
         Ok(operands)
     }
 
-    // Operands joined by `|`, which binds less tightly than `&`; one alone makes no `Or`.
+    /// Operands joined by `|`, which binds less tightly than `&`; one alone makes no `Or`.
     #[cycle(parse)]
     #[tactic(auto, unfolding(crate::specs::Reading::expr_with))]
     fn expr(&mut self, depth: usize) -> Result<Expr, SyntaxFault>

@@ -12,7 +12,7 @@ use cs_grammar::{FieldMark, Kind, SyntaxFault};
 use cs_lexer::unescape;
 
 impl Parser<'_, '_> {
-    // Whether what stands after a `[` makes it a label: `string`, `]` and a colon.
+    /// Whether what is after a `[` makes it a label: `string`, `]` and a colon.
     fn goes_on_bracket(&self) -> bool
         ensures { result ≡ goes_on_bracket (left self.now) }
     {
@@ -21,8 +21,8 @@ impl Parser<'_, '_> {
             && self.behind().is_behind(Kind::Colon)
     }
 
-    // Whether the next token begins a label: one with a mark or a colon after it, a name that
-    // isn't an operand, or the bracket of `[string]` with a colon after it.
+    /// Whether the next token begins a label: one with a mark or a colon after it, a name that
+    /// isn't an operand, or the bracket of `[string]` with a colon after it.
     pub(crate) fn begins_field(&self) -> bool
         ensures { result ≡ begins_field (left self.now) }
     {
@@ -40,7 +40,7 @@ impl Parser<'_, '_> {
         }
     }
 
-    // Passes over a comma that has another field after it.
+    /// Passes over a comma that has another field after it.
     pub(crate) fn skip_to_field(&mut self) -> bool
         ensures { Skips result self.old self.new (another_field (left self.old)) }
     {
@@ -49,7 +49,7 @@ impl Parser<'_, '_> {
         self.skip_if(comma && !ends)
     }
 
-    // Passes over a comma that has another element after it.
+    /// Passes over a comma that has another element after it.
     pub(crate) fn skip_to_element(&mut self) -> bool
         ensures { Skips result self.old self.new (another_element (left self.old)) }
     {
@@ -58,7 +58,7 @@ impl Parser<'_, '_> {
         self.skip_if(comma && !ends)
     }
 
-    // Passes over a comma that has the `...` of a struct after it.
+    /// Passes over a comma that has the `...` of a struct after it.
     fn skip_to_opening(&mut self) -> bool
         ensures { Skips result self.old self.new (opening (left self.old)) }
     {
@@ -67,7 +67,7 @@ impl Parser<'_, '_> {
         self.skip_if(comma && dots)
     }
 
-    // Passes over a comma that has the `...` of a list after it.
+    /// Passes over a comma that has the `...` of a list after it.
     pub(crate) fn skip_to_rest(&mut self) -> bool
         ensures { Skips result self.old self.new (rest_behind (left self.old)) }
     {
@@ -76,7 +76,7 @@ impl Parser<'_, '_> {
         self.skip_if(comma && dots)
     }
 
-    // Whether the bracket of a list may close here.
+    /// Whether the bracket of a list may close here.
     pub(crate) fn may_end(&self) -> bool
         ensures { result ≡ may_end (left self.now) }
     {
@@ -84,7 +84,7 @@ impl Parser<'_, '_> {
         self.is_at(Kind::CloseList) || comma
     }
 
-    // The name or the text of a label, and whether it is quoted.
+    /// The name or the text of a label, and whether it is quoted.
     #[tactic(auto, unfolding(crate::specs::Reading::label_at))]
     fn label(&mut self) -> Result<(String, bool), SyntaxFault>
         ensures { Reads (λ x. label_of (string_bytes x.0) x.1) result self.new (label_at (left self.old)) }
@@ -99,7 +99,7 @@ impl Parser<'_, '_> {
         }
     }
 
-    // The mark of a field.
+    /// The mark of a field.
     fn mark(&mut self) -> FieldMark
         ensures { mark_at (left self.old) ≡ (result, left self.new) }
     {
@@ -112,7 +112,7 @@ impl Parser<'_, '_> {
         FieldMark::Regular
     }
 
-    // What follows the bracket of a label: `string` and `]`. The label has no text.
+    /// What follows the bracket of a label: `string` and `]`. The label has no text.
     #[tactic(auto, unfolding(crate::specs::Reading::every_key_at))]
     fn every_key(&mut self) -> Result<(String, bool, FieldMark), SyntaxFault>
         ensures { Reads (λ x. (label_of (string_bytes x.0) x.1, x.2)) result self.new (every_key_at (left self.old)) }
@@ -123,7 +123,7 @@ impl Parser<'_, '_> {
         Ok((String::new(self.alloc), true, FieldMark::Every { at }))
     }
 
-    // The text of a label, whether it is quoted, and its mark.
+    /// The text of a label, whether it is quoted, and its mark.
     #[tactic(auto, unfolding(crate::specs::Reading::head_at))]
     pub(crate) fn head(&mut self) -> Result<(String, bool, FieldMark), SyntaxFault>
         ensures { Reads (λ x. (label_of (string_bytes x.0) x.1, x.2)) result self.new (head_at (left self.old)) }
@@ -136,7 +136,7 @@ impl Parser<'_, '_> {
         Ok((label, quoted, mark))
     }
 
-    // What follows the last field of a struct: whether it is opened.
+    /// What follows the last field of a struct: whether it is opened.
     pub(crate) fn opening(&mut self) -> Result<bool, SyntaxFault>
         ensures { Reads (λ b. b) result self.new (opening_at (left self.old)) }
     {

@@ -26,7 +26,7 @@ use cs_lexer::lex;
 use std::alloc::Global;
 
 impl Parser<'_, '_> {
-    // A definition: its name, a colon and its body.
+    /// A definition: its name, a colon and its body.
     #[tactic(auto, unfolding(crate::specs::Reading::definition_at))]
     fn definition(&mut self, depth: usize) -> Result<Definition, SyntaxFault>
         requires { depth ≤ most_depth }
@@ -45,7 +45,7 @@ impl Parser<'_, '_> {
         Ok(Definition { name, at, body })
     }
 
-    // A definition and its comma.
+    /// A definition and its comma.
     #[tactic(auto, unfolding(crate::specs::Reading::line_at))]
     fn line(&mut self, depth: usize) -> Result<Definition, SyntaxFault>
         requires { depth ≤ most_depth }
@@ -56,7 +56,7 @@ impl Parser<'_, '_> {
         Ok(definition)
     }
 
-    // The definitions up to the end.
+    /// The definitions up to the end.
     fn definitions(&mut self, depth: usize) -> Result<Vec<Definition>, SyntaxFault>
         requires { depth ≤ most_depth }
         ensures { Reads (λ v. map definition_view v.items) result self.new
@@ -72,7 +72,7 @@ impl Parser<'_, '_> {
         Ok(definitions)
     }
 
-    // Whether the next token begins a package clause.
+    /// Whether the next token begins a package clause.
     fn is_clause(&self) -> bool
         ensures { result ≡ is_clause (left self.now) }
     {
@@ -82,7 +82,7 @@ impl Parser<'_, '_> {
         }
     }
 
-    // The name of a package clause, and its comma.
+    /// The name of a package clause, and its comma.
     #[tactic(auto, unfolding(crate::specs::Reading::clause_at))]
     fn clause(&mut self) -> Result<String, SyntaxFault>
         ensures { Reads string_bytes result self.new (clause_at (left self.old)) }
@@ -97,7 +97,7 @@ impl Parser<'_, '_> {
         Ok(String::from_str(self.alloc, token.text)?)
     }
 
-    // The package clause, where there is one.
+    /// The package clause, where there is one.
     #[tactic(auto, unfolding(crate::specs::Reading::package_at))]
     fn package(&mut self) -> Result<Option<String>, SyntaxFault>
         ensures { Reads (option_map string_bytes) result self.new (package_at (left self.old)) }
@@ -109,7 +109,7 @@ impl Parser<'_, '_> {
         Ok(Some(self.clause()?))
     }
 
-    // A file, and the end.
+    /// A file, and the end.
     #[tactic(auto, unfolding(crate::specs::Reading::file_with))]
     fn file(&mut self, depth: usize) -> Result<File, SyntaxFault>
         requires { depth ≤ most_depth }
@@ -142,7 +142,7 @@ fn file_of(alloc: Global, tokens: &[Token<'_>]) -> Result<File, SyntaxFault>
     parser.file(MOST_NESTED + 1)
 }
 
-// The file that tokens spell within the limits.
+/// The file that tokens spell within the limits.
 #[tactic(auto, unfolding(crate::specs::Within::file_within))]
 fn file_within(alloc: Global, tokens: &[Token<'_>]) -> Result<File, SyntaxFault>
     requires { are_quoted (lexemes_view tokens.now) ≡ true }

@@ -6,7 +6,7 @@ ghost use Rattle.cs_syntax.specs.Height.{height, height_all, height_fields, heig
 
 use cs_grammar::{Definition, Expr, Field, ListEnd};
 
-// Whether an expression is at most so high.
+/// Whether an expression is at most so high.
 #[cycle(height)]
 fn is_low(expr: &Expr, limit: usize) -> bool
     ensures { result ≡ nat_le (height (expr_view expr.now)) limit }
@@ -61,7 +61,7 @@ fn is_low_end(end: &ListEnd, limit: usize) -> bool
     }
 }
 
-// Whether no body is higher than that.
+/// Whether no body is higher than that.
 pub(crate) fn are_low_bodies(definitions: &Vec<Definition>, limit: usize) -> bool
     ensures { result ≡ nat_le (height_definitions (map definition_view definitions.now.items)) limit }
 {

@@ -8,7 +8,7 @@ ghost use Rattle.cs_syntax.specs.Reading.{names_string};
 use crate::parser::name::is_string;
 use cs_grammar::{Kind, Sort, Token};
 
-// What a mark is for the grammar.
+/// What a mark is for the grammar.
 fn mark_kind(text: &str) -> Kind
     ensures { result ≡ mark_kind text.now }
 {
@@ -36,7 +36,7 @@ fn mark_kind(text: &str) -> Kind
     }
 }
 
-// What a token is for the grammar.
+/// What a token is for the grammar.
 pub(crate) fn kind_of(token: &Token<'_>) -> Kind
     ensures { result ≡ kind_of token.now.sort token.now.text.now }
 {
@@ -55,7 +55,7 @@ pub(crate) fn kind_of(token: &Token<'_>) -> Kind
     }
 }
 
-// Whether a token is the name `string`.
+/// Whether a token is the name `string`.
 pub(crate) fn names_string(token: &Token<'_>) -> bool
     ensures { result ≡ names_string (word (lexeme_view token.now)) }
 {

@@ -4,28 +4,28 @@ ghost use Rattle.std.specs.Prelude.{◌≡◌};
 ghost use Rattle.cs_grammar.specs.TokenWords.{bare_name};
 ghost use Rattle.cs_grammar.specs.Spells.{is_reserved, is_package, is_string};
 
-// Whether a name can't be an operand.
+/// Whether a name can't be an operand.
 pub(crate) fn is_reserved(text: &str) -> bool
     ensures { result ≡ is_reserved text.now }
 {
     matches!(text, "for" | "if" | "let")
 }
 
-// Whether a name may begin a package clause.
+/// Whether a name may begin a package clause.
 pub(crate) fn is_package(text: &str) -> bool
     ensures { result ≡ is_package text.now }
 {
     text == "package"
 }
 
-// Whether a name in the brackets of a label stands for every key.
+/// Whether a name in the brackets of a label stands for every key.
 pub(crate) fn is_string(text: &str) -> bool
     ensures { result ≡ is_string text.now }
 {
     text == "string"
 }
 
-// The name of a definition without its `#`.
+/// The name of a definition without its `#`.
 pub(crate) fn bare_name(text: &str) -> &str
     ensures { result.now ≡ bare_name text.now }
 {

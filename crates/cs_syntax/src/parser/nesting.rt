@@ -89,7 +89,7 @@ impl NestingState {
         }
     }
 
-    // Goes on after a token.
+    /// Goes on after a token.
     fn pass(&mut self, before: PrecedingToken, kind: Kind) -> Result<(), AllocError>
         requires { self.old.nested ≤ most_nested }
         ensures { OnOk result (levels_of self.new ≡ levels_next before kind (levels_of self.old)) }
@@ -105,7 +105,7 @@ impl NestingState {
     }
 }
 
-// Whether tokens nest too deep.
+/// Whether tokens nest too deep.
 pub(crate) fn is_too_nested(alloc: Global, tokens: &[Token<'_>]) -> Result<bool, AllocError>
     ensures { IfOk result (λ deep. deep ≡ nat_lt most_nested (nesting (words (lexemes_view tokens.now)))) }
 {

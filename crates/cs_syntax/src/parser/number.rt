@@ -10,7 +10,7 @@ use crate::parser::place::{Parser, fault_of};
 use cs_grammar::{Kind, SyntaxFault};
 use cs_lexer::integer_value;
 
-// The integer of that sign and size, if it fits in 64 signed bits.
+/// The integer of that sign and size, if it fits in 64 signed bits.
 fn signed(minus: bool, size: u64) -> Option<i64>
     ensures { result ≡ signed minus size }
 {
@@ -26,7 +26,7 @@ fn signed(minus: bool, size: u64) -> Option<i64>
     }
 }
 
-// The integer of that sign and digits, if it fits in 64 signed bits.
+/// The integer of that sign and digits, if it fits in 64 signed bits.
 fn signed_value(minus: bool, digits: &str) -> Option<i64>
     ensures { result ≡ signed minus (integer_value digits.now) }
 {
@@ -34,7 +34,7 @@ fn signed_value(minus: bool, digits: &str) -> Option<i64>
 }
 
 impl Parser<'_, '_> {
-    // [ `-` ] integer
+    /// [ `-` ] integer
     #[tactic(auto, using(crate::proofs::WordKinds::unsigned_other), unfolding(crate::specs::Reading::number_at))]
     pub(crate) fn number(&mut self) -> Result<i64, SyntaxFault>
         ensures { Reads (λ z. z) result self.new (number_at (left self.old)) }

@@ -14,7 +14,7 @@ use crate::parser::place::{Parser, fault_of};
 use cs_grammar::{Expr, Kind, Relation, SyntaxFault};
 use cs_lexer::unescape;
 
-// The literal that a name is.
+/// The literal that a name is.
 fn literal_of(text: &str) -> Option<Expr>
     ensures { option_map expr_view result ≡ literal_of text.now }
 {
@@ -26,7 +26,7 @@ fn literal_of(text: &str) -> Option<Expr>
     }
 }
 
-// The relation of a mark.
+/// The relation of a mark.
 fn relation_of(kind: Kind) -> Option<Relation>
     ensures { option_map View.relation_of result ≡ relation_of kind }
 {
@@ -40,7 +40,7 @@ fn relation_of(kind: Kind) -> Option<Relation>
 }
 
 impl Parser<'_, '_> {
-    // The limit after a relation.
+    /// The limit after a relation.
     #[tactic(auto, unfolding(crate::specs::Reading::bound_at))]
     fn bound(&mut self, relation: Relation) -> Result<Expr, SyntaxFault>
         ensures { Reads expr_view result self.new (bound_at (View.relation_of relation) (left self.old)) }
@@ -49,7 +49,7 @@ impl Parser<'_, '_> {
         Ok(Expr::Bound { relation, limit })
     }
 
-    // What follows `!=`.
+    /// What follows `!=`.
     #[tactic(auto, unfolding(crate::specs::Reading::unequal_at))]
     fn unequal(&mut self) -> Result<Expr, SyntaxFault>
         ensures { Reads expr_view result self.new (unequal_at (left self.old)) }
@@ -73,7 +73,7 @@ impl Parser<'_, '_> {
         }
     }
 
-    // An integer.
+    /// An integer.
     #[tactic(auto, unfolding(crate::specs::Reading::integer_at))]
     fn integer(&mut self) -> Result<Expr, SyntaxFault>
         ensures { Reads expr_view result self.new (integer_at (left self.old)) }
@@ -81,7 +81,7 @@ impl Parser<'_, '_> {
         Ok(Expr::Int(self.number()?))
     }
 
-    // An operand without brackets.
+    /// An operand without brackets.
     #[tactic(auto, unfolding(crate::specs::Reading::unbracketed_at))]
     pub(crate) fn unbracketed(&mut self) -> Result<Expr, SyntaxFault>
         ensures { Reads expr_view result self.new (unbracketed_at (left self.old)) }

@@ -22,14 +22,14 @@ pub(crate) struct Parser<'t, 'a> {
     ghost quoted: { are_quoted (lexemes_view tokens.now) ≡ true },
 }
 
-// Whether a name is a word of a form that the profile leaves out.
+/// Whether a name is a word of a form that the profile leaves out.
 fn is_left_out_name(text: &str) -> bool
     ensures { result ≡ is_left_out_name text.now }
 {
     matches!(text, "import" | "let" | "for" | "if")
 }
 
-// The fault at a token that is out of place.
+/// The fault at a token that is out of place.
 pub(crate) fn fault_of(token: &Token<'_>) -> SyntaxFault
     ensures { result ≡ fault_of (word (lexeme_view token.now)) }
 {
@@ -49,7 +49,7 @@ pub(crate) fn fault_of(token: &Token<'_>) -> SyntaxFault
 impl<'t, 'a> Parser<'t, 'a> {
     ghost use Rattle.cs_syntax.specs.Left.{left, IsNext, Takes, Skips, ReadsPast};
 
-    // The next token, which stays.
+    /// The next token, which stays.
     pub(crate) fn peek(&self) -> Option<Token<'a>>
         ensures { IsNext result self.now }
     {
@@ -60,7 +60,7 @@ impl<'t, 'a> Parser<'t, 'a> {
         }
     }
 
-    // The next token.
+    /// The next token.
     pub(crate) fn take(&mut self) -> Option<Token<'a>>
         ensures { Takes result self.old self.new }
     {
@@ -69,7 +69,7 @@ impl<'t, 'a> Parser<'t, 'a> {
         Some(token)
     }
 
-    // The fault at the next token.
+    /// The fault at the next token.
     pub(crate) fn fault(&self) -> SyntaxFault
         ensures { result ≡ fault_at (left self.now) }
     {
@@ -79,7 +79,7 @@ impl<'t, 'a> Parser<'t, 'a> {
         }
     }
 
-    // Passes over a token of that kind, where it is next.
+    /// Passes over a token of that kind, where it is next.
     pub(crate) fn skip(&mut self, wanted: Kind) -> bool
         ensures { Skips result self.old self.new (after wanted (left self.old)) }
     {
@@ -92,7 +92,7 @@ impl<'t, 'a> Parser<'t, 'a> {
         }
     }
 
-    // Passes over a token of that kind, which has to be next.
+    /// Passes over a token of that kind, which has to be next.
     pub(crate) fn expect(&mut self, wanted: Kind) -> Result<(), SyntaxFault>
         ensures { ReadsPast result self.new (expected wanted (left self.old)) }
     {
@@ -103,7 +103,7 @@ impl<'t, 'a> Parser<'t, 'a> {
         }
     }
 
-    // The offset of the next token.
+    /// The offset of the next token.
     #[tactic(auto, using(crate::proofs::WordKinds::start_word_of))]
     pub(crate) fn start(&self) -> usize
         ensures { result ≡ start_at (left self.now) }
@@ -114,7 +114,7 @@ impl<'t, 'a> Parser<'t, 'a> {
         }
     }
 
-    // Whether the next token is of that kind.
+    /// Whether the next token is of that kind.
     pub(crate) fn is_at(&self, wanted: Kind) -> bool
         ensures { result ≡ begins_with wanted (left self.now) }
     {
@@ -124,7 +124,7 @@ impl<'t, 'a> Parser<'t, 'a> {
         }
     }
 
-    // Whether the token after the next one is of that kind.
+    /// Whether the token after the next one is of that kind.
     pub(crate) fn is_behind(&self, wanted: Kind) -> bool
         ensures { result ≡ begins_with wanted (drop 1 (left self.now)) }
     {
@@ -135,7 +135,7 @@ impl<'t, 'a> Parser<'t, 'a> {
         behind < self.tokens.len() && kind_of(&self.tokens[behind]) == wanted
     }
 
-    // The place after the next token.
+    /// The place after the next token.
     pub(crate) fn behind(&self) -> Parser<'t, 'a>
         ensures { left result ≡ drop 1 (left self.now) }
     {
@@ -147,7 +147,7 @@ impl<'t, 'a> Parser<'t, 'a> {
         }
     }
 
-    // Whether the next token is the name `string`.
+    /// Whether the next token is the name `string`.
     pub(crate) fn is_at_string(&self) -> bool
         ensures { result ≡ begins_string (left self.now) }
     {
@@ -157,7 +157,7 @@ impl<'t, 'a> Parser<'t, 'a> {
         }
     }
 
-    // Passes over the name `string`, which has to be next.
+    /// Passes over the name `string`, which has to be next.
     pub(crate) fn expect_string(&mut self) -> Result<(), SyntaxFault>
         ensures { ReadsPast result self.new (string_at (left self.old)) }
     {
@@ -169,7 +169,7 @@ impl<'t, 'a> Parser<'t, 'a> {
         }
     }
 
-    // Passes over the next token, where it is wanted.
+    /// Passes over the next token, where it is wanted.
     pub(crate) fn skip_if(&mut self, wanted: bool) -> bool
         ensures { Skips result self.old self.new (behind_if wanted (left self.old)) }
     {
@@ -182,7 +182,7 @@ impl<'t, 'a> Parser<'t, 'a> {
         }
     }
 
-    // Passes over a comma of either kind, where one is next.
+    /// Passes over a comma of either kind, where one is next.
     pub(crate) fn skip_comma(&mut self) -> bool
         ensures { Skips result self.old self.new (after_comma (left self.old)) }
     {
@@ -190,7 +190,7 @@ impl<'t, 'a> Parser<'t, 'a> {
         self.skip_if(comma)
     }
 
-    // Passes over a comma of either kind, which has to be next.
+    /// Passes over a comma of either kind, which has to be next.
     pub(crate) fn expect_comma(&mut self) -> Result<(), SyntaxFault>
         ensures { ReadsPast result self.new (comma_at (left self.old)) }
     {
@@ -201,7 +201,7 @@ impl<'t, 'a> Parser<'t, 'a> {
         }
     }
 
-    // Passes over a closing bracket, which may have a comma before it.
+    /// Passes over a closing bracket, which may have a comma before it.
     pub(crate) fn close(&mut self, wanted: Kind) -> Result<(), SyntaxFault>
         ensures { ReadsPast result self.new (close_at wanted (left self.old)) }
     {
@@ -209,7 +209,7 @@ impl<'t, 'a> Parser<'t, 'a> {
         self.expect(wanted)
     }
 
-    // Passes over the bracket that closes a parenthesis.
+    /// Passes over the bracket that closes a parenthesis.
     pub(crate) fn close_paren(&mut self) -> Result<(), SyntaxFault>
         ensures { ReadsPast result self.new (paren_end (left self.old)) }
     {

@@ -20,7 +20,7 @@ use Rattle.cs_compile.proofs.Parts.{declared_is, declarations-more, named_at}
 use Rattle.cs_compile.proofs.Slots.{operands_seen}
 use Rattle.cs_compile.proofs.translate.+translate.Goals as goal
 
--- ---- what stands inside is known
+-- ---- what is inside is known
 
 pub schema_of-schemas_of-requires : goal.schema_of-schemas_of-requires
 schema_of-schemas_of-requires t c =
