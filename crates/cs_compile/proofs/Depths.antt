@@ -11,7 +11,7 @@ use Rattle.cs_document.specs.View.{documents_of}
 use Rattle.cs_profile.specs.SchemaDocument.{unless_no_list}
 use Rattle.cs_profile.specs.Trim.{with_member}
 use Rattle.cs_package.specs.Expression as cue
-use Rattle.cs_package.specs.Expression.{Expression, Expressions, operands, Declaration, Declarations, DeclarationMark, is_every}
+use Rattle.cs_package.specs.Expression.{Expression, Expressions, operands, Declaration, Declarations, is_every}
 use Rattle.cs_package.specs.Environment.{Environment}
 use Rattle.cs_compile.proofs.Enumerations.{by_literals, enumeration-depth}
 use Rattle.cs_compile.specs.Translation.{schema_of, schemas_of, declared_schemas, rest_schema, definition_schema, any_of, one_or_all, members_at, labels_of, values_of, properties_of, required_of, unless_empty, closing, struct_schema, fixed, list_schema, of_type, labelled, under_every_key}

@@ -1,7 +1,6 @@
 -- The declarations of every key beside those of a label.
 use Rattle.std.proofs.Common.{◌≡◌, ℕ, List, [], ◌∷◌, ◌++◌, map, filter, Bool, true, false, not, ◌&&◌, ◌||◌, is_some, bytes_eq, refl, sym, ap, ◌∙◌, append-nil, if◌then◌else◌}
 use Rattle.std.specs.List.{list_all, list_any}
-use Rattle.std.proofs.lemmas.List.{map-append}
 use Rattle.std.proofs.lemmas.List.Elements.{filter-append}
 use Rattle.cs_document.specs.Document.{Document}
 use Rattle.cs_package.specs.Expression.{Declaration, DeclarationMark, regular, optional, required, every, is_every}
@@ -20,17 +19,9 @@ module _ (ds : List (Declaration Document)) (d : Declaration Document) where
   pub labelled-more : is_every d.mark ≡ false → labelled (ds ++ d ∷ []) ≡ labelled ds ++ d ∷ []
   labelled-more e = filtered-more (λ c. not (is_every c.mark)) ds d ∙ ap (λ b. labelled ds ++ (if not b then d ∷ [] else [])) e
 
-  pub every-same : is_every d.mark ≡ false → under_every_key (ds ++ d ∷ []) ≡ under_every_key ds
-  every-same e = ap (map (λ c. for_every_key c.value)) (filtered-more (λ c. is_every c.mark) ds d ∙ ap (λ b. filter (λ c. is_every c.mark) ds ++ (if b then d ∷ [] else [])) e ∙ append-nil _)
-
   -- of every key
   pub labelled-same : is_every d.mark ≡ true → labelled (ds ++ d ∷ []) ≡ labelled ds
   labelled-same e = filtered-more (λ c. not (is_every c.mark)) ds d ∙ ap (λ b. labelled ds ++ (if not b then d ∷ [] else [])) e ∙ append-nil _
-
-  pub every-more : is_every d.mark ≡ true → under_every_key (ds ++ d ∷ []) ≡ under_every_key ds ++ for_every_key d.value ∷ []
-  every-more e =
-      ap (map (λ c. for_every_key c.value)) (filtered-more (λ c. is_every c.mark) ds d ∙ ap (λ b. filter (λ c. is_every c.mark) ds ++ (if b then d ∷ [] else [])) e)
-      ∙ map-append (λ c. for_every_key c.value) (filter (λ c. is_every c.mark) ds) (d ∷ [])
 
 -- ---- what they ask for, and what they allow
 

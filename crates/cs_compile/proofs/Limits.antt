@@ -12,7 +12,7 @@ use Rattle.std.proofs.lemmas.List.Sums.{fold-append}
 use Rattle.cs_document.specs.Document.{Document, object}
 use Rattle.cs_document.proofs.Maps.{take_at}
 use Rattle.cs_package.specs.Expression as cue
-use Rattle.cs_package.specs.Expression.{Expression, operands}
+use Rattle.cs_package.specs.Expression.{Expression}
 use Rattle.cs_package.specs.View.{expressions_of}
 use Rattle.cs_instance.proofs.Placed.{operands_of}
 use Rattle.cs_compile.specs.Translation.{schema_of, schemas_of, all_of, greatest_of, least_of, are_apart, interval_schema, conjunction_schema, is_interval, lower_limit, upper_limit}

@@ -1,11 +1,10 @@
 -- Declarations of a struct literal, one after the other.
 use Rattle.std.proofs.Common.{◌≡◌, ℕ, ◌+◌, ◌<◌, List, [], ◌∷◌, ◌++◌, map, filter, length, take, get_or, Bool, true, false, not, cond, ◌&&◌, ◌||◌, Option, Some, None, is_some, unwrap_or, String, Vec, Bor, Global, Result, codes, zero, suc, string_bytes, string_cmp, bytes_eq, refl, sym, ap, ap₂, ◌∙◌, if◌then◌else◌}
-use Rattle.std.specs.BTreeMap.{get, is_at, IsOrdered}
+use Rattle.std.specs.BTreeMap.{get}
 use Rattle.std.specs.BTreeSet.{BTreeSet, Updates}
 use Rattle.std.specs.Cmp.Lexicographic.{slice_cmp}
 use Rattle.std.specs.List.{list_any}
 use Rattle.std.specs.Option.{option_map_or}
-use Rattle.std.specs.Map.{lookup}
 use Rattle.std.specs.Ordering.{nat_cmp}
 use Rattle.std.proofs.Math.Bool.{or-false}
 use Rattle.std.proofs.lemmas.List.{map-append}
@@ -30,7 +29,7 @@ use Rattle.cs_profile.specs.Trim.{with_member}
 use Rattle.cs_profile.specs.declared.schema.Schema.{Schema}
 use Rattle.cs_compile.proofs.Every.{some_every}
 use Rattle.cs_compile.proofs.Firsts.{firsts-last}
-use Rattle.cs_compile.specs.Grouped.{declared, with_schema, declarations_at, Groups, group, IsGrouped, has_label, is_asked}
+use Rattle.cs_compile.specs.Grouped.{declared, with_schema, declarations_at, Groups, group, has_label, is_asked}
 use Rattle.cs_compile.specs.Translation.{schema_of, declared_schemas, struct_schema, closing, firsts, must_be_there, of_type, properties_of, required_of, unless_empty, labelled, under_every_key}
 
 -- the schemas of the declared values, in both forms
@@ -50,13 +49,6 @@ declarations-more ns ps i p within is =
     ∙ ap (λ d. declarations_at ns (take i ps) ++ d ∷ []) (part_is ns p)
 
 -- ---- groups
-
-pub no_groups : (g : Groups) → g.entries ≡ [] → IsOrdered string_cmp g → IsGrouped [] g
-no_groups g e ordered = record {
-  ordered = ordered;
-  labels = ap (λ (es : List (String Global × Vec Schema Global)). map string_bytes (map (λ x. x.0) es)) e;
-  values = λ l. ap (λ es. option_map_or (λ (v : Vec Schema Global). schemas_view v.items) (lookup (is_at (string_cmp l)) es) []) e;
-}
 
 -- a schema behind those of its label
 pub group-push : (g : Groups) (k : String Global) (o : Option (Vec Schema Global)) (none v w : Vec Schema Global) (s : Schema) → o ≡ get string_cmp g k → none.items ≡ [] → v ≡ unwrap_or o none → w.items ≡ v.items ++ s ∷ []

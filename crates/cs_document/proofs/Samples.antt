@@ -2,7 +2,7 @@
 use Rattle.std.proofs.Common.{◌≡◌, ℕ, pos, neg_ℤ, Bool, true, false, if◌then◌else◌, suc, List, [], ◌∷◌, map, codes, Some, None, ◌&&◌, refl, arith, rules}
 use Rattle.std.specs.List.{AllByRecursion, list_all}
 use Rattle.std.specs.Ordering.{is_lt, is_eq, is_gt}
-use Rattle.cs_document.specs.Document.{Document, null, boolean, integer, text, Members, no_members, IsDocument, document_eq, depth, put, under, get_member, entries}
+use Rattle.cs_document.specs.Document.{Document, null, boolean, integer, text, Members, no_members, IsDocument, document_eq, depth, put, under, entries}
 use Rattle.cs_document.specs.Order.{document_cmp}
 use Rattle.cs_document.specs.Opened.{opened, a_null, a_boolean, an_integer, a_text, a_list, an_object}
 use Rattle.cs_document.specs.Inside.{map_opened, InsideBelow, AscendsInside}
@@ -108,10 +108,6 @@ first_key = refl
 at_keys : map (λ k. under k (entries two)) (a ∷ b ∷ codes "c" ∷ codes "d" ∷ codes "e" ∷ codes "" ∷ codes "bb" ∷ [])
     ≡ None ∷ Some (number 2) ∷ None ∷ Some (number 4) ∷ None ∷ None ∷ None ∷ []
 at_keys = refl
-
-by_order : map (λ k. get_member k two) (a ∷ b ∷ codes "c" ∷ codes "d" ∷ codes "e" ∷ codes "" ∷ codes "bb" ∷ [])
-    ≡ None ∷ Some (number 2) ∷ None ∷ Some (number 4) ∷ None ∷ None ∷ None ∷ []
-by_order = refl
 
 -- ---- one level of each form
 

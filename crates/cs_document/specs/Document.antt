@@ -109,8 +109,3 @@ abbrev mutual
 abbrev pub put : List ℕ → Document → Members → Members
 put k d no_members = member k d no_members
 put k d (member l e ms) = match_ordering (slice_cmp nat_cmp k l) (member k d (member l e ms)) (member l d ms) (member l e (put k d ms))
-
--- the value at k, by the order of keys; for private contracts alone
-abbrev pub get_member : List ℕ → Members → Option Document
-get_member k no_members = None
-get_member k (member l e ms) = match_ordering (slice_cmp nat_cmp k l) (get_member k ms) (Some e) (get_member k ms)

@@ -65,6 +65,3 @@ member_numbers-turn all numbers before after e key d ms is keyed named grown =
 
 pub values_behind : (old new within first rest : List Document) → old ≡ first ++ (within ++ rest) → new ≡ first ++ within → old ≡ new ++ rest
 values_behind old new within first rest is grown = is ∙ sym (append_assoc first within rest) ∙ ap (λ ds. ds ++ rest) (sym grown)
-
-pub value_pushed : (old inner new within : List Document) (d : Document) → inner ≡ old ++ within → new ≡ inner ++ d ∷ [] → new ≡ old ++ (within ++ d ∷ [])
-value_pushed old inner new within d inside is = is ∙ ap (λ ds. ds ++ d ∷ []) inside ∙ append_assoc old within (d ∷ [])

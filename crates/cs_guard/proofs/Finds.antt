@@ -2,7 +2,7 @@
 use Rattle.std.proofs.Common.{◌≡◌, ℕ, zero, suc, ◌+◌, ◌<◌, Bool, true, false, cond, List, [], ◌∷◌, ◌++◌, inl, inr, Some, length, slice_get, replicate, refl, sym, ap, subst, ◌∙◌, arith, append_assoc}
 use Rattle.std.specs.List.{count_by}
 use Rattle.std.proofs.Math.ListN.{set, length-set}
-use Rattle.std.proofs.lemmas.List.{append-nil, length-append}
+use Rattle.std.proofs.lemmas.List.{length-append}
 use Rattle.std.proofs.lemmas.List.Sums.{sum_by-set}
 use Rattle.std.proofs.lemmas.Option.{slice_get_within, get_or_from_slice_get}
 use Rattle.cs_graph.specs.Chains.{On}
@@ -22,20 +22,6 @@ count_unmarked (suc n) = count_unmarked n
 -- nothing is found yet
 pub marked_none : (n : ℕ) → Marked (replicate n false) []
 marked_none n = record { distinct = tt; on = λ i o. absurd o; marked = λ i e. absurd (unmarked n i e); many = count_unmarked n }
-
-pub added_none : (seen : List Bool) (order : List ℕ) → Marked seen order → Added [] seen order seen order
-added_none seen order m = record { marked = m; long = refl; more = []; behind = sym (append-nil order); only = λ i o. o; each = λ i o. absurd o }
-
--- one that was found before
-pub added_old : (seen : List Bool) (order : List ℕ) (i : ℕ) → Marked seen order → slice_get seen i ≡ Some true → Added (i ∷ []) seen order seen order
-added_old seen order i m at = record {
-  marked = m;
-  long = refl;
-  more = [];
-  behind = sym (append-nil order);
-  only = λ j o. absurd o;
-  each = λ j o. elim o [ inl e ↦ subst (λ k. On k order) (sym e) (m.marked i at) | inr o' ↦ absurd o' ];
-}
 
 -- one that is new
 pub added_new : (seen : List Bool) (order : List ℕ) (i : ℕ) → Marked seen order → slice_get seen i ≡ Some false → Added (i ∷ []) seen order (set seen i true) (order ++ i ∷ [])

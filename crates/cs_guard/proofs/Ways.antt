@@ -8,8 +8,7 @@ use Rattle.cs_package.specs.Expression.{Expression, Expressions, Declarations, D
 use Rattle.cs_package.specs.Environment.{Environment, bodies}
 use Rattle.cs_graph.specs.Chains.{Chain}
 use Rattle.cs_guard.specs.Limits as limits
-use Rattle.cs_guard.specs.Limits.{most_references}
-use Rattle.cs_guard.specs.Earlier.{mixed, mixed_all, mixed_fields, mixed_of, RefersMixedly, IsGuardedEarlier}
+use Rattle.cs_guard.specs.Earlier.{mixed, mixed_all, mixed_fields, RefersMixedly, IsGuardedEarlier}
 use Rattle.cs_guard.specs.Guarded.{IsGuarded}
 use Rattle.cs_guard.specs.References.{direct, direct_all, unless_optional, inside, inside_all, inside_fields, strong, strong_all, RefersStrongly}
 

@@ -12,7 +12,7 @@ use Rattle.cs_package.specs.Environment.{Environment, bodies}
 use Rattle.cs_package.specs.Expression as cue
 use Rattle.cs_package.specs.Expression.{Declaration, DeclarationMark, is_every, Expression, Expressions, Declarations, operands, declarations}
 use Rattle.cs_package.specs.Labels.{HasLabel, IsLabelled, AreLabelled, AreLabelledFields, IsLabelledRest, IsLabelledEnvironment}
-use Rattle.cs_instance.specs.Constraint.{Constraint, always, never, the_null, the_boolean, the_integer, the_text, of_kind, in_range, bounded, another_integer, another_text, not_the_null, all_of, any_of, object_of, list_of, is_satisfied, allows, value_holds, declaration_holds, fields_hold}
+use Rattle.cs_instance.specs.Constraint.{Constraint, object_of, is_satisfied, allows, value_holds, declaration_holds, fields_hold}
 use Rattle.cs_instance.specs.Earlier.{fields_hold_earlier, is_satisfied_earlier, IsEarlierRule, IsInstanceEarlier}
 use Rattle.cs_instance.specs.Instance.{Rule, definition, node, rest_of, all_bodies, constraint_of, IsInstance}
 use Rattle.cs_instance.proofs.Induction.{guarded-induction}

@@ -12,7 +12,7 @@ use Rattle.std.proofs.lemmas.Grind.{flat_map-append}
 use Rattle.std.proofs.lemmas.List.Elements.{Contains-append_left, Contains-append_right, Contains-append_cases}
 use Rattle.cs_document.proofs.Each.{each_map, each_member}
 use Rattle.cs_package.specs.Expression as cue
-use Rattle.cs_package.specs.Expression.{Expression, Expressions, operands}
+use Rattle.cs_package.specs.Expression.{Expression, Expressions}
 use Rattle.cs_package.specs.Environment.{Environment, bodies, declared_names}
 use Rattle.cs_package.specs.View.{expression_of, expressions_of}
 use Rattle.cs_package.specs.declared.shape.Shape.{Shape}

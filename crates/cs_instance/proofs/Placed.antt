@@ -7,7 +7,7 @@ use Rattle.std.proofs.lemmas.List.{get_or_push, get_or_append_left}
 use Rattle.std.proofs.lemmas.Result.{IfOk-weaker}
 use Rattle.cs_document.proofs.Each.{each_map}
 use Rattle.cs_package.specs.Expression as cue
-use Rattle.cs_package.specs.Expression.{Expression, Expressions, Declaration, operands, declarations}
+use Rattle.cs_package.specs.Expression.{Expression, Declaration, operands, declarations}
 use Rattle.cs_package.specs.Environment.{Environment}
 use Rattle.cs_package.specs.View.{expressions_of, declarations_of}
 use Rattle.cs_package.specs.declared.shape.Shape.{Shape}

@@ -7,7 +7,7 @@ use Rattle.std.proofs.lemmas.List.{length-map}
 use Rattle.std.proofs.lemmas.Option.{slice_get_within, get_or_from_slice_get}
 use Rattle.std.proofs.lemmas.Result.{IfOk-weaker}
 use Rattle.cs_package.specs.Expression as cue
-use Rattle.cs_package.specs.Expression.{Expression, Expressions, Declaration, operands, declarations}
+use Rattle.cs_package.specs.Expression.{Expression, Expressions, Declaration}
 use Rattle.cs_package.specs.View.{expressions_of, declarations_of}
 use Rattle.cs_package.specs.declared.shape.Shape.{Shape}
 use Rattle.cs_guard.specs.References.{direct}

@@ -3,7 +3,7 @@ use Rattle.std.proofs.Common.{◌≡◌, ℕ, zero, suc, pos, true, false, List,
 use Rattle.std.specs.Prelude.{slice_get}
 use Rattle.std.proofs.lemmas.Option.{same_Some}
 use Rattle.cs_package.specs.Expression as cue
-use Rattle.cs_package.specs.Expression.{Expression, Declaration, optional, regular}
+use Rattle.cs_package.specs.Expression.{Expression, optional, regular}
 use Rattle.cs_package.specs.Environment.{Environment}
 use Rattle.cs_instance.specs.Constraint.{Constraint, each, of_kind, all_of, object_of, list_of}
 use Rattle.cs_instance.specs.Instance.{Rule, definition, node, constraint_of}

@@ -1,5 +1,5 @@
 -- What an instance was in the profile's first edition, which had no `[string]: T`: a struct asked by its labels alone.
-use Rattle.std.specs.Prelude.{◌≡◌, ℕ, Bool, false, ◌&&◌, ◌||◌, List}
+use Rattle.std.specs.Prelude.{◌≡◌, Bool, false, ◌&&◌, ◌||◌, List}
 use Rattle.std.specs.List.{list_all, list_any}
 use Rattle.std.specs.Str.{bytes_eq}
 use Rattle.cs_document.specs.Document.{Document, Entry, under}

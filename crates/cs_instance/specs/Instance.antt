@@ -4,7 +4,7 @@ use Rattle.std.specs.Prelude.{◌≡◌, ℕ, Bool, List, [], ◌∷◌, Option,
 use Rattle.cs_document.specs.Document.{Document}
 use Rattle.cs_document.specs.Opened.{opened}
 use Rattle.cs_package.specs.Expression as cue
-use Rattle.cs_package.specs.Expression.{Expression, Expressions, operands, declarations}
+use Rattle.cs_package.specs.Expression.{Expression, operands, declarations}
 use Rattle.cs_package.specs.Environment.{Environment, bodies}
 use Rattle.cs_instance.specs.Constraint.{Rest, nothing, anything, each, Constraint, always, never, the_null, the_boolean, the_integer, the_text, of_kind, in_range, bounded, another_integer, another_text, not_the_null, all_of, any_of, object_of, list_of, is_satisfied}
 

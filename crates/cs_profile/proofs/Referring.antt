@@ -19,7 +19,7 @@ use Rattle.cs_profile.specs.declared.fault.SchemaFault.TheVariants as fault
 use Rattle.cs_profile.specs.Loops.{ByReach, by_keyword, value_names, direct_names, keyword_names, list_names, each_names, NoLoop}
 use Rattle.cs_profile.specs.Shapes.{form_at, form_in, keeping, is_kept, dialect}
 use Rattle.cs_profile.specs.Places.{at_key, at_index}
-use Rattle.cs_profile.specs.Profile.{Fault, Visit, first, or_else, undefined_at, reference_fault, keyword_at, visits, member_visits, list_visits, element_visits, map_visits, named_visits, within, walk_fault, name_fault, IsSchema}
+use Rattle.cs_profile.specs.Profile.{Fault, Visit, first, or_else, undefined_at, reference_fault, keyword_at, visits, member_visits, list_visits, element_visits, map_visits, named_visits, within, walk_fault, name_fault}
 use Rattle.cs_profile.specs.Values.{keyword_visits, value_visits, trimmed_value, value_trims}
 use Rattle.cs_profile.specs.Refusal.{IsLeastLoop, IsLoopRefusal, IsRefusal}
 use Rattle.cs_profile.specs.Trim.{trim, trimmed, trimmed_members, trimmed_list, trimmed_elements, trimmed_map, trimmed_named, trimmed_as, with_member}
@@ -243,7 +243,3 @@ refusal_untrimmed (fault.Loop ns) d w n h = record { shaped = w; named = n; told
 refusal_untrimmed (fault.Keyword p m) d w n h = absurd h
 refusal_untrimmed (fault.Shape p m) d w n h = absurd h
 refusal_untrimmed (fault.Reference p m) d w n h = absurd h
-
--- a trimmed schema of the profile is one
-pub trimmed_schema : (d : Document) → IsSchema d → IsSchema (trim d)
-trimmed_schema d h = record { shaped = walk_fault_trimmed d h.shaped; named = name_fault_trimmed d ∙ h.named; no_loop = no_loop_trimmed d h.no_loop }

@@ -1,18 +1,17 @@
 -- What a schema document stands for is trimmed, and what is trimmed stays as it is.
-use Rattle.std.proofs.Common.{◌≡◌, ℕ, Bool, true, false, List, [], ◌∷◌, map, Option, Some, None, String, Global, Ordering, Less, Equal, Greater, nat_cmp, string_bytes, codes, is_eq, not, refl, sym, ap, ap₂, ◌∙◌, subst, if◌then◌else◌}
+use Rattle.std.proofs.Common.{◌≡◌, ℕ, Bool, true, false, List, [], ◌∷◌, map, Option, Some, None, String, Global, Ordering, Less, Equal, Greater, nat_cmp, string_bytes, codes, is_eq, refl, sym, ap, ap₂, ◌∙◌, subst}
 use Rattle.std.specs.List.{AllByRecursion as Each}
 use Rattle.std.proofs.lemmas.Map.Text.{is_eq-slice_cmp}
 use Rattle.std.proofs.lemmas.Slice.Eq.{bytes_eq-Decides}
 use Rattle.std.specs.Cmp.Lexicographic.{slice_cmp}
 use Rattle.std.specs.Option.{IfSome}
 use Rattle.std.specs.Ordering.{match_ordering}
-use Rattle.cs_document.specs.Document.{Document, null, boolean, integer, object, text, list, Documents, no_documents, document, Members, no_members, member, put}
+use Rattle.cs_document.specs.Document.{Document, object, text, list, document, Members, no_members, member, put}
 use Rattle.cs_document.specs.View.{documents_of, members_of}
-use Rattle.cs_profile.specs.Shapes.{dialect, form_at, keeping, is_kept, is_empty}
-use Rattle.cs_profile.specs.declared.keyword.Form.{Form}
+use Rattle.cs_profile.specs.Shapes.{dialect}
 use Rattle.cs_profile.specs.declared.keyword.Form.TheVariants as form
-use Rattle.cs_profile.specs.Trim.{trim, trimmed, trimmed_members, trimmed_list, trimmed_elements, trimmed_map, trimmed_named, trimmed_as, with_dialect, with_member}
-use Rattle.cs_profile.specs.Values.{trimmed_value, value_trims}
+use Rattle.cs_profile.specs.Trim.{trim, trimmed, trimmed_members, trimmed_list, trimmed_elements, trimmed_named, with_dialect, with_member}
+use Rattle.cs_profile.specs.Values.{trimmed_value}
 use Rattle.cs_profile.specs.SchemaDocument.{Slot, present, slots_of, schema_view, schema_step, keyword_slots, SchemaValue, document_of, definitions_view, unless_no_map, unless_no_list, text_document}
 use Rattle.cs_profile.specs.Root.{with_definitions}
 use Rattle.cs_profile.specs.declared.schema.Schema.{Schema, roll-Schema}
@@ -20,7 +19,6 @@ use Rattle.cs_profile.specs.declared.schema.Schema.TheOpen.{Schema-F, Keywords-F
 use Rattle.cs_profile.specs.declared.schema.Schema.TheFolds.{fold-roll-Schema, fold-roll-Keywords, map-Schema, map-Keywords, ind-Schema, ind-Keywords}
 use Rattle.cs_profile.specs.declared.schema.Keywords.{Keywords, roll-Keywords}
 use Rattle.cs_profile.proofs.Definitions.{by_case}
-use Rattle.cs_profile.proofs.Faultless.{left}
 
 -- trimming leaves a schema as it is
 abbrev pub IsTrimmed : Document → Type 0
@@ -231,76 +229,3 @@ document_trimmed v =
     (trimmed_put (codes "$schema") (text dialect) (with_member (unless_no_map (definitions_view v.definitions)) (codes "$defs") (present (slots_of k))) (λ v. refl)
     ∙ definitions_stay v.definitions (present (slots_of k)) (present_stays true (slots_of k) (slots_stay k))))
     v.root
-
--- ---- what is trimmed once stays
-
-left_empty : (v : Document) → is_empty (trimmed_map v) ≡ is_empty v
-left_empty (object no_members) = refl
-left_empty (object (member k v ms)) = refl
-left_empty _ = refl
-
-left_kept : (f : Form) (v : Document) → is_kept (keeping f) (left f v) ≡ is_kept (keeping f) v
-left_kept form.NamedSchemas v = ap not (left_empty v)
-left_kept _ v = refl
-
-left_again : (f : Form) (v : Document) → trimmed false (trimmed false v) ≡ trimmed false v → trimmed_list (trimmed_list v) ≡ trimmed_list v → trimmed_map (trimmed_map v) ≡ trimmed_map v → left f (left f v) ≡ left f v
-left_again form.Schema v itself elements members = itself
-left_again form.Schemas v itself elements members = elements
-left_again form.NamedSchemas v itself elements members = members
-left_again _ v itself elements members = refl
-
-kept_again : (root : Bool) (k : List ℕ) (v : Document) (ns ms : Members) (f : Form) → form_at root k ≡ Some f → left f (left f v) ≡ left f v → trimmed_members root ns ≡ ms → (t : Bool) → is_kept (keeping f) v ≡ t
-    → trimmed_members root (with_member (if t then Some (left f v) else None) k ns) ≡ with_member (if t then Some (left f v) else None) k ms
-kept_again root k v ns ms f e again rest false s = rest
-kept_again root k v ns ms f e again rest true s =
-    ap₂ (λ o ls. with_member o k ls)
-    (ap (λ g. trimmed_as g (left f v) (value_trims (left f v))) e ∙ ap (λ t. if t then Some (left f (left f v)) else None) (left_kept f v ∙ s) ∙ ap Some again) rest
-
-one_again : (root : Bool) (k : List ℕ) (v : Document) (ns ms : Members) (r : Option Form) → form_at root k ≡ r
-    → trimmed false (trimmed false v) ≡ trimmed false v → trimmed_list (trimmed_list v) ≡ trimmed_list v → trimmed_map (trimmed_map v) ≡ trimmed_map v → trimmed_members root ns ≡ ms
-    → trimmed_members root (with_member (trimmed_as r v (value_trims v)) k ns) ≡ with_member (trimmed_as r v (value_trims v)) k ms
-one_again root k v ns ms None e itself elements members rest = ap₂ (λ o ls. with_member o k ls) (ap (λ g. trimmed_as g v (value_trims v)) e) rest
-one_again root k v ns ms (Some f) e itself elements members rest = kept_again root k v ns ms f e (left_again f v itself elements members) rest (is_kept (keeping f) v) refl
-
-mutual
-  trimmed_again : (root : Bool) (d : Document) → trimmed root (trimmed root d) ≡ trimmed root d
-  trimmed_again root null = refl
-  trimmed_again root (boolean b) = refl
-  trimmed_again root (integer z) = refl
-  trimmed_again root (text s) = refl
-  trimmed_again root (list ds) = refl
-  trimmed_again root (object ms) = ap object (members_again root ms)
-
-  members_again : (root : Bool) (ms : Members) → trimmed_members root (trimmed_members root ms) ≡ trimmed_members root ms
-  members_again root no_members = refl
-  members_again root (member k v ms) =
-      one_again root k v (trimmed_members root ms) (trimmed_members root ms) (form_at root k) refl (trimmed_again false v) (list_again v) (map_again v) (members_again root ms)
-
-  list_again : (d : Document) → trimmed_list (trimmed_list d) ≡ trimmed_list d
-  list_again null = refl
-  list_again (boolean b) = refl
-  list_again (integer z) = refl
-  list_again (text s) = refl
-  list_again (list ds) = ap list (elements_again ds)
-  list_again (object ms) = refl
-
-  elements_again : (ds : Documents) → trimmed_elements (trimmed_elements ds) ≡ trimmed_elements ds
-  elements_again no_documents = refl
-  elements_again (document d ds) = ap₂ document (trimmed_again false d) (elements_again ds)
-
-  map_again : (d : Document) → trimmed_map (trimmed_map d) ≡ trimmed_map d
-  map_again null = refl
-  map_again (boolean b) = refl
-  map_again (integer z) = refl
-  map_again (text s) = refl
-  map_again (list ds) = refl
-  map_again (object ms) = ap object (named_again ms)
-
-  named_again : (ms : Members) → trimmed_named (trimmed_named ms) ≡ trimmed_named ms
-  named_again no_members = refl
-  named_again (member k v ms) = ap₂ (member k) (trimmed_again false v) (named_again ms)
-
-pub trim_again : (d : Document) → trim (trim d) ≡ trim d
-trim_again (object ms) =
-    ap (λ ns. object (put (codes "$schema") (text dialect) ns)) (trimmed_put (codes "$schema") (text dialect) (trimmed_members true ms) (λ v. refl) ∙ members_again true ms)
-trim_again _ = refl

@@ -5,7 +5,7 @@ use Rattle.cs_grammar.specs.Atom as atoms
 use Rattle.cs_grammar.specs.Atom.{top, bottom, null, boolean, integer, text, bound, not_integer, not_text, not_null}
 use Rattle.cs_grammar.specs.declared.ast.FieldMark.TheVariants.{Regular, Optional, Required}
 use Rattle.cs_package.specs.Expression as cue
-use Rattle.cs_package.specs.Expression.{Expression, Expressions, Declarations}
+use Rattle.cs_package.specs.Expression.{Expression, Expressions}
 use Rattle.cs_package.specs.View.{expressions_of}
 use Rattle.cs_resolve.specs.Declarations.{distinct, bodies_of, faults_of_files}
 use Rattle.cs_resolve.specs.Offsets.{StandsBefore}

@@ -5,7 +5,7 @@ use Rattle.cs_grammar.specs.Tree.{Label, Tree, atom, named, reference, conjuncti
 use Rattle.cs_grammar.specs.Atom.{integer, text, not_null}
 use Rattle.cs_grammar.specs.declared.ast.FieldMark.TheVariants.{Regular}
 use Rattle.cs_package.specs.Expression as cue
-use Rattle.cs_package.specs.Expression.{Expression, Expressions}
+use Rattle.cs_package.specs.Expression.{Expression}
 use Rattle.cs_package.specs.Environment.{Environment}
 use Rattle.cs_package.specs.View.{expressions_of}
 use Rattle.cs_resolve.specs.Opening.{conjunctions}

@@ -32,14 +32,6 @@ one_more None k h = (omega arith, sym (ap (λ j. nat_lt 1 (j + 1)) h))
 one_more (Some again) k h = (omega arith, sym (lt-ltb 1 (k + 1) (omega (arith, h.0))))
 
 module _ {S : Type 0} (m : HashMap (Bor (List ℕ)) Bool S) (ns : List Named) (name : List ℕ) (e : Tree) (told : Repeats m ns) where
-  -- a value that is plain
-  pub noted_plain : has_literal_or_reference e ≡ false → Repeats m (ns ++ named name e ∷ [])
-  noted_plain plain t = subst (λ k. CountsAs (get_by (λ k. bytes_eq t k.now) m) k) (sym (count_push (one t) (named name e) ns))
-      (elim (bytes_eq name t) as (λ b. CountsAs (get_by (λ k. bytes_eq t k.now) m) (unplain (one t) ns + cond b (cond (has_literal_or_reference e) 1 0) 0)) [
-        | true ↦ rw plain (plain_more (get_by (λ k. bytes_eq t k.now) m) (unplain (one t) ns) (told t))
-        | false ↦ plain_more (get_by (λ k. bytes_eq t k.now) m) (unplain (one t) ns) (told t)
-      ])
-
   -- one that isn't, put into the table
   pub noted : has_literal_or_reference e ≡ true → (n : HashMap (Bor (List ℕ)) Bool S) → ((t : List ℕ) → get_by (λ k. bytes_eq t k.now) n ≡ update bytes_eq (λ ds. get_by (λ k. bytes_eq ds k.now) m) name (Some (is_some (get_by (λ k. bytes_eq name k.now) m))) t) → Repeats n (ns ++ named name e ∷ [])
   noted isnt n after t = subst (λ k. CountsAs (get_by (λ k. bytes_eq t k.now) n) k) (sym (count_push (one t) (named name e) ns)) (subst (λ o. CountsAs o (unplain (one t) ns + cond (bytes_eq name t) (cond (has_literal_or_reference e) 1 0) 0)) (sym (after t)) (by (bytes_eq name t) refl))

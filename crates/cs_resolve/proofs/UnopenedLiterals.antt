@@ -51,10 +51,6 @@ has_map {X = X} P f xs = (to xs, from xs)
 
 -- ---- names
 
-covers-refl : (d : Declared) → covers d d ≡ true
-covers-refl (one t) = bytes_eq-refl t
-covers-refl every_key = refl
-
 -- whether the values of n ask
 abbrev asks : List Named → Named → Bool
 asks all n = demands_open (values n.name all)

@@ -3,14 +3,13 @@ use Rattle.std.proofs.Common.{◌≡◌, ℕ, Bool, true, false, List, [], Optio
 use Rattle.cs_document.specs.Document.{Document, null, boolean, integer, text, list, object, no_documents, document}
 use Rattle.cs_profile.specs.Places.{at_key}
 use Rattle.cs_profile.specs.Shapes.{form_at, has_form}
-use Rattle.cs_profile.specs.Profile.{Fault, unknown, misshapen, Visit, first, or_else, fault_of, shape_fault, form_fault, within, visits}
-use Rattle.cs_profile.specs.Values.{value_visits, keyword_visits, trimmed_value, value_trims}
-use Rattle.cs_profile.specs.Trim.{trimmed_as}
+use Rattle.cs_profile.specs.Profile.{Fault, unknown, Visit, first, or_else, fault_of, shape_fault, form_fault, within, visits}
+use Rattle.cs_profile.specs.Values.{value_visits, keyword_visits}
 use Rattle.cs_profile.specs.declared.keyword.Form.{Form}
 use Rattle.cs_profile.specs.declared.keyword.Form.TheVariants as form
 use Rattle.cs_profile.specs.declared.fault.SchemaFault.{SchemaFault}
 use Rattle.cs_profile.specs.declared.fault.SchemaFault.TheVariants as fault
-use Rattle.cs_schema.specs.Reading.{Refuses, inside, below, kept_value}
+use Rattle.cs_schema.specs.Reading.{Refuses, inside, below}
 use Rattle.cs_schema.proofs.Placed.{IsPlaced, value_fault_at, inside_fault_at, faults_placed}
 
 -- where there is no fault, memory ran out
@@ -57,10 +56,6 @@ keyword_fault root k v f e =
 pub no_keyword : (root : Bool) (k : List ℕ) (v : Document) → form_at root k ≡ None → first fault_of (keyword_visits root [] k v) ≡ Some (unknown [] k)
 no_keyword root k v e = ap (λ o. or_else (form_fault [] k v o) (first fault_of (within o (value_visits (at_key [] k) v)))) e
 
-pub keyword_misshapen : (root : Bool) (k : List ℕ) (v : Document) (f : Form) → form_at root k ≡ Some f → has_form f v ≡ false → first fault_of (keyword_visits root [] k v) ≡ Some (misshapen [] k)
-keyword_misshapen root k v f e h =
-    keyword_fault root k v f e ∙ ap (λ t. or_else (shape_fault [] k t) (option_map (below (at_key [] k)) (first fault_of (inside f v)))) h
-
 pub keyword_right : (root : Bool) (k : List ℕ) (v : Document) (f : Form) → form_at root k ≡ Some f → has_form f v ≡ true → first fault_of (inside f v) ≡ None → first fault_of (keyword_visits root [] k v) ≡ None
 keyword_right root k v f e h i = keyword_fault root k v f e ∙ ap₂ (λ t o. or_else (shape_fault [] k t) (option_map (below (at_key [] k)) o)) h i
 
@@ -71,10 +66,6 @@ keyword_refused root k v f e at h = subst (Refuses e) (sym (keyword_fault root k
     by_shape : (t : Bool) → has_form f v ≡ t → Refuses e (or_else (shape_fault [] k t) (option_map (below (at_key [] k)) (first fault_of (inside f v))))
     by_shape true s = h
     by_shape false s = refuses_none e _ (subst (λ vs. Refuses e (option_map (below (at_key [] k)) (first fault_of vs))) (none_inside f v s) h)
-
--- what is kept of a keyword's value
-pub keyword_kept : (root : Bool) (k : List ℕ) (v : Document) (f : Form) → form_at root k ≡ Some f → trimmed_value root k v ≡ kept_value f v
-keyword_kept root k v f e = ap (λ o. trimmed_as o v (value_trims v)) e
 
 -- a schema at a place
 module _ (f : Visit → Option Fault) (h : IsPlaced f) (p : List ℕ) (d : Document) where

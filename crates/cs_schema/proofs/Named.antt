@@ -1,7 +1,6 @@
 -- The references that a walk meets, and whether their names are defined.
 use Rattle.std.proofs.Common.{◌≡◌, ℕ, Bool, true, false, List, [], ◌∷◌, ◌++◌, ◌==◌, Option, Some, None, option_map, is_some, String, Global, codes, bytes_eq, nat_cmp, string_bytes, refl, sym, ap, ap₂, ◌∙◌, if◌then◌else◌}
 use Rattle.std.proofs.lemmas.Bool.{eq-eqb, eqb-true}
-use Rattle.std.proofs.lemmas.Slice.Eq.{bytes_eq-Decides}
 use Rattle.std.specs.BTreeMap.{is_at}
 use Rattle.std.specs.Cmp.Lexicographic.{slice_cmp}
 use Rattle.std.specs.Map.{lookup}
@@ -9,7 +8,7 @@ use Rattle.cs_document.specs.Document.{Document, text}
 use Rattle.cs_profile.specs.Keywords.{reference_start, text_after}
 use Rattle.cs_profile.specs.Places.{at_key}
 use Rattle.cs_profile.specs.Shapes.{form_at}
-use Rattle.cs_profile.specs.Profile.{Fault, undefined, first, or_else, undefined_at, reference_fault, unless_defined, within}
+use Rattle.cs_profile.specs.Profile.{undefined, first, or_else, undefined_at, reference_fault, unless_defined, within}
 use Rattle.cs_profile.specs.Values.{value_visits, keyword_visits}
 use Rattle.cs_profile.specs.SchemaDocument.{schema_view}
 use Rattle.cs_profile.specs.declared.keyword.Form.{Form}
@@ -41,25 +40,11 @@ after_none (a ∷ p) (b ∷ t) h = by_test (a == b) refl (after_none p t)
     by_test true e more = more (λ rest is. h rest (ap₂ (λ c cs. c ∷ cs) (sym (eqb-true a b e)) is))
 
 module _ (known : List ℕ → Bool) where
-  or_else-none : (o : Option Fault) → or_else o None ≡ o
-  or_else-none None = refl
-  or_else-none (Some x) = refl
-
-  at_reference : (root : Bool) (v : Document) → first (undefined_at known) (keyword_visits root [] (codes "$ref") v) ≡ reference_fault known [] v
-  at_reference root v = or_else-none (reference_fault known [] v)
-
-  -- under `$ref`
-  pub reference_named : (root : Bool) (k : List ℕ) (v : Document) → bytes_eq k (codes "$ref") ≡ true → first (undefined_at known) (keyword_visits root [] k v) ≡ reference_fault known [] v
-  reference_named root k v e = ap (λ n. first (undefined_at known) (keyword_visits root [] n v)) ((bytes_eq-Decides k (codes "$ref")).0 e) ∙ at_reference root v
-
   -- under another key
   other_named : (root : Bool) (k : List ℕ) (v : Document) (f : Option Form) → form_at root k ≡ f → bytes_eq k (codes "$ref") ≡ false
       → first (undefined_at known) (keyword_visits root [] k v) ≡ first (undefined_at known) (within f (value_visits (at_key [] k) v))
   other_named root k v f e other =
       ap₂ (λ t o. or_else (if t then reference_fault known [] v else None) (first (undefined_at known) (within o (value_visits (at_key [] k) v)))) other e
-
-  pub no_keyword_named : (root : Bool) (k : List ℕ) (v : Document) → form_at root k ≡ None → bytes_eq k (codes "$ref") ≡ false → first (undefined_at known) (keyword_visits root [] k v) ≡ None
-  no_keyword_named root k v e other = other_named root k v None e other
 
   pub keyword_named : (root : Bool) (k : List ℕ) (v : Document) (f : Form) → form_at root k ≡ Some f → bytes_eq k (codes "$ref") ≡ false
       → first (undefined_at known) (keyword_visits root [] k v) ≡ option_map (below (at_key [] k)) (first (undefined_at known) (inside f v))

@@ -13,7 +13,7 @@ use Rattle.cs_grammar.specs.Cut.{Lexeme, comma_if, Cut, blank, new_line, comment
 use Rattle.cs_grammar.specs.Stuck.{Stuck, no_token, too_large, past_blank, past_line, past_comment, past_token}
 use Rattle.cs_grammar.specs.Words as W
 use Rattle.std.specs.Prelude.{◌&&◌, ◌||◌, not, cond}
-use Rattle.cs_grammar.specs.Words.{Word, Words, start, name, quoted, definition_name, numeral, top_mark, bottom_mark, open_paren, open_struct, open_list, close_paren, close_struct, close_list, comma, nl, colon, question, bang, dots, relation, unequal, minus}
+use Rattle.cs_grammar.specs.Words.{Word, Words, start, name, quoted, definition_name, numeral, top_mark, bottom_mark, open_paren, open_struct, open_list, relation, unequal, minus}
 use Rattle.cs_grammar.specs.Tree.{Tree, atom, not_integer, DefinitionTree, FileTree, file}
 use Rattle.cs_grammar.specs.Spells.{is_reserved, is_null, literal_of}
 use Rattle.cs_grammar.specs.TokenWords.{words}

@@ -1,5 +1,5 @@
 -- Sources declare one environment, and a root names one of its definitions.
-use Rattle.std.proofs.Common.{◌≡◌, ℕ, List, [], ◌∷◌, refl, sym, ap, subst, ◌∙◌}
+use Rattle.std.proofs.Common.{◌≡◌, ℕ, List, [], ◌∷◌, refl, sym, subst, ◌∙◌}
 use Rattle.cs_grammar.specs.Cut.{Lexeme}
 use Rattle.cs_grammar.specs.Tree.{FileTree}
 use Rattle.cs_grammar.specs.Spells.{SpellsFile}

@@ -1,5 +1,5 @@
 -- What the profile's first edition accepted is accepted, with the same environment and the same instances.
-use Rattle.std.proofs.Common.{◌≡◌, ℕ, Bool, List, [], ◌∷◌, sym, subst, ◌∙◌}
+use Rattle.std.proofs.Common.{◌≡◌, ℕ, Bool, List, [], ◌∷◌, sym, subst}
 use Rattle.std.specs.List.{AllByRecursion}
 use Rattle.cs_document.specs.Document.{Document}
 use Rattle.cs_grammar.specs.Labels.{IsLabelledFile}
