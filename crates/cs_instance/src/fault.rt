@@ -1,5 +1,5 @@
 use cs_table::TableFault;
-use std::alloc::{AllocError, AllocFailed};
+use std::alloc::AllocError;
 use thiserror::Error;
 
 /// Why a document can't be judged.
@@ -23,17 +23,6 @@ impl From<AllocError> for InstanceFault {
     ghost from_gives = { λ _ e. e ≡ OutOfMemory };
 
     fn from(_refused: AllocError) -> InstanceFault {
-        InstanceFault::OutOfMemory
-    }
-}
-
-impl<T: Drop> From<AllocFailed<T>> for InstanceFault {
-    ghost use Rattle.std.specs.Prelude.{◌≡◌};
-    ghost use Rattle.cs_instance.specs.declared.fault.InstanceFault.TheVariants.{OutOfMemory};
-
-    ghost from_gives = { λ _ e. e ≡ OutOfMemory };
-
-    fn from(_refused: AllocFailed<T>) -> InstanceFault {
         InstanceFault::OutOfMemory
     }
 }

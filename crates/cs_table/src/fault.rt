@@ -1,4 +1,4 @@
-use std::alloc::{AllocError, AllocFailed};
+use std::alloc::AllocError;
 use thiserror::Error;
 
 /// Why there is no table.
@@ -19,17 +19,6 @@ impl From<AllocError> for TableFault {
     ghost from_gives = { λ _ e. e ≡ OutOfMemory };
 
     fn from(_refused: AllocError) -> TableFault {
-        TableFault::OutOfMemory
-    }
-}
-
-impl<T: Drop> From<AllocFailed<T>> for TableFault {
-    ghost use Rattle.std.specs.Prelude.{◌≡◌};
-    ghost use Rattle.cs_table.specs.declared.fault.TableFault.TheVariants.{OutOfMemory};
-
-    ghost from_gives = { λ _ e. e ≡ OutOfMemory };
-
-    fn from(_refused: AllocFailed<T>) -> TableFault {
         TableFault::OutOfMemory
     }
 }
