@@ -122,7 +122,7 @@ module _ (E : Environment) (root : ℕ) where
   pub all_inside : (seen : List Bool) (order : List ℕ) (next : ℕ) → Walking E root seen order next → All (λ i. i < length E) order
   all_inside seen order next w k d l = inside seen order next w (get_or order k d) (on_get order k d l)
 
-  -- where all are passed, just what is reachable is found
+  -- where all are passed, exactly what is reachable is found
   pub walked : (seen : List Bool) (order : List ℕ) (next : ℕ) → IsDistinct bytes_eq (declared_names E) → Walking E root seen order next → length order ≤ next → AreReachable E (name_of E root) (map (name_of E) order)
   walked seen order next once w l = record {
     each = λ m. (

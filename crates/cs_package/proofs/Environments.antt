@@ -117,7 +117,7 @@ table-insert es new k w t e s is d = record {
 }
 
 module _ {V : Type 0} (ns : List (List ℕ)) where
-  -- a name is declared just where the table has it
+  -- a name is declared exactly where the table has it
   pub declared : (t : List ℕ) (es : List (String Global × V)) (vs : List (Vec Shape Global)) → length es ≡ length vs → is_some (bodies (environment_of ns es vs) t) ≡ is_some (lookup (λ k. bytes_eq t (string_bytes k)) es)
   declared t [] vs e = refl
   declared t (x ∷ es) [] e = absurd (omega arith)

@@ -1,4 +1,4 @@
--- A definition is a closed base just where the computation finds it, and so with a plain refinement: the names on the way to a literal are distinct, so
+-- A definition is a closed base exactly where the computation finds it, and so with a plain refinement: the names on the way to a literal are distinct, so
 -- as many steps as there are definitions are enough.
 use Rattle.std.proofs.Common.{◌≡◌, ℕ, zero, suc, ◌+◌, ◌-◌, ◌<◌, ◌≤◌, ◌↔◌, Bool, true, false, ◌||◌, cond, if◌then◌else◌, List, [], ◌∷◌, ◌⊎◌, inl, inr, Option, Some, None, map, filter, length, refl, sym, ap, ◌∙◌, subst, arith}
 use Rattle.std.specs.List.{IsDistinct, AllByRecursion, flat_map}

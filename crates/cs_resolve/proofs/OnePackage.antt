@@ -1,4 +1,4 @@
--- No file differs in its package name just where any two files that name a package name the same one.
+-- No file differs in its package name exactly where any two files that name a package name the same one.
 use Rattle.std.proofs.Common.{◌≡◌, ℕ, zero, suc, ◌+◌, Bool, true, false, not, List, [], ◌∷◌, Option, Some, None, cond, slice_get, ◌↔◌, refl, sym, ap, ◌∙◌}
 use Rattle.std.specs.List.{AllByRecursion, cons_option, position, position_from, filter_map}
 use Rattle.std.specs.Option.{option_and_then, option_map_or}

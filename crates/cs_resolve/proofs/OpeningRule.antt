@@ -1,4 +1,4 @@
--- No literal is at fault just where each conjunction keeps the rule, and the literals at fault are those asked for.
+-- No literal is at fault exactly where each conjunction keeps the rule, and the literals at fault are those asked for.
 use Rattle.std.proofs.Common.{◌≡◌, ℕ, zero, suc, ◌+◌, ◌<◌, ◌≤◌, Bool, true, false, ◌⊎◌, ◌↔◌, List, [], ◌∷◌, ◌++◌, map, count_by, nat_lt, Contains, slice_get, Some, inl, inr, refl, sym, ap, ap₂, ◌∙◌, subst, arith}
 use Rattle.std.specs.List.{AllByRecursion, flat_map}
 use Rattle.std.proofs.lemmas.Bool.{cases_lt, lt-ltb, ltb-true, false≢true}
@@ -56,7 +56,7 @@ none_open o [] h k = k
 none_open o (l ∷ ls) h (inl k) = false≢true (sym k.1 ∙ h.0)
 none_open o (l ∷ ls) h (inr k) = none_open o ls h.1 k
 
--- each conjunction keeps the rule just where none asks for a literal
+-- each conjunction keeps the rule exactly where none asks for a literal
 keeps_none : (cs : List (List Tree)) → ((o : ℕ) → Has (DemandsOf o) cs → ⊥) → Keeps cs
 keeps_none [] h = tt
 keeps_none (es ∷ cs) h = (kept_by es (λ e. open_none (flat_map literals es) (λ o l. h o (inl (e, l)))), keeps_none cs (λ o k. h o (inr k)))

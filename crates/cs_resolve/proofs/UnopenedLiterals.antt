@@ -83,7 +83,7 @@ module _ (o : ℕ) where
   abbrev pub DemandedIn : Bool → List Literal → List (List Tree) → Type 0
   DemandedIn demanded ls cs = ((demanded ≡ true) × Has Lacks ls) ⊎ Has DemandsOf cs
 
-  -- o is told just where such a literal is asked for
+  -- o is told exactly where such a literal is asked for
   abbrev Tells : Bool → List ℕ → List Literal → List (List Tree) → Type 0
   Tells demanded os ls cs = Has IsAt os ↔ DemandedIn demanded ls cs
 
@@ -208,7 +208,7 @@ module _ (o : ℕ) where
 
   -- ---- parts under names
 
-  -- o is told just where such a literal is asked for, by the flag, inside, or by the values of a name
+  -- o is told exactly where such a literal is asked for, by the flag, inside, or by the values of a name
   abbrev TellsNamed : Bool → List Named → List ℕ → List Literal → List (List Tree) → List Named → Type 0
   TellsNamed demanded all os ls cs ns = Has IsAt os ↔ (DemandedIn demanded ls cs ⊎ Has (DemandsNamed all) ns)
 
@@ -312,7 +312,7 @@ module _ (o : ℕ) where
       let own = demands_open (values (one (defined_name d)) all) in
       named_part false own (Has (DemandsNamed all) (named_bodies ds)) (unopened rs own (body d)) (unopened_definitions rs all ds) (literals (body d)) (inner_literals ds) (conjunctions rs (body d)) (inner rs ds) (told rs own (body d)) (told_definitions rs all ds)
 
-  -- o is told of all definitions just where one of their conjunctions asks for such a literal
+  -- o is told of all definitions exactly where one of their conjunctions asks for such a literal
   pub told_of_all : (rs : Refinements) (ds : List DefinitionTree) → Has IsAt (unopened_definitions rs (named_bodies ds) ds) ↔ Has DemandsOf (all_conjunctions rs ds)
   told_of_all rs ds = (λ t. elim (both.0 t) [ inl l ↦ absurd (false≢true l.0) | inr c ↦ c ], λ c. both.1 (inr c))
     where
@@ -323,7 +323,7 @@ module _ (o : ℕ) where
   abbrev pub DemandedOf : Refinements → List Named → DefinitionTree → Type 0
   DemandedOf rs all d = DemandedIn (demands_open (values (one (defined_name d)) all)) (literals (body d)) (conjunctions rs (body d))
 
-  -- o is told of some definitions just where one of them asks for such a literal
+  -- o is told of some definitions exactly where one of them asks for such a literal
   pub told_of_some : (rs : Refinements) (all : List Named) (ds : List DefinitionTree) → Has IsAt (unopened_definitions rs all ds) ↔ Has (DemandedOf rs all) ds
   told_of_some rs all ds = (to ds, from ds)
     where

@@ -14,7 +14,7 @@ use Rattle.cs_resolve.specs.Opening.{Declared, one, every_key, Named, declared_f
 abbrev pub Refuses : {X : Type 0} → ResolveFault → (X → ResolveFault) → List X → Type 0
 Refuses e f xs = (e ≡ OutOfMemory) ⊎ (option_map f (slice_get xs 0) ≡ Some e)
 
--- a check that finds these faults, in order, is Ok just where there is none
+-- a check that finds these faults, in order, is Ok exactly where there is none
 abbrev pub Checks : {X Y : Type 0} → Result Y ResolveFault → (X → ResolveFault) → List X → Type 0
 Checks (Ok y) f xs = xs ≡ []
 Checks (Err e) f xs = Refuses e f xs

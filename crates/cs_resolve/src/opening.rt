@@ -341,7 +341,7 @@ pub(crate) fn check_opened(
     Ok(())
 }
 
-/// A law, whatever the plain refinements are: no literal is at fault just where each conjunction has at most one operand that isn't plain, or all struct
+/// A law, whatever the plain refinements are: no literal is at fault exactly where each conjunction has at most one operand that isn't plain, or all struct
 /// literals in its operands end with `...`; and the literals at fault are just those that don't end with `...` though
 /// a conjunction that holds them asks it.
 pub fn opening_law()

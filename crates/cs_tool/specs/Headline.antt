@@ -1,4 +1,4 @@
--- What the calls answer. A schema admits just the documents that are instances of the root definition.
+-- What the calls answer. A schema admits exactly the documents that are instances of the root definition.
 use Rattle.std.specs.Prelude.{◌≡◌, ◌↔◌, ℕ, ◌≤◌, List, Bool, Option, IsSome}
 use Rattle.cs_document.specs.Document.{Document, IsDocument, depth}
 use Rattle.cs_doc.specs.Texts.{Reads, text_of}
