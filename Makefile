@@ -44,7 +44,7 @@ answers = tools/cases.sh $(1); cases=$$?; tools/pages.sh $(1); pages=$$?; tools/
 
 # The gate leaves the program that it built; the cases never run on one that is older than a source.
 test: | toolchain
-	tools/edits_apply.sh
+	tools/edits.py --fit
 	tools/recursions.sh
 	tools/definitions.sh
 	tools/contracts.sh
@@ -55,8 +55,8 @@ cases: bin/cue2schema
 	@$(call answers,bin/cue2schema)
 
 edits: | toolchain
-	tools/edits_apply.sh
-	JOBS=$(JOBS) tools/edits.sh $(or $(and $(ALL),--all),$(CRATES),--since $(SINCE))
+	tools/edits.py --fit
+	JOBS=$(JOBS) tools/edits.py $(or $(and $(ALL),--all),$(CRATES),--since $(SINCE))
 
 memory: bin/cue2schema | toolchain
 	cd crates/cs_bench && rt run < stdin > /dev/null

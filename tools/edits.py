@@ -1,0 +1,351 @@
+#!/usr/bin/env python3
+"""Tries the edits of edits/: each is a mistake that the prover must refuse. A line for each, and a closing count.
+
+    tools/edits.py CRATE..          the edits of these crates; JOBS=N: on so many lanes side by side
+    tools/edits.py --all            those of all crates
+    tools/edits.py --since [REV]    those of the crates whose code, specs, proofs or edits differ from the commit REV. Without
+                                    REV it is where this branch left the one that it tracks
+    tools/edits.py --fit            tries none: says which edits of edits/ and crates/*/must-fail don't fit the code any more
+
+The crates are proved in a scratch copy of this tree, over what earlier checks here kept, and edits over what that proved.
+Edits of different functions are tried in one check: where each of these functions itself is not proved, each is because of its
+own edit, since the prover doesn't judge a function that calls one that isn't proved. Else they are tried apart.
+"""
+import os
+import re
+import shutil
+import subprocess
+import sys
+import tempfile
+import threading
+from collections import deque
+from dataclasses import dataclass
+from pathlib import Path
+
+TOP = Path(__file__).resolve().parent.parent
+MOST_AT_ONCE = 5
+MESSAGE = re.compile(r"(?:note: )?(?:\./)?([^ :]+):(\d+):\d+: (.*)")
+UNREADABLE = re.compile(r"is not in scope|has no field|is no name|operand is missing|expected the end|cannot continue")
+TAKEN_AWAY = re.compile(r"has no field|is not in scope|has no `|was not admitted")
+FUNCTION = re.compile(r"\s*(?:pub(?:\(crate\))? )?fn (\w+)")
+
+
+class Misfit(Exception):
+    """An edit doesn't fit the code."""
+
+
+@dataclass(frozen=True)
+class Edit:
+    """A change of some files of a crate: pairs of a text, which is in its file once, and what takes its place."""
+
+    label: str
+    crate: str
+    pairs: tuple[tuple[str, str, str], ...]
+
+    @staticmethod
+    def read(path: Path, crate: str) -> "Edit":
+        pairs, file, old = [], None, None
+        for line in path.read_text().split("\n"):
+            if line.startswith("file: "):
+                file = line.removeprefix("file: ")
+            elif line.startswith("old: "):
+                old = line.removeprefix("old: ")
+            elif line.startswith("new:") and file and old:
+                pairs.append((file, old, line.removeprefix("new:").removeprefix(" ")))
+        return Edit(f"{crate}/{path.name}", crate, tuple(pairs))
+
+    def files(self) -> set[str]:
+        return {file for file, _, _ in self.pairs}
+
+    def apply(self, folder: Path, texts: dict[str, str]) -> dict[str, str]:
+        """The files as this edit makes them, from these texts, or from those in the crate's folder."""
+        made = dict(texts)
+        if not self.pairs:
+            raise Misfit("no text is looked for")
+        for file, old, new in self.pairs:
+            if file not in made:
+                if not (folder / file).is_file():
+                    raise Misfit(f"there is no {file}")
+                made[file] = (folder / file).read_text()
+            if made[file].count(old) != 1:
+                raise Misfit(f"{made[file].count(old)} times in {file}: {old}")
+            made[file] = made[file].replace(old, new)
+        return made
+
+    def function(self, made: dict[str, str]) -> tuple[str, str] | None:
+        """The file and the name of the one function that this edit changes, if it changes no more."""
+        found = set()
+        for file, _, new in self.pairs:
+            if not file.startswith("src/") or made[file].count(new) != 1:
+                return None
+            found.add((file, function_at(made[file], made[file][: made[file].index(new)].count("\n"))))
+        one = found.pop() if len(found) == 1 else None
+        return one if one and one[1] else None
+
+
+def function_at(text: str, line: int) -> str | None:
+    """The name of the function around a line, counted from 0."""
+    names = (FUNCTION.match(it) for it in reversed(text.split("\n")[: line + 1]))
+    return next((it[1] for it in names if it), None)
+
+
+def calls(crate: str) -> dict[str, set[str]]:
+    """The functions of a crate by name, each with those that it may call, also by others: all whose names its text has."""
+    named: dict[str, set[str]] = {}
+    for file in (TOP / "crates" / crate / "src").rglob("*.rt"):
+        name = ""
+        for line in file.read_text().split("\n"):
+            at = FUNCTION.match(line)
+            name = at[1] if at else name
+            named.setdefault(name, set()).update(re.findall(r"\w+", line))
+    reached = {name: words & named.keys() for name, words in named.items()}
+    while True:
+        more = {name: names.union(*(reached[it] for it in names)) for name, names in reached.items()}
+        if more == reached:
+            return reached
+        reached = more
+
+
+def unread(said: str, files: set[str]) -> str | None:
+    """A message by which the prover could not read what it was given, where a statement that is only false reads well."""
+    for line in said.split("\n"):
+        at = MESSAGE.match(line)
+        if not at or not at[3].startswith("error: ") or at[1] not in files and not at[1].startswith(("src/", "specs/")):
+            continue
+        words = at[3].removeprefix("error: ")
+        if not re.match(r"`[^`]*`: ", words) or UNREADABLE.search(re.sub(r"`[^`]*`", "", words)):
+            return line
+    return None
+
+
+def reasons(said: str) -> list[re.Match]:
+    """The messages that say what is not proved."""
+    found = (MESSAGE.match(line) for line in said.split("\n"))
+    return [it for it in found if it and (it[0].startswith("note: ") or it[3].startswith("error: "))]
+
+
+def is_by_name(reason: re.Match) -> bool:
+    return reason[1].startswith("proofs/") and bool(TAKEN_AWAY.search(reason[3]))
+
+
+class Lane:
+    """A tree of its own, in which one crate at a time is edited and checked; the others are the same files as in the proved tree."""
+
+    def __init__(self, proved: Path, tree: Path):
+        self.proved, self.tree, self.own = proved, tree, None
+        shutil.copytree(proved, tree, copy_function=os.link)
+
+    def take(self, crate: str) -> None:
+        if crate == self.own:
+            return
+        for name, copy in ((self.own, os.link), (crate, shutil.copy2)):
+            if name:
+                shutil.rmtree(self.tree / "crates" / name)
+                shutil.copytree(self.proved / "crates" / name, self.tree / "crates" / name, copy_function=copy)
+        self.own = crate
+
+    def check(self, crate: str, made: dict[str, str]) -> tuple[int, str]:
+        """Checks the crate with these texts in place of its own, which come back afterwards."""
+        self.take(crate)
+        folder = self.tree / "crates" / crate
+        for file, text in made.items():
+            (folder / file).write_text(text)
+        ran = subprocess.run(["rt", "check", "--jobs", "1"], cwd=folder, stdin=subprocess.DEVNULL, stdout=subprocess.PIPE, stderr=subprocess.STDOUT, text=True, errors="replace")
+        for file in made:
+            shutil.copy2(self.proved / "crates" / crate / file, folder / file)
+        return ran.returncode, ran.stdout
+
+    def alone(self, edit: Edit) -> tuple[bool, str]:
+        made = edit.apply(TOP / "crates" / edit.crate, {})
+        status, said = self.check(edit.crate, made)
+        bad = unread(said, edit.files())
+        if bad:
+            return False, f"BAD EDIT: the prover cannot read the edited text: {bad[:200]}"
+        if status == 0:
+            return False, "NOT REFUSED: the crate is still proved with this edit"
+        if status != 1 or "\nlogic=not-proved" not in said:
+            return False, f"BAD EDIT: it did not reach the prover: {said[:200]}"
+        told = reasons(said)
+        first = next((it for it in told if not is_by_name(it)), None)
+        if told and not first:
+            return True, f"refused, but only because a proof names what the edit took away: {told[0][0][:160]}"
+        return True, f"refused: {first[0][:160] if first else ''}"
+
+    def together(self, edits: list[Edit]) -> dict[Edit, str]:
+        """Of edits of different functions those that are refused by their own function, each with the reason; none where that isn't certain."""
+        made, functions = {}, {}
+        for edit in edits:
+            made = edit.apply(TOP / "crates" / edit.crate, made)
+        for edit in edits:
+            functions[edit] = edit.function(made)
+        _, said = self.check(edits[0].crate, made)
+        if unread(said, set(made)):
+            return {}
+        told = [it for it in reasons(said) if not is_by_name(it)]
+        refused = {}
+        for edit, (file, name) in functions.items():
+            module = "::".join([edit.crate, *Path(file).with_suffix("").parts[1:]]).removesuffix("::lib")
+            proofs = f"proofs/{'/'.join(module.split('::')[1:])}/"
+            own = [it for it in told if it[1] == file and function_at(made[file], int(it[2]) - 1) == name or it[1].startswith(proofs) and f"/{name}/" in it[1]]
+            if own and re.search(rf"^fn {module}::(?:\w+::)*{name}: not proved$", said, re.M):
+                refused[edit] = f"refused: {own[0][0][:160]}"
+        return refused
+
+
+class Trial:
+    """The edits that are still to be tried, and the lanes' answers."""
+
+    def __init__(self, edits: list[Edit]):
+        self.tasks, self.lock, self.passed = deque(self.batches(edits)), threading.Lock(), 0
+
+    @staticmethod
+    def batches(edits: list[Edit]) -> list[list[Edit]]:
+        """The edits by crate, at most so many in one: there they fit together, and are of functions that don't call each other."""
+        made: list[list[Edit]] = []
+        reached = {it: calls(it) for it in {edit.crate for edit in edits}}
+        for edit in edits:
+            folder = TOP / "crates" / edit.crate
+            try:
+                function = edit.function(edit.apply(folder, {}))
+            except Misfit:
+                continue
+            place = next((it for it in made if function and Trial.fits([*it, edit], folder, reached[edit.crate])), None)
+            if place is None:
+                made.append([edit])
+            else:
+                place.append(edit)
+        return made
+
+    @staticmethod
+    def fits(batch: list[Edit], folder: Path, reached: dict[str, set[str]]) -> bool:
+        if len(batch) > MOST_AT_ONCE or len({it.crate for it in batch}) > 1:
+            return False
+        texts: dict[str, str] = {}
+        try:
+            for it in batch:
+                texts = it.apply(folder, texts)
+        except Misfit:
+            return False
+        names = [at[1] if (at := it.function(texts)) else None for it in batch]
+        if None in names or len(set(names)) < len(names):
+            return False
+        return not any(one != other and one in reached.get(other, set()) for one in names for other in names)
+
+    def answer(self, edit: Edit, well: bool, text: str) -> None:
+        with self.lock:
+            self.passed += well
+            print(f"{edit.label}: {text}", flush=True)
+
+    def work(self, lane: Lane) -> None:
+        while True:
+            with self.lock:
+                if not self.tasks:
+                    return
+                batch = self.tasks.popleft()
+            self.attempt(lane, batch)
+
+    def attempt(self, lane: Lane, batch: list[Edit]) -> None:
+        if len(batch) == 1:
+            return self.answer(batch[0], *lane.alone(batch[0]))
+        refused = lane.together(batch)
+        others = [it for it in batch if it not in refused]
+        if not others:
+            for edit, text in refused.items():
+                self.answer(edit, True, text)
+            return None
+        # What one that isn't refused by its own function changes may be what another is refused for: so these are tried again without it.
+        for edit in others:
+            self.attempt(lane, [edit])
+        if refused:
+            self.attempt(lane, list(refused))
+        return None
+
+
+def edits_of(crate: str, folder: str) -> list[Edit]:
+    return [Edit.read(it, crate) for it in sorted((TOP / folder).glob("*.edit"))]
+
+
+def misfits() -> int:
+    """How many edits don't fit; each is said."""
+    count = 0
+    for crate in sorted(it.name for it in (TOP / "crates").iterdir()):
+        for edit in edits_of(crate, f"crates/{crate}/must-fail") + edits_of(crate, f"edits/{crate}"):
+            try:
+                edit.apply(TOP / "crates" / crate, {})
+            except Misfit as why:
+                print(f"{edit.label}: {why}")
+                count += 1
+    return count
+
+
+def git(*words: str) -> list[str]:
+    ran = subprocess.run(["git", *words], cwd=TOP, stdout=subprocess.PIPE, stderr=subprocess.DEVNULL, text=True)
+    return ran.stdout.split("\n")[:-1] if ran.returncode == 0 else []
+
+
+def changed_since(words: list[str]) -> list[str]:
+    """The crates with edits in which a file differs from the commit, also one that isn't committed yet."""
+    bases = [words[0]] if words else git("merge-base", "HEAD", "@{upstream}") or git("merge-base", "HEAD", "origin/HEAD")
+    if not bases:
+        sys.exit("this branch tracks none: name a commit by SINCE=REV, or ALL=1")
+    files = git("diff", "--name-only", bases[0], "--", "crates", "edits") + git("ls-files", "-o", "--exclude-standard", "--", "crates", "edits")
+    found = {it[1] for it in map(re.compile(r"(?:crates(?=/[^/]+/(?:src|specs|proofs)/)|edits)/([^/]+)/").match, files) if it}
+    crates = sorted(it for it in found if (TOP / "edits" / it).is_dir())
+    print(f"crates that differ from {bases[0]}: {' '.join(crates)}" if crates else f"no crate with edits differs from {bases[0]}", flush=True)
+    return crates
+
+
+def proved_tree(crates: list[str], tree: Path) -> bool:
+    """Proves these crates, and those that they stand on, in a copy of this tree over its kept work."""
+    lines = [it for it in (TOP / "crates.txt").read_text().split("\n") if re.match(r"[a-z]", it)]
+    below = {it.split(":")[0].split()[0]: it.split(":")[1].split() for it in lines}
+    needed, left = set(), list(crates)
+    while left:
+        crate = left.pop()
+        if crate in below and crate not in needed:
+            needed.add(crate)
+            left.extend(below[crate])
+    tree.mkdir()
+    (tree / "crates.txt").write_text("".join(f"{it}\n" for it in lines if it.split(":")[0].split()[0] in needed))
+    shutil.copy2(TOP / "HANDLES", tree / "HANDLES")
+    for crate in needed:
+        for part in ("src", "specs", "proofs", "out"):
+            if (TOP / "crates" / crate / part).is_dir():
+                shutil.copytree(TOP / "crates" / crate / part, tree / "crates" / crate / part)
+    subprocess.run(["git", "init", "-q", "."], cwd=tree, check=True)
+    ran = subprocess.run(["rt", "all", "check", "--jobs", jobs()], cwd=tree, stdout=subprocess.PIPE, stderr=subprocess.STDOUT, text=True, errors="replace")
+    if ran.returncode:
+        print("\n".join(ran.stdout.split("\n")[-30:]))
+    return ran.returncode == 0
+
+
+def jobs() -> str:
+    return os.environ.get("JOBS", "1")
+
+
+def main(words: list[str]) -> int:
+    if words == ["--fit"]:
+        return 1 if misfits() else 0
+    crates = sorted(it.name for it in (TOP / "edits").iterdir()) if words == ["--all"] else changed_since(words[1:]) if words[:1] == ["--since"] else words
+    if not crates:
+        return 0 if words else 2
+    unknown = [it for it in crates if not (TOP / "edits" / it).is_dir()]
+    if unknown:
+        sys.exit(f"there is no folder edits/{unknown[0]}")
+    edits = [edit for crate in crates for edit in edits_of(crate, f"edits/{crate}")]
+    trial = Trial(edits)
+    with tempfile.TemporaryDirectory() as room:
+        if not proved_tree(crates, Path(room, "tree")):
+            print("0 passed, 1 failed")
+            return 1
+        lanes = [threading.Thread(target=lambda at=at: trial.work(Lane(Path(room, "tree"), Path(room, f"lane{at}")))) for at in range(int(jobs()))]
+        for it in lanes:
+            it.start()
+        for it in lanes:
+            it.join()
+    print(f"{trial.passed} passed, {len(edits) - trial.passed} failed")
+    return 0 if trial.passed == len(edits) else 1
+
+
+if __name__ == "__main__":
+    sys.exit(main(sys.argv[1:]))
