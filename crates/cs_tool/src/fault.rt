@@ -23,7 +23,7 @@ pub enum Fault {
     #[error("this form of CUE is not supported; say it by other forms")]
     LeftOut { file: usize, offset: usize },
     /// 6: the integer at the offset doesn't fit in 64 signed bits.
-    #[error("an integer does not fit in 64 signed bits; use a smaller one or a bound")]
+    #[error("an integer does not fit in 64 signed bits; use a smaller one")]
     IntegerRange { file: usize, offset: usize },
     /// 7: the tokens of the source nest deeper than 28, or a body in it is higher than that.
     #[error("an expression nests deeper than 28 levels; give an inner part its own definition")]
@@ -42,7 +42,7 @@ pub enum Fault {
     NotOpened { file: usize, offset: usize },
     /// 12: a cycle of definitions, by their names with `#`: each refers strongly to the next, and the last to the
     /// first. The one that is declared first comes first, and no name comes twice.
-    #[error("definitions refer to one another in a cycle; make a field on the way optional")]
+    #[error("definitions refer to one another in a cycle; make a field on the way optional, or put an alternative there")]
     Cycle { names: Vec<String> },
     /// 13: the package doesn't declare the root.
     #[error("the package does not declare the root; write its name with `#`")]
