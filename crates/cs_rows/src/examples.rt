@@ -34,8 +34,11 @@ const PACKAGES: &str =
 #⟨300×P⟩: int => #⟨300×P⟩ => "⟨300×P⟩":{"type":"integer"} => 1 => "a"
 #P: int % #P: >2 => #P => "P":{"allOf":[{"type":"integer"},{"exclusiveMinimum":2,"type":"number"}]} => 3 => 2
 package p;#P: >2 % #Q: int % package p;#P: int => #P => "P":{"allOf":[{"exclusiveMinimum":2,"type":"number"},{"type":"integer"}]} => 3 => 2
-#Q: int % #P: ((int) & (<9 & >1)) => #P => "P":{"allOf":[{"type":"integer"},{"allOf":[{"exclusiveMaximum":9,"type":"number"},{"exclusiveMinimum":1,"type":"number"}]}]} => 8 => 9
-package p;#A: {x: #B} % package p;#B: int8 => #A => "A":{"additionalProperties":false,"properties":{"x":{"$ref":"#/$defs/B"}},"required":["x"],"type":"object"},"B":{"maximum":127,"minimum":-128,"type":"integer"} => {"x":127} {"x":-128} => {"x":128} {"x":"a"} {} 127
+#Q: int % #P: ((int) & (<9 & >1)) => #P
+  … => "P":{"allOf":[{"type":"integer"},{"allOf":[{"exclusiveMaximum":9,"type":"number"},{"exclusiveMinimum":1,"type":"number"}]}]} => 8 => 9
+package p;#A: {x: #B} % package p;#B: int8 => #A
+  … => "A":{"additionalProperties":false,"properties":{"x":{"$ref":"#/$defs/B"}},"required":["x"],"type":"object"},
+  …"B":{"maximum":127,"minimum":-128,"type":"integer"} => {"x":127} {"x":-128} => {"x":128} {"x":"a"} {} 127
 package p;#A: {x: #B} % package p;#B: int8 => #B => "B":{"maximum":127,"minimum":-128,"type":"integer"} => 127 => 128 {"x":127}"##;
 
 /// The same, whatever the schemas are.
@@ -68,9 +71,12 @@ const INSTANCES: &str = r##"#A: {x!: _, ...} => #A => - => {"x":null} {"x":1,"y"
 #P: [int, null | #P] => #P => - => ⟨100×[1,⟩null⟨100×]⟩ => ⟨100×[1,⟩1⟨100×]⟩ ⟨100×[1,⟩[1]⟨100×]⟩"##;
 
 /// The same of 27 literals around a form of two levels, as the body of a definition with two bodies, and of 27 around an integer.
-const DEEPEST: &str =
-    r##"#N: ⟨27×{a: _, a: ⟩!=1⟨27×, ...}⟩;#N: ⟨27×{a: _, a: ⟩!=1⟨27×, ...}⟩ => #N => "N":{"allOf":[⟨27×{"properties":{"a":{"allOf":[true,⟩{"not":{"const":1},"type":"number"}⟨27×]}},"required":["a"],"type":"object"}⟩,⟨27×{"properties":{"a":{"allOf":[true,⟩{"not":{"const":1},"type":"number"}⟨27×]}},"required":["a"],"type":"object"}⟩]} => ⟨27×{"a":⟩2⟨27×}⟩ => ⟨27×{"a":⟩1⟨27×}⟩
-#N: ⟨27×[string]: ⟩1 => #N => "N":⟨27×{"allOf":[{"additionalProperties":⟩{"const":1}⟨27×}],"type":"object"}⟩ => ⟨27×{"a":⟩1⟨27×}⟩ ⟨26×{"":⟩{}⟨26×}⟩ {} => ⟨27×{"a":⟩2⟨27×}⟩ ⟨26×{"a":⟩1⟨26×}⟩"##;
+const DEEPEST: &str = r##"#N: ⟨27×{a: _, a: ⟩!=1⟨27×, ...}⟩;#N: ⟨27×{a: _, a: ⟩!=1⟨27×, ...}⟩ => #N
+  … => "N":{"allOf":[⟨27×{"properties":{"a":{"allOf":[true,⟩{"not":{"const":1},"type":"number"}⟨27×]}},"required":["a"],"type":"object"}⟩,
+  …⟨27×{"properties":{"a":{"allOf":[true,⟩{"not":{"const":1},"type":"number"}⟨27×]}},"required":["a"],"type":"object"}⟩]} => ⟨27×{"a":⟩2⟨27×}⟩
+  … => ⟨27×{"a":⟩1⟨27×}⟩
+#N: ⟨27×[string]: ⟩1 => #N => "N":⟨27×{"allOf":[{"additionalProperties":⟩{"const":1}⟨27×}],"type":"object"}⟩ => ⟨27×{"a":⟩1⟨27×}⟩ ⟨26×{"":⟩{}⟨26×}⟩ {}
+  … => ⟨27×{"a":⟩2⟨27×}⟩ ⟨26×{"a":⟩1⟨26×}⟩"##;
 
 /// A root of some sources, with the text of its schema.
 #[derive(Clone, Copy)]

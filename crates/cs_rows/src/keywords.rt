@@ -44,7 +44,8 @@ false => => null true false 1 "a" [] {}
 {"required":["a","b"]} => {"a":null,"b":0} {"b":1,"a":1,"c":1} null true 1 "a" [] ["a"] => {} {"a":1} {"b":1} {"A":1,"b":1}
 {"required":[]} => {} {"a":1} [] 1 null =>
 {"required":[""]} => {"":null} [] "" => {} {"a":1}
-{"properties":{"a":{"type":"integer"},"b":false}} => {} {"a":1} {"c":"x"} {"a":1,"c":null} null true 1 "a" [] ["a"] => {"a":"x"} {"a":null} {"b":1} {"a":1,"b":null}
+{"properties":{"a":{"type":"integer"},"b":false}} => {} {"a":1} {"c":"x"} {"a":1,"c":null} null true 1 "a" [] ["a"]
+  … => {"a":"x"} {"a":null} {"b":1} {"a":1,"b":null}
 {"properties":{}} => {} {"a":1} 1 [] =>
 {"properties":{"a":{"properties":{"b":{"minimum":2}}}}} => {"a":{"b":2}} {"a":{}} {"a":1} {"b":1} {} => {"a":{"b":1}}
 {"properties":{"pattern":true,"$defs":{"type":"null"}}} => {"pattern":1} {"$defs":null} {} => {"$defs":1}
@@ -96,30 +97,44 @@ false => => null true false 1 "a" [] {}
 {"$defs":{"A":{"type":"array","prefixItems":[{"$ref":"#/$defs/A"}]}},"$ref":"#/$defs/A"} => [] [[]] [[[]],1] => 1 [1] [[1]]
 {"$defs":{"A":{"anyOf":[{"type":"integer"},{"items":{"$ref":"#/$defs/A"},"type":"array"}]}},"$ref":"#/$defs/A"} => 1 [] [1,[2,[]]] => "a" ["a"] [1,[null]]
 {"$defs":{"A":{"not":{"items":{"$ref":"#/$defs/A"}}}},"$ref":"#/$defs/A"} => [1] [[]] [[1],1] => 1 {} [] [[1]]
-{"$defs":{"A":{"additionalProperties":false,"properties":{"b":{"$ref":"#/$defs/B"}},"type":"object"},"B":{"additionalProperties":false,"properties":{"a":{"$ref":"#/$defs/A"}},"type":"object"}},"$ref":"#/$defs/A"} => {} {"b":{}} {"b":{"a":{}}} => 1 {"a":{}} {"b":{"b":{}}} {"b":{"a":{"a":{}}}}"##;
+{"$defs":{"A":{"additionalProperties":false,"properties":{"b":{"$ref":"#/$defs/B"}},"type":"object"},
+  …"B":{"additionalProperties":false,"properties":{"a":{"$ref":"#/$defs/A"}},"type":"object"}},"$ref":"#/$defs/A"} => {} {"b":{}} {"b":{"a":{}}}
+  … => 1 {"a":{}} {"b":{"b":{}}} {"b":{"a":{"a":{}}}}"##;
 
 /// Schemas of definitions as they are exported, documents that are valid and documents that aren't.
 const EXPORTED: &str =
-    r##"{"$defs":{"T":{"additionalProperties":false,"properties":{"kids":{"items":{"$ref":"#/$defs/T"},"type":"array"},"v":{"type":"integer"}},"required":["v"],"type":"object"}},"$ref":"#/$defs/T"} => {"v":1} {"v":1,"kids":[]} {"v":1,"kids":[{"v":2}]} {"v":1,"kids":[{"v":2,"kids":[{"v":3}]}]} => {} {"v":1,"kids":[{}]} {"v":1,"kids":[{"v":2,"kids":[{"v":"3"}]}]} {"v":1,"w":1} 1
-{"$defs":{"L":{"items":{"type":"integer"},"minItems":1,"prefixItems":[{"type":"string"}],"type":"array"}},"$ref":"#/$defs/L"} => ["a"] ["a",1] => [] ["a",1,"b"] [1] "a"
+    r##"{"$defs":{"T":{"additionalProperties":false,"properties":{"kids":{"items":{"$ref":"#/$defs/T"},"type":"array"},"v":{"type":"integer"}},"required":["v"],
+  …"type":"object"}},"$ref":"#/$defs/T"} => {"v":1} {"v":1,"kids":[]} {"v":1,"kids":[{"v":2}]} {"v":1,"kids":[{"v":2,"kids":[{"v":3}]}]}
+  … => {} {"v":1,"kids":[{}]} {"v":1,"kids":[{"v":2,"kids":[{"v":"3"}]}]} {"v":1,"w":1} 1
+{"$defs":{"L":{"items":{"type":"integer"},"minItems":1,"prefixItems":[{"type":"string"}],"type":"array"}},"$ref":"#/$defs/L"} => ["a"] ["a",1]
+  … => [] ["a",1,"b"] [1] "a"
 {"$defs":{"E":{"additionalProperties":false,"type":"object"}},"$ref":"#/$defs/E"} => {} => {"a":1} []
-{"$defs":{"R":{"additionalProperties":false,"properties":{"a":{"allOf":[{"type":"integer"},{"exclusiveMinimum":3,"type":"number"}]}},"required":["a"],"type":"object"}},"$ref":"#/$defs/R"} => {"a":4} => {} {"a":3} {"a":4,"b":1}
+{"$defs":{"R":{"additionalProperties":false,"properties":{"a":{"allOf":[{"type":"integer"},{"exclusiveMinimum":3,"type":"number"}]}},"required":["a"],
+  …"type":"object"}},"$ref":"#/$defs/R"} => {"a":4} => {} {"a":3} {"a":4,"b":1}
 {"$defs":{"S":{"not":{"const":"s"},"type":"string"}},"$ref":"#/$defs/S"} => "t" "" => "s" 1 null
-{"$defs":{"D":{"anyOf":[{"additionalProperties":false,"properties":{"a":{"type":"integer"}},"required":["a"],"type":"object"},{"additionalProperties":false,"properties":{"b":{"type":"integer"}},"required":["b"],"type":"object"}]}},"$ref":"#/$defs/D"} => {"a":1} {"b":1} => {"a":1,"b":2} {} {"a":"b"}
-{"$defs":{"F":{"additionalProperties":false,"properties":{"int":{"type":"string"},"x":{"type":"integer"}},"required":["int","x"],"type":"object"}},"$ref":"#/$defs/F"} => {"int":"a","x":1} => {"int":1,"x":1} {"x":1}
+{"$defs":{"D":{"anyOf":[{"additionalProperties":false,"properties":{"a":{"type":"integer"}},"required":["a"],"type":"object"},
+  …{"additionalProperties":false,"properties":{"b":{"type":"integer"}},"required":["b"],"type":"object"}]}},"$ref":"#/$defs/D"} => {"a":1} {"b":1}
+  … => {"a":1,"b":2} {} {"a":"b"}
+{"$defs":{"F":{"additionalProperties":false,"properties":{"int":{"type":"string"},"x":{"type":"integer"}},"required":["int","x"],"type":"object"}},
+  …"$ref":"#/$defs/F"} => {"int":"a","x":1} => {"int":1,"x":1} {"x":1}
 {"$defs":{"M":{"const":-9223372036854775808}},"$ref":"#/$defs/M"} => -9223372036854775808 => -9223372036854775807 0 "a"
 {"$defs":{"G":{"exclusiveMinimum":9223372036854775807,"type":"number"}},"$ref":"#/$defs/G"} => => 9223372036854775807 0 -9223372036854775808 null "a" [] {}
-{"$defs":{"B":{"additionalProperties":false,"properties":{"k":{"type":"string"}},"required":["k"],"type":"object"},"C":{"allOf":[{"$ref":"#/$defs/B"},{"properties":{"k":{"const":"x"}},"required":["k"],"type":"object"}]}},"$ref":"#/$defs/C"} => {"k":"x"} => {"k":"y"} {"k":"x","z":1} {}
+{"$defs":{"B":{"additionalProperties":false,"properties":{"k":{"type":"string"}},"required":["k"],"type":"object"},
+  …"C":{"allOf":[{"$ref":"#/$defs/B"},{"properties":{"k":{"const":"x"}},"required":["k"],"type":"object"}]}},"$ref":"#/$defs/C"} => {"k":"x"}
+  … => {"k":"y"} {"k":"x","z":1} {}
 {"$defs":{"N":{"items":false,"minItems":2,"prefixItems":[{"const":1},{"const":2}],"type":"array"}},"$ref":"#/$defs/N"} => [1,2] => [1] [1,2,3] [2,1]
 {"$defs":{"P":{"maximum":65535,"minimum":1,"type":"integer"}},"$ref":"#/$defs/P"} => 1 65535 => 0 65536 "1"
 {"$defs":{"K":{"anyOf":[{"const":"a"},{"const":"b"},{"const":"a"}]}},"$ref":"#/$defs/K"} => "a" "b" => "c" 1
 {"$defs":{"K":{"enum":["a","b"]}},"$ref":"#/$defs/K"} => "a" "b" => "c" 1
 {"$defs":{"G":false},"$ref":"#/$defs/G"} => => 1 null "a" [] {}
-{"$defs":{"A":{"additionalProperties":false,"properties":{"x":{"$ref":"#/$defs/B"}},"required":["x"],"type":"object"},"B":{"maximum":127,"minimum":-128,"type":"integer"}},"$ref":"#/$defs/A"} => {"x":127} => {"x":128} {"x":"a"} {} 127
-{"$defs":{"S":{"additionalProperties":false,"properties":{"a":{"additionalProperties":false,"properties":{"b":{"type":"integer"}},"type":"object"}},"required":["a"],"type":"object"}},"$ref":"#/$defs/S"} => {"a":{}} {"a":{"b":1}} => {} {"a":{"b":null}} {"a":1}
+{"$defs":{"A":{"additionalProperties":false,"properties":{"x":{"$ref":"#/$defs/B"}},"required":["x"],"type":"object"},
+  …"B":{"maximum":127,"minimum":-128,"type":"integer"}},"$ref":"#/$defs/A"} => {"x":127} => {"x":128} {"x":"a"} {} 127
+{"$defs":{"S":{"additionalProperties":false,"properties":{"a":{"additionalProperties":false,"properties":{"b":{"type":"integer"}},"type":"object"}},
+  …"required":["a"],"type":"object"}},"$ref":"#/$defs/S"} => {"a":{}} {"a":{"b":1}} => {} {"a":{"b":null}} {"a":1}
 {"$defs":{"Q":{"anyOf":[{"const":1},{"allOf":[{"type":"integer"},{"exclusiveMinimum":5,"type":"number"}]}]}},"$ref":"#/$defs/Q"} => 1 6 => 5 2 "a"
 {"$defs":{"Q":{"anyOf":[{"const":1},{"minimum":6,"type":"integer"}]}},"$ref":"#/$defs/Q"} => 1 6 => 5 2 "a"
-{"$defs":{"Z":{"items":false,"minItems":2,"prefixItems":[{"type":"integer"},{"type":"string"}],"type":"array"}},"$ref":"#/$defs/Z"} => [1,"a"] => [1] [1,"a",2] ["a",1] {}
+{"$defs":{"Z":{"items":false,"minItems":2,"prefixItems":[{"type":"integer"},{"type":"string"}],"type":"array"}},"$ref":"#/$defs/Z"} => [1,"a"]
+  … => [1] [1,"a",2] ["a",1] {}
 {"$defs":{"Z":{"items":false,"type":"array"}},"$ref":"#/$defs/Z"} => [] => [1] {}
 {"$defs":{"A":{"allOf":[{"type":"integer"},{"exclusiveMinimum":2,"type":"number"}]}},"$ref":"#/$defs/A"} => 3 => 2 "a"
 {"$defs":{"W":{"allOf":[{"not":{"const":null}},{"anyOf":[{"const":1},{"const":"s"},{"const":null}]}]}},"$ref":"#/$defs/W"} => "s" 1 => null 2 "t"
@@ -135,10 +150,12 @@ fn all_are(alloc: Global, schema: &str, docs: &str, verdict: bool) -> Result<boo
     Ok(true)
 }
 
-/// Whether the row's documents have their verdicts.
+/// Whether the row has both lists of documents, and they have their verdicts.
 pub(crate) fn are_judged(alloc: Global, row: &str) -> Result<bool, Fault> {
     let (schema, docs) = cell(row);
-    let (valid, invalid) = cell(docs);
+    let Some((valid, invalid)) = docs.split_once("=>") else {
+        return Ok(false);
+    };
     Ok(all_are(alloc, schema, valid, true)? && all_are(alloc, schema, invalid, false)?)
 }
 

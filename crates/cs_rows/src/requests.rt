@@ -8,8 +8,8 @@ use std::test::Fail;
 
 /// A call, its source or its schema, its document, the input, and what `run` answers: its truth value and what it writes
 /// before the newline, or the number of a refusal. `-` stands for no source or no document.
-const REQUESTS: &str =
-    r##"export => #P: int => - => #P: string => true {"$defs":{"P":{"type":"integer"}},"$ref":"#/$defs/P","$schema":"https://json-schema.org/draft/2020-12/schema"}
+const REQUESTS: &str = r##"export => #P: int => - => #P: string
+  … => true {"$defs":{"P":{"type":"integer"}},"$ref":"#/$defs/P","$schema":"https://json-schema.org/draft/2020-12/schema"}
 export => - => - => #P: string => true {"$defs":{"P":{"type":"string"}},"$ref":"#/$defs/P","$schema":"https://json-schema.org/draft/2020-12/schema"}
 export => - => - => #Q: int => 13
 vet => #P: int & >=1 & <=65535 => 65535 => #P: string => true valid

@@ -72,8 +72,10 @@ impl Write for Room {
 /// and how many a call, `empty` where it then takes none and doesn't fail, `flush` where the flush fails, the number of the
 /// refusal, 0 for none, and what is written. A document is `1`.
 const STREAMS: &str =
-    r##"export => - => #P: int & >=1 & <=65535 => 1000 => 1000 => 1 => nothing => 0 => {"$defs":{"P":{"maximum":65535,"minimum":1,"type":"integer"}},"$ref":"#/$defs/P","$schema":"https://json-schema.org/draft/2020-12/schema"};
-export => #P: int & >=1 & <=65535 => - => 0 => 1000 => 1000 => nothing => 0 => {"$defs":{"P":{"maximum":65535,"minimum":1,"type":"integer"}},"$ref":"#/$defs/P","$schema":"https://json-schema.org/draft/2020-12/schema"};
+    r##"export => - => #P: int & >=1 & <=65535 => 1000 => 1000 => 1 => nothing => 0
+  … => {"$defs":{"P":{"maximum":65535,"minimum":1,"type":"integer"}},"$ref":"#/$defs/P","$schema":"https://json-schema.org/draft/2020-12/schema"};
+export => #P: int & >=1 & <=65535 => - => 0 => 1000 => 1000 => nothing => 0
+  … => {"$defs":{"P":{"maximum":65535,"minimum":1,"type":"integer"}},"$ref":"#/$defs/P","$schema":"https://json-schema.org/draft/2020-12/schema"};
 export => - => #P: int & >=1 & <=65535 => 1 => 1000 => 1000 => nothing => 30 =>
 export => - => #Q: int => 1000 => 1000 => 1000 => nothing => 13 =>
 export => - => ⟨1048577× ⟩ => 2000000 => 1000 => 1000 => nothing => 1 =>
@@ -82,10 +84,12 @@ export => #P: int & >=1 & <=65535 => - => 0 => 3 => 1000 => nothing => 31 => {"$
 export => #P: int & >=1 & <=65535 => - => 0 => 3 => 1000 => empty => 31 => {"$
 export => #P: int & >=1 & <=65535 => - => 0 => 0 => 1000 => nothing => 31 =>
 export => #P: int & >=1 & <=65535 => - => 0 => 0 => 1000 => empty => 31 =>
-export => #P: int & >=1 & <=65535 => - => 0 => 1000 => 1000 => flush => 31 => {"$defs":{"P":{"maximum":65535,"minimum":1,"type":"integer"}},"$ref":"#/$defs/P","$schema":"https://json-schema.org/draft/2020-12/schema"};
+export => #P: int & >=1 & <=65535 => - => 0 => 1000 => 1000 => flush => 31
+  … => {"$defs":{"P":{"maximum":65535,"minimum":1,"type":"integer"}},"$ref":"#/$defs/P","$schema":"https://json-schema.org/draft/2020-12/schema"};
 vet => #P: int & >=1 & <=65535 => #P: int & >=1 & <=65535 => 1 => 3 => 1000 => nothing => 31 => val
 vet => - => #P: int & >=1 & <=65535 => 1 => 3 => 1000 => nothing => 30 =>
-export => - => #P: ⟨3999×int | ⟩int => 100000 => 100000 => 1000 => nothing => 0 => {"$defs":{"P":{"anyOf":[⟨3999×{"type":"integer"},⟩{"type":"integer"}]}},"$ref":"#/$defs/P","$schema":"https://json-schema.org/draft/2020-12/schema"};"##;
+export => - => #P: ⟨3999×int | ⟩int => 100000 => 100000 => 1000 => nothing => 0
+  … => {"$defs":{"P":{"anyOf":[⟨3999×{"type":"integer"},⟩{"type":"integer"}]}},"$ref":"#/$defs/P","$schema":"https://json-schema.org/draft/2020-12/schema"};"##;
 
 /// A number of a cell, and the cells after it.
 fn number(row: &str) -> (usize, &str) {

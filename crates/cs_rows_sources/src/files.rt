@@ -59,10 +59,16 @@ import "a" => 5 at 0
 #H: [[[[[[[[[[[[[[[[[[[[[[[[[[[[1]]]]]]]]]]]]]]]]]]]]]]]]]]]] => 7 at 0
 #H: [[[[[[[[[[[[[[[[[[[[[[[[[[[[]]]]]]]]]]]]]]]]]]]]]]]]]]]] => 0 at 0
 #H: [[[[[[[[[[[[[[[[[[[[[[[[[[[[[ => 7 at 0
-#A: [string]: [string]: [string]: [string]: [string]: [string]: [string]: [string]: [string]: [string]: [string]: [string]: [string]: [string]: [string]: [string]: [string]: [string]: [string]: [string]: [string]: [string]: [string]: [string]: [string]: [string]: [string]: 1 => 0 at 0
-#A: [string]: [string]: [string]: [string]: [string]: [string]: [string]: [string]: [string]: [string]: [string]: [string]: [string]: [string]: [string]: [string]: [string]: [string]: [string]: [string]: [string]: [string]: [string]: [string]: [string]: [string]: [string]: [string]: [string]: 1 => 7 at 0
-#A: [string]?: [string]?: [string]?: [string]?: [string]?: [string]?: [string]?: [string]?: [string]?: [string]?: [string]?: [string]?: [string]?: [string]?: [string]?: [string]?: [string]?: [string]?: [string]?: [string]?: [string]?: [string]?: [string]?: [string]?: [string]?: [string]?: [string]?: [string]?: [string]?: 1 => 4 at 12
-#A: [string]!: [string]!: [string]!: [string]!: [string]!: [string]!: [string]!: [string]!: [string]!: [string]!: [string]!: [string]!: [string]!: [string]!: [string]!: [string]!: [string]!: [string]!: [string]!: [string]!: [string]!: [string]!: [string]!: [string]!: [string]!: [string]!: [string]!: [string]!: [string]!: 1 => 4 at 12
+#A: [string]: [string]: [string]: [string]: [string]: [string]: [string]: [string]: [string]: [string]: [string]: [string]: [string]: [string]: [string]:
+  … [string]: [string]: [string]: [string]: [string]: [string]: [string]: [string]: [string]: [string]: [string]: [string]: 1 => 0 at 0
+#A: [string]: [string]: [string]: [string]: [string]: [string]: [string]: [string]: [string]: [string]: [string]: [string]: [string]: [string]: [string]:
+  … [string]: [string]: [string]: [string]: [string]: [string]: [string]: [string]: [string]: [string]: [string]: [string]: [string]: [string]: 1 => 7 at 0
+#A: [string]?: [string]?: [string]?: [string]?: [string]?: [string]?: [string]?: [string]?: [string]?: [string]?: [string]?: [string]?: [string]?: [string]?:
+  … [string]?: [string]?: [string]?: [string]?: [string]?: [string]?: [string]?: [string]?: [string]?: [string]?: [string]?: [string]?: [string]?: [string]?:
+  … [string]?: 1 => 4 at 12
+#A: [string]!: [string]!: [string]!: [string]!: [string]!: [string]!: [string]!: [string]!: [string]!: [string]!: [string]!: [string]!: [string]!: [string]!:
+  … [string]!: [string]!: [string]!: [string]!: [string]!: [string]!: [string]!: [string]!: [string]!: [string]!: [string]!: [string]!: [string]!: [string]!:
+  … [string]!: 1 => 4 at 12
 #A: import => 0 at 0
 #A: package => 0 at 0
 #A: {package: int} => 0 at 0

@@ -1,4 +1,5 @@
-// Tables: a row a line, a source, ` => ` and what is wanted of it. A `;` in a source is a newline.
+// Tables: a row a line, a source, ` => ` and what is wanted of it. A `;` in a source is a newline. A line that begins with two
+// blanks and `…` goes on with the row before it.
 use crate::{files, refusals, tokens, trees};
 use std::alloc::Global;
 use std::test::Fail;
@@ -22,6 +23,7 @@ pub(crate) enum Asked {
 
 /// Fails with the first row that is answered otherwise.
 pub(crate) fn check(alloc: Global, table: &str, asked: Asked) -> Result<(), Fail> {
+    let table = table.replace(alloc, "\n  …", "")?;
     for row in table.lines() {
         if !holds(alloc, row, asked)? {
             return Err(Fail::new(row));

@@ -13,7 +13,9 @@ _ _|_ _||_ => Top _ 0|Bottom _|_ 2|Top _ 6|LeftOut || 7|Top _ 9|Inserted  10|End
 _|x => Top _ 0|Mark | 1|Name x 2|Inserted  3|End  3|
 __#a => Hidden __ 0|Definition #a 2|Inserted  4|End  4|
 0 10 1_000 0xfF0 1$ => Integer 0 0|Integer 10 2|Integer 1_000 5|Integer 0xfF0 11|Integer 1 17|Name $ 18|Inserted  19|End  19|
-{}[](),:?!&|...<<=>>=!=- => Mark { 0|Mark } 1|Mark [ 2|Mark ] 3|Mark ( 4|Mark ) 5|Mark , 6|Mark : 7|Mark ? 8|Mark ! 9|Mark & 10|Mark | 11|Mark ... 12|Mark < 15|Mark <= 16|Mark > 18|Mark >= 19|Mark != 21|Mark - 23|End  24|
+{}[](),:?!&|...<<=>>=!=-
+  … => Mark { 0|Mark } 1|Mark [ 2|Mark ] 3|Mark ( 4|Mark ) 5|Mark , 6|Mark : 7|Mark ? 8|Mark ! 9|Mark & 10|Mark | 11|Mark ... 12|Mark < 15|Mark <= 16|Mark > 18|
+  …Mark >= 19|Mark != 21|Mark - 23|End  24|
 +*/.= == =~!~&& || => LeftOut + 0|LeftOut * 1|LeftOut / 2|LeftOut . 3|LeftOut = 4|LeftOut == 6|LeftOut =~ 9|LeftOut !~ 11|LeftOut && 13|LeftOut || 16|End  18|
 & &!== .... => Mark & 0|Mark & 2|Mark != 3|LeftOut = 5|Mark ... 7|LeftOut . 10|End  11|
 [1, ...] => Mark [ 0|Integer 1 1|Mark , 2|Mark ... 4|Mark ] 7|Inserted  8|End  8|
@@ -24,7 +26,9 @@ __#a => Hidden __ 0|Definition #a 2|Inserted  4|End  4|
 #P   => Definition #P 0|Inserted  4|End  4|
 x///y;z => Name x 0|Inserted  1|Name z 6|Inserted  7|End  7|
 #A: {a: int => Definition #A 0|Mark : 2|Mark { 4|Name a 5|Mark : 6|Name int 8|Inserted  11|End  11|
-{;(;[;,;...;);];};?;!; => Mark { 0|Mark ( 2|Mark [ 4|Mark , 6|Mark ... 8|Inserted  11|Mark ) 12|Inserted  13|Mark ] 14|Inserted  15|Mark } 16|Inserted  17|Mark ? 18|Inserted  19|Mark ! 20|End  22|
+{;(;[;,;...;);];};?;!;
+  … => Mark { 0|Mark ( 2|Mark [ 4|Mark , 6|Mark ... 8|Inserted  11|Mark ) 12|Inserted  13|Mark ] 14|Inserted  15|Mark } 16|Inserted  17|Mark ? 18|Inserted  19|
+  …Mark ! 20|End  22|
 _;_|_;_h;"t";1;; => Top _ 0|Inserted  1|Bottom _|_ 2|Inserted  5|Hidden _h 6|Inserted  8|Text "t" 9|Inserted  12|Integer 1 13|Inserted  14|End  16|
 #A: - // c; 9223372036854775808 => Definition #A 0|Mark : 2|Mark - 4|Integer 9223372036854775808 12|Inserted  31|End  31|
 #A: 1 - 9223372036854775808 => Definition #A 0|Mark : 2|Integer 1 4|Mark - 6|Integer 9223372036854775808 8|Inserted  27|End  27|

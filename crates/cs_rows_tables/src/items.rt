@@ -93,7 +93,8 @@ fn values_of_one_hash_are_told_apart(rt: HostRuntime) -> Result<(), Fail> {
     // Integers of one magnitude, texts that differ after 64 bytes, and values that have no hash of their own.
     let doc = read_doc(
         rt.alloc(),
-        b"[-7,7,\"aaaaaaaaaaaaaaaaaaaaaaaaaaaaaaaaaaaaaaaaaaaaaaaaaaaaaaaaaaaaaaaa1\",\"aaaaaaaaaaaaaaaaaaaaaaaaaaaaaaaaaaaaaaaaaaaaaaaaaaaaaaaaaaaaaaaa2\",null,false,[0]]",
+        b"[-7,7,\"aaaaaaaaaaaaaaaaaaaaaaaaaaaaaaaaaaaaaaaaaaaaaaaaaaaaaaaaaaaaaaaa1\",\
+          \"aaaaaaaaaaaaaaaaaaaaaaaaaaaaaaaaaaaaaaaaaaaaaaaaaaaaaaaaaaaaaaaa2\",null,false,[0]]",
     )?;
     let flat = flatten(rt.alloc(), &doc)?;
     let list = read_doc(

@@ -8,9 +8,13 @@ use std::test::Fail;
 
 /// Schemas, and what they are once they were read and written again.
 const SCHEMAS: &str =
-    r##"{"$defs":{"P":{"allOf":[{"type":"integer"},{"minimum":1,"type":"number"},{"maximum":65535,"type":"number"}]}},"$ref":"#/$defs/P","$schema":"https://json-schema.org/draft/2020-12/schema"} => {"$defs":{"P":{"allOf":[{"type":"integer"},{"minimum":1,"type":"number"},{"maximum":65535,"type":"number"}]}},"$ref":"#/$defs/P","$schema":"https://json-schema.org/draft/2020-12/schema"}
+    r##"{"$defs":{"P":{"allOf":[{"type":"integer"},{"minimum":1,"type":"number"},{"maximum":65535,"type":"number"}]}},"$ref":"#/$defs/P",
+  …"$schema":"https://json-schema.org/draft/2020-12/schema"}
+  … => {"$defs":{"P":{"allOf":[{"type":"integer"},{"minimum":1,"type":"number"},{"maximum":65535,"type":"number"}]}},"$ref":"#/$defs/P",
+  …"$schema":"https://json-schema.org/draft/2020-12/schema"}
 {"$defs":{"P":{"const":-5}},"$ref":"#/$defs/P"} => {"$defs":{"P":{"const":-5}},"$ref":"#/$defs/P","$schema":"https://json-schema.org/draft/2020-12/schema"}
-{"exclusiveMinimum":9223372036854775807,"type":"number"} => {"$schema":"https://json-schema.org/draft/2020-12/schema","exclusiveMinimum":9223372036854775807,"type":"number"}
+{"exclusiveMinimum":9223372036854775807,"type":"number"}
+  … => {"$schema":"https://json-schema.org/draft/2020-12/schema","exclusiveMinimum":9223372036854775807,"type":"number"}
 true => true
 false => false
 {} => {"$schema":"https://json-schema.org/draft/2020-12/schema"}
@@ -18,14 +22,26 @@ false => false
 {"title":"t","$defs":{},"required":[]} => {"$schema":"https://json-schema.org/draft/2020-12/schema"}
 {"$schema":"https://json-schema.org/draft/2020-12/schema"} => {"$schema":"https://json-schema.org/draft/2020-12/schema"}
 {"$defs":{"a b":true,"":true}} => {"$defs":{"":true,"a b":true},"$schema":"https://json-schema.org/draft/2020-12/schema"}
-{"type":"object","title":"t","required":["b","a"],"properties":{"b":{"$comment":"c"},"a":{}},"prefixItems":[{}],"not":false,"minimum":1,"minItems":0,"maximum":2,"items":true,"exclusiveMinimum":0,"exclusiveMaximum":3,"enum":[],"description":"d","const":null,"anyOf":[{"title":"x"}],"allOf":[true],"additionalProperties":{"properties":{}},"$ref":"#/$defs/A","$defs":{"A":{"required":[]}},"$comment":"c"} => {"$defs":{"A":{}},"$ref":"#/$defs/A","$schema":"https://json-schema.org/draft/2020-12/schema","additionalProperties":{},"allOf":[true],"anyOf":[{}],"const":null,"enum":[],"exclusiveMaximum":3,"exclusiveMinimum":0,"items":true,"maximum":2,"minItems":0,"minimum":1,"not":false,"prefixItems":[{}],"properties":{"a":{},"b":{}},"required":["b","a"],"type":"object"}
-{"const":{"title":"t","x":[]},"enum":[{"required":[]},1,1]} => {"$schema":"https://json-schema.org/draft/2020-12/schema","const":{"title":"t","x":[]},"enum":[{"required":[]},1,1]}
-{"properties":{"title":{"title":"t"},"$schema":{"$ref":"#/$defs/x"}},"$defs":{"x":false}} => {"$defs":{"x":false},"$schema":"https://json-schema.org/draft/2020-12/schema","properties":{"$schema":{"$ref":"#/$defs/x"},"title":{}}}
+{"type":"object","title":"t","required":["b","a"],"properties":{"b":{"$comment":"c"},"a":{}},"prefixItems":[{}],"not":false,"minimum":1,"minItems":0,
+  …"maximum":2,"items":true,"exclusiveMinimum":0,"exclusiveMaximum":3,"enum":[],"description":"d","const":null,"anyOf":[{"title":"x"}],"allOf":[true],
+  …"additionalProperties":{"properties":{}},"$ref":"#/$defs/A","$defs":{"A":{"required":[]}},"$comment":"c"}
+  … => {"$defs":{"A":{}},"$ref":"#/$defs/A","$schema":"https://json-schema.org/draft/2020-12/schema","additionalProperties":{},"allOf":[true],"anyOf":[{}],
+  …"const":null,"enum":[],"exclusiveMaximum":3,"exclusiveMinimum":0,"items":true,"maximum":2,"minItems":0,"minimum":1,"not":false,"prefixItems":[{}],
+  …"properties":{"a":{},"b":{}},"required":["b","a"],"type":"object"}
+{"const":{"title":"t","x":[]},"enum":[{"required":[]},1,1]}
+  … => {"$schema":"https://json-schema.org/draft/2020-12/schema","const":{"title":"t","x":[]},"enum":[{"required":[]},1,1]}
+{"properties":{"title":{"title":"t"},"$schema":{"$ref":"#/$defs/x"}},"$defs":{"x":false}}
+  … => {"$defs":{"x":false},"$schema":"https://json-schema.org/draft/2020-12/schema","properties":{"$schema":{"$ref":"#/$defs/x"},"title":{}}}
 {"$defs":{"A":{"items":{"$ref":"#/$defs/A"}}}} => {"$defs":{"A":{"items":{"$ref":"#/$defs/A"}}},"$schema":"https://json-schema.org/draft/2020-12/schema"}
-{"$defs":{"A":{"prefixItems":[{"$ref":"#/$defs/A"}]}}} => {"$defs":{"A":{"prefixItems":[{"$ref":"#/$defs/A"}]}},"$schema":"https://json-schema.org/draft/2020-12/schema"}
-{"$defs":{"A":{"properties":{"a":{"$ref":"#/$defs/A"}}}}} => {"$defs":{"A":{"properties":{"a":{"$ref":"#/$defs/A"}}}},"$schema":"https://json-schema.org/draft/2020-12/schema"}
-{"$defs":{"A":{"additionalProperties":{"$ref":"#/$defs/A"}}}} => {"$defs":{"A":{"additionalProperties":{"$ref":"#/$defs/A"}}},"$schema":"https://json-schema.org/draft/2020-12/schema"}
-{"$defs":{"A":{"allOf":[{"items":{"$ref":"#/$defs/B"}}]},"B":{"not":{"properties":{"a":{"$ref":"#/$defs/A"}}}}}} => {"$defs":{"A":{"allOf":[{"items":{"$ref":"#/$defs/B"}}]},"B":{"not":{"properties":{"a":{"$ref":"#/$defs/A"}}}}},"$schema":"https://json-schema.org/draft/2020-12/schema"}"##;
+{"$defs":{"A":{"prefixItems":[{"$ref":"#/$defs/A"}]}}}
+  … => {"$defs":{"A":{"prefixItems":[{"$ref":"#/$defs/A"}]}},"$schema":"https://json-schema.org/draft/2020-12/schema"}
+{"$defs":{"A":{"properties":{"a":{"$ref":"#/$defs/A"}}}}}
+  … => {"$defs":{"A":{"properties":{"a":{"$ref":"#/$defs/A"}}}},"$schema":"https://json-schema.org/draft/2020-12/schema"}
+{"$defs":{"A":{"additionalProperties":{"$ref":"#/$defs/A"}}}}
+  … => {"$defs":{"A":{"additionalProperties":{"$ref":"#/$defs/A"}}},"$schema":"https://json-schema.org/draft/2020-12/schema"}
+{"$defs":{"A":{"allOf":[{"items":{"$ref":"#/$defs/B"}}]},"B":{"not":{"properties":{"a":{"$ref":"#/$defs/A"}}}}}}
+  … => {"$defs":{"A":{"allOf":[{"items":{"$ref":"#/$defs/B"}}]},"B":{"not":{"properties":{"a":{"$ref":"#/$defs/A"}}}}},
+  …"$schema":"https://json-schema.org/draft/2020-12/schema"}"##;
 
 /// Schemas, and the number, place and name of their refusal; of a loop its names.
 const REFUSED: &str = r##"42 => 22 '' ''
@@ -177,7 +193,8 @@ fn schemas_are_refused_by_their_first_fault(rt: HostRuntime) -> Result<(), Fail>
 
 /// Schemas, documents that are valid and documents that aren't, which blanks part.
 const VERDICTS: &str =
-    r##"{"$defs":{"P":{"allOf":[{"type":"integer"},{"minimum":1,"type":"number"},{"maximum":65535,"type":"number"}]}},"$ref":"#/$defs/P"} => 1 65535 => 0 65536 "1"
+    r##"{"$defs":{"P":{"allOf":[{"type":"integer"},{"minimum":1,"type":"number"},{"maximum":65535,"type":"number"}]}},"$ref":"#/$defs/P"} => 1 65535
+  … => 0 65536 "1"
 {"const":-5} => -5 => 5
 {"const":{"a":1,"b":[]}} => {"b":[],"a":1} => {"a":1,"b":{}} {"a":1}
 {"exclusiveMinimum":9223372036854775807,"type":"number"} => => 9223372036854775807 "a"
@@ -203,10 +220,12 @@ fn all_are(alloc: Global, schema: &str, docs: &str, wanted: bool) -> Result<bool
     Ok(true)
 }
 
-/// Whether the row's documents have their verdicts.
+/// Whether the row has both lists of documents, and they have their verdicts.
 pub(crate) fn are_judged(alloc: Global, row: &str) -> Result<bool, Fail> {
     let (schema, docs) = cell(row);
-    let (valid, invalid) = cell(docs);
+    let Some((valid, invalid)) = docs.split_once("=>") else {
+        return Ok(false);
+    };
     Ok(all_are(alloc, schema, valid, true)? && all_are(alloc, schema, invalid, false)?)
 }
 

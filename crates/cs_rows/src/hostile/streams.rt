@@ -10,8 +10,8 @@ use std::test::Fail;
 /// A call, its source or its schema, its document, the input, and what `run` answers: its truth value and what it writes
 /// before the newline, or the number of a refusal. `-` stands for no source or no document. The call `line` writes the line
 /// of the refusal of `export`.
-const REQUESTS: &str =
-    r##"export => - => - => #P: int & >=1 & <=65535 => true {"$defs":{"P":{"maximum":65535,"minimum":1,"type":"integer"}},"$ref":"#/$defs/P","$schema":"https://json-schema.org/draft/2020-12/schema"}
+const REQUESTS: &str = r##"export => - => - => #P: int & >=1 & <=65535
+  … => true {"$defs":{"P":{"maximum":65535,"minimum":1,"type":"integer"}},"$ref":"#/$defs/P","$schema":"https://json-schema.org/draft/2020-12/schema"}
 export => #P: bool => - => #P: int => true {"$defs":{"P":{"type":"boolean"}},"$ref":"#/$defs/P","$schema":"https://json-schema.org/draft/2020-12/schema"}
 export => - => - => #P: int & => 4
 vet => - => 65535 => #P: int & >=1 & <=65535 => true valid

@@ -1,4 +1,5 @@
-// Tables of examples: a row a line, its cells parted by `=>`.
+// Tables of examples: a row a line, its cells parted by `=>`. A line that begins with two blanks and `…` goes on with the row
+// before it.
 use crate::hostile::{fronts, streams};
 use cs_tool::Fault;
 use std::alloc::Global;
@@ -21,6 +22,7 @@ pub(crate) enum Row {
 
 /// Fails with the first row that doesn't hold.
 pub(crate) fn check(alloc: Global, table: &str, rows: Row) -> Result<(), Fail> {
+    let table = table.replace(alloc, "\n  …", "")?;
     for row in table.lines() {
         if !holds(alloc, row, rows) {
             return Err(Fail::new(row));
