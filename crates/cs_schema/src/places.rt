@@ -1,7 +1,7 @@
 // The places of faults, as JSON pointers (RFC 6901, sections 3 and 4). A fault has the empty place where it is found,
 // and each level on the way back puts its own step in front. So a document without a fault makes no place, and one
 // with a fault copies its place once a level.
-ghost use Rattle.std.specs.Prelude.{◌≡◌, ◌++◌, [], Option, Some, IfOk, option_map, string_bytes};
+ghost use Rattle.std.specs.Prelude.{◌≡◌, [], Option, Some, IfOk, OnOk, option_map, string_bytes};
 ghost use Rattle.cs_profile.specs.Places.{at_key, at_index};
 ghost use Rattle.cs_profile.specs.Profile.{Fault, unknown, misshapen, undefined};
 ghost use Rattle.cs_schema.specs.Reading.{Refuses, below};
@@ -10,92 +10,68 @@ use crate::SchemaFault;
 use std::alloc::{AllocError, Global};
 
 /// The fault of a keyword outside the profile.
-pub(crate) fn unknown(alloc: Global, name: &str) -> SchemaFault
-    ensures { Refuses result (Some (unknown [] name.now)) }
+pub(crate) fn unknown_keyword(alloc: Global, name: &str) -> Result<SchemaFault, AllocError>
+    ensures { IfOk result (λ e. Refuses e (Some (unknown [] name.now))) }
 {
-    match String::from_str(alloc, name) {
-        Ok(name) => SchemaFault::Keyword {
-            place: String::new(alloc),
-            name,
-        },
-        Err(_) => SchemaFault::OutOfMemory,
-    }
+    let name = String::from_str(alloc, name)?;
+    let place = String::new(alloc);
+    Ok(SchemaFault::Keyword { place, name })
 }
 
-/// The fault of a value that doesn't have its keyword's shape.
-pub(crate) fn misshapen(alloc: Global, name: &str) -> SchemaFault
-    ensures { Refuses result (Some (misshapen [] name.now)) }
+/// The fault of a value that doesn't have its keyword's form.
+pub(crate) fn wrong_form(alloc: Global, name: &str) -> Result<SchemaFault, AllocError>
+    ensures { IfOk result (λ e. Refuses e (Some (misshapen [] name.now))) }
 {
-    match String::from_str(alloc, name) {
-        Ok(name) => SchemaFault::Shape {
-            place: String::new(alloc),
-            name,
-        },
-        Err(_) => SchemaFault::OutOfMemory,
-    }
+    let name = String::from_str(alloc, name)?;
+    let place = String::new(alloc);
+    Ok(SchemaFault::Shape { place, name })
 }
 
 /// The fault of a reference to a name that isn't defined.
-pub(crate) fn undefined(alloc: Global, name: &str) -> SchemaFault
-    ensures { Refuses result (Some (undefined [] name.now)) }
+pub(crate) fn undefined_reference(alloc: Global, name: &str) -> Result<SchemaFault, AllocError>
+    ensures { IfOk result (λ e. Refuses e (Some (undefined [] name.now))) }
 {
-    match String::from_str(alloc, name) {
-        Ok(name) => SchemaFault::Reference {
-            place: String::new(alloc),
-            name,
-        },
-        Err(_) => SchemaFault::OutOfMemory,
-    }
+    let name = String::from_str(alloc, name)?;
+    let place = String::new(alloc);
+    Ok(SchemaFault::Reference { place, name })
 }
 
 /// The fault of what stands under a key.
-pub(crate) fn below_key(alloc: Global, key: &str, fault: SchemaFault) -> SchemaFault
-    ensures { (o : Option Fault) → Refuses fault o → Refuses result (option_map (below (at_key [] key.now)) o) }
+pub(crate) fn below_key(
+    alloc: Global,
+    key: &str,
+    mut fault: SchemaFault,
+) -> Result<SchemaFault, AllocError>
+    ensures { IfOk result (λ e. (o : Option Fault) → Refuses fault o → Refuses e (option_map (below (at_key [] key.now)) o)) }
 {
-    match at_key(alloc, key) {
-        Ok(place) => below(alloc, place, fault),
-        Err(_) => SchemaFault::OutOfMemory,
-    }
+    let step = at_key(alloc, key)?;
+    put_in_front(&step, &mut fault)?;
+    Ok(fault)
 }
 
 /// The fault of the element at an index.
-pub(crate) fn below_index(alloc: Global, i: usize, fault: SchemaFault) -> SchemaFault
-    ensures { (o : Option Fault) → Refuses fault o → Refuses result (option_map (below (at_index [] i)) o) }
+pub(crate) fn below_index(
+    alloc: Global,
+    i: usize,
+    mut fault: SchemaFault,
+) -> Result<SchemaFault, AllocError>
+    ensures { IfOk result (λ e. (o : Option Fault) → Refuses fault o → Refuses e (option_map (below (at_index [] i)) o)) }
 {
-    match at_index(alloc, i) {
-        Ok(place) => below(alloc, place, fault),
-        Err(_) => SchemaFault::OutOfMemory,
-    }
+    let step = at_index(alloc, i)?;
+    put_in_front(&step, &mut fault)?;
+    Ok(fault)
 }
 
-/// The fault of what stands at a place.
-fn below(alloc: Global, front: String, fault: SchemaFault) -> SchemaFault
-    ensures { (o : Option Fault) → Refuses fault o → Refuses result (option_map (below (string_bytes front)) o) }
+/// Puts a step in front of a fault's place, if it has one.
+fn put_in_front(step: &str, fault: &mut SchemaFault) -> Result<(), AllocError>
+    ensures { OnOk result ((o : Option Fault) → Refuses fault.old o → Refuses fault.new (option_map (below step.now) o)) }
 {
     match fault {
-        SchemaFault::Keyword { place, name } => match joined(front, &place) {
-            Ok(place) => SchemaFault::Keyword { place, name },
-            Err(_) => SchemaFault::OutOfMemory,
-        },
-        SchemaFault::Shape { place, name } => match joined(front, &place) {
-            Ok(place) => SchemaFault::Shape { place, name },
-            Err(_) => SchemaFault::OutOfMemory,
-        },
-        SchemaFault::Reference { place, name } => match joined(front, &place) {
-            Ok(place) => SchemaFault::Reference { place, name },
-            Err(_) => SchemaFault::OutOfMemory,
-        },
-        SchemaFault::OutOfMemory | SchemaFault::Loop { .. } => fault,
+        SchemaFault::Keyword { place, .. } => place.insert_str(0, step),
+        SchemaFault::Shape { place, .. } => place.insert_str(0, step),
+        SchemaFault::Reference { place, .. } => place.insert_str(0, step),
+        SchemaFault::OutOfMemory | SchemaFault::Loop { .. } => Ok(()),
     }
-}
-
-/// One text behind another.
-fn joined(front: String, back: &str) -> Result<String, AllocError>
-    ensures { IfOk result (λ s. string_bytes s ≡ string_bytes front ++ back.now) }
-{
-    let mut text = front;
-    text.push_str(back)?;
-    Ok(text)
 }
 
 /// The step to the element at an index.
@@ -103,7 +79,7 @@ fn joined(front: String, back: &str) -> Result<String, AllocError>
 fn at_index(alloc: Global, i: usize) -> Result<String, AllocError>
     ensures { IfOk result (λ s. string_bytes s ≡ at_index [] i) }
 {
-    Ok(format!(in alloc; "/{i}")?)
+    format!(in alloc; "/{i}")
 }
 
 /// The step to the value under a key; `~` and `/` are escaped.

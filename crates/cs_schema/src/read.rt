@@ -18,7 +18,7 @@ use crate::atoms::{
 };
 use crate::names::check_members;
 use crate::parts::Parts;
-use crate::places::{below_index, below_key, misshapen, unknown};
+use crate::places::{below_index, below_key, unknown_keyword, wrong_form};
 use crate::texts::texts_of;
 use crate::{Keyword, KeywordValue, Schema, SchemaDoc, SchemaFault};
 use cs_document::Doc;
@@ -51,7 +51,7 @@ pub fn read_schema(alloc: Global, doc: &Doc) -> Result<SchemaDoc, SchemaFault>
             let root = Schema::Object(Box::new(alloc, keywords)?);
             SchemaDoc::checked(alloc, root, definitions)
         },
-        _ => Err(misshapen(alloc, "")),
+        _ => Err(wrong_form(alloc, "")?),
     }
 }
 
@@ -68,7 +68,7 @@ fn read_value(alloc: Global, doc: &Doc) -> Result<Schema, SchemaFault>
             let parts = read_members(alloc, false, members)?;
             Ok(Schema::Object(Box::new(alloc, parts.into_keywords())?))
         },
-        _ => Err(misshapen(alloc, "")),
+        _ => Err(wrong_form(alloc, "")?),
     }
 }
 
@@ -113,12 +113,12 @@ fn read_keyword(
         (first fault_of (keyword_visits root [] key.now (doc_view value.now)))) }
 {
     let Some(keyword) = keyword_at(root, key) else {
-        return Err(unknown(alloc, key));
+        return Err(unknown_keyword(alloc, key)?);
     };
     match read_form(alloc, keyword.form(), value) {
         Ok(Some(value)) => Ok((keyword, value)),
-        Ok(None) => Err(misshapen(alloc, key)),
-        Err(fault) => Err(below_key(alloc, key, fault)),
+        Ok(None) => Err(wrong_form(alloc, key)?),
+        Err(fault) => Err(below_key(alloc, key, fault)?),
     }
 }
 
@@ -206,7 +206,7 @@ fn read_list(alloc: Global, items: &Vec<Doc>) -> Result<Vec<Schema>, SchemaFault
     for (i, item) in items.iter().enumerate() {
         match read_value(alloc, item) {
             Ok(schema) => schemas.push(schema)?,
-            Err(fault) => return Err(below_index(alloc, i, fault)),
+            Err(fault) => return Err(below_index(alloc, i, fault)?),
         }
     }
     Ok(schemas)
@@ -229,7 +229,7 @@ fn read_map(
     for (key, value) in members {
         match read_value(alloc, value) {
             Ok(schema) => drop(schemas.insert(key.clone()?, schema)?),
-            Err(fault) => return Err(below_key(alloc, key, fault)),
+            Err(fault) => return Err(below_key(alloc, key, fault)?),
         }
     }
     Ok(schemas)

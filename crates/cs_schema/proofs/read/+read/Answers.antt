@@ -70,20 +70,20 @@ read_keyword-returns-in-Ok-Some-clause-accepted t c =
     let found : IsReadAs c.form.result (doc_view c.args.value.now) (Some c.in-Ok-Some.value) = rw c.in-Ok-Some.field-0-is at c.in-Ok-Some.ensures.found in
     keyword_right c.args.root c.args.key.now (doc_view c.args.value.now) c.form.result (c.in-Some.ensures.form ∙ ap Some (sym c.form.ensures)) found.0 c.in-Ok-Some.ensures.accepted
 
-pub read_keyword-returns-in-Err-clause-refused : goal.read_keyword-returns-in-Err-clause-refused
-read_keyword-returns-in-Err-clause-refused t c =
+pub read_keyword-returns-in_ok-below_key-in-Err-clause-refused : goal.read_keyword-returns-in_ok-below_key-in-Err-clause-refused
+read_keyword-returns-in_ok-below_key-in-Err-clause-refused t c =
     let v = doc_view c.args.value.now in
-    keyword_refused c.args.root c.args.key.now v c.form.result c.below_key.result (c.in-Some.ensures.form ∙ ap Some (sym c.form.ensures)) (c.below_key.ensures (first fault_of (inside c.form.result v)) c.in-Err.ensures.refused)
+    keyword_refused c.args.root c.args.key.now v c.form.result c.in_ok-below_key-in-Err.field-0 (c.in-Some.ensures.form ∙ ap Some (sym c.form.ensures)) (c.in_ok-below_key-in-Err.ensures (first fault_of (inside c.form.result v)) c.in-Err.ensures.refused)
 
 pub read_map-returns-in-Err-clause-refused : goal.read_map-returns-in-Err-clause-refused
 read_map-returns-in-Err-clause-refused t c =
     let l = c.loop-key in
     let k = string_bytes c.in-Some.key.now in
     let d = doc_view c.in-Some.value.now in
-    let e = c.below_key.result in
+    let e = c.in_ok-below_key-in-Err.field-0 in
     let seen = l.invariant.seen ∙ ap (λ es. first fault_of (named_visits [] (object_view es))) c.in-Some.ensures.steps in
     let mine = schema_refused fault_of faults_placed (key_place [] k) d e
-    (subst (λ n. Refuses e (option_map (below (key_place [] n)) (first fault_of (visits false [] d)))) c.deref.ensures (c.below_key.ensures _ c.in-Err.ensures.refused)) in
+    (subst (λ n. Refuses e (option_map (below (key_place [] n)) (first fault_of (visits false [] d)))) c.deref.ensures (c.in_ok-below_key-in-Err.ensures _ c.in-Err.ensures.refused)) in
     refuses_at fault_of e (visits false (key_place [] k) d) (named_visits [] (object_view c.next.new.self)) _ seen mine
 
 pub read_map-loop-key-preserved : goal.read_map-loop-key-preserved
@@ -119,10 +119,10 @@ read_list-returns-in-Err-clause-refused t c =
     let l = c.loop-i in
     let xs = c.deref-item-items.result.now in
     let x = c.item-item.result in
-    let e = c.below_index.result in
+    let e = c.in_ok-below_index-in-Err.field-0 in
     let left : drop l.i xs ≡ x ∷ drop (l.i + 1) xs = drop_at xs l.i x c.loop-i-test.true c.item-item.is in
     let seen = l.invariant.seen ∙ ap (λ es. first fault_of (element_visits [] l.i (list_view es))) left in
-    let mine = schema_refused fault_of faults_placed (index_place [] l.i) (doc_view x) e (c.below_index.ensures _ c.in-Err.ensures.refused) in
+    let mine = schema_refused fault_of faults_placed (index_place [] l.i) (doc_view x) e (c.in_ok-below_index-in-Err.ensures _ c.in-Err.ensures.refused) in
     refuses_at fault_of e (visits false (index_place [] l.i) (doc_view x)) (element_visits [] (suc l.i) (list_view (drop (l.i + 1) xs))) _ seen mine
 
 pub read_list-loop-i-preserved : goal.read_list-loop-i-preserved
