@@ -5,7 +5,7 @@
 mod read;
 mod write;
 
-pub use cs_document::{Doc, DocFault, DocSet};
-pub use cs_flat::{Flat, Item, Names, flatten, number_under};
+pub use cs_document::{Doc, DocFault};
+pub use cs_flat::{Flat, Item, flatten};
 pub use read::read_doc;
 pub use write::write_doc;

@@ -1,5 +1,7 @@
-// The items of a document, through the calls of `cs_doc`.
-use cs_doc::{Doc, DocFault, DocSet, Flat, Item, Names, flatten, number_under, read_doc};
+// The items of a document, through the calls of `cs_doc`, `cs_document` and `cs_flat`.
+use cs_doc::{Doc, DocFault, Flat, Item, flatten, read_doc};
+use cs_document::DocSet;
+use cs_flat::{Names, number_under};
 use std::alloc::Global;
 use std::test::Fail;
 

@@ -2,7 +2,8 @@
 use crate::schemas::verdict;
 use crate::tables::{Row, cell, check};
 use cs_doc::{read_doc, write_doc};
-use cs_schema::{Schema, SchemaDoc, SchemaFault, read_schema, to_doc};
+use cs_profile::Schema;
+use cs_schema::{SchemaDoc, SchemaFault, read_schema, to_doc};
 use std::alloc::{AllocError, Global};
 use std::test::Fail;
 

@@ -7,8 +7,8 @@ ghost use Rattle.cs_profile.specs.Shapes.{has_form, is_name as text_is_name, is_
 ghost use Rattle.cs_profile.specs.declared.keyword.Form.TheVariants as form;
 ghost use Rattle.cs_profile.specs.SchemaDocument.{kind_name, reference_document};
 
-use crate::JsonKind;
 use cs_document::Doc;
+use cs_profile::JsonKind;
 use std::alloc::{AllocError, Global};
 
 /// The kind that a value names.

@@ -7,11 +7,11 @@ ghost use Rattle.cs_profile.specs.Profile.{first, undefined_at, reference_fault,
 ghost use Rattle.cs_profile.specs.Values.{keyword_visits};
 ghost use Rattle.cs_schema.specs.Reading.{Refuses, inside, is_defined_in};
 
+use crate::SchemaFault;
 use crate::places::{below_index, below_key, undefined_reference};
 use crate::read::keyword_at;
-use crate::{Schema, SchemaFault};
 use cs_document::Doc;
-use cs_profile::Form;
+use cs_profile::{Form, Schema};
 use std::alloc::Global;
 use std::collections::BTreeMap;
 

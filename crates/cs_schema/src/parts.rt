@@ -1,4 +1,4 @@
-use crate::{Keyword, KeywordValue, Keywords, Schema};
+use cs_profile::{Keyword, KeywordValue, Keywords, Schema};
 use std::alloc::Global;
 use std::collections::BTreeMap;
 

@@ -20,9 +20,9 @@ use crate::names::check_members;
 use crate::parts::Parts;
 use crate::places::{below_index, below_key, unknown_keyword, wrong_form};
 use crate::texts::texts_of;
-use crate::{Keyword, KeywordValue, Schema, SchemaDoc, SchemaFault};
+use crate::{SchemaDoc, SchemaFault};
 use cs_document::Doc;
-use cs_profile::Form;
+use cs_profile::{Form, Keyword, KeywordValue, Schema};
 use std::alloc::Global;
 use std::collections::BTreeMap;
 

@@ -9,8 +9,9 @@ ghost use Rattle.cs_profile.specs.Keywords.{name_of};
 ghost use Rattle.cs_schema.specs.Writing.{put_some, slot_value};
 
 use crate::atoms::{copied, copies_of, name_of};
-use crate::{JsonKind, Keyword, Keywords, Schema, SchemaDoc, SchemaFault};
+use crate::{SchemaDoc, SchemaFault};
 use cs_document::Doc;
+use cs_profile::{JsonKind, Keyword, Keywords, Schema};
 use std::alloc::{AllocError, Global};
 use std::collections::BTreeMap;
 

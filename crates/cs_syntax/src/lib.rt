@@ -6,5 +6,5 @@ mod parser;
 pub use cs_grammar::{
     Definition, Expr, Field, FieldMark, File, ListEnd, Relation, Sort, SyntaxFault, Token,
 };
-pub use cs_lexer::{lex, one_cut, text_parts};
+pub use cs_lexer::lex;
 pub use parser::file::{one_file, parse_file};
