@@ -13,3 +13,4 @@ pub mod BothSides
 pub mod EarlierSources
 -- samples
 pub mod Samples
+mod EarlierSamples
