@@ -128,6 +128,12 @@ def is_by_name(reason: re.Match) -> bool:
     return reason[1].startswith("proofs/") and bool(TAKEN_AWAY.search(reason[3]))
 
 
+def run(words: list[str], folder: Path) -> subprocess.CompletedProcess[str]:
+    """Runs a command there; what it says on both streams is its output."""
+    streams = {"stdin": subprocess.DEVNULL, "stdout": subprocess.PIPE, "stderr": subprocess.STDOUT}
+    return subprocess.run(words, cwd=folder, **streams, text=True, errors="replace")
+
+
 class Lane:
     """A tree of its own, in which one crate at a time is edited and checked; the others are the same files as in the proved tree."""
 
@@ -150,7 +156,7 @@ class Lane:
         folder = self.tree / "crates" / crate
         for file, text in made.items():
             (folder / file).write_text(text)
-        ran = subprocess.run(["rt", "check", "--jobs", "1"], cwd=folder, stdin=subprocess.DEVNULL, stdout=subprocess.PIPE, stderr=subprocess.STDOUT, text=True, errors="replace")
+        ran = run(["rt", "check", "--jobs", "1"], folder)
         for file in made:
             shutil.copy2(self.proved / "crates" / crate / file, folder / file)
         return ran.returncode, ran.stdout
@@ -164,7 +170,7 @@ class Lane:
         if status == 0:
             return False, "NOT REFUSED: the crate is still proved with this edit"
         if status != 1 or "\nlogic=not-proved" not in said:
-            return False, f"BAD EDIT: it did not reach the prover: {said[:200]}"
+            return False, f"BAD EDIT: it did not reach the prover: {' '.join(said.split())[:200]}"
         told = reasons(said)
         first = next((it for it in told if not is_by_name(it)), None)
         if told and not first:
@@ -313,7 +319,7 @@ def proved_tree(crates: list[str], tree: Path) -> bool:
             if (TOP / "crates" / crate / part).is_dir():
                 shutil.copytree(TOP / "crates" / crate / part, tree / "crates" / crate / part)
     subprocess.run(["git", "init", "-q", "."], cwd=tree, check=True)
-    ran = subprocess.run(["rt", "all", "check", "--jobs", jobs()], cwd=tree, stdout=subprocess.PIPE, stderr=subprocess.STDOUT, text=True, errors="replace")
+    ran = run(["rt", "all", "check", "--jobs", jobs()], tree)
     if ran.returncode:
         print("\n".join(ran.stdout.split("\n")[-30:]))
     return ran.returncode == 0
