@@ -43,6 +43,10 @@ required_field = refl
 of_labels_alone : map (fields_hold_earlier nat_eq every_key false) members ≡ true ∷ false ∷ false ∷ false ∷ false ∷ false ∷ false ∷ []
 of_labels_alone = refl
 
+-- nor where other keys are allowed
+of_labels_where_opened : map (fields_hold_earlier nat_eq every_key true) members ≡ true ∷ true ∷ true ∷ true ∷ true ∷ true ∷ true ∷ []
+of_labels_where_opened = refl
+
 of_each_key_now : map (fields_hold nat_eq every_key false) members ≡ true ∷ true ∷ false ∷ false ∷ true ∷ true ∷ false ∷ []
 of_each_key_now = refl
 
