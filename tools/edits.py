@@ -72,15 +72,16 @@ class Edit:
             made[file] = made[file].replace(old, new)
         return made
 
-    def function(self, made: dict[str, str]) -> tuple[str, str] | None:
+    def function(self, folder: Path) -> tuple[str, str] | None:
         """The file and the name of the one function that this edit changes, if it changes no more."""
+        texts: dict[str, str] = {}
         found = set()
-        for file, _, new in self.pairs:
-            if not file.startswith("src/") or made[file].count(new) != 1:
-                return None
-            found.add((file, function_at(made[file], made[file][: made[file].index(new)].count("\n"))))
+        for file, old, new in self.pairs:
+            text = texts.get(file) or (folder / file).read_text()
+            texts[file] = text.replace(old, new)
+            found.add((file, function_at(texts[file], text[: text.index(old)].count("\n"))))
         one = found.pop() if len(found) == 1 else None
-        return one if one and one[1] else None
+        return one if one and one[0].startswith("src/") and one[1] else None
 
 
 def function_at(text: str, line: int) -> str | None:
@@ -90,14 +91,16 @@ def function_at(text: str, line: int) -> str | None:
 
 
 def calls(crate: str) -> dict[str, set[str]]:
-    """The functions of a crate by name, each with those that it may call, also by others: all whose names its text has."""
+    """The functions of a crate by name, each with those that its code seems to call, also by others."""
     named: dict[str, set[str]] = {}
     for file in (TOP / "crates" / crate / "src").rglob("*.rt"):
         name = ""
         for line in file.read_text().split("\n"):
             at = FUNCTION.match(line)
             name = at[1] if at else name
-            named.setdefault(name, set()).update(re.findall(r"\w+", line))
+            called = re.findall(r"(\w+)(?:::<[^>]*>)?\(", line[at.end() :] if at else line)
+            if not re.match(r"\s*(//|ensures|requires|ghost|#\[)", line):
+                named.setdefault(name, set()).update(called)
     reached = {name: words & named.keys() for name, words in named.items()}
     while True:
         more = {name: names.union(*(reached[it] for it in names)) for name, names in reached.items()}
@@ -179,11 +182,12 @@ class Lane:
 
     def together(self, edits: list[Edit]) -> dict[Edit, str]:
         """Of edits of different functions those that are refused by their own function, each with the reason; none where that isn't certain."""
-        made, functions = {}, {}
+        made: dict[str, str] = {}
+        functions = {}
         for edit in edits:
-            made = edit.apply(TOP / "crates" / edit.crate, made)
-        for edit in edits:
-            functions[edit] = edit.function(made)
+            folder = TOP / "crates" / edit.crate
+            made = edit.apply(folder, made)
+            functions[edit] = edit.function(folder)
         _, said = self.check(edits[0].crate, made)
         if unread(said, set(made)):
             return {}
@@ -212,10 +216,10 @@ class Trial:
         for edit in edits:
             folder = TOP / "crates" / edit.crate
             try:
-                function = edit.function(edit.apply(folder, {}))
+                edit.apply(folder, {})
             except Misfit:
                 continue
-            place = next((it for it in made if function and Trial.fits([*it, edit], folder, reached[edit.crate])), None)
+            place = next((it for it in made if Trial.fits([*it, edit], folder, reached[edit.crate])), None)
             if place is None:
                 made.append([edit])
             else:
@@ -232,7 +236,7 @@ class Trial:
                 texts = it.apply(folder, texts)
         except Misfit:
             return False
-        names = [at[1] if (at := it.function(texts)) else None for it in batch]
+        names = [at[1] if (at := it.function(folder)) else None for it in batch]
         if None in names or len(set(names)) < len(names):
             return False
         return not any(one != other and one in reached.get(other, set()) for one in names for other in names)
