@@ -11,6 +11,8 @@ The crates are proved in a scratch copy of this tree, over what earlier checks h
 Edits of different functions are tried in one check: where each of these functions itself is not proved, each is because of its
 own edit, since the prover doesn't judge a function that calls one that isn't proved. Else they are tried apart.
 """
+from __future__ import annotations
+
 import os
 import re
 import shutil
@@ -47,11 +49,11 @@ class Edit:
         pairs, file, old = [], None, None
         for line in path.read_text().split("\n"):
             if line.startswith("file: "):
-                file = line.removeprefix("file: ")
+                file = line[len("file: ") :]
             elif line.startswith("old: "):
-                old = line.removeprefix("old: ")
+                old = line[len("old: ") :]
             elif line.startswith("new:") and file and old:
-                pairs.append((file, old, line.removeprefix("new:").removeprefix(" ")))
+                pairs.append((file, old, re.sub(r"\Anew: ?", "", line)))
         return Edit(f"{crate}/{path.name}", crate, tuple(pairs))
 
     def files(self) -> set[str]:
@@ -115,7 +117,7 @@ def unread(said: str, files: set[str]) -> str | None:
         at = MESSAGE.match(line)
         if not at or not at[3].startswith("error: ") or at[1] not in files and not at[1].startswith(("src/", "specs/")):
             continue
-        words = at[3].removeprefix("error: ")
+        words = at[3][len("error: ") :]
         if not re.match(r"`[^`]*`: ", words) or UNREADABLE.search(re.sub(r"`[^`]*`", "", words)):
             return line
     return None
@@ -194,7 +196,7 @@ class Lane:
         told = [it for it in reasons(said) if not is_by_name(it)]
         refused = {}
         for edit, (file, name) in functions.items():
-            module = "::".join([edit.crate, *Path(file).with_suffix("").parts[1:]]).removesuffix("::lib")
+            module = re.sub(r"::lib\Z", "", "::".join([edit.crate, *Path(file).with_suffix("").parts[1:]]))
             proofs = f"proofs/{'/'.join(module.split('::')[1:])}/"
             own = [it for it in told if it[1] == file and function_at(made[file], int(it[2]) - 1) == name or it[1].startswith(proofs) and f"/{name}/" in it[1]]
             if own and re.search(rf"^fn {module}::(?:\w+::)*{name}: not proved$", said, re.M):
