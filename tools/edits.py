@@ -167,7 +167,7 @@ class Lane:
         return ran.returncode, ran.stdout
 
     def alone(self, edit: Edit) -> tuple[bool, str]:
-        made = edit.apply(TOP / "crates" / edit.crate, {})
+        made = edit.apply(self.proved / "crates" / edit.crate, {})
         status, said = self.check(edit.crate, made)
         bad = unread(said, edit.files())
         if bad:
@@ -187,7 +187,7 @@ class Lane:
         made: dict[str, str] = {}
         functions = {}
         for edit in edits:
-            folder = TOP / "crates" / edit.crate
+            folder = self.proved / "crates" / edit.crate
             made = edit.apply(folder, made)
             functions[edit] = edit.function(folder)
         _, said = self.check(edits[0].crate, made)
