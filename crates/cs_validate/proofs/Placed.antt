@@ -14,6 +14,7 @@ use Rattle.cs_profile.specs.declared.schema.Schema.{Schema}
 use Rattle.cs_validate.specs.Numbering.{map_assertion, map_constraint, said, ClaimBelow, PartsBelow, schema_at}
 use Rattle.cs_validate.specs.declared.rules.Rule.{Rule as Coded}
 use Rattle.cs_validate.specs.declared.rules.Rule.TheVariants as coded
+use Rattle.cs_validate.specs.Props.{parts_weaker}
 use Rattle.cs_validate.specs.Steps.{asked_of}
 use Rattle.cs_validate.specs.Placing.{waiting, AreNumbered, AreAt, placed_by, left_by, IsKnown, Places}
 
@@ -75,31 +76,6 @@ module _ {D N : Type 0} (n m : ℕ) (f f' : ℕ → D) (g g' : ℕ → N) (h : (
   names_same always b = refl
   names_same never b = refl
   names_same (conjunction claims) b = ap conjunction (claims_same claims b)
-
-claim_weaker : (n m n' m' : ℕ) → n ≤ n' → m ≤ m' → (a : Assertion ℕ ℕ) → ClaimBelow n m a → ClaimBelow n' m' a
-claim_weaker n m n' m' u l (valid_by o) b = each_map (λ r. r < n) (λ r. r < n') (λ r c. lt_of_lt_of_le c u) (option_to_list o) b
-claim_weaker n m n' m' u l (at_keys ps) b = each_map (λ (e : Entry ℕ). e.1 < m) (λ (e : Entry ℕ). e.1 < m') (λ e c. lt_of_lt_of_le c l) ps b
-claim_weaker n m n' m' u l (at_other_keys ks p) b = lt_of_lt_of_le b l
-claim_weaker n m n' m' u l (in_front ps) b = each_map (λ p. p < m) (λ p. p < m') (λ p c. lt_of_lt_of_le c l) ps b
-claim_weaker n m n' m' u l (behind j p) b = lt_of_lt_of_le b l
-claim_weaker n m n' m' u l (valid_by_all rs) b = each_map (λ r. r < n) (λ r. r < n') (λ r c. lt_of_lt_of_le c u) rs b
-claim_weaker n m n' m' u l (valid_by_any rs) b = each_map (λ r. r < n) (λ r. r < n') (λ r c. lt_of_lt_of_le c u) rs b
-claim_weaker n m n' m' u l (not_valid_by r) b = lt_of_lt_of_le b u
-claim_weaker n m n' m' u l nothing b = tt
-claim_weaker n m n' m' u l (has_kind j) b = tt
-claim_weaker n m n' m' u l (equals v) b = tt
-claim_weaker n m n' m' u l (is_among vs) b = tt
-claim_weaker n m n' m' u l (at_least z) b = tt
-claim_weaker n m n' m' u l (at_most z) b = tt
-claim_weaker n m n' m' u l (above z) b = tt
-claim_weaker n m n' m' u l (below z) b = tt
-claim_weaker n m n' m' u l (has_keys ks) b = tt
-claim_weaker n m n' m' u l (at_least_long j) b = tt
-
-pub parts_weaker : (n m n' m' : ℕ) → n ≤ n' → m ≤ m' → (a : Constraint ℕ ℕ) → PartsBelow n m a → PartsBelow n' m' a
-parts_weaker n m n' m' u l always b = tt
-parts_weaker n m n' m' u l never b = tt
-parts_weaker n m n' m' u l (conjunction claims) b = each_map (ClaimBelow n m) (ClaimBelow n' m') (claim_weaker n m n' m' u l) claims b
 
 pub at_front : (xs ys : List Document) (d : ℕ) → d < length xs → schema_at xs d ≡ schema_at (xs ++ ys) d
 at_front xs ys d l = sym (get_or_append_left xs ys (boolean false) d l)

@@ -13,6 +13,8 @@ use Rattle.cs_table.specs.Limit.{most_pairs}
 use Rattle.cs_table.specs.Refused as limits
 use Rattle.cs_table.specs.declared.fault.TableFault.{TableFault}
 use Rattle.cs_table.specs.declared.fault.TableFault.TheVariants as table
+use Rattle.cs_rules.specs.Answers.{answer}
+use Rattle.cs_rules.proofs.Judged.{answer_is, coded_found}
 use Rattle.cs_profile.specs.Constraint.{always, constraint_of}
 use Rattle.cs_profile.specs.Validity.{is_satisfied, IsValidity}
 use Rattle.cs_validate.specs.Numbering.{map_constraint, said, schema_at}
@@ -21,12 +23,11 @@ use Rattle.cs_validate.specs.Judging.{IsJudge, IsTable}
 use Rattle.cs_validate.specs.Refusal.{IsRefusal}
 use Rattle.cs_validate.specs.Faults.{fault_of}
 use Rattle.cs_validate.specs.declared.rules.Rule.{Rule as Coded}
-use Rattle.cs_validate.specs.Steps.{asked_of, numbered, answer}
+use Rattle.cs_validate.specs.Steps.{asked_of, numbered, step}
 use Rattle.cs_validate.specs.Rooted.{IsRooted}
-use Rattle.cs_validate.proofs.Judged.{answer_is, coded_found}
 use Rattle.cs_validate.proofs.Satisfied.{as_said, named, at_documents}
 
-pub judge_of : (R : Document) (d : Document) (root : ℕ) (rules : List Coded) (inner : List ℕ) → IsRooted R rules inner root → IsJudge R d root (length (nodes d)) (length rules) (answer rules inner (nodes d) (items d))
+pub judge_of : (R : Document) (d : Document) (root : ℕ) (rules : List Coded) (inner : List ℕ) → IsRooted R rules inner root → IsJudge R d root (length (nodes d)) (length rules) (answer step rules inner (nodes d) (items d))
 judge_of R d root rules inner h = record {
   all = h.all;
   are = h.are;
@@ -36,8 +37,8 @@ judge_of R d root rules inner h = record {
   rule_count = sym (length-map rules (numbered inner)) ∙ h.numbering.count;
   found = h.root;
   answers = λ f i r c x e k.
-      let y = coded_found rules inner r c e in
-      answer_is rules inner (nodes d) (items d) i r f y.0 x y.1 k ∙ sym (named (λ q. q) (slice_index inner) (f i) f (asked_of y.0) (node_at (nodes d) i) x)
+      let y = coded_found (numbered inner) rules r c e in
+      answer_is step rules inner (nodes d) (items d) i r f y.0 x y.1 k ∙ sym (named (λ q. q) (slice_index inner) (f i) f (asked_of y.0) (node_at (nodes d) i) x)
       ∙ ap (λ a. is_satisfied (f i) f a (node_at (nodes d) i) x) y.2;
 }
 

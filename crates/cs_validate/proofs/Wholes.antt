@@ -17,13 +17,15 @@ use Rattle.cs_profile.specs.declared.schema.Schema.{Schema}
 use Rattle.cs_validate.specs.Numbering.{map_assertion, map_constraint, said, ClaimBelow, PartsBelow, schema_at, IsNumbering}
 use Rattle.cs_validate.specs.Rules.{rules_of}
 use Rattle.cs_validate.specs.declared.rules.Rule.{Rule as Coded}
-use Rattle.cs_validate.specs.Steps.{asked_of, numbered, ArePlaced}
+use Rattle.cs_rules.specs.Steps.{ArePlaced}
+use Rattle.cs_validate.specs.Numbering.{PartsBelow}
+use Rattle.cs_validate.specs.Steps.{asked_of, numbered}
 use Rattle.cs_validate.specs.Placing.{waiting, AreNumbered, AreAt, IsKnown, Places, placed_by, left_by}
 use Rattle.cs_validate.specs.Ranked.{definitions_of, schema_of, definition, AreRanked, ArePlacedBy, PlacesWaiting}
 use Rattle.cs_validate.specs.declared.definitions.Ranked.{Ranked}
 use Rattle.cs_validate.specs.Rooted.{IsRooted}
 use Rattle.cs_validate.proofs.Placed.{at_front, got_front, names_same, known_more}
-use Rattle.cs_validate.proofs.Judged.{coded_found}
+use Rattle.cs_rules.proofs.Judged.{coded_found}
 use Rattle.cs_validate.proofs.Whole.{Same, joined, equal, inside}
 use Rattle.cs_validate.proofs.Root.{root_said, before, placed_last, bodies, root_counted}
 use Rattle.cs_validate.proofs.Ordered.{placed_with, all_known}
@@ -115,7 +117,7 @@ module _ (R : Document) (all : List Document) (W : List Document) (rules : List 
   long : length inner ≡ length W
   long = sym (length-map inner (schema_at all)) ∙ ap length at.0
 
-  are_placed : ArePlaced rules inner
+  are_placed : ArePlaced (λ x r m. PartsBelow r m (asked_of x)) rules inner
   are_placed = record {
     parts = λ r x e. subst (λ k. PartsBelow r k (asked_of x)) (sym long) (n.parts r x e);
     inside = subst (λ k. Each (λ q. q < k) inner) (sym n.sizes) at.1;
@@ -125,13 +127,13 @@ module _ (R : Document) (all : List Document) (W : List Document) (rules : List 
   is_numbering = record {
     count = length-map rules (numbered inner) ∙ n.sizes;
     asks = λ r c h.
-        let x = coded_found rules inner r c h in
+        let x = coded_found (numbered inner) rules r c h in
         let a = asked_of x.0 in
         n.asks r x.0 x.1
         ∙ ap said (names_same r (length W) (schema_at all) (schema_at all) (schema_at W) (λ p. schema_at all (slice_index inner p)) (λ d l. refl) (λ p l. sym (schema_of_place all W inner at.0 p l)) a (n.parts r x.0 x.1)
         ∙ sym (twice (schema_at all) (schema_at all) (λ k. k) (slice_index inner) a) ∙ ap (map_constraint (schema_at all) (schema_at all)) x.2);
     below = λ r c h.
-        let x = coded_found rules inner r c h in
+        let x = coded_found (numbered inner) rules r c h in
         subst (PartsBelow r (length all)) x.2
         (numbers_below (slice_index inner) (length W) (length all) (λ p l. each_lower (λ q. q < length all) inner at.1 p (subst (λ k. p < k) (sym long) l)) r (asked_of x.0) (n.parts r x.0 x.1));
   }
@@ -237,8 +239,8 @@ module _ (v : SchemaValue) (whole : IsWhole v) (ds : List Ranked) (numbers : Lis
     at_all : AreAt (first ++ w.more) inner W
     at_all = subst (AreAt (first ++ w.more) inner) (all_taken W (length inner) wide) w.inside
 
-    pub placed_all : ArePlaced r2 inner
-    placed_all = are_placed R (first ++ w.more) W r2 inner w.numbered at_all
+    pub placed_all : ∥ ArePlaced (λ x r m. PartsBelow r m (asked_of x)) r2 inner ∥₁
+    placed_all = ∣ are_placed R (first ++ w.more) W r2 inner w.numbered at_all ∣₁
 
     counted : Same (rules_of R) (first ++ w.more)
     counted =

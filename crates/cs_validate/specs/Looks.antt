@@ -1,4 +1,4 @@
--- One step looks at the verdicts on the parts alone, so a judge of numbered rules looks at earlier pairs alone.
+-- A rule looks at the verdicts on its parts alone.
 use Rattle.std.specs.Prelude.{◌≡◌, ℕ, zero, suc, ◌<◌, Bool, true, false, not, ◌&&◌, ◌||◌, List, [], ◌∷◌, drop, Option, Some, None, option_to_list, length, slice_get, slice_index, if◌then◌else◌}
 use Rattle.std.proofs.Common.{refl, ap, ap₂, inl, inr, lt_trans, zero-le}
 use Rattle.std.proofs.lemmas.Option.{slice_get_within}
@@ -15,8 +15,6 @@ use Rattle.cs_table.specs.Judged.{AllVerdicts, AgreeBefore}
 use Rattle.cs_profile.specs.Constraint.{Assertion, valid_by, at_keys, at_other_keys, in_front, behind, valid_by_all, valid_by_any, not_valid_by, Constraint, always, never, conjunction}
 use Rattle.cs_profile.specs.Validity.{if_there, front_holds, holds, is_satisfied}
 use Rattle.cs_validate.specs.Numbering.{ClaimBelow, PartsBelow}
-use Rattle.cs_validate.specs.declared.rules.Rule.{Rule}
-use Rattle.cs_validate.specs.Steps.{asked_of, step_at, answer, ArePlaced, AreLower}
 
 -- two ways to answer that agree below i, r and m
 module _ (i r m : ℕ) (here here' : ℕ → Bool) (inside inside' : ℕ → ℕ → Bool) (h : (d : ℕ) → d < r → here d ≡ here' d) (k : (y p : ℕ) → y < i → p < m → inside y p ≡ inside' y p) where
@@ -70,21 +68,3 @@ module _ (i r m : ℕ) (here here' : ℕ → Bool) (inside inside' : ℕ → ℕ
   numbers_same always d x b w = refl
   numbers_same never d x b w = refl
   numbers_same (conjunction claims) d x b w = claims_same claims d x b w
-
--- what holds of each element and of zero
-each_at : (P : ℕ → Type 0) (xs : List ℕ) → Each P xs → P 0 → (p : ℕ) → P (slice_index xs p)
-each_at P [] h z p = z
-each_at P (x ∷ xs) h z zero = h.0
-each_at P (x ∷ xs) h z (suc p) = each_at P xs h.1 z p
-
-pub answer_looks_back : (rules : List Rule) (inner : List ℕ) (ns : List Document) (items : List (Opened ℕ)) → ArePlaced rules inner → AreLower items
-    → (i r : ℕ) (f g : AllVerdicts) → AgreeBefore (length rules) i r f g → answer rules inner ns items i r f ≡ answer rules inner ns items i r g
-answer_looks_back rules inner ns items a b i r f g h = go (slice_get rules r) (slice_get items i) refl refl
-  where
-    go : (o : Option Rule) (x : Option (Opened ℕ)) → slice_get rules r ≡ o → slice_get items i ≡ x → step_at inner f i o (node_at ns i) x ≡ step_at inner g i o (node_at ns i) x
-    go None x e k = refl
-    go (Some rule) None e k = refl
-    go (Some rule) (Some it) e k =
-        let l = slice_get_within rules r rule e in
-        numbers_same i r (length inner) (f i) (g i) (λ y p. f y (slice_index inner p)) (λ y p. g y (slice_index inner p)) (λ d m. h i d (lt_trans m l) (inr (refl, m)))
-        (λ y p m n. h y (slice_index inner p) (each_at (λ q. q < length rules) inner a.inside (lt_of_le_of_lt zero-le l) p) (inl m)) (asked_of rule) (node_at ns i) it (a.parts r rule e) (b i it k)

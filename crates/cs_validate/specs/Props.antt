@@ -1,29 +1,14 @@
--- Facts about numbers of parts are propositions.
-use Rattle.std.proofs.Common.{ℕ, ◌<◌, List, [], ◌∷◌}
+-- Facts about the numbers of parts.
+use Rattle.std.proofs.Common.{ℕ, ◌<◌, ◌≤◌, lt_of_lt_of_le}
 use Rattle.std.specs.Prelude.{option_to_list}
 use Rattle.std.specs.List.{AllByRecursion as Each}
-use mathlib.Core.HLevel.{×_prop, Unit-prop}
+use mathlib.Core.HLevel.{Unit-prop}
 use native.Mathlib.Bridge.{le_prop}
 use Rattle.cs_document.specs.Document.{Entry}
-use Rattle.cs_document.specs.Opened.{Opened, a_null, a_boolean, an_integer, a_text, a_list, an_object}
-use Rattle.cs_document.specs.Inside.{InsideBelow}
+use Rattle.cs_document.proofs.Each.{each_map}
 use Rattle.cs_profile.specs.Constraint.{Assertion, nothing, valid_by, has_kind, equals, is_among, at_least, at_most, above, below, has_keys, at_keys, at_other_keys, in_front, behind, at_least_long, valid_by_all, valid_by_any, not_valid_by, Constraint, always, never, conjunction}
+use Rattle.cs_rules.specs.Props.{each_prop, below_prop}
 use Rattle.cs_validate.specs.Numbering.{ClaimBelow, PartsBelow}
-
-each_prop : {X : Type 0} (P : X → Type 0) → ((x : X) → IsProp (P x)) → (xs : List X) → IsProp (Each P xs)
-each_prop P h [] = Unit-prop
-each_prop P h (x ∷ xs) = ×_prop (h x) (each_prop P h xs)
-
-pub inside_prop : (n : ℕ) (x : Opened ℕ) → IsProp (InsideBelow n x)
-inside_prop n a_null = Unit-prop
-inside_prop n (a_boolean b) = Unit-prop
-inside_prop n (an_integer z) = Unit-prop
-inside_prop n (a_text s) = Unit-prop
-inside_prop n (a_list ys) = each_prop (λ y. y < n) (λ y. le_prop) ys
-inside_prop n (an_object ms) = each_prop (λ (m : Entry ℕ). m.1 < n) (λ m. le_prop) ms
-
-pub below_prop : (n : ℕ) (ds : List ℕ) → IsProp (Each (λ d. d < n) ds)
-below_prop n = each_prop (λ d. d < n) (λ d. le_prop)
 
 claim_prop : (n m : ℕ) (a : Assertion ℕ ℕ) → IsProp (ClaimBelow n m a)
 claim_prop n m (valid_by o) = below_prop n (option_to_list o)
@@ -49,3 +34,29 @@ pub parts_prop : (n m : ℕ) (a : Constraint ℕ ℕ) → IsProp (PartsBelow n m
 parts_prop n m always = Unit-prop
 parts_prop n m never = Unit-prop
 parts_prop n m (conjunction claims) = each_prop (ClaimBelow n m) (claim_prop n m) claims
+
+-- parts that are below two numbers are below greater ones
+claim_weaker : (n m n' m' : ℕ) → n ≤ n' → m ≤ m' → (a : Assertion ℕ ℕ) → ClaimBelow n m a → ClaimBelow n' m' a
+claim_weaker n m n' m' u l (valid_by o) b = each_map (λ r. r < n) (λ r. r < n') (λ r c. lt_of_lt_of_le c u) (option_to_list o) b
+claim_weaker n m n' m' u l (at_keys ps) b = each_map (λ (e : Entry ℕ). e.1 < m) (λ (e : Entry ℕ). e.1 < m') (λ e c. lt_of_lt_of_le c l) ps b
+claim_weaker n m n' m' u l (at_other_keys ks p) b = lt_of_lt_of_le b l
+claim_weaker n m n' m' u l (in_front ps) b = each_map (λ p. p < m) (λ p. p < m') (λ p c. lt_of_lt_of_le c l) ps b
+claim_weaker n m n' m' u l (behind j p) b = lt_of_lt_of_le b l
+claim_weaker n m n' m' u l (valid_by_all rs) b = each_map (λ r. r < n) (λ r. r < n') (λ r c. lt_of_lt_of_le c u) rs b
+claim_weaker n m n' m' u l (valid_by_any rs) b = each_map (λ r. r < n) (λ r. r < n') (λ r c. lt_of_lt_of_le c u) rs b
+claim_weaker n m n' m' u l (not_valid_by r) b = lt_of_lt_of_le b u
+claim_weaker n m n' m' u l nothing b = tt
+claim_weaker n m n' m' u l (has_kind j) b = tt
+claim_weaker n m n' m' u l (equals v) b = tt
+claim_weaker n m n' m' u l (is_among vs) b = tt
+claim_weaker n m n' m' u l (at_least z) b = tt
+claim_weaker n m n' m' u l (at_most z) b = tt
+claim_weaker n m n' m' u l (above z) b = tt
+claim_weaker n m n' m' u l (below z) b = tt
+claim_weaker n m n' m' u l (has_keys ks) b = tt
+claim_weaker n m n' m' u l (at_least_long j) b = tt
+
+pub parts_weaker : (n m n' m' : ℕ) → n ≤ n' → m ≤ m' → (a : Constraint ℕ ℕ) → PartsBelow n m a → PartsBelow n' m' a
+parts_weaker n m n' m' u l always b = tt
+parts_weaker n m n' m' u l never b = tt
+parts_weaker n m n' m' u l (conjunction claims) b = each_map (ClaimBelow n m) (ClaimBelow n' m') (claim_weaker n m n' m' u l) claims b

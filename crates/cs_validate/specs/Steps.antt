@@ -1,13 +1,9 @@
--- What a judge answers by numbered rules.
+-- What a rule of the code asks, by the numbers of its parts.
 use Rattle.std.specs.Prelude.{◌≡◌, ℕ, suc, ◌+◌, ◌<◌, ℤ, pos, Bool, true, false, List, [], ◌∷◌, Option, Some, None, option_map, option_to_list, length, slice_get, slice_index}
 use Rattle.std.specs.Option.{option_map_or}
 use Rattle.std.specs.List.{AllByRecursion, flat_map}
-use Rattle.cs_document.specs.Document.{Document}
-use Rattle.cs_document.specs.Opened.{Opened}
-use Rattle.cs_document.specs.Inside.{InsideBelow}
 use Rattle.cs_document.specs.View.{doc_view}
-use Rattle.cs_flat.specs.Nodes.{node_at}
-use Rattle.cs_table.specs.Judged.{AllVerdicts}
+use Rattle.cs_rules.specs.Steps.{Step}
 use Rattle.cs_profile.specs.Keywords as keyword
 use Rattle.cs_profile.specs.Keywords.{Kind}
 use Rattle.cs_profile.specs.Constraint.{Assertion, nothing, valid_by, has_kind, equals, is_among, at_least, at_most, above, below, has_keys, at_keys, at_other_keys, in_front, behind, at_least_long, valid_by_all, valid_by_any, not_valid_by, Constraint, always, never, conjunction}
@@ -15,7 +11,7 @@ use Rattle.cs_profile.specs.Validity.{is_satisfied}
 use Rattle.cs_profile.specs.Numbered.{numbered as numbers_from, names_in}
 use Rattle.cs_profile.specs.declared.schema.JsonKind.{JsonKind}
 use Rattle.cs_profile.specs.declared.schema.JsonKind.TheVariants as kind
-use Rattle.cs_validate.specs.Numbering.{map_constraint, PartsBelow}
+use Rattle.cs_validate.specs.Numbering.{map_constraint}
 use Rattle.cs_validate.specs.declared.rules.Rule.{Rule}
 use Rattle.cs_validate.specs.declared.rules.Rule.TheVariants as rule
 use Rattle.cs_validate.specs.declared.rules.Conjunction.{Conjunction}
@@ -90,24 +86,6 @@ asked_of (rule.Object c) = conjunction (flat_map option_to_list (claims_of c))
 abbrev pub numbered : List ℕ → Rule → Constraint ℕ ℕ
 numbered inner r = map_constraint (λ k. k) (slice_index inner) (asked_of r)
 
--- one step over a table, at a value of the document
-abbrev pub step : List ℕ → AllVerdicts → ℕ → Rule → Document → Opened ℕ → Bool
-step inner f i r d x = is_satisfied (f i) (λ y p. f y (slice_index inner p)) (asked_of r) d x
-
-abbrev pub step_at : List ℕ → AllVerdicts → ℕ → Option Rule → Document → Option (Opened ℕ) → Bool
-step_at inner f i None d x = false
-step_at inner f i (Some r) d None = false
-step_at inner f i (Some r) d (Some x) = step inner f i r d x
-
--- what the judge of these rules, values and items answers
-abbrev pub answer : List Rule → List ℕ → List Document → List (Opened ℕ) → ℕ → ℕ → AllVerdicts → Bool
-answer rules inner ns items i r f = step_at inner f i (slice_get rules r) (node_at ns i) (slice_get items i)
-
--- each rule names earlier rules and places of `inner`, and these name rules
-pub record ArePlaced (rules : List Rule) (inner : List ℕ) : Type 0 where
-  pub parts : (r : ℕ) (x : Rule) → slice_get rules r ≡ Some x → PartsBelow r (length inner) (asked_of x)
-  pub inside : AllByRecursion (λ q. q < length rules) inner
-
--- each item names earlier items
-abbrev pub AreLower : List (Opened ℕ) → Type 0
-AreLower items = (i : ℕ) (x : Opened ℕ) → slice_get items i ≡ Some x → InsideBelow i x
+-- the verdict on a value, by those on the parts
+abbrev pub step : Rule → Step
+step r here inside d x = is_satisfied here inside (asked_of r) d x

@@ -13,6 +13,7 @@ use crate::{ValidJudge, ValidateFault};
 use cs_document::Doc;
 use cs_flat::{Flat, flatten};
 use cs_profile::{SchemaDoc, one_meaning};
+use cs_rules::RuleJudge;
 use cs_table::{Judge, Verdicts, fill};
 use std::alloc::Global;
 
@@ -28,7 +29,7 @@ pub fn valid_judge<'a>(
     ensures memory { IsOkUnless result ValidateFault.OutOfMemory }
 {
     let (numbering, number) = numbering_of(alloc, schema)?;
-    Ok((ValidJudge::over(numbering, flat), number))
+    Ok((RuleJudge::over(numbering, flat), number))
 }
 
 /// Whether each value of a document is valid by the schema document, by each of its definitions and by every schema

@@ -5,17 +5,18 @@ ghost use Rattle.cs_validate.specs.Rooted.{IsRooted};
 
 use crate::definitions::{Placement, by_rank, place_definitions};
 use crate::inner::place_waiting;
-use crate::judge::Numbering;
 use crate::numbering::place;
+use crate::rules::Rule;
 use cs_profile::SchemaDoc;
+use cs_rules::Numbering;
 use std::alloc::{AllocError, Global};
 
 /// The rules of a schema document, each after those that it asks of the same document, and the root's number.
 pub(crate) fn numbering_of<'a>(
     alloc: Global,
     schema: &'a SchemaDoc,
-) -> Result<(Numbering<'a>, usize), AllocError>
-    ensures { IfOk result (λ t. IsRooted (document_of schema.now) t.0.rules.items t.0.inner.items t.1) }
+) -> Result<(Numbering<Rule<'a>>, usize), AllocError>
+    ensures { IfOk result (λ t. IsRooted (document_of schema.now) t.0.rules.items t.0.children.items t.1) }
 {
     schema.whole_law(); // for the proof: a truth value has no definitions
     let ranked = by_rank(alloc, schema)?;
@@ -26,6 +27,6 @@ pub(crate) fn numbering_of<'a>(
     } = place_definitions(alloc, &ranked)?;
     place(alloc, schema.root(), &numbers, &mut rules, &mut pending)?;
     let root = rules.len() - 1; // the root's own rule comes last
-    let inner = place_waiting(alloc, &numbers, &mut rules, &mut pending)?;
-    Ok((Numbering { rules, inner }, root))
+    let children = place_waiting(alloc, &numbers, &mut rules, &mut pending)?;
+    Ok((Numbering { rules, children }, root))
 }

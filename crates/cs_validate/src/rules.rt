@@ -6,14 +6,14 @@ use cs_profile::Keywords;
 /// What a schema asks of a document. A schema asked of the same document is named by its number, and one asked of a
 /// document inside by its place in a list of such schemas.
 #[derive(Drop)]
-pub(crate) enum Rule<'a> {
+pub enum Rule<'a> {
     Truth(bool),
     Object(Conjunction<'a>),
 }
 
 /// What the keywords of an object ask, each by itself (JSON Schema Core 2020-12, section 10.2.1.1).
 #[derive(Drop)]
-pub(crate) struct Conjunction<'a> {
+pub struct Conjunction<'a> {
     /// The keywords; those that hold no schema are asked as they are.
     pub(crate) keywords: &'a Keywords,
     /// `required`

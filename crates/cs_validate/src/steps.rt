@@ -7,7 +7,7 @@ ghost use Rattle.cs_document.specs.Document.{Entry, under};
 ghost use Rattle.cs_document.specs.Inside.{InsideBelow, AscendsInside, KeysAscend};
 ghost use Rattle.cs_document.specs.View.{doc_view};
 ghost use Rattle.cs_flat.specs.View.{item_view, entry_of};
-ghost use Rattle.cs_table.specs.Judged.{verdicts};
+ghost use Rattle.cs_rules.specs.Knowns.{verdict_here, verdict_inside, value_count, rule_count, place_count};
 ghost use Rattle.cs_profile.specs.Numbered.{numbered, names_in};
 ghost use Rattle.cs_profile.specs.Validity as validity;
 ghost use Rattle.cs_profile.specs.Validity.{if_there};
@@ -21,87 +21,46 @@ use crate::values::{any_holds, integer_holds, length_holds};
 use cs_document::Doc;
 use cs_flat::{Item, number_under};
 use cs_profile::Schema;
-use cs_table::Verdicts;
+use cs_rules::Known;
 use std::collections::BTreeMap;
 
 // ---- schemas that are asked of the value itself
 
-fn all_hold(parts: &[usize], item: usize, done: &Verdicts) -> bool
-    requires item { item < done.now.items }
-    requires parts { AllByRecursion (λ q. q < done.now.rules) parts.now }
-    ensures { result ≡ list_all (verdicts done.now item) parts.now }
-{
-    for part in parts {
-        if !done.get(item, *part) {
-            return false;
-        }
-    }
-    true
-}
-
-fn some_holds(parts: &[usize], item: usize, done: &Verdicts) -> bool
-    requires item { item < done.now.items }
-    requires parts { AllByRecursion (λ q. q < done.now.rules) parts.now }
-    ensures { result ≡ list_any (verdicts done.now item) parts.now }
-{
-    for part in parts {
-        if done.get(item, *part) {
-            return true;
-        }
-    }
-    false
-}
-
 /// Whether the definition that `$ref` names, if it is there, is defined and validates a value (Core, section 8.2.3.1).
-fn reference_holds(conjunction: &Conjunction<'_>, item: usize, done: &Verdicts) -> bool
-    requires item { item < done.now.items }
-    requires parts { IfSome conjunction.now.keywords.now.reference (λ n. AllByRecursion (λ q. q < done.now.rules) (option_to_list conjunction.now.reference)) }
-    ensures { result ≡ if_there (λ n. option_map_or (verdicts done.now item) conjunction.now.reference false) conjunction.now.keywords.now.reference }
+fn reference_holds(conjunction: &Conjunction<'_>, known: &Known<'_>) -> bool
+    requires parts { IfSome conjunction.now.keywords.now.reference (λ n. AllByRecursion (λ q. q < rule_count known.now) (option_to_list conjunction.now.reference)) }
+    ensures { result ≡ if_there (λ n. option_map_or (verdict_here known.now) conjunction.now.reference false) conjunction.now.keywords.now.reference }
 {
     match (&conjunction.keywords.reference, conjunction.reference) {
         (None, _) => true,
         (Some(_), None) => false,
-        (Some(_), Some(part)) => done.get(item, part),
+        (Some(_), Some(part)) => known.here(part),
     }
 }
 
 /// Whether the schema of `not`, if it is there, doesn't validate a value (Core, section 10.2.1.4).
-fn negation_holds(negated: Option<usize>, item: usize, done: &Verdicts) -> bool
-    requires item { item < done.now.items }
-    requires parts { AllByRecursion (λ q. q < done.now.rules) (option_to_list negated) }
-    ensures { result ≡ if_there (λ r. not (verdicts done.now item r)) negated }
+fn negation_holds(negated: Option<usize>, known: &Known<'_>) -> bool
+    requires parts { AllByRecursion (λ q. q < rule_count known.now) (option_to_list negated) }
+    ensures { result ≡ if_there (λ r. not (verdict_here known.now r)) negated }
 {
     match negated {
-        Some(part) => !done.get(item, part),
+        Some(part) => !known.here(part),
         None => true,
     }
 }
 
 // ---- schemas that are asked of values inside
 
-/// Whether a value inside is valid by the schema at a place of `inner`.
-#[inline]
-fn holds_inside(child: usize, part: usize, inner: &[usize], done: &Verdicts) -> bool
-    requires child { child < done.now.items }
-    requires part { part < length inner.now }
-    requires inner { AllByRecursion (λ q. q < done.now.rules) inner.now }
-    ensures { result ≡ verdicts done.now child (slice_index inner.now part) }
-{
-    done.get(child, inner[part])
-}
-
-/// Whether each element with a schema at its place, from a place of `inner` on, is valid by it (Core, section 10.3.1.1).
+/// Whether each element with a schema at its place, from a place on, is valid by it (Core, section 10.3.1.1).
 fn front_holds(
     prefix: &[Schema],
     first: usize,
     children: &[usize],
-    inner: &[usize],
-    done: &Verdicts,
+    known: &Known<'_>,
 ) -> bool
-    requires children { AllByRecursion (λ y. y < done.now.items) children.now }
-    requires parts { AllByRecursion (λ p. p < length inner.now) (places_from first prefix.now) }
-    requires inner { AllByRecursion (λ q. q < done.now.rules) inner.now }
-    ensures { result ≡ validity.front_holds (λ (h : ℕ). true) (λ y p. verdicts done.now y (slice_index inner.now p)) (places_from first prefix.now) children.now }
+    requires children { AllByRecursion (λ y. y < value_count known.now) children.now }
+    requires parts { AllByRecursion (λ p. p < place_count known.now) (places_from first prefix.now) }
+    ensures { result ≡ validity.front_holds (λ (h : ℕ). true) (verdict_inside known.now) (places_from first prefix.now) children.now }
 {
     let mut rest = children;
     let mut place = first;
@@ -109,7 +68,7 @@ fn front_holds(
         let Some((child, others)) = rest.split_first() else {
             return true;
         };
-        if !holds_inside(*child, place, inner, done) {
+        if !known.inside(*child, place) {
             return false;
         }
         rest = others;
@@ -118,77 +77,56 @@ fn front_holds(
     true
 }
 
-fn each_holds(children: &[usize], part: usize, inner: &[usize], done: &Verdicts) -> bool
-    requires children { AllByRecursion (λ y. y < done.now.items) children.now }
-    requires part { part < length inner.now }
-    requires inner { AllByRecursion (λ q. q < done.now.rules) inner.now }
-    ensures { result ≡ list_all (λ y. verdicts done.now y (slice_index inner.now part)) children.now }
-{
-    for child in children {
-        if !holds_inside(*child, part, inner, done) {
-            return false;
-        }
-    }
-    true
-}
-
-/// Whether each element behind so many is valid by the schema at a place of `inner` (Core, section 10.3.1.2).
+/// Whether each element behind so many is valid by the schema at a place (Core, section 10.3.1.2).
 fn rest_holds(
     front: usize,
     part: usize,
     children: &[usize],
-    inner: &[usize],
-    done: &Verdicts,
+    known: &Known<'_>,
 ) -> bool
-    requires children { AllByRecursion (λ y. y < done.now.items) children.now }
-    requires part { part < length inner.now }
-    requires inner { AllByRecursion (λ q. q < done.now.rules) inner.now }
-    ensures { result ≡ list_all (λ y. verdicts done.now y (slice_index inner.now part)) (drop front children.now) }
+    requires children { AllByRecursion (λ y. y < value_count known.now) children.now }
+    requires part { part < place_count known.now }
+    ensures { result ≡ list_all (λ y. verdict_inside known.now y part) (drop front children.now) }
 {
     if children.len() <= front {
         return true;
     }
-    each_holds(&children[front..], part, inner, done)
+    known.each(&children[front..], part)
 }
 
-/// Whether the value under a key, if it is there, is valid by the schema at a place of `inner`.
+/// Whether the value under a key, if it is there, is valid by the schema at a place.
 fn property_holds(
     name: &str,
     place: usize,
     members: &[(&str, usize)],
-    inner: &[usize],
-    done: &Verdicts,
+    known: &Known<'_>,
 ) -> bool
     requires ascends { KeysAscend (map entry_of members.now) }
-    requires members { AllByRecursion (λ (m : Entry ℕ). m.1 < done.now.items) (map entry_of members.now) }
-    requires place { place < length inner.now }
-    requires inner { AllByRecursion (λ q. q < done.now.rules) inner.now }
-    ensures { result ≡ if_there (λ y. verdicts done.now y (slice_index inner.now place)) (under name.now (map entry_of members.now)) }
+    requires members { AllByRecursion (λ (m : Entry ℕ). m.1 < value_count known.now) (map entry_of members.now) }
+    requires place { place < place_count known.now }
+    ensures { result ≡ if_there (λ y. verdict_inside known.now y place) (under name.now (map entry_of members.now)) }
 {
     match number_under(members, name) {
-        Some(child) => holds_inside(child, place, inner, done),
+        Some(child) => known.inside(child, place),
         None => true,
     }
 }
 
-/// Whether the value under each declared name, if it is there, is valid by the name's schema: these stand from a place of
-/// `inner` on (Core, section 10.3.2.1).
+/// Whether the value under each declared name, if it is there, is valid by the name's schema: those are from a place on (Core, section 10.3.2.1).
 fn properties_hold(
     properties: &BTreeMap<String, Schema>,
     first: usize,
     members: &[(&str, usize)],
-    inner: &[usize],
-    done: &Verdicts,
+    known: &Known<'_>,
 ) -> bool
     requires ascends { KeysAscend (map entry_of members.now) }
-    requires members { AllByRecursion (λ (m : Entry ℕ). m.1 < done.now.items) (map entry_of members.now) }
-    requires parts { AllByRecursion (λ (p : Entry ℕ). p.1 < length inner.now) (numbered first (names_in properties.now.entries)) }
-    requires inner { AllByRecursion (λ q. q < done.now.rules) inner.now }
-    ensures { result ≡ list_all (λ (p : Entry ℕ). if_there (λ y. verdicts done.now y (slice_index inner.now p.1)) (under p.0 (map entry_of members.now))) (numbered first (names_in properties.now.entries)) }
+    requires members { AllByRecursion (λ (m : Entry ℕ). m.1 < value_count known.now) (map entry_of members.now) }
+    requires parts { AllByRecursion (λ (p : Entry ℕ). p.1 < place_count known.now) (numbered first (names_in properties.now.entries)) }
+    ensures { result ≡ list_all (λ (p : Entry ℕ). if_there (λ y. verdict_inside known.now y p.1) (under p.0 (map entry_of members.now))) (numbered first (names_in properties.now.entries)) }
 {
     let mut place = first;
     for name in properties.keys() {
-        if !property_holds(name, place, members, inner, done) {
+        if !property_holds(name, place, members, known) {
             return false;
         }
         place += 1;
@@ -196,39 +134,35 @@ fn properties_hold(
     true
 }
 
-/// Whether a key is a declared name, or its value is valid by the schema at a place of `inner`.
+/// Whether a key is a declared name, or its value is valid by the schema at a place.
 fn other_holds(
     properties: &BTreeMap<String, Schema>,
     key: &str,
     child: usize,
     part: usize,
-    inner: &[usize],
-    done: &Verdicts,
+    known: &Known<'_>,
 ) -> bool
-    requires child { child < done.now.items }
-    requires part { part < length inner.now }
-    requires inner { AllByRecursion (λ q. q < done.now.rules) inner.now }
-    ensures { result ≡ (list_any (bytes_eq key.now) (names_in properties.now.entries) || verdicts done.now child (slice_index inner.now part)) }
+    requires child { child < value_count known.now }
+    requires part { part < place_count known.now }
+    ensures { result ≡ (list_any (bytes_eq key.now) (names_in properties.now.entries) || verdict_inside known.now child part) }
 {
-    properties.contains_key(key) || holds_inside(child, part, inner, done)
+    properties.contains_key(key) || known.inside(child, part)
 }
 
-/// Whether each value whose key is no declared name is valid by the schema at a place of `inner` (Core, section
+/// Whether each value whose key is no declared name is valid by the schema at a place (Core, section
 /// 10.3.2.3).
 fn others_hold(
     properties: &BTreeMap<String, Schema>,
     part: usize,
     members: &[(&str, usize)],
-    inner: &[usize],
-    done: &Verdicts,
+    known: &Known<'_>,
 ) -> bool
-    requires members { AllByRecursion (λ (m : Entry ℕ). m.1 < done.now.items) (map entry_of members.now) }
-    requires part { part < length inner.now }
-    requires inner { AllByRecursion (λ q. q < done.now.rules) inner.now }
-    ensures { result ≡ list_all (λ (m : Entry ℕ). list_any (bytes_eq m.0) (names_in properties.now.entries) || verdicts done.now m.1 (slice_index inner.now part)) (map entry_of members.now) }
+    requires members { AllByRecursion (λ (m : Entry ℕ). m.1 < value_count known.now) (map entry_of members.now) }
+    requires part { part < place_count known.now }
+    ensures { result ≡ list_all (λ (m : Entry ℕ). list_any (bytes_eq m.0) (names_in properties.now.entries) || verdict_inside known.now m.1 part) (map entry_of members.now) }
 {
     for (key, child) in members {
-        if !other_holds(properties, key, *child, part, inner, done) {
+        if !other_holds(properties, key, *child, part, known) {
             return false;
         }
     }
@@ -252,49 +186,44 @@ fn behind(place: usize, schema: &Option<Schema>) -> usize
 fn list_holds(
     conjunction: &Conjunction<'_>,
     children: &[usize],
-    inner: &[usize],
-    done: &Verdicts,
+    known: &Known<'_>,
 ) -> bool
-    requires parts { AreBelowInside (length inner.now) conjunction.now }
-    requires children { AllByRecursion (λ y. y < done.now.items) children.now }
-    requires inner { AllByRecursion (λ q. q < done.now.rules) inner.now }
-    ensures { result ≡ asks_list (λ y p. verdicts done.now y (slice_index inner.now p)) conjunction.now children.now }
+    requires parts { AreBelowInside (place_count known.now) conjunction.now }
+    requires children { AllByRecursion (λ y. y < value_count known.now) children.now }
+    ensures { result ≡ asks_list (verdict_inside known.now) conjunction.now children.now }
 {
     let keywords = conjunction.keywords;
     let items = behind(conjunction.first, &keywords.additional);
     let prefix = behind(items, &keywords.rest);
     length_holds(keywords.min_items, children.len())
-        && front_holds(&keywords.prefix, prefix, children, inner, done)
+        && front_holds(&keywords.prefix, prefix, children, known)
         && (keywords.rest.is_none()
-            || rest_holds(keywords.prefix.len(), items, children, inner, done))
+            || rest_holds(keywords.prefix.len(), items, children, known))
 }
 
 /// What keywords ask of a map (Validation, section 6.5; Core, section 10.3.2).
 fn map_holds(
     conjunction: &Conjunction<'_>,
     members: &[(&str, usize)],
-    inner: &[usize],
-    done: &Verdicts,
+    known: &Known<'_>,
 ) -> bool
-    requires parts { AreBelowInside (length inner.now) conjunction.now }
+    requires parts { AreBelowInside (place_count known.now) conjunction.now }
     requires ascends { KeysAscend (map entry_of members.now) }
-    requires members { AllByRecursion (λ (m : Entry ℕ). m.1 < done.now.items) (map entry_of members.now) }
-    requires inner { AllByRecursion (λ q. q < done.now.rules) inner.now }
-    ensures { result ≡ asks_map (λ y p. verdicts done.now y (slice_index inner.now p)) conjunction.now (map entry_of members.now) }
+    requires members { AllByRecursion (λ (m : Entry ℕ). m.1 < value_count known.now) (map entry_of members.now) }
+    ensures { result ≡ asks_map (verdict_inside known.now) conjunction.now (map entry_of members.now) }
 {
     let keywords = conjunction.keywords;
     let items = behind(conjunction.first, &keywords.additional);
     let prefix = behind(items, &keywords.rest);
     let properties = prefix + keywords.prefix.len();
     conjunction.required.are_keys(members)
-        && properties_hold(&keywords.properties, properties, members, inner, done)
+        && properties_hold(&keywords.properties, properties, members, known)
         && (keywords.additional.is_none()
             || others_hold(
                 &keywords.properties,
                 conjunction.first,
                 members,
-                inner,
-                done,
+                known,
             ))
 }
 
@@ -302,33 +231,30 @@ fn map_holds(
 fn kind_holds(
     conjunction: &Conjunction<'_>,
     value: &Item<'_>,
-    inner: &[usize],
-    done: &Verdicts,
+    known: &Known<'_>,
 ) -> bool
-    requires parts { AreBelowInside (length inner.now) conjunction.now }
+    requires parts { AreBelowInside (place_count known.now) conjunction.now }
     requires ascends { AscendsInside (item_view value.now) }
-    requires children { InsideBelow done.now.items (item_view value.now) }
-    requires inner { AllByRecursion (λ q. q < done.now.rules) inner.now }
-    ensures { result ≡ asks_kind (λ y p. verdicts done.now y (slice_index inner.now p)) conjunction.now (item_view value.now) }
+    requires children { InsideBelow (value_count known.now) (item_view value.now) }
+    ensures { result ≡ asks_kind (verdict_inside known.now) conjunction.now (item_view value.now) }
 {
     match value {
         Item::Int(n) => integer_holds(conjunction.keywords, *n),
-        Item::List(children) => list_holds(conjunction, children, inner, done),
-        Item::Object(members) => map_holds(conjunction, members, inner, done),
+        Item::List(children) => list_holds(conjunction, children, known),
+        Item::Object(members) => map_holds(conjunction, members, known),
         Item::Null | Item::Bool(_) | Item::Text(_) => true,
     }
 }
 
 /// Whether the schemas that are asked of the value itself hold (Core, sections 8.2.3.1 and 10.2.1).
-fn here_holds(conjunction: &Conjunction<'_>, item: usize, done: &Verdicts) -> bool
-    requires item { item < done.now.items }
-    requires parts { AreBelowHere done.now.rules conjunction.now }
-    ensures { result ≡ asks_here (verdicts done.now item) conjunction.now }
+fn here_holds(conjunction: &Conjunction<'_>, known: &Known<'_>) -> bool
+    requires parts { AreBelowHere (rule_count known.now) conjunction.now }
+    ensures { result ≡ asks_here (verdict_here known.now) conjunction.now }
 {
-    reference_holds(conjunction, item, done)
-        && all_hold(&conjunction.all_of, item, done)
-        && (conjunction.any_of.is_empty() || some_holds(&conjunction.any_of, item, done))
-        && negation_holds(conjunction.negated, item, done)
+    reference_holds(conjunction, known)
+        && known.all(&conjunction.all_of)
+        && (conjunction.any_of.is_empty() || known.any(&conjunction.any_of))
+        && negation_holds(conjunction.negated, known)
 }
 
 /// What the keywords of an object ask.
@@ -336,22 +262,18 @@ fn object_holds(
     conjunction: &Conjunction<'_>,
     value: &Item<'_>,
     doc: &Doc,
-    item: usize,
-    inner: &[usize],
-    done: &Verdicts,
+    known: &Known<'_>,
 ) -> bool
-    requires item { item < done.now.items }
-    requires here { AreBelowHere done.now.rules conjunction.now }
-    requires inside { AreBelowInside (length inner.now) conjunction.now }
+    requires here { AreBelowHere (rule_count known.now) conjunction.now }
+    requires inside { AreBelowInside (place_count known.now) conjunction.now }
     requires ascends { AscendsInside (item_view value.now) }
-    requires children { InsideBelow done.now.items (item_view value.now) }
-    requires inner { AllByRecursion (λ q. q < done.now.rules) inner.now }
-    ensures { result ≡ (asks_any conjunction.now (doc_view doc.now) (item_view value.now) && (asks_here (verdicts done.now item) conjunction.now
-        && asks_kind (λ y p. verdicts done.now y (slice_index inner.now p)) conjunction.now (item_view value.now))) }
+    requires children { InsideBelow (value_count known.now) (item_view value.now) }
+    ensures { result ≡ (asks_any conjunction.now (doc_view doc.now) (item_view value.now) && (asks_here (verdict_here known.now) conjunction.now
+        && asks_kind (verdict_inside known.now) conjunction.now (item_view value.now))) }
 {
     any_holds(conjunction, value, doc)
-        && here_holds(conjunction, item, done)
-        && kind_holds(conjunction, value, inner, done)
+        && here_holds(conjunction, known)
+        && kind_holds(conjunction, value, known)
 }
 
 /// Whether a value is valid by a schema, by the verdicts on the schema's parts (Core, section 4.3.2).
@@ -359,19 +281,15 @@ pub(crate) fn holds(
     rule: &Rule<'_>,
     value: &Item<'_>,
     doc: &Doc,
-    item: usize,
-    inner: &[usize],
-    done: &Verdicts,
+    known: &Known<'_>,
 ) -> bool
-    requires item { item < done.now.items }
-    requires parts { PartsBelow done.now.rules (length inner.now) (asked_of rule.now) }
+    requires parts { PartsBelow (rule_count known.now) (place_count known.now) (asked_of rule.now) }
     requires ascends { AscendsInside (item_view value.now) }
-    requires children { InsideBelow done.now.items (item_view value.now) }
-    requires inner { AllByRecursion (λ q. q < done.now.rules) inner.now }
-    ensures { result ≡ step inner.now (verdicts done.now) item rule.now (doc_view doc.now) (item_view value.now) }
+    requires children { InsideBelow (value_count known.now) (item_view value.now) }
+    ensures { result ≡ step rule.now (verdict_here known.now) (verdict_inside known.now) (doc_view doc.now) (item_view value.now) }
 {
     match rule {
         Rule::Truth(verdict) => *verdict,
-        Rule::Object(conjunction) => object_holds(conjunction, value, doc, item, inner, done),
+        Rule::Object(conjunction) => object_holds(conjunction, value, doc, known),
     }
 }

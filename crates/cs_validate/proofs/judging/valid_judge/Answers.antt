@@ -3,8 +3,9 @@ use Rattle.cs_document.specs.Document.{Document}
 use Rattle.cs_flat.specs.Nodes.{nodes}
 use Rattle.cs_flat.specs.Items.{items}
 use Rattle.cs_profile.specs.SchemaDocument.{document_of}
-use Rattle.cs_validate.specs.declared.judge.Numbering.{Numbering}
-use Rattle.cs_validate.specs.Steps.{answer}
+use Rattle.cs_rules.specs.declared.judge.Numbering.{Numbering}
+use Rattle.cs_rules.specs.Answers.{answer}
+use Rattle.cs_validate.specs.Steps.{step}
 use Rattle.cs_validate.specs.Judging.{IsJudge}
 use Rattle.cs_validate.proofs.Verdicts.{judge_of}
 use Rattle.cs_validate.proofs.judging.valid_judge.Goals as goal
@@ -14,7 +15,7 @@ returns-clause-found c =
     let R = document_of c.args.schema.now in
     let numbering = c.in_ok-numbering.numbering in
     let k = c.in_ok-numbering.number in
-    let judge = judge_of R c.args.flat.now k numbering.rules.items numbering.inner.items c.in_ok-numbering.ensures in
-    let by_flat = subst (λ (x : Document). IsJudge R c.args.flat.now k (length (nodes x)) (length numbering.rules.items) (answer numbering.rules.items numbering.inner.items (nodes x) (items x))) (sym c.over.ensures.flat) judge in
+    let judge = judge_of R c.args.flat.now k numbering.rules.items numbering.children.items c.in_ok-numbering.ensures in
+    let by_flat = subst (λ (x : Document). IsJudge R c.args.flat.now k (length (nodes x)) (length numbering.rules.items) (answer step numbering.rules.items numbering.children.items (nodes x) (items x))) (sym c.over.ensures.flat) judge in
     let x = c.over.result.flat.now in
-    subst (λ (m : Numbering). IsJudge R c.args.flat.now k (length (nodes x)) (length m.rules.items) (answer m.rules.items m.inner.items (nodes x) (items x))) (sym c.over.ensures.numbering) by_flat
+    subst (λ (m : Numbering _ _). IsJudge R c.args.flat.now k (length (nodes x)) (length m.rules.items) (answer step m.rules.items m.children.items (nodes x) (items x))) (sym c.over.ensures.numbering) by_flat

@@ -38,8 +38,8 @@ invariant_of-result c =
     let root = subst (λ s. Places numbers p.rules.items rules.items p.pending.items pending (schema_view s) k) c.root.ensures c.in_ok-place.ensures in
     let numbered = first_numbered v whole ds numbers k p.rules.items rules.items p.pending.items pending same ranked placed root in
     let known = first_known v whole ds numbers k p.rules.items rules.items p.pending.items pending same ranked placed root in
-    let waited = c.in_ok-inner.ensures.placed (document_of v) (first v whole ds numbers k p.rules.items rules.items p.pending.items pending same ranked placed root) numbered known in
-    record { placed = placed_all v whole ds numbers k p.rules.items rules.items p.pending.items pending same ranked placed root c.place_waiting.new.rules.items c.place_waiting.new.pending.items c.in_ok-inner.inner.items c.in_ok-inner.ensures.all waited }
+    let waited = c.in_ok-children.ensures.placed (document_of v) (first v whole ds numbers k p.rules.items rules.items p.pending.items pending same ranked placed root) numbered known in
+    record { placed = placed_all v whole ds numbers k p.rules.items rules.items p.pending.items pending same ranked placed root c.place_waiting.new.rules.items c.place_waiting.new.pending.items c.in_ok-children.children.items c.in_ok-children.ensures.all waited }
 
 pub returns : goal.returns
 returns c =
@@ -57,6 +57,6 @@ returns c =
     let root = subst (λ s. Places numbers p.rules.items rules.items p.pending.items pending (schema_view s) k) c.root.ensures c.in_ok-place.ensures in
     let numbered = first_numbered v whole ds numbers k p.rules.items rules.items p.pending.items pending same ranked placed root in
     let known = first_known v whole ds numbers k p.rules.items rules.items p.pending.items pending same ranked placed root in
-    let waited = c.in_ok-inner.ensures.placed (document_of v) (first v whole ds numbers k p.rules.items rules.items p.pending.items pending same ranked placed root) numbered known in
+    let waited = c.in_ok-children.ensures.placed (document_of v) (first v whole ds numbers k p.rules.items rules.items p.pending.items pending same ranked placed root) numbered known in
     let last : (c.len-root.result - 1) + 1 ≡ length rules.items = omega (arith, root_last v whole ds numbers k p.rules.items rules.items p.pending.items pending same ranked placed root, rules.ok.0, c.len-root.ensures) in
-    rooted v whole ds numbers k p.rules.items rules.items p.pending.items pending same ranked placed root c.place_waiting.new.rules.items c.place_waiting.new.pending.items c.in_ok-inner.inner.items c.in_ok-inner.ensures.all waited (c.len-root.result - 1) last
+    rooted v whole ds numbers k p.rules.items rules.items p.pending.items pending same ranked placed root c.place_waiting.new.rules.items c.place_waiting.new.pending.items c.in_ok-children.children.items c.in_ok-children.ensures.all waited (c.len-root.result - 1) last

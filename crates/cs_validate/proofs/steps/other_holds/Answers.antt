@@ -1,5 +1,5 @@
-use Rattle.std.proofs.Common.{◌||◌, is_some, sym, ap, ◌∙◌, slice_index}
-use Rattle.cs_table.specs.Judged.{verdicts}
+use Rattle.std.proofs.Common.{◌||◌, is_some, sym, ap, ◌∙◌}
+use Rattle.cs_rules.specs.Knowns.{verdict_inside}
 use Rattle.cs_profile.proofs.Pushes.{looked_up}
 use Rattle.cs_validate.proofs.Found.{named_there}
 use Rattle.cs_validate.proofs.steps.other_holds.Goals as goal
@@ -9,11 +9,11 @@ returns-then-contains_key c =
     let k = c.args.key.now in
     let es = c.args.properties.now.entries in
     let e = c.contains_key.ensures ∙ ap is_some (looked_up k es) ∙ named_there k es in
-    c.if-contains_key.true ∙ sym (ap (λ b. b || verdicts c.args.done.now c.args.child (slice_index c.args.inner.now c.args.part)) (sym e ∙ c.if-contains_key.true))
+    c.if-contains_key.true ∙ sym (ap (λ b. b || verdict_inside c.args.known.now c.args.child c.args.part) (sym e ∙ c.if-contains_key.true))
 
 pub returns-else-contains_key : goal.returns-else-contains_key
 returns-else-contains_key c =
     let k = c.args.key.now in
     let es = c.args.properties.now.entries in
     let e = c.contains_key.ensures ∙ ap is_some (looked_up k es) ∙ named_there k es in
-    c.holds_inside.ensures ∙ sym (ap (λ b. b || verdicts c.args.done.now c.args.child (slice_index c.args.inner.now c.args.part)) (sym e ∙ c.if-contains_key.false))
+    c.inside.ensures ∙ sym (ap (λ b. b || verdict_inside c.args.known.now c.args.child c.args.part) (sym e ∙ c.if-contains_key.false))

@@ -1,0 +1,3 @@
+-- What the proofs of this crate show: a judge of numbered rules answers what the rules ask, by the verdicts on their parts.
+
+pub mod Judged

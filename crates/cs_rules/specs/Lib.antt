@@ -1,0 +1,6 @@
+-- What rules ask, by the verdicts on their parts.
+pub mod Steps
+pub mod Answers
+pub mod Props
+pub mod Looks
+pub mod Knowns

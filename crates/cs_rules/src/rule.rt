@@ -1,0 +1,37 @@
+// What rules ask.
+ghost use Rattle.std.specs.Prelude.{◌≡◌, ℕ, ◌≤◌};
+ghost use Rattle.cs_document.specs.Inside.{AscendsInside, InsideBelow};
+ghost use Rattle.cs_document.specs.View.{doc_view};
+ghost use Rattle.cs_flat.specs.View.{item_view};
+ghost use Rattle.cs_rules.specs.Steps.{Step, LooksAtParts};
+ghost use Rattle.cs_rules.specs.Knowns.{verdict_here, verdict_inside, value_count, rule_count, place_count};
+
+use crate::Known;
+use cs_document::Doc;
+use cs_flat::Item;
+
+/// A rule that documents are judged by. A part that it asks of the same value is named by its number, and one that it asks
+/// of a value inside by its place in a list of such rules.
+pub trait Asks: Drop {
+    /// What the rule asks, by the verdicts on its parts.
+    ghost step: { Self → Step };
+
+    /// Its parts asked of the same value are below the first number, and the places of the others below the second.
+    ghost below: { Self → ℕ → ℕ → Type 0 };
+
+    /// The verdict on a value.
+    fn holds(&self, value: &Item<'_>, doc: &Doc, known: &Known<'_>) -> bool
+        requires parts { below self.now (rule_count known.now) (place_count known.now) }
+        requires ascends { AscendsInside (item_view value.now) }
+        requires children { InsideBelow (value_count known.now) (item_view value.now) }
+        ensures { result ≡ step self.now (verdict_here known.now) (verdict_inside known.now) (doc_view doc.now) (item_view value.now) };
+
+    /// Law: the verdicts on its parts alone are looked at.
+    ghost looks_at_parts: { (s : Self) → LooksAtParts (below s) (step s) };
+
+    /// Law: what is below is below more.
+    ghost below_more: { (s : Self) (r m n k : ℕ) → r ≤ n → m ≤ k → below s r m → below s n k };
+
+    /// Law: that parts are below is a proposition.
+    ghost below_prop: { (s : Self) (r m : ℕ) → IsProp (below s r m) };
+}
