@@ -11,7 +11,6 @@ pub mod Labels
 -- one judgement, and the parts named by numbers
 pub mod Found
 pub mod Satisfied
-pub mod Judged
 -- rules get their numbers: expressions, what waits, definitions by rank, the whole
 pub mod Views
 pub mod Places

@@ -16,6 +16,7 @@ use Rattle.cs_instance.specs.Constraint.{Rest, nothing, anything, each, Constrai
 use Rattle.cs_instance.specs.Instance.{Rule, definition, node, constraint_of}
 use Rattle.cs_instance.specs.Numbering.{map_declaration, map_rest, map_constraint, PartsBelow, RestBelow, rule_at}
 use Rattle.cs_instance.specs.declared.rules.Rule.{Rule as Coded}
+use Rattle.cs_instance.specs.Props.{parts_weaker}
 use Rattle.cs_instance.specs.Steps.{asked_of}
 use Rattle.cs_instance.specs.Placing.{waiting, expression_at, AreNumbered, AreAt, placed_by, left_by, IsKnown, Places}
 
@@ -63,29 +64,6 @@ module _ {D N : Type 0} (n m : ℕ) (f f' : ℕ → D) (g g' : ℕ → N) (h : (
   names_same (another_text s) b = refl
   names_same not_the_null b = refl
 
-rest_weaker : (m m' : ℕ) → m ≤ m' → (r : Rest ℕ) → RestBelow m r → RestBelow m' r
-rest_weaker m m' l nothing b = tt
-rest_weaker m m' l anything b = tt
-rest_weaker m m' l (each p) b = lt_of_lt_of_le b l
-
-pub parts_weaker : (n m m' : ℕ) → m ≤ m' → (a : Constraint ℕ ℕ) → PartsBelow n m a → PartsBelow n m' a
-parts_weaker n m m' l (all_of ds) b = b
-parts_weaker n m m' l (any_of ds) b = b
-parts_weaker n m m' l (object_of ds o) b = each_map (λ (d : Declaration ℕ). d.value < m) (λ (d : Declaration ℕ). d.value < m') (λ d c. lt_of_lt_of_le c l) ds b
-parts_weaker n m m' l (list_of es rest) b = (each_map (λ p. p < m) (λ p. p < m') (λ p c. lt_of_lt_of_le c l) es b.0, rest_weaker m m' l rest b.1)
-parts_weaker n m m' l always b = tt
-parts_weaker n m m' l never b = tt
-parts_weaker n m m' l the_null b = tt
-parts_weaker n m m' l (the_boolean t) b = tt
-parts_weaker n m m' l (the_integer z) b = tt
-parts_weaker n m m' l (the_text s) b = tt
-parts_weaker n m m' l (of_kind q) b = tt
-parts_weaker n m m' l (in_range u v) b = tt
-parts_weaker n m m' l (bounded r q) b = tt
-parts_weaker n m m' l (another_integer z) b = tt
-parts_weaker n m m' l (another_text s) b = tt
-parts_weaker n m m' l not_the_null b = tt
-
 pub at_front : (xs ys : List Rule) (d : ℕ) → d < length xs → rule_at xs d ≡ rule_at (xs ++ ys) d
 at_front xs ys d l = sym (get_or_append_left xs ys (node (cue.atom cue.top)) d l)
 
@@ -120,7 +98,7 @@ module _ (E : Environment) (placed : List Rule) (inner : List Expression) (rules
       let longer : length inner ≤ length (inner ++ more) = omega (arith, length-append inner more) in record {
         sizes = n.sizes;
         asks = λ r x e. n.asks r x e ∙ names_same r (length inner) (rule_at placed) (rule_at placed) (expression_at inner) (expression_at (inner ++ more)) (λ d b. refl) (λ p b. expression_front inner more p b) (asked_of x) (n.parts r x e);
-        parts = λ r x e. parts_weaker r (length inner) (length (inner ++ more)) longer (asked_of x) (n.parts r x e);
+        parts = λ r x e. parts_weaker r (length inner) r (length (inner ++ more)) (omega arith) longer (asked_of x) (n.parts r x e);
       }
 
 -- the rule of an expression that may be pushed now: what it asks of the same document has its rules, and what it asks of

@@ -13,6 +13,8 @@ use Rattle.cs_table.specs.Limit.{most_pairs}
 use Rattle.cs_table.specs.Refused as limits
 use Rattle.cs_table.specs.declared.fault.TableFault.{TableFault}
 use Rattle.cs_table.specs.declared.fault.TableFault.TheVariants as table
+use Rattle.cs_rules.specs.Answers.{answer}
+use Rattle.cs_rules.proofs.Judged.{answer_is, coded_found}
 use Rattle.cs_package.specs.Environment.{Environment, Names, written}
 use Rattle.cs_instance.specs.Constraint.{always, is_satisfied}
 use Rattle.cs_instance.specs.Instance.{Rule, node, constraint_of, IsInstance}
@@ -22,13 +24,12 @@ use Rattle.cs_instance.specs.Judging.{IsJudge, IsTable}
 use Rattle.cs_instance.specs.Refusal.{IsRefusal}
 use Rattle.cs_instance.specs.Faults.{fault_of}
 use Rattle.cs_instance.specs.declared.rules.Rule.{Rule as Coded}
-use Rattle.cs_instance.specs.Steps.{asked_of, numbered, answer}
+use Rattle.cs_instance.specs.Steps.{asked_of, numbered, step}
 use Rattle.cs_instance.specs.Rooted.{IsRooted}
-use Rattle.cs_instance.proofs.Judged.{answer_is}
 use Rattle.cs_instance.proofs.Satisfied.{named, at_documents}
-use Rattle.cs_instance.proofs.Wholes.{coded_found, rules_count}
+use Rattle.cs_instance.proofs.Wholes.{rules_count}
 
-pub judge_of : (E : Environment) (n : List ℕ) (d : Document) (root : ℕ) (rules : List Coded) (inner : List ℕ) → IsRooted E n rules inner root → IsJudge E n d root (length (nodes d)) (length rules) (answer rules inner (items d))
+pub judge_of : (E : Environment) (n : List ℕ) (d : Document) (root : ℕ) (rules : List Coded) (inner : List ℕ) → IsRooted E n rules inner root → IsJudge E n d root (length (nodes d)) (length rules) (answer step rules inner (nodes d) (items d))
 judge_of E n d root rules inner h = record {
   all = h.all;
   are = h.are;
@@ -38,8 +39,8 @@ judge_of E n d root rules inner h = record {
   rule_count = sym (length-map rules (numbered inner)) ∙ h.numbering.count;
   found = h.root;
   answers = λ f i r c x e k.
-      let y = coded_found rules inner r c e in
-      answer_is rules inner (items d) i r f y.0 x y.1 k ∙ sym (named (λ q. q) (slice_index inner) (f i) f (asked_of y.0) x) ∙ ap (λ a. is_satisfied (f i) f a x) y.2;
+      let y = coded_found (numbered inner) rules r c e in
+      answer_is step rules inner (nodes d) (items d) i r f y.0 x y.1 k ∙ sym (named (λ q. q) (slice_index inner) (f i) f (asked_of y.0) x) ∙ ap (λ a. is_satisfied (f i) f a x) y.2;
 }
 
 module _ (E : Environment) (n : List ℕ) (d : Document) (root ic rc : ℕ) (judge : Judgement) (j : IsJudge E n d root ic rc judge) (are : AreItems (nodes d) (items d)) where

@@ -25,7 +25,9 @@ use Rattle.cs_instance.specs.Instance.{Rule, definition, node}
 use Rattle.cs_instance.specs.Numbering.{map_declaration, map_rest, map_constraint, PartsBelow, RestBelow, rule_at, IsNumbering}
 use Rattle.cs_instance.specs.Rules.{rules_of, rules_of_one}
 use Rattle.cs_instance.specs.declared.rules.Rule.{Rule as Coded}
-use Rattle.cs_instance.specs.Steps.{asked_of, numbered, ArePlaced}
+use Rattle.cs_rules.specs.Steps.{ArePlaced}
+use Rattle.cs_rules.proofs.Judged.{coded_found}
+use Rattle.cs_instance.specs.Steps.{asked_of, numbered}
 use Rattle.cs_instance.specs.Placing.{waiting, expression_at, AreNumbered, AreAt, IsKnown, PlacesWaiting, placed_with, left_with, bodies_of, rules_in}
 use Rattle.cs_instance.specs.Ranked.{ArePlacedBy, names_in}
 use Rattle.cs_instance.specs.Rooted.{IsRooted}
@@ -183,18 +185,11 @@ rule_of_place rules (w ∷ W) (x ∷ inner) e (suc p) l = rule_of_place rules W 
     tail [] = []
     tail (y ∷ ys) = ys
 
-coded_at : (rules : List Coded) (inner : List ℕ) (r : ℕ) (c : Constraint ℕ ℕ) (o : Option Coded) → slice_get rules r ≡ o → slice_get (map (numbered inner) rules) r ≡ Some c → (x : Coded) × (slice_get rules r ≡ Some x) × (numbered inner x ≡ c)
-coded_at rules inner r c None e h = let k : option_map (numbered inner) None ≡ Some c = sym (slice_get-map (numbered inner) rules r ∙ ap (option_map (numbered inner)) e) ∙ h in cc
-coded_at rules inner r c (Some x) e h = (x, e, (let k : Some (numbered inner x) ≡ Some c = sym (slice_get-map (numbered inner) rules r ∙ ap (option_map (numbered inner)) e) ∙ h in cc))
-
-pub coded_found : (rules : List Coded) (inner : List ℕ) (r : ℕ) (c : Constraint ℕ ℕ) → slice_get (map (numbered inner) rules) r ≡ Some c → (x : Coded) × (slice_get rules r ≡ Some x) × (numbered inner x ≡ c)
-coded_found rules inner r c h = coded_at rules inner r c (slice_get rules r) refl h
-
 module _ (E : Environment) (all : List Rule) (W : List Expression) (rules : List Coded) (inner : List ℕ) (n : AreNumbered E all W rules) (at : AreAt all inner W) where
   long : length inner ≡ length W
   long = sym (length-map inner (rule_at all)) ∙ ap length at.0 ∙ length-map W node
 
-  pub are_placed : ArePlaced rules inner
+  pub are_placed : ArePlaced (λ x r m. PartsBelow r m (asked_of x)) rules inner
   are_placed = record {
     parts = λ r x e. subst (λ k. PartsBelow r k (asked_of x)) (sym long) (n.parts r x e);
     inside = subst (λ k. Each (λ q. q < k) inner) (sym n.sizes) at.1;
@@ -204,13 +199,13 @@ module _ (E : Environment) (all : List Rule) (W : List Expression) (rules : List
   is_numbering = record {
     count = length-map rules (numbered inner) ∙ n.sizes;
     asks = λ r c h.
-        let x = coded_found rules inner r c h in
+        let x = coded_found (numbered inner) rules r c h in
         let a = asked_of x.0 in
         ap (map_constraint (λ p. p) node) (n.asks r x.0 x.1) ∙ twice (λ p. p) node (rule_at all) (expression_at W) a
         ∙ names_same r (length W) (rule_at all) (rule_at all) (λ p. node (expression_at W p)) (λ p. rule_at all (slice_index inner p)) (λ d l. refl) (λ p l. sym (rule_of_place all W inner at.0 p l)) a (n.parts r x.0 x.1)
         ∙ sym (twice (rule_at all) (rule_at all) (λ k. k) (slice_index inner) a) ∙ ap (map_constraint (rule_at all) (rule_at all)) x.2;
     below = λ r c h.
-        let x = coded_found rules inner r c h in
+        let x = coded_found (numbered inner) rules r c h in
         subst (PartsBelow r (length all)) x.2
         (numbers_below (slice_index inner) (length W) (length all) (λ p l. each_lower (λ q. q < length all) inner at.1 p (subst (λ k. p < k) (sym long) l)) r (asked_of x.0) (n.parts r x.0 x.1));
   }
@@ -247,8 +242,8 @@ module _ (E : Environment) (i : ℕ) (names : List (List ℕ)) (ns : List (List 
   at_all : AreAt (placed ++ w.more) inner W
   at_all = subst (AreAt (placed ++ w.more) inner) (all_taken W (length inner) wide) w.inside
 
-  pub placed_all : ArePlaced r1 inner
-  placed_all = are_placed E (placed ++ w.more) W r1 inner w.numbered at_all
+  pub placed_all : ∥ ArePlaced (λ x r m. PartsBelow r m (asked_of x)) r1 inner ∥₁
+  placed_all = ∣ are_placed E (placed ++ w.more) W r1 inner w.numbered at_all ∣₁
 
   counted : IsPermutation (rules_of E names) (placed ++ w.more)
   counted =

@@ -1,4 +1,4 @@
--- One step looks at the verdicts on the parts alone, so a judge of numbered rules looks at earlier pairs alone.
+-- A rule looks at the verdicts on its parts alone.
 use Rattle.std.specs.Prelude.{◌≡◌, ℕ, zero, suc, ◌<◌, Bool, true, false, ◌&&◌, ◌||◌, List, [], ◌∷◌, Option, Some, None, length, slice_get, slice_index, if◌then◌else◌}
 use Rattle.std.proofs.Common.{refl, ap, ap₂, inl, inr, lt_trans, zero-le}
 use Rattle.std.proofs.lemmas.Option.{slice_get_within}
@@ -8,24 +8,10 @@ use Rattle.std.specs.Str.{bytes_eq}
 use Rattle.cs_document.specs.Document.{Entry, under}
 use Rattle.cs_document.specs.Opened.{Opened, a_null, a_boolean, an_integer, a_text, a_list, an_object}
 use Rattle.cs_document.specs.Inside.{InsideBelow}
-use Rattle.cs_table.specs.Judged.{AllVerdicts, AgreeBefore}
+use Rattle.cs_document.proofs.Each.{each_map, all_same, any_same}
 use Rattle.cs_package.specs.Expression.{Declaration, is_every}
 use Rattle.cs_instance.specs.Constraint.{Rest, nothing, anything, each, Constraint, always, never, the_null, the_boolean, the_integer, the_text, of_kind, in_range, bounded, another_integer, another_text, not_the_null, all_of, any_of, object_of, list_of, is_satisfied, allows, value_holds, declaration_holds, rest_holds, elements_hold}
 use Rattle.cs_instance.specs.Numbering.{PartsBelow, RestBelow}
-use Rattle.cs_instance.specs.declared.rules.Rule.{Rule}
-use Rattle.cs_instance.specs.Steps.{asked_of, step_at, answer, ArePlaced, AreLower}
-
-each_map : {X : Type 0} (P Q : X → Type 0) → ((x : X) → P x → Q x) → (xs : List X) → Each P xs → Each Q xs
-each_map P Q f [] h = tt
-each_map P Q f (x ∷ xs) h = (f x h.0, each_map P Q f xs h.1)
-
-all_same : {X : Type 0} (f g : X → Bool) (xs : List X) → Each (λ x. f x ≡ g x) xs → list_all f xs ≡ list_all g xs
-all_same f g [] h = refl
-all_same f g (x ∷ xs) h = ap₂ ◌&&◌ h.0 (all_same f g xs h.1)
-
-any_same : {X : Type 0} (f g : X → Bool) (xs : List X) → Each (λ x. f x ≡ g x) xs → list_any f xs ≡ list_any g xs
-any_same f g [] h = refl
-any_same f g (x ∷ xs) h = ap₂ ◌||◌ h.0 (any_same f g xs h.1)
 
 -- two ways to answer that agree below i, r and m
 module _ (i r m : ℕ) (here here' : ℕ → Bool) (inside inside' : ℕ → ℕ → Bool) (h : (d : ℕ) → d < r → here d ≡ here' d) (k : (y p : ℕ) → y < i → p < m → inside y p ≡ inside' y p) where
@@ -88,20 +74,3 @@ module _ (i r m : ℕ) (here here' : ℕ → Bool) (inside inside' : ℕ → ℕ
   numbers_same (list_of es rest) (an_integer n) b w = refl
   numbers_same (list_of es rest) (a_text s) b w = refl
   numbers_same (list_of es rest) (an_object ms) b w = refl
-
--- what holds of each element and of zero
-each_at : (P : ℕ → Type 0) (xs : List ℕ) → Each P xs → P 0 → (p : ℕ) → P (slice_index xs p)
-each_at P [] h z p = z
-each_at P (x ∷ xs) h z zero = h.0
-each_at P (x ∷ xs) h z (suc p) = each_at P xs h.1 z p
-
-pub answer_looks_back : (rules : List Rule) (inner : List ℕ) (items : List (Opened ℕ)) → ArePlaced rules inner → AreLower items → (i r : ℕ) (f g : AllVerdicts) → AgreeBefore (length rules) i r f g → answer rules inner items i r f ≡ answer rules inner items i r g
-answer_looks_back rules inner items a b i r f g h = go (slice_get rules r) (slice_get items i) refl refl
-  where
-    go : (o : Option Rule) (x : Option (Opened ℕ)) → slice_get rules r ≡ o → slice_get items i ≡ x → step_at inner f i o x ≡ step_at inner g i o x
-    go None x e k = refl
-    go (Some rule) None e k = refl
-    go (Some rule) (Some it) e k =
-        let l = slice_get_within rules r rule e in
-        numbers_same i r (length inner) (f i) (g i) (λ y p. f y (slice_index inner p)) (λ y p. g y (slice_index inner p)) (λ d m. h i d (lt_trans m l) (inr (refl, m)))
-        (λ y p m n. h y (slice_index inner p) (each_at (λ q. q < length rules) inner a.inside (lt_of_le_of_lt zero-le l) p) (inl m)) (asked_of rule) it (a.parts r rule e) (b i it k)

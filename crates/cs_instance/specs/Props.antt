@@ -1,34 +1,18 @@
--- Facts about numbers of parts are propositions.
-use Rattle.std.proofs.Common.{ℕ, ◌<◌, List, [], ◌∷◌}
+-- Facts about the numbers of parts.
+use Rattle.std.proofs.Common.{ℕ, ◌<◌, ◌≤◌, lt_of_lt_of_le}
 use Rattle.std.specs.List.{AllByRecursion as Each}
 use mathlib.Core.HLevel.{×_prop, Unit-prop}
 use native.Mathlib.Bridge.{le_prop}
-use Rattle.cs_document.specs.Document.{Entry}
-use Rattle.cs_document.specs.Opened.{Opened, a_null, a_boolean, an_integer, a_text, a_list, an_object}
-use Rattle.cs_document.specs.Inside.{InsideBelow}
+use Rattle.cs_document.proofs.Each.{each_map}
+use Rattle.cs_rules.specs.Props.{each_prop, below_prop}
 use Rattle.cs_package.specs.Expression.{Declaration}
 use Rattle.cs_instance.specs.Constraint.{Rest, nothing, anything, each, Constraint, all_of, any_of, object_of, list_of, always, never, the_null, the_boolean, the_integer, the_text, of_kind, in_range, bounded, another_integer, another_text, not_the_null}
 use Rattle.cs_instance.specs.Numbering.{PartsBelow, RestBelow}
-
-each_prop : {X : Type 0} (P : X → Type 0) → ((x : X) → IsProp (P x)) → (xs : List X) → IsProp (Each P xs)
-each_prop P h [] = Unit-prop
-each_prop P h (x ∷ xs) = ×_prop (h x) (each_prop P h xs)
-
-pub inside_prop : (n : ℕ) (x : Opened ℕ) → IsProp (InsideBelow n x)
-inside_prop n a_null = Unit-prop
-inside_prop n (a_boolean b) = Unit-prop
-inside_prop n (an_integer z) = Unit-prop
-inside_prop n (a_text s) = Unit-prop
-inside_prop n (a_list ys) = each_prop (λ y. y < n) (λ y. le_prop) ys
-inside_prop n (an_object ms) = each_prop (λ (m : Entry ℕ). m.1 < n) (λ m. le_prop) ms
 
 rest_prop : (m : ℕ) (r : Rest ℕ) → IsProp (RestBelow m r)
 rest_prop m nothing = Unit-prop
 rest_prop m anything = Unit-prop
 rest_prop m (each p) = le_prop
-
-pub below_prop : (n : ℕ) (ds : List ℕ) → IsProp (Each (λ d. d < n) ds)
-below_prop n = each_prop (λ d. d < n) (λ d. le_prop)
 
 pub parts_prop : (n m : ℕ) (a : Constraint ℕ ℕ) → IsProp (PartsBelow n m a)
 parts_prop n m (all_of ds) = below_prop n ds
@@ -47,3 +31,27 @@ parts_prop n m (bounded r z) = Unit-prop
 parts_prop n m (another_integer z) = Unit-prop
 parts_prop n m (another_text s) = Unit-prop
 parts_prop n m not_the_null = Unit-prop
+
+-- parts that are below two numbers are below greater ones
+rest_weaker : (m m' : ℕ) → m ≤ m' → (r : Rest ℕ) → RestBelow m r → RestBelow m' r
+rest_weaker m m' l nothing b = tt
+rest_weaker m m' l anything b = tt
+rest_weaker m m' l (each p) b = lt_of_lt_of_le b l
+
+pub parts_weaker : (n m n' m' : ℕ) → n ≤ n' → m ≤ m' → (a : Constraint ℕ ℕ) → PartsBelow n m a → PartsBelow n' m' a
+parts_weaker n m n' m' h l (all_of ds) b = each_map (λ r. r < n) (λ r. r < n') (λ r c. lt_of_lt_of_le c h) ds b
+parts_weaker n m n' m' h l (any_of ds) b = each_map (λ r. r < n) (λ r. r < n') (λ r c. lt_of_lt_of_le c h) ds b
+parts_weaker n m n' m' h l (object_of ds o) b = each_map (λ (d : Declaration ℕ). d.value < m) (λ (d : Declaration ℕ). d.value < m') (λ d c. lt_of_lt_of_le c l) ds b
+parts_weaker n m n' m' h l (list_of es rest) b = (each_map (λ p. p < m) (λ p. p < m') (λ p c. lt_of_lt_of_le c l) es b.0, rest_weaker m m' l rest b.1)
+parts_weaker n m n' m' h l always b = tt
+parts_weaker n m n' m' h l never b = tt
+parts_weaker n m n' m' h l the_null b = tt
+parts_weaker n m n' m' h l (the_boolean t) b = tt
+parts_weaker n m n' m' h l (the_integer z) b = tt
+parts_weaker n m n' m' h l (the_text s) b = tt
+parts_weaker n m n' m' h l (of_kind q) b = tt
+parts_weaker n m n' m' h l (in_range u v) b = tt
+parts_weaker n m n' m' h l (bounded r q) b = tt
+parts_weaker n m n' m' h l (another_integer z) b = tt
+parts_weaker n m n' m' h l (another_text s) b = tt
+parts_weaker n m n' m' h l not_the_null b = tt

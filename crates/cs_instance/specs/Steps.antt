@@ -1,13 +1,10 @@
--- What a judge answers by numbered rules.
+-- What a rule of the code asks, by the numbers of its parts.
 use Rattle.std.specs.Prelude.{◌≡◌, ℕ, ◌<◌, Bool, false, List, Option, Some, None, map, length, slice_get, slice_index}
-use Rattle.std.specs.List.{AllByRecursion}
-use Rattle.cs_document.specs.Opened.{Opened}
-use Rattle.cs_document.specs.Inside.{InsideBelow}
-use Rattle.cs_table.specs.Judged.{AllVerdicts}
+use Rattle.cs_rules.specs.Steps.{Step}
 use Rattle.cs_package.specs.Expression.{Declaration}
 use Rattle.cs_package.specs.View.{kind_of, relation_of, mark_of}
 use Rattle.cs_instance.specs.Constraint.{Rest, nothing, anything, each, Constraint, always, never, the_null, the_boolean, the_integer, the_text, of_kind, in_range, bounded, another_integer, another_text, not_the_null, all_of, any_of, object_of, list_of, is_satisfied}
-use Rattle.cs_instance.specs.Numbering.{map_constraint, PartsBelow}
+use Rattle.cs_instance.specs.Numbering.{map_constraint}
 use Rattle.cs_instance.specs.declared.rules.Rule.{Rule}
 use Rattle.cs_instance.specs.declared.rules.Rule.TheVariants as rule
 use Rattle.cs_instance.specs.declared.rules.Field.{Field}
@@ -45,24 +42,6 @@ asked_of (rule.List v end) = list_of v.items (ending_of end)
 abbrev pub numbered : List ℕ → Rule → Constraint ℕ ℕ
 numbered inner r = map_constraint (λ k. k) (slice_index inner) (asked_of r)
 
--- one step over a table
-abbrev pub step : List ℕ → AllVerdicts → ℕ → Rule → Opened ℕ → Bool
-step inner f i r x = is_satisfied (f i) (λ y p. f y (slice_index inner p)) (asked_of r) x
-
-abbrev pub step_at : List ℕ → AllVerdicts → ℕ → Option Rule → Option (Opened ℕ) → Bool
-step_at inner f i None x = false
-step_at inner f i (Some r) None = false
-step_at inner f i (Some r) (Some x) = step inner f i r x
-
--- what the judge of these rules and items answers
-abbrev pub answer : List Rule → List ℕ → List (Opened ℕ) → ℕ → ℕ → AllVerdicts → Bool
-answer rules inner items i r f = step_at inner f i (slice_get rules r) (slice_get items i)
-
--- each rule names earlier rules and places of `inner`, and these name rules
-pub record ArePlaced (rules : List Rule) (inner : List ℕ) : Type 0 where
-  pub parts : (r : ℕ) (x : Rule) → slice_get rules r ≡ Some x → PartsBelow r (length inner) (asked_of x)
-  pub inside : AllByRecursion (λ q. q < length rules) inner
-
--- each item names earlier items
-abbrev pub AreLower : List (Opened ℕ) → Type 0
-AreLower items = (i : ℕ) (x : Opened ℕ) → slice_get items i ≡ Some x → InsideBelow i x
+-- the verdict on a value, by those on the parts
+abbrev pub step : Rule → Step
+step r here inside d x = is_satisfied here inside (asked_of r) x

@@ -13,6 +13,7 @@ use crate::{InstanceFault, InstanceJudge};
 use cs_document::Doc;
 use cs_flat::{Flat, flatten};
 use cs_guard::Guarded;
+use cs_rules::RuleJudge;
 use cs_table::{Judge, Verdicts, fill};
 use std::alloc::Global;
 
@@ -36,7 +37,7 @@ pub fn instance_judge<'a>(
         return Err(InstanceFault::UnknownRoot);
     };
     let (numbering, number) = numbering_of(alloc, package, i)?;
-    Ok((InstanceJudge::over(numbering, flat), number))
+    Ok((RuleJudge::over(numbering, flat), number))
 }
 
 /// Whether each value of a document is an instance of each definition that the root reaches and of each expression in

@@ -5,8 +5,9 @@ ghost use Rattle.cs_instance.specs.Rooted.{IsRooted};
 
 use crate::definitions::{Placement, by_rank, place_definitions};
 use crate::inner::place_waiting;
-use crate::judge::Numbering;
+use crate::rules::Rule;
 use cs_guard::{Guarded, reachable};
+use cs_rules::Numbering;
 use std::alloc::{AllocError, Global};
 
 /// The rules of all that a definition reaches, each after those that it asks of the same document, and its own number.
@@ -14,9 +15,9 @@ pub(crate) fn numbering_of<'a>(
     alloc: Global,
     package: &'a Guarded,
     root: usize,
-) -> Result<(Numbering<'a>, usize), AllocError>
+) -> Result<(Numbering<Rule<'a>>, usize), AllocError>
     requires { root < length «package».now }
-    ensures { IfOk result (λ t. IsRooted «package».now (name_of «package».now root) t.0.rules.items t.0.inner.items t.1) }
+    ensures { IfOk result (λ t. IsRooted «package».now (name_of «package».now root) t.0.rules.items t.0.children.items t.1) }
 {
     let order = reachable(alloc, package.package(), root)?;
     let ranked = by_rank(alloc, package, &order)?;
@@ -25,7 +26,7 @@ pub(crate) fn numbering_of<'a>(
         mut rules,
         mut pending,
     } = place_definitions(alloc, package, &ranked)?;
-    let inner = place_waiting(alloc, &numbers, &mut rules, &mut pending)?;
+    let children = place_waiting(alloc, &numbers, &mut rules, &mut pending)?;
     let number = numbers[root];
-    Ok((Numbering { rules, inner }, number))
+    Ok((Numbering { rules, children }, number))
 }

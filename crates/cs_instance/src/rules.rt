@@ -4,7 +4,7 @@ use cs_package::{FieldMark, Kind, Relation};
 /// What a definition or an expression asks of a document. A rule asked of the same document is named by its number, and
 /// one asked of a document inside by its place in a list of such rules.
 #[derive(Drop)]
-pub(crate) enum Rule<'a> {
+pub enum Rule<'a> {
     Always,
     Never,
     Null,
@@ -37,7 +37,7 @@ pub(crate) enum Rule<'a> {
 
 /// A declaration of a struct literal, with the place of its value's rule.
 #[derive(Drop)]
-pub(crate) struct Field<'a> {
+pub struct Field<'a> {
     pub(crate) label: &'a str,
     pub(crate) mark: FieldMark,
     pub(crate) value: usize,
@@ -45,7 +45,7 @@ pub(crate) struct Field<'a> {
 
 /// What follows the fixed elements of a list: nothing, anything, or instances of the rule at a place.
 #[derive(Drop)]
-pub(crate) enum Ending {
+pub enum Ending {
     Closed,
     Any,
     Each(usize),

@@ -1,21 +1,21 @@
 // What a rule gives for a value, where the verdicts on the rule's parts are known.
-ghost use Rattle.std.specs.Prelude.{◌≡◌, ◌<◌, ℕ, List, Bool, map, length, slice_index};
+ghost use Rattle.std.specs.Prelude.{◌≡◌, ◌<◌, ℕ, List, Bool, map, length};
 ghost use Rattle.std.specs.List.{list_all, list_any, AllByRecursion};
 ghost use Rattle.cs_document.specs.Document.{Entry, under};
 ghost use Rattle.cs_document.specs.Inside.{InsideBelow};
 ghost use Rattle.cs_flat.specs.View.{item_view, entry_of};
-ghost use Rattle.cs_table.specs.Judged.{verdicts};
+ghost use Rattle.cs_rules.specs.Knowns.{verdict_here, verdict_inside, value_count, rule_count, place_count};
 ghost use Rattle.cs_package.specs.Expression.{Declaration, is_every};
 ghost use Rattle.cs_package.specs.View.{kind_of, relation_of, mark_of};
 ghost use Rattle.cs_instance.specs.Constraint as constraint;
 ghost use Rattle.cs_instance.specs.Numbering.{PartsBelow, RestBelow};
-ghost use Rattle.cs_instance.specs.Steps.{step, asked_of, field_of, ending_of};
+ghost use Rattle.cs_instance.specs.Steps.{asked_of, field_of, ending_of};
 
 use crate::atoms::{is_another_integer, is_bounded, is_in_range, is_integer, is_of_kind};
 use crate::rules::{Ending, Field, Rule};
 use cs_flat::Item;
 use cs_package::FieldMark;
-use cs_table::Verdicts;
+use cs_rules::Known;
 
 fn may_be_absent(mark: FieldMark) -> bool
     ensures { result ≡ constraint.may_be_absent (mark_of mark) }
@@ -33,32 +33,6 @@ fn is_for_every_key(mark: FieldMark) -> bool
         FieldMark::Every { .. } => true,
         FieldMark::Regular | FieldMark::Optional | FieldMark::Required => false,
     }
-}
-
-fn all_hold(parts: &[usize], item: usize, done: &Verdicts) -> bool
-    requires item { item < done.now.items }
-    requires parts { AllByRecursion (λ q. q < done.now.rules) parts.now }
-    ensures { result ≡ list_all (verdicts done.now item) parts.now }
-{
-    for part in parts {
-        if !done.get(item, *part) {
-            return false;
-        }
-    }
-    true
-}
-
-fn any_holds(parts: &[usize], item: usize, done: &Verdicts) -> bool
-    requires item { item < done.now.items }
-    requires parts { AllByRecursion (λ q. q < done.now.rules) parts.now }
-    ensures { result ≡ list_any (verdicts done.now item) parts.now }
-{
-    for part in parts {
-        if done.get(item, *part) {
-            return true;
-        }
-    }
-    false
 }
 
 /// What is under a label.
@@ -96,49 +70,34 @@ fn are_allowed(fields: &[Field<'_>], members: &[(&str, usize)]) -> bool
     true
 }
 
-/// Whether a value inside is an instance of the rule at a place of `inner`.
-#[inline]
-fn holds_inside(child: usize, part: usize, inner: &[usize], done: &Verdicts) -> bool
-    requires child { child < done.now.items }
-    requires part { part < length inner.now }
-    requires inner { AllByRecursion (λ q. q < done.now.rules) inner.now }
-    ensures { result ≡ verdicts done.now child (slice_index inner.now part) }
-{
-    done.get(child, inner[part])
-}
-
 /// Whether what is under a declaration's label is as declared.
 fn value_holds(
     field: &Field<'_>,
     members: &[(&str, usize)],
-    inner: &[usize],
-    done: &Verdicts,
+    known: &Known<'_>,
 ) -> bool
-    requires members { AllByRecursion (λ (m : Entry ℕ). m.1 < done.now.items) (map entry_of members.now) }
-    requires field { (field_of field.now).value < length inner.now }
-    requires inner { AllByRecursion (λ q. q < done.now.rules) inner.now }
-    ensures { result ≡ constraint.value_holds (λ y p. verdicts done.now y (slice_index inner.now p)) (field_of field.now) (under (field_of field.now).label (map entry_of members.now)) }
+    requires members { AllByRecursion (λ (m : Entry ℕ). m.1 < value_count known.now) (map entry_of members.now) }
+    requires field { (field_of field.now).value < place_count known.now }
+    ensures { result ≡ constraint.value_holds (verdict_inside known.now) (field_of field.now) (under (field_of field.now).label (map entry_of members.now)) }
 {
     match find(members, field.label) {
         None => may_be_absent(field.mark),
-        Some(child) => holds_inside(child, field.value, inner, done),
+        Some(child) => known.inside(child, field.value),
     }
 }
 
-/// Whether the value under every key is an instance of the rule at a place of `inner`.
+/// Whether the value under every key is an instance of the rule at a place.
 fn every_value_holds(
     members: &[(&str, usize)],
     part: usize,
-    inner: &[usize],
-    done: &Verdicts,
+    known: &Known<'_>,
 ) -> bool
-    requires members { AllByRecursion (λ (m : Entry ℕ). m.1 < done.now.items) (map entry_of members.now) }
-    requires part { part < length inner.now }
-    requires inner { AllByRecursion (λ q. q < done.now.rules) inner.now }
-    ensures { result ≡ list_all (λ (m : Entry ℕ). verdicts done.now m.1 (slice_index inner.now part)) (map entry_of members.now) }
+    requires members { AllByRecursion (λ (m : Entry ℕ). m.1 < value_count known.now) (map entry_of members.now) }
+    requires part { part < place_count known.now }
+    ensures { result ≡ list_all (λ (m : Entry ℕ). verdict_inside known.now m.1 part) (map entry_of members.now) }
 {
     for (_key, value) in members {
-        if !holds_inside(*value, part, inner, done) {
+        if !known.inside(*value, part) {
             return false;
         }
     }
@@ -149,34 +108,30 @@ fn every_value_holds(
 fn declaration_holds(
     field: &Field<'_>,
     members: &[(&str, usize)],
-    inner: &[usize],
-    done: &Verdicts,
+    known: &Known<'_>,
 ) -> bool
-    requires members { AllByRecursion (λ (m : Entry ℕ). m.1 < done.now.items) (map entry_of members.now) }
-    requires field { (field_of field.now).value < length inner.now }
-    requires inner { AllByRecursion (λ q. q < done.now.rules) inner.now }
-    ensures { result ≡ constraint.declaration_holds (λ y p. verdicts done.now y (slice_index inner.now p)) (field_of field.now) (map entry_of members.now) }
+    requires members { AllByRecursion (λ (m : Entry ℕ). m.1 < value_count known.now) (map entry_of members.now) }
+    requires field { (field_of field.now).value < place_count known.now }
+    ensures { result ≡ constraint.declaration_holds (verdict_inside known.now) (field_of field.now) (map entry_of members.now) }
 {
     if is_for_every_key(field.mark) {
-        every_value_holds(members, field.value, inner, done)
+        every_value_holds(members, field.value, known)
     } else {
-        value_holds(field, members, inner, done)
+        value_holds(field, members, known)
     }
 }
 
 fn declarations_hold(
     fields: &[Field<'_>],
     members: &[(&str, usize)],
-    inner: &[usize],
-    done: &Verdicts,
+    known: &Known<'_>,
 ) -> bool
-    requires members { AllByRecursion (λ (m : Entry ℕ). m.1 < done.now.items) (map entry_of members.now) }
-    requires fields { AllByRecursion (λ (d : Declaration ℕ). d.value < length inner.now) (map field_of fields.now) }
-    requires inner { AllByRecursion (λ q. q < done.now.rules) inner.now }
-    ensures { result ≡ list_all (λ d. constraint.declaration_holds (λ y p. verdicts done.now y (slice_index inner.now p)) d (map entry_of members.now)) (map field_of fields.now) }
+    requires members { AllByRecursion (λ (m : Entry ℕ). m.1 < value_count known.now) (map entry_of members.now) }
+    requires fields { AllByRecursion (λ (d : Declaration ℕ). d.value < place_count known.now) (map field_of fields.now) }
+    ensures { result ≡ list_all (λ d. constraint.declaration_holds (verdict_inside known.now) d (map entry_of members.now)) (map field_of fields.now) }
 {
     for field in fields {
-        if !declaration_holds(field, members, inner, done) {
+        if !declaration_holds(field, members, known) {
             return false;
         }
     }
@@ -187,44 +142,27 @@ fn fields_hold(
     fields: &[Field<'_>],
     opened: bool,
     members: &[(&str, usize)],
-    inner: &[usize],
-    done: &Verdicts,
+    known: &Known<'_>,
 ) -> bool
-    requires members { AllByRecursion (λ (m : Entry ℕ). m.1 < done.now.items) (map entry_of members.now) }
-    requires fields { AllByRecursion (λ (d : Declaration ℕ). d.value < length inner.now) (map field_of fields.now) }
-    requires inner { AllByRecursion (λ q. q < done.now.rules) inner.now }
-    ensures { result ≡ constraint.fields_hold (λ y p. verdicts done.now y (slice_index inner.now p)) (map field_of fields.now) opened (map entry_of members.now) }
+    requires members { AllByRecursion (λ (m : Entry ℕ). m.1 < value_count known.now) (map entry_of members.now) }
+    requires fields { AllByRecursion (λ (d : Declaration ℕ). d.value < place_count known.now) (map field_of fields.now) }
+    ensures { result ≡ constraint.fields_hold (verdict_inside known.now) (map field_of fields.now) opened (map entry_of members.now) }
 {
-    if !declarations_hold(fields, members, inner, done) {
+    if !declarations_hold(fields, members, known) {
         return false;
     }
     opened || are_allowed(fields, members)
 }
 
-fn each_holds(children: &[usize], part: usize, inner: &[usize], done: &Verdicts) -> bool
-    requires children { AllByRecursion (λ y. y < done.now.items) children.now }
-    requires part { part < length inner.now }
-    requires inner { AllByRecursion (λ q. q < done.now.rules) inner.now }
-    ensures { result ≡ list_all (λ y. verdicts done.now y (slice_index inner.now part)) children.now }
-{
-    for child in children {
-        if !holds_inside(*child, part, inner, done) {
-            return false;
-        }
-    }
-    true
-}
-
-fn rest_holds(end: &Ending, children: &[usize], inner: &[usize], done: &Verdicts) -> bool
-    requires children { AllByRecursion (λ y. y < done.now.items) children.now }
-    requires end { RestBelow (length inner.now) (ending_of end.now) }
-    requires inner { AllByRecursion (λ q. q < done.now.rules) inner.now }
-    ensures { result ≡ constraint.rest_holds (λ y p. verdicts done.now y (slice_index inner.now p)) (ending_of end.now) children.now }
+fn rest_holds(end: &Ending, children: &[usize], known: &Known<'_>) -> bool
+    requires children { AllByRecursion (λ y. y < value_count known.now) children.now }
+    requires end { RestBelow (place_count known.now) (ending_of end.now) }
+    ensures { result ≡ constraint.rest_holds (verdict_inside known.now) (ending_of end.now) children.now }
 {
     match end {
         Ending::Closed => children.is_empty(),
         Ending::Any => true,
-        Ending::Each(part) => each_holds(children, *part, inner, done),
+        Ending::Each(part) => known.each(children, *part),
     }
 }
 
@@ -232,41 +170,35 @@ fn elements_hold(
     front: &[usize],
     end: &Ending,
     children: &[usize],
-    inner: &[usize],
-    done: &Verdicts,
+    known: &Known<'_>,
 ) -> bool
-    requires children { AllByRecursion (λ y. y < done.now.items) children.now }
-    requires front { AllByRecursion (λ p. p < length inner.now) front.now }
-    requires end { RestBelow (length inner.now) (ending_of end.now) }
-    requires inner { AllByRecursion (λ q. q < done.now.rules) inner.now }
-    ensures { result ≡ constraint.elements_hold (λ y p. verdicts done.now y (slice_index inner.now p)) front.now (ending_of end.now) children.now }
+    requires children { AllByRecursion (λ y. y < value_count known.now) children.now }
+    requires front { AllByRecursion (λ p. p < place_count known.now) front.now }
+    requires end { RestBelow (place_count known.now) (ending_of end.now) }
+    ensures { result ≡ constraint.elements_hold (verdict_inside known.now) front.now (ending_of end.now) children.now }
 {
     let mut rest = children;
     for part in front {
         let Some((child, others)) = rest.split_first() else {
             return false;
         };
-        if !holds_inside(*child, *part, inner, done) {
+        if !known.inside(*child, *part) {
             return false;
         }
         rest = others;
     }
-    rest_holds(end, rest, inner, done)
+    rest_holds(end, rest, known)
 }
 
 /// Whether a value is an instance of a rule, by the verdicts on the rule's parts.
 pub(crate) fn holds(
     rule: &Rule<'_>,
     value: &Item<'_>,
-    item: usize,
-    inner: &[usize],
-    done: &Verdicts,
+    known: &Known<'_>,
 ) -> bool
-    requires item { item < done.now.items }
-    requires parts { PartsBelow done.now.rules (length inner.now) (asked_of rule.now) }
-    requires children { InsideBelow done.now.items (item_view value.now) }
-    requires inner { AllByRecursion (λ q. q < done.now.rules) inner.now }
-    ensures { result ≡ step inner.now (verdicts done.now) item rule.now (item_view value.now) }
+    requires parts { PartsBelow (rule_count known.now) (place_count known.now) (asked_of rule.now) }
+    requires children { InsideBelow (value_count known.now) (item_view value.now) }
+    ensures { result ≡ constraint.is_satisfied (verdict_here known.now) (verdict_inside known.now) (asked_of rule.now) (item_view value.now) }
 {
     match rule {
         Rule::Always => true,
@@ -290,14 +222,14 @@ pub(crate) fn holds(
         Rule::NotInt(n) => is_another_integer(*n, value),
         Rule::Range { least, greatest } => is_in_range(*least, *greatest, value),
         Rule::Bound { relation, limit } => is_bounded(*relation, *limit, value),
-        Rule::All(parts) => all_hold(parts, item, done),
-        Rule::Any(parts) => any_holds(parts, item, done),
+        Rule::All(parts) => known.all(parts),
+        Rule::Any(parts) => known.any(parts),
         Rule::Struct { fields, opened } => match value {
-            Item::Object(members) => fields_hold(fields, *opened, members, inner, done),
+            Item::Object(members) => fields_hold(fields, *opened, members, known),
             _ => false,
         },
         Rule::List { front, end } => match value {
-            Item::List(children) => elements_hold(front, end, children, inner, done),
+            Item::List(children) => elements_hold(front, end, children, known),
             _ => false,
         },
     }

@@ -6,8 +6,9 @@ use Rattle.cs_flat.specs.Nodes.{nodes}
 use Rattle.cs_flat.specs.Items.{items}
 use Rattle.cs_package.specs.Environment.{Environment, Names}
 use Rattle.cs_guard.specs.Numbered.{name_of}
-use Rattle.cs_instance.specs.declared.judge.Numbering.{Numbering}
-use Rattle.cs_instance.specs.Steps.{answer}
+use Rattle.cs_rules.specs.declared.judge.Numbering.{Numbering}
+use Rattle.cs_rules.specs.Answers.{answer}
+use Rattle.cs_instance.specs.Steps.{step}
 use Rattle.cs_instance.specs.Judging.{IsJudge}
 use Rattle.cs_instance.specs.Rooted.{IsRooted}
 use Rattle.cs_instance.proofs.Verdicts.{judge_of}
@@ -23,10 +24,10 @@ returns-clause-found c =
     let names : Names E c.args.root.now n = subst (λ (G : Environment). Names G c.args.root.now n) c.package.ensures.kept found.1 in
     let is : name_of E i ≡ n = subst (λ (G : Environment). name_of G i ≡ n) c.package.ensures.kept (ap (λ o. unwrap_or o []) found.2) in
     let numbering = c.in_ok-numbering.numbering in
-    let rooted = subst (λ m. IsRooted E m numbering.rules.items numbering.inner.items c.in_ok-numbering.number) is c.in_ok-numbering.ensures in
+    let rooted = subst (λ m. IsRooted E m numbering.rules.items numbering.children.items c.in_ok-numbering.number) is c.in_ok-numbering.ensures in
     let d = c.args.flat.now in
     let k = c.in_ok-numbering.number in
-    let judge = judge_of E n d k numbering.rules.items numbering.inner.items rooted in
-    let by_flat = subst (λ (x : Document). IsJudge E n d k (length (nodes x)) (length numbering.rules.items) (answer numbering.rules.items numbering.inner.items (items x))) (sym c.over.ensures.flat) judge in
+    let judge = judge_of E n d k numbering.rules.items numbering.children.items rooted in
+    let by_flat = subst (λ (x : Document). IsJudge E n d k (length (nodes x)) (length numbering.rules.items) (answer step numbering.rules.items numbering.children.items (nodes x) (items x))) (sym c.over.ensures.flat) judge in
     let x = c.over.result.flat.now in
-    (n, names, subst (λ (m : Numbering). IsJudge E n d k (length (nodes x)) (length m.rules.items) (answer m.rules.items m.inner.items (items x))) (sym c.over.ensures.numbering) by_flat)
+    (n, names, subst (λ (m : Numbering _ _). IsJudge E n d k (length (nodes x)) (length m.rules.items) (answer step m.rules.items m.children.items (nodes x) (items x))) (sym c.over.ensures.numbering) by_flat)

@@ -33,14 +33,14 @@ invariant_of-result c =
     let p = c.in_ok-numbers.field-0 in
     let pending = c.place_waiting.new.pending.items in
     let rules = c.place_waiting.new.rules.items in
-    let inner = c.in_ok-inner.inner.items in
+    let inner = c.in_ok-children.children.items in
     let placed : ArePlacedBy E ns p.numbers.items p.rules.items p.pending.items =
     subst (λ xs. ArePlacedBy E (names_in E xs) p.numbers.items p.rules.items p.pending.items) c.deref-2.ensures.value c.in_ok-numbers.ensures in
     let closed = closed_in E (name_of E c.args.root) names ns reach perm in
     let w = subst (λ xs. PlacesWaiting E (declared_names E) xs (flat_map (placed_with E) ns) (waiting (declared_names E) p.pending.items) rules pending inner) c.deref-3.ensures.value
-    (c.in_ok-inner.ensures.placed E (declared_names E) (flat_map (placed_with E) ns) placed.numbered
+    (c.in_ok-children.ensures.placed E (declared_names E) (flat_map (placed_with E) ns) placed.numbered
     (subst (λ xs. Each (λ e. Each (IsKnown (declared_names E) xs (flat_map (placed_with E) ns)) (referred e)) (waiting (declared_names E) p.pending.items)) (sym c.deref-3.ensures.value) (first_known E ns p.numbers.items p.rules.items p.pending.items closed placed))) in
-    record { placed = placed_all E c.args.root names ns p.numbers.items p.rules.items rules p.pending.items pending inner reach perm placed c.in_ok-inner.ensures.all w }
+    record { placed = placed_all E c.args.root names ns p.numbers.items p.rules.items rules p.pending.items pending inner reach perm placed c.in_ok-children.ensures.all w }
 
 pub returns : goal.returns
 returns c =
@@ -54,13 +54,13 @@ returns c =
     let p = c.in_ok-numbers.field-0 in
     let pending = c.place_waiting.new.pending.items in
     let rules = c.place_waiting.new.rules.items in
-    let inner = c.in_ok-inner.inner.items in
+    let inner = c.in_ok-children.children.items in
     let placed : ArePlacedBy E ns p.numbers.items p.rules.items p.pending.items =
     subst (λ xs. ArePlacedBy E (names_in E xs) p.numbers.items p.rules.items p.pending.items) c.deref-2.ensures.value c.in_ok-numbers.ensures in
     let closed = closed_in E (name_of E c.args.root) names ns reach perm in
     let w = subst (λ xs. PlacesWaiting E (declared_names E) xs (flat_map (placed_with E) ns) (waiting (declared_names E) p.pending.items) rules pending inner) c.deref-3.ensures.value
-    (c.in_ok-inner.ensures.placed E (declared_names E) (flat_map (placed_with E) ns) placed.numbered
+    (c.in_ok-children.ensures.placed E (declared_names E) (flat_map (placed_with E) ns) placed.numbered
     (subst (λ xs. Each (λ e. Each (IsKnown (declared_names E) xs (flat_map (placed_with E) ns)) (referred e)) (waiting (declared_names E) p.pending.items)) (sym c.deref-3.ensures.value) (first_known E ns p.numbers.items p.rules.items p.pending.items closed placed))) in
     let within : c.args.root < length p.numbers.items = omega (arith, c.requires, placed.long) in
     let at = get_or_from_slice_get p.numbers.items c.args.root c.index-number.result.now 0 (slice_get_read p.numbers.items (length p.numbers.items) c.args.root c.index-number.result.now refl within c.index-number.ensures) in
-    subst (IsRooted E (name_of E c.args.root) rules inner) at (rooted E c.args.root names ns p.numbers.items p.rules.items rules p.pending.items pending inner reach perm placed c.in_ok-inner.ensures.all w)
+    subst (IsRooted E (name_of E c.args.root) rules inner) at (rooted E c.args.root names ns p.numbers.items p.rules.items rules p.pending.items pending inner reach perm placed c.in_ok-children.ensures.all w)

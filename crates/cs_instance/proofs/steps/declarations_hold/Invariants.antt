@@ -1,7 +1,7 @@
-use Rattle.std.proofs.Common.{◌≡◌, ◌<◌, ℕ, map, drop, length, slice_index}
+use Rattle.std.proofs.Common.{◌≡◌, ◌<◌, ℕ, map, drop, length}
 use Rattle.std.specs.List.{list_all, AllByRecursion as Each}
 use Rattle.cs_flat.specs.View.{entry_of}
-use Rattle.cs_table.specs.Judged.{verdicts}
+use Rattle.cs_rules.specs.Knowns.{verdict_inside, place_count}
 use Rattle.cs_package.specs.Expression.{Declaration}
 use Rattle.cs_instance.specs.Constraint as constraint
 use Rattle.cs_instance.specs.Steps.{field_of}
@@ -9,7 +9,7 @@ use Rattle.cs_instance.proofs.steps.declarations_hold.Given as goal
 
 abbrev pub invariant-loop-field : goal.invariant-loop-field
 invariant-loop-field l =
-    let holds = λ (d : Declaration ℕ). constraint.declaration_holds (λ y p. verdicts l.done y (slice_index l.inner p)) d (map entry_of l.members) in record {
+    let holds = λ (d : Declaration ℕ). constraint.declaration_holds (λ y p. verdict_inside l.known y p) d (map entry_of l.members) in record {
       same : list_all holds (map field_of l.fields) ≡ list_all holds (map field_of (drop l.field-index l.fields));
-      below : Each (λ (p : Declaration ℕ). p.value < length l.inner) (map field_of (drop l.field-index l.fields));
+      below : Each (λ (p : Declaration ℕ). p.value < place_count l.known) (map field_of (drop l.field-index l.fields));
     }
