@@ -1,6 +1,5 @@
 -- Facts about the numbers of parts.
 use Rattle.std.proofs.Common.{ℕ, ◌<◌, ◌≤◌, lt_of_lt_of_le}
-use Rattle.std.specs.List.{AllByRecursion as Each}
 use mathlib.Core.HLevel.{×_prop, Unit-prop}
 use native.Mathlib.Bridge.{le_prop}
 use Rattle.cs_document.proofs.Each.{each_map}

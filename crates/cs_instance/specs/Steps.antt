@@ -1,5 +1,5 @@
 -- What a rule of the code asks, by the numbers of its parts.
-use Rattle.std.specs.Prelude.{◌≡◌, ℕ, ◌<◌, Bool, false, List, Option, Some, None, map, length, slice_get, slice_index}
+use Rattle.std.specs.Prelude.{ℕ, List, map, slice_index}
 use Rattle.cs_rules.specs.Steps.{Step}
 use Rattle.cs_package.specs.Expression.{Declaration}
 use Rattle.cs_package.specs.View.{kind_of, relation_of, mark_of}

@@ -71,11 +71,7 @@ fn are_allowed(fields: &[Field<'_>], members: &[(&str, usize)]) -> bool
 }
 
 /// Whether what is under a declaration's label is as declared.
-fn value_holds(
-    field: &Field<'_>,
-    members: &[(&str, usize)],
-    known: &Known<'_>,
-) -> bool
+fn value_holds(field: &Field<'_>, members: &[(&str, usize)], known: &Known<'_>) -> bool
     requires members { AllByRecursion (λ (m : Entry ℕ). m.1 < value_count known.now) (map entry_of members.now) }
     requires field { (field_of field.now).value < place_count known.now }
     ensures { result ≡ constraint.value_holds (verdict_inside known.now) (field_of field.now) (under (field_of field.now).label (map entry_of members.now)) }
@@ -87,11 +83,7 @@ fn value_holds(
 }
 
 /// Whether the value under every key is an instance of the rule at a place.
-fn every_value_holds(
-    members: &[(&str, usize)],
-    part: usize,
-    known: &Known<'_>,
-) -> bool
+fn every_value_holds(members: &[(&str, usize)], part: usize, known: &Known<'_>) -> bool
     requires members { AllByRecursion (λ (m : Entry ℕ). m.1 < value_count known.now) (map entry_of members.now) }
     requires part { part < place_count known.now }
     ensures { result ≡ list_all (λ (m : Entry ℕ). verdict_inside known.now m.1 part) (map entry_of members.now) }
@@ -105,11 +97,7 @@ fn every_value_holds(
 }
 
 /// Only `[string]` looks at every key.
-fn declaration_holds(
-    field: &Field<'_>,
-    members: &[(&str, usize)],
-    known: &Known<'_>,
-) -> bool
+fn declaration_holds(field: &Field<'_>, members: &[(&str, usize)], known: &Known<'_>) -> bool
     requires members { AllByRecursion (λ (m : Entry ℕ). m.1 < value_count known.now) (map entry_of members.now) }
     requires field { (field_of field.now).value < place_count known.now }
     ensures { result ≡ constraint.declaration_holds (verdict_inside known.now) (field_of field.now) (map entry_of members.now) }
@@ -121,11 +109,7 @@ fn declaration_holds(
     }
 }
 
-fn declarations_hold(
-    fields: &[Field<'_>],
-    members: &[(&str, usize)],
-    known: &Known<'_>,
-) -> bool
+fn declarations_hold(fields: &[Field<'_>], members: &[(&str, usize)], known: &Known<'_>) -> bool
     requires members { AllByRecursion (λ (m : Entry ℕ). m.1 < value_count known.now) (map entry_of members.now) }
     requires fields { AllByRecursion (λ (d : Declaration ℕ). d.value < place_count known.now) (map field_of fields.now) }
     ensures { result ≡ list_all (λ d. constraint.declaration_holds (verdict_inside known.now) d (map entry_of members.now)) (map field_of fields.now) }
@@ -166,12 +150,7 @@ fn rest_holds(end: &Ending, children: &[usize], known: &Known<'_>) -> bool
     }
 }
 
-fn elements_hold(
-    front: &[usize],
-    end: &Ending,
-    children: &[usize],
-    known: &Known<'_>,
-) -> bool
+fn elements_hold(front: &[usize], end: &Ending, children: &[usize], known: &Known<'_>) -> bool
     requires children { AllByRecursion (λ y. y < value_count known.now) children.now }
     requires front { AllByRecursion (λ p. p < place_count known.now) front.now }
     requires end { RestBelow (place_count known.now) (ending_of end.now) }
@@ -191,11 +170,7 @@ fn elements_hold(
 }
 
 /// Whether a value is an instance of a rule, by the verdicts on the rule's parts.
-pub(crate) fn holds(
-    rule: &Rule<'_>,
-    value: &Item<'_>,
-    known: &Known<'_>,
-) -> bool
+pub(crate) fn holds(rule: &Rule<'_>, value: &Item<'_>, known: &Known<'_>) -> bool
     requires parts { PartsBelow (rule_count known.now) (place_count known.now) (asked_of rule.now) }
     requires children { InsideBelow (value_count known.now) (item_view value.now) }
     ensures { result ≡ constraint.is_satisfied (verdict_here known.now) (verdict_inside known.now) (asked_of rule.now) (item_view value.now) }

@@ -1,5 +1,5 @@
 -- A judge of numbered rules looks at earlier pairs alone, where each rule looks at its parts alone.
-use Rattle.std.specs.Prelude.{◌≡◌, ℕ, zero, suc, ◌<◌, Bool, List, [], ◌∷◌, Option, Some, None, length, slice_get, slice_index}
+use Rattle.std.specs.Prelude.{◌≡◌, ℕ, zero, suc, ◌<◌, List, [], ◌∷◌, Option, Some, None, length, slice_get, slice_index}
 use Rattle.std.specs.List.{AllByRecursion as Each}
 use Rattle.std.proofs.Common.{refl, inl, inr, lt_trans, zero-le}
 use Rattle.std.proofs.lemmas.Option.{slice_get_within}
@@ -9,7 +9,7 @@ use Rattle.std.proofs.Math.Logic.{∥∥₁_elim}
 use Rattle.cs_document.specs.Document.{Document}
 use Rattle.cs_document.specs.Opened.{Opened}
 use Rattle.cs_flat.specs.Nodes.{node_at}
-use Rattle.cs_table.specs.Judged.{AllVerdicts, AgreeBefore, LooksBack}
+use Rattle.cs_table.specs.Judged.{LooksBack}
 use Rattle.cs_rules.specs.Steps.{Step, LooksAtParts, ArePlaced, AreLower}
 use Rattle.cs_rules.specs.Answers.{step_at, answer}
 

@@ -1,8 +1,6 @@
 -- A rule looks at the verdicts on its parts alone.
-use Rattle.std.specs.Prelude.{◌≡◌, ℕ, zero, suc, ◌<◌, Bool, true, false, not, ◌&&◌, ◌||◌, List, [], ◌∷◌, drop, Option, Some, None, option_to_list, length, slice_get, slice_index, if◌then◌else◌}
-use Rattle.std.proofs.Common.{refl, ap, ap₂, inl, inr, lt_trans, zero-le}
-use Rattle.std.proofs.lemmas.Option.{slice_get_within}
-use Rattle.std.proofs.Math.Nat.{lt_of_le_of_lt}
+use Rattle.std.specs.Prelude.{◌≡◌, ℕ, ◌<◌, Bool, true, false, not, ◌&&◌, ◌||◌, List, [], ◌∷◌, drop, Option, Some, None, option_to_list, if◌then◌else◌}
+use Rattle.std.proofs.Common.{refl, ap, ap₂}
 use Rattle.std.specs.Option.{option_map_or}
 use Rattle.std.specs.List.{list_all, list_any, AllByRecursion as Each}
 use Rattle.std.specs.Str.{bytes_eq}
@@ -10,8 +8,6 @@ use Rattle.cs_document.specs.Document.{Document, Entry, under}
 use Rattle.cs_document.specs.Opened.{Opened, a_list, an_object}
 use Rattle.cs_document.specs.Inside.{InsideBelow}
 use Rattle.cs_document.proofs.Each.{each_map, each_drop, all_same, any_same}
-use Rattle.cs_flat.specs.Nodes.{node_at}
-use Rattle.cs_table.specs.Judged.{AllVerdicts, AgreeBefore}
 use Rattle.cs_profile.specs.Constraint.{Assertion, valid_by, at_keys, at_other_keys, in_front, behind, valid_by_all, valid_by_any, not_valid_by, Constraint, always, never, conjunction}
 use Rattle.cs_profile.specs.Validity.{if_there, front_holds, holds, is_satisfied}
 use Rattle.cs_validate.specs.Numbering.{ClaimBelow, PartsBelow}

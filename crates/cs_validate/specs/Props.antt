@@ -1,7 +1,6 @@
 -- Facts about the numbers of parts.
 use Rattle.std.proofs.Common.{ℕ, ◌<◌, ◌≤◌, lt_of_lt_of_le}
 use Rattle.std.specs.Prelude.{option_to_list}
-use Rattle.std.specs.List.{AllByRecursion as Each}
 use mathlib.Core.HLevel.{Unit-prop}
 use native.Mathlib.Bridge.{le_prop}
 use Rattle.cs_document.specs.Document.{Entry}

@@ -1,7 +1,7 @@
 -- What a rule of the code asks, by the numbers of its parts.
-use Rattle.std.specs.Prelude.{◌≡◌, ℕ, suc, ◌+◌, ◌<◌, ℤ, pos, Bool, true, false, List, [], ◌∷◌, Option, Some, None, option_map, option_to_list, length, slice_get, slice_index}
+use Rattle.std.specs.Prelude.{ℕ, suc, ◌+◌, ℤ, pos, true, false, List, [], ◌∷◌, Option, Some, None, option_map, option_to_list, length, slice_index}
 use Rattle.std.specs.Option.{option_map_or}
-use Rattle.std.specs.List.{AllByRecursion, flat_map}
+use Rattle.std.specs.List.{flat_map}
 use Rattle.cs_document.specs.View.{doc_view}
 use Rattle.cs_rules.specs.Steps.{Step}
 use Rattle.cs_profile.specs.Keywords as keyword

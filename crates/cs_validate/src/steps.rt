@@ -52,12 +52,7 @@ fn negation_holds(negated: Option<usize>, known: &Known<'_>) -> bool
 // ---- schemas that are asked of values inside
 
 /// Whether each element with a schema at its place, from a place on, is valid by it (Core, section 10.3.1.1).
-fn front_holds(
-    prefix: &[Schema],
-    first: usize,
-    children: &[usize],
-    known: &Known<'_>,
-) -> bool
+fn front_holds(prefix: &[Schema], first: usize, children: &[usize], known: &Known<'_>) -> bool
     requires children { AllByRecursion (λ y. y < value_count known.now) children.now }
     requires parts { AllByRecursion (λ p. p < place_count known.now) (places_from first prefix.now) }
     ensures { result ≡ validity.front_holds (λ (h : ℕ). true) (verdict_inside known.now) (places_from first prefix.now) children.now }
@@ -78,12 +73,7 @@ fn front_holds(
 }
 
 /// Whether each element behind so many is valid by the schema at a place (Core, section 10.3.1.2).
-fn rest_holds(
-    front: usize,
-    part: usize,
-    children: &[usize],
-    known: &Known<'_>,
-) -> bool
+fn rest_holds(front: usize, part: usize, children: &[usize], known: &Known<'_>) -> bool
     requires children { AllByRecursion (λ y. y < value_count known.now) children.now }
     requires part { part < place_count known.now }
     ensures { result ≡ list_all (λ y. verdict_inside known.now y part) (drop front children.now) }
@@ -95,12 +85,7 @@ fn rest_holds(
 }
 
 /// Whether the value under a key, if it is there, is valid by the schema at a place.
-fn property_holds(
-    name: &str,
-    place: usize,
-    members: &[(&str, usize)],
-    known: &Known<'_>,
-) -> bool
+fn property_holds(name: &str, place: usize, members: &[(&str, usize)], known: &Known<'_>) -> bool
     requires ascends { KeysAscend (map entry_of members.now) }
     requires members { AllByRecursion (λ (m : Entry ℕ). m.1 < value_count known.now) (map entry_of members.now) }
     requires place { place < place_count known.now }
@@ -183,11 +168,7 @@ fn behind(place: usize, schema: &Option<Schema>) -> usize
 }
 
 /// What keywords ask of a list (Validation, section 6.4; Core, section 10.3.1).
-fn list_holds(
-    conjunction: &Conjunction<'_>,
-    children: &[usize],
-    known: &Known<'_>,
-) -> bool
+fn list_holds(conjunction: &Conjunction<'_>, children: &[usize], known: &Known<'_>) -> bool
     requires parts { AreBelowInside (place_count known.now) conjunction.now }
     requires children { AllByRecursion (λ y. y < value_count known.now) children.now }
     ensures { result ≡ asks_list (verdict_inside known.now) conjunction.now children.now }
@@ -197,16 +178,11 @@ fn list_holds(
     let prefix = behind(items, &keywords.rest);
     length_holds(keywords.min_items, children.len())
         && front_holds(&keywords.prefix, prefix, children, known)
-        && (keywords.rest.is_none()
-            || rest_holds(keywords.prefix.len(), items, children, known))
+        && (keywords.rest.is_none() || rest_holds(keywords.prefix.len(), items, children, known))
 }
 
 /// What keywords ask of a map (Validation, section 6.5; Core, section 10.3.2).
-fn map_holds(
-    conjunction: &Conjunction<'_>,
-    members: &[(&str, usize)],
-    known: &Known<'_>,
-) -> bool
+fn map_holds(conjunction: &Conjunction<'_>, members: &[(&str, usize)], known: &Known<'_>) -> bool
     requires parts { AreBelowInside (place_count known.now) conjunction.now }
     requires ascends { KeysAscend (map entry_of members.now) }
     requires members { AllByRecursion (λ (m : Entry ℕ). m.1 < value_count known.now) (map entry_of members.now) }
@@ -219,20 +195,11 @@ fn map_holds(
     conjunction.required.are_keys(members)
         && properties_hold(&keywords.properties, properties, members, known)
         && (keywords.additional.is_none()
-            || others_hold(
-                &keywords.properties,
-                conjunction.first,
-                members,
-                known,
-            ))
+            || others_hold(&keywords.properties, conjunction.first, members, known))
 }
 
 /// What keywords ask of a value of its kind alone.
-fn kind_holds(
-    conjunction: &Conjunction<'_>,
-    value: &Item<'_>,
-    known: &Known<'_>,
-) -> bool
+fn kind_holds(conjunction: &Conjunction<'_>, value: &Item<'_>, known: &Known<'_>) -> bool
     requires parts { AreBelowInside (place_count known.now) conjunction.now }
     requires ascends { AscendsInside (item_view value.now) }
     requires children { InsideBelow (value_count known.now) (item_view value.now) }
@@ -277,12 +244,7 @@ fn object_holds(
 }
 
 /// Whether a value is valid by a schema, by the verdicts on the schema's parts (Core, section 4.3.2).
-pub(crate) fn holds(
-    rule: &Rule<'_>,
-    value: &Item<'_>,
-    doc: &Doc,
-    known: &Known<'_>,
-) -> bool
+pub(crate) fn holds(rule: &Rule<'_>, value: &Item<'_>, doc: &Doc, known: &Known<'_>) -> bool
     requires parts { PartsBelow (rule_count known.now) (place_count known.now) (asked_of rule.now) }
     requires ascends { AscendsInside (item_view value.now) }
     requires children { InsideBelow (value_count known.now) (item_view value.now) }

@@ -1,4 +1,4 @@
-use Rattle.std.proofs.Common.{◌≡◌, ◌<◌, ℕ, map, drop, length}
+use Rattle.std.proofs.Common.{◌≡◌, ◌<◌, ℕ, map, drop}
 use Rattle.std.specs.List.{list_all, AllByRecursion as Each}
 use Rattle.cs_flat.specs.View.{entry_of}
 use Rattle.cs_rules.specs.Knowns.{verdict_inside, place_count}

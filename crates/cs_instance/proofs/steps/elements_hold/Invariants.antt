@@ -1,4 +1,4 @@
-use Rattle.std.proofs.Common.{◌≡◌, ◌<◌, ℕ, drop, length}
+use Rattle.std.proofs.Common.{◌≡◌, ◌<◌, ℕ, drop}
 use Rattle.std.specs.List.{AllByRecursion as Each}
 use Rattle.cs_rules.specs.Knowns.{verdict_inside, value_count, place_count}
 use Rattle.cs_instance.specs.Constraint as constraint
