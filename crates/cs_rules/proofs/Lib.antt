@@ -1,3 +1,4 @@
 -- What the proofs of this crate show: a judge of numbered rules answers what the rules ask, by the verdicts on their parts.
 
 pub mod Judged
+pub mod Foretold

@@ -4,3 +4,4 @@ pub mod Answers
 pub mod Props
 pub mod Looks
 pub mod Knowns
+pub mod Kinds

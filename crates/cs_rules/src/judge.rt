@@ -2,10 +2,12 @@
 ghost use Rattle.cs_flat.specs.Items.{items};
 ghost use Rattle.cs_rules.specs.Steps.{ArePlaced, AreLower};
 ghost use Rattle.cs_rules.specs.Props.{inside_prop};
+ghost use Rattle.cs_rules.specs.Kinds.{AreForetold, foretold_prop};
 
-use crate::{Asks, Known};
+use crate::{Asks, ByKind, Known};
 use cs_flat::Flat;
 use cs_table::{Judge, Verdicts};
+use std::alloc::{AllocError, Global};
 
 /// Rules, each after those that it asks of the same document.
 #[derive(Drop)]
@@ -22,6 +24,8 @@ pub struct Numbering<R: Asks> {
 pub struct RuleJudge<'a, R: Asks> {
     pub numbering: Numbering<R>,
     pub flat: &'a Flat<'a>,
+    kinds: Vec<ByKind>,
+    ghost foretold: { AreForetold R.step numbering.rules.items kinds.items } by { foretold_prop R.step numbering.rules.items kinds.items },
     pub ghost lower: { AreLower (items flat.now) } by { Prim.hlevel inside_prop },
 }
 
@@ -49,24 +53,40 @@ impl<'a, R: Asks> Judge for RuleJudge<'a, R> {
     }
 
     fn judge(&self, item: usize, rule: usize, done: &Verdicts) -> bool {
+        let value = self.flat.item(item);
+        if let Some(verdict) = self.kinds[rule].verdict(value) {
+            return verdict;
+        }
         let known = Known {
             item,
             children: &self.numbering.children,
             done,
         };
-        self.numbering.rules[rule].holds(self.flat.item(item), self.flat.value(item), &known)
+        self.numbering.rules[rule].holds(value, self.flat.value(item), &known)
     }
 }
 
 impl<'a, R: Asks> RuleJudge<'a, R> {
-    ghost use Rattle.std.specs.Prelude.{◌≡◌};
+    ghost use Rattle.std.specs.Prelude.{◌≡◌, IfOk};
 
     /// The judge of these rules over this document.
-    pub fn over(numbering: Numbering<R>, flat: &'a Flat<'a>) -> RuleJudge<'a, R>
-        ensures numbering { result.numbering ≡ numbering }
-        ensures flat { result.flat.now ≡ flat.now }
+    pub fn over(
+        alloc: Global,
+        numbering: Numbering<R>,
+        flat: &'a Flat<'a>,
+    ) -> Result<RuleJudge<'a, R>, AllocError>
+        ensures numbering { IfOk result (λ j. j.numbering ≡ numbering) }
+        ensures flat { IfOk result (λ j. j.flat.now ≡ flat.now) }
     {
         let _count = flat.len(); // for the proof: the numbers of each item are lower
-        RuleJudge { numbering, flat }
+        let mut kinds = Vec::with_capacity(alloc, numbering.rules.len())?;
+        for rule in &numbering.rules {
+            kinds.push(rule.by_kind())?;
+        }
+        Ok(RuleJudge {
+            numbering,
+            flat,
+            kinds,
+        })
     }
 }

@@ -4,9 +4,10 @@ ghost use Rattle.cs_document.specs.Inside.{AscendsInside, InsideBelow};
 ghost use Rattle.cs_document.specs.View.{doc_view};
 ghost use Rattle.cs_flat.specs.View.{item_view};
 ghost use Rattle.cs_rules.specs.Steps.{Step, LooksAtParts};
+ghost use Rattle.cs_rules.specs.Kinds.{Foretells};
 ghost use Rattle.cs_rules.specs.Knowns.{verdict_here, verdict_inside, value_count, rule_count, place_count};
 
-use crate::Known;
+use crate::{ByKind, Known};
 use cs_document::Doc;
 use cs_flat::Item;
 
@@ -25,6 +26,10 @@ pub trait Asks: Drop {
         requires ascends { AscendsInside (item_view value.now) }
         requires children { InsideBelow (value_count known.now) (item_view value.now) }
         ensures { result ≡ step self.now (verdict_here known.now) (verdict_inside known.now) (doc_view doc.now) (item_view value.now) };
+
+    /// The verdicts that a value's kind alone decides.
+    fn by_kind(&self) -> ByKind
+        ensures { Foretells (step self.now) result };
 
     /// Law: the verdicts on its parts alone are looked at.
     ghost looks_at_parts: { (s : Self) → LooksAtParts (below s) (step s) };

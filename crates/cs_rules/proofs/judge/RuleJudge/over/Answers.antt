@@ -1,0 +1,33 @@
+use Rattle.std.proofs.Common.{◌≡◌, ◌<◌, ◌≤◌, [], ◌∷◌, ◌++◌, List, drop, length, get_or, sym, refl, ap, ◌∙◌, subst, arith}
+use Rattle.std.proofs.lemmas.List.{append_assoc, append-nil}
+use Rattle.cs_document.proofs.Maps.{drop_at, drop_past}
+use Rattle.cs_flat.specs.Items.{items}
+use Rattle.cs_rules.specs.Kinds.{AreForetold}
+use Rattle.cs_rules.specs.declared.by_kind.ByKind.{ByKind}
+use Rattle.cs_rules.proofs.judge.RuleJudge.over.Goals as goal
+
+pub loop-rule-init : goal.loop-rule-init
+loop-rule-init g c = λ ks h. subst (λ xs. AreForetold g.R.Asks.step c.args.numbering.rules.items (xs ++ ks)) (sym c.in_ok-kinds.ensures.items) h
+
+pub loop-rule-preserved : goal.loop-rule-preserved
+loop-rule-preserved g c = λ ks h.
+    let step = g.R.Asks.step in
+    let l = c.loop-rule in
+    let rules = c.args.numbering.rules.items in
+    let x = c.rule-item.result in
+    let k = c.by_kind.result in
+    let within : l.rule-index < length rules = omega (arith, c.loop-rule-test.true, ap length c.deref-rule-items.ensures.value) in
+    let next = drop_at rules l.rule-index x within (c.rule-item.is ∙ ap (λ xs. get_or xs l.rule-index x) c.deref-rule-items.ensures.value) in
+    let one = subst (λ xs. AreForetold step xs (k ∷ ks)) (sym next) (c.by_kind.ensures, h) in
+    subst (AreForetold step rules) (sym (append_assoc l.kinds.items (k ∷ []) ks) ∙ ap (λ xs. xs ++ ks) (sym c.in_ok-push.ensures.items)) (l.invariant (k ∷ ks) one)
+
+pub invariant_of-result : goal.invariant_of-result
+invariant_of-result g c = record {
+  foretold =
+      let step = g.R.Asks.step in
+      let rules = c.args.numbering.rules.items in
+      let l = c.loop-rule in
+      let past = drop_past rules l.rule-index (let f = c.loop-rule-test.false in omega (arith, f, ap length c.deref-rule-items.ensures.value)) in
+      subst (AreForetold step rules) (append-nil l.kinds.items) (l.invariant [] (subst (λ xs. AreForetold step xs []) (sym past) tt));
+  lower = c.len-count.ensures.items.lower;
+}
