@@ -37,7 +37,7 @@ pub fn instance_judge<'a>(
         return Err(InstanceFault::UnknownRoot);
     };
     let (numbering, number) = numbering_of(alloc, package, i)?;
-    Ok((RuleJudge::over(numbering, flat), number))
+    Ok((RuleJudge::over(alloc, numbering, flat)?, number))
 }
 
 /// Whether each value of a document is an instance of each definition that the root reaches and of each expression in

@@ -14,9 +14,39 @@ pub struct ByKind {
 }
 
 impl ByKind {
-    ghost use Rattle.std.specs.Prelude.{◌≡◌};
+    ghost use Rattle.std.specs.Prelude.{◌≡◌, ℕ};
+    ghost use Rattle.std.specs.Option.{option_or};
+    ghost use Rattle.cs_document.specs.Opened.{Opened};
     ghost use Rattle.cs_flat.specs.View.{item_view};
     ghost use Rattle.cs_rules.specs.Kinds.{verdict_of};
+
+    /// The same verdict, or none, for every kind.
+    pub fn of(verdict: Option<bool>) -> ByKind
+        ensures { (x : Opened ℕ) → verdict_of result x ≡ verdict }
+    {
+        ByKind {
+            null: verdict,
+            boolean: verdict,
+            integer: verdict,
+            text: verdict,
+            list: verdict,
+            object: verdict,
+        }
+    }
+
+    /// Where these verdicts have none, the others.
+    pub fn or(self, others: ByKind) -> ByKind
+        ensures { (x : Opened ℕ) → verdict_of result x ≡ option_or (verdict_of self x) (verdict_of others x) }
+    {
+        ByKind {
+            null: self.null.or(others.null),
+            boolean: self.boolean.or(others.boolean),
+            integer: self.integer.or(others.integer),
+            text: self.text.or(others.text),
+            list: self.list.or(others.list),
+            object: self.object.or(others.object),
+        }
+    }
 
     /// The verdict on a value, if its kind decides it.
     #[inline]

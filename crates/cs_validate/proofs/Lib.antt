@@ -8,6 +8,7 @@ pub mod Asked
 -- one judgement, and the parts named by numbers
 pub mod Found
 pub mod Satisfied
+pub mod ByKind
 -- schemas get their numbers: what waits, definitions by rank, the root, the whole
 pub mod Standing
 pub mod Placed

@@ -29,7 +29,7 @@ pub fn valid_judge<'a>(
     ensures memory { IsOkUnless result ValidateFault.OutOfMemory }
 {
     let (numbering, number) = numbering_of(alloc, schema)?;
-    Ok((RuleJudge::over(numbering, flat), number))
+    Ok((RuleJudge::over(alloc, numbering, flat)?, number))
 }
 
 /// Whether each value of a document is valid by the schema document, by each of its definitions and by every schema

@@ -1,6 +1,7 @@
 // Whether a document is valid against a schema.
 #![tactic(auto)]
 
+mod by_kind;
 mod definitions;
 mod fault;
 mod inner;

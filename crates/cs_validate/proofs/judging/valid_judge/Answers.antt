@@ -16,6 +16,6 @@ returns-clause-found c =
     let numbering = c.in_ok-numbering.numbering in
     let k = c.in_ok-numbering.number in
     let judge = judge_of R c.args.flat.now k numbering.rules.items numbering.children.items c.in_ok-numbering.ensures in
-    let by_flat = subst (λ (x : Document). IsJudge R c.args.flat.now k (length (nodes x)) (length numbering.rules.items) (answer step numbering.rules.items numbering.children.items (nodes x) (items x))) (sym c.over.ensures.flat) judge in
-    let x = c.over.result.flat.now in
-    subst (λ (m : Numbering _ _). IsJudge R c.args.flat.now k (length (nodes x)) (length m.rules.items) (answer step m.rules.items m.children.items (nodes x) (items x))) (sym c.over.ensures.numbering) by_flat
+    let by_flat = subst (λ (x : Document). IsJudge R c.args.flat.now k (length (nodes x)) (length numbering.rules.items) (answer step numbering.rules.items numbering.children.items (nodes x) (items x))) (sym c.in_ok-over.ensures.flat) judge in
+    let x = c.in_ok-over.field-0.flat.now in
+    subst (λ (m : Numbering _ _). IsJudge R c.args.flat.now k (length (nodes x)) (length m.rules.items) (answer step m.rules.items m.children.items (nodes x) (items x))) (sym c.in_ok-over.ensures.numbering) by_flat

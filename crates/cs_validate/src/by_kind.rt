@@ -1,0 +1,114 @@
+// Verdicts of a schema that a value's kind alone decides.
+ghost use Rattle.std.specs.Prelude.{◌≡◌, ℕ, ℤ, Bool, true, false, List, [], None, Some, if◌then◌else◌};
+ghost use Rattle.cs_document.specs.Document.{Document, Entry};
+ghost use Rattle.cs_document.specs.Opened.{Opened};
+ghost use Rattle.cs_rules.specs.Kinds.{verdict_of, Foretells};
+ghost use Rattle.cs_profile.specs.Validity.{is_of_kind, if_there};
+ghost use Rattle.cs_validate.specs.declared.rules.Rule.TheVariants as rule;
+ghost use Rattle.cs_validate.specs.Steps.{step, kind_of};
+ghost use Rattle.cs_validate.specs.Asked.{asks_any, asks_here, asks_integer, asks_list, asks_map, asks_kind};
+
+use crate::rules::{Conjunction, Rule};
+use cs_flat::Names;
+use cs_profile::{JsonKind, Keywords};
+use cs_rules::ByKind;
+
+/// What a `type` decides: it refuses the values of other kinds.
+fn by_named(kind: JsonKind) -> ByKind
+    ensures { (x : Opened ℕ) → verdict_of result x ≡ (if is_of_kind (kind_of kind) x then None else Some false) }
+{
+    let others = ByKind::of(Some(false));
+    match kind {
+        JsonKind::Null => ByKind { null: None, ..others },
+        JsonKind::Boolean => ByKind { boolean: None, ..others },
+        JsonKind::Number | JsonKind::Integer => ByKind { integer: None, ..others },
+        JsonKind::String => ByKind { text: None, ..others },
+        JsonKind::Array => ByKind { list: None, ..others },
+        JsonKind::Object => ByKind { object: None, ..others },
+    }
+}
+
+/// What `type` decides, if it is there.
+fn by_type(kind: Option<JsonKind>) -> ByKind
+    ensures { (x : Opened ℕ) → verdict_of result x ≡ (if if_there (λ j. is_of_kind (kind_of j) x) kind then None else Some false) }
+{
+    match kind {
+        Some(kind) => by_named(kind),
+        None => ByKind::of(None),
+    }
+}
+
+/// Whether the keywords ask nothing but `type` of values of every kind.
+fn asks_nothing_of_all(conjunction: &Conjunction<'_>) -> bool
+    ensures { result ≡ true → (here : ℕ → Bool) (d : Document) (x : Opened ℕ)
+        → (asks_here here conjunction.now ≡ true) × (asks_any conjunction.now d x ≡ if_there (λ j. is_of_kind (kind_of j) x) conjunction.now.keywords.now.kind) }
+{
+    let keywords = conjunction.keywords;
+    keywords.equal.is_none()
+        && conjunction.one_of.is_none()
+        && keywords.reference.is_none()
+        && conjunction.all_of.is_empty()
+        && conjunction.any_of.is_empty()
+        && conjunction.negated.is_none()
+}
+
+fn asks_nothing_of_integers(keywords: &Keywords) -> bool
+    ensures { result ≡ true → (z : ℤ) → asks_integer keywords.now z ≡ true }
+{
+    keywords.minimum.is_none()
+        && keywords.maximum.is_none()
+        && keywords.above.is_none()
+        && keywords.below.is_none()
+}
+
+fn asks_nothing_of_lists(conjunction: &Conjunction<'_>) -> bool
+    ensures { result ≡ true → (inside : ℕ → ℕ → Bool) (ys : List ℕ) → asks_list inside conjunction.now ys ≡ true }
+{
+    let keywords = conjunction.keywords;
+    keywords.min_items.is_none() && keywords.prefix.is_empty() && keywords.rest.is_none()
+}
+
+/// Whether no key is required: the map without members has them all.
+fn requires_nothing(required: &Names<'_>) -> bool
+    ensures { result ≡ true → required.now ≡ [] }
+{
+    required.are_keys(&[])
+}
+
+fn asks_nothing_of_maps(conjunction: &Conjunction<'_>) -> bool
+    ensures { result ≡ true → (inside : ℕ → ℕ → Bool) (ms : List (Entry ℕ)) → asks_map inside conjunction.now ms ≡ true }
+{
+    let keywords = conjunction.keywords;
+    requires_nothing(&conjunction.required)
+        && keywords.properties.is_empty()
+        && keywords.additional.is_none()
+}
+
+/// The kinds of which nothing but `type` is asked: their values are valid where `type` admits them.
+fn by_absence(conjunction: &Conjunction<'_>) -> ByKind
+    ensures { (x : Opened ℕ) (b : Bool) → verdict_of result x ≡ Some b → (b ≡ true) × ((here : ℕ → Bool) (inside : ℕ → ℕ → Bool) (d : Document)
+        → (asks_here here conjunction.now ≡ true) × (asks_kind inside conjunction.now x ≡ true)
+        × (asks_any conjunction.now d x ≡ if_there (λ j. is_of_kind (kind_of j) x) conjunction.now.keywords.now.kind)) }
+{
+    if !asks_nothing_of_all(conjunction) {
+        return ByKind::of(None);
+    }
+    ByKind {
+        integer: asks_nothing_of_integers(conjunction.keywords).then_some(true),
+        list: asks_nothing_of_lists(conjunction).then_some(true),
+        object: asks_nothing_of_maps(conjunction).then_some(true),
+        ..ByKind::of(Some(true))
+    }
+}
+
+/// The verdicts of a schema that a value's kind alone decides.
+pub(crate) fn by_kind(rule: &Rule<'_>) -> ByKind
+    ensures { Foretells (step rule.now) result }
+{
+    match rule {
+        Rule::Truth(verdict) => ByKind::of(Some(*verdict)),
+        Rule::Object(conjunction) => {
+            by_type(conjunction.keywords.kind).or(by_absence(conjunction))
+        }
+    }
+}
