@@ -7,7 +7,7 @@ use Rattle.cs_document.specs.Document.{Entry}
 use Rattle.cs_document.specs.Opened.{Opened, a_null, a_boolean, an_integer, a_text, a_list, an_object}
 use Rattle.cs_document.specs.Inside.{InsideBelow}
 use Rattle.cs_package.specs.Expression.{Declaration}
-use Rattle.cs_instance.specs.Constraint.{Rest, nothing, anything, each, Constraint, all_of, any_of, object_of, list_of, always, never, the_null, the_boolean, the_integer, the_text, of_kind, in_range, bounded, another_integer, another_text, not_the_null}
+use Rattle.cs_instance.specs.Constraint.{Rest, nothing, anything, each, Constraint, simple, all_of, any_of, object_of, list_of}
 use Rattle.cs_instance.specs.Numbering.{PartsBelow, RestBelow}
 
 each_prop : {X : Type 0} (P : X → Type 0) → ((x : X) → IsProp (P x)) → (xs : List X) → IsProp (Each P xs)
@@ -31,19 +31,8 @@ pub below_prop : (n : ℕ) (ds : List ℕ) → IsProp (Each (λ d. d < n) ds)
 below_prop n = each_prop (λ d. d < n) (λ d. le_prop)
 
 pub parts_prop : (n m : ℕ) (a : Constraint ℕ ℕ) → IsProp (PartsBelow n m a)
+parts_prop n m (simple p) = Unit-prop
 parts_prop n m (all_of ds) = below_prop n ds
 parts_prop n m (any_of ds) = below_prop n ds
 parts_prop n m (object_of ds o) = each_prop (λ (d : Declaration ℕ). d.value < m) (λ d. le_prop) ds
 parts_prop n m (list_of es rest) = ×_prop (below_prop m es) (rest_prop m rest)
-parts_prop n m always = Unit-prop
-parts_prop n m never = Unit-prop
-parts_prop n m the_null = Unit-prop
-parts_prop n m (the_boolean b) = Unit-prop
-parts_prop n m (the_integer z) = Unit-prop
-parts_prop n m (the_text s) = Unit-prop
-parts_prop n m (of_kind k) = Unit-prop
-parts_prop n m (in_range l g) = Unit-prop
-parts_prop n m (bounded r z) = Unit-prop
-parts_prop n m (another_integer z) = Unit-prop
-parts_prop n m (another_text s) = Unit-prop
-parts_prop n m not_the_null = Unit-prop
