@@ -95,8 +95,8 @@ module _ (I : Rule → Document → Bool) (was : IsInstanceEarlier declared_a I)
   abbrev a_of : Document → Document
   a_of x = object ((codes "a", x) ∷ [])
 
-  admits_one : of_a (a_of (number 1)) ≡ true
-  admits_one = rw (was (definition (codes "A")) (a_of (number 1)) tt, was (node a_is_int) (a_of (number 1)) (tt, tt, tt), was (node int) (number 1) tt) refl
+  admits_a_number : of_a (a_of (number 1)) ≡ true
+  admits_a_number = rw (was (definition (codes "A")) (a_of (number 1)) tt, was (node a_is_int) (a_of (number 1)) (tt, tt, tt), was (node int) (number 1) tt) refl
 
   refuses_a_text : of_a (a_of (word (codes "s"))) ≡ false
   refuses_a_text = rw (was (definition (codes "A")) (a_of (word (codes "s"))) tt, was (node a_is_int) (a_of (word (codes "s"))) (tt, tt, tt), was (node int) (word (codes "s")) tt) refl

@@ -7,16 +7,20 @@ use Rattle.std.specs.Ordering.{int_eq}
 use Rattle.std.specs.Str.{bytes_eq}
 use Rattle.cs_document.specs.Document.{Entry, under}
 use Rattle.cs_document.specs.Opened.{Opened, a_null, a_boolean, an_integer, a_text, a_list, an_object}
-use Rattle.cs_document.specs.Inside.{map_opened}
 use Rattle.cs_grammar.specs.Atom.{Atom}
 use Rattle.cs_package.specs.Expression.{Kind, int, number, string, bool, Relation, less, at_most, more, at_least, top, bottom, null, boolean, integer, text, bound, not_integer, not_text, not_null, DeclarationMark, regular, optional, required, every, is_every, Declaration}
 
--- what is seen of a document from outside: its kind, and of an atom its value
+-- a document without its parts: its kind, and where it is no list and no map its value
 abbrev pub Outline : Type 0
-Outline = Opened (Unit {0})
+Outline = Opened ⊥
 
 abbrev pub outline : {A : Type 0} → Opened A → Outline
-outline x = map_opened (λ y. tt) x
+outline a_null = a_null
+outline (a_boolean b) = a_boolean b
+outline (an_integer z) = an_integer z
+outline (a_text s) = a_text s
+outline (a_list ys) = a_list []
+outline (an_object ms) = an_object []
 
 -- what is behind the fixed elements of a list
 pub data Rest (N : Type 0) : Type 0 where

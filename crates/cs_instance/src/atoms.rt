@@ -1,4 +1,4 @@
-// What an expression asks of a value that looks at no part.
+// What expressions that look at no part ask of a value.
 ghost use Rattle.std.specs.Prelude.{◌≡◌, []};
 ghost use Rattle.cs_flat.specs.View.{item_view};
 ghost use Rattle.cs_package.specs.View.{expression_of, kind_of, relation_of};
@@ -9,7 +9,7 @@ ghost use Rattle.cs_instance.specs.Steps.{test_of};
 use cs_flat::Item;
 use cs_package::{Kind, Relation, Shape};
 
-/// Whether a value is an instance of an expression that looks at no part. None is of the others.
+/// Whether a value is an instance of an expression that looks at no part. No value is taken for one of the others.
 pub(crate) fn holds_simply(shape: &Shape, value: &Item<'_>) -> bool
     ensures { result ≡ test_of (expression_of [] shape.now) (outline (item_view value.now)) }
 {

@@ -44,7 +44,7 @@ pub(crate) fn place<'a>(
         }
         Shape::Struct { parts, opened } => put_struct(alloc, parts, *opened, rules, pending),
         Shape::List { front, end } => put_list(alloc, front, end, rules, pending),
-        // The others look at no part.
+        // The others look at no part: of one that does, the clause is false.
         _ => put(rules, Rule::Simple(shape)),
     }
 }

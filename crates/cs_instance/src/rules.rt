@@ -5,7 +5,7 @@ use cs_package::{FieldMark, Shape};
 /// one asked of a document inside by its place in a list of such rules.
 #[derive(Drop)]
 pub(crate) enum Rule<'a> {
-    /// What an expression asks that looks at no part.
+    /// That of an expression that looks at no part.
     Simple(&'a Shape),
     All(Vec<usize>),
     Any(Vec<usize>),
