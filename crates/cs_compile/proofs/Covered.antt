@@ -90,16 +90,7 @@ module _ (E : Environment) (n : List ℕ) where
   here_covered (node (cue.reference m)) c = (c.0, tt)
   here_covered (node (cue.conjunction es)) c = each_over node IsCovered (operands es) (operands_covered es c)
   here_covered (node (cue.disjunction es)) c = each_over node IsCovered (operands es) (operands_covered es c)
-  here_covered (node (cue.atom cue.top)) c = tt
-  here_covered (node (cue.atom cue.bottom)) c = tt
-  here_covered (node (cue.atom cue.null)) c = tt
-  here_covered (node (cue.atom (cue.boolean b))) c = tt
-  here_covered (node (cue.atom (cue.integer z))) c = tt
-  here_covered (node (cue.atom (cue.text s))) c = tt
-  here_covered (node (cue.atom (cue.bound r z))) c = tt
-  here_covered (node (cue.atom (cue.not_integer z))) c = tt
-  here_covered (node (cue.atom (cue.not_text s))) c = tt
-  here_covered (node (cue.atom cue.not_null)) c = tt
+  here_covered (node (cue.atom a)) c = tt
   here_covered (node (cue.kind k)) c = tt
   here_covered (node (cue.range l g)) c = tt
   here_covered (node (cue.struct ds o)) c = tt
@@ -116,16 +107,7 @@ module _ (E : Environment) (n : List ℕ) where
   inner_covered (node (cue.reference m)) c = tt
   inner_covered (node (cue.conjunction es)) c = tt
   inner_covered (node (cue.disjunction es)) c = tt
-  inner_covered (node (cue.atom cue.top)) c = tt
-  inner_covered (node (cue.atom cue.bottom)) c = tt
-  inner_covered (node (cue.atom cue.null)) c = tt
-  inner_covered (node (cue.atom (cue.boolean b))) c = tt
-  inner_covered (node (cue.atom (cue.integer z))) c = tt
-  inner_covered (node (cue.atom (cue.text s))) c = tt
-  inner_covered (node (cue.atom (cue.bound r z))) c = tt
-  inner_covered (node (cue.atom (cue.not_integer z))) c = tt
-  inner_covered (node (cue.atom (cue.not_text s))) c = tt
-  inner_covered (node (cue.atom cue.not_null)) c = tt
+  inner_covered (node (cue.atom a)) c = tt
   inner_covered (node (cue.kind k)) c = tt
   inner_covered (node (cue.range l g)) c = tt
 

@@ -6,7 +6,7 @@ use Rattle.cs_document.proofs.SampleDocuments.{number, array, map_of as object}
 use Rattle.cs_package.specs.Environment.{Environment}
 use Rattle.cs_package.specs.Expression as cue
 use Rattle.cs_package.specs.Expression.{Declaration}
-use Rattle.cs_instance.specs.Constraint.{nothing, always, never, the_null, the_integer, of_kind, all_of, any_of, object_of, list_of, fields_hold}
+use Rattle.cs_instance.specs.Constraint.{nothing, simple, all_of, any_of, object_of, list_of, is_of_kind, admits, fields_hold}
 use Rattle.cs_instance.specs.Earlier.{fields_hold_earlier, is_object_earlier, is_satisfied_earlier, IsEarlierRule, IsInstanceEarlier}
 use Rattle.cs_instance.specs.Instance.{Rule, definition, node}
 use Rattle.cs_instance.proofs.Rows as rows
@@ -60,7 +60,7 @@ objects_alone : map (is_object_earlier nat_eq [] true) every_kind ≡ false ∷ 
 objects_alone = refl
 
 -- a closed struct by its labels, and each other form as now: `_`, `_|_`, `null`, `1`, `string`, `&`, `|`, `{...}`, `{}` and `[]`
-of_one : map (λ a. is_satisfied_earlier (λ b. b) nat_eq a (an_integer (pos 1))) (always ∷ never ∷ the_null ∷ the_integer (pos 1) ∷ of_kind cue.string ∷ all_of (true ∷ false ∷ []) ∷ any_of (true ∷ false ∷ []) ∷ object_of [] true ∷ list_of [] nothing ∷ [])
+of_one : map (λ a. is_satisfied_earlier (λ b. b) nat_eq a (an_integer (pos 1))) (simple (admits cue.top) ∷ simple (admits cue.bottom) ∷ simple (admits cue.null) ∷ simple (admits (cue.integer (pos 1))) ∷ simple (is_of_kind cue.string) ∷ all_of (true ∷ false ∷ []) ∷ any_of (true ∷ false ∷ []) ∷ object_of [] true ∷ list_of [] nothing ∷ [])
     ≡ true ∷ false ∷ false ∷ true ∷ false ∷ false ∷ true ∷ false ∷ false ∷ []
 of_one = refl
 
@@ -95,8 +95,8 @@ module _ (I : Rule → Document → Bool) (was : IsInstanceEarlier declared_a I)
   abbrev a_of : Document → Document
   a_of x = object ((codes "a", x) ∷ [])
 
-  admits : of_a (a_of (number 1)) ≡ true
-  admits = rw (was (definition (codes "A")) (a_of (number 1)) tt, was (node a_is_int) (a_of (number 1)) (tt, tt, tt), was (node int) (number 1) tt) refl
+  admits_a_number : of_a (a_of (number 1)) ≡ true
+  admits_a_number = rw (was (definition (codes "A")) (a_of (number 1)) tt, was (node a_is_int) (a_of (number 1)) (tt, tt, tt), was (node int) (number 1) tt) refl
 
   refuses_a_text : of_a (a_of (word (codes "s"))) ≡ false
   refuses_a_text = rw (was (definition (codes "A")) (a_of (word (codes "s"))) tt, was (node a_is_int) (a_of (word (codes "s"))) (tt, tt, tt), was (node int) (word (codes "s")) tt) refl

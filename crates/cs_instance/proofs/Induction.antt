@@ -54,16 +54,7 @@ module _ (E : Environment) (P : Rule → Document → Type 0) (step : (r : Rule)
         through (cue.reference n) d = step (node (cue.reference n)) x (done n d.0, tt) kids
         through (cue.conjunction es) d = step (node (cue.conjunction es)) x (throughs es d) kids
         through (cue.disjunction es) d = step (node (cue.disjunction es)) x (throughs es d) kids
-        through (cue.atom cue.top) d = step (node (cue.atom cue.top)) x tt kids
-        through (cue.atom cue.bottom) d = step (node (cue.atom cue.bottom)) x tt kids
-        through (cue.atom cue.null) d = step (node (cue.atom cue.null)) x tt kids
-        through (cue.atom (cue.boolean b)) d = step (node (cue.atom (cue.boolean b))) x tt kids
-        through (cue.atom (cue.integer n)) d = step (node (cue.atom (cue.integer n))) x tt kids
-        through (cue.atom (cue.text s)) d = step (node (cue.atom (cue.text s))) x tt kids
-        through (cue.atom (cue.bound r n)) d = step (node (cue.atom (cue.bound r n))) x tt kids
-        through (cue.atom (cue.not_integer n)) d = step (node (cue.atom (cue.not_integer n))) x tt kids
-        through (cue.atom (cue.not_text s)) d = step (node (cue.atom (cue.not_text s))) x tt kids
-        through (cue.atom cue.not_null) d = step (node (cue.atom cue.not_null)) x tt kids
+        through (cue.atom a) d = step (node (cue.atom a)) x tt kids
         through (cue.kind k) d = step (node (cue.kind k)) x tt kids
         through (cue.range l g) d = step (node (cue.range l g)) x tt kids
         through (cue.struct ds o) d = step (node (cue.struct ds o)) x tt kids

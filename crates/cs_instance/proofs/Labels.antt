@@ -104,7 +104,6 @@ module _ (E : Environment) (labelled : IsLabelledEnvironment E) where
       by None = tt
       by (Some bs) = tt
   asks_labels (node (cue.struct ds o)) h = declarations_labelled ds h
-  asks_labels (node (cue.atom cue.top)) h = tt
   asks_labels (node _) h = tt
 
   here_labelled : (r : Rule) → IsEarlierRule r → Each IsEarlierRule (here_parts (constraint_of E r))
@@ -116,7 +115,6 @@ module _ (E : Environment) (labelled : IsLabelledEnvironment E) where
   here_labelled (node (cue.reference n)) h = (tt, tt)
   here_labelled (node (cue.conjunction es)) h = operands_labelled es h
   here_labelled (node (cue.disjunction es)) h = operands_labelled es h
-  here_labelled (node (cue.atom cue.top)) h = tt
   here_labelled (node _) h = tt
 
   inner_labelled : (r : Rule) → IsEarlierRule r → Each IsLabelled (inner_parts (constraint_of E r))
@@ -127,7 +125,6 @@ module _ (E : Environment) (labelled : IsLabelledEnvironment E) where
       by (Some bs) = tt
   inner_labelled (node (cue.struct ds o)) h = values_labelled ds h
   inner_labelled (node (cue.list es r)) h = elements_labelled es r h.0 h.1
-  inner_labelled (node (cue.atom cue.top)) h = tt
   inner_labelled (node _) h = tt
 
   -- an instance relation is one by the older reading

@@ -7,7 +7,7 @@ use Rattle.cs_document.specs.Opened.{Opened, a_null, a_boolean, an_integer, a_te
 use Rattle.cs_document.proofs.Each.{each_map, all_same, any_same}
 use Rattle.cs_document.proofs.Children.{values, within}
 use Rattle.cs_package.specs.Expression.{Declaration, is_every}
-use Rattle.cs_instance.specs.Constraint.{Rest, nothing, anything, each, Constraint, always, never, the_null, the_boolean, the_integer, the_text, of_kind, in_range, bounded, another_integer, another_text, not_the_null, all_of, any_of, object_of, list_of, is_satisfied, allows, value_holds, declaration_holds, rest_holds, elements_hold}
+use Rattle.cs_instance.specs.Constraint.{Rest, nothing, anything, each, Constraint, simple, all_of, any_of, object_of, list_of, is_satisfied, allows, value_holds, declaration_holds, rest_holds, elements_hold}
 
 -- the parts asked of the same document
 abbrev pub here_parts : {D N : Type 0} → Constraint D N → List D
@@ -72,18 +72,7 @@ module _ {A N : Type 0} (inside inside' : A → N → Bool) where
 module _ {A D N : Type 0} (here here' : D → Bool) (inside inside' : A → N → Bool) where
   -- what is asked of a document rests on the parts alone
   pub satisfied_same : (a : Constraint D N) (x : Opened A) → Each (λ r. here r ≡ here' r) (here_parts a) → Each (SameAt inside inside' (inner_parts a)) (within x) → is_satisfied here inside a x ≡ is_satisfied here' inside' a x
-  satisfied_same always x d w = refl
-  satisfied_same never x d w = refl
-  satisfied_same the_null x d w = refl
-  satisfied_same (the_boolean b) x d w = refl
-  satisfied_same (the_integer n) x d w = refl
-  satisfied_same (the_text s) x d w = refl
-  satisfied_same (of_kind k) x d w = refl
-  satisfied_same (in_range l g) x d w = refl
-  satisfied_same (bounded r n) x d w = refl
-  satisfied_same (another_integer n) x d w = refl
-  satisfied_same (another_text s) x d w = refl
-  satisfied_same not_the_null x d w = refl
+  satisfied_same (simple p) x d w = refl
   satisfied_same (all_of rs) x d w = all_same here here' rs d
   satisfied_same (any_of rs) x d w = any_same here here' rs d
   satisfied_same (object_of ds o) (an_object ms) d w = ap (λ b. b && (o || list_all (λ (m : Entry A). list_any (λ (c : Declaration N). allows c m.0) ds) ms)) (declarations_same inside inside' ds ms w)

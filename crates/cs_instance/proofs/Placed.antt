@@ -8,16 +8,18 @@ use Rattle.std.proofs.lemmas.Result.{IfOk-weaker}
 use Rattle.cs_package.specs.Expression as cue
 use Rattle.cs_package.specs.Expression.{Expression, Declaration, operands, declarations}
 use Rattle.cs_package.specs.Environment.{Environment}
-use Rattle.cs_package.specs.View.{expressions_of, declarations_of}
+use Rattle.cs_package.specs.View.{expression_of, expressions_of, declarations_of}
 use Rattle.cs_package.specs.declared.shape.Shape.{Shape}
 use Rattle.cs_guard.specs.References.{direct}
-use Rattle.cs_instance.specs.Constraint.{Rest, nothing, anything, each, Constraint, always, never, the_null, the_boolean, the_integer, the_text, of_kind, in_range, bounded, another_integer, another_text, not_the_null, all_of, any_of, object_of, list_of}
+use Rattle.cs_instance.specs.Constraint.{Rest, nothing, anything, each, Constraint, simple, all_of, any_of, object_of, list_of}
 use Rattle.cs_instance.specs.Instance.{Rule, definition, node, constraint_of}
 use Rattle.cs_instance.specs.Numbering.{map_declaration, map_rest, map_constraint, PartsBelow, RestBelow, rule_at}
 use Rattle.cs_instance.specs.declared.rules.Rule.{Rule as Coded}
+use Rattle.cs_instance.specs.declared.rules.Rule.TheVariants as coded
 use Rattle.cs_instance.specs.Props.{parts_weaker}
-use Rattle.cs_instance.specs.Steps.{asked_of}
+use Rattle.cs_instance.specs.Steps.{test_of, asked_of}
 use Rattle.cs_instance.specs.Placing.{waiting, expression_at, AreNumbered, AreAt, placed_by, left_by, IsKnown, Places}
+use Rattle.cs_instance.proofs.Views.{IsSimple}
 
 pub got_push : {X : Type 0} (xs : List X) (x y : X) (r : ℕ) → slice_get (xs ++ x ∷ []) r ≡ Some y → ((r < length xs) × (slice_get xs r ≡ Some y)) ⊎ ((r ≡ length xs) × (x ≡ y))
 got_push [] x y zero e = inr (refl, cc)
@@ -46,22 +48,11 @@ module _ {D N : Type 0} (n m : ℕ) (f f' : ℕ → D) (g g' : ℕ → N) (h : (
   rest_same (each p) b = ap each (k p b)
 
   pub names_same : (a : Constraint ℕ ℕ) → PartsBelow n m a → map_constraint f g a ≡ map_constraint f' g' a
+  names_same (simple p) b = refl
   names_same (all_of ds) b = ap all_of (numbers_same n f f' h ds b)
   names_same (any_of ds) b = ap any_of (numbers_same n f f' h ds b)
   names_same (object_of ds o) b = ap (λ fs. object_of fs o) (declarations_same ds b)
   names_same (list_of es rest) b = ap₂ list_of (numbers_same m g g' k es b.0) (rest_same rest b.1)
-  names_same always b = refl
-  names_same never b = refl
-  names_same the_null b = refl
-  names_same (the_boolean t) b = refl
-  names_same (the_integer z) b = refl
-  names_same (the_text s) b = refl
-  names_same (of_kind q) b = refl
-  names_same (in_range l u) b = refl
-  names_same (bounded r l) b = refl
-  names_same (another_integer z) b = refl
-  names_same (another_text s) b = refl
-  names_same not_the_null b = refl
 
 pub at_front : (xs ys : List Rule) (d : ℕ) → d < length xs → rule_at xs d ≡ rule_at (xs ++ ys) d
 at_front xs ys d l = sym (get_or_append_left xs ys (node (cue.atom cue.top)) d l)
@@ -145,14 +136,14 @@ alone E placed e before more after old asked n w s asks parts =
     }
 
 -- an expression without parts
-pub leaf : (result : Result ℕ AllocError) (numbers : List ℕ) (old new : List Coded) (rule : Coded) (before : List (Bor Shape)) (e : Expression)
-    → IfOk result (λ k. (k ≡ length old) × (new ≡ old ++ rule ∷ [])) → placed_by e ≡ node e ∷ [] → left_by e ≡ []
-    → ((E : Environment) (f : ℕ → Rule) (g : ℕ → Expression) → constraint_of E (node e) ≡ map_constraint f g (asked_of rule)) → ((n m : ℕ) → PartsBelow n m (asked_of rule))
-    → IfOk result (Places numbers old new before before (λ names. e))
-leaf result numbers old new rule before e done s l asks parts =
-    let waits = λ (names : List (List ℕ)). sym (append-nil (waiting names before)) ∙ ap (λ xs. waiting names before ++ xs) (sym l) in
-    finish result numbers old old new rule before before (λ names. e) done waits
-    (λ names E placed n refs. alone E placed e (waiting names before) (left_by e) (waiting names before) old (asked_of rule) n (waits names) s (asks E (rule_at placed) (expression_at (waiting names before))) (parts (length placed) (length (waiting names before))))
+pub simply_placed : (result : Result ℕ AllocError) (numbers : List ℕ) (old new : List Coded) (before : List (Bor Shape)) (s : Bor Shape)
+    → IfOk result (λ k. (k ≡ length old) × (new ≡ old ++ coded.Simple s ∷ [])) → ((names : List (List ℕ)) → IsSimple (test_of (expression_of [] s.now)) (expression_of names s.now))
+    → IfOk result (Places numbers old new before before (λ names. expression_of names s.now))
+simply_placed result numbers old new before s done is =
+    let e = λ (names : List (List ℕ)). expression_of names s.now in
+    let waits = λ (names : List (List ℕ)). sym (append-nil (waiting names before)) ∙ ap (λ xs. waiting names before ++ xs) (sym (is names).1) in
+    finish result numbers old old new (coded.Simple s) before before e done waits
+    (λ names E placed n refs. alone E placed (e names) (waiting names before) (left_by (e names)) (waiting names before) old (asked_of (coded.Simple s)) n (waits names) (is names).0 ((is names).2 E) tt)
 
 -- the same, of an equal expression
 pub same_places : (result : Result ℕ AllocError) (numbers : List ℕ) (old new : List Coded) (before after : List (Bor Shape)) (e e' : List (List ℕ) → Expression) → ((names : List (List ℕ)) → e names ≡ e' names)

@@ -67,10 +67,10 @@ referring result numbers old new before v i number done vs is =
     (ap all_of (ap (λ s. s ∷ []) (sym at) ∙ ap (map (rule_at placed)) (sym vs))) (subst (Each (λ d. d < length placed)) (sym vs) (below, tt)))
 
 -- a definition without a number isn't referred to
-pub not_referring : (result : Result ℕ AllocError) (numbers : List ℕ) (old new : List Coded) (before : List (Bor Shape)) (i : ℕ)
-    → Pushed result old new coded.Never → length numbers ≤ i → IfOk result (Places numbers old new before before (λ names. cue.reference (get_or names i [])))
-not_referring result numbers old new before i done past =
-    finish result numbers old old new coded.Never before before (λ names. cue.reference (get_or names i [])) done (λ names. sym (append-nil (waiting names before)))
+pub not_referring : (result : Result ℕ AllocError) (numbers : List ℕ) (old new : List Coded) (before : List (Bor Shape)) (rule : Coded) (i : ℕ)
+    → Pushed result old new rule → length numbers ≤ i → IfOk result (Places numbers old new before before (λ names. cue.reference (get_or names i [])))
+not_referring result numbers old new before rule i done past =
+    finish result numbers old old new rule before before (λ names. cue.reference (get_or names i [])) done (λ names. sym (append-nil (waiting names before)))
     (λ names E placed n refs. absurd (let l = (refs.0 i refl).0 in omega (arith, past, l)))
 
 wide : (names : List (List ℕ)) (bs : List (Bor Shape)) → length bs ≡ length (waiting names bs)

@@ -17,7 +17,7 @@ use Rattle.cs_package.specs.Environment.{Environment}
 use Rattle.cs_package.specs.View.{expressions_of}
 use Rattle.cs_guard.specs.References.{strong, strong_of}
 use Rattle.cs_guard.proofs.Chains.{alone-guarded}
-use Rattle.cs_instance.specs.Constraint.{is_integer}
+use Rattle.cs_instance.specs.Constraint.{is_integer, outline}
 use Rattle.cs_instance.specs.Instance.{Rule, definition, node, IsInstance, OneMeaning}
 use Rattle.cs_instance.proofs.Meaning.{is_settled, value_after, computed, one_meaning}
 
@@ -232,7 +232,7 @@ beyond = more_than (pos 9223372036854775807)
 no_document : (I : Rule → Document → Bool) → IsInstance (only (codes "G") beyond) I → (x : Document) → IsDocument x → I (definition (codes "G")) x ≡ false
 no_document I h x d = h (definition (codes "G")) x ∙ ap (λ b. b && true) (h (node beyond) x) ∙ by x d
   where
-    by : (y : Document) → IsDocument y → (is_integer (λ z. int_lt (pos 9223372036854775807) z) (json_opened y) && true) ≡ false
+    by : (y : Document) → IsDocument y → (is_integer (λ z. int_lt (pos 9223372036854775807) z) (outline (json_opened y)) && true) ≡ false
     by json.null e = refl
     by (json.boolean b) e = refl
     by (json.integer z) e = ap (λ b. b && true) (above_all z e)

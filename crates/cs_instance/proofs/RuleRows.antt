@@ -5,7 +5,7 @@ use Rattle.std.proofs.lemmas.Option.{same_Some}
 use Rattle.cs_package.specs.Expression as cue
 use Rattle.cs_package.specs.Expression.{Expression, optional, regular}
 use Rattle.cs_package.specs.Environment.{Environment}
-use Rattle.cs_instance.specs.Constraint.{Constraint, each, of_kind, all_of, object_of, list_of}
+use Rattle.cs_instance.specs.Constraint.{Constraint, each, simple, all_of, object_of, list_of, is_of_kind}
 use Rattle.cs_instance.specs.Instance.{Rule, definition, node, constraint_of}
 use Rattle.cs_instance.specs.Numbering.{map_constraint, PartsBelow, rule_at, IsNumbering}
 use Rattle.cs_instance.specs.Rules.{subexpressions, rules_of}
@@ -79,7 +79,7 @@ tree_rules = node tree ∷ definition (codes "T") ∷ node int ∷ node kids ∷
 abbrev tree_asked : List (Constraint ℕ ℕ)
 tree_asked =
     object_of (record { label = codes "v"; mark = regular; value = 2 } ∷ record { label = codes "kids"; mark = optional; value = 3 } ∷ []) false
-    ∷ all_of (0 ∷ []) ∷ of_kind cue.int ∷ list_of [] (each 4) ∷ all_of (1 ∷ []) ∷ []
+    ∷ all_of (0 ∷ []) ∷ simple (is_of_kind cue.int) ∷ list_of [] (each 4) ∷ all_of (1 ∷ []) ∷ []
 
 abbrev Asks : List Rule → ℕ → Constraint ℕ ℕ → Type 0
 Asks rules r c = map_constraint (λ p. p) node (constraint_of trees (rule_at rules r)) ≡ map_constraint (rule_at rules) (rule_at rules) c

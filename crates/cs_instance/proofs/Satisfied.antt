@@ -6,8 +6,8 @@ use Rattle.std.proofs.lemmas.List.Folds.{list_all-map}
 use Rattle.cs_document.specs.Document.{Entry, under}
 use Rattle.cs_document.specs.Opened.{Opened, a_null, a_boolean, an_integer, a_text, a_list, an_object}
 use Rattle.cs_document.specs.Inside.{map_entry, map_opened}
-use Rattle.cs_package.specs.Expression.{int, number, string, bool, Declaration, is_every}
-use Rattle.cs_instance.specs.Constraint.{Rest, nothing, anything, each, Constraint, always, never, the_null, the_boolean, the_integer, the_text, of_kind, in_range, bounded, another_integer, another_text, not_the_null, all_of, any_of, object_of, list_of, is_satisfied, allows, value_holds, declaration_holds, rest_holds, elements_hold}
+use Rattle.cs_package.specs.Expression.{Declaration, is_every}
+use Rattle.cs_instance.specs.Constraint.{Rest, nothing, anything, each, Constraint, simple, all_of, any_of, object_of, list_of, outline, is_satisfied, allows, value_holds, declaration_holds, rest_holds, elements_hold}
 use Rattle.cs_instance.specs.Numbering.{map_declaration, map_rest, map_constraint}
 
 any_of_map : {X Y : Type 0} (p : Y → Bool) (f : X → Y) (xs : List X) → list_any p (map f xs) ≡ list_any (λ x. p (f x)) xs
@@ -44,18 +44,7 @@ module _ {A D N D' N' : Type 0} (f : D → D') (g : N → N') (here : D' → Boo
   elements_named (e ∷ es) r (y ∷ ys) = ap (λ b. inside y (g e) && b) (elements_named es r ys)
 
   pub named : (a : Constraint D N) (o : Opened A) → is_satisfied here inside (map_constraint f g a) o ≡ is_satisfied (λ q. here (f q)) (λ y q. inside y (g q)) a o
-  named always o = refl
-  named never o = refl
-  named the_null o = refl
-  named (the_boolean b) o = refl
-  named (the_integer n) o = refl
-  named (the_text t) o = refl
-  named (of_kind k) o = refl
-  named (in_range l u) o = refl
-  named (bounded r l) o = refl
-  named (another_integer k) o = refl
-  named (another_text t) o = refl
-  named not_the_null o = refl
+  named (simple p) o = refl
   named (all_of es) o = list_all-map here f es
   named (any_of es) o = any_of_map here f es
   named (object_of ds c) a_null = refl
@@ -101,89 +90,18 @@ module _ {A C D N : Type 0} (f : A → C) (here : D → Bool) (inside : C → N 
   elements_at (e ∷ es) r [] = refl
   elements_at (e ∷ es) r (y ∷ ys) = ap (λ b. inside (f y) e && b) (elements_at es r ys)
 
+  same_outline : (o : Opened A) → outline (map_opened f o) ≡ outline o
+  same_outline a_null = refl
+  same_outline (a_boolean b) = refl
+  same_outline (an_integer z) = refl
+  same_outline (a_text s) = refl
+  same_outline (a_list ys) = refl
+  same_outline (an_object ms) = refl
+
   pub at_documents : (a : Constraint D N) (o : Opened A) → is_satisfied here inside a (map_opened f o) ≡ is_satisfied here (λ y q. inside (f y) q) a o
-  at_documents always o = refl
-  at_documents never o = refl
+  at_documents (simple p) o = ap p (same_outline o)
   at_documents (all_of es) o = refl
   at_documents (any_of es) o = refl
-  at_documents the_null a_null = refl
-  at_documents the_null (a_boolean z) = refl
-  at_documents the_null (an_integer z) = refl
-  at_documents the_null (a_text z) = refl
-  at_documents the_null (a_list z) = refl
-  at_documents the_null (an_object z) = refl
-  at_documents (the_boolean b) a_null = refl
-  at_documents (the_boolean b) (a_boolean z) = refl
-  at_documents (the_boolean b) (an_integer z) = refl
-  at_documents (the_boolean b) (a_text z) = refl
-  at_documents (the_boolean b) (a_list z) = refl
-  at_documents (the_boolean b) (an_object z) = refl
-  at_documents (the_integer n) a_null = refl
-  at_documents (the_integer n) (a_boolean z) = refl
-  at_documents (the_integer n) (an_integer z) = refl
-  at_documents (the_integer n) (a_text z) = refl
-  at_documents (the_integer n) (a_list z) = refl
-  at_documents (the_integer n) (an_object z) = refl
-  at_documents (the_text t) a_null = refl
-  at_documents (the_text t) (a_boolean z) = refl
-  at_documents (the_text t) (an_integer z) = refl
-  at_documents (the_text t) (a_text z) = refl
-  at_documents (the_text t) (a_list z) = refl
-  at_documents (the_text t) (an_object z) = refl
-  at_documents (in_range l u) a_null = refl
-  at_documents (in_range l u) (a_boolean z) = refl
-  at_documents (in_range l u) (an_integer z) = refl
-  at_documents (in_range l u) (a_text z) = refl
-  at_documents (in_range l u) (a_list z) = refl
-  at_documents (in_range l u) (an_object z) = refl
-  at_documents (bounded r l) a_null = refl
-  at_documents (bounded r l) (a_boolean z) = refl
-  at_documents (bounded r l) (an_integer z) = refl
-  at_documents (bounded r l) (a_text z) = refl
-  at_documents (bounded r l) (a_list z) = refl
-  at_documents (bounded r l) (an_object z) = refl
-  at_documents (another_integer n) a_null = refl
-  at_documents (another_integer n) (a_boolean z) = refl
-  at_documents (another_integer n) (an_integer z) = refl
-  at_documents (another_integer n) (a_text z) = refl
-  at_documents (another_integer n) (a_list z) = refl
-  at_documents (another_integer n) (an_object z) = refl
-  at_documents (another_text t) a_null = refl
-  at_documents (another_text t) (a_boolean z) = refl
-  at_documents (another_text t) (an_integer z) = refl
-  at_documents (another_text t) (a_text z) = refl
-  at_documents (another_text t) (a_list z) = refl
-  at_documents (another_text t) (an_object z) = refl
-  at_documents not_the_null a_null = refl
-  at_documents not_the_null (a_boolean z) = refl
-  at_documents not_the_null (an_integer z) = refl
-  at_documents not_the_null (a_text z) = refl
-  at_documents not_the_null (a_list z) = refl
-  at_documents not_the_null (an_object z) = refl
-  at_documents (of_kind int) a_null = refl
-  at_documents (of_kind int) (a_boolean z) = refl
-  at_documents (of_kind int) (an_integer z) = refl
-  at_documents (of_kind int) (a_text z) = refl
-  at_documents (of_kind int) (a_list z) = refl
-  at_documents (of_kind int) (an_object z) = refl
-  at_documents (of_kind number) a_null = refl
-  at_documents (of_kind number) (a_boolean z) = refl
-  at_documents (of_kind number) (an_integer z) = refl
-  at_documents (of_kind number) (a_text z) = refl
-  at_documents (of_kind number) (a_list z) = refl
-  at_documents (of_kind number) (an_object z) = refl
-  at_documents (of_kind string) a_null = refl
-  at_documents (of_kind string) (a_boolean z) = refl
-  at_documents (of_kind string) (an_integer z) = refl
-  at_documents (of_kind string) (a_text z) = refl
-  at_documents (of_kind string) (a_list z) = refl
-  at_documents (of_kind string) (an_object z) = refl
-  at_documents (of_kind bool) a_null = refl
-  at_documents (of_kind bool) (a_boolean z) = refl
-  at_documents (of_kind bool) (an_integer z) = refl
-  at_documents (of_kind bool) (a_text z) = refl
-  at_documents (of_kind bool) (a_list z) = refl
-  at_documents (of_kind bool) (an_object z) = refl
   at_documents (object_of ds c) a_null = refl
   at_documents (object_of ds c) (a_boolean z) = refl
   at_documents (object_of ds c) (an_integer z) = refl

@@ -1,5 +1,5 @@
 -- The instance relation is the table of its judge.
-use Rattle.std.proofs.Common.{◌≡◌, ℕ, ◌*◌, ◌<◌, ◌≤◌, Bool, List, map, length, get_or, slice_index, refl, sym, ap, ap₂, ◌∙◌, subst, arith}
+use Rattle.std.proofs.Common.{◌≡◌, ℕ, ◌*◌, ◌<◌, ◌≤◌, Bool, List, [], map, length, get_or, slice_index, refl, sym, ap, ap₂, ◌∙◌, subst, arith}
 use Rattle.std.proofs.lemmas.Option.{slice_get-get_or}
 use Rattle.std.proofs.lemmas.List.{length-map}
 use Rattle.std.proofs.lemmas.List.Sorted.{length_permutation}
@@ -16,7 +16,7 @@ use Rattle.cs_table.specs.declared.fault.TableFault.TheVariants as table
 use Rattle.cs_rules.specs.Answers.{answer}
 use Rattle.cs_rules.proofs.Judged.{answer_is, coded_found}
 use Rattle.cs_package.specs.Environment.{Environment, Names, written}
-use Rattle.cs_instance.specs.Constraint.{always, is_satisfied}
+use Rattle.cs_instance.specs.Constraint.{all_of, is_satisfied}
 use Rattle.cs_instance.specs.Instance.{Rule, node, constraint_of, IsInstance}
 use Rattle.cs_instance.specs.Numbering.{map_constraint, rule_at}
 use Rattle.cs_instance.specs.Rules.{rules_of, HasManyPairs}
@@ -55,9 +55,9 @@ module _ (E : Environment) (n : List ℕ) (d : Document) (root ic rc : ℕ) (jud
     is_judged i r l m =
         let within : r < length j.asked = omega (arith, m, j.rule_count, j.numbering.count) in
         let inside : i < length (items d) = omega (arith, l, j.item_count, are.count) in
-        let c = get_or j.asked r always in
+        let c = get_or j.asked r (all_of []) in
         let o = get_or (items d) i a_null in
-        let e = slice_get-get_or j.asked r always within in
+        let e = slice_get-get_or j.asked r (all_of []) within in
         let k = slice_get-get_or (items d) i a_null inside in
         let x = node_at (nodes d) i in
         step_is (rule_at j.all r) x

@@ -19,7 +19,7 @@ use Rattle.cs_graph.specs.Chains.{On, Distinct, Chain}
 use Rattle.cs_guard.specs.Reachable.{referred, referred_all, referred_of, RefersTo, Reaches, AreReachable, last_of}
 use Rattle.cs_guard.specs.Numbered.{name_of}
 use Rattle.cs_guard.proofs.Numbers.{on_contains, contains_on}
-use Rattle.cs_instance.specs.Constraint.{Rest, nothing, anything, each, Constraint, always, never, the_null, the_boolean, the_integer, the_text, of_kind, in_range, bounded, another_integer, another_text, not_the_null, all_of, any_of, object_of, list_of}
+use Rattle.cs_instance.specs.Constraint.{Rest, nothing, anything, each, Constraint, simple, all_of, any_of, object_of, list_of}
 use Rattle.cs_instance.specs.Instance.{Rule, definition, node}
 use Rattle.cs_instance.specs.Numbering.{map_declaration, map_rest, map_constraint, PartsBelow, RestBelow, rule_at, IsNumbering}
 use Rattle.cs_instance.specs.Rules.{rules_of, rules_of_one}
@@ -113,18 +113,7 @@ module _ {D D' D'' N N' N'' : Type 0} (f' : D' → D'') (g' : N' → N'') (f : D
   rest_twice (each e) = refl
 
   pub twice : (a : Constraint D N) → map_constraint f' g' (map_constraint f g a) ≡ map_constraint (λ x. f' (f x)) (λ x. g' (g x)) a
-  twice always = refl
-  twice never = refl
-  twice the_null = refl
-  twice (the_boolean b) = refl
-  twice (the_integer z) = refl
-  twice (the_text s) = refl
-  twice (of_kind k) = refl
-  twice (in_range l u) = refl
-  twice (bounded r z) = refl
-  twice (another_integer z) = refl
-  twice (another_text s) = refl
-  twice not_the_null = refl
+  twice (simple p) = refl
   twice (all_of rs) = ap all_of (map-map f' f rs)
   twice (any_of rs) = ap any_of (map-map f' f rs)
   twice (object_of ds o) = ap (λ xs. object_of xs o) (declarations_twice ds)
@@ -154,18 +143,7 @@ module _ (g : ℕ → ℕ) (m k : ℕ) (lower : (p : ℕ) → p < m → g p < k)
   kept_each n (r ∷ rs) h = (h.0, kept_each n rs h.1)
 
   pub numbers_below : (n : ℕ) (a : Constraint ℕ ℕ) → PartsBelow n m a → PartsBelow n k (map_constraint (λ r. r) g a)
-  numbers_below n always h = tt
-  numbers_below n never h = tt
-  numbers_below n the_null h = tt
-  numbers_below n (the_boolean b) h = tt
-  numbers_below n (the_integer z) h = tt
-  numbers_below n (the_text s) h = tt
-  numbers_below n (of_kind q) h = tt
-  numbers_below n (in_range l u) h = tt
-  numbers_below n (bounded r z) h = tt
-  numbers_below n (another_integer z) h = tt
-  numbers_below n (another_text s) h = tt
-  numbers_below n not_the_null h = tt
+  numbers_below n (simple p) h = tt
   numbers_below n (all_of rs) h = kept_each n rs h
   numbers_below n (any_of rs) h = kept_each n rs h
   numbers_below n (object_of ds o) h = below_fields ds h

@@ -7,7 +7,20 @@ use Rattle.std.specs.Ordering.{int_eq}
 use Rattle.std.specs.Str.{bytes_eq}
 use Rattle.cs_document.specs.Document.{Entry, under}
 use Rattle.cs_document.specs.Opened.{Opened, a_null, a_boolean, an_integer, a_text, a_list, an_object}
-use Rattle.cs_package.specs.Expression.{Kind, int, number, string, bool, Relation, less, at_most, more, at_least, DeclarationMark, regular, optional, required, every, is_every, Declaration}
+use Rattle.cs_grammar.specs.Atom.{Atom}
+use Rattle.cs_package.specs.Expression.{Kind, int, number, string, bool, Relation, less, at_most, more, at_least, top, bottom, null, boolean, integer, text, bound, not_integer, not_text, not_null, DeclarationMark, regular, optional, required, every, is_every, Declaration}
+
+-- a document without its parts: its kind, and where it is no list and no map its value
+abbrev pub Outline : Type 0
+Outline = Opened ⊥
+
+abbrev pub outline : {A : Type 0} → Opened A → Outline
+outline a_null = a_null
+outline (a_boolean b) = a_boolean b
+outline (an_integer z) = an_integer z
+outline (a_text s) = a_text s
+outline (a_list ys) = a_list []
+outline (an_object ms) = an_object []
 
 -- what is behind the fixed elements of a list
 pub data Rest (N : Type 0) : Type 0 where
@@ -15,21 +28,8 @@ pub data Rest (N : Type 0) : Type 0 where
   each : N → Rest N
 
 pub data Constraint (D N : Type 0) : Type 0 where
-  -- every document, and none
-  always never : Constraint D N
-  -- one atom
-  the_null : Constraint D N
-  the_boolean : Bool → Constraint D N
-  the_integer : ℤ → Constraint D N
-  the_text : List ℕ → Constraint D N
-  -- atoms of a kind, integers of a range, integers in a relation to one
-  of_kind : Kind → Constraint D N
-  in_range : ℤ → Option ℤ → Constraint D N
-  bounded : Relation → ℤ → Constraint D N
-  -- integers but one, texts but one, everything but null
-  another_integer : ℤ → Constraint D N
-  another_text : List ℕ → Constraint D N
-  not_the_null : Constraint D N
+  -- a test that looks at no part
+  simple : (Outline → Bool) → Constraint D N
   -- all of these rules, and some of them
   all_of any_of : List D → Constraint D N
   -- a map with these declarations, and whether it may have other keys
@@ -37,47 +37,46 @@ pub data Constraint (D N : Type 0) : Type 0 where
   -- a list of these elements, and the rest
   list_of : List N → Rest N → Constraint D N
 
--- ---- atoms (CUE language specification, "Values", "Bounds", "Predeclared identifiers")
+-- ---- what looks at no part (CUE language specification, "Values", "Bounds", "Predeclared identifiers")
 
-module _ {A : Type 0} where
-  abbrev pub is_null : Opened A → Bool
-  is_null a_null = true
-  is_null (a_boolean b) = false
-  is_null (an_integer z) = false
-  is_null (a_text s) = false
-  is_null (a_list ys) = false
-  is_null (an_object ms) = false
+abbrev pub is_null : Outline → Bool
+is_null a_null = true
+is_null (a_boolean b) = false
+is_null (an_integer z) = false
+is_null (a_text s) = false
+is_null (a_list ys) = false
+is_null (an_object ms) = false
 
-  abbrev pub is_boolean : (Bool → Bool) → Opened A → Bool
-  is_boolean p a_null = false
-  is_boolean p (a_boolean b) = p b
-  is_boolean p (an_integer z) = false
-  is_boolean p (a_text s) = false
-  is_boolean p (a_list ys) = false
-  is_boolean p (an_object ms) = false
+abbrev pub is_boolean : (Bool → Bool) → Outline → Bool
+is_boolean p a_null = false
+is_boolean p (a_boolean b) = p b
+is_boolean p (an_integer z) = false
+is_boolean p (a_text s) = false
+is_boolean p (a_list ys) = false
+is_boolean p (an_object ms) = false
 
-  abbrev pub is_integer : (ℤ → Bool) → Opened A → Bool
-  is_integer p a_null = false
-  is_integer p (a_boolean b) = false
-  is_integer p (an_integer z) = p z
-  is_integer p (a_text s) = false
-  is_integer p (a_list ys) = false
-  is_integer p (an_object ms) = false
+abbrev pub is_integer : (ℤ → Bool) → Outline → Bool
+is_integer p a_null = false
+is_integer p (a_boolean b) = false
+is_integer p (an_integer z) = p z
+is_integer p (a_text s) = false
+is_integer p (a_list ys) = false
+is_integer p (an_object ms) = false
 
-  abbrev pub is_text : (List ℕ → Bool) → Opened A → Bool
-  is_text p a_null = false
-  is_text p (a_boolean b) = false
-  is_text p (an_integer z) = false
-  is_text p (a_text s) = p s
-  is_text p (a_list ys) = false
-  is_text p (an_object ms) = false
+abbrev pub is_text : (List ℕ → Bool) → Outline → Bool
+is_text p a_null = false
+is_text p (a_boolean b) = false
+is_text p (an_integer z) = false
+is_text p (a_text s) = p s
+is_text p (a_list ys) = false
+is_text p (an_object ms) = false
 
-  -- every number of a document is an integer
-  abbrev pub is_of_kind : Kind → Opened A → Bool
-  is_of_kind int x = is_integer (λ z. true) x
-  is_of_kind number x = is_integer (λ z. true) x
-  is_of_kind string x = is_text (λ s. true) x
-  is_of_kind bool x = is_boolean (λ b. true) x
+-- every number of a document is an integer
+abbrev pub is_of_kind : Kind → Outline → Bool
+is_of_kind int x = is_integer (λ z. true) x
+is_of_kind number x = is_integer (λ z. true) x
+is_of_kind string x = is_text (λ s. true) x
+is_of_kind bool x = is_boolean (λ b. true) x
 
 abbrev pub at_most_or_any : Option ℤ → ℤ → Bool
 at_most_or_any None z = true
@@ -91,6 +90,19 @@ is_related less n z = int_lt z n
 is_related at_most n z = int_le z n
 is_related more n z = int_lt n z
 is_related at_least n z = int_le n z
+
+-- whether a document is an instance of an atom
+abbrev pub admits : Atom → Outline → Bool
+admits top x = true
+admits bottom x = false
+admits null x = is_null x
+admits (boolean b) x = is_boolean (beq b) x
+admits (integer n) x = is_integer (int_eq n) x
+admits (text s) x = is_text (bytes_eq s) x
+admits (bound r n) x = is_integer (is_related r n) x
+admits (not_integer n) x = is_integer (λ z. not (int_eq n z)) x
+admits (not_text s) x = is_text (λ t. not (bytes_eq s t)) x
+admits not_null x = not (is_null x)
 
 -- ---- structs and lists (CUE language specification, "Structs", "Closed structs", "Lists")
 
@@ -154,18 +166,7 @@ module _ {A N : Type 0} (inside : A → N → Bool) where
 
 -- whether the document satisfies the constraint; `here r` says whether it is an instance of r
 abbrev pub is_satisfied : {A D N : Type 0} → (D → Bool) → (A → N → Bool) → Constraint D N → Opened A → Bool
-is_satisfied here inside always x = true
-is_satisfied here inside never x = false
-is_satisfied here inside the_null x = is_null x
-is_satisfied here inside (the_boolean b) x = is_boolean (beq b) x
-is_satisfied here inside (the_integer n) x = is_integer (int_eq n) x
-is_satisfied here inside (the_text s) x = is_text (bytes_eq s) x
-is_satisfied here inside (of_kind k) x = is_of_kind k x
-is_satisfied here inside (in_range least greatest) x = is_integer (is_within least greatest) x
-is_satisfied here inside (bounded r n) x = is_integer (is_related r n) x
-is_satisfied here inside (another_integer n) x = is_integer (λ z. not (int_eq n z)) x
-is_satisfied here inside (another_text s) x = is_text (λ t. not (bytes_eq s t)) x
-is_satisfied here inside not_the_null x = not (is_null x)
+is_satisfied here inside (simple p) x = p (outline x)
 is_satisfied here inside (all_of rs) x = list_all here rs
 is_satisfied here inside (any_of rs) x = list_any here rs
 is_satisfied here inside (object_of ds opened) x = is_object inside ds opened x

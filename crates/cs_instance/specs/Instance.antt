@@ -1,12 +1,12 @@
 -- When a document is an instance of a definition (CUE language specification, "Values" and "Definitions and hidden
 -- fields": the order of the lattice, read for concrete documents).
-use Rattle.std.specs.Prelude.{◌≡◌, ℕ, Bool, List, [], ◌∷◌, Option, Some, None, map}
+use Rattle.std.specs.Prelude.{◌≡◌, ℕ, Bool, false, List, [], ◌∷◌, Option, Some, None, map}
 use Rattle.cs_document.specs.Document.{Document}
 use Rattle.cs_document.specs.Opened.{opened}
 use Rattle.cs_package.specs.Expression as cue
 use Rattle.cs_package.specs.Expression.{Expression, operands, declarations}
 use Rattle.cs_package.specs.Environment.{Environment, bodies}
-use Rattle.cs_instance.specs.Constraint.{Rest, nothing, anything, each, Constraint, always, never, the_null, the_boolean, the_integer, the_text, of_kind, in_range, bounded, another_integer, another_text, not_the_null, all_of, any_of, object_of, list_of, is_satisfied}
+use Rattle.cs_instance.specs.Constraint.{Rest, nothing, anything, each, Constraint, simple, all_of, any_of, object_of, list_of, is_of_kind, is_integer, is_within, admits, is_satisfied}
 
 -- what a document may be an instance of: a definition, by its name without `#`, or an expression
 pub data Rule : Type 0 where
@@ -20,24 +20,15 @@ rest_of (cue.each e) = each e
 
 -- a definition asks all its bodies; a name that isn't declared has no instance
 abbrev pub all_bodies : Option (List Expression) → Constraint Rule Expression
-all_bodies None = never
+all_bodies None = simple (λ x. false)
 all_bodies (Some bs) = all_of (map node bs)
 
 abbrev pub constraint_of : Environment → Rule → Constraint Rule Expression
 constraint_of E (definition n) = all_bodies (bodies E n)
-constraint_of E (node (cue.atom cue.top)) = always
-constraint_of E (node (cue.atom cue.bottom)) = never
-constraint_of E (node (cue.atom cue.null)) = the_null
-constraint_of E (node (cue.atom (cue.boolean b))) = the_boolean b
-constraint_of E (node (cue.atom (cue.integer n))) = the_integer n
-constraint_of E (node (cue.atom (cue.text s))) = the_text s
-constraint_of E (node (cue.kind k)) = of_kind k
-constraint_of E (node (cue.range least greatest)) = in_range least greatest
+constraint_of E (node (cue.atom a)) = simple (admits a)
+constraint_of E (node (cue.kind k)) = simple (is_of_kind k)
+constraint_of E (node (cue.range least greatest)) = simple (is_integer (is_within least greatest))
 constraint_of E (node (cue.reference n)) = all_of (definition n ∷ [])
-constraint_of E (node (cue.atom (cue.bound r n))) = bounded r n
-constraint_of E (node (cue.atom (cue.not_integer n))) = another_integer n
-constraint_of E (node (cue.atom (cue.not_text s))) = another_text s
-constraint_of E (node (cue.atom cue.not_null)) = not_the_null
 constraint_of E (node (cue.conjunction es)) = all_of (map node (operands es))
 constraint_of E (node (cue.disjunction es)) = any_of (map node (operands es))
 constraint_of E (node (cue.struct ds opened)) = object_of (declarations ds) opened

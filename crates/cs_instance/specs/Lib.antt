@@ -10,6 +10,7 @@ pub mod Earlier
 pub mod Steps
 pub mod Props
 pub mod Looks
+pub mod Kinds
 pub mod Placing
 pub mod Ranked
 pub mod Rooted

@@ -8,7 +8,7 @@ use Rattle.cs_document.specs.Opened.{Opened, a_null, a_boolean, an_integer, a_te
 use Rattle.cs_document.specs.Inside.{InsideBelow}
 use Rattle.cs_document.proofs.Each.{each_map, all_same, any_same}
 use Rattle.cs_package.specs.Expression.{Declaration, is_every}
-use Rattle.cs_instance.specs.Constraint.{Rest, nothing, anything, each, Constraint, always, never, the_null, the_boolean, the_integer, the_text, of_kind, in_range, bounded, another_integer, another_text, not_the_null, all_of, any_of, object_of, list_of, is_satisfied, allows, value_holds, declaration_holds, rest_holds, elements_hold}
+use Rattle.cs_instance.specs.Constraint.{Rest, nothing, anything, each, Constraint, simple, all_of, any_of, object_of, list_of, is_satisfied, allows, value_holds, declaration_holds, rest_holds, elements_hold}
 use Rattle.cs_instance.specs.Numbering.{PartsBelow, RestBelow}
 
 -- two ways to answer that agree below i, r and m
@@ -46,18 +46,7 @@ module _ (i r m : ℕ) (here here' : ℕ → Bool) (inside inside' : ℕ → ℕ
   here_same = each_map (λ d. d < r) (λ d. here d ≡ here' d) h
 
   pub numbers_same : (a : Constraint ℕ ℕ) (x : Opened ℕ) → PartsBelow r m a → InsideBelow i x → is_satisfied here inside a x ≡ is_satisfied here' inside' a x
-  numbers_same always x b w = refl
-  numbers_same never x b w = refl
-  numbers_same the_null x b w = refl
-  numbers_same (the_boolean t) x b w = refl
-  numbers_same (the_integer n) x b w = refl
-  numbers_same (the_text s) x b w = refl
-  numbers_same (of_kind q) x b w = refl
-  numbers_same (in_range l g) x b w = refl
-  numbers_same (bounded q l) x b w = refl
-  numbers_same (another_integer n) x b w = refl
-  numbers_same (another_text s) x b w = refl
-  numbers_same not_the_null x b w = refl
+  numbers_same (simple p) x b w = refl
   numbers_same (all_of ds) x b w = all_same here here' ds (here_same ds b)
   numbers_same (any_of ds) x b w = any_same here here' ds (here_same ds b)
   numbers_same (object_of ds o) (an_object ms) b w = ap (λ t. t && (o || list_all (λ (m : Entry ℕ). list_any (λ (d : Declaration ℕ). allows d m.0) ds) ms)) (fields_same ds ms b w)

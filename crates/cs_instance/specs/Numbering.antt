@@ -3,7 +3,7 @@ use Rattle.std.specs.Prelude.{◌≡◌, ℕ, ◌<◌, List, Some, map, length, 
 use Rattle.std.specs.List.{AllByRecursion}
 use Rattle.cs_package.specs.Expression.{atom, top, Declaration}
 use Rattle.cs_package.specs.Environment.{Environment}
-use Rattle.cs_instance.specs.Constraint.{Rest, nothing, anything, each, Constraint, always, never, the_null, the_boolean, the_integer, the_text, of_kind, in_range, bounded, another_integer, another_text, not_the_null, all_of, any_of, object_of, list_of}
+use Rattle.cs_instance.specs.Constraint.{Rest, nothing, anything, each, Constraint, simple, all_of, any_of, object_of, list_of}
 use Rattle.cs_instance.specs.Instance.{Rule, node, constraint_of}
 
 -- the same with g of each part
@@ -18,18 +18,7 @@ module _ {N M : Type 0} (g : N → M) where
 
 -- the same with f of each part asked of the same document, and g of each asked of a document inside
 abbrev pub map_constraint : {C D M N : Type 0} → (C → D) → (M → N) → Constraint C M → Constraint D N
-map_constraint f g always = always
-map_constraint f g never = never
-map_constraint f g the_null = the_null
-map_constraint f g (the_boolean b) = the_boolean b
-map_constraint f g (the_integer z) = the_integer z
-map_constraint f g (the_text s) = the_text s
-map_constraint f g (of_kind k) = of_kind k
-map_constraint f g (in_range least greatest) = in_range least greatest
-map_constraint f g (bounded r z) = bounded r z
-map_constraint f g (another_integer z) = another_integer z
-map_constraint f g (another_text s) = another_text s
-map_constraint f g not_the_null = not_the_null
+map_constraint f g (simple p) = simple p
 map_constraint f g (all_of rs) = all_of (map f rs)
 map_constraint f g (any_of rs) = any_of (map f rs)
 map_constraint f g (object_of ds opened) = object_of (map (map_declaration g) ds) opened
@@ -42,18 +31,7 @@ RestBelow m (each p) = p < m
 
 -- each part asked of the same document is below n, and each asked of a document inside is below m
 abbrev pub PartsBelow : ℕ → ℕ → Constraint ℕ ℕ → Type 0
-PartsBelow n m always = Unit {0}
-PartsBelow n m never = Unit {0}
-PartsBelow n m the_null = Unit {0}
-PartsBelow n m (the_boolean b) = Unit {0}
-PartsBelow n m (the_integer z) = Unit {0}
-PartsBelow n m (the_text s) = Unit {0}
-PartsBelow n m (of_kind k) = Unit {0}
-PartsBelow n m (in_range least greatest) = Unit {0}
-PartsBelow n m (bounded r z) = Unit {0}
-PartsBelow n m (another_integer z) = Unit {0}
-PartsBelow n m (another_text s) = Unit {0}
-PartsBelow n m not_the_null = Unit {0}
+PartsBelow n m (simple p) = Unit {0}
 PartsBelow n m (all_of rs) = AllByRecursion (λ r. r < n) rs
 PartsBelow n m (any_of rs) = AllByRecursion (λ r. r < n) rs
 PartsBelow n m (object_of ds opened) = AllByRecursion (λ (d : Declaration ℕ). d.value < m) ds

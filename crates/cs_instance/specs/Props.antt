@@ -5,7 +5,7 @@ use native.Mathlib.Bridge.{le_prop}
 use Rattle.cs_document.proofs.Each.{each_map}
 use Rattle.cs_rules.specs.Props.{each_prop, below_prop}
 use Rattle.cs_package.specs.Expression.{Declaration}
-use Rattle.cs_instance.specs.Constraint.{Rest, nothing, anything, each, Constraint, all_of, any_of, object_of, list_of, always, never, the_null, the_boolean, the_integer, the_text, of_kind, in_range, bounded, another_integer, another_text, not_the_null}
+use Rattle.cs_instance.specs.Constraint.{Rest, nothing, anything, each, Constraint, simple, all_of, any_of, object_of, list_of}
 use Rattle.cs_instance.specs.Numbering.{PartsBelow, RestBelow}
 
 rest_prop : (m : ℕ) (r : Rest ℕ) → IsProp (RestBelow m r)
@@ -14,22 +14,11 @@ rest_prop m anything = Unit-prop
 rest_prop m (each p) = le_prop
 
 pub parts_prop : (n m : ℕ) (a : Constraint ℕ ℕ) → IsProp (PartsBelow n m a)
+parts_prop n m (simple p) = Unit-prop
 parts_prop n m (all_of ds) = below_prop n ds
 parts_prop n m (any_of ds) = below_prop n ds
 parts_prop n m (object_of ds o) = each_prop (λ (d : Declaration ℕ). d.value < m) (λ d. le_prop) ds
 parts_prop n m (list_of es rest) = ×_prop (below_prop m es) (rest_prop m rest)
-parts_prop n m always = Unit-prop
-parts_prop n m never = Unit-prop
-parts_prop n m the_null = Unit-prop
-parts_prop n m (the_boolean b) = Unit-prop
-parts_prop n m (the_integer z) = Unit-prop
-parts_prop n m (the_text s) = Unit-prop
-parts_prop n m (of_kind k) = Unit-prop
-parts_prop n m (in_range l g) = Unit-prop
-parts_prop n m (bounded r z) = Unit-prop
-parts_prop n m (another_integer z) = Unit-prop
-parts_prop n m (another_text s) = Unit-prop
-parts_prop n m not_the_null = Unit-prop
 
 -- parts that are below two numbers are below greater ones
 rest_weaker : (m m' : ℕ) → m ≤ m' → (r : Rest ℕ) → RestBelow m r → RestBelow m' r
@@ -42,15 +31,4 @@ parts_weaker n m n' m' h l (all_of ds) b = each_map (λ r. r < n) (λ r. r < n')
 parts_weaker n m n' m' h l (any_of ds) b = each_map (λ r. r < n) (λ r. r < n') (λ r c. lt_of_lt_of_le c h) ds b
 parts_weaker n m n' m' h l (object_of ds o) b = each_map (λ (d : Declaration ℕ). d.value < m) (λ (d : Declaration ℕ). d.value < m') (λ d c. lt_of_lt_of_le c l) ds b
 parts_weaker n m n' m' h l (list_of es rest) b = (each_map (λ p. p < m) (λ p. p < m') (λ p c. lt_of_lt_of_le c l) es b.0, rest_weaker m m' l rest b.1)
-parts_weaker n m n' m' h l always b = tt
-parts_weaker n m n' m' h l never b = tt
-parts_weaker n m n' m' h l the_null b = tt
-parts_weaker n m n' m' h l (the_boolean t) b = tt
-parts_weaker n m n' m' h l (the_integer z) b = tt
-parts_weaker n m n' m' h l (the_text s) b = tt
-parts_weaker n m n' m' h l (of_kind q) b = tt
-parts_weaker n m n' m' h l (in_range u v) b = tt
-parts_weaker n m n' m' h l (bounded r q) b = tt
-parts_weaker n m n' m' h l (another_integer z) b = tt
-parts_weaker n m n' m' h l (another_text s) b = tt
-parts_weaker n m n' m' h l not_the_null b = tt
+parts_weaker n m n' m' h l (simple p) b = tt

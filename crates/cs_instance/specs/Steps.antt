@@ -1,9 +1,9 @@
 -- What a rule of the code asks, by the numbers of its parts.
-use Rattle.std.specs.Prelude.{ℕ, List, map, slice_index}
+use Rattle.std.specs.Prelude.{ℕ, Bool, false, List, [], map, slice_index}
 use Rattle.cs_rules.specs.Steps.{Step}
-use Rattle.cs_package.specs.Expression.{Declaration}
-use Rattle.cs_package.specs.View.{kind_of, relation_of, mark_of}
-use Rattle.cs_instance.specs.Constraint.{Rest, nothing, anything, each, Constraint, always, never, the_null, the_boolean, the_integer, the_text, of_kind, in_range, bounded, another_integer, another_text, not_the_null, all_of, any_of, object_of, list_of, is_satisfied}
+use Rattle.cs_package.specs.Expression.{Expression, atom, kind, range, Declaration}
+use Rattle.cs_package.specs.View.{expression_of, mark_of}
+use Rattle.cs_instance.specs.Constraint.{Rest, nothing, anything, each, Outline, Constraint, simple, all_of, any_of, object_of, list_of, is_of_kind, is_integer, is_within, admits, is_satisfied}
 use Rattle.cs_instance.specs.Numbering.{map_constraint}
 use Rattle.cs_instance.specs.declared.rules.Rule.{Rule}
 use Rattle.cs_instance.specs.declared.rules.Rule.TheVariants as rule
@@ -19,20 +19,16 @@ ending_of ending.Closed = nothing
 ending_of ending.Any = anything
 ending_of (ending.Each p) = each p
 
+-- the test of an expression that looks at no part; the others have none
+abbrev pub test_of : Expression → Outline → Bool
+test_of (atom a) x = admits a x
+test_of (kind k) x = is_of_kind k x
+test_of (range least greatest) x = is_integer (is_within least greatest) x
+test_of _ x = false
+
 -- what a rule asks; a part asked of a document inside is a place in another list
 abbrev pub asked_of : Rule → Constraint ℕ ℕ
-asked_of rule.Always = always
-asked_of rule.Never = never
-asked_of rule.Null = the_null
-asked_of (rule.Bool b) = the_boolean b
-asked_of (rule.Int z) = the_integer z
-asked_of (rule.Text s) = the_text s.now
-asked_of (rule.Kind k) = of_kind (kind_of k)
-asked_of (rule.Range least greatest) = in_range least greatest
-asked_of (rule.Bound r z) = bounded (relation_of r) z
-asked_of (rule.NotInt z) = another_integer z
-asked_of (rule.NotText s) = another_text s.now
-asked_of rule.NotNull = not_the_null
+asked_of (rule.Simple s) = simple (test_of (expression_of [] s.now))
 asked_of (rule.All v) = all_of v.items
 asked_of (rule.Any v) = any_of v.items
 asked_of (rule.Struct v opened) = object_of (map field_of v.items) opened

@@ -1,9 +1,10 @@
 // The judge of a document's values by a package's rules.
+use crate::by_kind::by_kind;
 use crate::rules::Rule;
 use crate::steps::holds;
 use cs_document::Doc;
 use cs_flat::Item;
-use cs_rules::{Asks, Known, RuleJudge};
+use cs_rules::{Asks, ByKind, Known, RuleJudge};
 
 /// Judges the values of a document by the definitions that a root reaches and the expressions in their bodies: the items
 /// of [`cs_flat::Flat`] by rules, each of which is after those that it asks of the same value.
@@ -21,6 +22,10 @@ impl<'a> Asks for Rule<'a> {
 
     fn holds(&self, value: &Item<'_>, _doc: &Doc, known: &Known<'_>) -> bool {
         holds(self, value, known)
+    }
+
+    fn by_kind(&self) -> ByKind {
+        by_kind(self)
     }
 
     ghost looks_at_parts = { λ s i r m here here' inside inside' h k d. numbers_same i r m here here' inside inside' h k (asked_of s) };

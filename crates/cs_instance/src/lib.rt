@@ -2,6 +2,7 @@
 #![tactic(auto)]
 
 mod atoms;
+mod by_kind;
 mod definitions;
 mod fault;
 mod inner;

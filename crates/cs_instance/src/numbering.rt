@@ -3,15 +3,13 @@
 ghost use Rattle.std.specs.Prelude.{◌≡◌, ◌<◌, ◌++◌, ℕ, List, [], ◌∷◌, map, length, get_or, IfOk};
 ghost use Rattle.std.specs.Borrow.{Bor};
 ghost use Rattle.cs_package.specs.Expression as cue;
-ghost use Rattle.cs_package.specs.View.{expression_of, expressions_of, declarations_of, part_of, rest_of as end_of, relation_of};
+ghost use Rattle.cs_package.specs.View.{expression_of, expressions_of, declarations_of, part_of, rest_of as end_of};
 ghost use Rattle.cs_package.specs.declared.shape.Shape.{Shape};
-ghost use Rattle.cs_instance.specs.Constraint.{in_range, bounded};
-ghost use Rattle.cs_instance.specs.Steps.{asked_of};
 ghost use Rattle.cs_instance.specs.Placing.{Places, PlacesAll};
 
 use crate::rules::Rule;
 use crate::waiting::{wait_all, wait_end, wait_fields};
-use cs_package::{Part, Relation, Shape, ShapeEnd};
+use cs_package::{Part, Shape, ShapeEnd};
 use std::alloc::{AllocError, Global};
 
 /// Pushes a rule, and answers its number.
@@ -35,18 +33,6 @@ pub(crate) fn place<'a>(
     ensures { IfOk result (Places numbers.now rules.old.items rules.new.items pending.old.items pending.new.items (λ names. expression_of names shape.now)) }
 {
     match shape {
-        Shape::Top => put(rules, Rule::Always),
-        Shape::Bottom => put(rules, Rule::Never),
-        Shape::Null => put(rules, Rule::Null),
-        Shape::Bool(b) => put(rules, Rule::Bool(*b)),
-        Shape::Int(n) => put(rules, Rule::Int(*n)),
-        Shape::Text(text) => put(rules, Rule::Text(text.as_str())),
-        Shape::Kind(kind) => put(rules, Rule::Kind(*kind)),
-        Shape::Range { least, greatest } => put(rules, range_rule(*least, *greatest)),
-        Shape::Bound { relation, limit } => put(rules, bound_rule(*relation, *limit)),
-        Shape::NotInt(n) => put(rules, Rule::NotInt(*n)),
-        Shape::NotText(text) => put(rules, Rule::NotText(text.as_str())),
-        Shape::NotNull => put(rules, Rule::NotNull),
         Shape::Definition(i) => put_reference(alloc, *i, numbers, rules),
         Shape::And(operands) => {
             let parts = place_all(alloc, operands, numbers, rules, pending)?;
@@ -58,6 +44,8 @@ pub(crate) fn place<'a>(
         }
         Shape::Struct { parts, opened } => put_struct(alloc, parts, *opened, rules, pending),
         Shape::List { front, end } => put_list(alloc, front, end, rules, pending),
+        // The others look at no part: of one that does, the clause is false.
+        _ => put(rules, Rule::Simple(shape)),
     }
 }
 
@@ -79,18 +67,6 @@ pub(crate) fn place_all<'a>(
     Ok(parts)
 }
 
-fn range_rule<'a>(least: i64, greatest: Option<i64>) -> Rule<'a>
-    ensures { asked_of result ≡ in_range least greatest }
-{
-    Rule::Range { least, greatest }
-}
-
-fn bound_rule<'a>(relation: Relation, limit: i64) -> Rule<'a>
-    ensures { asked_of result ≡ bounded (relation_of relation) limit }
-{
-    Rule::Bound { relation, limit }
-}
-
 /// A reference asks what its definition asks. A definition without a number has no instance.
 fn put_reference<'a>(
     alloc: Global,
@@ -101,7 +77,7 @@ fn put_reference<'a>(
     ensures { (pending : List (Bor Shape)) → IfOk result (Places numbers.now rules.old.items rules.new.items pending pending (λ names. cue.reference (get_or names i []))) }
 {
     match numbers.get(i) {
-        None => put(rules, Rule::Never),
+        None => put(rules, Rule::Any(Vec::new(alloc))),
         Some(number) => {
             let mut parts = Vec::with_capacity(alloc, 1)?;
             parts.push(*number)?;

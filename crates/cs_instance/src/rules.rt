@@ -1,28 +1,12 @@
 // What rules ask, by the numbers of their parts.
-use cs_package::{FieldMark, Kind, Relation};
+use cs_package::{FieldMark, Shape};
 
 /// What a definition or an expression asks of a document. A rule asked of the same document is named by its number, and
 /// one asked of a document inside by its place in a list of such rules.
 #[derive(Drop)]
 pub enum Rule<'a> {
-    Always,
-    Never,
-    Null,
-    Bool(bool),
-    Int(i64),
-    Text(&'a str),
-    Kind(Kind),
-    Range {
-        least: i64,
-        greatest: Option<i64>,
-    },
-    Bound {
-        relation: Relation,
-        limit: i64,
-    },
-    NotInt(i64),
-    NotText(&'a str),
-    NotNull,
+    /// That of an expression that looks at no part.
+    Simple(&'a Shape),
     All(Vec<usize>),
     Any(Vec<usize>),
     Struct {

@@ -6,12 +6,12 @@ ghost use Rattle.cs_document.specs.Inside.{InsideBelow};
 ghost use Rattle.cs_flat.specs.View.{item_view, entry_of};
 ghost use Rattle.cs_rules.specs.Knowns.{verdict_here, verdict_inside, value_count, rule_count, place_count};
 ghost use Rattle.cs_package.specs.Expression.{Declaration, is_every};
-ghost use Rattle.cs_package.specs.View.{kind_of, relation_of, mark_of};
+ghost use Rattle.cs_package.specs.View.{mark_of};
 ghost use Rattle.cs_instance.specs.Constraint as constraint;
 ghost use Rattle.cs_instance.specs.Numbering.{PartsBelow, RestBelow};
 ghost use Rattle.cs_instance.specs.Steps.{asked_of, field_of, ending_of};
 
-use crate::atoms::{is_another_integer, is_bounded, is_in_range, is_integer, is_of_kind};
+use crate::atoms::holds_simply;
 use crate::rules::{Ending, Field, Rule};
 use cs_flat::Item;
 use cs_package::FieldMark;
@@ -176,27 +176,7 @@ pub(crate) fn holds(rule: &Rule<'_>, value: &Item<'_>, known: &Known<'_>) -> boo
     ensures { result ≡ constraint.is_satisfied (verdict_here known.now) (verdict_inside known.now) (asked_of rule.now) (item_view value.now) }
 {
     match rule {
-        Rule::Always => true,
-        Rule::Never => false,
-        Rule::Null => matches!(value, Item::Null),
-        Rule::NotNull => !matches!(value, Item::Null),
-        Rule::Bool(b) => match value {
-            Item::Bool(c) => b == c,
-            _ => false,
-        },
-        Rule::Text(s) => match value {
-            Item::Text(t) => s == t,
-            _ => false,
-        },
-        Rule::NotText(s) => match value {
-            Item::Text(t) => s != t,
-            _ => false,
-        },
-        Rule::Kind(kind) => is_of_kind(*kind, value),
-        Rule::Int(n) => is_integer(*n, value),
-        Rule::NotInt(n) => is_another_integer(*n, value),
-        Rule::Range { least, greatest } => is_in_range(*least, *greatest, value),
-        Rule::Bound { relation, limit } => is_bounded(*relation, *limit, value),
+        Rule::Simple(shape) => holds_simply(shape, value),
         Rule::All(parts) => known.all(parts),
         Rule::Any(parts) => known.any(parts),
         Rule::Struct { fields, opened } => match value {

@@ -22,7 +22,7 @@ impl ByKind {
 
     /// The same verdict, or none, for every kind.
     pub fn of(verdict: Option<bool>) -> ByKind
-        ensures { (x : Opened ℕ) → verdict_of result x ≡ verdict }
+        ensures { result ≡ record { null = verdict; boolean = verdict; integer = verdict; text = verdict; list = verdict; object = verdict } }
     {
         ByKind {
             null: verdict,

@@ -28,6 +28,6 @@ returns-clause-found c =
     let d = c.args.flat.now in
     let k = c.in_ok-numbering.number in
     let judge = judge_of E n d k numbering.rules.items numbering.children.items rooted in
-    let by_flat = subst (λ (x : Document). IsJudge E n d k (length (nodes x)) (length numbering.rules.items) (answer step numbering.rules.items numbering.children.items (nodes x) (items x))) (sym c.over.ensures.flat) judge in
-    let x = c.over.result.flat.now in
-    (n, names, subst (λ (m : Numbering _ _). IsJudge E n d k (length (nodes x)) (length m.rules.items) (answer step m.rules.items m.children.items (nodes x) (items x))) (sym c.over.ensures.numbering) by_flat)
+    let by_flat = subst (λ (x : Document). IsJudge E n d k (length (nodes x)) (length numbering.rules.items) (answer step numbering.rules.items numbering.children.items (nodes x) (items x))) (sym c.in_ok-over.ensures.flat) judge in
+    let x = c.in_ok-over.field-0.flat.now in
+    (n, names, subst (λ (m : Numbering _ _). IsJudge E n d k (length (nodes x)) (length m.rules.items) (answer step m.rules.items m.children.items (nodes x) (items x))) (sym c.in_ok-over.ensures.numbering) by_flat)
