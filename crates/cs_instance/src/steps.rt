@@ -2,7 +2,7 @@
 ghost use Rattle.std.specs.Prelude.{◌≡◌, ◌<◌, ℕ, List, Bool, map, length};
 ghost use Rattle.std.specs.List.{list_all, list_any, AllByRecursion};
 ghost use Rattle.cs_document.specs.Document.{Entry, under};
-ghost use Rattle.cs_document.specs.Inside.{InsideBelow};
+ghost use Rattle.cs_document.specs.Inside.{AscendsInside, InsideBelow, KeysAscend};
 ghost use Rattle.cs_flat.specs.View.{item_view, entry_of};
 ghost use Rattle.cs_rules.specs.Knowns.{verdict_here, verdict_inside, value_count, rule_count, place_count};
 ghost use Rattle.cs_package.specs.Expression.{Declaration, is_every};
@@ -13,7 +13,7 @@ ghost use Rattle.cs_instance.specs.Steps.{asked_of, field_of, ending_of};
 
 use crate::atoms::holds_simply;
 use crate::rules::{Ending, Field, Rule};
-use cs_flat::Item;
+use cs_flat::{Item, number_under};
 use cs_package::FieldMark;
 use cs_rules::Known;
 
@@ -33,18 +33,6 @@ fn is_for_every_key(mark: FieldMark) -> bool
         FieldMark::Every { .. } => true,
         FieldMark::Regular | FieldMark::Optional | FieldMark::Required => false,
     }
-}
-
-/// What is under a label.
-fn find(members: &[(&str, usize)], label: &str) -> Option<usize>
-    ensures { result ≡ under label.now (map entry_of members.now) }
-{
-    for (key, value) in members {
-        if label == *key {
-            return Some(*value);
-        }
-    }
-    None
 }
 
 /// Whether some declaration allows a key: that of its label, or `[string]`.
@@ -72,11 +60,12 @@ fn are_allowed(fields: &[Field<'_>], members: &[(&str, usize)]) -> bool
 
 /// Whether what is under a declaration's label is as declared.
 fn value_holds(field: &Field<'_>, members: &[(&str, usize)], known: &Known<'_>) -> bool
+    requires ascends { KeysAscend (map entry_of members.now) }
     requires members { AllByRecursion (λ (m : Entry ℕ). m.1 < value_count known.now) (map entry_of members.now) }
     requires field { (field_of field.now).value < place_count known.now }
     ensures { result ≡ constraint.value_holds (verdict_inside known.now) (field_of field.now) (under (field_of field.now).label (map entry_of members.now)) }
 {
-    match find(members, field.label) {
+    match number_under(members, field.label) {
         None => may_be_absent(field.mark),
         Some(child) => known.inside(child, field.value),
     }
@@ -98,6 +87,7 @@ fn every_value_holds(members: &[(&str, usize)], part: usize, known: &Known<'_>) 
 
 /// Only `[string]` looks at every key.
 fn declaration_holds(field: &Field<'_>, members: &[(&str, usize)], known: &Known<'_>) -> bool
+    requires ascends { KeysAscend (map entry_of members.now) }
     requires members { AllByRecursion (λ (m : Entry ℕ). m.1 < value_count known.now) (map entry_of members.now) }
     requires field { (field_of field.now).value < place_count known.now }
     ensures { result ≡ constraint.declaration_holds (verdict_inside known.now) (field_of field.now) (map entry_of members.now) }
@@ -110,6 +100,7 @@ fn declaration_holds(field: &Field<'_>, members: &[(&str, usize)], known: &Known
 }
 
 fn declarations_hold(fields: &[Field<'_>], members: &[(&str, usize)], known: &Known<'_>) -> bool
+    requires ascends { KeysAscend (map entry_of members.now) }
     requires members { AllByRecursion (λ (m : Entry ℕ). m.1 < value_count known.now) (map entry_of members.now) }
     requires fields { AllByRecursion (λ (d : Declaration ℕ). d.value < place_count known.now) (map field_of fields.now) }
     ensures { result ≡ list_all (λ d. constraint.declaration_holds (verdict_inside known.now) d (map entry_of members.now)) (map field_of fields.now) }
@@ -128,6 +119,7 @@ fn fields_hold(
     members: &[(&str, usize)],
     known: &Known<'_>,
 ) -> bool
+    requires ascends { KeysAscend (map entry_of members.now) }
     requires members { AllByRecursion (λ (m : Entry ℕ). m.1 < value_count known.now) (map entry_of members.now) }
     requires fields { AllByRecursion (λ (d : Declaration ℕ). d.value < place_count known.now) (map field_of fields.now) }
     ensures { result ≡ constraint.fields_hold (verdict_inside known.now) (map field_of fields.now) opened (map entry_of members.now) }
@@ -172,6 +164,7 @@ fn elements_hold(front: &[usize], end: &Ending, children: &[usize], known: &Know
 /// Whether a value is an instance of a rule, by the verdicts on the rule's parts.
 pub(crate) fn holds(rule: &Rule<'_>, value: &Item<'_>, known: &Known<'_>) -> bool
     requires parts { PartsBelow (rule_count known.now) (place_count known.now) (asked_of rule.now) }
+    requires ascends { AscendsInside (item_view value.now) }
     requires children { InsideBelow (value_count known.now) (item_view value.now) }
     ensures { result ≡ constraint.is_satisfied (verdict_here known.now) (verdict_inside known.now) (asked_of rule.now) (item_view value.now) }
 {

@@ -5,4 +5,4 @@ use Rattle.cs_instance.proofs.Found.{found_below}
 use Rattle.cs_instance.proofs.steps.value_holds.Goals as goal
 
 pub inside-requires-clause-child : goal.inside-requires-clause-child
-inside-requires-clause-child c = found_below (value_count c.args.known.now) _ (map entry_of c.args.members.now) c.in-Some.child c.requires.members (sym c.find.ensures ∙ c.in-Some.is)
+inside-requires-clause-child c = found_below (value_count c.args.known.now) _ (map entry_of c.args.members.now) c.in-Some.child c.requires.members (sym c.number_under.ensures ∙ c.in-Some.is)
