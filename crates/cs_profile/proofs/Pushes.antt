@@ -14,31 +14,11 @@ use Rattle.cs_profile.specs.Numbered.{by_text, numbers_of, reference_names, name
 use Rattle.cs_profile.specs.SchemaDocument.{Slot, reference_document, text_document, unless_no_map, definitions_view, present, schema_view, schemas_view, slots_of, unless_no_list, kind_name}
 use Rattle.cs_profile.specs.declared.keyword.Keyword.{Keyword}
 use Rattle.cs_profile.specs.declared.keyword.Keyword.TheVariants as keyword
-use Rattle.cs_profile.specs.declared.schema.Keywords.{Keywords, the_lemmas}
+use Rattle.cs_profile.specs.declared.schema.Keywords.{Keywords}
 use Rattle.cs_profile.specs.declared.schema.Schema.{Schema}
+use Rattle.cs_profile.proofs.Slots.{slots_are}
 
 -- ---- the keywords that ask schemas of the same document
-
-slots_are : (k : Keywords) → slots_of k ≡
-    (codes "$ref", option_map reference_document k.reference)
-    ∷ (codes "additionalProperties", option_map schema_view k.additional)
-    ∷ (codes "allOf", unless_no_list (schemas_view k.all_of.items))
-    ∷ (codes "anyOf", unless_no_list (schemas_view k.any_of.items))
-    ∷ (codes "const", option_map doc_view k.equal)
-    ∷ (codes "enum", option_map (λ v. list (list_view v.items)) k.one_of)
-    ∷ (codes "exclusiveMaximum", option_map integer k.below)
-    ∷ (codes "exclusiveMinimum", option_map integer k.above)
-    ∷ (codes "items", option_map schema_view k.rest)
-    ∷ (codes "maximum", option_map integer k.maximum)
-    ∷ (codes "minItems", option_map integer k.min_items)
-    ∷ (codes "minimum", option_map integer k.minimum)
-    ∷ (codes "not", option_map schema_view k.negated)
-    ∷ (codes "prefixItems", unless_no_list (schemas_view k.prefix.items))
-    ∷ (codes "properties", unless_no_map (definitions_view k.properties.entries))
-    ∷ (codes "required", unless_no_list (map text_document k.required.items))
-    ∷ (codes "type", option_map (λ j. text (kind_name j)) k.kind)
-    ∷ []
-slots_are k = search (rules, the_lemmas)
 
 abbrev speaks : Option Keyword → Bool
 speaks (Some keyword.Ref) = true

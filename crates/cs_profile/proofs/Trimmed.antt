@@ -8,11 +8,14 @@ use Rattle.std.specs.Option.{IfSome}
 use Rattle.std.specs.Ordering.{match_ordering}
 use Rattle.cs_document.specs.Document.{Document, object, text, list, document, Members, no_members, member, put}
 use Rattle.cs_document.specs.View.{documents_of, members_of}
+use Rattle.cs_profile.specs.Keywords.{name_of, slot_keywords}
 use Rattle.cs_profile.specs.Shapes.{dialect}
+use Rattle.cs_profile.specs.declared.keyword.Keyword.{Keyword}
+use Rattle.cs_profile.specs.declared.keyword.Keyword.TheVariants as keyword
 use Rattle.cs_profile.specs.declared.keyword.Form.TheVariants as form
 use Rattle.cs_profile.specs.Trim.{trim, trimmed, trimmed_members, trimmed_list, trimmed_elements, trimmed_named, with_dialect, with_member}
 use Rattle.cs_profile.specs.Values.{trimmed_value}
-use Rattle.cs_profile.specs.SchemaDocument.{Slot, present, slots_of, schema_view, schema_step, keyword_slots, SchemaValue, document_of, definitions_view, unless_no_map, unless_no_list, text_document}
+use Rattle.cs_profile.specs.SchemaDocument.{Slot, present, slots_of, schema_view, schema_step, value_of, keyword_slots, SchemaValue, document_of, definitions_view, unless_no_map, unless_no_list, text_document}
 use Rattle.cs_profile.specs.Root.{with_definitions}
 use Rattle.cs_profile.specs.declared.schema.Schema.{Schema, roll-Schema}
 use Rattle.cs_profile.specs.declared.schema.Schema.TheOpen.{Schema-F, Keywords-F}
@@ -89,50 +92,25 @@ record PartsTrimmed (k : Keywords-F Document (List Slot)) : Type 0 where
   prefix : Each IsTrimmed k.prefix.items
   properties : Each ValueTrimmed k.properties.entries
 
-layer_stays : (k : Keywords-F Document (List Slot)) → PartsTrimmed k → Stays (keyword_slots k)
-layer_stays k h = (
-  plain (codes "$ref") (λ v. refl) (λ v. refl) _,
-  (
-    one (codes "additionalProperties") (λ v e. ap Some e) (λ v e. ap Some e) _ h.additional,
-    (
-      listed (codes "allOf") (λ v e. ap Some e) (λ v e. ap Some e) _ h.all_of,
-      (
-        listed (codes "anyOf") (λ v e. ap Some e) (λ v e. ap Some e) _ h.any_of,
-        (
-          plain (codes "const") (λ v. refl) (λ v. refl) _,
-          (
-            plain (codes "enum") (λ v. refl) (λ v. refl) _,
-            (
-              plain (codes "exclusiveMaximum") (λ v. refl) (λ v. refl) _,
-              (
-                plain (codes "exclusiveMinimum") (λ v. refl) (λ v. refl) _,
-                (
-                  one (codes "items") (λ v e. ap Some e) (λ v e. ap Some e) _ h.rest,
-                  (
-                    plain (codes "maximum") (λ v. refl) (λ v. refl) _,
-                    (
-                      plain (codes "minItems") (λ v. refl) (λ v. refl) _,
-                      (
-                        plain (codes "minimum") (λ v. refl) (λ v. refl) _,
-                        (
-                          one (codes "not") (λ v e. ap Some e) (λ v e. ap Some e) _ h.negated,
-                          (
-                            listed (codes "prefixItems") (λ v e. ap Some e) (λ v e. ap Some e) _ h.prefix,
-                            (properties _ h.properties, (required _, (plain (codes "type") (λ v. refl) (λ v. refl) _, tt))),
-                          ),
-                        ),
-                      ),
-                    ),
-                  ),
-                ),
-              ),
-            ),
-          ),
-        ),
-      ),
-    ),
-  ),
-)
+one_stays : (k : Keywords-F Document (List Slot)) → PartsTrimmed k → (w : Keyword) → StaysAt (name_of w) (value_of k w)
+one_stays k h keyword.AdditionalProperties = one (codes "additionalProperties") (λ v e. ap Some e) (λ v e. ap Some e) _ h.additional
+one_stays k h keyword.AllOf = listed (codes "allOf") (λ v e. ap Some e) (λ v e. ap Some e) _ h.all_of
+one_stays k h keyword.AnyOf = listed (codes "anyOf") (λ v e. ap Some e) (λ v e. ap Some e) _ h.any_of
+one_stays k h keyword.Items = one (codes "items") (λ v e. ap Some e) (λ v e. ap Some e) _ h.rest
+one_stays k h keyword.Not = one (codes "not") (λ v e. ap Some e) (λ v e. ap Some e) _ h.negated
+one_stays k h keyword.PrefixItems = listed (codes "prefixItems") (λ v e. ap Some e) (λ v e. ap Some e) _ h.prefix
+one_stays k h keyword.Properties = properties _ h.properties
+one_stays k h keyword.Required = required _
+one_stays k h keyword.Comment = tt
+one_stays k h keyword.Defs = tt
+one_stays k h keyword.Description = tt
+one_stays k h keyword.Schema = tt
+one_stays k h keyword.Title = tt
+one_stays k h w = plain (name_of w) (λ v. refl) (λ v. refl) (value_of k w)
+
+layer_stays : (k : Keywords-F Document (List Slot)) → PartsTrimmed k → (ws : List Keyword) → Stays (map (λ w. (name_of w, value_of k w)) ws)
+layer_stays k h [] = tt
+layer_stays k h (w ∷ ws) = (one_stays k h w, layer_stays k h ws)
 
 -- ---- by induction on the schema
 
@@ -188,7 +166,7 @@ schema_rolled x y is =
 keywords_rolled : (x : Keywords-F Schema Keywords) (y : Keywords-F Checked CheckedKeywords) → map-Keywords Checked CheckedKeywords Schema Keywords (λ e. e.0) (λ e. e.0) y ≡ x → Stays (slots_of (roll-Keywords x))
 keywords_rolled x y is =
     subst Stays (sym (fold-roll-Keywords Document (List Slot) schema_step keyword_slots x ∙ ap (λ z. keyword_slots (map-Keywords Schema Keywords Document (List Slot) schema_view slots_of z)) (sym is)))
-    (layer_stays (view_of y) (parts_checked y))
+    (layer_stays (view_of y) (parts_checked y) slot_keywords)
 
 pub schema_trimmed : (s : Schema) → IsTrimmed (schema_view s)
 schema_trimmed = ind-Schema (λ s. IsTrimmed (schema_view s)) (λ k. Stays (slots_of k)) schema_rolled keywords_rolled

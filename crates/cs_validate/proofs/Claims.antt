@@ -18,7 +18,8 @@ use Rattle.cs_validate.specs.Placing.{inside_members}
 use Rattle.cs_validate.specs.Steps.{kind_of, items_place, prefix_place, properties_place, unless_empty, at_least_of_length, places_from, claims_of, asked_of}
 use Rattle.cs_validate.specs.declared.rules.Rule.TheVariants as rule
 use Rattle.cs_validate.specs.declared.rules.Conjunction.{Conjunction}
-use Rattle.cs_validate.proofs.Slots.{slots_are, slot_part, spoken, gathered, elements_back, names_beside, places_beside}
+use Rattle.cs_profile.proofs.Slots.{slots_are}
+use Rattle.cs_validate.proofs.Slots.{slot_part, spoken, gathered, elements_back, names_beside, places_beside}
 use Rattle.cs_validate.proofs.Standing.{Stand, StandInside, stand_inside, schemas_there, named_there, places_below, numbers_below}
 
 texts_back : (ts : List (String Global)) → texts_in (elements (documents_of (map text_document ts))) ≡ map string_bytes ts
