@@ -1,17 +1,17 @@
 -- The names that the keywords of an object refer to directly, and their numbers pushed one after another.
-use Rattle.std.proofs.Common.{◌≡◌, ℕ, Bool, true, false, List, [], ◌∷◌, ◌++◌, map, Option, Some, None, option_map, String, Global, string_bytes, codes, refl, sym, ap, ap₂, ◌∙◌, nat_cmp, bytes_eq, cond, append_assoc, append-nil, if◌then◌else◌, rules}
+use Rattle.std.proofs.Common.{◌≡◌, ℕ, Bool, true, false, List, [], ◌∷◌, ◌++◌, Option, Some, None, option_map, String, Global, string_bytes, codes, refl, sym, ap, ap₂, ◌∙◌, nat_cmp, bytes_eq, cond, append_assoc, append-nil, if◌then◌else◌}
 use Rattle.std.specs.Prelude.{option_to_list}
 use Rattle.std.specs.BTreeMap.{is_at}
 use Rattle.std.specs.Cmp.Lexicographic.{slice_cmp}
 use Rattle.std.specs.Map.{lookup}
 use Rattle.std.proofs.lemmas.Map.Text.{is_eq-slice_cmp}
 use Rattle.std.proofs.lemmas.Grind.{flat_map-append}
-use Rattle.cs_document.specs.Document.{Document, integer, text, list, object, Entry, under}
-use Rattle.cs_document.specs.View.{doc_view, list_view, documents_of}
+use Rattle.cs_document.specs.Document.{Document, object, Entry, under}
+use Rattle.cs_document.specs.View.{documents_of}
 use Rattle.cs_profile.specs.Keywords.{keywords}
 use Rattle.cs_profile.specs.Loops.{ByReach, by_keyword, value_names, direct_names, keyword_names, each_names}
 use Rattle.cs_profile.specs.Numbered.{by_text, numbers_of, reference_names, names_of_each}
-use Rattle.cs_profile.specs.SchemaDocument.{Slot, reference_document, text_document, unless_no_map, definitions_view, present, schema_view, schemas_view, slots_of, unless_no_list, kind_name}
+use Rattle.cs_profile.specs.SchemaDocument.{Slot, reference_document, present, schema_view, schemas_view, slots_of, unless_no_list}
 use Rattle.cs_profile.specs.declared.keyword.Keyword.{Keyword}
 use Rattle.cs_profile.specs.declared.keyword.Keyword.TheVariants as keyword
 use Rattle.cs_profile.specs.declared.schema.Keywords.{Keywords}

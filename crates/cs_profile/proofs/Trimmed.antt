@@ -8,11 +8,11 @@ use Rattle.std.specs.Option.{IfSome}
 use Rattle.std.specs.Ordering.{match_ordering}
 use Rattle.cs_document.specs.Document.{Document, object, text, list, document, Members, no_members, member, put}
 use Rattle.cs_document.specs.View.{documents_of, members_of}
+use Rattle.cs_document.proofs.Each.{each_of, each_over}
 use Rattle.cs_profile.specs.Keywords.{name_of, slot_keywords}
 use Rattle.cs_profile.specs.Shapes.{dialect}
 use Rattle.cs_profile.specs.declared.keyword.Keyword.{Keyword}
 use Rattle.cs_profile.specs.declared.keyword.Keyword.TheVariants as keyword
-use Rattle.cs_profile.specs.declared.keyword.Form.TheVariants as form
 use Rattle.cs_profile.specs.Trim.{trim, trimmed, trimmed_members, trimmed_list, trimmed_elements, trimmed_named, with_dialect, with_member}
 use Rattle.cs_profile.specs.Values.{trimmed_value}
 use Rattle.cs_profile.specs.SchemaDocument.{Slot, present, slots_of, schema_view, schema_step, value_of, keyword_slots, SchemaValue, document_of, definitions_view, unless_no_map, unless_no_list, text_document}
@@ -32,8 +32,7 @@ abbrev pub StaysAt : List ℕ → Option Document → Type 0
 StaysAt n o = IfSome o (λ v. (root : Bool) → trimmed_value root n v ≡ Some v)
 
 abbrev pub Stays : List Slot → Type 0
-Stays [] = Unit {0}
-Stays (s ∷ ss) = StaysAt s.0 s.1 × Stays ss
+Stays = Each (λ (s : Slot). StaysAt s.0 s.1)
 
 pub present_stays : (root : Bool) (ss : List Slot) → Stays ss → trimmed_members root (present ss) ≡ present ss
 present_stays root [] h = refl
@@ -108,9 +107,9 @@ one_stays k h keyword.Schema = tt
 one_stays k h keyword.Title = tt
 one_stays k h w = plain (name_of w) (λ v. refl) (λ v. refl) (value_of k w)
 
-layer_stays : (k : Keywords-F Document (List Slot)) → PartsTrimmed k → (ws : List Keyword) → Stays (map (λ w. (name_of w, value_of k w)) ws)
-layer_stays k h [] = tt
-layer_stays k h (w ∷ ws) = (one_stays k h w, layer_stays k h ws)
+layer_stays : (k : Keywords-F Document (List Slot)) → PartsTrimmed k → Stays (keyword_slots k)
+layer_stays k h =
+    each_over (λ w. (name_of w, value_of k w)) (λ (s : Slot). StaysAt s.0 s.1) slot_keywords (each_of (λ w. StaysAt (name_of w) (value_of k w)) (one_stays k h) slot_keywords)
 
 -- ---- by induction on the schema
 
@@ -166,7 +165,7 @@ schema_rolled x y is =
 keywords_rolled : (x : Keywords-F Schema Keywords) (y : Keywords-F Checked CheckedKeywords) → map-Keywords Checked CheckedKeywords Schema Keywords (λ e. e.0) (λ e. e.0) y ≡ x → Stays (slots_of (roll-Keywords x))
 keywords_rolled x y is =
     subst Stays (sym (fold-roll-Keywords Document (List Slot) schema_step keyword_slots x ∙ ap (λ z. keyword_slots (map-Keywords Schema Keywords Document (List Slot) schema_view slots_of z)) (sym is)))
-    (layer_stays (view_of y) (parts_checked y) slot_keywords)
+    (layer_stays (view_of y) (parts_checked y))
 
 pub schema_trimmed : (s : Schema) → IsTrimmed (schema_view s)
 schema_trimmed = ind-Schema (λ s. IsTrimmed (schema_view s)) (λ k. Stays (slots_of k)) schema_rolled keywords_rolled

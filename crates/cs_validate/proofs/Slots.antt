@@ -1,15 +1,15 @@
 -- What the members of an object contribute, keyword by keyword.
-use Rattle.std.proofs.Common.{◌≡◌, ℕ, max, length, bytes_eq, arith, Bool, true, false, List, [], ◌∷◌, ◌++◌, map, Option, Some, None, option_map, String, Global, string_bytes, codes, refl, ap, ap₂, ◌∙◌, append-nil, if◌then◌else◌, rules}
+use Rattle.std.proofs.Common.{◌≡◌, ℕ, max, length, bytes_eq, arith, Bool, true, false, List, [], ◌∷◌, ◌++◌, map, Option, Some, None, option_map, String, Global, string_bytes, codes, refl, ap, ap₂, ◌∙◌, append-nil, if◌then◌else◌}
 use Rattle.std.proofs.lemmas.List.{length-map}
 use Rattle.std.specs.Prelude.{option_to_list}
 use Rattle.std.specs.List.{flat_map}
-use Rattle.cs_document.specs.Document.{Document, integer, text, list, elements, entries, Members, no_members, member, Entry, under}
-use Rattle.cs_document.specs.View.{doc_view, list_view, documents_of, members_of}
+use Rattle.cs_document.specs.Document.{Document, list, elements, entries, Members, no_members, member, Entry, under}
+use Rattle.cs_document.specs.View.{documents_of, members_of}
 use Rattle.cs_profile.specs.Keywords.{keywords, listed_under, entries_of, elements_of}
 use Rattle.cs_profile.specs.Constraint.{places_taken}
 use Rattle.cs_profile.specs.Loops.{ByReach, by_keyword, value_names, direct_names, keyword_names, each_names}
 use Rattle.cs_profile.specs.Numbered.{reference_names, names_of_each, names_in}
-use Rattle.cs_profile.specs.SchemaDocument.{Slot, reference_document, text_document, unless_no_map, unless_no_list, definitions_view, present, schema_view, schemas_view, slots_of, kind_name}
+use Rattle.cs_profile.specs.SchemaDocument.{Slot, reference_document, unless_no_map, unless_no_list, definitions_view, present, schema_view, schemas_view, slots_of}
 use Rattle.cs_profile.specs.declared.keyword.Keyword.{Keyword}
 use Rattle.cs_profile.specs.declared.keyword.Keyword.TheVariants as keyword
 use Rattle.cs_profile.specs.declared.schema.Keywords.{Keywords}
