@@ -1,15 +1,12 @@
 -- The keywords that a schema is made of; for private contracts and proofs alone.
-use Rattle.std.specs.Prelude.{ℕ, suc, pos, List, [], ◌∷◌, length, Option, Some, None, codes}
+use Rattle.std.specs.Prelude.{ℕ, suc, pos, List, [], ◌∷◌, map, length, Option, Some, None, codes}
 use Rattle.cs_document.specs.Document.{Document, integer, text}
+use Rattle.cs_profile.specs.Keywords.{name_of, slot_keywords}
 use Rattle.cs_profile.specs.SchemaDocument.{Slot, set_slot}
 
 -- the keywords of an object, none of which stands
 abbrev pub no_slots : List Slot
-no_slots =
-    (codes "$ref", None) ∷ (codes "additionalProperties", None) ∷ (codes "allOf", None) ∷ (codes "anyOf", None) ∷ (codes "const", None)
-    ∷ (codes "enum", None) ∷ (codes "exclusiveMaximum", None) ∷ (codes "exclusiveMinimum", None) ∷ (codes "items", None)
-    ∷ (codes "maximum", None) ∷ (codes "minItems", None) ∷ (codes "minimum", None) ∷ (codes "not", None) ∷ (codes "prefixItems", None)
-    ∷ (codes "properties", None) ∷ (codes "required", None) ∷ (codes "type", None) ∷ []
+no_slots = map (λ w. (name_of w, None)) slot_keywords
 
 -- the type alone
 abbrev pub typed : List ℕ → List Slot

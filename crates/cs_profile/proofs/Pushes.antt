@@ -1,44 +1,24 @@
 -- The names that the keywords of an object refer to directly, and their numbers pushed one after another.
-use Rattle.std.proofs.Common.{◌≡◌, ℕ, Bool, true, false, List, [], ◌∷◌, ◌++◌, map, Option, Some, None, option_map, String, Global, string_bytes, codes, refl, sym, ap, ap₂, ◌∙◌, nat_cmp, bytes_eq, cond, append_assoc, append-nil, if◌then◌else◌, rules}
+use Rattle.std.proofs.Common.{◌≡◌, ℕ, Bool, true, false, List, [], ◌∷◌, ◌++◌, Option, Some, None, option_map, String, Global, string_bytes, codes, refl, sym, ap, ap₂, ◌∙◌, nat_cmp, bytes_eq, cond, append_assoc, append-nil, if◌then◌else◌}
 use Rattle.std.specs.Prelude.{option_to_list}
 use Rattle.std.specs.BTreeMap.{is_at}
 use Rattle.std.specs.Cmp.Lexicographic.{slice_cmp}
 use Rattle.std.specs.Map.{lookup}
 use Rattle.std.proofs.lemmas.Map.Text.{is_eq-slice_cmp}
 use Rattle.std.proofs.lemmas.Grind.{flat_map-append}
-use Rattle.cs_document.specs.Document.{Document, integer, text, list, object, Entry, under}
-use Rattle.cs_document.specs.View.{doc_view, list_view, documents_of}
+use Rattle.cs_document.specs.Document.{Document, object, Entry, under}
+use Rattle.cs_document.specs.View.{documents_of}
 use Rattle.cs_profile.specs.Keywords.{keywords}
 use Rattle.cs_profile.specs.Loops.{ByReach, by_keyword, value_names, direct_names, keyword_names, each_names}
 use Rattle.cs_profile.specs.Numbered.{by_text, numbers_of, reference_names, names_of_each}
-use Rattle.cs_profile.specs.SchemaDocument.{Slot, reference_document, text_document, unless_no_map, definitions_view, present, schema_view, schemas_view, slots_of, unless_no_list, kind_name}
+use Rattle.cs_profile.specs.SchemaDocument.{Slot, reference_document, present, schema_view, schemas_view, slots_of, unless_no_list}
 use Rattle.cs_profile.specs.declared.keyword.Keyword.{Keyword}
 use Rattle.cs_profile.specs.declared.keyword.Keyword.TheVariants as keyword
-use Rattle.cs_profile.specs.declared.schema.Keywords.{Keywords, the_lemmas}
+use Rattle.cs_profile.specs.declared.schema.Keywords.{Keywords}
 use Rattle.cs_profile.specs.declared.schema.Schema.{Schema}
+use Rattle.cs_profile.proofs.Slots.{slots_are}
 
 -- ---- the keywords that ask schemas of the same document
-
-slots_are : (k : Keywords) → slots_of k ≡
-    (codes "$ref", option_map reference_document k.reference)
-    ∷ (codes "additionalProperties", option_map schema_view k.additional)
-    ∷ (codes "allOf", unless_no_list (schemas_view k.all_of.items))
-    ∷ (codes "anyOf", unless_no_list (schemas_view k.any_of.items))
-    ∷ (codes "const", option_map doc_view k.equal)
-    ∷ (codes "enum", option_map (λ v. list (list_view v.items)) k.one_of)
-    ∷ (codes "exclusiveMaximum", option_map integer k.below)
-    ∷ (codes "exclusiveMinimum", option_map integer k.above)
-    ∷ (codes "items", option_map schema_view k.rest)
-    ∷ (codes "maximum", option_map integer k.maximum)
-    ∷ (codes "minItems", option_map integer k.min_items)
-    ∷ (codes "minimum", option_map integer k.minimum)
-    ∷ (codes "not", option_map schema_view k.negated)
-    ∷ (codes "prefixItems", unless_no_list (schemas_view k.prefix.items))
-    ∷ (codes "properties", unless_no_map (definitions_view k.properties.entries))
-    ∷ (codes "required", unless_no_list (map text_document k.required.items))
-    ∷ (codes "type", option_map (λ j. text (kind_name j)) k.kind)
-    ∷ []
-slots_are k = search (rules, the_lemmas)
 
 abbrev speaks : Option Keyword → Bool
 speaks (Some keyword.Ref) = true

@@ -1,17 +1,17 @@
 -- What the definitions say of single keywords, names, values, places and loops, by computation.
-use Rattle.std.proofs.Common.{◌≡◌, ℕ, negsuc, ◌<◌, Bool, true, false, List, [], ◌∷◌, inl, inr, map, length, Option, Some, None, option_map, Vec, Global, String as Text, string_bytes, bytes_eq, codes, refl, sym, subst, if◌then◌else◌, arith}
+use Rattle.std.proofs.Common.{◌≡◌, ℕ, negsuc, ◌<◌, Bool, ◌&&◌, true, false, List, [], ◌∷◌, inl, inr, map, length, Option, Some, None, option_map, Vec, Global, String as Text, string_bytes, bytes_eq, codes, refl, sym, subst, if◌then◌else◌, arith}
 use Rattle.std.specs.Fmt.{digits}
 use Rattle.std.specs.Prelude.{replicate}
 use Rattle.std.specs.Option.{option_map_or}
-use Rattle.std.specs.List.{list_all, list_any, IsDistinct}
+use Rattle.std.specs.List.{list_all, list_any, filter, IsDistinct}
 use Rattle.cs_document.specs.Document.{Document, null, boolean, integer, text, list, under}
 use Rattle.cs_document.specs.View.{doc_view, list_view}
 use Rattle.cs_document.proofs.SampleDocuments.{number as n, string as t, array as l, named_map as o}
-use Rattle.cs_profile.specs.Keywords.{keywords, kinds, reference_start, text_after}
+use Rattle.cs_profile.specs.Keywords.{all_keywords, slot_keywords, keywords, kinds, reference_start, text_after}
 use Rattle.cs_profile.specs.declared.keyword.Keyword.{Keyword}
 use Rattle.cs_profile.specs.declared.keyword.Keyword.TheVariants as keyword
 use Rattle.cs_profile.specs.Keywords as schema
-use Rattle.cs_profile.specs.Shapes.{kept, left_out, left_out_if_empty, keeping, form_at, is_name_code, is_name, has_form, is_kept, by_form}
+use Rattle.cs_profile.specs.Shapes.{kept, left_out, left_out_if_empty, keeping, form_of, stands, form_at, is_name_code, is_name, has_form, is_kept, by_form}
 use Rattle.cs_profile.specs.declared.keyword.Form.{Form}
 use Rattle.cs_profile.specs.declared.keyword.Form.TheVariants as form
 use Rattle.cs_profile.specs.Constraint.{nothing, assertion_at}
@@ -308,6 +308,9 @@ unshaped : map (λ (e : String × Document). assertion_at (boolean true) [] (cod
 unshaped = refl
 
 -- ---- the keywords of an object, each under its name
+
+keep_slots : filter (λ w. stands false w && is_kept (keeping (form_of w)) null) all_keywords ≡ slot_keywords
+keep_slots = refl
 
 slots : (k : Keywords-F Document (List Slot)) → map (λ name. under (codes name) (keyword_slots k))
     ("type" ∷ "const" ∷ "enum" ∷ "minimum" ∷ "maximum" ∷ "exclusiveMinimum" ∷ "exclusiveMaximum" ∷ "minItems" ∷ "required" ∷ "properties" ∷ "additionalProperties" ∷ "items" ∷ "not" ∷ "prefixItems" ∷ "allOf" ∷ "anyOf" ∷ "$ref" ∷ [])

@@ -1,8 +1,28 @@
--- Keywords in the order of their names.
-use Rattle.std.proofs.Common.{◌≡◌, ℕ, Bool, false, ◌||◌, List, [], ◌∷◌, Less, bytes_eq}
+-- The keywords of an object one by one, and keywords in the order of their names.
+use Rattle.std.proofs.Common.{◌≡◌, ℕ, Bool, false, ◌||◌, List, [], ◌∷◌, map, Option, option_map, Less, bytes_eq, rules}
 use Rattle.std.specs.Cmp.Lexicographic.{slice_cmp}
 use Rattle.std.specs.Ordering.{nat_cmp}
-use Rattle.cs_profile.specs.SchemaDocument.{Slot}
+use Rattle.cs_document.specs.Document.{Document}
+use Rattle.cs_profile.specs.Keywords.{name_of, slot_keywords}
+use Rattle.cs_profile.specs.SchemaDocument.{Slot, value_of, slots_of, schema_view}
+use Rattle.cs_profile.specs.declared.keyword.Keyword.{Keyword}
+use Rattle.cs_profile.specs.declared.keyword.Keyword.TheVariants as keyword
+use Rattle.cs_profile.specs.declared.schema.Schema.{Schema}
+use Rattle.cs_profile.specs.declared.schema.Keywords.{Keywords, out-Keywords, the_lemmas}
+use Rattle.cs_profile.specs.declared.schema.Schema.TheFolds.{map-Keywords}
+
+-- the document that a keyword's value stands for, if the keyword is there
+abbrev pub slot_of : Keywords → Keyword → Option Document
+slot_of k keyword.AdditionalProperties = option_map schema_view k.additional
+slot_of k keyword.Items = option_map schema_view k.rest
+slot_of k keyword.Not = option_map schema_view k.negated
+slot_of k w = value_of (map-Keywords Schema Keywords Document (List Slot) schema_view slots_of (out-Keywords k)) w
+
+abbrev pub slots_at : Keywords → List Keyword → List Slot
+slots_at k = map (λ w. (name_of w, slot_of k w))
+
+pub slots_are : (k : Keywords) → slots_of k ≡ slots_at k slot_keywords
+slots_are k = search (rules, the_lemmas)
 
 -- the names are above k
 abbrev pub Above : List ℕ → List Slot → Type 0

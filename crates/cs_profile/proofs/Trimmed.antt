@@ -8,11 +8,14 @@ use Rattle.std.specs.Option.{IfSome}
 use Rattle.std.specs.Ordering.{match_ordering}
 use Rattle.cs_document.specs.Document.{Document, object, text, list, document, Members, no_members, member, put}
 use Rattle.cs_document.specs.View.{documents_of, members_of}
+use Rattle.cs_document.proofs.Each.{each_of, each_over}
+use Rattle.cs_profile.specs.Keywords.{name_of, slot_keywords}
 use Rattle.cs_profile.specs.Shapes.{dialect}
-use Rattle.cs_profile.specs.declared.keyword.Form.TheVariants as form
+use Rattle.cs_profile.specs.declared.keyword.Keyword.{Keyword}
+use Rattle.cs_profile.specs.declared.keyword.Keyword.TheVariants as keyword
 use Rattle.cs_profile.specs.Trim.{trim, trimmed, trimmed_members, trimmed_list, trimmed_elements, trimmed_named, with_dialect, with_member}
 use Rattle.cs_profile.specs.Values.{trimmed_value}
-use Rattle.cs_profile.specs.SchemaDocument.{Slot, present, slots_of, schema_view, schema_step, keyword_slots, SchemaValue, document_of, definitions_view, unless_no_map, unless_no_list, text_document}
+use Rattle.cs_profile.specs.SchemaDocument.{Slot, present, slots_of, schema_view, schema_step, value_of, keyword_slots, SchemaValue, document_of, definitions_view, unless_no_map, unless_no_list, text_document}
 use Rattle.cs_profile.specs.Root.{with_definitions}
 use Rattle.cs_profile.specs.declared.schema.Schema.{Schema, roll-Schema}
 use Rattle.cs_profile.specs.declared.schema.Schema.TheOpen.{Schema-F, Keywords-F}
@@ -29,8 +32,7 @@ abbrev pub StaysAt : List ℕ → Option Document → Type 0
 StaysAt n o = IfSome o (λ v. (root : Bool) → trimmed_value root n v ≡ Some v)
 
 abbrev pub Stays : List Slot → Type 0
-Stays [] = Unit {0}
-Stays (s ∷ ss) = StaysAt s.0 s.1 × Stays ss
+Stays = Each (λ (s : Slot). StaysAt s.0 s.1)
 
 pub present_stays : (root : Bool) (ss : List Slot) → Stays ss → trimmed_members root (present ss) ≡ present ss
 present_stays root [] h = refl
@@ -89,50 +91,25 @@ record PartsTrimmed (k : Keywords-F Document (List Slot)) : Type 0 where
   prefix : Each IsTrimmed k.prefix.items
   properties : Each ValueTrimmed k.properties.entries
 
+one_stays : (k : Keywords-F Document (List Slot)) → PartsTrimmed k → (w : Keyword) → StaysAt (name_of w) (value_of k w)
+one_stays k h keyword.AdditionalProperties = one (codes "additionalProperties") (λ v e. ap Some e) (λ v e. ap Some e) _ h.additional
+one_stays k h keyword.AllOf = listed (codes "allOf") (λ v e. ap Some e) (λ v e. ap Some e) _ h.all_of
+one_stays k h keyword.AnyOf = listed (codes "anyOf") (λ v e. ap Some e) (λ v e. ap Some e) _ h.any_of
+one_stays k h keyword.Items = one (codes "items") (λ v e. ap Some e) (λ v e. ap Some e) _ h.rest
+one_stays k h keyword.Not = one (codes "not") (λ v e. ap Some e) (λ v e. ap Some e) _ h.negated
+one_stays k h keyword.PrefixItems = listed (codes "prefixItems") (λ v e. ap Some e) (λ v e. ap Some e) _ h.prefix
+one_stays k h keyword.Properties = properties _ h.properties
+one_stays k h keyword.Required = required _
+one_stays k h keyword.Comment = tt
+one_stays k h keyword.Defs = tt
+one_stays k h keyword.Description = tt
+one_stays k h keyword.Schema = tt
+one_stays k h keyword.Title = tt
+one_stays k h w = plain (name_of w) (λ v. refl) (λ v. refl) (value_of k w)
+
 layer_stays : (k : Keywords-F Document (List Slot)) → PartsTrimmed k → Stays (keyword_slots k)
-layer_stays k h = (
-  plain (codes "$ref") (λ v. refl) (λ v. refl) _,
-  (
-    one (codes "additionalProperties") (λ v e. ap Some e) (λ v e. ap Some e) _ h.additional,
-    (
-      listed (codes "allOf") (λ v e. ap Some e) (λ v e. ap Some e) _ h.all_of,
-      (
-        listed (codes "anyOf") (λ v e. ap Some e) (λ v e. ap Some e) _ h.any_of,
-        (
-          plain (codes "const") (λ v. refl) (λ v. refl) _,
-          (
-            plain (codes "enum") (λ v. refl) (λ v. refl) _,
-            (
-              plain (codes "exclusiveMaximum") (λ v. refl) (λ v. refl) _,
-              (
-                plain (codes "exclusiveMinimum") (λ v. refl) (λ v. refl) _,
-                (
-                  one (codes "items") (λ v e. ap Some e) (λ v e. ap Some e) _ h.rest,
-                  (
-                    plain (codes "maximum") (λ v. refl) (λ v. refl) _,
-                    (
-                      plain (codes "minItems") (λ v. refl) (λ v. refl) _,
-                      (
-                        plain (codes "minimum") (λ v. refl) (λ v. refl) _,
-                        (
-                          one (codes "not") (λ v e. ap Some e) (λ v e. ap Some e) _ h.negated,
-                          (
-                            listed (codes "prefixItems") (λ v e. ap Some e) (λ v e. ap Some e) _ h.prefix,
-                            (properties _ h.properties, (required _, (plain (codes "type") (λ v. refl) (λ v. refl) _, tt))),
-                          ),
-                        ),
-                      ),
-                    ),
-                  ),
-                ),
-              ),
-            ),
-          ),
-        ),
-      ),
-    ),
-  ),
-)
+layer_stays k h =
+    each_over (λ w. (name_of w, value_of k w)) (λ (s : Slot). StaysAt s.0 s.1) slot_keywords (each_of (λ w. StaysAt (name_of w) (value_of k w)) (one_stays k h) slot_keywords)
 
 -- ---- by induction on the schema
 

@@ -38,6 +38,12 @@ all_keywords =
     ∷ keyword.Enum ∷ keyword.ExclusiveMaximum ∷ keyword.ExclusiveMinimum ∷ keyword.Items ∷ keyword.Maximum ∷ keyword.MinItems ∷ keyword.Minimum ∷ keyword.Not
     ∷ keyword.PrefixItems ∷ keyword.Properties ∷ keyword.Required ∷ keyword.Title ∷ keyword.Type ∷ []
 
+-- those that an object below the root keeps when it is trimmed
+abbrev pub slot_keywords : List Keyword
+slot_keywords =
+    keyword.Ref ∷ keyword.AdditionalProperties ∷ keyword.AllOf ∷ keyword.AnyOf ∷ keyword.Const ∷ keyword.Enum ∷ keyword.ExclusiveMaximum ∷ keyword.ExclusiveMinimum
+    ∷ keyword.Items ∷ keyword.Maximum ∷ keyword.MinItems ∷ keyword.Minimum ∷ keyword.Not ∷ keyword.PrefixItems ∷ keyword.Properties ∷ keyword.Required ∷ keyword.Type ∷ []
+
 -- the keywords by their names
 abbrev pub keywords : List (Entry Keyword)
 keywords = map (λ w. (name_of w, w)) all_keywords

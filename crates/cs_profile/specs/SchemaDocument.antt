@@ -4,7 +4,7 @@ use Rattle.std.specs.Str.{bytes_eq}
 use Rattle.std.specs.declared.alloc.Global.{Global}
 use Rattle.cs_document.specs.Document.{Document, boolean, integer, text, list, object, Members, no_members, Entry, under}
 use Rattle.cs_document.specs.View.{doc_view, list_view, documents_of, members_of}
-use Rattle.cs_profile.specs.Keywords.{reference_start}
+use Rattle.cs_profile.specs.Keywords.{name_of, slot_keywords, reference_start}
 use Rattle.cs_profile.specs.Trim.{with_member, with_dialect}
 use Rattle.cs_profile.specs.Root.{with_definitions}
 use Rattle.cs_profile.specs.Profile.{walk_fault, name_fault, IsSchema}
@@ -13,6 +13,8 @@ use Rattle.cs_profile.specs.declared.schema.Schema.TheOpen.{Schema-F, Keywords-F
 use Rattle.cs_profile.specs.declared.schema.Keywords.{Keywords, fold-Keywords}
 use Rattle.cs_profile.specs.declared.schema.KeywordValue.{KeywordValue}
 use Rattle.cs_profile.specs.declared.schema.KeywordValue.TheVariants as value
+use Rattle.cs_profile.specs.declared.keyword.Keyword.{Keyword}
+use Rattle.cs_profile.specs.declared.keyword.Keyword.TheVariants as keyword
 use Rattle.cs_profile.specs.declared.keyword.Form.{Form}
 use Rattle.cs_profile.specs.declared.keyword.Form.TheVariants as form
 use Rattle.cs_profile.specs.declared.schema.JsonKind.{JsonKind}
@@ -56,27 +58,31 @@ reference_document s = text (reference_start ++ string_bytes s)
 abbrev pub text_document : String Global → Document
 text_document s = text (string_bytes s)
 
+-- the document that a keyword's value stands for, if the keyword is there
+abbrev pub value_of : Keywords-F Document (List Slot) → Keyword → Option Document
+value_of k keyword.Ref = option_map reference_document k.reference
+value_of k keyword.AdditionalProperties = k.additional
+value_of k keyword.AllOf = unless_no_list k.all_of.items
+value_of k keyword.AnyOf = unless_no_list k.any_of.items
+value_of k keyword.Const = option_map doc_view k.equal
+value_of k keyword.Enum = option_map (λ v. list (list_view v.items)) k.one_of
+value_of k keyword.ExclusiveMaximum = option_map integer k.below
+value_of k keyword.ExclusiveMinimum = option_map integer k.above
+value_of k keyword.Items = k.rest
+value_of k keyword.Maximum = option_map integer k.maximum
+value_of k keyword.MinItems = option_map integer k.min_items
+value_of k keyword.Minimum = option_map integer k.minimum
+value_of k keyword.Not = k.negated
+value_of k keyword.PrefixItems = unless_no_list k.prefix.items
+value_of k keyword.Properties = unless_no_map k.properties.entries
+value_of k keyword.Required = unless_no_list (map text_document k.required.items)
+value_of k keyword.Type = option_map (λ j. text (kind_name j)) k.kind
+-- the dialect and the definitions are the root's, and texts are left out
+value_of k _ = None
+
 -- the keywords of an object, in the byte order of their names
 abbrev pub keyword_slots : Keywords-F Document (List Slot) → List Slot
-keyword_slots k =
-    (codes "$ref", option_map reference_document k.reference)
-    ∷ (codes "additionalProperties", k.additional)
-    ∷ (codes "allOf", unless_no_list k.all_of.items)
-    ∷ (codes "anyOf", unless_no_list k.any_of.items)
-    ∷ (codes "const", option_map doc_view k.equal)
-    ∷ (codes "enum", option_map (λ v. list (list_view v.items)) k.one_of)
-    ∷ (codes "exclusiveMaximum", option_map integer k.below)
-    ∷ (codes "exclusiveMinimum", option_map integer k.above)
-    ∷ (codes "items", k.rest)
-    ∷ (codes "maximum", option_map integer k.maximum)
-    ∷ (codes "minItems", option_map integer k.min_items)
-    ∷ (codes "minimum", option_map integer k.minimum)
-    ∷ (codes "not", k.negated)
-    ∷ (codes "prefixItems", unless_no_list k.prefix.items)
-    ∷ (codes "properties", unless_no_map k.properties.entries)
-    ∷ (codes "required", unless_no_list (map text_document k.required.items))
-    ∷ (codes "type", option_map (λ j. text (kind_name j)) k.kind)
-    ∷ []
+keyword_slots k = map (λ w. (name_of w, value_of k w)) slot_keywords
 
 abbrev pub schema_step : Schema-F Document (List Slot) → Document
 schema_step (Schema-F.Always b) = boolean b

@@ -6,19 +6,24 @@ use Rattle.std.specs.Option.{IfSome}
 use Rattle.cs_document.specs.Document.{Document, integer, text, list, object, elements, entries, Entry}
 use Rattle.cs_document.specs.View.{doc_view, list_view, documents_of}
 use Rattle.cs_document.specs.declared.doc.Doc.{Doc}
-use Rattle.cs_profile.specs.Keywords.{listed_under, defined}
+use Rattle.cs_document.proofs.Each.{each_of, each_over}
+use Rattle.cs_profile.specs.Keywords.{name_of, all_keywords, slot_keywords, listed_under, defined}
 use Rattle.cs_profile.specs.Constraint.{Assertion, valid_by, has_kind, equals, is_among, at_least, at_most, above, below, has_keys, at_keys, at_other_keys, in_front, behind, valid_by_all, valid_by_any, not_valid_by, conjunction, constraint_of, assertion_at, texts_in, places_taken}
 use Rattle.cs_profile.specs.Numbered.{numbered as numbers_from, names_in}
 use Rattle.cs_profile.specs.SchemaDocument.{reference_document, text_document, unless_no_map, unless_no_list, definitions_view, present, schema_view, schemas_view, slots_of, kind_name}
+use Rattle.cs_profile.specs.declared.keyword.Keyword.{Keyword}
+use Rattle.cs_profile.specs.declared.keyword.Keyword.TheVariants as keyword
 use Rattle.cs_profile.specs.declared.schema.JsonKind.{JsonKind}
 use Rattle.cs_profile.specs.declared.schema.JsonKind.TheVariants as kind
+use Rattle.cs_profile.specs.declared.schema.Keywords.{Keywords}
 use Rattle.cs_profile.specs.declared.schema.Schema.{Schema}
 use Rattle.cs_validate.specs.Numbering.{ClaimBelow, PartsBelow, map_assertion, map_constraint, asserted, said, schema_at}
 use Rattle.cs_validate.specs.Placing.{inside_members}
-use Rattle.cs_validate.specs.Steps.{kind_of, items_place, prefix_place, properties_place, unless_empty, at_least_of_length, places_from, claims_of, asked_of}
+use Rattle.cs_validate.specs.Steps.{kind_of, items_place, prefix_place, properties_place, unless_empty, at_least_of_length, places_from, claim_of, claims_of, asked_of}
 use Rattle.cs_validate.specs.declared.rules.Rule.TheVariants as rule
 use Rattle.cs_validate.specs.declared.rules.Conjunction.{Conjunction}
-use Rattle.cs_validate.proofs.Slots.{slots_are, slot_part, spoken, gathered, elements_back, names_beside, places_beside}
+use Rattle.cs_profile.proofs.Slots.{slot_of, slots_at, slots_are}
+use Rattle.cs_validate.proofs.Slots.{slot_part, spoken, gathered, elements_back, names_beside, places_beside}
 use Rattle.cs_validate.proofs.Standing.{Stand, StandInside, stand_inside, schemas_there, named_there, places_below, numbers_below}
 
 texts_back : (ts : List (String Global)) → texts_in (elements (documents_of (map text_document ts))) ≡ map string_bytes ts
@@ -61,6 +66,11 @@ module _ (R : Document) (placed inside : List Document) (beside : List (Entry Do
 
   -- ---- keyword by keyword
 
+  some_claim : {X : Type 0} (n : List ℕ) (f : X → Document) (g : X → Assertion ℕ ℕ) → ((x : X) → claimed n (f x) ≡ told (Some (g x))) → (o : Option X)
+      → in_slot n (option_map f o) ≡ told (option_map g o)
+  some_claim n f g h None = refl
+  some_claim n f g h (Some x) = h x
+
   reference_claim : (o : Option (String Global)) (r : Option ℕ) → ((s : String Global) → o ≡ Some s → option_map (schema_at placed) r ≡ defined R (string_bytes s))
       → in_slot (codes "$ref") (option_map reference_document o) ≡ told (option_map (λ n. valid_by r) o)
   reference_claim None r h = refl
@@ -83,10 +93,6 @@ module _ (R : Document) (placed inside : List Document) (beside : List (Entry Do
   any_claim (r ∷ rs) [] e = cc
   any_claim (r ∷ rs) (d ∷ ds) e = ap (λ l. valid_by_any l ∷ []) (elements_back (d ∷ ds) ∙ sym e)
 
-  equal_claim : (o : Option Doc) → in_slot (codes "const") (option_map doc_view o) ≡ told (option_map (λ d. equals (doc_view d)) o)
-  equal_claim None = refl
-  equal_claim (Some d) = refl
-
   among_claim : (o : Option (Vec Doc Global)) (vs : Option (List Document)) → vs ≡ option_map (λ v. map doc_view v.items) o
       → in_slot (codes "enum") (option_map (λ v. list (list_view v.items)) o) ≡ told (option_map is_among vs)
   among_claim None None e = refl
@@ -96,31 +102,14 @@ module _ (R : Document) (placed inside : List Document) (beside : List (Entry Do
       let same : vs ≡ map doc_view v.items = cc in
       ap (λ l. is_among l ∷ []) (elements_back (map doc_view v.items) ∙ sym same)
 
-  below_claim : (o : Option ℤ) → in_slot (codes "exclusiveMaximum") (option_map integer o) ≡ told (option_map below o)
-  below_claim None = refl
-  below_claim (Some z) = refl
-
-  above_claim : (o : Option ℤ) → in_slot (codes "exclusiveMinimum") (option_map integer o) ≡ told (option_map above o)
-  above_claim None = refl
-  above_claim (Some z) = refl
-
   items_claim : (o : Option Schema) (n p : ℕ) → places_taken beside ≡ n → Stand inside p (option_to_list (option_map schema_view o))
       → in_slot (codes "items") (option_map schema_view o) ≡ told (option_map (λ s. behind n p) o)
   items_claim None n p e h = refl
   items_claim (Some s) n p e h = ap₂ (λ m d. behind m d ∷ []) e (sym h.1)
 
-  maximum_claim : (o : Option ℤ) → in_slot (codes "maximum") (option_map integer o) ≡ told (option_map at_most o)
-  maximum_claim None = refl
-  maximum_claim (Some z) = refl
-
-  length_claim : (o : Option ℤ) → in_slot (codes "minItems") (option_map integer o) ≡ told (option_map at_least_of_length o)
-  length_claim None = refl
-  length_claim (Some (pos n)) = refl
-  length_claim (Some (negsuc n)) = refl
-
-  minimum_claim : (o : Option ℤ) → in_slot (codes "minimum") (option_map integer o) ≡ told (option_map at_least o)
-  minimum_claim None = refl
-  minimum_claim (Some z) = refl
+  length_claim : (z : ℤ) → claimed (codes "minItems") (integer z) ≡ told (Some (at_least_of_length z))
+  length_claim (pos n) = refl
+  length_claim (negsuc n) = refl
 
   not_claim : (o : Option ℕ) (d : Option Document) → option_map (schema_at placed) o ≡ d → in_slot (codes "not") d ≡ told (option_map not_valid_by o)
   not_claim None None e = refl
@@ -143,41 +132,46 @@ module _ (R : Document) (placed inside : List Document) (beside : List (Entry Do
   required_claim [] = refl
   required_claim (t ∷ ts) = ap (λ l. has_keys l ∷ []) (texts_back (t ∷ ts))
 
-  kind_claim : (o : Option JsonKind) → in_slot (codes "type") (option_map (λ j. text (kind_name j)) o) ≡ told (option_map (λ j. has_kind (kind_of j)) o)
-  kind_claim None = refl
-  kind_claim (Some kind.Null) = refl
-  kind_claim (Some kind.Boolean) = refl
-  kind_claim (Some kind.Object) = refl
-  kind_claim (Some kind.Array) = refl
-  kind_claim (Some kind.Number) = refl
-  kind_claim (Some kind.String) = refl
-  kind_claim (Some kind.Integer) = refl
+  kind_claim : (j : JsonKind) → claimed (codes "type") (text (kind_name j)) ≡ told (Some (has_kind (kind_of j)))
+  kind_claim kind.Null = refl
+  kind_claim kind.Boolean = refl
+  kind_claim kind.Object = refl
+  kind_claim kind.Array = refl
+  kind_claim kind.Number = refl
+  kind_claim kind.String = refl
+  kind_claim kind.Integer = refl
 
-  together : {xs xs' ys ys' : List (Assertion Document Document)} → xs ≡ xs' → ys ≡ ys' → xs ++ ys ≡ xs' ++ ys'
-  together p q = ap₂ (λ l m. l ++ m) p q
+  module _ (c : Conjunction) (h : HasParts R placed c) (i : StandInside inside c) (names : map (λ e. e.0) (listed_under (codes "properties") beside) ≡ names_in c.keywords.now.properties.entries)
+      (taken : places_taken beside ≡ length c.keywords.now.prefix.items) where
+    abbrev k : Keywords
+    k = c.keywords.now
 
-  slots_told : (c : Conjunction) → HasParts R placed c → StandInside inside c → map (λ e. e.0) (listed_under (codes "properties") beside) ≡ names_in c.keywords.now.properties.entries → places_taken beside ≡ length c.keywords.now.prefix.items
-      → spoken claimed (λ n. true) always_speaks (slots_of c.keywords.now) ≡ all_told (claims_of c)
-  slots_told c h i names taken =
-      let k = c.keywords.now in
-      ap (spoken claimed (λ n. true) always_speaks) (slots_are k)
-      ∙ together (reference_claim k.reference c.reference h.reference)
-      (together (additional_claim k.additional (names_in k.properties.entries) c.first names i.additional)
-      (together (all_claim c.all_of.items (schemas_view k.all_of.items) h.all_of)
-      (together (any_claim c.any_of.items (schemas_view k.any_of.items) h.any_of)
-      (together (equal_claim k.equal)
-      (together (among_claim k.one_of c.one_of h.one_of)
-      (together (below_claim k.below)
-      (together (above_claim k.above)
-      (together (items_claim k.rest (length k.prefix.items) (items_place c) taken i.items)
-      (together (maximum_claim k.maximum)
-      (together (length_claim k.min_items)
-      (together (minimum_claim k.minimum)
-      (together (not_claim c.negated (option_map schema_view k.negated) h.negated)
-      (together (prefix_claim k.prefix.items (prefix_place c) i.prefix)
-      (together (properties_claim k.properties.entries (properties_place c) i.properties)
-      (together (required_claim k.required.items ∙ ap (λ ts. told (unless_empty has_keys ts)) (sym h.required))
-      (together (kind_claim k.kind) refl))))))))))))))))
+    claim_told : (w : Keyword) → in_slot (name_of w) (slot_of k w) ≡ told (claim_of c w)
+    claim_told keyword.Ref = reference_claim k.reference c.reference h.reference
+    claim_told keyword.AdditionalProperties = additional_claim k.additional (names_in k.properties.entries) c.first names i.additional
+    claim_told keyword.AllOf = all_claim c.all_of.items (schemas_view k.all_of.items) h.all_of
+    claim_told keyword.AnyOf = any_claim c.any_of.items (schemas_view k.any_of.items) h.any_of
+    claim_told keyword.Const = some_claim (codes "const") doc_view (λ d. equals (doc_view d)) (λ d. refl) k.equal
+    claim_told keyword.Enum = among_claim k.one_of c.one_of h.one_of
+    claim_told keyword.ExclusiveMaximum = some_claim (codes "exclusiveMaximum") integer below (λ z. refl) k.below
+    claim_told keyword.ExclusiveMinimum = some_claim (codes "exclusiveMinimum") integer above (λ z. refl) k.above
+    claim_told keyword.Items = items_claim k.rest (length k.prefix.items) (items_place c) taken i.items
+    claim_told keyword.Maximum = some_claim (codes "maximum") integer at_most (λ z. refl) k.maximum
+    claim_told keyword.MinItems = some_claim (codes "minItems") integer at_least_of_length length_claim k.min_items
+    claim_told keyword.Minimum = some_claim (codes "minimum") integer at_least (λ z. refl) k.minimum
+    claim_told keyword.Not = not_claim c.negated (option_map schema_view k.negated) h.negated
+    claim_told keyword.PrefixItems = prefix_claim k.prefix.items (prefix_place c) i.prefix
+    claim_told keyword.Properties = properties_claim k.properties.entries (properties_place c) i.properties
+    claim_told keyword.Required = required_claim k.required.items ∙ ap (λ ts. told (unless_empty has_keys ts)) (sym h.required)
+    claim_told keyword.Type = some_claim (codes "type") (λ j. text (kind_name j)) (λ j. has_kind (kind_of j)) kind_claim k.kind
+    claim_told _ = refl
+
+    each_told : (ws : List Keyword) → spoken claimed (λ n. true) always_speaks (slots_at k ws) ≡ all_told (map (claim_of c) ws)
+    each_told [] = refl
+    each_told (w ∷ ws) = ap₂ (λ l m. l ++ m) (claim_told w) (each_told ws)
+
+    slots_told : spoken claimed (λ n. true) always_speaks (slots_of k) ≡ all_told (claims_of c)
+    slots_told = ap (spoken claimed (λ n. true) always_speaks) (slots_are k) ∙ each_told slot_keywords
 
   keywords_told : (c : Conjunction) → HasParts R placed c → StandInside inside c → beside ≡ entries (present (slots_of c.keywords.now))
       → conjunction (flat_map asserted (map (assertion_at R beside) (entries (present (slots_of c.keywords.now))))) ≡ said (map_constraint (schema_at placed) (schema_at inside) (asked_of (rule.Object c)))
@@ -218,9 +212,6 @@ module _ {X : Type 0} (P : X → Type 0) where
   if_any f [] h = tt
   if_any f (y ∷ ys) h = h
 
-also : {A B : Type 0} → A → B → A × B
-also a b = (a, b)
-
 module _ (n : ℕ) (inside : List Document) (c : Conjunction) where
   one_below : (o : Option Schema) (p : ℕ) → Stand inside p (option_to_list (option_map schema_view o)) → (s : Schema) → o ≡ Some s → p < length inside
   one_below None p h s e = cc
@@ -238,28 +229,33 @@ module _ (n : ℕ) (inside : List Document) (c : Conjunction) where
   length_below (pos m) = tt
   length_below (negsuc m) = tt
 
-  claims_below : Each (λ r. r < n) c.all_of.items → Each (λ r. r < n) c.any_of.items → Each (λ r. r < n) (option_to_list c.negated) → Each (λ r. r < n) (option_to_list c.reference) → StandInside inside c
-      → PartsBelow n (length inside) (asked_of (rule.Object c))
-  claims_below all_of any_of negated reference i =
-      let k = c.keywords.now in
-      each_some IsBelow (claims_of c)
-      (also (if_some IsBelow (λ s. valid_by c.reference) k.reference (λ s e. reference))
-      (also (if_some IsBelow (λ s. at_other_keys (names_in k.properties.entries) c.first) k.additional (one_below k.additional c.first i.additional))
-      (also (if_any IsBelow valid_by_all c.all_of.items all_of)
-      (also (if_any IsBelow valid_by_any c.any_of.items any_of)
-      (also (if_some IsBelow (λ d. equals (doc_view d)) k.equal (λ d e. tt))
-      (also (if_some IsBelow is_among c.one_of (λ vs e. tt))
-      (also (if_some IsBelow below k.below (λ z e. tt))
-      (also (if_some IsBelow above k.above (λ z e. tt))
-      (also (if_some IsBelow (λ s. behind (length k.prefix.items) (items_place c)) k.rest (one_below k.rest (items_place c) i.items))
-      (also (if_some IsBelow at_most k.maximum (λ z e. tt))
-      (also (if_some IsBelow at_least_of_length k.min_items (λ z e. length_below z))
-      (also (if_some IsBelow at_least k.minimum (λ z e. tt))
-      (also (if_some IsBelow not_valid_by c.negated (number_below c.negated negated))
-      (also (if_any IsBelow in_front (places_from (prefix_place c) k.prefix.items) (places_below inside k.prefix.items (prefix_place c) i.prefix))
-      (also (if_any IsBelow at_keys (numbers_from (properties_place c) (names_in k.properties.entries)) (numbers_below inside k.properties.entries (properties_place c) i.properties))
-      (also (if_any IsBelow has_keys c.required tt)
-      (also (if_some IsBelow (λ j. has_kind (kind_of j)) k.kind (λ j e. tt)) tt)))))))))))))))))
+  module _ (all_of : Each (λ r. r < n) c.all_of.items) (any_of : Each (λ r. r < n) c.any_of.items) (negated : Each (λ r. r < n) (option_to_list c.negated)) (reference : Each (λ r. r < n) (option_to_list c.reference))
+      (i : StandInside inside c) where
+    abbrev keys : Keywords
+    keys = c.keywords.now
+
+    claim_below : (w : Keyword) → IfSome (claim_of c w) IsBelow
+    claim_below keyword.Ref = if_some IsBelow (λ s. valid_by c.reference) keys.reference (λ s e. reference)
+    claim_below keyword.AdditionalProperties = if_some IsBelow (λ s. at_other_keys (names_in keys.properties.entries) c.first) keys.additional (one_below keys.additional c.first i.additional)
+    claim_below keyword.AllOf = if_any IsBelow valid_by_all c.all_of.items all_of
+    claim_below keyword.AnyOf = if_any IsBelow valid_by_any c.any_of.items any_of
+    claim_below keyword.Const = if_some IsBelow (λ d. equals (doc_view d)) keys.equal (λ d e. tt)
+    claim_below keyword.Enum = if_some IsBelow is_among c.one_of (λ vs e. tt)
+    claim_below keyword.ExclusiveMaximum = if_some IsBelow below keys.below (λ z e. tt)
+    claim_below keyword.ExclusiveMinimum = if_some IsBelow above keys.above (λ z e. tt)
+    claim_below keyword.Items = if_some IsBelow (λ s. behind (length keys.prefix.items) (items_place c)) keys.rest (one_below keys.rest (items_place c) i.items)
+    claim_below keyword.Maximum = if_some IsBelow at_most keys.maximum (λ z e. tt)
+    claim_below keyword.MinItems = if_some IsBelow at_least_of_length keys.min_items (λ z e. length_below z)
+    claim_below keyword.Minimum = if_some IsBelow at_least keys.minimum (λ z e. tt)
+    claim_below keyword.Not = if_some IsBelow not_valid_by c.negated (number_below c.negated negated)
+    claim_below keyword.PrefixItems = if_any IsBelow in_front (places_from (prefix_place c) keys.prefix.items) (places_below inside keys.prefix.items (prefix_place c) i.prefix)
+    claim_below keyword.Properties = if_any IsBelow at_keys (numbers_from (properties_place c) (names_in keys.properties.entries)) (numbers_below inside keys.properties.entries (properties_place c) i.properties)
+    claim_below keyword.Required = if_any IsBelow has_keys c.required tt
+    claim_below keyword.Type = if_some IsBelow (λ j. has_kind (kind_of j)) keys.kind (λ j e. tt)
+    claim_below _ = tt
+
+    claims_below : PartsBelow n (length inside) (asked_of (rule.Object c))
+    claims_below = each_some IsBelow (claims_of c) (each_over (claim_of c) (λ o. IfSome o IsBelow) all_keywords (each_of (λ w. IfSome (claim_of c w) IsBelow) claim_below all_keywords))
 
 pub parts_below : (n : ℕ) (before : List Document) (c : Conjunction) → Each (λ r. r < n) c.all_of.items → Each (λ r. r < n) c.any_of.items → Each (λ r. r < n) (option_to_list c.negated) → Each (λ r. r < n) (option_to_list c.reference)
     → c.first ≡ length before → PartsBelow n (length (before ++ inside_members (present (slots_of c.keywords.now)))) (asked_of (rule.Object c))

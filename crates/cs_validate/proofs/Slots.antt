@@ -1,41 +1,21 @@
 -- What the members of an object contribute, keyword by keyword.
-use Rattle.std.proofs.Common.{◌≡◌, ℕ, max, length, bytes_eq, arith, Bool, true, false, List, [], ◌∷◌, ◌++◌, map, Option, Some, None, option_map, String, Global, string_bytes, codes, refl, ap, ap₂, ◌∙◌, append-nil, if◌then◌else◌, rules}
+use Rattle.std.proofs.Common.{◌≡◌, ℕ, max, length, bytes_eq, arith, Bool, true, false, List, [], ◌∷◌, ◌++◌, map, Option, Some, None, option_map, String, Global, string_bytes, codes, refl, ap, ap₂, ◌∙◌, append-nil, if◌then◌else◌}
 use Rattle.std.proofs.lemmas.List.{length-map}
 use Rattle.std.specs.Prelude.{option_to_list}
 use Rattle.std.specs.List.{flat_map}
-use Rattle.cs_document.specs.Document.{Document, integer, text, list, elements, entries, Members, no_members, member, Entry, under}
-use Rattle.cs_document.specs.View.{doc_view, list_view, documents_of, members_of}
+use Rattle.cs_document.specs.Document.{Document, list, elements, entries, Members, no_members, member, Entry, under}
+use Rattle.cs_document.specs.View.{documents_of, members_of}
 use Rattle.cs_profile.specs.Keywords.{keywords, listed_under, entries_of, elements_of}
 use Rattle.cs_profile.specs.Constraint.{places_taken}
 use Rattle.cs_profile.specs.Loops.{ByReach, by_keyword, value_names, direct_names, keyword_names, each_names}
 use Rattle.cs_profile.specs.Numbered.{reference_names, names_of_each, names_in}
-use Rattle.cs_profile.specs.SchemaDocument.{Slot, reference_document, text_document, unless_no_map, unless_no_list, definitions_view, present, schema_view, schemas_view, slots_of, kind_name}
+use Rattle.cs_profile.specs.SchemaDocument.{Slot, reference_document, unless_no_map, unless_no_list, definitions_view, present, schema_view, schemas_view, slots_of}
 use Rattle.cs_profile.specs.declared.keyword.Keyword.{Keyword}
 use Rattle.cs_profile.specs.declared.keyword.Keyword.TheVariants as keyword
-use Rattle.cs_profile.specs.declared.schema.Keywords.{Keywords, the_lemmas}
+use Rattle.cs_profile.specs.declared.schema.Keywords.{Keywords}
 use Rattle.cs_profile.specs.declared.schema.Schema.{Schema}
+use Rattle.cs_profile.proofs.Slots.{slots_are}
 use Rattle.cs_validate.specs.Placing.{if_direct, inside_of, placed_by, placed_by_members, placed_by_list, placed_by_each, inside_members, left_by, left_by_members, left_by_list, left_by_each}
-
-pub slots_are : (k : Keywords) → slots_of k ≡
-    (codes "$ref", option_map reference_document k.reference)
-    ∷ (codes "additionalProperties", option_map schema_view k.additional)
-    ∷ (codes "allOf", unless_no_list (schemas_view k.all_of.items))
-    ∷ (codes "anyOf", unless_no_list (schemas_view k.any_of.items))
-    ∷ (codes "const", option_map doc_view k.equal)
-    ∷ (codes "enum", option_map (λ v. list (list_view v.items)) k.one_of)
-    ∷ (codes "exclusiveMaximum", option_map integer k.below)
-    ∷ (codes "exclusiveMinimum", option_map integer k.above)
-    ∷ (codes "items", option_map schema_view k.rest)
-    ∷ (codes "maximum", option_map integer k.maximum)
-    ∷ (codes "minItems", option_map integer k.min_items)
-    ∷ (codes "minimum", option_map integer k.minimum)
-    ∷ (codes "not", option_map schema_view k.negated)
-    ∷ (codes "prefixItems", unless_no_list (schemas_view k.prefix.items))
-    ∷ (codes "properties", unless_no_map (definitions_view k.properties.entries))
-    ∷ (codes "required", unless_no_list (map text_document k.required.items))
-    ∷ (codes "type", option_map (λ j. text (kind_name j)) k.kind)
-    ∷ []
-slots_are k = search (rules, the_lemmas)
 
 -- what each keyword's value contributes, where some keywords contribute nothing
 module _ {X : Type 0} (part : List ℕ → Document → List X) (speaks : List ℕ → Bool) (silent : (n : List ℕ) (v : Document) → speaks n ≡ false → part n v ≡ []) where

@@ -1,11 +1,13 @@
 -- What a rule of the code asks, by the numbers of its parts.
-use Rattle.std.specs.Prelude.{ℕ, suc, ◌+◌, ℤ, pos, true, false, List, [], ◌∷◌, Option, Some, None, option_map, option_to_list, length, slice_index}
+use Rattle.std.specs.Prelude.{ℕ, suc, ◌+◌, ℤ, pos, true, false, List, [], ◌∷◌, Option, Some, None, option_map, option_to_list, map, length, slice_index}
 use Rattle.std.specs.Option.{option_map_or}
 use Rattle.std.specs.List.{flat_map}
 use Rattle.cs_document.specs.View.{doc_view}
 use Rattle.cs_rules.specs.Steps.{Step}
-use Rattle.cs_profile.specs.Keywords as keyword
-use Rattle.cs_profile.specs.Keywords.{Kind}
+use Rattle.cs_profile.specs.Keywords as named
+use Rattle.cs_profile.specs.Keywords.{Kind, all_keywords}
+use Rattle.cs_profile.specs.declared.keyword.Keyword.{Keyword}
+use Rattle.cs_profile.specs.declared.keyword.Keyword.TheVariants as keyword
 use Rattle.cs_profile.specs.Constraint.{Assertion, nothing, valid_by, has_kind, equals, is_among, at_least, at_most, above, below, has_keys, at_keys, at_other_keys, in_front, behind, at_least_long, valid_by_all, valid_by_any, not_valid_by, Constraint, always, never, conjunction}
 use Rattle.cs_profile.specs.Validity.{is_satisfied}
 use Rattle.cs_profile.specs.Numbered.{numbered as numbers_from, names_in}
@@ -18,13 +20,13 @@ use Rattle.cs_validate.specs.declared.rules.Conjunction.{Conjunction}
 
 -- the kind that `type` names
 abbrev pub kind_of : JsonKind → Kind
-kind_of kind.Null = keyword.Null
-kind_of kind.Boolean = keyword.Boolean
-kind_of kind.Object = keyword.Object
-kind_of kind.Array = keyword.Array
-kind_of kind.Number = keyword.Number
-kind_of kind.String = keyword.String
-kind_of kind.Integer = keyword.Integer
+kind_of kind.Null = named.Null
+kind_of kind.Boolean = named.Boolean
+kind_of kind.Object = named.Object
+kind_of kind.Array = named.Array
+kind_of kind.Number = named.Number
+kind_of kind.String = named.String
+kind_of kind.Integer = named.Integer
 
 -- a list or map that is empty asks nothing
 abbrev pub unless_empty : {X Y : Type 0} → (List X → Y) → List X → Option Y
@@ -54,27 +56,29 @@ prefix_place c = items_place c + one_if c.keywords.now.rest
 abbrev pub properties_place : Conjunction → ℕ
 properties_place c = prefix_place c + length c.keywords.now.prefix.items
 
--- what each keyword asks, if it is there, in the byte order of their names
+-- what a keyword asks, if it is there
+abbrev pub claim_of : Conjunction → Keyword → Option (Assertion ℕ ℕ)
+claim_of c keyword.Ref = option_map (λ n. valid_by c.reference) c.keywords.now.reference
+claim_of c keyword.AdditionalProperties = option_map (λ s. at_other_keys (names_in c.keywords.now.properties.entries) c.first) c.keywords.now.additional
+claim_of c keyword.AllOf = unless_empty valid_by_all c.all_of.items
+claim_of c keyword.AnyOf = unless_empty valid_by_any c.any_of.items
+claim_of c keyword.Const = option_map (λ d. equals (doc_view d)) c.keywords.now.equal
+claim_of c keyword.Enum = option_map is_among c.one_of
+claim_of c keyword.ExclusiveMaximum = option_map below c.keywords.now.below
+claim_of c keyword.ExclusiveMinimum = option_map above c.keywords.now.above
+claim_of c keyword.Items = option_map (λ s. behind (length c.keywords.now.prefix.items) (items_place c)) c.keywords.now.rest
+claim_of c keyword.Maximum = option_map at_most c.keywords.now.maximum
+claim_of c keyword.MinItems = option_map at_least_of_length c.keywords.now.min_items
+claim_of c keyword.Minimum = option_map at_least c.keywords.now.minimum
+claim_of c keyword.Not = option_map not_valid_by c.negated
+claim_of c keyword.PrefixItems = unless_empty in_front (places_from (prefix_place c) c.keywords.now.prefix.items)
+claim_of c keyword.Properties = unless_empty at_keys (numbers_from (properties_place c) (names_in c.keywords.now.properties.entries))
+claim_of c keyword.Required = unless_empty has_keys c.required
+claim_of c keyword.Type = option_map (λ j. has_kind (kind_of j)) c.keywords.now.kind
+claim_of c _ = None
+
 abbrev pub claims_of : Conjunction → List (Option (Assertion ℕ ℕ))
-claims_of c =
-    option_map (λ n. valid_by c.reference) c.keywords.now.reference
-    ∷ option_map (λ s. at_other_keys (names_in c.keywords.now.properties.entries) c.first) c.keywords.now.additional
-    ∷ unless_empty valid_by_all c.all_of.items
-    ∷ unless_empty valid_by_any c.any_of.items
-    ∷ option_map (λ d. equals (doc_view d)) c.keywords.now.equal
-    ∷ option_map is_among c.one_of
-    ∷ option_map below c.keywords.now.below
-    ∷ option_map above c.keywords.now.above
-    ∷ option_map (λ s. behind (length c.keywords.now.prefix.items) (items_place c)) c.keywords.now.rest
-    ∷ option_map at_most c.keywords.now.maximum
-    ∷ option_map at_least_of_length c.keywords.now.min_items
-    ∷ option_map at_least c.keywords.now.minimum
-    ∷ option_map not_valid_by c.negated
-    ∷ unless_empty in_front (places_from (prefix_place c) c.keywords.now.prefix.items)
-    ∷ unless_empty at_keys (numbers_from (properties_place c) (names_in c.keywords.now.properties.entries))
-    ∷ unless_empty has_keys c.required
-    ∷ option_map (λ j. has_kind (kind_of j)) c.keywords.now.kind
-    ∷ []
+claims_of c = map (claim_of c) all_keywords
 
 -- what a rule asks; a part asked of a document inside is a place in another list
 abbrev pub asked_of : Rule → Constraint ℕ ℕ
