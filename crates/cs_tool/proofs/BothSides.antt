@@ -6,7 +6,7 @@ use Rattle.cs_instance.specs.Instance.{Rule, definition, IsInstance}
 use Rattle.cs_schema.specs.Validity.{IsValidity}
 use Rattle.cs_tool.specs.Headline.{IsExport, IsVerdict, IsValidated}
 use Rattle.cs_tool.proofs.Declared.{one_environment, one_name}
-use Rattle.cs_tool.proofs.SchemaTexts.{one_document}
+use Rattle.cs_tool.proofs.Texts.{one_document}
 
 -- what is judged by an exported text is judged by the root's definition
 pub validate-says-instance : (sources : List (List ℕ)) (root text doc : List ℕ) (b : Bool) (exported : IsExport sources root text) (validated : IsValidated text doc b)

@@ -2,8 +2,6 @@
 use Rattle.std.specs.Prelude.{ℕ, ◌⊎◌, List}
 use Rattle.cs_document.specs.Document.{Document}
 use Rattle.cs_doc.specs.Texts.{Reads, IsJson, HasOtherNumber}
-use Rattle.cs_package.specs.Environment.{Environment}
-use Rattle.cs_instance.specs.Rules.{HasManyPairs}
 use Rattle.cs_schema.specs.Profile.{IsSchema}
 use Rattle.cs_schema.specs.Refusal as schema
 use Rattle.cs_profile.specs.declared.fault.SchemaFault.{SchemaFault}
@@ -58,19 +56,3 @@ AgreeRefusal sources root text NotJson = IsReady sources root × ¬ (IsJson text
 AgreeRefusal sources root text NotInteger = IsReady sources root × HasOtherNumber text
 AgreeRefusal sources root text TooManyPairs = IsReady sources root × (RootHasManyPairs sources root text ⊎ ExportHasManyPairs sources root text)
 AgreeRefusal sources root text f = First sources root f
-
--- ---- the parts, for private contracts alone
-
--- a text is judged by a definition of an environment
-abbrev pub VerdictRefusal : Environment → List ℕ → List ℕ → Fault → Type 0
-VerdictRefusal E name text OutOfMemory = Unit {0}
-VerdictRefusal E name text NotJson = ¬ (IsJson text)
-VerdictRefusal E name text NotInteger = HasOtherNumber text
-VerdictRefusal E name text TooManyPairs = (d : Document) × Reads text d × HasManyPairs E name d
-VerdictRefusal E name text _ = ⊥
-
-abbrev pub SchemaTextRefusal : List ℕ → Fault → Type 0
-SchemaTextRefusal schema_text OutOfMemory = Unit {0}
-SchemaTextRefusal schema_text SchemaNotJson = ¬ (IsJson schema_text)
-SchemaTextRefusal schema_text NotInteger = HasOtherNumber schema_text
-SchemaTextRefusal schema_text _ = ⊥

@@ -1,10 +1,8 @@
 // The calls over bytes.
 ghost use Rattle.std.specs.Prelude.{◌≡◌, ℕ, ◌≤◌, List, IfOk, IfErr, IsOkUnless, map};
-ghost use Rattle.cs_document.specs.Document.{Document, depth};
+ghost use Rattle.cs_document.specs.Document.{depth};
 ghost use Rattle.cs_doc.specs.Texts.{Reads, text_of};
-ghost use Rattle.cs_document.specs.View.{doc_view};
 ghost use Rattle.cs_package.specs.Environment.{Names};
-ghost use Rattle.cs_instance.specs.Rules.{HasManyPairs};
 ghost use Rattle.cs_schema.specs.Profile.{IsSchema};
 ghost use Rattle.cs_schema.specs.SchemaDocument.{document_of};
 ghost use Rattle.cs_schema.specs.Trim.{trim};
@@ -13,12 +11,12 @@ ghost use Rattle.cs_tool.specs.Headline.{IsExport, IsVerdict, IsValidated};
 ghost use Rattle.cs_tool.specs.Translated.{IsTranslated};
 ghost use Rattle.cs_tool.specs.Agreement.{IsAgreement};
 ghost use Rattle.cs_tool.specs.Ready.{IsReady, IsReadyToVet, IsReadyToValidate, IsReadyToAgree};
-ghost use Rattle.cs_tool.specs.CallRefusals.{ExportRefusal, VetRefusal, ValidateRefusal, AgreeRefusal, VerdictRefusal, SchemaTextRefusal};
+ghost use Rattle.cs_tool.specs.CallRefusals.{ExportRefusal, VetRefusal, ValidateRefusal, AgreeRefusal, IsSchemaText};
 
 use crate::Fault;
 use crate::packages::package_of;
 use cs_compile::compile;
-use cs_doc::{Doc, DocFault, read_doc, write_doc};
+use cs_doc::{DocFault, read_doc, write_doc};
 use cs_guard::Guarded;
 use cs_instance::is_instance;
 use cs_schema::{SchemaDoc, read_schema, to_doc};
@@ -85,18 +83,6 @@ pub fn vet(alloc: Global, sources: &[&[u8]], root: &str, doc: &[u8]) -> Result<b
     if guarded.package().find(root).is_none() {
         return Err(Fault::UnknownRoot);
     }
-    verdict(alloc, guarded, root, doc)
-}
-
-/// Whether the document is an instance of the root definition, which the package declares.
-fn verdict(alloc: Global, guarded: Guarded, root: &str, doc: &[u8]) -> Result<bool, Fault>
-    ensures found { (sources : List (List ℕ)) → IsAccepted sources guarded
-        → IfOk result (λ b. IsVerdict sources root.now doc.now b) }
-    ensures refused { (n : List ℕ) → Names guarded root.now n
-        → IfErr result (λ e. VerdictRefusal guarded n doc.now e) }
-    ensures only { (n : List ℕ) (d : Document) → Names guarded root.now n → Reads doc.now d → ¬ HasManyPairs guarded n d
-        → IsOkUnless result Fault.OutOfMemory }
-{
     let doc = read_doc(alloc, doc)?;
     Ok(is_instance(alloc, &guarded, root, &doc)?)
 }
@@ -110,18 +96,19 @@ pub fn validate(alloc: Global, schema: &[u8], doc: &[u8]) -> Result<bool, Fault>
     ensures refused { IfErr result (λ e. ValidateRefusal schema.now doc.now e) }
     ensures only { IsReadyToValidate schema.now doc.now → IsOkUnless result Fault.OutOfMemory }
 {
-    let schema = read_schema(alloc, &schema_text(alloc, schema)?)?;
+    let schema = schema_of(alloc, schema)?;
     let doc = read_doc(alloc, doc)?;
     Ok(is_valid(alloc, &schema, &doc)?)
 }
 
-/// The document of a schema's text.
-fn schema_text(alloc: Global, text: &[u8]) -> Result<Doc, Fault>
-    ensures found { IfOk result (λ d. Reads text.now (doc_view d)) }
-    ensures refused { IfErr result (λ e. SchemaTextRefusal text.now e) }
+/// The schema of a schema's text, trimmed. Its refusals hold whatever the document is.
+fn schema_of(alloc: Global, text: &[u8]) -> Result<SchemaDoc, Fault>
+    ensures found { IfOk result (λ s. (is : IsSchemaText text.now) × (document_of s ≡ trim is.document)) }
+    ensures refused { (doc : List ℕ) → IfErr result (λ e. ValidateRefusal text.now doc e) }
+    ensures only { IsSchemaText text.now → IsOkUnless result Fault.OutOfMemory }
 {
     match read_doc(alloc, text) {
-        Ok(doc) => Ok(doc),
+        Ok(doc) => Ok(read_schema(alloc, &doc)?),
         Err(DocFault::NotJson) => Err(Fault::SchemaNotJson),
         Err(fault) => Err(Fault::from(fault)),
     }
@@ -140,8 +127,9 @@ pub fn agree(alloc: Global, sources: &[&[u8]], root: &str, doc: &[u8]) -> Result
     ensures only { IsReadyToAgree (map (λ s. s.now) sources.now) root.now doc.now → IsOkUnless result Fault.OutOfMemory }
 {
     let guarded = package_of(alloc, sources)?;
-    let schema = exported(alloc, &guarded, root)?;
-    let is_instance = verdict(alloc, guarded, root, doc)?;
-    let is_valid = validate(alloc, &schema, doc)?;
+    let schema = schema_of(alloc, &exported(alloc, &guarded, root)?)?;
+    let doc = read_doc(alloc, doc)?;
+    let is_instance = is_instance(alloc, &guarded, root, &doc)?;
+    let is_valid = is_valid(alloc, &schema, &doc)?;
     Ok(is_instance && is_valid)
 }

@@ -14,7 +14,7 @@ use Rattle.cs_tool.specs.Accepted.{IsAccepted}
 use Rattle.cs_tool.specs.Headline.{IsExport}
 use Rattle.cs_tool.proofs.Low.{low_files}
 use Rattle.cs_tool.proofs.Declared.{one_environment}
-use Rattle.cs_tool.proofs.SchemaTexts.{one_document}
+use Rattle.cs_tool.proofs.Texts.{one_document}
 use Rattle.cs_tool.proofs.calls.exported.Goals as goal
 
 low : (sources : List (List ℕ)) (E : Environment) → IsAccepted sources E → IsLow E
