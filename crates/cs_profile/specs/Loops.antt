@@ -33,20 +33,7 @@ by_keyword (Some keyword.AdditionalProperties) names = []
 by_keyword (Some keyword.PrefixItems) names = []
 by_keyword (Some keyword.Items) names = []
 -- and these ask none
-by_keyword (Some keyword.Schema) names = []
-by_keyword (Some keyword.Defs) names = []
-by_keyword (Some keyword.Type) names = []
-by_keyword (Some keyword.Const) names = []
-by_keyword (Some keyword.Enum) names = []
-by_keyword (Some keyword.Minimum) names = []
-by_keyword (Some keyword.Maximum) names = []
-by_keyword (Some keyword.ExclusiveMinimum) names = []
-by_keyword (Some keyword.ExclusiveMaximum) names = []
-by_keyword (Some keyword.MinItems) names = []
-by_keyword (Some keyword.Required) names = []
-by_keyword (Some keyword.Title) names = []
-by_keyword (Some keyword.Description) names = []
-by_keyword (Some keyword.Comment) names = []
+by_keyword (Some _) names = []
 
 abbrev mutual
   -- the names that a schema refers to directly, through `$ref`, `allOf`, `anyOf` and `not` alone

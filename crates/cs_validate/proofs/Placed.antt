@@ -9,7 +9,7 @@ use Rattle.cs_document.specs.Document.{Document, boolean, Entry, under}
 use Rattle.cs_document.specs.Inside.{map_entry}
 use Rattle.cs_document.proofs.Each.{each_map}
 use Rattle.cs_profile.specs.Loops.{direct_names}
-use Rattle.cs_profile.specs.Constraint.{Assertion, nothing, valid_by, has_kind, equals, is_among, at_least, at_most, above, below, has_keys, at_keys, at_other_keys, in_front, behind, at_least_long, valid_by_all, valid_by_any, not_valid_by, Constraint, always, never, conjunction, constraint_of}
+use Rattle.cs_profile.specs.Constraint.{Assertion, valid_by, at_keys, at_other_keys, in_front, behind, valid_by_all, valid_by_any, not_valid_by, Constraint, always, never, conjunction, constraint_of}
 use Rattle.cs_profile.specs.declared.schema.Schema.{Schema}
 use Rattle.cs_validate.specs.Numbering.{map_assertion, map_constraint, said, ClaimBelow, PartsBelow, schema_at}
 use Rattle.cs_validate.specs.declared.rules.Rule.{Rule as Coded}
@@ -56,16 +56,7 @@ module _ {D N : Type 0} (n m : ℕ) (f f' : ℕ → D) (g g' : ℕ → N) (h : (
   claim_same (valid_by_all rs) b = ap valid_by_all (numbers_same n f f' h rs b)
   claim_same (valid_by_any rs) b = ap valid_by_any (numbers_same n f f' h rs b)
   claim_same (not_valid_by r) b = ap not_valid_by (h r b)
-  claim_same nothing b = refl
-  claim_same (has_kind j) b = refl
-  claim_same (equals v) b = refl
-  claim_same (is_among vs) b = refl
-  claim_same (at_least z) b = refl
-  claim_same (at_most z) b = refl
-  claim_same (above z) b = refl
-  claim_same (below z) b = refl
-  claim_same (has_keys ks) b = refl
-  claim_same (at_least_long j) b = refl
+  claim_same _ b = refl
 
   claims_same : (claims : List (Assertion ℕ ℕ)) → Each (ClaimBelow n m) claims → map (map_assertion f g) claims ≡ map (map_assertion f' g') claims
   claims_same [] b = refl
@@ -85,16 +76,7 @@ claim_weaker n m n' m' u l (behind j p) b = lt_of_lt_of_le b l
 claim_weaker n m n' m' u l (valid_by_all rs) b = each_map (λ r. r < n) (λ r. r < n') (λ r c. lt_of_lt_of_le c u) rs b
 claim_weaker n m n' m' u l (valid_by_any rs) b = each_map (λ r. r < n) (λ r. r < n') (λ r c. lt_of_lt_of_le c u) rs b
 claim_weaker n m n' m' u l (not_valid_by r) b = lt_of_lt_of_le b u
-claim_weaker n m n' m' u l nothing b = tt
-claim_weaker n m n' m' u l (has_kind j) b = tt
-claim_weaker n m n' m' u l (equals v) b = tt
-claim_weaker n m n' m' u l (is_among vs) b = tt
-claim_weaker n m n' m' u l (at_least z) b = tt
-claim_weaker n m n' m' u l (at_most z) b = tt
-claim_weaker n m n' m' u l (above z) b = tt
-claim_weaker n m n' m' u l (below z) b = tt
-claim_weaker n m n' m' u l (has_keys ks) b = tt
-claim_weaker n m n' m' u l (at_least_long j) b = tt
+claim_weaker n m n' m' u l _ b = tt
 
 pub parts_weaker : (n m n' m' : ℕ) → n ≤ n' → m ≤ m' → (a : Constraint ℕ ℕ) → PartsBelow n m a → PartsBelow n' m' a
 parts_weaker n m n' m' u l always b = tt

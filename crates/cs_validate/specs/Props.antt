@@ -7,7 +7,7 @@ use native.Mathlib.Bridge.{le_prop}
 use Rattle.cs_document.specs.Document.{Entry}
 use Rattle.cs_document.specs.Opened.{Opened, a_null, a_boolean, an_integer, a_text, a_list, an_object}
 use Rattle.cs_document.specs.Inside.{InsideBelow}
-use Rattle.cs_profile.specs.Constraint.{Assertion, nothing, valid_by, has_kind, equals, is_among, at_least, at_most, above, below, has_keys, at_keys, at_other_keys, in_front, behind, at_least_long, valid_by_all, valid_by_any, not_valid_by, Constraint, always, never, conjunction}
+use Rattle.cs_profile.specs.Constraint.{Assertion, valid_by, at_keys, at_other_keys, in_front, behind, valid_by_all, valid_by_any, not_valid_by, Constraint, always, never, conjunction}
 use Rattle.cs_validate.specs.Numbering.{ClaimBelow, PartsBelow}
 
 each_prop : {X : Type 0} (P : X → Type 0) → ((x : X) → IsProp (P x)) → (xs : List X) → IsProp (Each P xs)
@@ -34,16 +34,7 @@ claim_prop n m (behind k p) = le_prop
 claim_prop n m (valid_by_all rs) = below_prop n rs
 claim_prop n m (valid_by_any rs) = below_prop n rs
 claim_prop n m (not_valid_by r) = le_prop
-claim_prop n m nothing = Unit-prop
-claim_prop n m (has_kind k) = Unit-prop
-claim_prop n m (equals v) = Unit-prop
-claim_prop n m (is_among vs) = Unit-prop
-claim_prop n m (at_least z) = Unit-prop
-claim_prop n m (at_most z) = Unit-prop
-claim_prop n m (above z) = Unit-prop
-claim_prop n m (below z) = Unit-prop
-claim_prop n m (has_keys ks) = Unit-prop
-claim_prop n m (at_least_long k) = Unit-prop
+claim_prop n m _ = Unit-prop
 
 pub parts_prop : (n m : ℕ) (a : Constraint ℕ ℕ) → IsProp (PartsBelow n m a)
 parts_prop n m always = Unit-prop
