@@ -13,13 +13,13 @@ use Rattle.cs_profile.specs.Keywords.{name_of, all_keywords}
 use Rattle.cs_profile.specs.declared.keyword.Keyword.{Keyword}
 use Rattle.cs_profile.specs.declared.keyword.Keyword.TheVariants as keyword
 use Rattle.cs_profile.proofs.Names.{by_name, each_named, every_keyword}
-use Rattle.cs_profile.specs.Constraint.{Assertion, valid_by, has_kind, equals, is_among, at_least, at_most, above, below, has_keys, at_keys, at_other_keys, in_front, behind, valid_by_all, valid_by_any, not_valid_by}
+use Rattle.cs_profile.specs.Constraint.{Assertion, valid_by, has_kind, equals, is_among, at_least, at_most, above, below, has_keys, at_keys, at_other_keys, in_front, behind, at_least_long, valid_by_all, valid_by_any, not_valid_by}
 use Rattle.cs_profile.specs.Validity.{is_of_kind, if_number, if_array, if_object, if_there, front_holds, holds}
 use Rattle.cs_profile.specs.Numbered.{numbered as numbers_from, names_in}
 use Rattle.cs_validate.specs.declared.rules.Conjunction.{Conjunction}
 use Rattle.cs_validate.specs.Numbering.{ClaimBelow}
-use Rattle.cs_validate.specs.Steps.{claim_of, claims_of, places_from, unless_empty, at_least_of_length, kind_of, items_place, prefix_place, properties_place}
-use Rattle.cs_validate.specs.Asked.{asks_any, asks_integer, asks_here, is_long, asks_list, asks_map, asks_kind, AreBelowHere, AreBelowInside}
+use Rattle.cs_validate.specs.Steps.{claim_of, claims_of, places_from, unless_empty, of_count, kind_of, items_place, prefix_place, properties_place}
+use Rattle.cs_validate.specs.Asked.{asks_any, asks_integer, asks_here, if_count, asks_list, asks_map, asks_kind, AreBelowHere, AreBelowInside}
 
 -- ---- places one after another
 
@@ -167,15 +167,15 @@ module _ (here : ℕ → Bool) (inside : ℕ → ℕ → Bool) (d : Document) (c
       (ap₂ ◌&&◌ (there_same (passes x) above (λ l. int_lt l z) (λ l. refl) c.keywords.now.above)
       (there_same (passes x) at_least (λ l. int_le l z) (λ l. refl) c.keywords.now.minimum))))
 
-  length_same : (ys : List ℕ) (z : ℤ) → passes (a_list ys) (at_least_of_length z) ≡ is_long z (length ys)
-  length_same ys (pos n) = refl
-  length_same ys (negsuc n) = refl
+  count_same : (x : Opened ℕ) (f : ℕ → Assertion ℕ ℕ) (q : ℕ → Bool) → ((n : ℕ) → passes x (f n) ≡ q n) → (z : ℤ) → passes x (of_count f z) ≡ if_count q z
+  count_same x f q h (pos n) = h n
+  count_same x f q h (negsuc n) = refl
 
   list_same : (ys : List ℕ) → claimed_all (a_list ys) list_keywords ≡ asks_list inside c ys
   list_same ys =
       let x : Opened ℕ = a_list ys in
       simp (and_assoc, and-true)
-      (ap₂ ◌&&◌ (there_same (passes x) at_least_of_length (λ z. is_long z (length ys)) (length_same ys) c.keywords.now.min_items)
+      (ap₂ ◌&&◌ (there_same (passes x) (of_count at_least_long) (if_count (λ n. nat_le n (length ys))) (count_same x at_least_long (λ n. nat_le n (length ys)) (λ n. refl)) c.keywords.now.min_items)
       (ap₂ ◌&&◌ (all_same (passes x) in_front (λ ps. front_holds (λ (h : ℕ). true) inside ps ys) refl (λ p ps. front_any here (λ (h : ℕ). true) inside (p ∷ ps) ys) (places_from (prefix_place c) c.keywords.now.prefix.items))
       (there_same (passes x) (λ s. behind (length c.keywords.now.prefix.items) (items_place c)) (λ s. list_all (λ y. inside y (items_place c)) (drop (length c.keywords.now.prefix.items) ys)) (λ s. refl) c.keywords.now.rest)))
 
@@ -195,13 +195,13 @@ module _ (here : ℕ → Bool) (inside : ℕ → ℕ → Bool) (d : Document) (c
       (ap₂ ◌&&◌ (not_asked (passes x) above (λ l. h (λ n. int_lt l n)) c.keywords.now.above)
       (ap₂ ◌&&◌ (not_asked (passes x) at_least (λ l. h (λ n. int_le l n)) c.keywords.now.minimum) refl)))
 
-  no_length : (x : Opened ℕ) → ((q : List ℕ → Bool) → if_array q x ≡ true) → (z : ℤ) → passes x (at_least_of_length z) ≡ true
-  no_length x h (pos n) = h (λ ys. nat_le n (length ys))
-  no_length x h (negsuc n) = refl
+  no_count : (x : Opened ℕ) (f : ℕ → Assertion ℕ ℕ) → ((n : ℕ) → passes x (f n) ≡ true) → (z : ℤ) → passes x (of_count f z) ≡ true
+  no_count x f h (pos n) = h n
+  no_count x f h (negsuc n) = refl
 
   no_list : (x : Opened ℕ) → ((q : List ℕ → Bool) → if_array q x ≡ true) → claimed_all x list_keywords ≡ true
   no_list x h =
-      ap₂ ◌&&◌ (not_asked (passes x) at_least_of_length (no_length x h) c.keywords.now.min_items)
+      ap₂ ◌&&◌ (not_asked (passes x) (of_count at_least_long) (no_count x at_least_long (λ n. h (λ ys. nat_le n (length ys)))) c.keywords.now.min_items)
       (ap₂ ◌&&◌ (all_same (passes x) in_front (λ ps. true) refl (λ p ps. h (front_holds here inside (p ∷ ps))) (places_from (prefix_place c) c.keywords.now.prefix.items))
       (ap₂ ◌&&◌ (not_asked (passes x) (λ s. behind (length c.keywords.now.prefix.items) (items_place c)) (λ s. h (λ ys. list_all (λ y. inside y (items_place c)) (drop (length c.keywords.now.prefix.items) ys))) c.keywords.now.rest) refl))
 

@@ -8,7 +8,7 @@ use Rattle.cs_document.specs.View.{doc_view, list_view, documents_of}
 use Rattle.cs_document.specs.declared.doc.Doc.{Doc}
 use Rattle.cs_document.proofs.Each.{each_of, each_over}
 use Rattle.cs_profile.specs.Keywords.{name_of, all_keywords, slot_keywords, listed_under, defined}
-use Rattle.cs_profile.specs.Constraint.{Assertion, valid_by, has_kind, equals, is_among, at_least, at_most, above, below, has_keys, at_keys, at_other_keys, in_front, behind, valid_by_all, valid_by_any, not_valid_by, conjunction, constraint_of, assertion_at, texts_in, places_taken}
+use Rattle.cs_profile.specs.Constraint.{Assertion, valid_by, has_kind, equals, is_among, at_least, at_most, above, below, has_keys, at_keys, at_other_keys, in_front, behind, at_least_long, valid_by_all, valid_by_any, not_valid_by, conjunction, constraint_of, assertion_at, texts_in, places_taken}
 use Rattle.cs_profile.specs.Numbered.{numbered as numbers_from, names_in}
 use Rattle.cs_profile.specs.SchemaDocument.{reference_document, text_document, unless_no_map, unless_no_list, definitions_view, present, schema_view, schemas_view, slots_of, kind_name}
 use Rattle.cs_profile.specs.declared.keyword.Keyword.{Keyword}
@@ -19,7 +19,7 @@ use Rattle.cs_profile.specs.declared.schema.Keywords.{Keywords}
 use Rattle.cs_profile.specs.declared.schema.Schema.{Schema}
 use Rattle.cs_validate.specs.Numbering.{ClaimBelow, PartsBelow, map_assertion, map_constraint, asserted, said, schema_at}
 use Rattle.cs_validate.specs.Placing.{inside_members}
-use Rattle.cs_validate.specs.Steps.{kind_of, items_place, prefix_place, properties_place, unless_empty, at_least_of_length, places_from, claim_of, claims_of, asked_of}
+use Rattle.cs_validate.specs.Steps.{kind_of, items_place, prefix_place, properties_place, unless_empty, of_count, places_from, claim_of, claims_of, asked_of}
 use Rattle.cs_validate.specs.declared.rules.Rule.TheVariants as rule
 use Rattle.cs_validate.specs.declared.rules.Conjunction.{Conjunction}
 use Rattle.cs_profile.proofs.Slots.{slot_of, slots_at, slots_are}
@@ -107,9 +107,10 @@ module _ (R : Document) (placed inside : List Document) (beside : List (Entry Do
   items_claim None n p e h = refl
   items_claim (Some s) n p e h = ap₂ (λ m d. behind m d ∷ []) e (sym h.1)
 
-  length_claim : (z : ℤ) → claimed (codes "minItems") (integer z) ≡ told (Some (at_least_of_length z))
-  length_claim (pos n) = refl
-  length_claim (negsuc n) = refl
+  count_claim : (n : List ℕ) (f : ℕ → Assertion ℕ ℕ) → ((l : ℕ) → claimed n (integer (pos l)) ≡ told (Some (f l))) → ((l : ℕ) → claimed n (integer (negsuc l)) ≡ []) → (z : ℤ)
+      → claimed n (integer z) ≡ told (Some (of_count f z))
+  count_claim n f h none (pos l) = h l
+  count_claim n f h none (negsuc l) = none l
 
   not_claim : (o : Option ℕ) (d : Option Document) → option_map (schema_at placed) o ≡ d → in_slot (codes "not") d ≡ told (option_map not_valid_by o)
   not_claim None None e = refl
@@ -157,7 +158,7 @@ module _ (R : Document) (placed inside : List Document) (beside : List (Entry Do
     claim_told keyword.ExclusiveMinimum = some_claim (codes "exclusiveMinimum") integer above (λ z. refl) k.above
     claim_told keyword.Items = items_claim k.rest (length k.prefix.items) (items_place c) taken i.items
     claim_told keyword.Maximum = some_claim (codes "maximum") integer at_most (λ z. refl) k.maximum
-    claim_told keyword.MinItems = some_claim (codes "minItems") integer at_least_of_length length_claim k.min_items
+    claim_told keyword.MinItems = some_claim (codes "minItems") integer (of_count at_least_long) (count_claim (codes "minItems") at_least_long (λ l. refl) (λ l. refl)) k.min_items
     claim_told keyword.Minimum = some_claim (codes "minimum") integer at_least (λ z. refl) k.minimum
     claim_told keyword.Not = not_claim c.negated (option_map schema_view k.negated) h.negated
     claim_told keyword.PrefixItems = prefix_claim k.prefix.items (prefix_place c) i.prefix
@@ -225,9 +226,9 @@ module _ (n : ℕ) (inside : List Document) (c : Conjunction) where
   abbrev IsBelow : Assertion ℕ ℕ → Type 0
   IsBelow = ClaimBelow n (length inside)
 
-  length_below : (z : ℤ) → IsBelow (at_least_of_length z)
-  length_below (pos m) = tt
-  length_below (negsuc m) = tt
+  count_below : (f : ℕ → Assertion ℕ ℕ) → ((l : ℕ) → IsBelow (f l)) → (z : ℤ) → IsBelow (of_count f z)
+  count_below f h (pos l) = h l
+  count_below f h (negsuc l) = tt
 
   module _ (all_of : Each (λ r. r < n) c.all_of.items) (any_of : Each (λ r. r < n) c.any_of.items) (negated : Each (λ r. r < n) (option_to_list c.negated)) (reference : Each (λ r. r < n) (option_to_list c.reference))
       (i : StandInside inside c) where
@@ -245,7 +246,7 @@ module _ (n : ℕ) (inside : List Document) (c : Conjunction) where
     claim_below keyword.ExclusiveMinimum = if_some IsBelow above keys.above (λ z e. tt)
     claim_below keyword.Items = if_some IsBelow (λ s. behind (length keys.prefix.items) (items_place c)) keys.rest (one_below keys.rest (items_place c) i.items)
     claim_below keyword.Maximum = if_some IsBelow at_most keys.maximum (λ z e. tt)
-    claim_below keyword.MinItems = if_some IsBelow at_least_of_length keys.min_items (λ z e. length_below z)
+    claim_below keyword.MinItems = if_some IsBelow (of_count at_least_long) keys.min_items (λ z e. count_below at_least_long (λ l. tt) z)
     claim_below keyword.Minimum = if_some IsBelow at_least keys.minimum (λ z e. tt)
     claim_below keyword.Not = if_some IsBelow not_valid_by c.negated (number_below c.negated negated)
     claim_below keyword.PrefixItems = if_any IsBelow in_front (places_from (prefix_place c) keys.prefix.items) (places_below inside keys.prefix.items (prefix_place c) i.prefix)

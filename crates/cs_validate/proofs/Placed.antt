@@ -9,7 +9,7 @@ use Rattle.cs_document.specs.Document.{Document, boolean, Entry, under}
 use Rattle.cs_document.specs.Inside.{map_entry}
 use Rattle.cs_document.proofs.Each.{each_map}
 use Rattle.cs_profile.specs.Loops.{direct_names}
-use Rattle.cs_profile.specs.Constraint.{Assertion, nothing, valid_by, has_kind, equals, is_among, at_least, at_most, above, below, has_keys, at_keys, at_other_keys, in_front, behind, at_least_long, valid_by_all, valid_by_any, not_valid_by, Constraint, always, never, conjunction, constraint_of}
+use Rattle.cs_profile.specs.Constraint.{Assertion, valid_by, at_keys, at_other_keys, in_front, behind, valid_by_all, valid_by_any, not_valid_by, Constraint, always, never, conjunction, constraint_of}
 use Rattle.cs_profile.specs.declared.schema.Schema.{Schema}
 use Rattle.cs_validate.specs.Numbering.{map_assertion, map_constraint, said, ClaimBelow, PartsBelow, schema_at}
 use Rattle.cs_validate.specs.declared.rules.Rule.{Rule as Coded}
@@ -57,16 +57,7 @@ module _ {D N : Type 0} (n m : ℕ) (f f' : ℕ → D) (g g' : ℕ → N) (h : (
   claim_same (valid_by_all rs) b = ap valid_by_all (numbers_same n f f' h rs b)
   claim_same (valid_by_any rs) b = ap valid_by_any (numbers_same n f f' h rs b)
   claim_same (not_valid_by r) b = ap not_valid_by (h r b)
-  claim_same nothing b = refl
-  claim_same (has_kind j) b = refl
-  claim_same (equals v) b = refl
-  claim_same (is_among vs) b = refl
-  claim_same (at_least z) b = refl
-  claim_same (at_most z) b = refl
-  claim_same (above z) b = refl
-  claim_same (below z) b = refl
-  claim_same (has_keys ks) b = refl
-  claim_same (at_least_long j) b = refl
+  claim_same _ b = refl
 
   claims_same : (claims : List (Assertion ℕ ℕ)) → Each (ClaimBelow n m) claims → map (map_assertion f g) claims ≡ map (map_assertion f' g') claims
   claims_same [] b = refl

@@ -1,5 +1,5 @@
 -- What each keyword asks, over small lists of numbers, worked by the definitions. A wrong expectation stops the check here.
-use Rattle.std.proofs.Common.{◌≡◌, ◌+◌, ◌*◌, ℕ, pos, negsuc, Bool, true, false, List, [], ◌∷◌, Some, None, map, length, codes, nat_eq, nat_lt, refl, arith}
+use Rattle.std.proofs.Common.{◌≡◌, ◌+◌, ◌*◌, ℕ, pos, negsuc, Bool, true, false, List, [], ◌∷◌, Some, None, map, length, codes, nat_eq, nat_lt, nat_le, refl, arith}
 use Rattle.cs_document.specs.Document.{Document, null, boolean}
 use Rattle.cs_document.specs.Opened.{Opened, a_null, a_boolean, an_integer, a_text, a_list, an_object}
 use Rattle.cs_document.proofs.SampleDocuments.{number, array, map_of}
@@ -13,8 +13,8 @@ use Rattle.cs_profile.specs.declared.schema.JsonKind.TheVariants as kind
 use Rattle.cs_validate.specs.declared.rules.Conjunction.{Conjunction}
 use Rattle.cs_validate.specs.Numbering.{map_constraint, said, PartsBelow}
 use Rattle.cs_validate.specs.Rules.{rules_of, HasManyPairs}
-use Rattle.cs_validate.specs.Steps.{kind_of, unless_empty, at_least_of_length, places_from, items_place, prefix_place, properties_place}
-use Rattle.cs_validate.specs.Asked.{is_long}
+use Rattle.cs_validate.specs.Steps.{kind_of, unless_empty, of_count, places_from, items_place, prefix_place, properties_place}
+use Rattle.cs_validate.specs.Asked.{if_count}
 
 -- ---- short forms
 
@@ -97,10 +97,10 @@ lengths : each_holds null listed (at_least_long 0 ∷ at_least_long 3 ∷ at_lea
 lengths = refl
 
 -- a length below zero, which no schema document has, asks nothing
-lengths_of : map (λ z. is_long z 3) (negsuc 4 ∷ pos 0 ∷ pos 3 ∷ pos 4 ∷ []) ≡ true ∷ true ∷ true ∷ false ∷ []
+lengths_of : map (if_count (λ l. nat_le l 3)) (negsuc 4 ∷ pos 0 ∷ pos 3 ∷ pos 4 ∷ []) ≡ true ∷ true ∷ true ∷ false ∷ []
 lengths_of = refl
 
-length_claims : map (at_least_of_length {H = ℕ} {I = ℕ}) (pos 3 ∷ negsuc 0 ∷ []) ≡ at_least_long 3 ∷ nothing ∷ []
+length_claims : map (of_count {H = ℕ} {I = ℕ} at_least_long) (pos 3 ∷ negsuc 0 ∷ []) ≡ at_least_long 3 ∷ nothing ∷ []
 length_claims = refl
 
 -- an element that isn't there is asked for by nothing

@@ -82,7 +82,6 @@ without_more P xs ys h = joined (equal _ _ (ap (λ zs. P ++ inside zs) (append-n
 
 value_whole : (o : Option Keyword) (v : Document) → Same (placed_by v ++ inside (left_by v)) (subschemas false v) → Same (placed_by_list v ++ inside (left_by_list v)) (list_schemas v)
     → Same (if_direct o (placed_by v) (placed_by_list v) ++ inside (left_of o v)) (held o v)
-value_whole None v itself elements = IsPermutation-refl []
 value_whole (Some keyword.Not) v itself elements = without_more (placed_by v) (left_by v) (subschemas false v) itself
 value_whole (Some keyword.AllOf) v itself elements = without_more (placed_by_list v) (left_by_list v) (list_schemas v) elements
 value_whole (Some keyword.AnyOf) v itself elements = without_more (placed_by_list v) (left_by_list v) (list_schemas v) elements
@@ -90,21 +89,7 @@ value_whole (Some keyword.AdditionalProperties) v itself elements = equal _ _ (a
 value_whole (Some keyword.Items) v itself elements = equal _ _ (append-nil (subschemas false v))
 value_whole (Some keyword.PrefixItems) v itself elements = equal _ _ (list_inside v)
 value_whole (Some keyword.Properties) v itself elements = equal _ _ (map_inside v)
-value_whole (Some keyword.Comment) v itself elements = IsPermutation-refl []
-value_whole (Some keyword.Defs) v itself elements = IsPermutation-refl []
-value_whole (Some keyword.Ref) v itself elements = IsPermutation-refl []
-value_whole (Some keyword.Schema) v itself elements = IsPermutation-refl []
-value_whole (Some keyword.Const) v itself elements = IsPermutation-refl []
-value_whole (Some keyword.Description) v itself elements = IsPermutation-refl []
-value_whole (Some keyword.Enum) v itself elements = IsPermutation-refl []
-value_whole (Some keyword.ExclusiveMaximum) v itself elements = IsPermutation-refl []
-value_whole (Some keyword.ExclusiveMinimum) v itself elements = IsPermutation-refl []
-value_whole (Some keyword.Maximum) v itself elements = IsPermutation-refl []
-value_whole (Some keyword.MinItems) v itself elements = IsPermutation-refl []
-value_whole (Some keyword.Minimum) v itself elements = IsPermutation-refl []
-value_whole (Some keyword.Required) v itself elements = IsPermutation-refl []
-value_whole (Some keyword.Title) v itself elements = IsPermutation-refl []
-value_whole (Some keyword.Type) v itself elements = IsPermutation-refl []
+value_whole _ v itself elements = IsPermutation-refl []
 
 -- two parts make a whole
 parts_whole : (P Q xs ys A B : List Document) → Same (P ++ inside xs) A → Same (Q ++ inside ys) B → Same ((P ++ Q) ++ inside (xs ++ ys)) (A ++ B)

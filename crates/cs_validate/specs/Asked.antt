@@ -37,16 +37,16 @@ asks_here here c =
     && if_there (list_any here) (unless_empty (λ rs. rs) c.any_of.items)
     && if_there (λ r. not (here r)) c.negated
 
--- a list of so many elements isn't shorter than a length
-abbrev pub is_long : ℤ → ℕ → Bool
-is_long (pos l) n = nat_le l n
-is_long _ n = true
+-- by an integer that is a count
+abbrev pub if_count : (ℕ → Bool) → ℤ → Bool
+if_count p (pos n) = p n
+if_count p _ = true
 
 module _ (inside : ℕ → ℕ → Bool) (c : Conjunction) where
   -- of a list (Validation, section 6.4; Core, section 10.3.1)
   abbrev pub asks_list : List ℕ → Bool
   asks_list ys =
-      if_there (λ l. is_long l (length ys)) c.keywords.now.min_items
+      if_there (if_count (λ l. nat_le l (length ys))) c.keywords.now.min_items
       && front_holds (λ (h : ℕ). true) inside (places_from (prefix_place c) c.keywords.now.prefix.items) ys
       && if_there (λ s. list_all (λ y. inside y (items_place c)) (drop (length c.keywords.now.prefix.items) ys)) c.keywords.now.rest
 

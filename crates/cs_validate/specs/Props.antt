@@ -5,7 +5,7 @@ use mathlib.Core.HLevel.{Unit-prop}
 use native.Mathlib.Bridge.{le_prop}
 use Rattle.cs_document.specs.Document.{Entry}
 use Rattle.cs_document.proofs.Each.{each_map}
-use Rattle.cs_profile.specs.Constraint.{Assertion, nothing, valid_by, has_kind, equals, is_among, at_least, at_most, above, below, has_keys, at_keys, at_other_keys, in_front, behind, at_least_long, valid_by_all, valid_by_any, not_valid_by, Constraint, always, never, conjunction}
+use Rattle.cs_profile.specs.Constraint.{Assertion, valid_by, at_keys, at_other_keys, in_front, behind, valid_by_all, valid_by_any, not_valid_by, Constraint, always, never, conjunction}
 use Rattle.cs_rules.specs.Props.{each_prop, below_prop}
 use Rattle.cs_validate.specs.Numbering.{ClaimBelow, PartsBelow}
 
@@ -18,16 +18,7 @@ claim_prop n m (behind k p) = le_prop
 claim_prop n m (valid_by_all rs) = below_prop n rs
 claim_prop n m (valid_by_any rs) = below_prop n rs
 claim_prop n m (not_valid_by r) = le_prop
-claim_prop n m nothing = Unit-prop
-claim_prop n m (has_kind k) = Unit-prop
-claim_prop n m (equals v) = Unit-prop
-claim_prop n m (is_among vs) = Unit-prop
-claim_prop n m (at_least z) = Unit-prop
-claim_prop n m (at_most z) = Unit-prop
-claim_prop n m (above z) = Unit-prop
-claim_prop n m (below z) = Unit-prop
-claim_prop n m (has_keys ks) = Unit-prop
-claim_prop n m (at_least_long k) = Unit-prop
+claim_prop n m _ = Unit-prop
 
 pub parts_prop : (n m : ℕ) (a : Constraint ℕ ℕ) → IsProp (PartsBelow n m a)
 parts_prop n m always = Unit-prop
@@ -44,16 +35,7 @@ claim_weaker n m n' m' u l (behind j p) b = lt_of_lt_of_le b l
 claim_weaker n m n' m' u l (valid_by_all rs) b = each_map (λ r. r < n) (λ r. r < n') (λ r c. lt_of_lt_of_le c u) rs b
 claim_weaker n m n' m' u l (valid_by_any rs) b = each_map (λ r. r < n) (λ r. r < n') (λ r c. lt_of_lt_of_le c u) rs b
 claim_weaker n m n' m' u l (not_valid_by r) b = lt_of_lt_of_le b u
-claim_weaker n m n' m' u l nothing b = tt
-claim_weaker n m n' m' u l (has_kind j) b = tt
-claim_weaker n m n' m' u l (equals v) b = tt
-claim_weaker n m n' m' u l (is_among vs) b = tt
-claim_weaker n m n' m' u l (at_least z) b = tt
-claim_weaker n m n' m' u l (at_most z) b = tt
-claim_weaker n m n' m' u l (above z) b = tt
-claim_weaker n m n' m' u l (below z) b = tt
-claim_weaker n m n' m' u l (has_keys ks) b = tt
-claim_weaker n m n' m' u l (at_least_long j) b = tt
+claim_weaker n m n' m' u l _ b = tt
 
 pub parts_weaker : (n m n' m' : ℕ) → n ≤ n' → m ≤ m' → (a : Constraint ℕ ℕ) → PartsBelow n m a → PartsBelow n' m' a
 parts_weaker n m n' m' u l always b = tt

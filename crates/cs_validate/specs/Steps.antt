@@ -33,10 +33,10 @@ abbrev pub unless_empty : {X Y : Type 0} → (List X → Y) → List X → Optio
 unless_empty f [] = None
 unless_empty f (x ∷ xs) = Some (f (x ∷ xs))
 
--- a length is a count
-abbrev pub at_least_of_length : {H I : Type 0} → ℤ → Assertion H I
-at_least_of_length (pos n) = at_least_long n
-at_least_of_length _ = nothing
+-- an integer below zero is no count, and asks nothing
+abbrev pub of_count : {H I : Type 0} → (ℕ → Assertion H I) → ℤ → Assertion H I
+of_count f (pos n) = f n
+of_count f _ = nothing
 
 abbrev pub one_if : {X : Type 0} → Option X → ℕ
 one_if o = option_map_or (λ x. 1) o 0
@@ -68,7 +68,7 @@ claim_of c keyword.ExclusiveMaximum = option_map below c.keywords.now.below
 claim_of c keyword.ExclusiveMinimum = option_map above c.keywords.now.above
 claim_of c keyword.Items = option_map (λ s. behind (length c.keywords.now.prefix.items) (items_place c)) c.keywords.now.rest
 claim_of c keyword.Maximum = option_map at_most c.keywords.now.maximum
-claim_of c keyword.MinItems = option_map at_least_of_length c.keywords.now.min_items
+claim_of c keyword.MinItems = option_map (of_count at_least_long) c.keywords.now.min_items
 claim_of c keyword.Minimum = option_map at_least c.keywords.now.minimum
 claim_of c keyword.Not = option_map not_valid_by c.negated
 claim_of c keyword.PrefixItems = unless_empty in_front (places_from (prefix_place c) c.keywords.now.prefix.items)

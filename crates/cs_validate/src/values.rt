@@ -1,5 +1,5 @@
 // What keywords without schemas ask of a value.
-ghost use Rattle.std.specs.Prelude.{◌≡◌};
+ghost use Rattle.std.specs.Prelude.{◌≡◌, nat_le};
 ghost use Rattle.std.specs.List.{list_any};
 ghost use Rattle.cs_document.specs.Document.{document_eq};
 ghost use Rattle.cs_document.specs.View.{doc_view};
@@ -8,7 +8,7 @@ ghost use Rattle.cs_profile.specs.Validity as validity;
 ghost use Rattle.cs_profile.specs.Validity.{if_there};
 ghost use Rattle.cs_validate.specs.Steps.{kind_of};
 ghost use Rattle.cs_validate.specs.Asked as asked;
-ghost use Rattle.cs_validate.specs.Asked.{asks_any, asks_integer, is_long};
+ghost use Rattle.cs_validate.specs.Asked.{asks_any, asks_integer, if_count};
 
 use crate::rules::Conjunction;
 use cs_document::{Doc, DocSet};
@@ -89,7 +89,7 @@ pub(crate) fn integer_holds(keywords: &Keywords, n: i64) -> bool
 
 /// Whether a list isn't shorter than `minItems`, if it is there (Validation, section 6.4.5).
 pub(crate) fn length_holds(least: Option<i64>, length: usize) -> bool
-    ensures { result ≡ if_there (λ l. is_long l length) least }
+    ensures { result ≡ if_there (if_count (λ l. nat_le l length)) least }
 {
     match least {
         Some(least) => least < 0 || least as usize <= length,
