@@ -162,40 +162,34 @@ module _ (here : ℕ → Bool) (inside : ℕ → ℕ → Bool) (d : Document) (c
 
   -- ---- by the kind of the value
 
-  integer_same : (z : ℤ) → claimed_all (an_integer z) integer_keywords ≡ asks_integer c.keywords.now z
-  integer_same z = simp (and_assoc, and-true) (search same)
+  integer_same : (x : Opened ℕ) → claimed_all x integer_keywords ≡ if_number (asks_integer c.keywords.now) x
+  integer_same (an_integer z) = simp (and_assoc, and-true) (search same)
+  integer_same _ = search none
 
-  list_same : (ys : List ℕ) → claimed_all (a_list ys) list_keywords ≡ asks_list inside c ys
-  list_same ys = simp (and_assoc, and-true) (search same)
+  list_same : (x : Opened ℕ) → claimed_all x list_keywords ≡ if_array (asks_list inside c) x
+  list_same (a_list ys) = simp (and_assoc, and-true) (search same)
+  list_same _ = search none
 
-  map_same : (ms : List (Entry ℕ)) → claimed_all (an_object ms) map_keywords ≡ asks_map inside c ms
-  map_same ms = simp (and_assoc, and-true) (search same)
+  map_same : (x : Opened ℕ) → claimed_all x map_keywords ≡ if_object (asks_map inside c) x
+  map_same (an_object ms) = simp (and_assoc, and-true) (search same)
+  map_same _ = search none
 
-  no_integer : (x : Opened ℕ) → ((q : ℤ → Bool) → if_number q x ≡ true) → claimed_all x integer_keywords ≡ true
-  no_integer x h = search none
+  one_kind : (x : Opened ℕ) → (if_number (asks_integer c.keywords.now) x && (if_array (asks_list inside c) x && if_object (asks_map inside c) x)) ≡ asks_kind inside c x
+  one_kind (an_integer z) = and-true (asks_integer c.keywords.now z)
+  one_kind (a_list ys) = and-true (asks_list inside c ys)
+  one_kind _ = refl
 
-  no_list : (x : Opened ℕ) → ((q : List ℕ → Bool) → if_array q x ≡ true) → claimed_all x list_keywords ≡ true
-  no_list x h = search none
-
-  no_map : (x : Opened ℕ) → ((q : List (Entry ℕ) → Bool) → if_object q x ≡ true) → claimed_all x map_keywords ≡ true
-  no_map x h = search none
-
-  kind_same : (x : Opened ℕ) → (claimed_all x integer_keywords && (claimed_all x list_keywords && claimed_all x map_keywords)) ≡ asks_kind inside c x
-  kind_same a_null = ap₂ ◌&&◌ (no_integer a_null (λ q. refl)) (ap₂ ◌&&◌ (no_list a_null (λ q. refl)) (no_map a_null (λ q. refl)))
-  kind_same (a_boolean b) = ap₂ ◌&&◌ (no_integer (a_boolean b) (λ q. refl)) (ap₂ ◌&&◌ (no_list (a_boolean b) (λ q. refl)) (no_map (a_boolean b) (λ q. refl)))
-  kind_same (a_text s) = ap₂ ◌&&◌ (no_integer (a_text s) (λ q. refl)) (ap₂ ◌&&◌ (no_list (a_text s) (λ q. refl)) (no_map (a_text s) (λ q. refl)))
-  kind_same (an_integer z) = ap₂ ◌&&◌ (integer_same z) (ap₂ ◌&&◌ (no_list (an_integer z) (λ q. refl)) (no_map (an_integer z) (λ q. refl))) ∙ and-true (asks_integer c.keywords.now z)
-  kind_same (a_list ys) = ap₂ ◌&&◌ (no_integer (a_list ys) (λ q. refl)) (ap₂ ◌&&◌ (list_same ys) (no_map (a_list ys) (λ q. refl))) ∙ and-true (asks_list inside c ys)
-  kind_same (an_object ms) = ap₂ ◌&&◌ (no_integer (an_object ms) (λ q. refl)) (ap₂ ◌&&◌ (no_list (an_object ms) (λ q. refl)) (map_same ms))
+  kind_same : (x : Opened ℕ) → claimed_all x kind_keywords ≡ asks_kind inside c x
+  kind_same x =
+      list_all-append (claimed x) integer_keywords (list_keywords ++ map_keywords)
+      ∙ both (integer_same x) (list_all-append (claimed x) list_keywords map_keywords ∙ both (list_same x) (map_same x))
+      ∙ one_kind x
 
   pub claims_hold : (x : Opened ℕ) → list_all (passes x) (flat_map option_to_list (claims_of c)) ≡ (asks_any c d x && (asks_here here c && asks_kind inside c x))
   claims_hold x =
       standing (passes x) (claims_of c) ∙ grouped (claimed x)
       ∙ list_all-append (claimed x) any_keywords (here_keywords ++ kind_keywords)
-      ∙ ap₂ ◌&&◌ (any_same x)
-      (list_all-append (claimed x) here_keywords kind_keywords
-      ∙ ap₂ ◌&&◌ (here_same x)
-      (list_all-append (claimed x) integer_keywords (list_keywords ++ map_keywords) ∙ ap (λ b. claimed_all x integer_keywords && b) (list_all-append (claimed x) list_keywords map_keywords) ∙ kind_same x))
+      ∙ both (any_same x) (list_all-append (claimed x) here_keywords kind_keywords ∙ both (here_same x) (kind_same x))
 
 -- ---- numbers and places of parts
 
