@@ -41,15 +41,7 @@ module _ (R : Document) (P : Document → Document → Type 0) (step : (s x : Do
           no_part : (o : Option Kind) → Each (λ p. P p x) (here_of {I = Document} (option_map_or has_kind o nothing))
           no_part None = tt
           no_part (Some k) = tt
-      through_keyword beside (Some keyword.Enum) (list vs) itself listed d = tt
-      through_keyword beside (Some keyword.Minimum) (integer l) itself listed d = tt
-      through_keyword beside (Some keyword.Maximum) (integer l) itself listed d = tt
-      through_keyword beside (Some keyword.ExclusiveMinimum) (integer l) itself listed d = tt
-      through_keyword beside (Some keyword.ExclusiveMaximum) (integer l) itself listed d = tt
-      through_keyword beside (Some keyword.Required) (list ts) itself listed d = tt
-      through_keyword beside (Some keyword.Properties) (object ss) itself listed d = tt
-      through_keyword beside (Some keyword.PrefixItems) (list ss) itself listed d = tt
-      through_keyword beside (Some keyword.MinItems) (integer (pos n)) itself listed d = tt
+      through_keyword beside _ (integer (pos n)) itself listed d = tt
       through_keyword beside _ _ itself listed d = tt
 
       mutual

@@ -111,22 +111,14 @@ module _ (R R' : Document) (same : (n : List ℕ) → defined R' n ≡ option_ma
     kept_alike : (w : Keyword) (v : Document) → asks (assertion R' c w (left (form_of w) v)) ≡ asks_below (assertion R b w v)
     kept_alike keyword.Ref (text t) = named_alike (text_after reference_start t)
     kept_alike keyword.Type (text t) = kind_alike (under t kinds)
-    kept_alike keyword.Const v = refl
-    kept_alike keyword.Enum (list vs) = refl
-    kept_alike keyword.Minimum (integer l) = refl
-    kept_alike keyword.Maximum (integer l) = refl
-    kept_alike keyword.ExclusiveMinimum (integer l) = refl
-    kept_alike keyword.ExclusiveMaximum (integer l) = refl
-    kept_alike keyword.Required (list ts) = refl
     kept_alike keyword.Properties (object ss) =
         λ i. if_object (λ ms. (ap (list_all (λ p. if_there (λ y. inside y p.1) (under p.0 ms))) (entries_trimmed ss) ∙ list_all-map (λ p. if_there (λ y. inside y p.1) (under p.0 ms)) below (entries ss)) i) (opened x)
     kept_alike keyword.AdditionalProperties s = ap (λ ks. asks (at_other_keys ks (trimmed false s))) properties
     kept_alike keyword.PrefixItems (list ss) = λ i. if_array (λ ys. (ap (λ es. front_holds here inside es ys) (elements_trimmed ss) ∙ front_alike (elements ss) ys) i) (opened x)
     kept_alike keyword.Items s = ap (λ n. asks (behind n (trimmed false s))) places
-    kept_alike keyword.MinItems (integer (pos n)) = refl
     kept_alike keyword.AllOf (list ss) = ap (list_all here) (elements_trimmed ss) ∙ list_all-map here (trimmed false) (elements ss)
     kept_alike keyword.AnyOf (list ss) = ap (list_any here) (elements_trimmed ss) ∙ any_mapped here (elements ss)
-    kept_alike keyword.Not s = refl
+    kept_alike _ (integer (pos n)) = refl
     kept_alike _ _ = refl
 
     any_object : (o : Opened Document) → if_object (λ ms. true) o ≡ true

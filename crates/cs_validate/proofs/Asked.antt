@@ -1,24 +1,22 @@
 -- What the keywords of an object ask, put together.
-use Rattle.std.proofs.Common.{◌≡◌, ℕ, zero, suc, ◌+◌, ◌<◌, ◌≤◌, ℤ, pos, negsuc, Bool, true, false, ◌&&◌, not, ◌||◌, int_lt, int_le, nat_le, is_some, bytes_eq, List, [], ◌∷◌, ◌++◌, Option, Some, None, length, drop, option_map, refl, sym, ap, ap₂, ◌∙◌, arith}
+use Rattle.std.proofs.Common.{rules, ◌≡◌, ℕ, zero, suc, ◌+◌, ◌<◌, ◌≤◌, ℤ, pos, negsuc, Bool, true, false, ◌&&◌, List, [], ◌∷◌, ◌++◌, Option, Some, None, length, drop, option_map, refl, sym, ap, ap₂, ◌∙◌, arith}
 use Rattle.std.specs.Prelude.{IfSome, option_to_list}
-use Rattle.std.specs.Option.{option_map_or}
-use Rattle.std.specs.List.{list_all, list_any, flat_map, AllByRecursion as Each}
+use Rattle.std.specs.List.{list_all, flat_map, AllByRecursion as Each}
 use Rattle.std.proofs.Math.Bool.{and-true, and_assoc}
 use Rattle.std.proofs.lemmas.List.Folds.{list_all-append}
-use Rattle.cs_document.specs.Document.{Document, Entry, under, document_eq}
+use Rattle.cs_document.specs.Document.{Document, Entry}
 use Rattle.cs_document.specs.Opened.{Opened, a_null, a_boolean, an_integer, a_text, a_list, an_object}
-use Rattle.cs_document.specs.View.{doc_view}
 use Rattle.cs_document.proofs.Each.{each_of, each_under, all_same as each_same, all_true}
 use Rattle.cs_profile.specs.Keywords.{name_of, all_keywords}
 use Rattle.cs_profile.specs.declared.keyword.Keyword.{Keyword}
 use Rattle.cs_profile.specs.declared.keyword.Keyword.TheVariants as keyword
 use Rattle.cs_profile.proofs.Names.{by_name, each_named, every_keyword}
-use Rattle.cs_profile.specs.Constraint.{Assertion, valid_by, has_kind, equals, is_among, at_least, at_most, above, below, has_keys, at_keys, at_other_keys, in_front, behind, at_least_long, valid_by_all, valid_by_any, not_valid_by}
-use Rattle.cs_profile.specs.Validity.{is_of_kind, if_number, if_array, if_object, if_there, front_holds, holds}
+use Rattle.cs_profile.specs.Constraint.{Assertion, valid_by, at_keys, at_other_keys, in_front, behind, valid_by_all, valid_by_any, not_valid_by}
+use Rattle.cs_profile.specs.Validity.{if_number, if_array, if_object, if_there, front_holds, holds}
 use Rattle.cs_profile.specs.Numbered.{numbered as numbers_from, names_in}
 use Rattle.cs_validate.specs.declared.rules.Conjunction.{Conjunction}
 use Rattle.cs_validate.specs.Numbering.{ClaimBelow}
-use Rattle.cs_validate.specs.Steps.{claim_of, claims_of, places_from, unless_empty, of_count, kind_of, items_place, prefix_place, properties_place}
+use Rattle.cs_validate.specs.Steps.{claim_of, claims_of, places_from, unless_empty, of_count, items_place, prefix_place, properties_place}
 use Rattle.cs_validate.specs.Asked.{asks_any, asks_integer, asks_here, if_count, asks_list, asks_map, asks_kind, AreBelowHere, AreBelowInside}
 
 -- ---- places one after another
@@ -128,6 +126,9 @@ front_any here here' inside [] ys = refl
 front_any here here' inside (p ∷ ps) [] = refl
 front_any here here' inside (p ∷ ps) (y ∷ ys) = ap (λ b. inside y p && b) (front_any here here' inside ps ys)
 
+both : {a a' b b' : Bool} → a ≡ a' → b ≡ b' → (a && b) ≡ (a' && b')
+both e f = ap₂ ◌&&◌ e f
+
 module _ (here : ℕ → Bool) (inside : ℕ → ℕ → Bool) (d : Document) (c : Conjunction) where
   abbrev passes : Opened ℕ → Assertion ℕ ℕ → Bool
   passes x a = holds here inside a d x
@@ -141,93 +142,54 @@ module _ (here : ℕ → Bool) (inside : ℕ → ℕ → Bool) (d : Document) (c
   abbrev claimed_all : Opened ℕ → List Keyword → Bool
   claimed_all x = list_all (claimed x)
 
-  any_same : (x : Opened ℕ) → claimed_all x any_keywords ≡ asks_any c d x
-  any_same x =
-      simp (and_assoc, and-true)
-      (ap₂ ◌&&◌ (there_same (passes x) (λ j. has_kind (kind_of j)) (λ j. is_of_kind (kind_of j) x) (λ j. refl) c.keywords.now.kind)
-      (ap₂ ◌&&◌ (there_same (passes x) (λ v. equals (doc_view v)) (λ v. document_eq (doc_view v) d) (λ v. refl) c.keywords.now.equal)
-      (there_same (passes x) is_among (λ vs. list_any (λ v. document_eq v d) vs) (λ vs. refl) c.one_of)))
-
-  here_same : (x : Opened ℕ) → claimed_all x here_keywords ≡ asks_here here c
-  here_same x =
-      simp (and_assoc, and-true)
-      (ap₂ ◌&&◌ (there_same (passes x) (λ n. valid_by c.reference) (λ n. option_map_or here c.reference false) (λ n. refl) c.keywords.now.reference)
-      (ap₂ ◌&&◌ (all_same (passes x) valid_by_all (list_all here) refl (λ r rs. refl) c.all_of.items)
-      (ap₂ ◌&&◌ (all_same (passes x) valid_by_any (λ rs. if_there (list_any here) (unless_empty (λ ss. ss) rs)) refl (λ r rs. refl) c.any_of.items)
-      (there_same (passes x) not_valid_by (λ r. not (here r)) (λ r. refl) c.negated))))
-
-  -- ---- by the kind of the value
-
-  integer_same : (z : ℤ) → claimed_all (an_integer z) integer_keywords ≡ asks_integer c.keywords.now z
-  integer_same z =
-      let x : Opened ℕ = an_integer z in
-      simp (and_assoc, and-true)
-      (ap₂ ◌&&◌ (there_same (passes x) below (λ l. int_lt z l) (λ l. refl) c.keywords.now.below)
-      (ap₂ ◌&&◌ (there_same (passes x) at_most (λ l. int_le z l) (λ l. refl) c.keywords.now.maximum)
-      (ap₂ ◌&&◌ (there_same (passes x) above (λ l. int_lt l z) (λ l. refl) c.keywords.now.above)
-      (there_same (passes x) at_least (λ l. int_le l z) (λ l. refl) c.keywords.now.minimum))))
-
   count_same : (x : Opened ℕ) (f : ℕ → Assertion ℕ ℕ) (q : ℕ → Bool) → ((n : ℕ) → passes x (f n) ≡ q n) → (z : ℤ) → passes x (of_count f z) ≡ if_count q z
   count_same x f q h (pos n) = h n
   count_same x f q h (negsuc n) = refl
-
-  list_same : (ys : List ℕ) → claimed_all (a_list ys) list_keywords ≡ asks_list inside c ys
-  list_same ys =
-      let x : Opened ℕ = a_list ys in
-      simp (and_assoc, and-true)
-      (ap₂ ◌&&◌ (there_same (passes x) (of_count at_least_long) (if_count (λ n. nat_le n (length ys))) (count_same x at_least_long (λ n. nat_le n (length ys)) (λ n. refl)) c.keywords.now.min_items)
-      (ap₂ ◌&&◌ (all_same (passes x) in_front (λ ps. front_holds (λ (h : ℕ). true) inside ps ys) refl (λ p ps. front_any here (λ (h : ℕ). true) inside (p ∷ ps) ys) (places_from (prefix_place c) c.keywords.now.prefix.items))
-      (there_same (passes x) (λ s. behind (length c.keywords.now.prefix.items) (items_place c)) (λ s. list_all (λ y. inside y (items_place c)) (drop (length c.keywords.now.prefix.items) ys)) (λ s. refl) c.keywords.now.rest)))
-
-  map_same : (ms : List (Entry ℕ)) → claimed_all (an_object ms) map_keywords ≡ asks_map inside c ms
-  map_same ms =
-      let x : Opened ℕ = an_object ms in
-      let names = names_in c.keywords.now.properties.entries in
-      simp (and_assoc, and-true)
-      (ap₂ ◌&&◌ (all_same (passes x) has_keys (λ ks. list_all (λ k. is_some (under k ms)) ks) refl (λ k ks. refl) c.required)
-      (ap₂ ◌&&◌ (all_same (passes x) at_keys (λ ps. list_all (λ (p : Entry ℕ). if_there (λ y. inside y p.1) (under p.0 ms)) ps) refl (λ p ps. refl) (numbers_from (properties_place c) names))
-      (there_same (passes x) (λ s. at_other_keys names c.first) (λ s. list_all (λ (m : Entry ℕ). list_any (bytes_eq m.0) names || inside m.1 c.first) ms) (λ s. refl) c.keywords.now.additional)))
-
-  no_integer : (x : Opened ℕ) → ((q : ℤ → Bool) → if_number q x ≡ true) → claimed_all x integer_keywords ≡ true
-  no_integer x h =
-      ap₂ ◌&&◌ (not_asked (passes x) below (λ l. h (λ n. int_lt n l)) c.keywords.now.below)
-      (ap₂ ◌&&◌ (not_asked (passes x) at_most (λ l. h (λ n. int_le n l)) c.keywords.now.maximum)
-      (ap₂ ◌&&◌ (not_asked (passes x) above (λ l. h (λ n. int_lt l n)) c.keywords.now.above)
-      (ap₂ ◌&&◌ (not_asked (passes x) at_least (λ l. h (λ n. int_le l n)) c.keywords.now.minimum) refl)))
 
   no_count : (x : Opened ℕ) (f : ℕ → Assertion ℕ ℕ) → ((n : ℕ) → passes x (f n) ≡ true) → (z : ℤ) → passes x (of_count f z) ≡ true
   no_count x f h (pos n) = h n
   no_count x f h (negsuc n) = refl
 
-  no_list : (x : Opened ℕ) → ((q : List ℕ → Bool) → if_array q x ≡ true) → claimed_all x list_keywords ≡ true
-  no_list x h =
-      ap₂ ◌&&◌ (not_asked (passes x) (of_count at_least_long) (no_count x at_least_long (λ n. h (λ ys. nat_le n (length ys)))) c.keywords.now.min_items)
-      (ap₂ ◌&&◌ (all_same (passes x) in_front (λ ps. true) refl (λ p ps. h (front_holds here inside (p ∷ ps))) (places_from (prefix_place c) c.keywords.now.prefix.items))
-      (ap₂ ◌&&◌ (not_asked (passes x) (λ s. behind (length c.keywords.now.prefix.items) (items_place c)) (λ s. h (λ ys. list_all (λ y. inside y (items_place c)) (drop (length c.keywords.now.prefix.items) ys))) c.keywords.now.rest) refl))
+  ruleset same = (rules, both, there_same, all_same, count_same, front_any)
 
-  no_map : (x : Opened ℕ) → ((q : List (Entry ℕ) → Bool) → if_object q x ≡ true) → claimed_all x map_keywords ≡ true
-  no_map x h =
-      let names = names_in c.keywords.now.properties.entries in
-      ap₂ ◌&&◌ (all_same (passes x) has_keys (λ ks. true) refl (λ k ks. h (λ ms. list_all (λ l. is_some (under l ms)) (k ∷ ks))) c.required)
-      (ap₂ ◌&&◌ (all_same (passes x) at_keys (λ ps. true) refl (λ p ps. h (λ ms. list_all (λ (e : Entry ℕ). if_there (λ y. inside y e.1) (under e.0 ms)) (p ∷ ps))) (numbers_from (properties_place c) names))
-      (ap₂ ◌&&◌ (not_asked (passes x) (λ s. at_other_keys names c.first) (λ s. h (λ ms. list_all (λ (m : Entry ℕ). list_any (bytes_eq m.0) names || inside m.1 c.first) ms)) c.keywords.now.additional) refl))
+  ruleset none = (rules, both, not_asked, all_same, no_count)
 
-  kind_same : (x : Opened ℕ) → (claimed_all x integer_keywords && (claimed_all x list_keywords && claimed_all x map_keywords)) ≡ asks_kind inside c x
-  kind_same a_null = ap₂ ◌&&◌ (no_integer a_null (λ q. refl)) (ap₂ ◌&&◌ (no_list a_null (λ q. refl)) (no_map a_null (λ q. refl)))
-  kind_same (a_boolean b) = ap₂ ◌&&◌ (no_integer (a_boolean b) (λ q. refl)) (ap₂ ◌&&◌ (no_list (a_boolean b) (λ q. refl)) (no_map (a_boolean b) (λ q. refl)))
-  kind_same (a_text s) = ap₂ ◌&&◌ (no_integer (a_text s) (λ q. refl)) (ap₂ ◌&&◌ (no_list (a_text s) (λ q. refl)) (no_map (a_text s) (λ q. refl)))
-  kind_same (an_integer z) = ap₂ ◌&&◌ (integer_same z) (ap₂ ◌&&◌ (no_list (an_integer z) (λ q. refl)) (no_map (an_integer z) (λ q. refl))) ∙ and-true (asks_integer c.keywords.now z)
-  kind_same (a_list ys) = ap₂ ◌&&◌ (no_integer (a_list ys) (λ q. refl)) (ap₂ ◌&&◌ (list_same ys) (no_map (a_list ys) (λ q. refl))) ∙ and-true (asks_list inside c ys)
-  kind_same (an_object ms) = ap₂ ◌&&◌ (no_integer (an_object ms) (λ q. refl)) (ap₂ ◌&&◌ (no_list (an_object ms) (λ q. refl)) (map_same ms))
+  any_same : (x : Opened ℕ) → claimed_all x any_keywords ≡ asks_any c d x
+  any_same x = simp (and_assoc, and-true) (search same)
+
+  here_same : (x : Opened ℕ) → claimed_all x here_keywords ≡ asks_here here c
+  here_same x = simp (and_assoc, and-true) (search same)
+
+  -- ---- by the kind of the value
+
+  integer_same : (x : Opened ℕ) → claimed_all x integer_keywords ≡ if_number (asks_integer c.keywords.now) x
+  integer_same (an_integer z) = simp (and_assoc, and-true) (search same)
+  integer_same _ = search none
+
+  list_same : (x : Opened ℕ) → claimed_all x list_keywords ≡ if_array (asks_list inside c) x
+  list_same (a_list ys) = simp (and_assoc, and-true) (search same)
+  list_same _ = search none
+
+  map_same : (x : Opened ℕ) → claimed_all x map_keywords ≡ if_object (asks_map inside c) x
+  map_same (an_object ms) = simp (and_assoc, and-true) (search same)
+  map_same _ = search none
+
+  one_kind : (x : Opened ℕ) → (if_number (asks_integer c.keywords.now) x && (if_array (asks_list inside c) x && if_object (asks_map inside c) x)) ≡ asks_kind inside c x
+  one_kind (an_integer z) = and-true (asks_integer c.keywords.now z)
+  one_kind (a_list ys) = and-true (asks_list inside c ys)
+  one_kind _ = refl
+
+  kind_same : (x : Opened ℕ) → claimed_all x kind_keywords ≡ asks_kind inside c x
+  kind_same x =
+      list_all-append (claimed x) integer_keywords (list_keywords ++ map_keywords)
+      ∙ both (integer_same x) (list_all-append (claimed x) list_keywords map_keywords ∙ both (list_same x) (map_same x))
+      ∙ one_kind x
 
   pub claims_hold : (x : Opened ℕ) → list_all (passes x) (flat_map option_to_list (claims_of c)) ≡ (asks_any c d x && (asks_here here c && asks_kind inside c x))
   claims_hold x =
       standing (passes x) (claims_of c) ∙ grouped (claimed x)
       ∙ list_all-append (claimed x) any_keywords (here_keywords ++ kind_keywords)
-      ∙ ap₂ ◌&&◌ (any_same x)
-      (list_all-append (claimed x) here_keywords kind_keywords
-      ∙ ap₂ ◌&&◌ (here_same x)
-      (list_all-append (claimed x) integer_keywords (list_keywords ++ map_keywords) ∙ ap (λ b. claimed_all x integer_keywords && b) (list_all-append (claimed x) list_keywords map_keywords) ∙ kind_same x))
+      ∙ both (any_same x) (list_all-append (claimed x) here_keywords kind_keywords ∙ both (here_same x) (kind_same x))
 
 -- ---- numbers and places of parts
 

@@ -1,5 +1,5 @@
 -- What the keywords of an object ask, each by itself, is what its rule asks.
-use Rattle.std.proofs.Common.{◌≡◌, ℕ, ◌<◌, true, false, ℤ, pos, negsuc, List, [], ◌∷◌, ◌++◌, map, length, Option, Some, None, option_map, String, Vec, Global, string_bytes, codes, refl, sym, ap, ap₂, ◌∙◌, subst}
+use Rattle.std.proofs.Common.{rules, ◌≡◌, ℕ, ◌<◌, true, false, ℤ, pos, negsuc, List, [], ◌∷◌, ◌++◌, map, length, Option, Some, None, option_map, String, Vec, Global, string_bytes, codes, refl, sym, ap, ap₂, ◌∙◌, subst}
 use Rattle.std.specs.Prelude.{option_to_list}
 use Rattle.std.specs.List.{flat_map, AllByRecursion as Each}
 use Rattle.std.specs.Option.{IfSome}
@@ -8,7 +8,7 @@ use Rattle.cs_document.specs.View.{doc_view, list_view, documents_of}
 use Rattle.cs_document.specs.declared.doc.Doc.{Doc}
 use Rattle.cs_document.proofs.Each.{each_of, each_over}
 use Rattle.cs_profile.specs.Keywords.{name_of, all_keywords, slot_keywords, listed_under, defined}
-use Rattle.cs_profile.specs.Constraint.{Assertion, valid_by, has_kind, equals, is_among, at_least, at_most, above, below, has_keys, at_keys, at_other_keys, in_front, behind, at_least_long, valid_by_all, valid_by_any, not_valid_by, conjunction, constraint_of, assertion_at, texts_in, places_taken}
+use Rattle.cs_profile.specs.Constraint.{Assertion, valid_by, has_kind, is_among, has_keys, at_keys, at_other_keys, in_front, behind, valid_by_all, valid_by_any, not_valid_by, conjunction, constraint_of, assertion_at, texts_in, places_taken}
 use Rattle.cs_profile.specs.Numbered.{numbered as numbers_from, names_in}
 use Rattle.cs_profile.specs.SchemaDocument.{reference_document, text_document, unless_no_map, unless_no_list, definitions_view, present, schema_view, schemas_view, slots_of, kind_name}
 use Rattle.cs_profile.specs.declared.keyword.Keyword.{Keyword}
@@ -147,25 +147,20 @@ module _ (R : Document) (placed inside : List Document) (beside : List (Entry Do
     abbrev k : Keywords
     k = c.keywords.now
 
+    ruleset by_value = (rules, some_claim, count_claim, kind_claim)
+
     claim_told : (w : Keyword) → in_slot (name_of w) (slot_of k w) ≡ told (claim_of c w)
     claim_told keyword.Ref = reference_claim k.reference c.reference h.reference
     claim_told keyword.AdditionalProperties = additional_claim k.additional (names_in k.properties.entries) c.first names i.additional
     claim_told keyword.AllOf = all_claim c.all_of.items (schemas_view k.all_of.items) h.all_of
     claim_told keyword.AnyOf = any_claim c.any_of.items (schemas_view k.any_of.items) h.any_of
-    claim_told keyword.Const = some_claim (codes "const") doc_view (λ d. equals (doc_view d)) (λ d. refl) k.equal
     claim_told keyword.Enum = among_claim k.one_of c.one_of h.one_of
-    claim_told keyword.ExclusiveMaximum = some_claim (codes "exclusiveMaximum") integer below (λ z. refl) k.below
-    claim_told keyword.ExclusiveMinimum = some_claim (codes "exclusiveMinimum") integer above (λ z. refl) k.above
     claim_told keyword.Items = items_claim k.rest (length k.prefix.items) (items_place c) taken i.items
-    claim_told keyword.Maximum = some_claim (codes "maximum") integer at_most (λ z. refl) k.maximum
-    claim_told keyword.MinItems = some_claim (codes "minItems") integer (of_count at_least_long) (count_claim (codes "minItems") at_least_long (λ l. refl) (λ l. refl)) k.min_items
-    claim_told keyword.Minimum = some_claim (codes "minimum") integer at_least (λ z. refl) k.minimum
     claim_told keyword.Not = not_claim c.negated (option_map schema_view k.negated) h.negated
     claim_told keyword.PrefixItems = prefix_claim k.prefix.items (prefix_place c) i.prefix
     claim_told keyword.Properties = properties_claim k.properties.entries (properties_place c) i.properties
     claim_told keyword.Required = required_claim k.required.items ∙ ap (λ ts. told (unless_empty has_keys ts)) (sym h.required)
-    claim_told keyword.Type = some_claim (codes "type") (λ j. text (kind_name j)) (λ j. has_kind (kind_of j)) kind_claim k.kind
-    claim_told _ = refl
+    claim_told _ = search by_value
 
     each_told : (ws : List Keyword) → spoken claimed (λ n. true) always_speaks (slots_at k ws) ≡ all_told (map (claim_of c) ws)
     each_told [] = refl
@@ -209,6 +204,10 @@ module _ {X : Type 0} (P : X → Type 0) where
   if_some f None h = tt
   if_some f (Some y) h = h y refl
 
+  if_each : {Y : Type 0} (f : Y → X) → ((y : Y) → P (f y)) → (o : Option Y) → IfSome (option_map f o) P
+  if_each f h None = tt
+  if_each f h (Some y) = h y
+
   if_any : {Y : Type 0} (f : List Y → X) (ys : List Y) → P (f ys) → IfSome (unless_empty f ys) P
   if_any f [] h = tt
   if_any f (y ∷ ys) h = h
@@ -235,25 +234,19 @@ module _ (n : ℕ) (inside : List Document) (c : Conjunction) where
     abbrev keys : Keywords
     keys = c.keywords.now
 
+    ruleset below_each = (rules, if_each, count_below)
+
     claim_below : (w : Keyword) → IfSome (claim_of c w) IsBelow
     claim_below keyword.Ref = if_some IsBelow (λ s. valid_by c.reference) keys.reference (λ s e. reference)
     claim_below keyword.AdditionalProperties = if_some IsBelow (λ s. at_other_keys (names_in keys.properties.entries) c.first) keys.additional (one_below keys.additional c.first i.additional)
     claim_below keyword.AllOf = if_any IsBelow valid_by_all c.all_of.items all_of
     claim_below keyword.AnyOf = if_any IsBelow valid_by_any c.any_of.items any_of
-    claim_below keyword.Const = if_some IsBelow (λ d. equals (doc_view d)) keys.equal (λ d e. tt)
-    claim_below keyword.Enum = if_some IsBelow is_among c.one_of (λ vs e. tt)
-    claim_below keyword.ExclusiveMaximum = if_some IsBelow below keys.below (λ z e. tt)
-    claim_below keyword.ExclusiveMinimum = if_some IsBelow above keys.above (λ z e. tt)
     claim_below keyword.Items = if_some IsBelow (λ s. behind (length keys.prefix.items) (items_place c)) keys.rest (one_below keys.rest (items_place c) i.items)
-    claim_below keyword.Maximum = if_some IsBelow at_most keys.maximum (λ z e. tt)
-    claim_below keyword.MinItems = if_some IsBelow (of_count at_least_long) keys.min_items (λ z e. count_below at_least_long (λ l. tt) z)
-    claim_below keyword.Minimum = if_some IsBelow at_least keys.minimum (λ z e. tt)
     claim_below keyword.Not = if_some IsBelow not_valid_by c.negated (number_below c.negated negated)
     claim_below keyword.PrefixItems = if_any IsBelow in_front (places_from (prefix_place c) keys.prefix.items) (places_below inside keys.prefix.items (prefix_place c) i.prefix)
     claim_below keyword.Properties = if_any IsBelow at_keys (numbers_from (properties_place c) (names_in keys.properties.entries)) (numbers_below inside keys.properties.entries (properties_place c) i.properties)
     claim_below keyword.Required = if_any IsBelow has_keys c.required tt
-    claim_below keyword.Type = if_some IsBelow (λ j. has_kind (kind_of j)) keys.kind (λ j e. tt)
-    claim_below _ = tt
+    claim_below _ = search below_each
 
     claims_below : PartsBelow n (length inside) (asked_of (rule.Object c))
     claims_below = each_some IsBelow (claims_of c) (each_over (claim_of c) (λ o. IfSome o IsBelow) all_keywords (each_of (λ w. IfSome (claim_of c w) IsBelow) claim_below all_keywords))

@@ -125,11 +125,7 @@ module _ {A B H I : Type 0} (f : A → B) (here : H → Bool) (inside : B → I 
   object_at p q h _ = refl
 
   claim_at : (a : Assertion H I) (d : Document) (x : Opened A) → holds here inside a d (map_opened f x) ≡ holds here (λ y s. inside (f y) s) a d x
-  claim_at nothing d x = refl
-  claim_at (valid_by o) d x = refl
   claim_at (has_kind k) d x = kind_at k x
-  claim_at (equals v) d x = refl
-  claim_at (is_among vs) d x = refl
   claim_at (at_least l) d x = number_at (λ n. int_le l n) x
   claim_at (at_most l) d x = number_at (λ n. int_le n l) x
   claim_at (above l) d x = number_at (λ n. int_lt l n) x
@@ -140,9 +136,7 @@ module _ {A B H I : Type 0} (f : A → B) (here : H → Bool) (inside : B → I 
   claim_at (in_front ss) d x = array_at _ _ (front_at ss) x
   claim_at (behind n s) d x = array_at _ _ (rest_at n s) x
   claim_at (at_least_long n) d x = array_at _ _ (λ ys. ap (nat_le n) (length-map ys f)) x
-  claim_at (valid_by_all ss) d x = refl
-  claim_at (valid_by_any ss) d x = refl
-  claim_at (not_valid_by s) d x = refl
+  claim_at _ d x = refl
 
   claims_at : (claims : List (Assertion H I)) (d : Document) (x : Opened A) → list_all (λ a. holds here inside a d (map_opened f x)) claims ≡ list_all (λ a. holds here (λ y s. inside (f y) s) a d x) claims
   claims_at [] d x = refl
