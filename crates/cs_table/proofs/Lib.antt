@@ -1,6 +1,7 @@
 -- What the proofs of this crate show: a judge that looks back has one table (`only_table` in `Tables`, by induction on the item and then on the
--- rule), and a verdict that is given keeps the earlier ones.
+-- rule), a verdict that is given keeps the earlier ones, and so does its bit (`Bits`).
 
+pub mod Bits
 pub mod Tables
 -- samples
 mod Samples

@@ -1,6 +1,7 @@
 -- The definitions, worked on samples.
 use Rattle.std.proofs.Common.{◌≡◌, ℕ, zero, suc, inl, inr, Bool, true, false, not, ◌*◌, [], ◌∷◌, refl, ap, arith}
 use Rattle.cs_table.specs.Judged.{Judgement, IsEarlier, LooksBack, IsJudged, Table, verdicts}
+use Rattle.cs_table.specs.Kept.{is_yes, kept}
 use Rattle.cs_table.specs.Limit.{most_pairs}
 
 -- ---- the order of pairs: by item, then by rule
@@ -35,6 +36,17 @@ by_rule = refl
 
 not_given_yet : verdicts table 1 2 ≡ false
 not_given_yet = refl
+
+-- ---- the bits of verdicts: eight to a byte, from the lowest on
+
+bits_in_order : kept (5 ∷ 130 ∷ []) 10 ≡ true ∷ false ∷ true ∷ false ∷ false ∷ false ∷ false ∷ false ∷ false ∷ true ∷ []
+bits_in_order = refl
+
+last_of_a_byte : is_yes (5 ∷ 130 ∷ []) 15 ≡ true
+last_of_a_byte = refl
+
+past_the_bytes : is_yes (255 ∷ []) 8 ≡ false
+past_the_bytes = refl
 
 -- ---- a judge, and its table: the first rule is met, and the second one where the first isn't
 

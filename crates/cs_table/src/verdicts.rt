@@ -12,19 +12,25 @@ const MOST_PAIRS: usize = 67_108_864;
 pub struct Verdicts {
     items: usize,
     rules: usize,
-    given: Vec<bool>,
+    /// How many verdicts were given.
+    count: usize,
+    /// A bit for each verdict, eight to a byte from the lowest on. Those still to come are 0.
+    bytes: Vec<u8>,
 }
 
 impl Model for Verdicts {
-    ghost use Rattle.std.specs.Prelude.{◌*◌, ◌≤◌};
+    ghost use Rattle.std.specs.Prelude.{◌≡◌, ◌+◌, ◌*◌, ◌/◌, ◌≤◌, length};
     ghost use Rattle.cs_table.specs.Judged.{Table};
+    ghost use Rattle.cs_table.specs.Kept.{AreZeroFrom, kept};
     ghost use Rattle.cs_table.specs.Limit.{most_pairs};
 
     ghost Value = { Table };
 
-    ghost view = { λ v. record { items = v.items; rules = v.rules; given = v.given.items } };
+    ghost view = { λ v. record { items = v.items; rules = v.rules; given = kept v.bytes.items v.count } };
 
-    ghost invariant = { λ v. v.items * v.rules ≤ most_pairs };
+    ghost invariant = { λ v. (v.items * v.rules ≤ most_pairs)
+        × (length v.bytes.items ≡ (v.items * v.rules + 7) / 8)
+        × AreZeroFrom v.bytes.items v.count };
 }
 
 impl Verdicts {
@@ -51,7 +57,7 @@ impl Verdicts {
     pub fn judged(&self) -> u64
         ensures { result ≡ length self.now.given }
     {
-        self.given.len() as u64
+        self.count as u64
     }
 
     /// The verdict of an item by a rule.
@@ -61,8 +67,9 @@ impl Verdicts {
         requires rule { rule < self.now.rules }
         ensures { result ≡ verdicts self.now item rule }
     {
-        match self.given.get(item * self.rules + rule) {
-            Some(verdict) => *verdict,
+        let place = item * self.rules + rule;
+        match self.bytes.get(place / 8) {
+            Some(byte) => *byte >> (place % 8) & 1 == 1,
             None => false,
         }
     }
@@ -79,11 +86,12 @@ impl Verdicts {
         if pairs > MOST_PAIRS {
             return Err(TableFault::TooManyPairs);
         }
-        let given = Vec::with_capacity(alloc, pairs)?;
+        let bytes = vec![in alloc; 0; pairs.div_ceil(8)]?;
         Ok(Verdicts {
             items,
             rules,
-            given,
+            count: 0,
+            bytes,
         })
     }
 
@@ -92,6 +100,12 @@ impl Verdicts {
     pub(crate) fn give(&mut self, verdict: bool) -> Result<(), AllocError>
         ensures { OnOk result (self.new ≡ record self.old { given = self.old.given ++ verdict ∷ [] }) }
     {
-        Ok(self.given.push(verdict)?)
+        let byte = self.count / 8;
+        if byte >= self.bytes.len() {
+            return Err(AllocError); // never before each pair has its verdict
+        }
+        self.bytes[byte] |= (verdict as u8) << (self.count % 8);
+        self.count += 1;
+        Ok(())
     }
 }
