@@ -11,5 +11,3 @@ pub mod CallRefusals
 pub mod Earlier
 pub mod Streams
 pub mod Runs
--- for contracts of private functions and proofs alone
-pub mod CallView

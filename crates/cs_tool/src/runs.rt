@@ -1,15 +1,13 @@
 // A request over a reader and a writer.
 ghost use Rattle.std.specs.Prelude.{◌≡◌, ◌+◌, ◌⊎◌, ℕ, List, map, IfOk, IfErr, IsOkUnless};
 ghost use Rattle.std.specs.Io.KnownBytes.{Appends};
-ghost use Rattle.cs_tool.specs.CallView.{call_view};
 ghost use Rattle.cs_tool.specs.Streams.{LosesAtMost, chunk_bytes};
-ghost use Rattle.cs_tool.specs.Runs as runs;
-ghost use Rattle.cs_tool.specs.Runs.{IsAnswer, IsCallAnswer, IsCallRefusal, IsReadyCall, IsReadyRequest, ReadsInput, most_of, Leaves, verdict_text, line_of};
+ghost use Rattle.cs_tool.specs.Runs.{sources_or, text_or, call_of, IsAnswer, IsCallAnswer, IsCallRefusal, IsReadyCall, IsReadyRequest, ReadsInput, most_of, Leaves, verdict_text, line_of};
 
 use crate::Fault;
 use crate::calls::{agree, export, validate, vet};
 use crate::request::Request;
-use crate::requested::{Call, call_of};
+use crate::requested::input_of;
 use crate::writes::write_text;
 use std::alloc::{AllocError, Global};
 use std::io::{Read, Write};
@@ -48,75 +46,41 @@ pub fn run<R: Read, W: Write>(
     ensures unread { ¬ (ReadsInput request) → input.new ≡ input.old }
     ensures stops { LosesAtMost (most_of request + chunk_bytes) (R.remaining input.old) (R.remaining input.new) }
 {
-    let call = call_of(alloc, request, input)?;
-    let answer = answer_call(alloc, &call)?;
+    let bytes = input_of(alloc, &request, input)?;
+    let answer = answer_to(alloc, &request, &bytes)?;
     write_text(output, &answer.line)?;
     Ok(answer.truth)
 }
 
-/// What the call answers.
-fn answer_call(alloc: Global, call: &Call) -> Result<Answer, Fault>
+/// What the request's call answers, where the input has these bytes.
+fn answer_to(alloc: Global, request: &Request, input: &[u8]) -> Result<Answer, Fault>
     ensures found { IfOk result (λ a. (text : List ℕ)
-        × IsCallAnswer (call_view call.now) a.truth text × (a.line.items ≡ line_of text)) }
-    ensures refused { IfErr result (IsCallRefusal (call_view call.now)) }
-    ensures only { IsReadyCall (call_view call.now) → IsOkUnless result Fault.OutOfMemory }
+        × IsCallAnswer (call_of request.now input.now) a.truth text × (a.line.items ≡ line_of text)) }
+    ensures refused { IfErr result (IsCallRefusal (call_of request.now input.now)) }
+    ensures only { IsReadyCall (call_of request.now input.now) → IsOkUnless result Fault.OutOfMemory }
 {
-    match call {
-        Call::Export { sources, root } => export_answer(alloc, sources, root),
-        Call::Vet { sources, root, doc } => vet_answer(alloc, sources, root, doc),
-        Call::Validate { schema, doc } => validate_answer(alloc, schema, doc),
-        Call::Agree { sources, root, doc } => agree_answer(alloc, sources, root, doc),
+    match request {
+        Request::Export { files, root } => {
+            let sources = sources_or_input(alloc, files, input)?;
+            let mut line = export(alloc, &sources, root)?;
+            line.push(b'\n')?;
+            Ok(Answer { truth: true, line })
+        }
+        Request::Vet { files, root, doc } => {
+            let sources = sources_or_input(alloc, files, input)?;
+            let truth = vet(alloc, &sources, root, doc)?;
+            Ok(verdict(alloc, truth)?)
+        }
+        Request::Validate { schema, doc } => {
+            let truth = validate(alloc, schema, doc_or_input(doc, input))?;
+            Ok(verdict(alloc, truth)?)
+        }
+        Request::Agree { files, root, doc } => {
+            let sources = sources_or_input(alloc, files, input)?;
+            let truth = agree(alloc, &sources, root, doc)?;
+            Ok(verdict(alloc, truth)?)
+        }
     }
-}
-
-fn export_answer(alloc: Global, sources: &[Vec<u8>], root: &str) -> Result<Answer, Fault>
-    ensures found { IfOk result (λ a. (text : List ℕ)
-        × IsCallAnswer (runs.export (map (λ s. s.items) sources.now) root.now) a.truth text
-        × (a.line.items ≡ line_of text)) }
-    ensures refused { IfErr result (IsCallRefusal (runs.export (map (λ s. s.items) sources.now) root.now)) }
-    ensures only { IsReadyCall (runs.export (map (λ s. s.items) sources.now) root.now)
-        → IsOkUnless result Fault.OutOfMemory }
-{
-    let sources = slices_of(alloc, sources)?;
-    let mut line = export(alloc, &sources, root)?;
-    line.push(b'\n')?;
-    Ok(Answer { truth: true, line })
-}
-
-fn vet_answer(alloc: Global, sources: &[Vec<u8>], root: &str, doc: &[u8]) -> Result<Answer, Fault>
-    ensures found { IfOk result (λ a. (text : List ℕ)
-        × IsCallAnswer (runs.vet (map (λ s. s.items) sources.now) root.now doc.now) a.truth text
-        × (a.line.items ≡ line_of text)) }
-    ensures refused { IfErr result (IsCallRefusal (runs.vet (map (λ s. s.items) sources.now) root.now doc.now)) }
-    ensures only { IsReadyCall (runs.vet (map (λ s. s.items) sources.now) root.now doc.now)
-        → IsOkUnless result Fault.OutOfMemory }
-{
-    let sources = slices_of(alloc, sources)?;
-    let truth = vet(alloc, &sources, root, doc)?;
-    Ok(verdict(alloc, truth)?)
-}
-
-fn validate_answer(alloc: Global, schema: &[u8], doc: &[u8]) -> Result<Answer, Fault>
-    ensures found { IfOk result (λ a. (text : List ℕ)
-        × IsCallAnswer (runs.validate schema.now doc.now) a.truth text × (a.line.items ≡ line_of text)) }
-    ensures refused { IfErr result (IsCallRefusal (runs.validate schema.now doc.now)) }
-    ensures only { IsReadyCall (runs.validate schema.now doc.now) → IsOkUnless result Fault.OutOfMemory }
-{
-    let truth = validate(alloc, schema, doc)?;
-    Ok(verdict(alloc, truth)?)
-}
-
-fn agree_answer(alloc: Global, sources: &[Vec<u8>], root: &str, doc: &[u8]) -> Result<Answer, Fault>
-    ensures found { IfOk result (λ a. (text : List ℕ)
-        × IsCallAnswer (runs.agree (map (λ s. s.items) sources.now) root.now doc.now) a.truth text
-        × (a.line.items ≡ line_of text)) }
-    ensures refused { IfErr result (IsCallRefusal (runs.agree (map (λ s. s.items) sources.now) root.now doc.now)) }
-    ensures only { IsReadyCall (runs.agree (map (λ s. s.items) sources.now) root.now doc.now)
-        → IsOkUnless result Fault.OutOfMemory }
-{
-    let sources = slices_of(alloc, sources)?;
-    let truth = agree(alloc, &sources, root, doc)?;
-    Ok(verdict(alloc, truth)?)
 }
 
 /// A verdict's answer.
@@ -128,13 +92,30 @@ fn verdict(alloc: Global, truth: bool) -> Result<Answer, AllocError>
     Ok(Answer { truth, line })
 }
 
-/// The bytes of each file.
-fn slices_of(alloc: Global, files: &[Vec<u8>]) -> Result<Vec<&[u8]>, AllocError>
-    ensures { IfOk result (λ v. map (λ s. s.now) v.items ≡ map (λ f. f.items) files.now) }
+/// The bytes of each file, or those of the input where there are no files.
+fn sources_or_input<'a>(
+    alloc: Global,
+    files: &'a [Vec<u8>],
+    input: &'a [u8],
+) -> Result<Vec<&'a [u8]>, AllocError>
+    ensures { IfOk result (λ v. map (λ s. s.now) v.items ≡ sources_or files.now input.now) }
 {
-    let mut slices: Vec<&[u8]> = Vec::with_capacity(alloc, files.len())?;
-    for file in files {
-        slices.push(file.as_slice())?;
+    if files.is_empty() {
+        return Ok(vec![in alloc; input]?);
     }
-    Ok(slices)
+    let mut sources: Vec<&'a [u8]> = Vec::with_capacity(alloc, files.len())?;
+    for file in files {
+        sources.push(file.as_slice())?;
+    }
+    Ok(sources)
+}
+
+/// The document, or the bytes of the input where there is none.
+fn doc_or_input<'a>(doc: &'a Option<Vec<u8>>, input: &'a [u8]) -> &'a [u8]
+    ensures { result.now ≡ text_or doc.now input.now }
+{
+    match doc {
+        Some(doc) => doc.as_slice(),
+        None => input,
+    }
 }
