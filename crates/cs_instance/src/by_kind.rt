@@ -16,9 +16,18 @@ fn by_name(kind: Kind) -> ByKind
 {
     let others = ByKind::of(Some(false));
     match kind {
-        Kind::Int | Kind::Number => ByKind { integer: Some(true), ..others },
-        Kind::Text => ByKind { text: Some(true), ..others },
-        Kind::Bool => ByKind { boolean: Some(true), ..others },
+        Kind::Int | Kind::Number => ByKind {
+            integer: Some(true),
+            ..others
+        },
+        Kind::Text => ByKind {
+            text: Some(true),
+            ..others
+        },
+        Kind::Bool => ByKind {
+            boolean: Some(true),
+            ..others
+        },
     }
 }
 
@@ -29,11 +38,26 @@ fn by_test(shape: &Shape) -> ByKind
     let others = ByKind::of(Some(false));
     match shape {
         Shape::Top => ByKind::of(Some(true)),
-        Shape::Null => ByKind { null: Some(true), ..others },
-        Shape::NotNull => ByKind { null: Some(false), ..ByKind::of(Some(true)) },
-        Shape::Bool(_) => ByKind { boolean: None, ..others },
-        Shape::Int(_) | Shape::NotInt(_) | Shape::Range { .. } | Shape::Bound { .. } => ByKind { integer: None, ..others },
-        Shape::Text(_) | Shape::NotText(_) => ByKind { text: None, ..others },
+        Shape::Null => ByKind {
+            null: Some(true),
+            ..others
+        },
+        Shape::NotNull => ByKind {
+            null: Some(false),
+            ..ByKind::of(Some(true))
+        },
+        Shape::Bool(_) => ByKind {
+            boolean: None,
+            ..others
+        },
+        Shape::Int(_) | Shape::NotInt(_) | Shape::Range { .. } | Shape::Bound { .. } => ByKind {
+            integer: None,
+            ..others
+        },
+        Shape::Text(_) | Shape::NotText(_) => ByKind {
+            text: None,
+            ..others
+        },
         Shape::Kind(kind) => by_name(*kind),
         Shape::Bottom
         | Shape::Definition(_)
@@ -51,7 +75,13 @@ pub(crate) fn by_kind(rule: &Rule<'_>) -> ByKind
     match rule {
         Rule::Simple(shape) => by_test(shape),
         Rule::All(_) | Rule::Any(_) => ByKind::of(None),
-        Rule::Struct { .. } => ByKind { object: None, ..ByKind::of(Some(false)) },
-        Rule::List { .. } => ByKind { list: None, ..ByKind::of(Some(false)) },
+        Rule::Struct { .. } => ByKind {
+            object: None,
+            ..ByKind::of(Some(false))
+        },
+        Rule::List { .. } => ByKind {
+            list: None,
+            ..ByKind::of(Some(false))
+        },
     }
 }

@@ -19,12 +19,30 @@ fn by_named(kind: JsonKind) -> ByKind
 {
     let others = ByKind::of(Some(false));
     match kind {
-        JsonKind::Null => ByKind { null: None, ..others },
-        JsonKind::Boolean => ByKind { boolean: None, ..others },
-        JsonKind::Number | JsonKind::Integer => ByKind { integer: None, ..others },
-        JsonKind::String => ByKind { text: None, ..others },
-        JsonKind::Array => ByKind { list: None, ..others },
-        JsonKind::Object => ByKind { object: None, ..others },
+        JsonKind::Null => ByKind {
+            null: None,
+            ..others
+        },
+        JsonKind::Boolean => ByKind {
+            boolean: None,
+            ..others
+        },
+        JsonKind::Number | JsonKind::Integer => ByKind {
+            integer: None,
+            ..others
+        },
+        JsonKind::String => ByKind {
+            text: None,
+            ..others
+        },
+        JsonKind::Array => ByKind {
+            list: None,
+            ..others
+        },
+        JsonKind::Object => ByKind {
+            object: None,
+            ..others
+        },
     }
 }
 
