@@ -4,13 +4,16 @@ use Rattle.std.specs.List.{list_all, list_any}
 use Rattle.std.specs.Bool.{then_some}
 use Rattle.std.specs.Option.{option_or}
 use Rattle.cs_document.specs.Document.{Document, Entry, under, document_eq}
-use Rattle.cs_document.specs.Opened.{Opened, a_null, a_boolean, an_integer, a_text, a_list, an_object}
+use Rattle.cs_document.specs.Opened.{Opened, a_null, a_boolean, an_integer, a_text, a_list, an_object, opened}
 use Rattle.cs_validate.specs.declared.rules.Conjunction.{Conjunction}
 use Rattle.cs_document.specs.View.{doc_view}
 use Rattle.cs_profile.specs.Validity.{is_of_kind, if_there}
-use Rattle.cs_rules.specs.Kinds.{verdict_of}
+use Rattle.cs_profile.specs.Keywords.{Kind}
+use Rattle.cs_rules.specs.Kinds.{verdict_of, IsItem}
 use Rattle.cs_rules.specs.declared.by_kind.ByKind.{ByKind}
+use Rattle.std.proofs.lemmas.Bool.{and_left, and_right}
 use Rattle.cs_validate.specs.Steps.{kind_of}
+use Rattle.cs_validate.proofs.Satisfied.{kind_at}
 use Rattle.cs_validate.specs.Asked.{asks_any, asks_here, asks_integer, asks_list, asks_map, asks_kind}
 
 -- each kind of values
@@ -31,14 +34,30 @@ none_required (k ∷ ks) h = cc
 pub type_refuses : (c : Conjunction) (d : Document) (x : Opened ℕ) → if_there (λ j. is_of_kind (kind_of j) x) c.keywords.now.kind ≡ false → asks_any c d x ≡ false
 type_refuses c d x e = ap (λ t. (t && if_there (λ v. document_eq (doc_view v) d) c.keywords.now.equal) && if_there (λ vs. list_any (λ v. document_eq v d) vs) c.one_of) e
 
--- by its kind a value is refused by `type`, or by no keyword
-pub by_kind_is : (here : ℕ → Bool) (inside : ℕ → ℕ → Bool) (d : Document) (c : Conjunction) (x : Opened ℕ) (b t : Bool) (o : Option Bool)
-    → option_or (if t then None else Some false) o ≡ Some b → (o ≡ Some b → (b ≡ true) × (asks_here here c ≡ true) × (asks_kind inside c x ≡ true) × (asks_any c d x ≡ t)) → (t ≡ false → asks_any c d x ≡ false)
+pub const_refuses : (c : Conjunction) (d : Document) (x : Opened ℕ) → if_there (λ v. document_eq (doc_view v) d) c.keywords.now.equal ≡ false → asks_any c d x ≡ false
+const_refuses c d x e = and_left _ (if_there (λ vs. list_any (λ v. document_eq v d) vs) c.one_of) (and_right (if_there (λ j. is_of_kind (kind_of j) x) c.keywords.now.kind) _ e)
+
+-- what a kind refuses
+pub kind_refuses : (k : Kind) (d : Document) (x : Opened ℕ) → IsItem d x → (b : Bool) → (if is_of_kind k x then None else Some false) ≡ Some b → (b ≡ false) × (is_of_kind k (opened d) ≡ false)
+kind_refuses k d x is b e =
+    let at : is_of_kind k (opened d) ≡ is_of_kind k x = ap (is_of_kind k) is.1 ∙ kind_at is.0 k x in
+    elim (is_of_kind k x) as (λ t. (is_of_kind k (opened d) ≡ t) → (if t then None else Some false) ≡ Some b → (b ≡ false) × (is_of_kind k (opened d) ≡ false)) [
+      | true ↦ λ i f. absurd (let g : None ≡ Some b = f in cc)
+      | false ↦ λ i f. ((let g : Some false ≡ Some b = f in cc), i)
+    ] at e
+
+-- by its kind a value is refused by `type` or `const`, or by no keyword
+pub by_kind_is : (here : ℕ → Bool) (inside : ℕ → ℕ → Bool) (d : Document) (c : Conjunction) (x : Opened ℕ) (b t : Bool) (k o : Option Bool)
+    → option_or (option_or (if t then None else Some false) k) o ≡ Some b → (o ≡ Some b → (b ≡ true) × (asks_here here c ≡ true) × (asks_kind inside c x ≡ true) × (asks_any c d x ≡ t))
+    → ((v : Bool) → k ≡ Some v → (v ≡ false) × (asks_any c d x ≡ false)) → (t ≡ false → asks_any c d x ≡ false)
     → (asks_any c d x && (asks_here here c && asks_kind inside c x)) ≡ b
-by_kind_is here inside d c x b true o e h refused =
+by_kind_is here inside d c x b true None o e h other refused =
     let k = h e in
     ap₂ ◌&&◌ k.3 (ap₂ ◌&&◌ k.1 k.2) ∙ sym k.0
-by_kind_is here inside d c x b false o e h refused = ap (λ a. a && (asks_here here c && asks_kind inside c x)) (refused refl) ∙ (let f : Some false ≡ Some b = e in cc)
+by_kind_is here inside d c x b true (Some v) o e h other refused =
+    let k = other v refl in
+    ap (λ a. a && (asks_here here c && asks_kind inside c x)) k.1 ∙ sym k.0 ∙ (let f : Some v ≡ Some b = e in cc)
+by_kind_is here inside d c x b false k o e h other refused = ap (λ a. a && (asks_here here c && asks_kind inside c x)) (refused refl) ∙ (let f : Some false ≡ Some b = e in cc)
 
 then_true : (t b : Bool) → then_some t true ≡ Some b → (t ≡ true) × (b ≡ true)
 then_true true b e = (refl, (let f : Some true ≡ Some b = e in cc))

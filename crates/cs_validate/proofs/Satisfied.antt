@@ -75,6 +75,17 @@ module _ {A H I J K : Type 0} (f : H → J) (g : I → K) (here : J → Bool) (i
 
 -- ---- documents
 
+module _ {A B : Type 0} (f : A → B) where
+  pub kind_at : (k : Kind) (x : Opened A) → is_of_kind k (map_opened f x) ≡ is_of_kind k x
+  kind_at Null a_null = refl
+  kind_at Boolean (a_boolean b) = refl
+  kind_at Object (an_object ms) = refl
+  kind_at Array (a_list ys) = refl
+  kind_at Number (an_integer n) = refl
+  kind_at String (a_text s) = refl
+  kind_at Integer (an_integer n) = refl
+  kind_at _ _ = refl
+
 module _ {A B H I : Type 0} (f : A → B) (here : H → Bool) (inside : B → I → Bool) where
   under_at : (p : B → Bool) (k : List ℕ) (ms : List (Entry A)) → if_there p (under k (map (map_entry f) ms)) ≡ if_there (λ y. p (f y)) (under k ms)
   under_at p k [] = refl
@@ -102,16 +113,6 @@ module _ {A B H I : Type 0} (f : A → B) (here : H → Bool) (inside : B → I 
   rest_at : (n : ℕ) (s : I) (ys : List A) → list_all (λ y. inside y s) (drop n (map f ys)) ≡ list_all (λ y. inside (f y) s) (drop n ys)
   rest_at n s ys = ap (list_all (λ y. inside y s)) (drop-map f n ys) ∙ list_all-map (λ y. inside y s) f (drop n ys)
 
-  kind_at : (k : Kind) (x : Opened A) → is_of_kind k (map_opened f x) ≡ is_of_kind k x
-  kind_at Null a_null = refl
-  kind_at Boolean (a_boolean b) = refl
-  kind_at Object (an_object ms) = refl
-  kind_at Array (a_list ys) = refl
-  kind_at Number (an_integer n) = refl
-  kind_at String (a_text s) = refl
-  kind_at Integer (an_integer n) = refl
-  kind_at _ _ = refl
-
   number_at : (p : ℤ → Bool) (x : Opened A) → if_number p (map_opened f x) ≡ if_number p x
   number_at p (an_integer n) = refl
   number_at p _ = refl
@@ -125,7 +126,7 @@ module _ {A B H I : Type 0} (f : A → B) (here : H → Bool) (inside : B → I 
   object_at p q h _ = refl
 
   claim_at : (a : Assertion H I) (d : Document) (x : Opened A) → holds here inside a d (map_opened f x) ≡ holds here (λ y s. inside (f y) s) a d x
-  claim_at (has_kind k) d x = kind_at k x
+  claim_at (has_kind k) d x = kind_at f k x
   claim_at (at_least l) d x = number_at (λ n. int_le l n) x
   claim_at (at_most l) d x = number_at (λ n. int_le n l) x
   claim_at (above l) d x = number_at (λ n. int_lt l n) x

@@ -1,14 +1,16 @@
 // Verdicts of a schema that a value's kind alone decides.
 ghost use Rattle.std.specs.Prelude.{◌≡◌, ℕ, ℤ, Bool, true, false, List, [], None, Some, if◌then◌else◌};
-ghost use Rattle.cs_document.specs.Document.{Document, Entry};
-ghost use Rattle.cs_document.specs.Opened.{Opened};
-ghost use Rattle.cs_rules.specs.Kinds.{verdict_of, Foretells};
+ghost use Rattle.cs_document.specs.Document.{Document, Entry, document_eq};
+ghost use Rattle.cs_document.specs.Opened.{Opened, opened};
+ghost use Rattle.cs_document.specs.View.{doc_view};
+ghost use Rattle.cs_rules.specs.Kinds.{verdict_of, IsItem, Foretells};
 ghost use Rattle.cs_profile.specs.Validity.{is_of_kind, if_there};
 ghost use Rattle.cs_validate.specs.declared.rules.Rule.TheVariants as rule;
 ghost use Rattle.cs_validate.specs.Steps.{step, kind_of};
 ghost use Rattle.cs_validate.specs.Asked.{asks_any, asks_here, asks_integer, asks_list, asks_map, asks_kind};
 
 use crate::rules::{Conjunction, Rule};
+use cs_document::Doc;
 use cs_flat::Names;
 use cs_profile::{JsonKind, Keywords};
 use cs_rules::ByKind;
@@ -52,6 +54,31 @@ fn by_type(kind: Option<JsonKind>) -> ByKind
 {
     match kind {
         Some(kind) => by_named(kind),
+        None => ByKind::of(None),
+    }
+}
+
+/// The kind of a value: no value of another kind equals it.
+fn kind_of_value(value: &Doc) -> JsonKind
+    ensures { (d : Document) → is_of_kind (kind_of result) (opened d) ≡ false → document_eq (doc_view value.now) d ≡ false }
+{
+    match value {
+        Doc::Null => JsonKind::Null,
+        Doc::Bool(_) => JsonKind::Boolean,
+        Doc::Int(_) => JsonKind::Integer,
+        Doc::Text(_) => JsonKind::String,
+        Doc::List(_) => JsonKind::Array,
+        Doc::Object(_) => JsonKind::Object,
+    }
+}
+
+/// What `const` decides, if it is there: it refuses the values of other kinds.
+fn by_const(value: &Option<Doc>) -> ByKind
+    ensures { (d : Document) (x : Opened ℕ) → IsItem d x → (b : Bool) → verdict_of result x ≡ Some b
+        → (b ≡ false) × (if_there (λ v. document_eq (doc_view v) d) value.now ≡ false) }
+{
+    match value {
+        Some(value) => by_named(kind_of_value(value)),
         None => ByKind::of(None),
     }
 }
@@ -126,7 +153,8 @@ pub(crate) fn by_kind(rule: &Rule<'_>) -> ByKind
     match rule {
         Rule::Truth(verdict) => ByKind::of(Some(*verdict)),
         Rule::Object(conjunction) => {
-            by_type(conjunction.keywords.kind).or(by_absence(conjunction))
+            let refused = by_type(conjunction.keywords.kind).or(by_const(&conjunction.keywords.equal));
+            refused.or(by_absence(conjunction))
         }
     }
 }

@@ -6,6 +6,7 @@ use Rattle.cs_document.specs.View.{doc_view}
 use Rattle.cs_flat.specs.Items.{items}
 use Rattle.cs_flat.specs.Nodes.{nodes, node_at}
 use Rattle.cs_flat.specs.View.{item_view}
+use Rattle.cs_flat.proofs.Laws.{are_items}
 use Rattle.cs_table.specs.Judged.{verdicts}
 use Rattle.cs_rules.specs.Answers.{step_by}
 use Rattle.cs_rules.specs.Props.{below_prop}
@@ -35,7 +36,8 @@ returns-in-Some g c =
     let ns = nodes s.flat.now in
     let rule = foretold_at step rules kinds c.args.rule k s.foretold found in
     sym (answer_is step rules s.numbering.children.items ns (items s.flat.now) c.args.item c.args.rule f rule.0 x rule.1 c.item-value.ensures.found
-    ∙ rule.2 x c.in-Some.verdict (sym c.verdict.ensures ∙ c.in-Some.is) (f c.args.item) (λ y p. f y (slice_index s.numbering.children.items p)) (node_at ns c.args.item))
+    ∙ rule.2 (node_at ns c.args.item) x (node_at ns, (are_items s.flat.now).node c.args.item x c.item-value.ensures.found) c.in-Some.verdict (sym c.verdict.ensures ∙ c.in-Some.is)
+    (f c.args.item) (λ y p. f y (slice_index s.numbering.children.items p)))
 
 pub invariant_of-known : goal.invariant_of-known
 invariant_of-known g c =
