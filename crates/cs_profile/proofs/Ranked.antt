@@ -49,7 +49,7 @@ read_at [] i x d e = cc
 read_at (y ∷ xs) zero x d e = same_Some y x e
 read_at (y ∷ xs) (suc i) x d e = read_at xs i x d e
 
-same_read : {X : Type 0} (xs : List X) (i : ℕ) (d e : X) → i < length xs → get_or xs i d ≡ get_or xs i e
+pub same_read : {X : Type 0} (xs : List X) (i : ℕ) (d e : X) → i < length xs → get_or xs i d ≡ get_or xs i e
 same_read [] i d e l = absurd (omega (arith, l))
 same_read (x ∷ xs) zero d e l = refl
 same_read (x ∷ xs) (suc i) d e l = same_read xs i d e (omega (arith, l))
