@@ -1,15 +1,17 @@
 -- Rules numbered one after another, as long as some schemas wait for their numbers.
-use Rattle.std.specs.Prelude.{◌≡◌, ℕ, ◌<◌, List, [], ◌∷◌, ◌++◌, Option, Some, None, option_map, option_and_then, option_to_list, length, map, slice_get, get_or}
+use Rattle.std.specs.Prelude.{◌≡◌, ℕ, ◌<◌, List, [], ◌∷◌, ◌++◌, Option, Some, None, option_map, option_and_then, option_to_list, length, map, slice_get, get_or, String, Vec}
 use Rattle.std.specs.List.{AllByRecursion, flat_map}
 use Rattle.std.specs.Borrow.{Bor}
+use Rattle.std.specs.declared.alloc.Global.{Global}
 use Rattle.cs_document.specs.Document.{Document, null, boolean, integer, text, list, object, Documents, no_documents, document, Members, no_members, member, under}
 use Rattle.cs_profile.specs.Keywords.{keywords, elements_of, entries_of, defined}
 use Rattle.cs_profile.specs.Constraint.{constraint_of}
 use Rattle.cs_profile.specs.Loops.{direct_names}
 use Rattle.cs_profile.specs.Numbered.{numbered}
-use Rattle.cs_profile.specs.SchemaDocument.{schema_view}
+use Rattle.cs_profile.specs.SchemaDocument.{schema_view, slots_of, present}
 use Rattle.cs_profile.specs.declared.keyword.Keyword.{Keyword}
 use Rattle.cs_profile.specs.declared.keyword.Keyword.TheVariants as keyword
+use Rattle.cs_profile.specs.declared.schema.Keywords.{Keywords}
 use Rattle.cs_profile.specs.declared.schema.Schema.{Schema}
 use Rattle.cs_rules.specs.declared.numberer.Numberer.{Numberer}
 use Rattle.cs_validate.specs.Numbering.{map_constraint, PartsBelow, said, schema_at}
@@ -19,6 +21,10 @@ use Rattle.cs_validate.specs.Steps.{asked_of}
 -- the schemas that wait
 abbrev pub waiting : List (Bor Schema) → List Document
 waiting bs = map (λ b. schema_view b.now) bs
+
+-- these wait behind the rest
+abbrev pub Waits : Vec (Bor Schema) Global → Vec (Bor Schema) Global → List Document → Type 0
+Waits old new ss = waiting new.items ≡ waiting old.items ++ ss
 
 -- these rules have numbers, each after those that it asks of the same document; those of documents inside are places
 -- of what waits
@@ -79,6 +85,20 @@ abbrev pub inside_members : Members → List Document
 inside_members no_members = []
 inside_members (member k v ms) = inside_of (under k keywords) v ++ inside_members ms
 
+-- the schemas of an object, of a map's values and of a keyword that may be there
+abbrev pub object_of : Keywords → Document
+object_of k = object (present (slots_of k))
+
+abbrev pub values_view : List (String Global × Schema) → List Document
+values_view es = map (λ e. schema_view e.1) es
+
+abbrev pub optional_view : Option Schema → List Document
+optional_view o = option_to_list (option_map schema_view o)
+
+-- what the keywords of an object ask of documents inside
+abbrev pub asked_inside : Keywords → List Document
+asked_inside k = inside_members (present (slots_of k))
+
 -- what waits then: what these ask of documents inside
 abbrev mutual
   pub left_by : Document → List Document
@@ -114,13 +134,13 @@ IsKnown R numbers placed n = (option_map (schema_at placed) (number_in numbers n
 -- with schemas numbered, their rules are behind those before, and what they ask of documents inside waits behind the rest
 abbrev pub PlacesAll : Numbers → State → State → List Document → List ℕ → Type 0
 PlacesAll numbers old new ss ks =
-    (waiting new.pending.items ≡ waiting old.pending.items ++ flat_map left_by ss)
+    Waits old.pending new.pending (flat_map left_by ss)
     × ((R : Document) (placed : List Document) → AreNumberedBy R placed old → AllByRecursion (IsKnown R numbers placed) (flat_map direct_names ss)
     → AreNumberedBy R (placed ++ flat_map placed_by ss) new × AreAt (placed ++ flat_map placed_by ss) ks ss)
 
 -- with a schema numbered k, its rules are behind those before, and what it asks of documents inside waits behind the rest
 abbrev pub Places : Numbers → State → State → Document → ℕ → Type 0
 Places numbers old new s k =
-    (waiting new.pending.items ≡ waiting old.pending.items ++ left_by s)
+    Waits old.pending new.pending (left_by s)
     × ((R : Document) (placed : List Document) → AreNumberedBy R placed old → AllByRecursion (IsKnown R numbers placed) (direct_names s)
     → AreNumberedBy R (placed ++ placed_by s) new × AreAt (placed ++ placed_by s) (k ∷ []) (s ∷ []))

@@ -30,7 +30,8 @@ pub(crate) struct Placement<'a> {
 
 fn with_ranks<'a>(alloc: Global, document: &'a SchemaDoc) -> Result<Vec<Ranked<'a>>, AllocError>
     ensures same { IfOk result (λ v. map definition v.items ≡ definitions_of document.now) }
-    ensures ranks { IfOk result (λ v. AllByRecursion (IsRanked (document_of document.now)) v.items) }
+    ensures ranks { IfOk result (λ v.
+        AllByRecursion (IsRanked (document_of document.now)) v.items) }
 {
     document.whole_law(); // for the proof: what is defined stands in `$defs`
     let definitions = document.definitions();
@@ -49,7 +50,8 @@ pub(crate) fn by_rank<'a>(
     alloc: Global,
     document: &'a SchemaDoc,
 ) -> Result<Vec<Ranked<'a>>, AllocError>
-    ensures same { IfOk result (λ v. IsPermutation (definitions_of document.now) (map definition v.items)) }
+    ensures same { IfOk result (λ v.
+        IsPermutation (definitions_of document.now) (map definition v.items)) }
     ensures ranks { IfOk result (λ v. All (IsRanked (document_of document.now)) v.items) }
     ensures sorted { IfOk result (λ v. IsNonDecreasingBy (λ d. d.rank) v.items) }
 {

@@ -1,10 +1,9 @@
 // Numbers for a schema and for what it asks of the same document. What it asks of documents inside waits, since that may
 // lead back to a definition that has no number yet.
 ghost use Rattle.std.specs.Prelude.{◌≡◌, map, option_map, option_to_list, option_and_then, string_bytes, IfOk};
-ghost use Rattle.cs_document.specs.Document.{object};
 ghost use Rattle.cs_document.specs.View.{doc_view};
-ghost use Rattle.cs_profile.specs.SchemaDocument.{schema_view, schemas_view, slots_of, present};
-ghost use Rattle.cs_validate.specs.Placing.{number_in, Places, PlacesAll};
+ghost use Rattle.cs_profile.specs.SchemaDocument.{schema_view, schemas_view};
+ghost use Rattle.cs_validate.specs.Placing.{object_of, optional_view, number_in, Places, PlacesAll};
 
 use crate::numbers::Numbers;
 use crate::rules::{Conjunction, Rule};
@@ -38,7 +37,7 @@ fn place_object<'a>(
     numbers: &Numbers<'_>,
     numberer: &mut Numberer<'a, Schema, Rule<'a>>,
 ) -> Result<usize, AllocError>
-    ensures { IfOk result (Places numbers.now numberer.old numberer.new (object (present (slots_of keywords.now)))) }
+    ensures { IfOk result (Places numbers.now numberer.old numberer.new (object_of keywords.now)) }
 {
     let all_of = place_all(alloc, &keywords.all_of, numbers, numberer)?;
     let any_of = place_all(alloc, &keywords.any_of, numbers, numberer)?;
@@ -63,7 +62,8 @@ fn place_all<'a>(
     numbers: &Numbers<'_>,
     numberer: &mut Numberer<'a, Schema, Rule<'a>>,
 ) -> Result<Vec<usize>, AllocError>
-    ensures { IfOk result (λ v. PlacesAll numbers.now numberer.old numberer.new (schemas_view schemas.now) v.items) }
+    ensures { IfOk result (λ v.
+        PlacesAll numbers.now numberer.old numberer.new (schemas_view schemas.now) v.items) }
 {
     let mut parts = Vec::with_capacity(alloc, schemas.len())?;
     for schema in schemas {
@@ -81,7 +81,9 @@ fn place_option<'a>(
     numbers: &Numbers<'_>,
     numberer: &mut Numberer<'a, Schema, Rule<'a>>,
 ) -> Result<Option<usize>, AllocError>
-    ensures { IfOk result (λ o. PlacesAll numbers.now numberer.old numberer.new (option_to_list (option_map schema_view schema.now)) (option_to_list o)) }
+    ensures { IfOk result (λ o.
+        PlacesAll numbers.now numberer.old numberer.new (optional_view schema.now)
+        (option_to_list o)) }
 {
     match schema {
         Some(schema) => Ok(Some(place(alloc, schema, numbers, numberer)?)),

@@ -50,8 +50,8 @@ impl<'a> Numbers<'a> {
     pub(crate) fn set(&mut self, name: &str, number: usize)
         requires { IsSome (place_in self.old name.now) }
         ensures names { self.new.0 ≡ self.old.0 }
-        ensures numbers { (m : List ℕ)
-            → number_in self.new m ≡ (if bytes_eq name.now m then Some number else number_in self.old m) }
+        ensures numbers { (m : List ℕ) → number_in self.new m
+            ≡ (if bytes_eq name.now m then Some number else number_in self.old m) }
     {
         if let Some(place) = self.document.number(name) {
             self.by_place[place] = Some(number);

@@ -16,7 +16,8 @@ pub(crate) fn numbering_of<'a>(
     alloc: Global,
     schema: &'a SchemaDoc,
 ) -> Result<(Numbering<Rule<'a>>, usize), AllocError>
-    ensures { IfOk result (λ t. IsRooted (document_of schema.now) t.0.rules.items t.0.children.items t.1) }
+    ensures { IfOk result (λ t.
+        IsRooted (document_of schema.now) t.0.rules.items t.0.children.items t.1) }
 {
     schema.whole_law(); // for the proof: a truth value has no definitions
     let ranked = by_rank(alloc, schema)?;
