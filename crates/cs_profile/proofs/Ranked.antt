@@ -19,7 +19,7 @@ use Rattle.cs_graph.specs.Graph.{Graph, Refers, IsLowestFirst, IsLowestCycle, Ar
 use Rattle.cs_graph.proofs.Named.{StandsFor, height_named, no_cycle_named, closed_named, closed_inside, distinct_named, distinct_by}
 use Rattle.cs_profile.specs.Keywords.{defined}
 use Rattle.cs_profile.specs.Loops.{direct_names, RefersDirectly, NoLoop, IsRank}
-use Rattle.cs_profile.specs.Numbered.{by_text, names_in, numbered, numbers_of, rows_of, name_of_number, AreRanks}
+use Rattle.cs_profile.specs.Numbered.{by_text, names_in, numbered, numbers_of, rows_of, name_of_number, number_of_name, AreRanks}
 use Rattle.cs_profile.specs.Refusal.{LeastFirst, IsLeastLoop}
 use Rattle.cs_profile.specs.SchemaDocument.{SchemaValue, schema_view, document_of, definition_of, IsWellFormed}
 use Rattle.cs_profile.specs.declared.schema.Schema.{Schema}
@@ -49,7 +49,7 @@ read_at [] i x d e = cc
 read_at (y ∷ xs) zero x d e = same_Some y x e
 read_at (y ∷ xs) (suc i) x d e = read_at xs i x d e
 
-same_read : {X : Type 0} (xs : List X) (i : ℕ) (d e : X) → i < length xs → get_or xs i d ≡ get_or xs i e
+pub same_read : {X : Type 0} (xs : List X) (i : ℕ) (d e : X) → i < length xs → get_or xs i d ≡ get_or xs i e
 same_read [] i d e l = absurd (omega (arith, l))
 same_read (x ∷ xs) zero d e l = refl
 same_read (x ∷ xs) (suc i) d e l = same_read xs i d e (omega (arith, l))
@@ -338,13 +338,7 @@ module _ (v : SchemaValue) (well : IsWellFormed v) (sorted : IsStrictlySortedBy 
 
 -- ---- what a schema document keeps
 
-module _ (v : SchemaValue) (numbers : List (String Global × ℕ)) (ranks : List ℕ) (are : AreRanks v numbers ranks) (n : List ℕ) where
-  abbrev got : Option ℕ
-  got = lookup (is_at (λ k. slice_cmp nat_cmp n (string_bytes k))) numbers
-
-  got_is : got ≡ under n (numbered 0 (names_in v.definitions))
-  got_is = looked_up n numbers ∙ ap (under n) are.all
-
+module _ (v : SchemaValue) (n : List ℕ) where
   alike : (i : ℕ) (ds : List (String Global × Schema)) → is_some (under n (numbered i (names_in ds))) ≡ is_some (under n (map (λ d. (string_bytes d.0, schema_view d.1)) ds))
   alike i [] = refl
   alike i (d ∷ ds) = by (bytes_eq n (string_bytes d.0)) (alike (suc i) ds)
@@ -355,15 +349,19 @@ module _ (v : SchemaValue) (numbers : List (String Global × ℕ)) (ranks : List
       by false h = h
 
   -- a name has a number where it has a definition
-  pub number_declared : (r : Option ℕ) → r ≡ got → is_some r ≡ is_some (definition_of v n)
-  number_declared r e = ap is_some (e ∙ got_is) ∙ alike 0 v.definitions
+  pub number_declared : is_some (number_of_name v.definitions n) ≡ is_some (definition_of v n)
+  number_declared = alike 0 v.definitions
 
-  module _ (i : ℕ) (e : Some i ≡ got) where
-    number_there : slice_get (names_in v.definitions) i ≡ Some n
-    number_there = named_number (names_in v.definitions) n i (sym (e ∙ got_is))
+  module _ (numbers : List (String Global × ℕ)) (ranks : List ℕ) (are : AreRanks v numbers ranks) where
+    pub number_kept : lookup (is_at (λ k. slice_cmp nat_cmp n (string_bytes k))) numbers ≡ number_of_name v.definitions n
+    number_kept = looked_up n numbers ∙ ap (under n) are.all
 
-    pub number_inside : i < length ranks
-    number_inside = let l = slice_get_within (names_in v.definitions) i n number_there in omega (arith, l, are.long, length-map v.definitions (λ (d : String Global × Schema). string_bytes d.0))
+    module _ (i : ℕ) (e : Some i ≡ number_of_name v.definitions n) where
+      number_there : slice_get (names_in v.definitions) i ≡ Some n
+      number_there = named_number (names_in v.definitions) n i (sym e)
 
-    pub rank_there : (d : ℕ) → IsRank (document_of v) n (get_or ranks i d)
-    rank_there d = subst (IsRank (document_of v) n) (same_read ranks i 0 d number_inside) (are.heights i n number_there)
+      pub number_inside : i < length ranks
+      number_inside = let l = slice_get_within (names_in v.definitions) i n number_there in omega (arith, l, are.long, length-map v.definitions (λ (d : String Global × Schema). string_bytes d.0))
+
+      pub rank_there : (d : ℕ) → IsRank (document_of v) n (get_or ranks i d)
+      rank_there d = subst (IsRank (document_of v) n) (same_read ranks i 0 d number_inside) (are.heights i n number_there)

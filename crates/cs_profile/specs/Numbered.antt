@@ -21,6 +21,10 @@ abbrev pub numbered : ℕ → List (List ℕ) → List (Entry ℕ)
 numbered i [] = []
 numbered i (n ∷ ns) = (n, i) ∷ numbered (suc i) ns
 
+-- the number of a name, which is the place of its definition
+abbrev pub number_of_name : List (String Global × Schema) → List ℕ → Option ℕ
+number_of_name ds n = under n (numbered 0 (names_in ds))
+
 -- the numbers of those names that have one
 abbrev pub numbers_of : List (Entry ℕ) → List (List ℕ) → List ℕ
 numbers_of es ns = flat_map (λ n. option_to_list (under n es)) ns

@@ -4,6 +4,7 @@ ghost use Rattle.cs_profile.specs.Keywords.{defined};
 ghost use Rattle.cs_profile.specs.Trim.{trim};
 ghost use Rattle.cs_profile.specs.SchemaDocument.{schema_view, document_of, definition_of, IsWhole, IsWellFormed};
 ghost use Rattle.cs_profile.specs.Loops.{RefersDirectly, NoLoop, IsRank};
+ghost use Rattle.cs_profile.specs.Numbered.{number_of_name};
 ghost use Rattle.cs_profile.specs.Refusal.{IsLoopRefusal};
 
 use crate::references::{Numbers, graph_of_definitions, names_of_numbers, numbers_of_definitions};
@@ -95,8 +96,17 @@ impl SchemaDoc {
         ensures falls { IfSome result (λ r. (m : List ℕ) (q : ℕ)
             → RefersDirectly (document_of self.now) name.now m → IsRank (document_of self.now) m q → q < r) }
     {
-        let number = self.numbers.get(name)?;
-        Some(self.ranks[*number])
+        let number = self.number(name)?;
+        Some(self.ranks[number])
+    }
+
+    /// The place of a definition among the definitions, which are by name in byte order. `None` exactly where it isn't
+    /// defined.
+    pub fn number(&self, name: &str) -> Option<usize>
+        ensures place { result ≡ number_of_name self.now.definitions name.now }
+        ensures declared { IsSome result ↔ IsSome (definition_of self.now name.now) }
+    {
+        self.numbers.get(name).copied()
     }
 
     /// The root schema.

@@ -4,9 +4,11 @@
 mod by_kind;
 mod judge;
 mod known;
+mod numberer;
 mod rule;
 
 pub use by_kind::ByKind;
 pub use judge::{Numbering, RuleJudge};
 pub use known::Known;
+pub use numberer::Numberer;
 pub use rule::Asks;

@@ -5,7 +5,7 @@ use Rattle.std.specs.List.{AllByRecursion as Each, flat_map}
 use Rattle.std.specs.declared.alloc.AllocError.{AllocError}
 use Rattle.std.proofs.lemmas.List.{map-append, length-map}
 use Rattle.std.proofs.lemmas.Grind.{flat_map-append}
-use Rattle.cs_document.specs.Document.{Document, object, Entry, under}
+use Rattle.cs_document.specs.Document.{Document, object}
 use Rattle.cs_document.specs.View.{doc_view}
 use Rattle.cs_document.proofs.Each.{each_map, each_append, each_front, each_back}
 use Rattle.cs_profile.specs.Keywords.{defined}
@@ -15,11 +15,10 @@ use Rattle.cs_profile.specs.Numbered.{reference_names, names_of_each}
 use Rattle.cs_profile.specs.SchemaDocument.{schema_view, schemas_view, slots_of, present}
 use Rattle.cs_profile.specs.declared.schema.Schema.{Schema}
 use Rattle.cs_validate.specs.Numbering.{map_constraint, said, PartsBelow, schema_at}
-use Rattle.cs_validate.specs.declared.rules.Rule.{Rule as Coded}
 use Rattle.cs_validate.specs.declared.rules.Rule.TheVariants as coded
 use Rattle.cs_validate.specs.declared.rules.Conjunction.{Conjunction}
 use Rattle.cs_validate.specs.Steps.{asked_of}
-use Rattle.cs_validate.specs.Placing.{waiting, AreNumbered, AreAt, placed_by, left_by, inside_members, IsKnown, Places, PlacesAll}
+use Rattle.cs_validate.specs.Placing.{waiting, AreNumbered, State, AreNumberedBy, AreAt, placed_by, left_by, inside_members, Numbers, number_in, IsKnown, Places, PlacesAll}
 use Rattle.cs_validate.proofs.Placed.{schemas_kept, known_more, wait, IsReady, IsPut, finish}
 use Rattle.cs_validate.proofs.Waits.{four_wait}
 use Rattle.cs_validate.proofs.Slots.{placed_members_are, left_members_are, names_are}
@@ -36,23 +35,23 @@ at_append s t ks js es fs a b =
     let u = at_more s t ks es a in
     (map-append (schema_at (s ++ t)) ks js ∙ ap₂ ◌++◌ u.0 b.0, each_append (λ k. k < length (s ++ t)) ks js u.1 b.1)
 
-pub all_known : (R : Document) (numbers : List (Entry ℕ)) (placed more : List Document) (ns : List (List ℕ)) → Each (IsKnown R numbers placed) ns → Each (IsKnown R numbers (placed ++ more)) ns
+pub all_known : (R : Document) (numbers : Numbers) (placed more : List Document) (ns : List (List ℕ)) → Each (IsKnown R numbers placed) ns → Each (IsKnown R numbers (placed ++ more)) ns
 all_known R numbers placed more ns h = each_map (IsKnown R numbers placed) (IsKnown R numbers (placed ++ more)) (known_more R numbers placed more) ns h
 
-module _ (numbers : List (Entry ℕ)) where
-  pub places_one : (r0 r1 : List Coded) (b0 b1 : List (Bor Schema)) (s : Document) (k : ℕ) → Places numbers r0 r1 b0 b1 s k → PlacesAll numbers r0 r1 b0 b1 (s ∷ []) (k ∷ [])
-  places_one r0 r1 b0 b1 s k p = (
-    p.0 ∙ ap (λ l. waiting b0 ++ l) (sym (append-nil (left_by s))),
+module _ (numbers : Numbers) where
+  pub places_one : (n0 n1 : State) (s : Document) (k : ℕ) → Places numbers n0 n1 s k → PlacesAll numbers n0 n1 (s ∷ []) (k ∷ [])
+  places_one n0 n1 s k p = (
+    p.0 ∙ ap (λ l. waiting n0.pending.items ++ l) (sym (append-nil (left_by s))),
     λ R placed n refs.
-        subst (λ l. AreNumbered R (placed ++ l) (waiting b1) r1 × AreAt (placed ++ l) (k ∷ []) (s ∷ [])) (sym (append-nil (placed_by s)))
+        subst (λ l. AreNumberedBy R (placed ++ l) n1 × AreAt (placed ++ l) (k ∷ []) (s ∷ [])) (sym (append-nil (placed_by s)))
         (p.1 R placed n (each_front (IsKnown R numbers placed) (direct_names s) [] refs)),
   )
 
-  pub places_then : (r0 r1 r2 : List Coded) (b0 b1 b2 : List (Bor Schema)) (ss ts : List Document) (ks js : List ℕ)
-      → PlacesAll numbers r0 r1 b0 b1 ss ks → PlacesAll numbers r1 r2 b1 b2 ts js → PlacesAll numbers r0 r2 b0 b2 (ss ++ ts) (ks ++ js)
-  places_then r0 r1 r2 b0 b1 b2 ss ts ks js p q = (
-    q.0 ∙ ap (λ l. l ++ flat_map left_by ts) p.0 ∙ append_assoc (waiting b0) (flat_map left_by ss) (flat_map left_by ts)
-        ∙ ap (λ l. waiting b0 ++ l) (sym (flat_map-append left_by ss ts)),
+  pub places_then : (n0 n1 n2 : State) (ss ts : List Document) (ks js : List ℕ)
+      → PlacesAll numbers n0 n1 ss ks → PlacesAll numbers n1 n2 ts js → PlacesAll numbers n0 n2 (ss ++ ts) (ks ++ js)
+  places_then n0 n1 n2 ss ts ks js p q = (
+    q.0 ∙ ap (λ l. l ++ flat_map left_by ts) p.0 ∙ append_assoc (waiting n0.pending.items) (flat_map left_by ss) (flat_map left_by ts)
+        ∙ ap (λ l. waiting n0.pending.items ++ l) (sym (flat_map-append left_by ss ts)),
     λ R placed n refs.
         let Q = IsKnown R numbers placed in
         let ms = flat_map direct_names ss in
@@ -63,7 +62,7 @@ module _ (numbers : List (Entry ℕ)) where
         let so_far = p.1 R placed n (each_front Q ms ns split) in
         let next = q.1 R s so_far.0 (all_known R numbers placed (flat_map placed_by ss) ns (each_back Q ms ns split)) in
         let whole : s ++ t ≡ placed ++ flat_map placed_by (ss ++ ts) = append_assoc placed (flat_map placed_by ss) t ∙ ap (λ l. placed ++ l) (sym (flat_map-append placed_by ss ts)) in (
-          subst (λ l. AreNumbered R l (waiting b2) r2) whole next.0,
+          subst (λ l. AreNumberedBy R l n2) whole next.0,
           subst (λ l. AreAt l (ks ++ js) (ss ++ ts)) whole (at_append s t ks js ss ts so_far.1 next.1),
         ),
   )
@@ -80,9 +79,9 @@ one_at f None (Some y) h = cc
 one_at f (Some x) None h = cc
 one_at f (Some x) (Some y) h = cc
 
-module _ (R : Document) (numbers : List (Entry ℕ)) (placed : List Document) where
+module _ (R : Document) (numbers : Numbers) (placed : List Document) where
   abbrev number_of : Option (String Global) → Option ℕ
-  number_of o = option_and_then (λ s. under (string_bytes s) numbers) o
+  number_of o = option_and_then (λ s. number_in numbers (string_bytes s)) o
 
   reference_below : (o : Option (String Global)) (r : Option ℕ) → r ≡ number_of o → Each (IsKnown R numbers placed) (reference_names o) → Each (λ k. k < length placed) (option_to_list r)
   reference_below None r e h = subst (λ x. Each (λ k. k < length placed) (option_to_list x)) (sym e) tt
@@ -93,16 +92,16 @@ module _ (R : Document) (numbers : List (Entry ℕ)) (placed : List Document) wh
       ap (option_map (schema_at placed)) (e ∙ ap number_of is) ∙ (subst (λ x. Each (IsKnown R numbers placed) (reference_names x)) is h).0.0
 
 -- the schemas of an object are numbered, and those that it asks of documents inside wait
-pub object_ready : (R : Document) (numbers : List (Entry ℕ)) (r0 r1 r2 r3 : List Coded) (b0 b1 b2 b3 b4 : List (Bor Schema)) (c : Conjunction) (placed : List Document)
-    → PlacesAll numbers r0 r1 b0 b1 (schemas_view c.keywords.now.all_of.items) c.all_of.items
-    → PlacesAll numbers r1 r2 b1 b2 (schemas_view c.keywords.now.any_of.items) c.any_of.items
-    → PlacesAll numbers r2 r3 b2 b3 (option_to_list (option_map schema_view c.keywords.now.negated)) (option_to_list c.negated)
-    → waiting b4 ≡ waiting b3 ++ inside_members (present (slots_of c.keywords.now)) → c.first ≡ length b3
+pub object_ready : (R : Document) (numbers : Numbers) (n0 n1 n2 n3 n4 : State) (c : Conjunction) (placed : List Document)
+    → PlacesAll numbers n0 n1 (schemas_view c.keywords.now.all_of.items) c.all_of.items
+    → PlacesAll numbers n1 n2 (schemas_view c.keywords.now.any_of.items) c.any_of.items
+    → PlacesAll numbers n2 n3 (option_to_list (option_map schema_view c.keywords.now.negated)) (option_to_list c.negated)
+    → n4.rules.items ≡ n3.rules.items → waiting n4.pending.items ≡ waiting n3.pending.items ++ inside_members (present (slots_of c.keywords.now)) → c.first ≡ length n3.pending.items
     → c.required ≡ map string_bytes c.keywords.now.required.items → c.one_of ≡ option_map (λ v. map doc_view v.items) c.keywords.now.one_of
-    → c.reference ≡ option_and_then (λ s. under (string_bytes s) numbers) c.keywords.now.reference
-    → AreNumbered R placed (waiting b0) r0 → Each (IsKnown R numbers placed) (direct_names (object (present (slots_of c.keywords.now))))
-    → IsReady R placed (object (present (slots_of c.keywords.now))) (waiting b4) r3 (asked_of (coded.Object c))
-object_ready R numbers r0 r1 r2 r3 b0 b1 b2 b3 b4 c placed alls anys nots waits first required one_of reference n refs =
+    → c.reference ≡ option_and_then (λ s. number_in numbers (string_bytes s)) c.keywords.now.reference
+    → AreNumberedBy R placed n0 → Each (IsKnown R numbers placed) (direct_names (object (present (slots_of c.keywords.now))))
+    → IsReady R placed (object (present (slots_of c.keywords.now))) (waiting n4.pending.items) n4.rules.items (asked_of (coded.Object c))
+object_ready R numbers n0 n1 n2 n3 n4 c placed alls anys nots kept waits first required one_of reference n refs =
     let k = c.keywords.now in
     let ms = present (slots_of k) in
     let A = schemas_view k.all_of.items in
@@ -127,39 +126,40 @@ object_ready R numbers r0 r1 r2 r3 b0 b1 b2 b3 b4 c placed alls anys nots waits 
     let known = all_known R numbers s2 FC named (all_known R numbers s1 FB named (lift named (each_front Q named (flat_map direct_names A ++ (flat_map direct_names B ++ flat_map direct_names C)) split))) in
     let all_at = at_more s2 FC c.all_of.items A (at_more s1 FB c.all_of.items A one.1) in
     let any_at = at_more s2 FC c.any_of.items B two.1 in
-    let at = first ∙ sym (length-map b3 (λ (b : Bor Schema). schema_view b.now)) in
+    let W = waiting n4.pending.items in
+    let at = first ∙ sym (length-map n3.pending.items (λ (b : Bor Schema). schema_view b.now)) in
     let whole : s3 ≡ placed ++ (FA ++ (FB ++ FC)) = append_assoc s1 FB FC ∙ append_assoc placed FA (FB ++ FC) in
-    let numbered : AreNumbered R s3 (waiting b4) r3 = subst (λ ws. AreNumbered R s3 ws r3) (sym waits) (wait R s3 (waiting b3) r3 three.0 (inside_members ms)) in
-    let asks : said (constraint_of R (object ms)) ≡ said (map_constraint (schema_at s3) (schema_at (waiting b4)) (asked_of (coded.Object c))) =
-    claims_are R s3 (waiting b3) c required one_of all_at.0 any_at.0 (one_at (schema_at s3) c.negated (option_map schema_view k.negated) three.1.0) (reference_at R numbers s3 k.reference c.reference reference known) at
+    let numbered : AreNumberedBy R s3 n4 = subst (AreNumbered R s3 W) (sym kept) (subst (λ ws. AreNumbered R s3 ws n3.rules.items) (sym waits) (wait R s3 (waiting n3.pending.items) n3.rules.items three.0 (inside_members ms))) in
+    let asks : said (constraint_of R (object ms)) ≡ said (map_constraint (schema_at s3) (schema_at W) (asked_of (coded.Object c))) =
+    claims_are R s3 (waiting n3.pending.items) c required one_of all_at.0 any_at.0 (one_at (schema_at s3) c.negated (option_map schema_view k.negated) three.1.0) (reference_at R numbers s3 k.reference c.reference reference known) at
     ∙ ap (λ ws. said (map_constraint (schema_at s3) (schema_at ws) (asked_of (coded.Object c)))) (sym waits) in
-    let parts : PartsBelow (length s3) (length (waiting b4)) (asked_of (coded.Object c)) =
-    subst (λ ws. PartsBelow (length s3) (length ws) (asked_of (coded.Object c))) (sym waits) (parts_below (length s3) (waiting b3) c all_at.1 any_at.1 three.1.1 (reference_below R numbers s3 k.reference c.reference reference known) at) in
+    let parts : PartsBelow (length s3) (length W) (asked_of (coded.Object c)) =
+    subst (λ ws. PartsBelow (length s3) (length ws) (asked_of (coded.Object c))) (sym waits) (parts_below (length s3) (waiting n3.pending.items) c all_at.1 any_at.1 three.1.1 (reference_below R numbers s3 k.reference c.reference reference known) at) in
     record {
       more = FA ++ (FB ++ FC);
       rules = ap (λ l. l ++ object ms ∷ []) (placed_members_are k);
-      numbered = subst (λ ss. AreNumbered R ss (waiting b4) r3) whole numbered;
-      asks = subst (λ ss. said (constraint_of R (object ms)) ≡ said (map_constraint (schema_at ss) (schema_at (waiting b4)) (asked_of (coded.Object c)))) whole asks;
-      parts = subst (λ ss. PartsBelow (length ss) (length (waiting b4)) (asked_of (coded.Object c))) whole parts;
+      numbered = subst (λ ss. AreNumberedBy R ss n4) whole numbered;
+      asks = subst (λ ss. said (constraint_of R (object ms)) ≡ said (map_constraint (schema_at ss) (schema_at W) (asked_of (coded.Object c)))) whole asks;
+      parts = subst (λ ss. PartsBelow (length ss) (length W) (asked_of (coded.Object c))) whole parts;
     }
 
-pub object_placed : (result : Result ℕ AllocError) (numbers : List (Entry ℕ)) (r0 r1 r2 r3 new : List Coded) (b0 b1 b2 b3 b4 : List (Bor Schema)) (c : Conjunction)
-    → IfOk result (IsPut r3 new (coded.Object c))
-    → PlacesAll numbers r0 r1 b0 b1 (schemas_view c.keywords.now.all_of.items) c.all_of.items
-    → PlacesAll numbers r1 r2 b1 b2 (schemas_view c.keywords.now.any_of.items) c.any_of.items
-    → PlacesAll numbers r2 r3 b2 b3 (option_to_list (option_map schema_view c.keywords.now.negated)) (option_to_list c.negated)
-    → waiting b4 ≡ waiting b3 ++ inside_members (present (slots_of c.keywords.now)) → c.first ≡ length b3
+pub object_placed : (result : Result ℕ AllocError) (numbers : Numbers) (n0 n1 n2 n3 n4 n5 : State) (c : Conjunction)
+    → IfOk result (IsPut n4 n5 (coded.Object c)) → n5.pending ≡ n4.pending
+    → PlacesAll numbers n0 n1 (schemas_view c.keywords.now.all_of.items) c.all_of.items
+    → PlacesAll numbers n1 n2 (schemas_view c.keywords.now.any_of.items) c.any_of.items
+    → PlacesAll numbers n2 n3 (option_to_list (option_map schema_view c.keywords.now.negated)) (option_to_list c.negated)
+    → n4.rules.items ≡ n3.rules.items → waiting n4.pending.items ≡ waiting n3.pending.items ++ inside_members (present (slots_of c.keywords.now)) → c.first ≡ length n3.pending.items
     → c.required ≡ map string_bytes c.keywords.now.required.items → c.one_of ≡ option_map (λ v. map doc_view v.items) c.keywords.now.one_of
-    → c.reference ≡ option_and_then (λ s. under (string_bytes s) numbers) c.keywords.now.reference
-    → IfOk result (Places numbers r0 new b0 b4 (object (present (slots_of c.keywords.now))))
-object_placed result numbers r0 r1 r2 r3 new b0 b1 b2 b3 b4 c done alls anys nots waits first required one_of reference =
+    → c.reference ≡ option_and_then (λ s. number_in numbers (string_bytes s)) c.keywords.now.reference
+    → IfOk result (Places numbers n0 n5 (object (present (slots_of c.keywords.now))))
+object_placed result numbers n0 n1 n2 n3 n4 n5 c done still alls anys nots kept waits first required one_of reference =
     let k = c.keywords.now in
     let I = inside_members (present (slots_of k)) in
     let LA = flat_map left_by (schemas_view k.all_of.items) in
     let LB = flat_map left_by (schemas_view k.any_of.items) in
     let LC = flat_map left_by (option_to_list (option_map schema_view k.negated)) in
-    let left = four_wait (waiting b0) (waiting b1) (waiting b2) (waiting b3) (waiting b4) LA LB LC I alls.0 anys.0 nots.0 waits in
+    let left = four_wait (waiting n0.pending.items) (waiting n1.pending.items) (waiting n2.pending.items) (waiting n3.pending.items) (waiting n4.pending.items) LA LB LC I alls.0 anys.0 nots.0 waits in
     let grouped : LA ++ (LB ++ (LC ++ I)) ≡ (LA ++ (LB ++ LC)) ++ I = ap (λ l. LA ++ l) (sym (append_assoc LB LC I)) ∙ sym (append_assoc LA (LB ++ LC) I) in
-    finish result numbers r0 r3 new (coded.Object c) b0 b4 (object (present (slots_of k))) done
-    (left ∙ ap (λ l. waiting b0 ++ l) (grouped ∙ ap (λ l. l ++ I) (sym (left_members_are k))))
-    (λ R placed n refs. object_ready R numbers r0 r1 r2 r3 b0 b1 b2 b3 b4 c placed alls anys nots waits first required one_of reference n refs)
+    finish result numbers n0 n4 n5 (coded.Object c) (object (present (slots_of k))) done still
+    (left ∙ ap (λ l. waiting n0.pending.items ++ l) (grouped ∙ ap (λ l. l ++ I) (sym (left_members_are k))))
+    (λ R placed n refs. object_ready R numbers n0 n1 n2 n3 n4 c placed alls anys nots kept waits first required one_of reference n refs)

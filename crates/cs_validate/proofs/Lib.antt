@@ -11,6 +11,7 @@ pub mod Satisfied
 pub mod ByKind
 -- schemas get their numbers: what waits, definitions by rank, the root, the whole
 pub mod Standing
+pub mod ByPlace
 pub mod Placed
 pub mod Waits
 pub mod Joined

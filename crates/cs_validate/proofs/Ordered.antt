@@ -1,7 +1,6 @@
 -- Definitions numbered by rank.
-use Rattle.std.proofs.Common.{◌≡◌, ℕ, zero, suc, ◌+◌, ◌<◌, ◌≤◌, ◌⊎◌, inl, inr, Bool, true, false, List, [], ◌∷◌, ◌++◌, Option, Some, None, option_map, map, length, take, get_or, Bor, String, Global, BTreeMap, string_bytes, string_cmp, nat_cmp, bytes_eq, is_eq, Less, refl, sym, ap, ◌∙◌, subst, append-nil, arith, if◌then◌else◌, IsTrue}
+use Rattle.std.proofs.Common.{◌≡◌, ℕ, zero, suc, ◌+◌, ◌<◌, ◌≤◌, ◌⊎◌, inl, inr, Bool, true, false, List, [], ◌∷◌, ◌++◌, Option, Some, None, option_map, map, length, take, get_or, String, Global, string_bytes, string_cmp, nat_cmp, bytes_eq, is_eq, Less, refl, sym, ap, ◌∙◌, subst, append-nil, arith, if◌then◌else◌, IsTrue}
 use Rattle.std.specs.Prelude.{option_to_list, Contains}
-use Rattle.std.specs.BTreeMap.{UpdatesBy}
 use Rattle.std.specs.Cmp.Lexicographic.{slice_cmp}
 use Rattle.std.specs.List.{All, flat_map, list_any, AllByRecursion as Each}
 use Rattle.std.specs.List.Sorted.{IsPermutation, IsNonDecreasingBy, IsStrictlySortedBy}
@@ -13,23 +12,21 @@ use Rattle.std.proofs.lemmas.List.Elements.{All-contains, All-from_recursion, Al
 use Rattle.std.proofs.lemmas.List.Folds.{list_any_at}
 use Rattle.std.proofs.lemmas.List.Sorted.{IsPermutation-map, Contains-permutation}
 use Rattle.std.proofs.lemmas.Map.Keys.{sorted_head, sorted_tail}
-use Rattle.std.proofs.lemmas.Map.Text.{is_eq-slice_cmp, btree_map_updates_text}
+use Rattle.std.proofs.lemmas.Map.Text.{is_eq-slice_cmp}
 use Rattle.std.proofs.lemmas.Simd.{map-map}
 use Rattle.std.proofs.lemmas.Slice.Eq.{bytes_eq-Decides}
 use Rattle.cs_document.specs.Document.{Document, Entry, under}
 use Rattle.cs_document.proofs.Each.{each_map, each_member}
 use Rattle.cs_profile.specs.Keywords.{defined}
 use Rattle.cs_profile.specs.Loops.{direct_names, RefersDirectly, IsRank}
-use Rattle.cs_profile.specs.Numbered.{by_text}
 use Rattle.cs_profile.specs.SchemaDocument.{SchemaValue, schema_view, document_of, definition_of, IsWhole}
 use Rattle.cs_profile.specs.declared.schema.Schema.{Schema}
 use Rattle.cs_profile.proofs.Definitions.{defined_definition}
-use Rattle.cs_profile.proofs.Pushes.{looked_up}
 use Rattle.cs_validate.specs.Numbering.{schema_at}
-use Rattle.cs_validate.specs.Placing.{waiting, AreNumbered, IsKnown, placed_by, left_by}
+use Rattle.cs_validate.specs.Placing.{AreNumberedBy, Numbers, number_in, IsKnown, placed_by, left_by}
 use Rattle.cs_validate.specs.Ranked.{definitions_of, name_of, schema_of, definition, IsRanked, AreRanked, PlacesOne, ArePlacedBy}
+use Rattle.cs_validate.specs.declared.definitions.Placement.{Placement}
 use Rattle.cs_validate.specs.declared.definitions.Ranked.{Ranked}
-use Rattle.cs_validate.specs.declared.rules.Rule.{Rule as Coded}
 use Rattle.cs_validate.proofs.Placed.{each_push, known_more}
 
 -- ---- a definition is under its name
@@ -87,10 +84,6 @@ are_ranked v whole ds perm ranks sorted = record {
 
 -- ---- numbers by name
 
-pub number_inserted : (n : List ℕ) (old new : BTreeMap (String Global) ℕ) (k : ℕ) → UpdatesBy string_cmp (λ s. slice_cmp nat_cmp n (string_bytes s)) old new (Some k)
-    → (m : List ℕ) → under m (by_text new.entries) ≡ (if bytes_eq n m then Some k else under m (by_text old.entries))
-number_inserted n old new k u m = sym (looked_up m new.entries) ∙ btree_map_updates_text n old new (Some k) u m ∙ ap (λ r. if bytes_eq n m then Some k else r) (looked_up m old.entries)
-
 each_contains : {X : Type 0} (P : X → Type 0) (xs : List X) (x : X) → Each P xs → Contains xs x → P x
 each_contains P xs x h c = All-contains P xs x (All-from_recursion P xs h) c
 
@@ -98,7 +91,7 @@ each_contains P xs x h c = All-contains P xs x (All-from_recursion P xs h) c
 abbrev KnownBy : Document → List Document → List ℕ → Option ℕ → Type 0
 KnownBy R placed n o = (option_map (schema_at placed) o ≡ defined R n) × Each (λ k. k < length placed) (option_to_list o)
 
-known_or : (R : Document) (numbers : List (Entry ℕ)) (placed : List Document) (ns : List (List ℕ)) (m : List ℕ) → Each (IsKnown R numbers placed) ns → Contains ns m ⊎ (under m numbers ≡ None) → Contains ns m ⊎ (defined R m ≡ None) → IsKnown R numbers placed m
+known_or : (R : Document) (numbers : Numbers) (placed : List Document) (ns : List (List ℕ)) (m : List ℕ) → Each (IsKnown R numbers placed) ns → Contains ns m ⊎ (number_in numbers m ≡ None) → Contains ns m ⊎ (defined R m ≡ None) → IsKnown R numbers placed m
 known_or R numbers placed ns m known (inl c) d = each_contains (IsKnown R numbers placed) ns m known c
 known_or R numbers placed ns m known (inr none) (inl c) = each_contains (IsKnown R numbers placed) ns m known c
 known_or R numbers placed ns m known (inr none) (inr undefined) = subst (KnownBy R placed m) (sym none) (sym undefined, tt)
@@ -107,16 +100,16 @@ known_or R numbers placed ns m known (inr none) (inr undefined) = subst (KnownBy
 abbrev pub placed_with : List Ranked → List Document
 placed_with ds = flat_map placed_by (map schema_of ds)
 
-pub all_known : (R : Document) (ds : List Ranked) (numbers : List (Entry ℕ)) (rules : List Coded) (pending : List (Bor Schema)) → AreRanked R ds → ArePlacedBy R ds numbers rules pending → (n : List ℕ) → IsKnown R numbers (placed_with ds) n
-all_known R ds numbers rules pending ranked p n = known_or R numbers (placed_with ds) (map name_of ds) n p.known (p.others n) (ranked.all n)
+pub all_known : (R : Document) (ds : List Ranked) (p : Placement) → AreRanked R ds → ArePlacedBy R ds p → (n : List ℕ) → IsKnown R p.numbers (placed_with ds) n
+all_known R ds p ranked all n = known_or R p.numbers (placed_with ds) (map name_of ds) n all.known (all.others n) (ranked.all n)
 
 -- ---- one definition more
 
 flat_push : (f : Document → List Document) (ds : List Ranked) (d : Ranked) → flat_map f (map schema_of (ds ++ d ∷ [])) ≡ flat_map f (map schema_of ds) ++ f (schema_of d)
 flat_push f ds d = ap (flat_map f) (map-append schema_of ds (d ∷ [])) ∙ flat_map-append f (map schema_of ds) (schema_of d ∷ []) ∙ ap (λ ys. flat_map f (map schema_of ds) ++ ys) (append-nil (f (schema_of d)))
 
-module _ (R : Document) (ds : List Ranked) (d : Ranked) (numbers new : List (Entry ℕ)) (rules rules' : List Coded) (pending pending' : List (Bor Schema)) (ranked : IsRanked R d)
-    (refs : Each (IsKnown R numbers (placed_with ds)) (direct_names (schema_of d))) (all : ArePlacedBy R ds numbers rules pending) (one : PlacesOne (name_of d) (schema_of d) numbers new rules rules' pending pending') where
+module _ (R : Document) (ds : List Ranked) (d : Ranked) (old new : Placement) (ranked : IsRanked R d)
+    (refs : Each (IsKnown R old.numbers (placed_with ds)) (direct_names (schema_of d))) (all : ArePlacedBy R ds old) (one : PlacesOne d old new) where
   abbrev n : List ℕ
   n = name_of d
 
@@ -126,11 +119,11 @@ module _ (R : Document) (ds : List Ranked) (d : Ranked) (numbers new : List (Ent
   abbrev more : List Document
   more = placed_with ds ++ placed_by s
 
-  w : AreNumbered R more (waiting pending') rules' × ((map (schema_at more) (one.number ∷ []) ≡ s ∷ []) × Each (λ k. k < length more) (one.number ∷ []))
+  w : AreNumberedBy R more new.numberer × ((map (schema_at more) (one.number ∷ []) ≡ s ∷ []) × Each (λ k. k < length more) (one.number ∷ []))
   w = one.placed.1 R (placed_with ds) all.numbered refs
 
-  looked : (m : List ℕ) (b : Bool) → bytes_eq n m ≡ b → under m new ≡ (if b then Some one.number else under m numbers)
-  looked m b e = one.named m ∙ ap (λ t. if t then Some one.number else under m numbers) e
+  looked : (m : List ℕ) (b : Bool) → bytes_eq n m ≡ b → number_in new.numbers m ≡ (if b then Some one.number else number_in old.numbers m)
+  looked m b e = one.named m ∙ ap (λ t. if t then Some one.number else number_in old.numbers m) e
 
   mine : KnownBy R more n (Some one.number)
   mine = (ap Some (first (schema_at more one.number) s w.1.0) ∙ sym ranked.found, w.1.1)
@@ -138,25 +131,25 @@ module _ (R : Document) (ds : List Ranked) (d : Ranked) (numbers new : List (Ent
       first : (x y : Document) → x ∷ [] ≡ y ∷ [] → x ≡ y
       first x y e = cc
 
-  kept : (m : List ℕ) → IsKnown R numbers (placed_with ds) m → (b : Bool) → bytes_eq n m ≡ b → IsKnown R new more m
+  kept : (m : List ℕ) → IsKnown R old.numbers (placed_with ds) m → (b : Bool) → bytes_eq n m ≡ b → IsKnown R new.numbers more m
   kept m h true e = subst (KnownBy R more m) (sym (looked m true e)) (subst (λ k. KnownBy R more k (Some one.number)) ((bytes_eq-Decides n m).0 e) mine)
-  kept m h false e = subst (KnownBy R more m) (sym (looked m false e)) (known_more R numbers (placed_with ds) (placed_by s) m h)
+  kept m h false e = subst (KnownBy R more m) (sym (looked m false e)) (known_more R old.numbers (placed_with ds) (placed_by s) m h)
 
-  other : (m : List ℕ) → Contains (map name_of ds) m ⊎ (under m numbers ≡ None) → (b : Bool) → bytes_eq n m ≡ b → Contains (map name_of ds ++ n ∷ []) m ⊎ (under m new ≡ None)
+  other : (m : List ℕ) → Contains (map name_of ds) m ⊎ (number_in old.numbers m ≡ None) → (b : Bool) → bytes_eq n m ≡ b → Contains (map name_of ds ++ n ∷ []) m ⊎ (number_in new.numbers m ≡ None)
   other m (inl c) b e = inl (Contains-append_left (map name_of ds) (n ∷ []) m c)
   other m (inr none) true e = inl (subst (Contains (map name_of ds ++ n ∷ [])) ((bytes_eq-Decides n m).0 e) (Contains-push (map name_of ds) n))
   other m (inr none) false e = inr (looked m false e ∙ none)
 
-  pub placed_more : ArePlacedBy R (ds ++ d ∷ []) new rules' pending'
+  pub placed_more : ArePlacedBy R (ds ++ d ∷ []) new
   placed_more =
       let whole : more ≡ placed_with (ds ++ d ∷ []) = sym (flat_push placed_by ds d) in
       let names : map name_of ds ++ n ∷ [] ≡ map name_of (ds ++ d ∷ []) = sym (map-append name_of ds (d ∷ [])) in
-      let itself : IsKnown R new more n = subst (KnownBy R more n) (sym (looked n true ((bytes_eq-Decides n n).1 refl))) mine in
-      let known = each_push (IsKnown R new more) (map name_of ds) n (each_map (IsKnown R numbers (placed_with ds)) (IsKnown R new more) (λ m h. kept m h (bytes_eq n m) refl) (map name_of ds) all.known) itself in record {
-        numbered = subst (λ ss. AreNumbered R ss (waiting pending') rules') whole w.0;
+      let itself : IsKnown R new.numbers more n = subst (KnownBy R more n) (sym (looked n true ((bytes_eq-Decides n n).1 refl))) mine in
+      let known = each_push (IsKnown R new.numbers more) (map name_of ds) n (each_map (IsKnown R old.numbers (placed_with ds)) (IsKnown R new.numbers more) (λ m h. kept m h (bytes_eq n m) refl) (map name_of ds) all.known) itself in record {
+        numbered = subst (λ ss. AreNumberedBy R ss new.numberer) whole w.0;
         waits = one.placed.0 ∙ ap (λ xs. xs ++ left_by s) all.waits ∙ sym (flat_push left_by ds d);
-        known = subst (λ ss. Each (IsKnown R new ss) (map name_of (ds ++ d ∷ []))) whole (subst (Each (IsKnown R new more)) names known);
-        others = λ m. subst (λ ns. Contains ns m ⊎ (under m new ≡ None)) names (other m (all.others m) (bytes_eq n m) refl);
+        known = subst (λ ss. Each (IsKnown R new.numbers ss) (map name_of (ds ++ d ∷ []))) whole (subst (Each (IsKnown R new.numbers more)) names known);
+        others = λ m. subst (λ ns. Contains ns m ⊎ (number_in new.numbers m ≡ None)) names (other m (all.others m) (bytes_eq n m) refl);
       }
 
 -- ---- what is referred to has lower rank
@@ -199,10 +192,10 @@ module _ (R : Document) (ds : List Ranked) (ranked : AreRanked R ds) (i : ℕ) (
       earlier j r (inr l) lower sorted = absurd (let k = sorted l in omega (arith, lower, k))
 
   -- what it refers to directly is known
-  pub known_here : (numbers : List (Entry ℕ)) (rules : List Coded) (pending : List (Bor Schema)) → ArePlacedBy R (take i ds) numbers rules pending → Each (IsKnown R numbers (placed_with (take i ds))) (direct_names (schema_of d))
-  known_here numbers rules pending p =
-      each_member (IsKnown R numbers (placed_with (take i ds))) (direct_names (schema_of d))
-      (λ m c. known_or R numbers (placed_with (take i ds)) (map name_of (take i ds)) m p.known (p.others m) (by m c (ranked.all m)))
+  pub known_here : (p : Placement) → ArePlacedBy R (take i ds) p → Each (IsKnown R p.numbers (placed_with (take i ds))) (direct_names (schema_of d))
+  known_here p all =
+      each_member (IsKnown R p.numbers (placed_with (take i ds))) (direct_names (schema_of d))
+      (λ m c. known_or R p.numbers (placed_with (take i ds)) (map name_of (take i ds)) m all.known (all.others m) (by m c (ranked.all m)))
     where
       by : (m : List ℕ) → Contains (direct_names (schema_of d)) m → Contains (map name_of ds) m ⊎ (defined R m ≡ None) → Contains (map name_of (take i ds)) m ⊎ (defined R m ≡ None)
       by m c (inl on) = inl (before m c on)

@@ -1,22 +1,21 @@
 -- Rules one after another: each new one is that of one more schema.
-use Rattle.std.proofs.Common.{◌≡◌, ℕ, zero, suc, ◌+◌, ◌<◌, ◌≤◌, ◌⊎◌, inl, inr, ⊎_elim, List, [], ◌∷◌, ◌++◌, Bool, true, false, Option, Some, None, option_map, Result, map, length, Bor, refl, sym, ap, ap₂, ◌∙◌, subst, append_assoc, append-nil, length-append, lt_of_lt_of_le, arith}
+use Rattle.std.proofs.Common.{◌≡◌, ℕ, zero, suc, ◌+◌, ◌<◌, ◌≤◌, ◌⊎◌, inl, inr, ⊎_elim, List, [], ◌∷◌, ◌++◌, Bool, true, false, Option, Some, None, option_map, Result, map, length, refl, sym, ap, ap₂, ◌∙◌, subst, append_assoc, append-nil, length-append, lt_of_lt_of_le, arith}
 use Rattle.std.specs.Prelude.{slice_get, option_to_list, IfOk}
 use Rattle.std.specs.List.{AllByRecursion as Each}
 use Rattle.std.specs.declared.alloc.AllocError.{AllocError}
 use Rattle.std.proofs.lemmas.List.{get_or_push, get_or_append_left}
 use Rattle.std.proofs.lemmas.Result.{IfOk-weaker}
-use Rattle.cs_document.specs.Document.{Document, boolean, Entry, under}
+use Rattle.cs_document.specs.Document.{Document, boolean, Entry}
 use Rattle.cs_document.specs.Inside.{map_entry}
 use Rattle.cs_document.proofs.Each.{each_map}
 use Rattle.cs_profile.specs.Loops.{direct_names}
 use Rattle.cs_profile.specs.Constraint.{Assertion, valid_by, at_keys, at_other_keys, in_front, behind, valid_by_all, valid_by_any, not_valid_by, Constraint, always, never, conjunction, constraint_of}
-use Rattle.cs_profile.specs.declared.schema.Schema.{Schema}
 use Rattle.cs_validate.specs.Numbering.{map_assertion, map_constraint, said, ClaimBelow, PartsBelow, schema_at}
 use Rattle.cs_validate.specs.declared.rules.Rule.{Rule as Coded}
 use Rattle.cs_validate.specs.declared.rules.Rule.TheVariants as coded
 use Rattle.cs_validate.specs.Props.{parts_weaker}
 use Rattle.cs_validate.specs.Steps.{asked_of}
-use Rattle.cs_validate.specs.Placing.{waiting, AreNumbered, AreAt, placed_by, left_by, IsKnown, Places}
+use Rattle.cs_validate.specs.Placing.{waiting, AreNumbered, State, AreNumberedBy, AreAt, placed_by, left_by, Numbers, number_in, IsKnown, Places}
 
 pub got_push : {X : Type 0} (xs : List X) (x y : X) (r : ℕ) → slice_get (xs ++ x ∷ []) r ≡ Some y → ((r < length xs) × (slice_get xs r ≡ Some y)) ⊎ ((r ≡ length xs) × (x ≡ y))
 got_push [] x y zero e = inr (refl, cc)
@@ -75,11 +74,11 @@ pub schemas_kept : (xs ys : List Document) (ps : List ℕ) → Each (λ p. p < l
 schemas_kept xs ys ps h = sym (numbers_same (length xs) (schema_at xs) (schema_at (xs ++ ys)) (at_front xs ys) ps h)
 
 -- a known definition stays known
-pub known_more : (R : Document) (numbers : List (Entry ℕ)) (placed more : List Document) (n : List ℕ) → IsKnown R numbers placed n → IsKnown R numbers (placed ++ more) n
+pub known_more : (R : Document) (numbers : Numbers) (placed more : List Document) (n : List ℕ) → IsKnown R numbers placed n → IsKnown R numbers (placed ++ more) n
 known_more R numbers placed more n h =
     let longer : length placed ≤ length (placed ++ more) = omega (arith, length-append placed more) in (
-      sym (number_same (length placed) (schema_at placed) (schema_at (placed ++ more)) (at_front placed more) (under n numbers) h.1) ∙ h.0,
-      each_map (λ k. k < length placed) (λ k. k < length (placed ++ more)) (λ k l. lt_of_lt_of_le l longer) (option_to_list (under n numbers)) h.1,
+      sym (number_same (length placed) (schema_at placed) (schema_at (placed ++ more)) (at_front placed more) (number_in numbers n) h.1) ∙ h.0,
+      each_map (λ k. k < length placed) (λ k. k < length (placed ++ more)) (λ k l. lt_of_lt_of_le l longer) (option_to_list (number_in numbers n)) h.1,
     )
 
 module _ (R : Document) (placed : List Document) (pending : List Document) (rules : List Coded) (n : AreNumbered R placed pending rules) where
@@ -137,29 +136,35 @@ ready_placed R placed s pending old new rule k is grown r =
     )
 
 -- what a pushed rule's number is
-abbrev pub IsPut : List Coded → List Coded → Coded → ℕ → Type 0
-IsPut old new rule k = (k ≡ length old) × (new ≡ old ++ rule ∷ [])
+abbrev pub IsPut : State → State → Coded → ℕ → Type 0
+IsPut old new rule k = (k ≡ length old.rules.items) × (new.rules.items ≡ old.rules.items ++ rule ∷ [])
 
 -- what the numbering of a schema ensures, where all but its own rule is ready
-pub finish : (result : Result ℕ AllocError) (numbers : List (Entry ℕ)) (first old new : List Coded) (rule : Coded) (before after : List (Bor Schema)) (s : Document)
-    → IfOk result (IsPut old new rule) → waiting after ≡ waiting before ++ left_by s
-    → ((R : Document) (placed : List Document) → AreNumbered R placed (waiting before) first → Each (IsKnown R numbers placed) (direct_names s) → IsReady R placed s (waiting after) old (asked_of rule))
-    → IfOk result (Places numbers first new before after s)
-finish result numbers first old new rule before after s done waits ready =
-    IfOk-weaker result (IsPut old new rule) (Places numbers first new before after s)
-    (λ k d. (waits, λ R placed n refs. ready_placed R placed s (waiting after) old new rule k d.0 d.1 (ready R placed n refs))) done
+pub finish : (result : Result ℕ AllocError) (numbers : Numbers) (first old new : State) (rule : Coded) (s : Document)
+    → IfOk result (IsPut old new rule) → new.pending ≡ old.pending → waiting old.pending.items ≡ waiting first.pending.items ++ left_by s
+    → ((R : Document) (placed : List Document) → AreNumberedBy R placed first → Each (IsKnown R numbers placed) (direct_names s) → IsReady R placed s (waiting old.pending.items) old.rules.items (asked_of rule))
+    → IfOk result (Places numbers first new s)
+finish result numbers first old new rule s done same waits ready =
+    let kept : waiting old.pending.items ≡ waiting new.pending.items = ap (λ v. waiting v.items) (sym same) in
+    IfOk-weaker result (IsPut old new rule) (Places numbers first new s)
+    (λ k d. (
+      sym kept ∙ waits,
+      λ R placed n refs.
+          subst (λ ws. AreNumbered R (placed ++ placed_by s) ws new.rules.items × AreAt (placed ++ placed_by s) (k ∷ []) (s ∷ [])) kept
+          (ready_placed R placed s (waiting old.pending.items) old.rules.items new.rules.items rule k d.0 d.1 (ready R placed n refs)),
+    )) done
 
 -- a truth value
-pub truth_placed : (result : Result ℕ AllocError) (numbers : List (Entry ℕ)) (old new : List Coded) (before : List (Bor Schema)) (b : Bool) → IfOk result (IsPut old new (coded.Truth b)) → IfOk result (Places numbers old new before before (boolean b))
-truth_placed result numbers old new before b done =
-    finish result numbers old old new (coded.Truth b) before before (boolean b) done (sym (append-nil (waiting before)))
+pub truth_placed : (result : Result ℕ AllocError) (numbers : Numbers) (old new : State) (b : Bool) → IfOk result (IsPut old new (coded.Truth b)) → new.pending ≡ old.pending → IfOk result (Places numbers old new (boolean b))
+truth_placed result numbers old new b done kept =
+    finish result numbers old old new (coded.Truth b) (boolean b) done kept (sym (append-nil (waiting old.pending.items)))
     (λ R placed n refs.
     let same : placed ≡ placed ++ [] = sym (append-nil placed) in record {
       more = [];
       rules = refl;
-      numbered = subst (λ ss. AreNumbered R ss (waiting before) old) same n;
-      asks = asks b R (schema_at (placed ++ [])) (schema_at (waiting before));
-      parts = parts b (length (placed ++ [])) (length (waiting before));
+      numbered = subst (λ ss. AreNumberedBy R ss old) same n;
+      asks = asks b R (schema_at (placed ++ [])) (schema_at (waiting old.pending.items));
+      parts = parts b (length (placed ++ [])) (length (waiting old.pending.items));
     })
   where
     asks : (b : Bool) (R : Document) (f g : ℕ → Document) → said (constraint_of R (boolean b)) ≡ said (map_constraint f g (asked_of (coded.Truth b)))

@@ -3,15 +3,14 @@ use Rattle.std.proofs.Common.{◌≡◌, ℕ, zero, suc, ◌+◌, ◌<◌, ◌�
 use Rattle.std.proofs.Math.Seq.{drop-cons}
 use Rattle.std.proofs.lemmas.List.{map-append, length-map, get_or-map}
 use Rattle.std.proofs.lemmas.List.Sorted.{length_permutation}
-use Rattle.cs_document.specs.Document.{Document, Entry, null, boolean, integer, text, list, object}
+use Rattle.cs_document.specs.Document.{Document, null, boolean, integer, text, list, object}
 use Rattle.cs_document.proofs.Each.{each_of, each_map, each_append}
 use Rattle.cs_profile.specs.Loops.{direct_names}
 use Rattle.cs_profile.specs.SchemaDocument.{schema_view}
 use Rattle.cs_profile.specs.declared.schema.Schema.{Schema}
 use Rattle.cs_validate.specs.Numbering.{schema_at}
 use Rattle.cs_validate.specs.Rules.{subschemas}
-use Rattle.cs_validate.specs.declared.rules.Rule.{Rule as Coded}
-use Rattle.cs_validate.specs.Placing.{waiting, AreNumbered, AreAt, IsKnown, Places, placed_by, placed_by_members, left_by}
+use Rattle.cs_validate.specs.Placing.{waiting, State, AreNumberedBy, AreAt, Numbers, IsKnown, Places, placed_by, placed_by_members, left_by}
 use Rattle.cs_validate.specs.Ranked.{PlacesWaiting}
 use Rattle.cs_validate.proofs.Placed.{known_more, schemas_kept}
 use Rattle.cs_validate.proofs.Whole.{joined, equal, inside, inside_append, whole, whole_step}
@@ -36,12 +35,12 @@ at_push xs ys numbers k ss s h one =
 
 -- ---- one more
 
-pub nothing_placed : (R : Document) (placed : List Document) (rules : List Coded) (pending : List (Bor Schema)) → AreNumbered R placed (waiting pending) rules → PlacesWaiting R placed (waiting pending) rules pending []
-nothing_placed R placed rules pending n = record {
+pub nothing_placed : (R : Document) (placed : List Document) (s : State) → AreNumberedBy R placed s → PlacesWaiting R placed (waiting s.pending.items) s []
+nothing_placed R placed s n = record {
   more = [];
-  numbered = subst (λ ss. AreNumbered R ss (waiting pending) rules) (sym (append-nil placed)) n;
+  numbered = subst (λ ss. AreNumberedBy R ss s) (sym (append-nil placed)) n;
   inside = (refl, tt);
-  same = equal _ _ (ap (λ ss. ss ++ inside (waiting pending)) (sym (append-nil placed)));
+  same = equal _ _ (ap (λ ss. ss ++ inside (waiting s.pending.items)) (sym (append-nil placed)));
 }
 
 -- the first that waits, and what waits behind it
@@ -60,20 +59,20 @@ taken_one [] k x l d = absurd (omega (arith, l))
 taken_one (y ∷ xs) zero x l d = ap (λ ys. take 1 ys) d
 taken_one (y ∷ xs) (suc k) x l d = ap (λ ys. y ∷ ys) (taken_one xs k x (omega (arith, l)) d)
 
-pub one_waited : (R : Document) (numbers : List (Entry ℕ)) (placed first : List Document) (rules rules' : List Coded) (pending pending' : List (Bor Schema)) (inner : List ℕ) (schema : Schema) (number : ℕ)
-    → length inner < length pending → WaitsAt pending (length inner) schema → Places numbers rules rules' pending pending' (schema_view schema) number → ((n : List ℕ) → IsKnown R numbers placed n)
-    → PlacesWaiting R placed first rules pending inner → PlacesWaiting R placed first rules' pending' (inner ++ number ∷ [])
-one_waited R numbers placed first rules rules' pending pending' inner schema number l at place known p =
-    let W = waiting pending in
+pub one_waited : (R : Document) (numbers : Numbers) (placed first : List Document) (old new : State) (inner : List ℕ) (schema : Schema) (number : ℕ)
+    → length inner < length old.pending.items → WaitsAt old.pending.items (length inner) schema → Places numbers old new (schema_view schema) number → ((n : List ℕ) → IsKnown R numbers placed n)
+    → PlacesWaiting R placed first old inner → PlacesWaiting R placed first new (inner ++ number ∷ [])
+one_waited R numbers placed first old new inner schema number l at place known p =
+    let W = waiting old.pending.items in
     let k = length inner in
     let s = schema_view schema in
     let L = left_by s in
     let front = placed ++ p.more in
     let t = placed_by s in
-    let within : k < length W = subst (λ n. k < n) (sym (length-map pending (λ (b : Bor Schema). schema_view b.now))) l in
+    let within : k < length W = subst (λ n. k < n) (sym (length-map old.pending.items (λ (b : Bor Schema). schema_view b.now))) l in
     let up : suc k ≤ length W = omega (arith, within) in
     let one = place.1 R front p.numbered (each_of (IsKnown R numbers front) (λ n. known_more R numbers placed p.more n (known n)) (direct_names s)) in
-    let W' = waiting pending' in
+    let W' = waiting new.pending.items in
     let grown : W' ≡ W ++ L = place.0 in
     let long : length (inner ++ number ∷ []) ≡ suc k = omega (arith, length-append inner (number ∷ [])) in
     let whole : front ++ t ≡ placed ++ (p.more ++ t) = append_assoc placed p.more t in
@@ -81,7 +80,7 @@ one_waited R numbers placed first rules rules' pending pending' inner schema num
     let left : drop (length (inner ++ number ∷ [])) W' ≡ drop (suc k) W ++ L = ap₂ drop long grown ∙ back_of W L (suc k) up in
     record {
       more = p.more ++ t;
-      numbered = subst (λ ss. AreNumbered R ss W' rules') whole one.0;
+      numbered = subst (λ ss. AreNumberedBy R ss new) whole one.0;
       inside = subst (λ ss. AreAt (placed ++ (p.more ++ t)) (inner ++ number ∷ []) ss) (sym taken) (subst (λ ss. AreAt ss (inner ++ number ∷ []) (take k W ++ s ∷ [])) whole (at_push front t inner number (take k W) s p.inside one.1));
       same = joined p.same (joined (equal _ _ (ap (λ ss. front ++ inside ss) at)) (joined (whole_step front s (drop (suc k) W)) (equal _ _ (ap₂ (λ xs ys. xs ++ inside ys) whole (sym left)))));
     }

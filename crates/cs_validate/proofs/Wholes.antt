@@ -20,8 +20,9 @@ use Rattle.cs_validate.specs.declared.rules.Rule.{Rule as Coded}
 use Rattle.cs_rules.specs.Steps.{ArePlaced}
 use Rattle.cs_validate.specs.Numbering.{PartsBelow}
 use Rattle.cs_validate.specs.Steps.{asked_of, numbered}
-use Rattle.cs_validate.specs.Placing.{waiting, AreNumbered, AreAt, IsKnown, Places, placed_by, left_by}
+use Rattle.cs_validate.specs.Placing.{waiting, AreNumbered, State, AreNumberedBy, AreAt, IsKnown, Places, placed_by, left_by}
 use Rattle.cs_validate.specs.Ranked.{definitions_of, schema_of, definition, AreRanked, ArePlacedBy, PlacesWaiting}
+use Rattle.cs_validate.specs.declared.definitions.Placement.{Placement}
 use Rattle.cs_validate.specs.declared.definitions.Ranked.{Ranked}
 use Rattle.cs_validate.specs.Rooted.{IsRooted}
 use Rattle.cs_validate.proofs.Placed.{at_front, got_front, names_same, known_more}
@@ -198,9 +199,9 @@ schemas_perm v ds perm =
     let value : Entry Document → Document = λ e. e.1 in
     joined (equal _ _ (sym (map-map value (λ m. (_, _)) v.definitions))) (joined (IsPermutation-map value (definitions_of v) (map definition ds) perm) (equal _ _ (map-map value definition ds)))
 
-module _ (v : SchemaValue) (whole : IsWhole v) (ds : List Ranked) (numbers : List (Entry ℕ)) (k : ℕ) (r0 r1 : List Coded) (b0 b1 : List (Bor Schema))
-    (perm : IsPermutation (definitions_of v) (map definition ds)) (ranked : AreRanked (document_of v) ds) (p : ArePlacedBy (document_of v) ds numbers r0 b0)
-    (root : Places numbers r0 r1 b0 b1 (schema_view v.root) k) where
+module _ (v : SchemaValue) (whole : IsWhole v) (ds : List Ranked) (p : Placement) (k : ℕ) (new : State)
+    (perm : IsPermutation (definitions_of v) (map definition ds)) (ranked : AreRanked (document_of v) ds) (all : ArePlacedBy (document_of v) ds p)
+    (root : Places p.numbers p.numberer new (schema_view v.root) k) where
   abbrev R : Document
   R = document_of v
 
@@ -216,44 +217,44 @@ module _ (v : SchemaValue) (whole : IsWhole v) (ds : List Ranked) (numbers : Lis
   abbrev same_first : first ≡ placed_with ds ++ (before s ++ R ∷ [])
   same_first = append_assoc (placed_with ds) (before s) (R ∷ [])
 
-  pub first_numbered : AreNumbered R first (waiting b1) r1
+  pub first_numbered : AreNumberedBy R first new
   first_numbered =
-      let placed = root.1 R (placed_with ds) p.numbered (each_of (IsKnown R numbers (placed_with ds)) (all_known R ds numbers r0 b0 ranked p) (direct_names s)) in
+      let placed = root.1 R (placed_with ds) all.numbered (each_of (IsKnown R p.numbers (placed_with ds)) (all_known R ds p ranked all) (direct_names s)) in
       let whole_front : placed_with ds ++ placed_by s ≡ front ++ s ∷ [] = ap (λ xs. placed_with ds ++ xs) (placed_last s) ∙ sym (append_assoc (placed_with ds) (before s) (s ∷ [])) in
-      renamed R front s R (waiting b1) r1 (root_said R (unless_no_map (definitions_view v.definitions)) s) (subst (λ xs. AreNumbered R xs (waiting b1) r1) whole_front placed.0)
+      renamed R front s R (waiting new.pending.items) new.rules.items (root_said R (unless_no_map (definitions_view v.definitions)) s) (subst (λ xs. AreNumberedBy R xs new) whole_front placed.0)
 
-  pub first_known : (n : List ℕ) → IsKnown R numbers first n
-  first_known n = subst (λ xs. IsKnown R numbers xs n) (sym same_first) (known_more R numbers (placed_with ds) (before s ++ R ∷ []) n (all_known R ds numbers r0 b0 ranked p n))
+  pub first_known : (n : List ℕ) → IsKnown R p.numbers first n
+  first_known n = subst (λ xs. IsKnown R p.numbers xs n) (sym same_first) (known_more R p.numbers (placed_with ds) (before s ++ R ∷ []) n (all_known R ds p ranked all n))
 
   -- its rule is the last
-  pub root_last : length r1 ≡ length front + 1
+  pub root_last : length new.rules.items ≡ length front + 1
   root_last = first_numbered.sizes ∙ length-append front (R ∷ [])
 
-  module _ (r2 : List Coded) (b2 : List (Bor Schema)) (inner : List ℕ) (long : length inner ≡ length b2) (w : PlacesWaiting R first (waiting b1) r2 b2 inner) where
+  module _ (last : State) (inner : List ℕ) (long : length inner ≡ length last.pending.items) (w : PlacesWaiting R first (waiting new.pending.items) last inner) where
     abbrev W : List Document
-    W = waiting b2
+    W = waiting last.pending.items
 
     wide : length inner ≡ length W
-    wide = long ∙ sym (length-map b2 (λ (b : Bor Schema). schema_view b.now))
+    wide = long ∙ sym (length-map last.pending.items (λ (b : Bor Schema). schema_view b.now))
 
     at_all : AreAt (first ++ w.more) inner W
     at_all = subst (AreAt (first ++ w.more) inner) (all_taken W (length inner) wide) w.inside
 
-    pub placed_all : ∥ ArePlaced (λ x r m. PartsBelow r m (asked_of x)) r2 inner ∥₁
-    placed_all = ∣ are_placed R (first ++ w.more) W r2 inner w.numbered at_all ∣₁
+    pub placed_all : ∥ ArePlaced (λ x r m. PartsBelow r m (asked_of x)) last.rules.items inner ∥₁
+    placed_all = ∣ are_placed R (first ++ w.more) W last.rules.items inner w.numbered at_all ∣₁
 
     counted : Same (rules_of R) (first ++ w.more)
     counted =
         joined (root_counted v whole.bare (map schema_of ds) (schemas_perm v ds perm))
-        (joined (equal _ _ (ap₂ (λ xs ys. xs ++ inside ys) (sym same_first) (sym (root.0 ∙ ap (λ xs. xs ++ left_by s) p.waits))))
+        (joined (equal _ _ (ap₂ (λ xs ys. xs ++ inside ys) (sym same_first) (sym (root.0 ∙ ap (λ xs. xs ++ left_by s) all.waits))))
         (joined w.same (equal _ _ (ap (λ ss. (first ++ w.more) ++ inside ss) (none_left W (length inner) wide) ∙ append-nil (first ++ w.more)))))
 
-    pub rooted : (number : ℕ) → number + 1 ≡ length r1 → IsRooted R r2 inner number
+    pub rooted : (number : ℕ) → number + 1 ≡ length new.rules.items → IsRooted R last.rules.items inner number
     rooted number e =
         let at : length front ≡ number = omega (arith, e, root_last) in
         record {
           all = first ++ w.more;
           are = counted;
-          numbering = is_numbering R (first ++ w.more) W r2 inner w.numbered at_all;
+          numbering = is_numbering R (first ++ w.more) W last.rules.items inner w.numbered at_all;
           root = got_front first w.more number R (ap (slice_get first) (sym at) ∙ get_last front R);
         }

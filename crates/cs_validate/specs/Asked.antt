@@ -1,23 +1,34 @@
 -- What the keywords of an object ask of a value, by what it is. A keyword that is absent asks nothing.
-use Rattle.std.specs.Prelude.{ℕ, ◌<◌, ℤ, pos, IfSome, option_to_list, Bool, true, false, not, ◌&&◌, ◌||◌, List, length, drop, is_some, nat_le, int_lt, int_le}
+use Rattle.std.specs.Prelude.{◌≡◌, ℕ, ◌<◌, ℤ, pos, IfSome, option_to_list, Option, None, Some, if◌then◌else◌, Bool, true, false, not, ◌&&◌, ◌||◌, List, String, length, drop, is_some, nat_le, int_lt, int_le}
 use Rattle.std.specs.Option.{option_map_or}
 use Rattle.std.specs.List.{list_all, list_any, AllByRecursion}
 use Rattle.std.specs.Str.{bytes_eq}
+use Rattle.std.specs.declared.alloc.Global.{Global}
 use Rattle.cs_document.specs.Document.{Document, Entry, under, document_eq}
 use Rattle.cs_document.specs.Opened.{Opened, a_list, an_integer, an_object}
 use Rattle.cs_document.specs.View.{doc_view}
 use Rattle.cs_profile.specs.Validity.{is_of_kind, if_there, front_holds}
 use Rattle.cs_profile.specs.Numbered.{numbered as numbers_from, names_in}
+use Rattle.cs_document.specs.declared.doc.Doc.{Doc}
+use Rattle.cs_profile.specs.declared.schema.JsonKind.{JsonKind}
 use Rattle.cs_profile.specs.declared.schema.Keywords.{Keywords}
+use Rattle.cs_profile.specs.declared.schema.Schema.{Schema}
 use Rattle.cs_validate.specs.declared.rules.Conjunction.{Conjunction}
 use Rattle.cs_validate.specs.Steps.{kind_of, unless_empty, places_from, items_place, prefix_place, properties_place}
 
+-- by `type`, `const` and `enum`
+abbrev pub asks_type : Option JsonKind → Opened ℕ → Bool
+asks_type o x = if_there (λ j. is_of_kind (kind_of j) x) o
+
+abbrev pub asks_const : Option Doc → Document → Bool
+asks_const o d = if_there (λ v. document_eq (doc_view v) d) o
+
+abbrev pub asks_enum : Option (List Document) → Document → Bool
+asks_enum o d = if_there (λ vs. list_any (λ v. document_eq v d) vs) o
+
 -- of a value of any kind (JSON Schema Validation 2020-12, section 6.1)
 abbrev pub asks_any : Conjunction → Document → Opened ℕ → Bool
-asks_any c d x =
-    if_there (λ j. is_of_kind (kind_of j) x) c.keywords.now.kind
-    && if_there (λ v. document_eq (doc_view v) d) c.keywords.now.equal
-    && if_there (λ vs. list_any (λ v. document_eq v d) vs) c.one_of
+asks_any c d x = asks_type c.keywords.now.kind x && asks_const c.keywords.now.equal d && asks_enum c.one_of d
 
 -- of an integer (Validation, section 6.2): `exclusiveMaximum` and `maximum`, `exclusiveMinimum` and `minimum`
 abbrev pub is_not_above : Keywords → ℤ → Bool
@@ -29,10 +40,14 @@ is_not_below k n = if_there (λ l. int_lt l n) k.above && if_there (λ l. int_le
 abbrev pub asks_integer : Keywords → ℤ → Bool
 asks_integer k n = is_not_above k n && is_not_below k n
 
+-- by `$ref`
+abbrev pub asks_reference : (ℕ → Bool) → Conjunction → Bool
+asks_reference here c = if_there (λ n. option_map_or here c.reference false) c.keywords.now.reference
+
 -- by the schemas that are asked of the value itself (Core, sections 8.2.3.1 and 10.2.1)
 abbrev pub asks_here : (ℕ → Bool) → Conjunction → Bool
 asks_here here c =
-    if_there (λ n. option_map_or here c.reference false) c.keywords.now.reference
+    asks_reference here c
     && list_all here c.all_of.items
     && if_there (list_any here) (unless_empty (λ rs. rs) c.any_of.items)
     && if_there (λ r. not (here r)) c.negated
@@ -42,20 +57,43 @@ abbrev pub if_count : (ℕ → Bool) → ℤ → Bool
 if_count p (pos n) = p n
 if_count p _ = true
 
+-- declared names with places, from a place on
+abbrev pub places_named : ℕ → List (String Global × Schema) → List (Entry ℕ)
+places_named first es = numbers_from first (names_in es)
+
+module _ (inside : ℕ → ℕ → Bool) where
+  -- by `prefixItems`: the elements in front by the schemas at these places
+  abbrev pub asks_front : List ℕ → List ℕ → Bool
+  asks_front places ys = front_holds (λ (h : ℕ). true) inside places ys
+
+  -- by `properties`: the value under the key, if it is there, by the schema at the place
+  abbrev pub asks_at : List (Entry ℕ) → List ℕ → ℕ → Bool
+  asks_at ms k place = if_there (λ y. inside y place) (under k ms)
+
+  abbrev pub asks_named : List (Entry ℕ) → List (Entry ℕ) → Bool
+  asks_named ms places = list_all (λ (p : Entry ℕ). asks_at ms p.0 p.1) places
+
+  -- by `additionalProperties`: the value of a key that is no declared name
+  abbrev pub asks_other : List (List ℕ) → ℕ → List ℕ → ℕ → Bool
+  asks_other names place k y = list_any (bytes_eq k) names || inside y place
+
+  abbrev pub asks_others : List (List ℕ) → ℕ → List (Entry ℕ) → Bool
+  asks_others names place ms = list_all (λ (m : Entry ℕ). asks_other names place m.0 m.1) ms
+
 module _ (inside : ℕ → ℕ → Bool) (c : Conjunction) where
   -- of a list (Validation, section 6.4; Core, section 10.3.1)
   abbrev pub asks_list : List ℕ → Bool
   asks_list ys =
       if_there (if_count (λ l. nat_le l (length ys))) c.keywords.now.min_items
-      && front_holds (λ (h : ℕ). true) inside (places_from (prefix_place c) c.keywords.now.prefix.items) ys
+      && asks_front inside (places_from (prefix_place c) c.keywords.now.prefix.items) ys
       && if_there (λ s. list_all (λ y. inside y (items_place c)) (drop (length c.keywords.now.prefix.items) ys)) c.keywords.now.rest
 
   -- of a map (Validation, section 6.5; Core, section 10.3.2)
   abbrev pub asks_map : List (Entry ℕ) → Bool
   asks_map ms =
       list_all (λ k. is_some (under k ms)) c.required
-      && list_all (λ (p : Entry ℕ). if_there (λ y. inside y p.1) (under p.0 ms)) (numbers_from (properties_place c) (names_in c.keywords.now.properties.entries))
-      && if_there (λ s. list_all (λ (m : Entry ℕ). list_any (bytes_eq m.0) (names_in c.keywords.now.properties.entries) || inside m.1 c.first) ms) c.keywords.now.additional
+      && asks_named inside ms (places_named (properties_place c) c.keywords.now.properties.entries)
+      && if_there (λ s. asks_others inside (names_in c.keywords.now.properties.entries) c.first ms) c.keywords.now.additional
 
   abbrev pub asks_kind : Opened ℕ → Bool
   asks_kind (an_integer n) = asks_integer c.keywords.now n
@@ -63,16 +101,41 @@ module _ (inside : ℕ → ℕ → Bool) (c : Conjunction) where
   asks_kind (an_object ms) = asks_map ms
   asks_kind _ = true
 
+-- numbers below n
+abbrev pub AreBelow : ℕ → List ℕ → Type 0
+AreBelow n ks = AllByRecursion (λ k. k < n) ks
+
+abbrev pub EntriesBelow : ℕ → List (Entry ℕ) → Type 0
+EntriesBelow n es = AllByRecursion (λ (e : Entry ℕ). e.1 < n) es
+
+abbrev pub ReferenceBelow : ℕ → Conjunction → Type 0
+ReferenceBelow n c = IfSome c.keywords.now.reference (λ name. AreBelow n (option_to_list c.reference))
+
 -- the rules that are asked of the value itself are below n
 pub record AreBelowHere (n : ℕ) (c : Conjunction) : Type 0 where
-  pub reference : IfSome c.keywords.now.reference (λ name. AllByRecursion (λ r. r < n) (option_to_list c.reference))
-  pub all_of : AllByRecursion (λ r. r < n) c.all_of.items
-  pub any_of : AllByRecursion (λ r. r < n) c.any_of.items
-  pub negated : AllByRecursion (λ r. r < n) (option_to_list c.negated)
+  pub reference : ReferenceBelow n c
+  pub all_of : AreBelow n c.all_of.items
+  pub any_of : AreBelow n c.any_of.items
+  pub negated : AreBelow n (option_to_list c.negated)
 
 -- the places of those that are asked of values inside are below m
 pub record AreBelowInside (m : ℕ) (c : Conjunction) : Type 0 where
   pub additional : IfSome c.keywords.now.additional (λ s. c.first < m)
   pub rest : IfSome c.keywords.now.rest (λ s. items_place c < m)
-  pub prefix : AllByRecursion (λ p. p < m) (places_from (prefix_place c) c.keywords.now.prefix.items)
-  pub properties : AllByRecursion (λ (p : Entry ℕ). p.1 < m) (numbers_from (properties_place c) (names_in c.keywords.now.properties.entries))
+  pub prefix : AreBelow m (places_from (prefix_place c) c.keywords.now.prefix.items)
+  pub properties : EntriesBelow m (places_named (properties_place c) c.keywords.now.properties.entries)
+
+-- ---- what a kind alone decides
+
+-- `type` refuses, or decides nothing
+abbrev pub refused_unless : Bool → Option Bool
+refused_unless b = if b then None else Some false
+
+-- nothing but `type` is asked of values of every kind, and of this value
+abbrev pub AsksTypeAlone : Conjunction → Type 0
+AsksTypeAlone c = (here : ℕ → Bool) (d : Document) (x : Opened ℕ) → (asks_here here c ≡ true) × (asks_any c d x ≡ asks_type c.keywords.now.kind x)
+
+abbrev pub IsLeftToType : Conjunction → Opened ℕ → Type 0
+IsLeftToType c x =
+    (here : ℕ → Bool) (inside : ℕ → ℕ → Bool) (d : Document)
+    → (asks_here here c ≡ true) × (asks_kind inside c x ≡ true) × (asks_any c d x ≡ asks_type c.keywords.now.kind x)

@@ -3,16 +3,14 @@ use Rattle.std.specs.Prelude.{◌≡◌, ℕ, ◌<◌, ◌++◌, ◌⊎◌, List
 use Rattle.std.specs.List.{All, AllByRecursion}
 use Rattle.std.specs.List.Sorted.{IsNonDecreasingBy, IsPermutation}
 use Rattle.std.specs.Str.{bytes_eq}
-use Rattle.std.specs.Borrow.{Bor}
-use Rattle.cs_document.specs.Document.{Document, Entry, under}
+use Rattle.cs_document.specs.Document.{Document, Entry}
 use Rattle.cs_profile.specs.Keywords.{defined}
 use Rattle.cs_profile.specs.Loops.{RefersDirectly, IsRank}
 use Rattle.cs_profile.specs.SchemaDocument.{SchemaValue, schema_view}
-use Rattle.cs_profile.specs.declared.schema.Schema.{Schema}
+use Rattle.cs_validate.specs.declared.definitions.Placement.{Placement}
 use Rattle.cs_validate.specs.declared.definitions.Ranked.{Ranked}
-use Rattle.cs_validate.specs.declared.rules.Rule.{Rule as Coded}
 use Rattle.cs_validate.specs.Rules.{subschemas}
-use Rattle.cs_validate.specs.Placing.{waiting, AreNumbered, AreAt, placed_by, left_by, IsKnown, Places}
+use Rattle.cs_validate.specs.Placing.{waiting, State, AreNumberedBy, AreAt, placed_by, left_by, number_in, IsKnown, Places}
 
 -- the definitions of a schema document, by name
 abbrev pub definitions_of : SchemaValue → List (Entry Document)
@@ -40,23 +38,24 @@ pub record AreRanked (R : Document) (ds : List Ranked) : Type 0 where
   pub sorted : IsNonDecreasingBy (λ d. d.rank) ds
   pub all : (n : List ℕ) → Contains (map name_of ds) n ⊎ (defined R n ≡ None)
 
--- with the schema s of the name n numbered, its rules are behind those before, and n has its number
-pub record PlacesOne (n : List ℕ) (s : Document) (numbers new : List (Entry ℕ)) (r0 r1 : List Coded) (b0 b1 : List (Bor Schema)) : Type 0 where
+-- with a definition numbered, its rules are behind those before, and its name has its number
+pub record PlacesOne (d : Ranked) (old new : Placement) : Type 0 where
   pub number : ℕ
-  pub placed : Places numbers r0 r1 b0 b1 s number
-  pub named : (m : List ℕ) → under m new ≡ (if bytes_eq n m then Some number else under m numbers)
+  pub placed : Places old.numbers old.numberer new.numberer (schema_of d) number
+  pub names : new.numbers.0 ≡ old.numbers.0
+  pub named : (m : List ℕ) → number_in new.numbers m ≡ (if bytes_eq (name_of d) m then Some number else number_in old.numbers m)
 
 -- these definitions and no others have their numbers, and what they ask of documents inside waits
-pub record ArePlacedBy (R : Document) (ds : List Ranked) (numbers : List (Entry ℕ)) (rules : List Coded) (pending : List (Bor Schema)) : Type 0 where
-  pub numbered : AreNumbered R (flat_map placed_by (map schema_of ds)) (waiting pending) rules
-  pub waits : waiting pending ≡ flat_map left_by (map schema_of ds)
-  pub known : AllByRecursion (IsKnown R numbers (flat_map placed_by (map schema_of ds))) (map name_of ds)
-  pub others : (n : List ℕ) → Contains (map name_of ds) n ⊎ (under n numbers ≡ None)
+pub record ArePlacedBy (R : Document) (ds : List Ranked) (p : Placement) : Type 0 where
+  pub numbered : AreNumberedBy R (flat_map placed_by (map schema_of ds)) p.numberer
+  pub waits : waiting p.numberer.pending.items ≡ flat_map left_by (map schema_of ds)
+  pub known : AllByRecursion (IsKnown R p.numbers (flat_map placed_by (map schema_of ds))) (map name_of ds)
+  pub others : (n : List ℕ) → Contains (map name_of ds) n ⊎ (number_in p.numbers n ≡ None)
 
 -- with what waited numbered in its order as far as `inner` goes, the rules are behind those placed before; what still
 -- waits and all that is in it make up the rest
-pub record PlacesWaiting (R : Document) (placed first : List Document) (rules : List Coded) (pending : List (Bor Schema)) (inner : List ℕ) : Type 0 where
+pub record PlacesWaiting (R : Document) (placed first : List Document) (s : State) (inner : List ℕ) : Type 0 where
   pub more : List Document
-  pub numbered : AreNumbered R (placed ++ more) (waiting pending) rules
-  pub inside : AreAt (placed ++ more) inner (take (length inner) (waiting pending))
-  pub same : IsPermutation (placed ++ flat_map (subschemas false) first) ((placed ++ more) ++ flat_map (subschemas false) (drop (length inner) (waiting pending)))
+  pub numbered : AreNumberedBy R (placed ++ more) s
+  pub inside : AreAt (placed ++ more) inner (take (length inner) (waiting s.pending.items))
+  pub same : IsPermutation (placed ++ flat_map (subschemas false) first) ((placed ++ more) ++ flat_map (subschemas false) (drop (length inner) (waiting s.pending.items)))

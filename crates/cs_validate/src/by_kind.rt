@@ -1,5 +1,5 @@
 // Verdicts of a schema that a value's kind alone decides.
-ghost use Rattle.std.specs.Prelude.{◌≡◌, ℕ, ℤ, Bool, true, false, List, [], None, Some, if◌then◌else◌};
+ghost use Rattle.std.specs.Prelude.{◌≡◌, ℕ, ℤ, Bool, true, false, List, [], Some};
 ghost use Rattle.cs_document.specs.Document.{Document, Entry, document_eq};
 ghost use Rattle.cs_document.specs.Opened.{Opened, opened};
 ghost use Rattle.cs_document.specs.View.{doc_view};
@@ -7,7 +7,7 @@ ghost use Rattle.cs_rules.specs.Kinds.{verdict_of, IsItem, Foretells};
 ghost use Rattle.cs_profile.specs.Validity.{is_of_kind, if_there};
 ghost use Rattle.cs_validate.specs.declared.rules.Rule.TheVariants as rule;
 ghost use Rattle.cs_validate.specs.Steps.{step, kind_of};
-ghost use Rattle.cs_validate.specs.Asked.{asks_any, asks_here, asks_integer, asks_list, asks_map, asks_kind};
+ghost use Rattle.cs_validate.specs.Asked.{asks_type, asks_integer, asks_list, asks_map, refused_unless, AsksTypeAlone, IsLeftToType};
 
 use crate::rules::{Conjunction, Rule};
 use cs_document::Doc;
@@ -17,7 +17,7 @@ use cs_rules::ByKind;
 
 /// What a `type` decides: it refuses the values of other kinds.
 fn by_named(kind: JsonKind) -> ByKind
-    ensures { (x : Opened ℕ) → verdict_of result x ≡ (if is_of_kind (kind_of kind) x then None else Some false) }
+    ensures { (x : Opened ℕ) → verdict_of result x ≡ refused_unless (is_of_kind (kind_of kind) x) }
 {
     let others = ByKind::of(Some(false));
     match kind {
@@ -50,7 +50,7 @@ fn by_named(kind: JsonKind) -> ByKind
 
 /// What `type` decides, if it is there.
 fn by_type(kind: Option<JsonKind>) -> ByKind
-    ensures { (x : Opened ℕ) → verdict_of result x ≡ (if if_there (λ j. is_of_kind (kind_of j) x) kind then None else Some false) }
+    ensures { (x : Opened ℕ) → verdict_of result x ≡ refused_unless (asks_type kind x) }
 {
     match kind {
         Some(kind) => by_named(kind),
@@ -85,8 +85,7 @@ fn by_const(value: &Option<Doc>) -> ByKind
 
 /// Whether the keywords ask nothing but `type` of values of every kind.
 fn asks_nothing_of_all(conjunction: &Conjunction<'_>) -> bool
-    ensures { result ≡ true → (here : ℕ → Bool) (d : Document) (x : Opened ℕ)
-        → (asks_here here conjunction.now ≡ true) × (asks_any conjunction.now d x ≡ if_there (λ j. is_of_kind (kind_of j) x) conjunction.now.keywords.now.kind) }
+    ensures { result ≡ true → AsksTypeAlone conjunction.now }
 {
     let keywords = conjunction.keywords;
     keywords.equal.is_none()
@@ -107,7 +106,8 @@ fn asks_nothing_of_integers(keywords: &Keywords) -> bool
 }
 
 fn asks_nothing_of_lists(conjunction: &Conjunction<'_>) -> bool
-    ensures { result ≡ true → (inside : ℕ → ℕ → Bool) (ys : List ℕ) → asks_list inside conjunction.now ys ≡ true }
+    ensures { result ≡ true → (inside : ℕ → ℕ → Bool) (ys : List ℕ)
+        → asks_list inside conjunction.now ys ≡ true }
 {
     let keywords = conjunction.keywords;
     keywords.min_items.is_none() && keywords.prefix.is_empty() && keywords.rest.is_none()
@@ -121,7 +121,8 @@ fn requires_nothing(required: &Names<'_>) -> bool
 }
 
 fn asks_nothing_of_maps(conjunction: &Conjunction<'_>) -> bool
-    ensures { result ≡ true → (inside : ℕ → ℕ → Bool) (ms : List (Entry ℕ)) → asks_map inside conjunction.now ms ≡ true }
+    ensures { result ≡ true → (inside : ℕ → ℕ → Bool) (ms : List (Entry ℕ))
+        → asks_map inside conjunction.now ms ≡ true }
 {
     let keywords = conjunction.keywords;
     requires_nothing(&conjunction.required)
@@ -131,9 +132,8 @@ fn asks_nothing_of_maps(conjunction: &Conjunction<'_>) -> bool
 
 /// The kinds of which nothing but `type` is asked: their values are valid where `type` admits them.
 fn by_absence(conjunction: &Conjunction<'_>) -> ByKind
-    ensures { (x : Opened ℕ) (b : Bool) → verdict_of result x ≡ Some b → (b ≡ true) × ((here : ℕ → Bool) (inside : ℕ → ℕ → Bool) (d : Document)
-        → (asks_here here conjunction.now ≡ true) × (asks_kind inside conjunction.now x ≡ true)
-        × (asks_any conjunction.now d x ≡ if_there (λ j. is_of_kind (kind_of j) x) conjunction.now.keywords.now.kind)) }
+    ensures { (x : Opened ℕ) (b : Bool) → verdict_of result x ≡ Some b
+        → (b ≡ true) × IsLeftToType conjunction.now x }
 {
     if !asks_nothing_of_all(conjunction) {
         return ByKind::of(None);

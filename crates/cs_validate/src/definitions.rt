@@ -1,17 +1,17 @@
 // Numbers for definitions, each after those that it refers to directly.
-ghost use Rattle.std.specs.Prelude.{◌≡◌, map, All, IfOk, OnOk};
+ghost use Rattle.std.specs.Prelude.{◌≡◌, map, All, IsSome, IfOk, OnOk};
 ghost use Rattle.std.specs.List.{AllByRecursion};
 ghost use Rattle.std.specs.List.Sorted.{IsPermutation, IsNonDecreasingBy};
-ghost use Rattle.cs_document.specs.Document.{Document};
-ghost use Rattle.cs_profile.specs.Numbered.{by_text};
 ghost use Rattle.cs_profile.specs.SchemaDocument.{document_of};
-ghost use Rattle.cs_validate.specs.Ranked.{definitions_of, name_of, schema_of, definition, IsRanked, AreRanked, PlacesOne, ArePlacedBy};
+ghost use Rattle.cs_validate.specs.Placing.{place_in};
+ghost use Rattle.cs_validate.specs.Ranked.{definitions_of, name_of, definition, IsRanked, AreRanked, PlacesOne, ArePlacedBy};
 
-use crate::numbering::{Numbers, place};
+use crate::numbering::place;
+use crate::numbers::Numbers;
 use crate::rules::Rule;
 use cs_profile::{Schema, SchemaDoc};
+use cs_rules::Numberer;
 use std::alloc::{AllocError, Global};
-use std::collections::BTreeMap;
 
 /// A definition with its rank.
 #[derive(Drop)]
@@ -21,17 +21,17 @@ pub(crate) struct Ranked<'a> {
     schema: &'a Schema,
 }
 
-/// The numbers of the definitions, and the rules so far; `pending` waits for a number.
+/// The numbers of the definitions, and the rules so far.
 #[derive(Drop)]
 pub(crate) struct Placement<'a> {
-    pub(crate) numbers: Numbers,
-    pub(crate) rules: Vec<Rule<'a>>,
-    pub(crate) pending: Vec<&'a Schema>,
+    pub(crate) numbers: Numbers<'a>,
+    pub(crate) numberer: Numberer<'a, Schema, Rule<'a>>,
 }
 
 fn with_ranks<'a>(alloc: Global, document: &'a SchemaDoc) -> Result<Vec<Ranked<'a>>, AllocError>
     ensures same { IfOk result (λ v. map definition v.items ≡ definitions_of document.now) }
-    ensures ranks { IfOk result (λ v. AllByRecursion (IsRanked (document_of document.now)) v.items) }
+    ensures ranks { IfOk result (λ v.
+        AllByRecursion (IsRanked (document_of document.now)) v.items) }
 {
     document.whole_law(); // for the proof: what is defined stands in `$defs`
     let definitions = document.definitions();
@@ -50,7 +50,8 @@ pub(crate) fn by_rank<'a>(
     alloc: Global,
     document: &'a SchemaDoc,
 ) -> Result<Vec<Ranked<'a>>, AllocError>
-    ensures same { IfOk result (λ v. IsPermutation (definitions_of document.now) (map definition v.items)) }
+    ensures same { IfOk result (λ v.
+        IsPermutation (definitions_of document.now) (map definition v.items)) }
     ensures ranks { IfOk result (λ v. All (IsRanked (document_of document.now)) v.items) }
     ensures sorted { IfOk result (λ v. IsNonDecreasingBy (λ d. d.rank) v.items) }
 {
@@ -63,33 +64,37 @@ pub(crate) fn by_rank<'a>(
 fn place_definition<'a>(
     alloc: Global,
     definition: &Ranked<'a>,
-    numbers: &mut Numbers,
-    rules: &mut Vec<Rule<'a>>,
-    pending: &mut Vec<&'a Schema>,
+    placement: &mut Placement<'a>,
 ) -> Result<(), AllocError>
-    ensures { OnOk result (PlacesOne (name_of definition.now) (schema_of definition.now) (by_text numbers.old.entries) (by_text numbers.new.entries) rules.old.items rules.new.items pending.old.items pending.new.items) }
+    requires { IsSome (place_in placement.old.numbers (name_of definition.now)) }
+    ensures { OnOk result (PlacesOne definition.now placement.old placement.new) }
 {
-    let number = place(alloc, definition.schema, numbers, rules, pending)?;
-    drop(numbers.insert(definition.name.clone()?, number)?);
+    let schema = definition.schema;
+    let number = place(alloc, schema, &placement.numbers, &mut placement.numberer)?;
+    placement.numbers.set(definition.name.as_str(), number);
     Ok(())
 }
 
 /// Numbers definitions in this order.
 pub(crate) fn place_definitions<'a>(
     alloc: Global,
+    document: &'a SchemaDoc,
     ranked: &[Ranked<'a>],
 ) -> Result<Placement<'a>, AllocError>
-    ensures { IfOk result (λ p. (R : Document) → AreRanked R ranked.now → ArePlacedBy R ranked.now (by_text p.numbers.entries) p.rules.items p.pending.items) }
+    requires { AreRanked (document_of document.now) ranked.now }
+    ensures { IfOk result (ArePlacedBy (document_of document.now) ranked.now) }
 {
-    let mut numbers = BTreeMap::new(alloc);
-    let mut rules = Vec::new(alloc);
-    let mut pending = Vec::new(alloc);
+    document.whole_law(); // for the proof: what is defined stands in `$defs`
+    let numberer = Numberer {
+        rules: Vec::new(alloc),
+        pending: Vec::new(alloc),
+    };
+    let mut placement = Placement {
+        numbers: Numbers::new(alloc, document)?,
+        numberer,
+    };
     for definition in ranked {
-        place_definition(alloc, definition, &mut numbers, &mut rules, &mut pending)?;
+        place_definition(alloc, definition, &mut placement)?;
     }
-    Ok(Placement {
-        numbers,
-        rules,
-        pending,
-    })
+    Ok(placement)
 }

@@ -24,8 +24,10 @@ pub fn valid_judge<'a>(
     schema: &'a SchemaDoc,
     flat: &'a Flat<'a>,
 ) -> Result<(ValidJudge<'a>, usize), ValidateFault>
-    ensures found { IfOk result (λ t.
-        IsJudge (document_of schema.now) flat.now t.1 (⟦<ValidJudge<'a> as Judge>⟧.item_count t.0) (⟦<ValidJudge<'a> as Judge>⟧.rule_count t.0) (⟦<ValidJudge<'a> as Judge>⟧.answer t.0)) }
+    ensures found { IfOk result (λ t. IsJudge (document_of schema.now) flat.now t.1
+        (⟦<ValidJudge<'a> as Judge>⟧.item_count t.0)
+        (⟦<ValidJudge<'a> as Judge>⟧.rule_count t.0)
+        (⟦<ValidJudge<'a> as Judge>⟧.answer t.0)) }
     ensures memory { IsOkUnless result ValidateFault.OutOfMemory }
 {
     let (numbering, number) = numbering_of(alloc, schema)?;
@@ -59,8 +61,8 @@ pub fn valid_table(
 /// `TooManyPairs` exactly where the values of the document and the schemas make more than 67,108,864 pairs.
 pub fn is_valid(alloc: Global, schema: &SchemaDoc, doc: &Doc) -> Result<bool, ValidateFault>
     ensures one_meaning { OneMeaning (document_of schema.now) }
-    ensures answer { IfOk result (λ b. (V : Document → Document → Bool) → IsValidity (document_of schema.now) V
-        → b ≡ V (document_of schema.now) (doc_view doc.now)) }
+    ensures answer { IfOk result (λ b. (V : Document → Document → Bool)
+        → IsValidity (document_of schema.now) V → b ≡ V (document_of schema.now) (doc_view doc.now)) }
     ensures within { OnOk result (¬ HasManyPairs (document_of schema.now) (doc_view doc.now)) }
     ensures refused { IfErr result (λ e. IsRefusal e (document_of schema.now) (doc_view doc.now)) }
 {

@@ -8,6 +8,7 @@ mod inner;
 mod judge;
 mod judging;
 mod numbering;
+mod numbers;
 mod rooted;
 mod rules;
 mod steps;

@@ -1,46 +1,32 @@
 // Numbers for a schema and for what it asks of the same document. What it asks of documents inside waits, since that may
 // lead back to a definition that has no number yet.
-ghost use Rattle.std.specs.Prelude.{◌≡◌, ◌++◌, [], ◌∷◌, length, map, option_map, option_to_list, option_and_then, string_bytes, IfOk};
-ghost use Rattle.cs_document.specs.Document.{object, under};
+ghost use Rattle.std.specs.Prelude.{◌≡◌, map, option_map, option_to_list, option_and_then, string_bytes, IfOk};
 ghost use Rattle.cs_document.specs.View.{doc_view};
-ghost use Rattle.cs_profile.specs.Numbered.{by_text};
-ghost use Rattle.cs_profile.specs.SchemaDocument.{schema_view, schemas_view, slots_of, present};
-ghost use Rattle.cs_validate.specs.Placing.{Places, PlacesAll};
+ghost use Rattle.cs_profile.specs.SchemaDocument.{schema_view, schemas_view};
+ghost use Rattle.cs_validate.specs.Placing.{object_of, optional_view, number_in, Places, PlacesAll};
 
+use crate::numbers::Numbers;
 use crate::rules::{Conjunction, Rule};
 use crate::waiting::wait_inside;
 use cs_document::{Doc, DocSet};
 use cs_flat::Names;
 use cs_profile::{Keywords, Schema};
+use cs_rules::Numberer;
 use std::alloc::{AllocError, Global};
-use std::collections::BTreeMap;
-
-/// The numbers of the definitions that have some, by their names.
-pub(crate) type Numbers = BTreeMap<String, usize>;
-
-/// Pushes a rule, and answers its number.
-fn put<'a>(rules: &mut Vec<Rule<'a>>, rule: Rule<'a>) -> Result<usize, AllocError>
-    ensures { IfOk result (λ k. (k ≡ length rules.old.items) × (rules.new.items ≡ rules.old.items ++ rule.entry ∷ [])) }
-{
-    let number = rules.len();
-    rules.push(rule)?;
-    Ok(number)
-}
 
 /// Numbers a schema after what it asks of the same document.
 #[cycle(numbering)]
 pub(crate) fn place<'a>(
     alloc: Global,
     schema: &'a Schema,
-    numbers: &Numbers,
-    rules: &mut Vec<Rule<'a>>,
-    pending: &mut Vec<&'a Schema>,
+    numbers: &Numbers<'_>,
+    numberer: &mut Numberer<'a, Schema, Rule<'a>>,
 ) -> Result<usize, AllocError>
-    ensures { IfOk result (Places (by_text numbers.now.entries) rules.old.items rules.new.items pending.old.items pending.new.items (schema_view schema.now)) }
+    ensures { IfOk result (Places numbers.now numberer.old numberer.new (schema_view schema.now)) }
 {
     match schema {
-        Schema::Always(b) => put(rules, Rule::Truth(*b)),
-        Schema::Object(keywords) => place_object(alloc, keywords, numbers, rules, pending),
+        Schema::Always(b) => numberer.put(Rule::Truth(*b)),
+        Schema::Object(keywords) => place_object(alloc, keywords, numbers, numberer),
     }
 }
 
@@ -48,15 +34,14 @@ pub(crate) fn place<'a>(
 fn place_object<'a>(
     alloc: Global,
     keywords: &'a Keywords,
-    numbers: &Numbers,
-    rules: &mut Vec<Rule<'a>>,
-    pending: &mut Vec<&'a Schema>,
+    numbers: &Numbers<'_>,
+    numberer: &mut Numberer<'a, Schema, Rule<'a>>,
 ) -> Result<usize, AllocError>
-    ensures { IfOk result (Places (by_text numbers.now.entries) rules.old.items rules.new.items pending.old.items pending.new.items (object (present (slots_of keywords.now)))) }
+    ensures { IfOk result (Places numbers.now numberer.old numberer.new (object_of keywords.now)) }
 {
-    let all_of = place_all(alloc, &keywords.all_of, numbers, rules, pending)?;
-    let any_of = place_all(alloc, &keywords.any_of, numbers, rules, pending)?;
-    let negated = place_option(alloc, &keywords.negated, numbers, rules, pending)?;
+    let all_of = place_all(alloc, &keywords.all_of, numbers, numberer)?;
+    let any_of = place_all(alloc, &keywords.any_of, numbers, numberer)?;
+    let negated = place_option(alloc, &keywords.negated, numbers, numberer)?;
     let conjunction = Conjunction {
         keywords,
         required: Names::new(alloc, &keywords.required)?,
@@ -65,24 +50,24 @@ fn place_object<'a>(
         all_of,
         any_of,
         negated,
-        first: wait_inside(keywords, pending)?,
+        first: wait_inside(keywords, &mut numberer.pending)?,
     };
-    put(rules, Rule::Object(conjunction))
+    numberer.put(Rule::Object(conjunction))
 }
 
 #[cycle(numbering)]
 fn place_all<'a>(
     alloc: Global,
     schemas: &'a [Schema],
-    numbers: &Numbers,
-    rules: &mut Vec<Rule<'a>>,
-    pending: &mut Vec<&'a Schema>,
+    numbers: &Numbers<'_>,
+    numberer: &mut Numberer<'a, Schema, Rule<'a>>,
 ) -> Result<Vec<usize>, AllocError>
-    ensures { IfOk result (λ v. PlacesAll (by_text numbers.now.entries) rules.old.items rules.new.items pending.old.items pending.new.items (schemas_view schemas.now) v.items) }
+    ensures { IfOk result (λ v.
+        PlacesAll numbers.now numberer.old numberer.new (schemas_view schemas.now) v.items) }
 {
     let mut parts = Vec::with_capacity(alloc, schemas.len())?;
     for schema in schemas {
-        let part = place(alloc, schema, numbers, rules, pending)?;
+        let part = place(alloc, schema, numbers, numberer)?;
         parts.push(part)?;
     }
     Ok(parts)
@@ -93,24 +78,25 @@ fn place_all<'a>(
 fn place_option<'a>(
     alloc: Global,
     schema: &'a Option<Schema>,
-    numbers: &Numbers,
-    rules: &mut Vec<Rule<'a>>,
-    pending: &mut Vec<&'a Schema>,
+    numbers: &Numbers<'_>,
+    numberer: &mut Numberer<'a, Schema, Rule<'a>>,
 ) -> Result<Option<usize>, AllocError>
-    ensures { IfOk result (λ o. PlacesAll (by_text numbers.now.entries) rules.old.items rules.new.items pending.old.items pending.new.items (option_to_list (option_map schema_view schema.now)) (option_to_list o)) }
+    ensures { IfOk result (λ o.
+        PlacesAll numbers.now numberer.old numberer.new (optional_view schema.now)
+        (option_to_list o)) }
 {
     match schema {
-        Some(schema) => Ok(Some(place(alloc, schema, numbers, rules, pending)?)),
+        Some(schema) => Ok(Some(place(alloc, schema, numbers, numberer)?)),
         None => Ok(None),
     }
 }
 
 /// The number of the definition that `$ref` names, if it has one.
-fn number_of(reference: &Option<String>, numbers: &Numbers) -> Option<usize>
-    ensures { result ≡ option_and_then (λ s. under (string_bytes s) (by_text numbers.now.entries)) reference.now }
+fn number_of(reference: &Option<String>, numbers: &Numbers<'_>) -> Option<usize>
+    ensures { result ≡ option_and_then (λ s. number_in numbers.now (string_bytes s)) reference.now }
 {
     let name = reference.as_ref()?;
-    numbers.get(name.as_str()).copied()
+    numbers.get(name.as_str())
 }
 
 /// The values of `enum`, for look-ups.

@@ -16,17 +16,18 @@ pub(crate) fn numbering_of<'a>(
     alloc: Global,
     schema: &'a SchemaDoc,
 ) -> Result<(Numbering<Rule<'a>>, usize), AllocError>
-    ensures { IfOk result (λ t. IsRooted (document_of schema.now) t.0.rules.items t.0.children.items t.1) }
+    ensures { IfOk result (λ t.
+        IsRooted (document_of schema.now) t.0.rules.items t.0.children.items t.1) }
 {
     schema.whole_law(); // for the proof: a truth value has no definitions
     let ranked = by_rank(alloc, schema)?;
     let Placement {
         numbers,
-        mut rules,
-        mut pending,
-    } = place_definitions(alloc, &ranked)?;
-    place(alloc, schema.root(), &numbers, &mut rules, &mut pending)?;
-    let root = rules.len() - 1; // the root's own rule comes last
-    let children = place_waiting(alloc, &numbers, &mut rules, &mut pending)?;
+        mut numberer,
+    } = place_definitions(alloc, schema, &ranked)?;
+    place(alloc, schema.root(), &numbers, &mut numberer)?;
+    let root = numberer.rules.len() - 1; // the root's own rule comes last
+    let children = place_waiting(alloc, &numbers, &mut numberer)?;
+    let rules = numberer.rules;
     Ok((Numbering { rules, children }, root))
 }

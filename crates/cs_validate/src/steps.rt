@@ -1,20 +1,16 @@
 // What a rule gives for a value, where the verdicts on the rule's parts are known.
-ghost use Rattle.std.specs.Prelude.{◌≡◌, ◌<◌, ◌+◌, ◌^◌, ◌&&◌, ◌||◌, not, true, false, ℕ, List, Bool, map, drop, length, slice_index, option_to_list, IfSome};
-ghost use Rattle.std.specs.Option.{option_map_or};
-ghost use Rattle.std.specs.List.{list_all, list_any, AllByRecursion};
-ghost use Rattle.std.specs.Str.{bytes_eq};
-ghost use Rattle.cs_document.specs.Document.{Entry, under};
+ghost use Rattle.std.specs.Prelude.{◌≡◌, ◌<◌, ◌+◌, ◌^◌, ◌&&◌, not, map, drop, option_to_list, IfSome};
+ghost use Rattle.std.specs.List.{list_all};
 ghost use Rattle.cs_document.specs.Inside.{InsideBelow, AscendsInside, KeysAscend};
 ghost use Rattle.cs_document.specs.View.{doc_view};
 ghost use Rattle.cs_flat.specs.View.{item_view, entry_of};
 ghost use Rattle.cs_rules.specs.Knowns.{verdict_here, verdict_inside, value_count, rule_count, place_count};
-ghost use Rattle.cs_profile.specs.Numbered.{numbered, names_in};
-ghost use Rattle.cs_profile.specs.Validity as validity;
+ghost use Rattle.cs_profile.specs.Numbered.{names_in};
 ghost use Rattle.cs_profile.specs.Validity.{if_there};
 ghost use Rattle.cs_validate.specs.declared.rules.Rule.TheVariants as rule;
 ghost use Rattle.cs_validate.specs.Numbering.{PartsBelow};
 ghost use Rattle.cs_validate.specs.Steps.{step, asked_of, places_from, one_if};
-ghost use Rattle.cs_validate.specs.Asked.{asks_any, asks_here, asks_list, asks_map, asks_kind, AreBelowHere, AreBelowInside};
+ghost use Rattle.cs_validate.specs.Asked.{asks_any, asks_reference, asks_here, asks_front, asks_at, asks_named, asks_other, asks_others, asks_list, asks_map, asks_kind, places_named, AreBelow, EntriesBelow, ReferenceBelow, AreBelowHere, AreBelowInside};
 
 use crate::rules::{Conjunction, Rule};
 use crate::values::{any_holds, integer_holds, length_holds};
@@ -28,8 +24,8 @@ use std::collections::BTreeMap;
 
 /// Whether the definition that `$ref` names, if it is there, is defined and validates a value (Core, section 8.2.3.1).
 fn reference_holds(conjunction: &Conjunction<'_>, known: &Known<'_>) -> bool
-    requires parts { IfSome conjunction.now.keywords.now.reference (λ n. AllByRecursion (λ q. q < rule_count known.now) (option_to_list conjunction.now.reference)) }
-    ensures { result ≡ if_there (λ n. option_map_or (verdict_here known.now) conjunction.now.reference false) conjunction.now.keywords.now.reference }
+    requires parts { ReferenceBelow (rule_count known.now) conjunction.now }
+    ensures { result ≡ asks_reference (verdict_here known.now) conjunction.now }
 {
     match (&conjunction.keywords.reference, conjunction.reference) {
         (None, _) => true,
@@ -40,7 +36,7 @@ fn reference_holds(conjunction: &Conjunction<'_>, known: &Known<'_>) -> bool
 
 /// Whether the schema of `not`, if it is there, doesn't validate a value (Core, section 10.2.1.4).
 fn negation_holds(negated: Option<usize>, known: &Known<'_>) -> bool
-    requires parts { AllByRecursion (λ q. q < rule_count known.now) (option_to_list negated) }
+    requires parts { AreBelow (rule_count known.now) (option_to_list negated) }
     ensures { result ≡ if_there (λ r. not (verdict_here known.now r)) negated }
 {
     match negated {
@@ -53,9 +49,10 @@ fn negation_holds(negated: Option<usize>, known: &Known<'_>) -> bool
 
 /// Whether each element with a schema at its place, from a place on, is valid by it (Core, section 10.3.1.1).
 fn front_holds(prefix: &[Schema], first: usize, children: &[usize], known: &Known<'_>) -> bool
-    requires children { AllByRecursion (λ y. y < value_count known.now) children.now }
-    requires parts { AllByRecursion (λ p. p < place_count known.now) (places_from first prefix.now) }
-    ensures { result ≡ validity.front_holds (λ (h : ℕ). true) (verdict_inside known.now) (places_from first prefix.now) children.now }
+    requires children { AreBelow (value_count known.now) children.now }
+    requires parts { AreBelow (place_count known.now) (places_from first prefix.now) }
+    ensures { result ≡ asks_front (verdict_inside known.now) (places_from first prefix.now)
+        children.now }
 {
     let mut rest = children;
     let mut place = first;
@@ -74,7 +71,7 @@ fn front_holds(prefix: &[Schema], first: usize, children: &[usize], known: &Know
 
 /// Whether each element behind so many is valid by the schema at a place (Core, section 10.3.1.2).
 fn rest_holds(front: usize, part: usize, children: &[usize], known: &Known<'_>) -> bool
-    requires children { AllByRecursion (λ y. y < value_count known.now) children.now }
+    requires children { AreBelow (value_count known.now) children.now }
     requires part { part < place_count known.now }
     ensures { result ≡ list_all (λ y. verdict_inside known.now y part) (drop front children.now) }
 {
@@ -87,9 +84,10 @@ fn rest_holds(front: usize, part: usize, children: &[usize], known: &Known<'_>) 
 /// Whether the value under a key, if it is there, is valid by the schema at a place.
 fn property_holds(name: &str, place: usize, members: &[(&str, usize)], known: &Known<'_>) -> bool
     requires ascends { KeysAscend (map entry_of members.now) }
-    requires members { AllByRecursion (λ (m : Entry ℕ). m.1 < value_count known.now) (map entry_of members.now) }
+    requires members { EntriesBelow (value_count known.now) (map entry_of members.now) }
     requires place { place < place_count known.now }
-    ensures { result ≡ if_there (λ y. verdict_inside known.now y place) (under name.now (map entry_of members.now)) }
+    ensures { result ≡ asks_at (verdict_inside known.now) (map entry_of members.now)
+        name.now place }
 {
     match number_under(members, name) {
         Some(child) => known.inside(child, place),
@@ -105,9 +103,11 @@ fn properties_hold(
     known: &Known<'_>,
 ) -> bool
     requires ascends { KeysAscend (map entry_of members.now) }
-    requires members { AllByRecursion (λ (m : Entry ℕ). m.1 < value_count known.now) (map entry_of members.now) }
-    requires parts { AllByRecursion (λ (p : Entry ℕ). p.1 < place_count known.now) (numbered first (names_in properties.now.entries)) }
-    ensures { result ≡ list_all (λ (p : Entry ℕ). if_there (λ y. verdict_inside known.now y p.1) (under p.0 (map entry_of members.now))) (numbered first (names_in properties.now.entries)) }
+    requires members { EntriesBelow (value_count known.now) (map entry_of members.now) }
+    requires parts { EntriesBelow (place_count known.now)
+        (places_named first properties.now.entries) }
+    ensures { result ≡ asks_named (verdict_inside known.now) (map entry_of members.now)
+        (places_named first properties.now.entries) }
 {
     let mut place = first;
     for name in properties.keys() {
@@ -129,7 +129,8 @@ fn other_holds(
 ) -> bool
     requires child { child < value_count known.now }
     requires part { part < place_count known.now }
-    ensures { result ≡ (list_any (bytes_eq key.now) (names_in properties.now.entries) || verdict_inside known.now child part) }
+    ensures { result ≡ asks_other (verdict_inside known.now) (names_in properties.now.entries)
+        part key.now child }
 {
     properties.contains_key(key) || known.inside(child, part)
 }
@@ -142,9 +143,10 @@ fn others_hold(
     members: &[(&str, usize)],
     known: &Known<'_>,
 ) -> bool
-    requires members { AllByRecursion (λ (m : Entry ℕ). m.1 < value_count known.now) (map entry_of members.now) }
+    requires members { EntriesBelow (value_count known.now) (map entry_of members.now) }
     requires part { part < place_count known.now }
-    ensures { result ≡ list_all (λ (m : Entry ℕ). list_any (bytes_eq m.0) (names_in properties.now.entries) || verdict_inside known.now m.1 part) (map entry_of members.now) }
+    ensures { result ≡ asks_others (verdict_inside known.now) (names_in properties.now.entries)
+        part (map entry_of members.now) }
 {
     for (key, child) in members {
         if !other_holds(properties, key, *child, part, known) {
@@ -170,7 +172,7 @@ fn behind(place: usize, schema: &Option<Schema>) -> usize
 /// What keywords ask of a list (Validation, section 6.4; Core, section 10.3.1).
 fn list_holds(conjunction: &Conjunction<'_>, children: &[usize], known: &Known<'_>) -> bool
     requires parts { AreBelowInside (place_count known.now) conjunction.now }
-    requires children { AllByRecursion (λ y. y < value_count known.now) children.now }
+    requires children { AreBelow (value_count known.now) children.now }
     ensures { result ≡ asks_list (verdict_inside known.now) conjunction.now children.now }
 {
     let keywords = conjunction.keywords;
@@ -185,8 +187,9 @@ fn list_holds(conjunction: &Conjunction<'_>, children: &[usize], known: &Known<'
 fn map_holds(conjunction: &Conjunction<'_>, members: &[(&str, usize)], known: &Known<'_>) -> bool
     requires parts { AreBelowInside (place_count known.now) conjunction.now }
     requires ascends { KeysAscend (map entry_of members.now) }
-    requires members { AllByRecursion (λ (m : Entry ℕ). m.1 < value_count known.now) (map entry_of members.now) }
-    ensures { result ≡ asks_map (verdict_inside known.now) conjunction.now (map entry_of members.now) }
+    requires members { EntriesBelow (value_count known.now) (map entry_of members.now) }
+    ensures { result ≡ asks_map (verdict_inside known.now) conjunction.now
+        (map entry_of members.now) }
 {
     let keywords = conjunction.keywords;
     let items = behind(conjunction.first, &keywords.additional);
@@ -235,7 +238,8 @@ fn object_holds(
     requires inside { AreBelowInside (place_count known.now) conjunction.now }
     requires ascends { AscendsInside (item_view value.now) }
     requires children { InsideBelow (value_count known.now) (item_view value.now) }
-    ensures { result ≡ (asks_any conjunction.now (doc_view doc.now) (item_view value.now) && (asks_here (verdict_here known.now) conjunction.now
+    ensures { result ≡ (asks_any conjunction.now (doc_view doc.now) (item_view value.now)
+        && (asks_here (verdict_here known.now) conjunction.now
         && asks_kind (verdict_inside known.now) conjunction.now (item_view value.now))) }
 {
     any_holds(conjunction, value, doc)
@@ -248,7 +252,8 @@ pub(crate) fn holds(rule: &Rule<'_>, value: &Item<'_>, doc: &Doc, known: &Known<
     requires parts { PartsBelow (rule_count known.now) (place_count known.now) (asked_of rule.now) }
     requires ascends { AscendsInside (item_view value.now) }
     requires children { InsideBelow (value_count known.now) (item_view value.now) }
-    ensures { result ≡ step rule.now (verdict_here known.now) (verdict_inside known.now) (doc_view doc.now) (item_view value.now) }
+    ensures { result ≡ step rule.now (verdict_here known.now) (verdict_inside known.now)
+        (doc_view doc.now) (item_view value.now) }
 {
     match rule {
         Rule::Truth(verdict) => *verdict,

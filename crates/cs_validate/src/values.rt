@@ -1,14 +1,12 @@
 // What keywords without schemas ask of a value.
 ghost use Rattle.std.specs.Prelude.{◌≡◌, nat_le};
-ghost use Rattle.std.specs.List.{list_any};
-ghost use Rattle.cs_document.specs.Document.{document_eq};
 ghost use Rattle.cs_document.specs.View.{doc_view};
 ghost use Rattle.cs_flat.specs.View.{item_view};
 ghost use Rattle.cs_profile.specs.Validity as validity;
 ghost use Rattle.cs_profile.specs.Validity.{if_there};
 ghost use Rattle.cs_validate.specs.Steps.{kind_of};
 ghost use Rattle.cs_validate.specs.Asked as asked;
-ghost use Rattle.cs_validate.specs.Asked.{asks_any, asks_integer, if_count};
+ghost use Rattle.cs_validate.specs.Asked.{asks_type, asks_const, asks_enum, asks_any, asks_integer, if_count};
 
 use crate::rules::Conjunction;
 use cs_document::{Doc, DocSet};
@@ -31,7 +29,7 @@ fn is_of_kind(kind: JsonKind, value: &Item<'_>) -> bool
 
 /// Whether a value has the kind that `type` names, if it is there.
 fn has_kind(kind: Option<JsonKind>, value: &Item<'_>) -> bool
-    ensures { result ≡ if_there (λ j. validity.is_of_kind (kind_of j) (item_view value.now)) kind }
+    ensures { result ≡ asks_type kind (item_view value.now) }
 {
     match kind {
         Some(kind) => is_of_kind(kind, value),
@@ -41,7 +39,7 @@ fn has_kind(kind: Option<JsonKind>, value: &Item<'_>) -> bool
 
 /// Whether a value equals that of `const`, if it is there (Validation, section 6.1.3).
 fn is_equal(value: &Option<Doc>, doc: &Doc) -> bool
-    ensures { result ≡ if_there (λ v. document_eq (doc_view v) (doc_view doc.now)) value.now }
+    ensures { result ≡ asks_const value.now (doc_view doc.now) }
 {
     match value {
         Some(value) => value == doc,
@@ -51,7 +49,7 @@ fn is_equal(value: &Option<Doc>, doc: &Doc) -> bool
 
 /// Whether a value is one of those of `enum`, if it is there (Validation, section 6.1.2).
 fn is_listed(values: &Option<DocSet<'_>>, doc: &Doc) -> bool
-    ensures { result ≡ if_there (λ vs. list_any (λ v. document_eq v (doc_view doc.now)) vs) values.now }
+    ensures { result ≡ asks_enum values.now (doc_view doc.now) }
 {
     match values {
         Some(values) => values.contains(doc),

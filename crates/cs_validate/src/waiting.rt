@@ -1,7 +1,7 @@
 // Schemas that wait for their numbers: those that are asked of documents inside. Each has a place of its own.
-ghost use Rattle.std.specs.Prelude.{◌≡◌, ◌++◌, length, map, option_map, option_to_list, IfOk, OnOk};
-ghost use Rattle.cs_profile.specs.SchemaDocument.{schema_view, schemas_view, slots_of, present};
-ghost use Rattle.cs_validate.specs.Placing.{waiting, inside_members};
+ghost use Rattle.std.specs.Prelude.{◌≡◌, length, IfOk, OnOk};
+ghost use Rattle.cs_profile.specs.SchemaDocument.{schemas_view};
+ghost use Rattle.cs_validate.specs.Placing.{Waits, asked_inside, optional_view, values_view};
 
 use cs_profile::{Keywords, Schema};
 use std::alloc::{AllocError, Global};
@@ -14,7 +14,7 @@ pub(crate) fn wait_inside<'a>(
     pending: &mut Vec<&'a Schema>,
 ) -> Result<usize, AllocError>
     ensures first { IfOk result (λ first. first ≡ length pending.old.items) }
-    ensures waits { OnOk result (waiting pending.new.items ≡ waiting pending.old.items ++ inside_members (present (slots_of keywords.now))) }
+    ensures waits { OnOk result (Waits pending.old pending.new (asked_inside keywords.now)) }
 {
     let first = pending.len();
     wait_option(&keywords.additional, pending)?;
@@ -29,7 +29,7 @@ fn wait_option<'a>(
     schema: &'a Option<Schema>,
     pending: &mut Vec<&'a Schema>,
 ) -> Result<(), AllocError>
-    ensures { OnOk result (waiting pending.new.items ≡ waiting pending.old.items ++ option_to_list (option_map schema_view schema.now)) }
+    ensures { OnOk result (Waits pending.old pending.new (optional_view schema.now)) }
 {
     if let Some(schema) = schema {
         pending.push(schema)?;
@@ -38,7 +38,7 @@ fn wait_option<'a>(
 }
 
 fn wait_all<'a>(schemas: &'a [Schema], pending: &mut Vec<&'a Schema>) -> Result<(), AllocError>
-    ensures { OnOk result (waiting pending.new.items ≡ waiting pending.old.items ++ schemas_view schemas.now) }
+    ensures { OnOk result (Waits pending.old pending.new (schemas_view schemas.now)) }
 {
     for schema in schemas {
         pending.push(schema)?;
@@ -51,7 +51,7 @@ fn wait_values<'a>(
     schemas: &'a BTreeMap<String, Schema>,
     pending: &mut Vec<&'a Schema>,
 ) -> Result<(), AllocError>
-    ensures { OnOk result (waiting pending.new.items ≡ waiting pending.old.items ++ map (λ e. schema_view e.1) schemas.now.entries) }
+    ensures { OnOk result (Waits pending.old pending.new (values_view schemas.now.entries)) }
 {
     for schema in schemas.values() {
         pending.push(schema)?;
