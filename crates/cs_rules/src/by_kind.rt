@@ -1,4 +1,8 @@
 // Verdicts that a value's kind alone decides.
+ghost use Rattle.std.specs.Prelude.{◌≡◌, ◌<◌};
+ghost use Rattle.cs_flat.specs.View.{item_view};
+ghost use Rattle.cs_rules.specs.Kinds.{kind_place};
+
 use cs_flat::Item;
 
 /// For each kind of values the verdict of a rule on all of them, where it is one; none where the rule has to look at the
@@ -17,8 +21,7 @@ impl ByKind {
     ghost use Rattle.std.specs.Prelude.{◌≡◌, ℕ};
     ghost use Rattle.std.specs.Option.{option_or};
     ghost use Rattle.cs_document.specs.Opened.{Opened};
-    ghost use Rattle.cs_flat.specs.View.{item_view};
-    ghost use Rattle.cs_rules.specs.Kinds.{verdict_of};
+    ghost use Rattle.cs_rules.specs.Kinds.{verdict_of, row_of};
 
     /// The same verdict, or none, for every kind.
     pub fn of(verdict: Option<bool>) -> ByKind
@@ -48,18 +51,33 @@ impl ByKind {
         }
     }
 
-    /// The verdict on a value, if its kind decides it.
-    #[inline]
-    pub fn verdict(&self, value: &Item<'_>) -> Option<bool>
-        ensures { result ≡ verdict_of self.now (item_view value.now) }
+    /// The verdicts in a row, each at the place of its kind.
+    pub(crate) fn row(&self) -> [Option<bool>; 6]
+        ensures { result ≡ row_of self.now }
     {
-        match value {
-            Item::Null => self.null,
-            Item::Bool(_) => self.boolean,
-            Item::Int(_) => self.integer,
-            Item::Text(_) => self.text,
-            Item::List(_) => self.list,
-            Item::Object(_) => self.object,
-        }
+        [
+            self.null,
+            self.boolean,
+            self.integer,
+            self.text,
+            self.list,
+            self.object,
+        ]
+    }
+}
+
+/// The place of a value's kind in a row of verdicts.
+#[inline]
+pub(crate) fn place_of(value: &Item<'_>) -> usize
+    ensures place { result ≡ kind_place (item_view value.now) }
+    ensures below { result < 6 }
+{
+    match value {
+        Item::Null => 0,
+        Item::Bool(_) => 1,
+        Item::Int(_) => 2,
+        Item::Text(_) => 3,
+        Item::List(_) => 4,
+        Item::Object(_) => 5,
     }
 }

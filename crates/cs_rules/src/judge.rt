@@ -4,7 +4,8 @@ ghost use Rattle.cs_rules.specs.Steps.{ArePlaced, AreLower};
 ghost use Rattle.cs_rules.specs.Props.{inside_prop};
 ghost use Rattle.cs_rules.specs.Kinds.{AreForetold, foretold_prop};
 
-use crate::{Asks, ByKind, Known};
+use crate::by_kind::place_of;
+use crate::{Asks, Known};
 use cs_flat::Flat;
 use cs_table::{Judge, Verdicts};
 use std::alloc::{AllocError, Global};
@@ -24,8 +25,9 @@ pub struct Numbering<R: Asks> {
 pub struct RuleJudge<'a, R: Asks> {
     pub numbering: Numbering<R>,
     pub flat: &'a Flat<'a>,
-    kinds: Vec<ByKind>,
-    ghost foretold: { AreForetold R.step numbering.rules.items kinds.items } by { foretold_prop R.step numbering.rules.items kinds.items },
+    /// For each rule its verdicts by kind.
+    rows: Vec<[Option<bool>; 6]>,
+    ghost foretold: { AreForetold R.step numbering.rules.items rows.items } by { foretold_prop R.step numbering.rules.items rows.items },
     pub ghost lower: { AreLower (items flat.now) } by { Prim.hlevel inside_prop },
 }
 
@@ -54,7 +56,7 @@ impl<'a, R: Asks> Judge for RuleJudge<'a, R> {
 
     fn judge(&self, item: usize, rule: usize, done: &Verdicts) -> bool {
         let value = self.flat.item(item);
-        if let Some(verdict) = self.kinds[rule].verdict(value) {
+        if let Some(verdict) = self.rows[rule][place_of(value)] {
             return verdict;
         }
         let known = Known {
@@ -79,14 +81,14 @@ impl<'a, R: Asks> RuleJudge<'a, R> {
         ensures flat { IfOk result (λ j. j.flat.now ≡ flat.now) }
     {
         let _count = flat.len(); // for the proof: the numbers of each item are lower
-        let mut kinds = Vec::with_capacity(alloc, numbering.rules.len())?;
+        let mut rows = Vec::with_capacity(alloc, numbering.rules.len())?;
         for rule in &numbering.rules {
-            kinds.push(rule.by_kind())?;
+            rows.push(rule.by_kind().row())?;
         }
         Ok(RuleJudge {
             numbering,
             flat,
-            kinds,
+            rows,
         })
     }
 }

@@ -2,24 +2,25 @@ use Rattle.std.proofs.Common.{◌≡◌, ◌<◌, ◌≤◌, [], ◌∷◌, ◌+
 use Rattle.std.proofs.lemmas.List.{append_assoc, append-nil}
 use Rattle.cs_document.proofs.Maps.{drop_at, drop_past}
 use Rattle.cs_flat.specs.Items.{items}
-use Rattle.cs_rules.specs.Kinds.{AreForetold}
-use Rattle.cs_rules.specs.declared.by_kind.ByKind.{ByKind}
+use Rattle.cs_rules.specs.Kinds.{verdict_in, AreOfStep, AreForetold}
+use Rattle.cs_rules.proofs.Foretold.{row_foretells}
 use Rattle.cs_rules.proofs.judge.RuleJudge.over.Goals as goal
 
 pub loop-rule-init : goal.loop-rule-init
-loop-rule-init g c = λ ks h. subst (λ xs. AreForetold g.R.Asks.step c.args.numbering.rules.items (xs ++ ks)) (sym c.in_ok-kinds.ensures.items) h
+loop-rule-init g c = λ ws h. subst (λ xs. AreForetold g.R.Asks.step c.args.numbering.rules.items (xs ++ ws)) (sym c.in_ok-rows.ensures.items) h
 
 pub loop-rule-preserved : goal.loop-rule-preserved
-loop-rule-preserved g c = λ ks h.
+loop-rule-preserved g c = λ ws h.
     let step = g.R.Asks.step in
     let l = c.loop-rule in
     let rules = c.args.numbering.rules.items in
     let x = c.rule-item.result in
-    let k = c.by_kind.result in
+    let w = c.row.result in
     let within : l.rule-index < length rules = omega (arith, c.loop-rule-test.true, ap length c.deref-rule-items.ensures.value) in
     let next = drop_at rules l.rule-index x within (c.rule-item.is ∙ ap (λ xs. get_or xs l.rule-index x) c.deref-rule-items.ensures.value) in
-    let one = subst (λ xs. AreForetold step xs (k ∷ ks)) (sym next) (c.by_kind.ensures, h) in
-    subst (AreForetold step rules) (sym (append_assoc l.kinds.items (k ∷ []) ks) ∙ ap (λ xs. xs ++ ks) (sym c.in_ok-push.ensures.items)) (l.invariant (k ∷ ks) one)
+    let told = subst (λ u. AreOfStep (step x) (verdict_in u)) (sym c.row.ensures) (row_foretells (step x) c.by_kind.result c.by_kind.ensures) in
+    let one = subst (λ xs. AreForetold step xs (w ∷ ws)) (sym next) (told, h) in
+    subst (AreForetold step rules) (sym (append_assoc l.rows.items (w ∷ []) ws) ∙ ap (λ xs. xs ++ ws) (sym c.in_ok-push.ensures.items)) (l.invariant (w ∷ ws) one)
 
 pub invariant_of-result : goal.invariant_of-result
 invariant_of-result g c = record {
@@ -28,6 +29,6 @@ invariant_of-result g c = record {
       let rules = c.args.numbering.rules.items in
       let l = c.loop-rule in
       let past = drop_past rules l.rule-index (let f = c.loop-rule-test.false in omega (arith, f, ap length c.deref-rule-items.ensures.value)) in
-      subst (AreForetold step rules) (append-nil l.kinds.items) (l.invariant [] (subst (λ xs. AreForetold step xs []) (sym past) tt));
+      subst (AreForetold step rules) (append-nil l.rows.items) (l.invariant [] (subst (λ xs. AreForetold step xs []) (sym past) tt));
   lower = c.len-count.ensures.items.lower;
 }

@@ -1,4 +1,4 @@
-use Rattle.std.proofs.Common.{◌<◌, ◌≤◌, length, slice_index, sym, refl, ◌∙◌, ap, subst, arith}
+use Rattle.std.proofs.Common.{◌<◌, ◌≤◌, None, length, slice_index, get_or, sym, refl, ◌∙◌, ap, subst, arith}
 use Rattle.std.proofs.Math.Logic.{∥∥₁_elim}
 use Rattle.std.specs.List.{AllByRecursion as Each}
 use Rattle.std.proofs.lemmas.Option.{slice_get_read}
@@ -17,7 +17,7 @@ use Rattle.cs_rules.proofs.judge.RuleJudgeJudge.judge.Goals as goal
 pub index-requires : goal.index-requires
 index-requires g c =
     let s = c.args.self.now in
-    let count = foretold_count g.R.Asks.step s.numbering.rules.items s.kinds.items s.foretold in
+    let count = foretold_count g.R.Asks.step s.numbering.rules.items s.rows.items s.foretold in
     omega (arith, c.requires.rule, count)
 
 -- the value's kind decides the verdict
@@ -26,17 +26,17 @@ returns-in-Some g c =
     let s = c.args.self.now in
     let step = g.R.Asks.step in
     let rules = s.numbering.rules.items in
-    let kinds = s.kinds.items in
-    let count = foretold_count step rules kinds s.foretold in
-    let k = c.index.result.now in
-    let below : c.args.rule < length kinds = omega (arith, c.requires.rule, count) in
-    let found = slice_get_read kinds (length kinds) c.args.rule k refl below c.index.ensures in
+    let rows = s.rows.items in
+    let count = foretold_count step rules rows s.foretold in
+    let w = c.index.result.now in
+    let below : c.args.rule < length rows = omega (arith, c.requires.rule, count) in
+    let found = slice_get_read rows (length rows) c.args.rule w refl below c.index.ensures in
     let x = item_view c.item-value.result.now in
     let f = verdicts c.args.done.now in
     let ns = nodes s.flat.now in
-    let rule = foretold_at step rules kinds c.args.rule k s.foretold found in
+    let rule = foretold_at step rules rows c.args.rule w s.foretold found in
     sym (answer_is step rules s.numbering.children.items ns (items s.flat.now) c.args.item c.args.rule f rule.0 x rule.1 c.item-value.ensures.found
-    ∙ rule.2 (node_at ns c.args.item) x (node_at ns, (are_items s.flat.now).node c.args.item x c.item-value.ensures.found) c.in-Some.verdict (sym c.verdict.ensures ∙ c.in-Some.is)
+    ∙ rule.2 (node_at ns c.args.item) x (node_at ns, (are_items s.flat.now).node c.args.item x c.item-value.ensures.found) c.in-Some.verdict (ap (λ p. get_or w p None) (sym c.place_of.ensures.place) ∙ c.in-Some.is)
     (f c.args.item) (λ y p. f y (slice_index s.numbering.children.items p)))
 
 pub invariant_of-known : goal.invariant_of-known
