@@ -73,12 +73,12 @@ module _ (inside : ℕ → ℕ → Bool) where
   abbrev pub asks_named : List (Entry ℕ) → List (Entry ℕ) → Bool
   asks_named ms places = list_all (λ (p : Entry ℕ). asks_at ms p.0 p.1) places
 
-  -- by `additionalProperties`: the value of a key that is no declared name
-  abbrev pub asks_other : List (List ℕ) → ℕ → List ℕ → ℕ → Bool
-  asks_other names place k y = list_any (bytes_eq k) names || inside y place
+  -- by `additionalProperties`: a member whose key is no declared name
+  abbrev pub asks_other : List (List ℕ) → ℕ → Entry ℕ → Bool
+  asks_other names place m = list_any (bytes_eq m.0) names || inside m.1 place
 
   abbrev pub asks_others : List (List ℕ) → ℕ → List (Entry ℕ) → Bool
-  asks_others names place ms = list_all (λ (m : Entry ℕ). asks_other names place m.0 m.1) ms
+  asks_others names place ms = list_all (asks_other names place) ms
 
 module _ (inside : ℕ → ℕ → Bool) (c : Conjunction) where
   -- of a list (Validation, section 6.4; Core, section 10.3.1)

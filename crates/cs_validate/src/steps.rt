@@ -119,20 +119,20 @@ fn properties_hold(
     true
 }
 
-/// Whether a key is a declared name, or its value is valid by the schema at a place.
+/// Whether a member's key is a declared name, or its value is valid by the schema at a place.
 fn other_holds(
     properties: &BTreeMap<String, Schema>,
-    key: &str,
-    child: usize,
+    member: &(&str, usize),
     part: usize,
     known: &Known<'_>,
 ) -> bool
-    requires child { child < value_count known.now }
+    requires child { (entry_of member.now).1 < value_count known.now }
     requires part { part < place_count known.now }
     ensures { result ≡ asks_other (verdict_inside known.now) (names_in properties.now.entries)
-        part key.now child }
+        part (entry_of member.now) }
 {
-    properties.contains_key(key) || known.inside(child, part)
+    let (key, child) = member;
+    properties.contains_key(*key) || known.inside(*child, part)
 }
 
 /// Whether each value whose key is no declared name is valid by the schema at a place (Core, section
@@ -148,8 +148,8 @@ fn others_hold(
     ensures { result ≡ asks_others (verdict_inside known.now) (names_in properties.now.entries)
         part (map entry_of members.now) }
 {
-    for (key, child) in members {
-        if !other_holds(properties, key, *child, part, known) {
+    for member in members {
+        if !other_holds(properties, member, part, known) {
             return false;
         }
     }

@@ -1,15 +1,14 @@
-use Rattle.std.proofs.Common.{◌≡◌, ◌<◌, ◌||◌, ℕ, map, drop}
-use Rattle.std.specs.List.{list_all, list_any, AllByRecursion as Each}
-use Rattle.std.specs.Str.{bytes_eq}
-use Rattle.cs_document.specs.Document.{Entry}
+use Rattle.std.proofs.Common.{◌≡◌, map, drop}
+use Rattle.std.specs.List.{list_all}
 use Rattle.cs_flat.specs.View.{entry_of}
 use Rattle.cs_rules.specs.Knowns.{verdict_inside, value_count}
 use Rattle.cs_profile.specs.Numbered.{names_in}
+use Rattle.cs_validate.specs.Asked.{asks_other, EntriesBelow}
 use Rattle.cs_validate.proofs.steps.others_hold.Given as goal
 
-abbrev pub invariant-loop-key : goal.invariant-loop-key
-invariant-loop-key l =
-    let holds = λ (m : Entry ℕ). list_any (bytes_eq m.0) (names_in l.properties.entries) || verdict_inside l.known m.1 l.part in record {
-      same : list_all holds (map entry_of l.members) ≡ list_all holds (map entry_of (drop l.key-index l.members));
-      below : Each (λ (m : Entry ℕ). m.1 < value_count l.known) (map entry_of (drop l.key-index l.members));
+abbrev pub invariant-loop-member : goal.invariant-loop-member
+invariant-loop-member l =
+    let holds = asks_other (verdict_inside l.known) (names_in l.properties.entries) l.part in record {
+      same : list_all holds (map entry_of l.members) ≡ list_all holds (map entry_of (drop l.member-index l.members));
+      below : EntriesBelow (value_count l.known) (map entry_of (drop l.member-index l.members));
     }
