@@ -1,26 +1,22 @@
 // Numbers for definitions, each after those that its bodies refer to directly.
-ghost use Rattle.std.specs.Prelude.{◌≡◌, ◌<◌, ◌++◌, ℕ, List, map, length, All, IfOk, OnOk};
+ghost use Rattle.std.specs.Prelude.{◌≡◌, ◌<◌, ◌++◌, ℕ, List, [], ◌∷◌, map, length, All, IfOk, OnOk};
 ghost use Rattle.std.specs.List.{AllByRecursion};
 ghost use Rattle.std.specs.List.Sorted.{IsPermutation, IsNonDecreasingBy};
-ghost use Rattle.cs_package.specs.Environment.{declared_names};
-ghost use Rattle.cs_guard.specs.References.{direct_all};
 ghost use Rattle.cs_guard.specs.Numbered.{name_of};
-ghost use Rattle.cs_instance.specs.Instance as meaning;
-ghost use Rattle.cs_instance.specs.Placing.{waiting, AreNumbered, IsKnown, PlacesOne, bodies_of, left_with};
-ghost use Rattle.cs_instance.specs.Ranked.{IsRank, AreRanked, ArePlacedBy, names_in};
+ghost use Rattle.cs_instance.specs.Ranked.{IsRank, AreRanked, RefersBack, ArePlacedBy, names_in};
 
-use crate::numbering::{place_all, put};
+use crate::numbering::place_all;
 use crate::rules::Rule;
 use cs_guard::Guarded;
 use cs_package::Shape;
+use cs_rules::Numberer;
 use std::alloc::{AllocError, Global};
 
-/// The numbers of the definitions that have some, and the rules so far; `pending` waits for a number.
+/// The numbers of the definitions that have some, and the rules so far with what waits for a number.
 #[derive(Drop)]
 pub(crate) struct Placement<'a> {
     pub(crate) numbers: Vec<usize>,
-    pub(crate) rules: Vec<Rule<'a>>,
-    pub(crate) pending: Vec<&'a Shape>,
+    pub(crate) numberer: Numberer<'a, Shape, Rule<'a>>,
 }
 
 fn with_ranks(
@@ -61,26 +57,21 @@ fn place_definition<'a>(
     alloc: Global,
     package: &'a Guarded,
     i: usize,
-    numbers: &mut Vec<usize>,
-    rules: &mut Vec<Rule<'a>>,
-    pending: &mut Vec<&'a Shape>,
+    placement: &mut Placement<'a>,
 ) -> Result<(), AllocError>
     requires inside { i < length «package».now }
-    requires numbers { length numbers.old.items ≡ length «package».now }
-    ensures long { OnOk result (length numbers.new.items ≡ length «package».now) }
-    ensures waits { OnOk result (waiting (declared_names «package».now) pending.new.items
-        ≡ waiting (declared_names «package».now) pending.old.items ++ left_with «package».now (name_of «package».now i)) }
-    ensures placed { OnOk result ((placed : List meaning.Rule)
-        → AreNumbered «package».now placed (waiting (declared_names «package».now) pending.old.items) rules.old.items
-        → AllByRecursion (IsKnown (declared_names «package».now) numbers.old.items placed) (direct_all (bodies_of «package».now (name_of «package».now i)))
-        → PlacesOne «package».now (declared_names «package».now) (name_of «package».now i) i numbers.old.items numbers.new.items placed rules.new.items pending.new.items) }
+    requires numbers { length placement.old.numbers.items ≡ length «package».now }
+    ensures { OnOk result ((ns : List (List ℕ)) → ArePlacedBy «package».now ns placement.old
+        → RefersBack «package».now ns (name_of «package».now i)
+        → ArePlacedBy «package».now (ns ++ name_of «package».now i ∷ []) placement.new) }
 {
     let package = package.package();
     let _count = package.count(); // for the proof: names are distinct
     let _name = package.bare_name(i); // for the proof: it isn't empty
-    let parts = place_all(alloc, package.bodies(i), numbers, rules, pending)?;
-    let number = put(rules, Rule::All(parts))?;
-    numbers[i] = number;
+    let bodies = package.bodies(i);
+    let parts = place_all(alloc, bodies, &placement.numbers, &mut placement.numberer)?;
+    let number = placement.numberer.put(Rule::All(parts))?;
+    placement.numbers[i] = number;
     Ok(())
 }
 
@@ -91,18 +82,18 @@ pub(crate) fn place_definitions<'a>(
     ranked: &[(usize, usize)],
 ) -> Result<Placement<'a>, AllocError>
     requires { AreRanked «package».now ranked.now }
-    ensures { IfOk result (λ p. ArePlacedBy «package».now (names_in «package».now ranked.now) p.numbers.items p.rules.items p.pending.items) }
+    ensures { IfOk result (ArePlacedBy «package».now (names_in «package».now ranked.now)) }
 {
-    let mut numbers = vec![in alloc; 0; package.package().count()]?;
-    let mut rules = Vec::new(alloc);
-    let mut pending = Vec::new(alloc);
+    let mut placement = Placement {
+        numbers: vec![in alloc; 0; package.package().count()]?,
+        numberer: Numberer {
+            rules: Vec::new(alloc),
+            pending: Vec::new(alloc),
+        },
+    };
     for definition in ranked {
         let (_rank, i) = *definition;
-        place_definition(alloc, package, i, &mut numbers, &mut rules, &mut pending)?;
+        place_definition(alloc, package, i, &mut placement)?;
     }
-    Ok(Placement {
-        numbers,
-        rules,
-        pending,
-    })
+    Ok(placement)
 }

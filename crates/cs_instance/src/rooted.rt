@@ -17,16 +17,17 @@ pub(crate) fn numbering_of<'a>(
     root: usize,
 ) -> Result<(Numbering<Rule<'a>>, usize), AllocError>
     requires { root < length «package».now }
-    ensures { IfOk result (λ t. IsRooted «package».now (name_of «package».now root) t.0.rules.items t.0.children.items t.1) }
+    ensures { IfOk result (λ t. IsRooted «package».now (name_of «package».now root)
+        t.0.rules.items t.0.children.items t.1) }
 {
     let order = reachable(alloc, package.package(), root)?;
     let ranked = by_rank(alloc, package, &order)?;
     let Placement {
         numbers,
-        mut rules,
-        mut pending,
+        mut numberer,
     } = place_definitions(alloc, package, &ranked)?;
-    let children = place_waiting(alloc, &numbers, &mut rules, &mut pending)?;
+    let children = place_waiting(alloc, &numbers, &mut numberer)?;
+    let rules = numberer.rules;
     let number = numbers[root];
     Ok((Numbering { rules, children }, number))
 }

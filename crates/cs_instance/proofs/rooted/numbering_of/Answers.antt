@@ -1,11 +1,11 @@
 use Rattle.std.proofs.Common.{ℕ, ◌<◌, length, map, refl, sym, subst, arith}
 use Rattle.std.proofs.lemmas.Option.{slice_get_read, get_or_from_slice_get}
-use Rattle.std.specs.List.{flat_map, AllByRecursion as Each}
+use Rattle.std.specs.List.{flat_map}
 use Rattle.std.specs.List.Sorted.{IsPermutation}
 use Rattle.cs_package.specs.Environment.{Environment, declared_names}
-use Rattle.cs_guard.specs.Reachable.{referred, AreReachable}
+use Rattle.cs_guard.specs.Reachable.{AreReachable}
 use Rattle.cs_guard.specs.Numbered.{name_of}
-use Rattle.cs_instance.specs.Placing.{waiting, IsKnown, placed_with, PlacesWaiting}
+use Rattle.cs_instance.specs.Placing.{waiting, AreKnownIn, placed_with, PlacesWaiting}
 use Rattle.cs_instance.specs.Ranked.{AreRanked, ArePlacedBy, names_in}
 use Rattle.cs_instance.specs.Rooted.{IsRooted}
 use Rattle.cs_instance.proofs.Wholes.{names_perm, closed_in, first_known, placed_all, rooted}
@@ -31,16 +31,15 @@ invariant_of-result c =
     let reach = subst (λ (F : Environment). AreReachable F (name_of F c.args.root) (map (name_of F) order)) c.package.ensures.kept c.in_ok-order.ensures.found in
     let perm = names_perm E order ds (subst (λ xs. IsPermutation xs (map (λ (d : ℕ × ℕ). d.1) ds)) c.deref.ensures.value c.in_ok-ranked.ensures.same) in
     let p = c.in_ok-numbers.field-0 in
-    let pending = c.place_waiting.new.pending.items in
-    let rules = c.place_waiting.new.rules.items in
+    let last = c.place_waiting.new.numberer in
     let inner = c.in_ok-children.children.items in
-    let placed : ArePlacedBy E ns p.numbers.items p.rules.items p.pending.items =
-    subst (λ xs. ArePlacedBy E (names_in E xs) p.numbers.items p.rules.items p.pending.items) c.deref-2.ensures.value c.in_ok-numbers.ensures in
+    let all = flat_map (placed_with E) ns in
+    let placed : ArePlacedBy E ns p = subst (λ xs. ArePlacedBy E (names_in E xs) p) c.deref-2.ensures.value c.in_ok-numbers.ensures in
     let closed = closed_in E (name_of E c.args.root) names ns reach perm in
-    let w = subst (λ xs. PlacesWaiting E (declared_names E) xs (flat_map (placed_with E) ns) (waiting (declared_names E) p.pending.items) rules pending inner) c.deref-3.ensures.value
-    (c.in_ok-children.ensures.placed E (declared_names E) (flat_map (placed_with E) ns) placed.numbered
-    (subst (λ xs. Each (λ e. Each (IsKnown (declared_names E) xs (flat_map (placed_with E) ns)) (referred e)) (waiting (declared_names E) p.pending.items)) (sym c.deref-3.ensures.value) (first_known E ns p.numbers.items p.rules.items p.pending.items closed placed))) in
-    record { placed = placed_all E c.args.root names ns p.numbers.items p.rules.items rules p.pending.items pending inner reach perm placed c.in_ok-children.ensures.all w }
+    let w = subst (λ xs. PlacesWaiting E (declared_names E) xs all p.numberer last inner) c.deref-3.ensures.value
+    (c.in_ok-children.ensures.placed E (declared_names E) all placed.numbered
+    (subst (λ xs. AreKnownIn (declared_names E) xs all (waiting (declared_names E) p.numberer)) (sym c.deref-3.ensures.value) (first_known E ns p closed placed))) in
+    record { placed = placed_all E c.args.root names ns p last inner reach perm placed c.in_ok-children.ensures.all w }
 
 pub returns : goal.returns
 returns c =
@@ -52,15 +51,14 @@ returns c =
     let reach = subst (λ (F : Environment). AreReachable F (name_of F c.args.root) (map (name_of F) order)) c.package.ensures.kept c.in_ok-order.ensures.found in
     let perm = names_perm E order ds (subst (λ xs. IsPermutation xs (map (λ (d : ℕ × ℕ). d.1) ds)) c.deref.ensures.value c.in_ok-ranked.ensures.same) in
     let p = c.in_ok-numbers.field-0 in
-    let pending = c.place_waiting.new.pending.items in
-    let rules = c.place_waiting.new.rules.items in
+    let last = c.place_waiting.new.numberer in
     let inner = c.in_ok-children.children.items in
-    let placed : ArePlacedBy E ns p.numbers.items p.rules.items p.pending.items =
-    subst (λ xs. ArePlacedBy E (names_in E xs) p.numbers.items p.rules.items p.pending.items) c.deref-2.ensures.value c.in_ok-numbers.ensures in
+    let all = flat_map (placed_with E) ns in
+    let placed : ArePlacedBy E ns p = subst (λ xs. ArePlacedBy E (names_in E xs) p) c.deref-2.ensures.value c.in_ok-numbers.ensures in
     let closed = closed_in E (name_of E c.args.root) names ns reach perm in
-    let w = subst (λ xs. PlacesWaiting E (declared_names E) xs (flat_map (placed_with E) ns) (waiting (declared_names E) p.pending.items) rules pending inner) c.deref-3.ensures.value
-    (c.in_ok-children.ensures.placed E (declared_names E) (flat_map (placed_with E) ns) placed.numbered
-    (subst (λ xs. Each (λ e. Each (IsKnown (declared_names E) xs (flat_map (placed_with E) ns)) (referred e)) (waiting (declared_names E) p.pending.items)) (sym c.deref-3.ensures.value) (first_known E ns p.numbers.items p.rules.items p.pending.items closed placed))) in
+    let w = subst (λ xs. PlacesWaiting E (declared_names E) xs all p.numberer last inner) c.deref-3.ensures.value
+    (c.in_ok-children.ensures.placed E (declared_names E) all placed.numbered
+    (subst (λ xs. AreKnownIn (declared_names E) xs all (waiting (declared_names E) p.numberer)) (sym c.deref-3.ensures.value) (first_known E ns p closed placed))) in
     let within : c.args.root < length p.numbers.items = omega (arith, c.requires, placed.long) in
     let at = get_or_from_slice_get p.numbers.items c.args.root c.index-number.result.now 0 (slice_get_read p.numbers.items (length p.numbers.items) c.args.root c.index-number.result.now refl within c.index-number.ensures) in
-    subst (IsRooted E (name_of E c.args.root) rules inner) at (rooted E c.args.root names ns p.numbers.items p.rules.items rules p.pending.items pending inner reach perm placed c.in_ok-children.ensures.all w)
+    subst (IsRooted E (name_of E c.args.root) last.rules.items inner) at (rooted E c.args.root names ns p last inner reach perm placed c.in_ok-children.ensures.all w)
