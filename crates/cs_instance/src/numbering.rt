@@ -33,8 +33,18 @@ pub(crate) fn place<'a>(
         }
         Shape::Struct { parts, opened } => put_struct(alloc, parts, *opened, numberer),
         Shape::List { front, end } => put_list(alloc, front, end, numberer),
-        // The others look at no part: of one that does, the clause is false.
-        _ => numberer.put(Rule::Simple(shape)),
+        Shape::Top
+        | Shape::Bottom
+        | Shape::Null
+        | Shape::NotNull
+        | Shape::Bool(_)
+        | Shape::Int(_)
+        | Shape::NotInt(_)
+        | Shape::Text(_)
+        | Shape::NotText(_)
+        | Shape::Kind(_)
+        | Shape::Range { .. }
+        | Shape::Bound { .. } => numberer.put(Rule::Simple(shape)),
     }
 }
 

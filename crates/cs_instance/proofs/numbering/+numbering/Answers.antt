@@ -1,4 +1,4 @@
-use Rattle.std.proofs.Common.{◌≡◌, ℕ, ◌+◌, List, [], ◌∷◌, ◌++◌, map, take, refl, sym, ap, ◌∙◌, subst, take_all}
+use Rattle.std.proofs.Common.{◌≡◌, ℕ, ◌+◌, List, [], ◌∷◌, ◌++◌, map, take, refl, sym, ap, ◌∙◌, subst, take_all, rules}
 use Rattle.std.proofs.lemmas.List.{map-append}
 use Rattle.cs_package.specs.Expression as cue
 use Rattle.cs_package.specs.View.{expression_of, expressions_of, declarations_of, part_of, rest_of as end_of}
@@ -8,7 +8,9 @@ use Rattle.cs_instance.proofs.Placed.{simply_placed, same_places}
 use Rattle.cs_instance.proofs.Pushed.{place_push}
 use Rattle.cs_instance.proofs.Places.{take_at}
 use Rattle.cs_instance.proofs.Ready.{joined_and, joined_or, any_numbers}
-use Rattle.cs_instance.proofs.Views.{simple_shape}
+use Rattle.cs_instance.proofs.Views.{IsSimple}
+use Rattle.cs_instance.specs.Steps.{test_of}
+use Rattle.cs_package.specs.declared.shape.Shape.{the_lemmas}
 use Rattle.cs_instance.proofs.numbering.+numbering.Goals as goal
 
 pub place-returns-in-Definition : goal.place-returns-in-Definition
@@ -50,12 +52,13 @@ place-returns-in_ok-parts-in-Or t c =
     (λ names. ap (expression_of names) c.in-Or.is ∙ of-Or names c.in-Or.operands ∙ ap (λ ys. cue.disjunction (named_all ys names)) (sym c.deref-in-Or.ensures.value))
     (joined_or put.result c.args.numbers.now c.args.numberer.now c.place_all-in-Or.new.numberer put.new.self c.in_ok-parts-in-Or.parts es put.ensures.number put.ensures.pending c.in_ok-parts-in-Or.ensures)
 
-pub place-returns-in_default : goal.place-returns-in_default
-place-returns-in_default t c =
-    let is = c.in_default in
-    let put = c.put-in_default in
-    simply_placed put.result c.args.numbers.now c.args.numberer.now put.new.self c.args.shape put.ensures.number put.ensures.pending
-    (simple_shape c.args.shape.now is.not-Definition is.not-And is.not-Or is.not-Struct is.not-List)
+pub place-returns-in-Top : goal.place-returns-in-Top
+place-returns-in-Top t c =
+    let s = c.args.shape in
+    let put = c.put-in-Top in
+    let is = c.in-Top.is in
+    let simple : (names : List (List ℕ)) → IsSimple (test_of (expression_of [] s.now)) (expression_of names s.now) = λ names. search (rules, the_lemmas) in
+    simply_placed put.result c.args.numbers.now c.args.numberer.now put.new.self s put.ensures.number put.ensures.pending simple
 
 pub place_all-loop-shape-preserved : goal.place_all-loop-shape-preserved
 place_all-loop-shape-preserved t c =
