@@ -21,7 +21,7 @@ use Rattle.cs_instance.specs.Instance.{Rule, definition, node}
 use Rattle.cs_instance.specs.Numbering.{RestBelow, rule_at}
 use Rattle.cs_instance.specs.declared.rules.Rule.{Rule as Coded}
 use Rattle.cs_instance.specs.declared.rules.Rule.TheVariants as coded
-use Rattle.cs_instance.specs.declared.rules.Field.{Field}
+use Rattle.cs_instance.specs.declared.fields.Fields.{Fields}
 use Rattle.cs_instance.specs.declared.rules.Ending.{Ending}
 use Rattle.cs_instance.specs.Steps.{asked_of, field_of, ending_of}
 use Rattle.cs_instance.specs.Placing.{named_all, waiting, expression_at, AreNumbered, AreNumberedBy, placed_by_all, left_by, values_of, each_of, IsKnown, Places, PlacesAll, FieldsWait, ElementsWait, EndWaits}
@@ -83,7 +83,7 @@ same_rules E names placed old mid same = subst (λ (v : Vec Coded Global). AreNu
 wide : (names : List (List ℕ)) (n : Numberer Shape Coded) → length n.pending.items ≡ length (waiting names n)
 wide names n = sym (length-map n.pending.items _)
 
-pub struct_waits : (result : Result ℕ AllocError) (old mid new : Numberer Shape Coded) (parts : List Part) (v : Vec Field Global) (o : Bool) → FieldsWait parts old mid v.items → Pushed result mid new (coded.Struct v o) → new.pending ≡ mid.pending
+pub struct_waits : (result : Result ℕ AllocError) (old mid new : Numberer Shape Coded) (parts : List Part) (v : Fields) (o : Bool) → FieldsWait parts old mid v.all.items → Pushed result mid new (coded.Struct v o) → new.pending ≡ mid.pending
     → IfOk result (Places [] old new (λ names. cue.struct (declarations_of (map (part_of names) parts)) o))
 struct_waits result old mid new parts v o w done kept =
     let ds = λ (names : List (List ℕ)). map (part_of names) parts in
@@ -92,7 +92,7 @@ struct_waits result old mid new parts v o w done kept =
     finish result [] old mid new (coded.Struct v o) e done kept waits
     (λ names E placed n refs.
     alone E placed (e names) (waiting names old) (left_by (e names)) (waiting names mid) mid.rules.items (asked_of (coded.Struct v o)) (same_rules E names placed old mid w.rules n) (waits names) refl
-    (ap (λ xs. object_of xs o) (declarations_back (ds names) ∙ sym (w.are names))) (subst (λ k. Each (λ (d : Declaration ℕ). d.value < k) (map field_of v.items)) (wide names mid) w.below))
+    (ap (λ xs. object_of xs o) (declarations_back (ds names) ∙ sym (w.are names))) (subst (λ k. Each (λ (d : Declaration ℕ). d.value < k) (map field_of v.all.items)) (wide names mid) w.below))
 
 pub list_waits : (result : Result ℕ AllocError) (old mid last new : Numberer Shape Coded) (front : List Shape) (end : ShapeEnd) (v : Vec ℕ Global) (t : Ending) → ElementsWait front old mid v.items → EndWaits end mid last t
     → Pushed result last new (coded.List v t) → new.pending ≡ last.pending → IfOk result (Places [] old new (λ names. cue.list (named_all front names) (end_of names end)))

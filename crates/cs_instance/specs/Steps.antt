@@ -31,7 +31,7 @@ abbrev pub asked_of : Rule → Constraint ℕ ℕ
 asked_of (rule.Simple s) = simple (test_of (expression_of [] s.now))
 asked_of (rule.All v) = all_of v.items
 asked_of (rule.Any v) = any_of v.items
-asked_of (rule.Struct v opened) = object_of (map field_of v.items) opened
+asked_of (rule.Struct fs opened) = object_of (map field_of fs.all.items) opened
 asked_of (rule.List v end) = list_of v.items (ending_of end)
 
 -- the same, with the numbers that are in that list

@@ -5,6 +5,7 @@ mod atoms;
 mod by_kind;
 mod definitions;
 mod fault;
+mod fields;
 mod inner;
 mod judge;
 mod judging;

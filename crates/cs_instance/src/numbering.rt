@@ -5,6 +5,7 @@ ghost use Rattle.cs_package.specs.Expression as cue;
 ghost use Rattle.cs_package.specs.View.{declarations_of, part_of, rest_of as end_of};
 ghost use Rattle.cs_instance.specs.Placing.{Places, PlacesAll, named, named_all};
 
+use crate::fields::Fields;
 use crate::rules::Rule;
 use crate::waiting::{wait_all, wait_end, wait_fields};
 use cs_package::{Part, Shape, ShapeEnd};
@@ -93,7 +94,7 @@ fn put_struct<'a>(
     ensures { IfOk result (Places [] numberer.old numberer.new
         (λ names. cue.struct (declarations_of (map (part_of names) parts.now)) opened)) }
 {
-    let fields = wait_fields(alloc, parts, numberer)?;
+    let fields = Fields::new(alloc, wait_fields(alloc, parts, numberer)?)?;
     numberer.put(Rule::Struct { fields, opened })
 }
 

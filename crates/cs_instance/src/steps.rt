@@ -5,13 +5,14 @@ ghost use Rattle.cs_document.specs.Document.{Entry, under};
 ghost use Rattle.cs_document.specs.Inside.{AscendsInside, InsideBelow, KeysAscend};
 ghost use Rattle.cs_flat.specs.View.{item_view, entry_of};
 ghost use Rattle.cs_rules.specs.Knowns.{verdict_here, verdict_inside, value_count, rule_count, place_count};
-ghost use Rattle.cs_package.specs.Expression.{Declaration, is_every};
+ghost use Rattle.cs_package.specs.Expression.{Declaration};
 ghost use Rattle.cs_package.specs.View.{mark_of};
 ghost use Rattle.cs_instance.specs.Constraint as constraint;
 ghost use Rattle.cs_instance.specs.Numbering.{PartsBelow, RestBelow};
 ghost use Rattle.cs_instance.specs.Steps.{asked_of, field_of, ending_of};
 
 use crate::atoms::holds_simply;
+use crate::fields::{Fields, is_for_every_key};
 use crate::rules::{Ending, Field, Rule};
 use cs_flat::{Item, number_under};
 use cs_package::FieldMark;
@@ -26,32 +27,11 @@ fn may_be_absent(mark: FieldMark) -> bool
     }
 }
 
-fn is_for_every_key(mark: FieldMark) -> bool
-    ensures { result ≡ is_every (mark_of mark) }
-{
-    match mark {
-        FieldMark::Every { .. } => true,
-        FieldMark::Regular | FieldMark::Optional | FieldMark::Required => false,
-    }
-}
-
-/// Whether some declaration allows a key: that of its label, or `[string]`.
-fn is_allowed(fields: &[Field<'_>], key: &str) -> bool
-    ensures { result ≡ list_any (λ d. constraint.allows d key.now) (map field_of fields.now) }
-{
-    for field in fields {
-        if is_for_every_key(field.mark) || key == field.label {
-            return true;
-        }
-    }
-    false
-}
-
-fn are_allowed(fields: &[Field<'_>], members: &[(&str, usize)]) -> bool
-    ensures { result ≡ list_all (λ (m : Entry ℕ). list_any (λ d. constraint.allows d m.0) (map field_of fields.now)) (map entry_of members.now) }
+fn are_allowed(fields: &Fields<'_>, members: &[(&str, usize)]) -> bool
+    ensures { result ≡ list_all (λ (m : Entry ℕ). list_any (λ d. constraint.allows d m.0) (map field_of fields.now.all.items)) (map entry_of members.now) }
 {
     for (key, _value) in members {
-        if !is_allowed(fields, key) {
+        if !fields.allow(key) {
             return false;
         }
     }
@@ -114,17 +94,17 @@ fn declarations_hold(fields: &[Field<'_>], members: &[(&str, usize)], known: &Kn
 }
 
 fn fields_hold(
-    fields: &[Field<'_>],
+    fields: &Fields<'_>,
     opened: bool,
     members: &[(&str, usize)],
     known: &Known<'_>,
 ) -> bool
     requires ascends { KeysAscend (map entry_of members.now) }
     requires members { AllByRecursion (λ (m : Entry ℕ). m.1 < value_count known.now) (map entry_of members.now) }
-    requires fields { AllByRecursion (λ (d : Declaration ℕ). d.value < place_count known.now) (map field_of fields.now) }
-    ensures { result ≡ constraint.fields_hold (verdict_inside known.now) (map field_of fields.now) opened (map entry_of members.now) }
+    requires fields { AllByRecursion (λ (d : Declaration ℕ). d.value < place_count known.now) (map field_of fields.now.all.items) }
+    ensures { result ≡ constraint.fields_hold (verdict_inside known.now) (map field_of fields.now.all.items) opened (map entry_of members.now) }
 {
-    if !declarations_hold(fields, members, known) {
+    if !declarations_hold(&fields.all, members, known) {
         return false;
     }
     opened || are_allowed(fields, members)
