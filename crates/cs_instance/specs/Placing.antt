@@ -18,7 +18,7 @@ use Rattle.cs_instance.specs.Rules.{subexpressions}
 use Rattle.cs_instance.specs.declared.rules.Rule.{Rule as Coded}
 use Rattle.cs_instance.specs.declared.rules.Field.{Field}
 use Rattle.cs_instance.specs.declared.rules.Ending.{Ending}
-use Rattle.cs_instance.specs.Steps.{asked_of, field_of, ending_of}
+use Rattle.cs_instance.specs.Steps.{asked_of, field_of, ending_of, PlacesBelow}
 
 -- an expression and a list of them, with the definitions named
 abbrev pub named : Shape → List (List ℕ) → Expression
@@ -135,7 +135,7 @@ pub record FieldsWait (parts : List Part) (old new : Numberer Shape Coded) (fiel
   pub rules : new.rules ≡ old.rules
   pub waits : (names : List (List ℕ)) → waiting names new ≡ waiting names old ++ values_of (map (part_of names) parts)
   pub are : (names : List (List ℕ)) → map (map_declaration (expression_at (waiting names new))) (map field_of fields) ≡ map (part_of names) parts
-  pub below : AllByRecursion (λ (d : Declaration ℕ). d.value < length new.pending.items) (map field_of fields)
+  pub below : PlacesBelow (length new.pending.items) (map field_of fields)
 
 -- elements wait, each at its place
 pub record ElementsWait (shapes : List Shape) (old new : Numberer Shape Coded) (places : List ℕ) : Type 0 where

@@ -17,8 +17,8 @@ pub(crate) fn place_waiting<'a>(
     numberer: &mut Numberer<'a, Shape, Rule<'a>>,
 ) -> Result<Vec<usize>, AllocError>
     ensures all { IfOk result (λ v. length v.items ≡ length numberer.new.pending.items) }
-    ensures placed { IfOk result (λ v. (E : Environment) (names : List (List ℕ)) (placed : List meaning.Rule)
-        → AreNumberedBy E names placed numberer.old
+    ensures placed { IfOk result (λ v. (E : Environment) (names : List (List ℕ))
+        (placed : List meaning.Rule) → AreNumberedBy E names placed numberer.old
         → AreKnownIn names numbers.now placed (waiting names numberer.old)
         → PlacesWaiting E names numbers.now placed numberer.old numberer.new v.items) }
 {

@@ -56,7 +56,8 @@ pub(crate) fn place_all<'a>(
     numbers: &[usize],
     numberer: &mut Numberer<'a, Shape, Rule<'a>>,
 ) -> Result<Vec<usize>, AllocError>
-    ensures { IfOk result (λ v. PlacesAll numbers.now numberer.old numberer.new (named_all shapes.now) v.items) }
+    ensures { IfOk result (λ v. PlacesAll numbers.now numberer.old numberer.new
+        (named_all shapes.now) v.items) }
 {
     let mut parts = Vec::with_capacity(alloc, shapes.len())?;
     for shape in shapes {
@@ -73,7 +74,8 @@ fn put_reference<'a>(
     numbers: &[usize],
     numberer: &mut Numberer<'a, Shape, Rule<'a>>,
 ) -> Result<usize, AllocError>
-    ensures { IfOk result (Places numbers.now numberer.old numberer.new (λ names. cue.reference (get_or names i []))) }
+    ensures { IfOk result (Places numbers.now numberer.old numberer.new
+        (λ names. cue.reference (get_or names i []))) }
 {
     match numbers.get(i) {
         None => numberer.put(Rule::Any(Vec::new(alloc))),
