@@ -26,7 +26,7 @@ use Rattle.cs_instance.specs.Instance.{Rule, definition, node, constraint_of, al
 use Rattle.cs_instance.specs.Numbering.{rule_at}
 use Rattle.cs_instance.specs.declared.rules.Rule.{Rule as Coded}
 use Rattle.cs_instance.specs.declared.rules.Rule.TheVariants as coded
-use Rattle.cs_instance.specs.declared.definitions.Placement.{Placement}
+use Rattle.cs_instance.specs.declared.numbering.definitions.Placement.{Placement}
 use Rattle.cs_instance.specs.Placing.{named_all, waiting, AreNumbered, AreNumberedBy, IsKnown, PlacesAll, placed_by_all, left_by_all, placed_with, left_with, bodies_of}
 use Rattle.cs_instance.specs.Ranked.{IsRank, AreRanked, RefersBack, ArePlacedBy, names_in}
 use Rattle.cs_guard.proofs.Ways.{direct-strong}

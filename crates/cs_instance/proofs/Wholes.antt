@@ -28,7 +28,7 @@ use Rattle.cs_rules.specs.declared.numberer.Numberer.{Numberer}
 use Rattle.cs_rules.specs.Steps.{ArePlaced}
 use Rattle.cs_rules.proofs.Judged.{coded_found}
 use Rattle.cs_instance.specs.Steps.{asked_of, numbered}
-use Rattle.cs_instance.specs.declared.definitions.Placement.{Placement}
+use Rattle.cs_instance.specs.declared.numbering.definitions.Placement.{Placement}
 use Rattle.cs_instance.specs.Placing.{waiting, expression_at, AreNumbered, AreAt, IsKnown, AreKnownIn, PlacesWaiting, placed_with, left_with, bodies_of, rules_in}
 use Rattle.cs_instance.specs.Ranked.{ArePlacedBy, names_in}
 use Rattle.cs_instance.specs.Rooted.{IsRooted}

@@ -8,7 +8,7 @@ use Rattle.cs_guard.specs.References.{strong_of, direct_all}
 use Rattle.cs_guard.specs.Reachable.{referred_of}
 use Rattle.cs_guard.specs.Guarded.{IsHeight}
 use Rattle.cs_guard.specs.Numbered.{name_of}
-use Rattle.cs_instance.specs.declared.definitions.Placement.{Placement}
+use Rattle.cs_instance.specs.declared.numbering.definitions.Placement.{Placement}
 use Rattle.cs_instance.specs.Placing.{waiting, AreNumberedBy, IsKnown, bodies_of, placed_with, left_with}
 
 -- the definition of that number has this rank

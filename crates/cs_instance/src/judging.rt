@@ -8,7 +8,7 @@ ghost use Rattle.cs_instance.specs.Rules.{HasManyPairs};
 ghost use Rattle.cs_instance.specs.Judging.{IsJudge, IsTable};
 ghost use Rattle.cs_instance.specs.Refusal.{IsRefusal};
 
-use crate::rooted::numbering_of;
+use crate::numbering::numbering_of;
 use crate::{InstanceFault, InstanceJudge};
 use cs_document::Doc;
 use cs_flat::{Flat, flatten};
