@@ -28,7 +28,7 @@ module _ {K X : Type 0} {R : K → K → Ordering} (o : IsTotalOrder R) (key : X
       missed xs i (λ j e a b. less (suc j) e (omega arith) (omega arith)) (λ j e a b. more (suc j) e (omega arith) (omega arith))
       ∙ sym (ap (λ r. is_eq r || list_any is_found xs) (less 0 x (omega arith) (omega arith)))
 
-  told : (xs : List X) (r : Result ℕ ℕ) → IsSortedBy (λ a b. is_lt (R (key a) (key b))) xs → IsSearchInRange r (length xs) → IsBinarySearchResult (λ x. R (key x) k) xs r
+  pub told : (xs : List X) (r : Result ℕ ℕ) → IsSortedBy (λ a b. is_lt (R (key a) (key b))) xs → IsSearchInRange r (length xs) → IsBinarySearchResult (λ x. R (key x) k) xs r
       → is_ok r ≡ list_any is_found xs
   told [] (Ok i) up within found = absurd (omega (arith, within))
   told (x ∷ xs) (Ok i) up within found = sym (list_any_at is_found (x ∷ xs) i x within (ap is_eq (found x)))

@@ -10,6 +10,7 @@ pub mod Meaning
 pub mod Labels
 -- one judgement, and the parts named by numbers
 pub mod Found
+mod Allowed
 pub mod Satisfied
 -- rules get their numbers: expressions, what waits, definitions by rank, the whole
 pub mod Views

@@ -6,7 +6,7 @@ use Rattle.std.specs.Option.{unwrap_or}
 use Rattle.std.specs.Str.{bytes_eq}
 use Rattle.std.proofs.lemmas.Slice.Eq.{bytes_eq-Decides}
 use Rattle.std.proofs.lemmas.Map.Keys.{IsDistinct-head, IsDistinct-tail}
-use Rattle.std.proofs.lemmas.List.{get_or-set_same, get_or-set_other, map-append, take_more}
+use Rattle.std.proofs.lemmas.List.{get_or-set_same, get_or-set_other, length-set, map-append, take_more}
 use Rattle.std.proofs.lemmas.List.Elements.{All-get_or}
 use Rattle.std.proofs.lemmas.Grind.{flat_map-append}
 use Rattle.std.proofs.lemmas.List.Elements.{Contains-append_left, Contains-append_right, Contains-append_cases}
@@ -20,13 +20,15 @@ use Rattle.cs_graph.specs.Chains.{On, Distinct}
 use Rattle.cs_guard.specs.References.{direct, direct_all, strong, strong_of}
 use Rattle.cs_guard.specs.Reachable.{referred, referred_all, referred_of}
 use Rattle.cs_guard.specs.Numbered.{name_of}
+use Rattle.cs_rules.specs.declared.numberer.Numberer.{Numberer}
 use Rattle.cs_instance.specs.Constraint.{all_of}
 use Rattle.cs_instance.specs.Instance.{Rule, definition, node, constraint_of, all_bodies}
 use Rattle.cs_instance.specs.Numbering.{rule_at}
 use Rattle.cs_instance.specs.declared.rules.Rule.{Rule as Coded}
 use Rattle.cs_instance.specs.declared.rules.Rule.TheVariants as coded
-use Rattle.cs_instance.specs.Placing.{waiting, AreNumbered, IsKnown, PlacesAll, PlacesOne, placed_by_all, placed_with, left_with, bodies_of}
-use Rattle.cs_instance.specs.Ranked.{IsRank, AreRanked, ArePlacedBy, names_in}
+use Rattle.cs_instance.specs.declared.numbering.definitions.Placement.{Placement}
+use Rattle.cs_instance.specs.Placing.{named_all, waiting, AreNumbered, AreNumberedBy, IsKnown, PlacesAll, placed_by_all, left_by_all, placed_with, left_with, bodies_of}
+use Rattle.cs_instance.specs.Ranked.{IsRank, AreRanked, RefersBack, ArePlacedBy, names_in}
 use Rattle.cs_guard.proofs.Ways.{direct-strong}
 use Rattle.cs_instance.proofs.Placed.{push, got_front, operands_of, each_push}
 
@@ -58,36 +60,16 @@ names_at [] i = refl
 names_at (d ∷ E) zero = refl
 names_at (d ∷ E) (suc i) = names_at E i
 
--- ---- one definition
+-- ---- one definition more
+
+pub each_found : {X : Type 0} (P : X → Type 0) (xs : List X) (x : X) → Each P xs → On x xs → P x
+each_found P [] x h o = absurd o
+each_found P (y ∷ ys) x h (inl e) = subst P (sym e) h.0
+each_found P (y ∷ ys) x h (inr o) = each_found P ys x h.1 o
 
 get_last : {X : Type 0} (xs : List X) (x : X) → slice_get (xs ++ x ∷ []) (length xs) ≡ Some x
 get_last [] x = refl
 get_last (y ∷ xs) x = get_last xs x
-
-pub definition_placed : (E : Environment) (names : List (List ℕ)) (n : List ℕ) (i k : ℕ) (numbers : List ℕ) (placed : List Rule) (r0 r1 r2 : List Coded) (b0 b1 : List (Bor Shape)) (shapes : List Shape) (parts : Vec ℕ Global)
-    → bodies E n ≡ Some (map (expression_of names) shapes) → i < length numbers
-    → PlacesAll numbers r0 r1 b0 b1 (λ names. expressions_of (map (expression_of names) shapes)) parts.items → (k ≡ length r1) × (r2 ≡ r1 ++ coded.All parts ∷ [])
-    → ((j : ℕ) → get_or names j [] ≡ n → j ≡ i)
-    → AreNumbered E placed (waiting names b0) r0 → Each (IsKnown names numbers placed) (direct_all (bodies_of E n))
-    → PlacesOne E names n i numbers (slice_set numbers i k) placed r2 b1
-definition_placed E names n i k numbers placed r0 r1 r2 b0 b1 shapes parts found within all put only n0 refs =
-    let bs = map (expression_of names) shapes in
-    let es = expressions_of bs in
-    let is : bodies_of E n ≡ es = ap (λ o. expressions_of (unwrap_or o [])) found in
-    let w = (all names).1 E placed n0 (subst (λ xs. Each (IsKnown names numbers placed) (direct_all xs)) is refs) in
-    let P = placed_by_all es in
-    let asks : constraint_of E (definition n) ≡ all_of (map (rule_at (placed ++ P)) parts.items) = ap all_bodies found ∙ ap (λ xs. all_of (map node xs)) (sym (operands_of bs)) ∙ ap all_of (sym w.1.0) in
-    let one = push E (placed ++ P) (waiting names b1) r1 w.0 (definition n) (coded.All parts) asks w.1.1 in
-    let whole : (placed ++ P) ++ definition n ∷ [] ≡ placed ++ placed_with E n = append_assoc placed P (definition n ∷ []) ∙ ap (λ xs. placed ++ (placed_by_all xs ++ definition n ∷ [])) (sym is) in
-    let place : slice_index (slice_set numbers i k) i ≡ length (placed ++ P) = get_or-set_same numbers i k 0 within ∙ put.0 ∙ w.0.sizes in
-    record {
-      numbered = subst (λ ss. AreNumbered E ss (waiting names b1) r2) whole (subst (λ rs. AreNumbered E ((placed ++ P) ++ definition n ∷ []) (waiting names b1) rs) (sym put.1) one);
-      number = ap₂ slice_get (sym whole) place ∙ get_last (placed ++ P) (definition n);
-      others = λ j other. get_or-set_other numbers i j k 0 other;
-      only = only;
-    }
-
--- ---- one definition more
 
 same_or_not : (j i : ℕ) → (j ≡ i) ⊎ ¬ (j ≡ i)
 same_or_not zero zero = inl refl
@@ -102,29 +84,51 @@ same_or_not (suc j) (suc i) = by (same_or_not j i)
 flat_push : {X Y : Type 0} (f : X → List Y) (xs : List X) (x : X) → flat_map f (xs ++ x ∷ []) ≡ flat_map f xs ++ f x
 flat_push f xs x = flat_map-append f xs (x ∷ []) ∙ ap (λ ys. flat_map f xs ++ ys) (append-nil (f x))
 
-pub placed_more : (E : Environment) (ns : List (List ℕ)) (i : ℕ) (numbers new : List ℕ) (rules rules' : List Coded) (pending pending' : List (Bor Shape)) → i < length E → length new ≡ length E
-    → waiting (declared_names E) pending' ≡ waiting (declared_names E) pending ++ left_with E (name_of E i)
-    → ArePlacedBy E ns numbers rules pending → PlacesOne E (declared_names E) (name_of E i) i numbers new (flat_map (placed_with E) ns) rules' pending' → ArePlacedBy E (ns ++ name_of E i ∷ []) new rules' pending'
-placed_more E ns i numbers new rules rules' pending pending' within long waits all one =
+-- what was known stays so with another number at i
+known_set : (names : List (List ℕ)) (numbers new : List ℕ) (placed more : List Rule) (i : ℕ) → length new ≡ length numbers → slice_get (placed ++ more) (slice_index new i) ≡ Some (definition (get_or names i [])) → ((j : ℕ) → ¬ (j ≡ i) → slice_index new j ≡ slice_index numbers j)
+    → (m : List ℕ) → IsKnown names numbers placed m → IsKnown names new (placed ++ more) m
+known_set names numbers new placed more i long number others m h j e = (subst (λ k. j < k) (sym long) (h j e).0, by (same_or_not j i))
+  where
+    by : (j ≡ i) ⊎ ¬ (j ≡ i) → slice_get (placed ++ more) (slice_index new j) ≡ Some (definition m)
+    by (inl s) = ap (λ k. slice_get (placed ++ more) (slice_index new k)) s ∙ number ∙ ap (λ k. Some (definition k)) (ap (λ k. get_or names k []) (sym s) ∙ e)
+    by (inr s) = ap (slice_get (placed ++ more)) (others j s) ∙ got_front placed more (slice_index numbers j) (definition m) (h j e).1
+
+pub placed_more : (E : Environment) (ns : List (List ℕ)) (i k : ℕ) (old new : Placement) (mid : Numberer Shape Coded) (shapes : List Shape) (parts : Vec ℕ Global)
+    → i < length E → bodies E (name_of E i) ≡ Some (map (expression_of (declared_names E)) shapes) → ((j : ℕ) → get_or (declared_names E) j [] ≡ name_of E i → j ≡ i)
+    → PlacesAll old.numbers.items old.numberer mid (named_all shapes) parts.items → (k ≡ length mid.rules.items) × (new.numberer.rules.items ≡ mid.rules.items ++ coded.All parts ∷ []) → new.numberer.pending ≡ mid.pending
+    → new.numbers.items ≡ slice_set old.numbers.items i k → ArePlacedBy E ns old → RefersBack E ns (name_of E i) → ArePlacedBy E (ns ++ name_of E i ∷ []) new
+placed_more E ns i k old new mid shapes parts within found only all put kept set p back =
     let n = name_of E i in
     let names = declared_names E in
     let placed = flat_map (placed_with E) ns in
-    let whole : placed ++ placed_with E n ≡ flat_map (placed_with E) (ns ++ n ∷ []) = sym (flat_push (placed_with E) ns n) in
+    let numbers = old.numbers.items in
+    let later = new.numbers.items in
+    let bs = map (expression_of names) shapes in
+    let P = placed_by_all (expressions_of bs) in
+    let is : bodies_of E n ≡ expressions_of bs = ap (λ o. expressions_of (unwrap_or o [])) found in
+    let Q = IsKnown names numbers placed in
+    let refs : Each Q (direct_all (bodies_of E n)) = each_member Q (direct_all (bodies_of E n)) (λ m c. each_found Q ns m p.known (back m c)) in
+    let w = (all names).1 E placed p.numbered (subst (λ xs. Each Q (direct_all xs)) is refs) in
+    let asks : constraint_of E (definition n) ≡ all_of (map (rule_at (placed ++ P)) parts.items) = ap all_bodies found ∙ ap (λ xs. all_of (map node xs)) (sym (operands_of bs)) ∙ ap all_of (sym w.1.0) in
+    let one = push E (placed ++ P) (waiting names mid) mid.rules.items w.0 (definition n) (coded.All parts) asks w.1.1 in
+    let more = placed ++ placed_with E n in
+    let ends : (placed ++ P) ++ definition n ∷ [] ≡ more = append_assoc placed P (definition n ∷ []) ∙ ap (λ xs. placed ++ (placed_by_all xs ++ definition n ∷ [])) (sym is) in
+    let whole : more ≡ flat_map (placed_with E) (ns ++ n ∷ []) = sym (flat_push (placed_with E) ns n) in
+    let same : waiting names mid ≡ waiting names new.numberer = ap (λ (v : Vec (Bor Shape) Global). map (λ b. expression_of names b.now) v.items) (sym kept) in
+    let long : length later ≡ length numbers = ap length set ∙ length-set numbers i k in
+    let place : slice_index later i ≡ length (placed ++ P) = ap (λ xs. slice_index xs i) set ∙ get_or-set_same numbers i k 0 (subst (λ m. i < m) (sym p.long) within) ∙ put.0 ∙ w.0.sizes in
+    let number : slice_get more (slice_index later i) ≡ Some (definition n) = ap₂ slice_get (sym ends) place ∙ get_last (placed ++ P) (definition n) in
+    let others = λ (j : ℕ) (other : ¬ (j ≡ i)). ap (λ xs. slice_index xs j) set ∙ get_or-set_other numbers i j k 0 other in
+    let known = known_set names numbers later placed (placed_with E n) i long (number ∙ ap (λ m. Some (definition m)) (sym (names_at E i))) others in
     record {
-      long = long;
-      numbered = subst (λ ss. AreNumbered E ss (waiting names pending') rules') whole one.numbered;
-      waits = waits ∙ ap (λ xs. xs ++ left_with E n) all.waits ∙ sym (flat_push (left_with E) ns n);
-      known = subst (λ ss. Each (IsKnown names new ss) (ns ++ n ∷ [])) whole
-          (each_push (IsKnown names new (placed ++ placed_with E n)) ns n (each_map (IsKnown names numbers placed) (IsKnown names new (placed ++ placed_with E n)) kept ns all.known)
-          (λ j e. let is = one.only j e in (subst (λ k. k < length new) (sym is) (subst (λ k. i < k) (sym long) within), ap (λ k. slice_get (placed ++ placed_with E n) (slice_index new k)) is ∙ one.number)));
+      long = long ∙ p.long;
+      numbered = subst (λ ss. AreNumberedBy E names ss new.numberer) whole (subst (λ es. AreNumbered E more es new.numberer.rules.items) same (subst (λ ss. AreNumbered E ss (waiting names mid) new.numberer.rules.items) ends
+          (subst (AreNumbered E ((placed ++ P) ++ definition n ∷ []) (waiting names mid)) (sym put.1) one)));
+      waits = sym same ∙ (all names).0 ∙ ap₂ ◌++◌ p.waits (ap left_by_all (sym is)) ∙ sym (flat_push (left_with E) ns n);
+      known = subst (λ ss. Each (IsKnown names later ss) (ns ++ n ∷ [])) whole
+          (each_push (IsKnown names later more) ns n (each_map Q (IsKnown names later more) known ns p.known)
+          (λ j e. let at = only j e in (subst (λ m. m < length later) (sym at) (subst (λ m. i < m) (sym (long ∙ p.long)) within), ap (λ m. slice_get more (slice_index later m)) at ∙ number)));
     }
-  where
-    kept : (m : List ℕ) → IsKnown (declared_names E) numbers (flat_map (placed_with E) ns) m → IsKnown (declared_names E) new (flat_map (placed_with E) ns ++ placed_with E (name_of E i)) m
-    kept m h j e = (subst (λ k. j < k) (all.long ∙ sym long) (h j e).0, by (same_or_not j i))
-      where
-        by : (j ≡ i) ⊎ ¬ (j ≡ i) → slice_get (flat_map (placed_with E) ns ++ placed_with E (name_of E i)) (slice_index new j) ≡ Some (definition m)
-        by (inl s) = ap (λ k. slice_get (flat_map (placed_with E) ns ++ placed_with E (name_of E i)) (slice_index new k)) s ∙ one.number ∙ ap (λ k. Some (definition k)) (sym (names_at E i) ∙ ap (λ k. get_or (declared_names E) k []) (sym s) ∙ e)
-        by (inr s) = ap (slice_get (flat_map (placed_with E) ns ++ placed_with E (name_of E i))) (one.others j s) ∙ got_front (flat_map (placed_with E) ns) (placed_with E (name_of E i)) (slice_index numbers j) (definition m) (h j e).1
 
 -- ---- what is referred to has lower rank
 
@@ -172,11 +176,6 @@ on_at f [] j b = absurd (omega (arith, b))
 on_at f (d ∷ ds) zero b = inl refl
 on_at f (d ∷ ds) (suc j) b = inr (on_at f ds j (omega (arith, b)))
 
-pub each_found : {X : Type 0} (P : X → Type 0) (xs : List X) (x : X) → Each P xs → On x xs → P x
-each_found P [] x h o = absurd o
-each_found P (y ∷ ys) x h (inl e) = subst P (sym e) h.0
-each_found P (y ∷ ys) x h (inr o) = each_found P ys x h.1 o
-
 lt_or_ge : (a b : ℕ) → (a < b) ⊎ (b ≤ a)
 lt_or_ge a zero = inr (omega arith)
 lt_or_ge zero (suc b) = inl (omega arith)
@@ -205,13 +204,9 @@ module _ (E : Environment) (ds : List (ℕ × ℕ)) (ranked : AreRanked E ds) (i
       earlier j r (inl l) lower sorted = l
       earlier j r (inr l) lower sorted = absurd (let k = sorted l in omega (arith, lower, k))
 
-  -- what the bodies refer to directly has a number
-  pub known_here : (numbers : List ℕ) (rules : List Coded) (pending : List (Bor Shape)) → ArePlacedBy E (names_in E (take i ds)) numbers rules pending
-      → Each (IsKnown (declared_names E) numbers (flat_map (placed_with E) (names_in E (take i ds)))) (direct_all (bodies_of E (name_of E here.1)))
-  known_here numbers rules pending all =
-      let bs = unwrap_or (bodies E (name_of E here.1)) [] in
-      each_member (IsKnown (declared_names E) numbers (flat_map (placed_with E) (names_in E (take i ds)))) (direct_all (bodies_of E (name_of E here.1)))
-      (λ m c. each_found _ (names_in E (take i ds)) m all.known (before m (in_bodies strong direct-strong bs m c) (in_bodies referred direct-referred bs m c)))
+  -- what the bodies refer to directly is before
+  pub back_here : RefersBack E (names_in E (take i ds)) (name_of E here.1)
+  back_here m c = let bs = unwrap_or (bodies E (name_of E here.1)) [] in before m (in_bodies strong direct-strong bs m c) (in_bodies referred direct-referred bs m c)
 
   pub names_more : names_in E (take (i + 1) ds) ≡ names_in E (take i ds) ++ name_of E here.1 ∷ []
   names_more = ap (names_in E) (take_more ds i (0, 0) within) ∙ map-append (λ (d : ℕ × ℕ). name_of E d.1) (take i ds) (here ∷ [])

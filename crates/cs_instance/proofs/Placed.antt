@@ -1,5 +1,5 @@
 -- Rules one after another: each new one is that of one more rule.
-use Rattle.std.proofs.Common.{◌≡◌, ℕ, zero, suc, ◌+◌, ◌<◌, ◌≤◌, ◌⊎◌, inl, inr, ⊎_elim, List, [], ◌∷◌, ◌++◌, Some, Result, map, length, slice_index, Bor, refl, sym, ap, ap₂, ◌∙◌, subst, append_assoc, append-nil, length-append, arith}
+use Rattle.std.proofs.Common.{◌≡◌, ℕ, zero, suc, ◌+◌, ◌<◌, ◌≤◌, ◌⊎◌, inl, inr, ⊎_elim, List, [], ◌∷◌, ◌++◌, Some, Result, map, length, slice_index, Bor, Vec, Global, refl, sym, ap, ap₂, ◌∙◌, subst, append_assoc, append-nil, length-append, arith}
 use Rattle.std.specs.Prelude.{slice_get, IfOk}
 use Rattle.std.specs.List.{AllByRecursion as Each}
 use Rattle.std.specs.declared.alloc.AllocError.{AllocError}
@@ -18,7 +18,8 @@ use Rattle.cs_instance.specs.declared.rules.Rule.{Rule as Coded}
 use Rattle.cs_instance.specs.declared.rules.Rule.TheVariants as coded
 use Rattle.cs_instance.specs.Props.{parts_weaker}
 use Rattle.cs_instance.specs.Steps.{test_of, asked_of}
-use Rattle.cs_instance.specs.Placing.{waiting, expression_at, AreNumbered, AreAt, placed_by, left_by, IsKnown, Places}
+use Rattle.cs_rules.specs.declared.numberer.Numberer.{Numberer}
+use Rattle.cs_instance.specs.Placing.{named, waiting, expression_at, AreNumbered, AreNumberedBy, AreAt, placed_by, left_by, IsKnown, Places}
 use Rattle.cs_instance.proofs.Views.{IsSimple}
 
 pub got_push : {X : Type 0} (xs : List X) (x y : X) (r : ℕ) → slice_get (xs ++ x ∷ []) r ≡ Some y → ((r < length xs) × (slice_get xs r ≡ Some y)) ⊎ ((r ≡ length xs) × (x ≡ y))
@@ -113,15 +114,25 @@ ready_placed E placed e pending old new rule k is grown r =
       (ap (λ s. s ∷ []) found, (bound, tt)),
     )
 
+-- a rule is pushed
+abbrev pub Pushed : Result ℕ AllocError → Numberer Shape Coded → Numberer Shape Coded → Coded → Type 0
+Pushed result old new rule = IfOk result (λ k. (k ≡ length old.rules.items) × (new.rules.items ≡ old.rules.items ++ rule ∷ []))
+
 -- what the numbering of an expression ensures, where all but its own rule is ready
-pub finish : (result : Result ℕ AllocError) (numbers : List ℕ) (first old new : List Coded) (rule : Coded) (before after : List (Bor Shape)) (e : List (List ℕ) → Expression)
-    → IfOk result (λ k. (k ≡ length old) × (new ≡ old ++ rule ∷ []))
-    → ((names : List (List ℕ)) → waiting names after ≡ waiting names before ++ left_by (e names))
-    → ((names : List (List ℕ)) (E : Environment) (placed : List Rule) → AreNumbered E placed (waiting names before) first → Each (IsKnown names numbers placed) (direct (e names)) → IsReady E placed (e names) (waiting names after) old (asked_of rule))
-    → IfOk result (Places numbers first new before after e)
-finish result numbers first old new rule before after e done waits ready =
-    IfOk-weaker result (λ k. (k ≡ length old) × (new ≡ old ++ rule ∷ [])) (Places numbers first new before after e)
-    (λ k d names. (waits names, λ E placed n refs. ready_placed E placed (e names) (waiting names after) old new rule k d.0 d.1 (ready names E placed n refs))) done
+pub finish : (result : Result ℕ AllocError) (numbers : List ℕ) (first old new : Numberer Shape Coded) (rule : Coded) (e : List (List ℕ) → Expression) → Pushed result old new rule → new.pending ≡ old.pending
+    → ((names : List (List ℕ)) → waiting names old ≡ waiting names first ++ left_by (e names))
+    → ((names : List (List ℕ)) (E : Environment) (placed : List Rule) → AreNumberedBy E names placed first → Each (IsKnown names numbers placed) (direct (e names)) → IsReady E placed (e names) (waiting names old) old.rules.items (asked_of rule))
+    → IfOk result (Places numbers first new e)
+finish result numbers first old new rule e done kept waits ready =
+    IfOk-weaker result (λ k. (k ≡ length old.rules.items) × (new.rules.items ≡ old.rules.items ++ rule ∷ [])) (Places numbers first new e)
+    (λ k d names.
+    let same : waiting names old ≡ waiting names new = ap (λ (v : Vec (Bor Shape) Global). map (λ b. expression_of names b.now) v.items) (sym kept) in (
+      sym same ∙ waits names,
+      λ E placed n refs.
+          let s = placed ++ placed_by (e names) in
+          subst (λ es. AreNumbered E s es new.rules.items × AreAt s (k ∷ []) (e names ∷ [])) same
+          (ready_placed E placed (e names) (waiting names old) old.rules.items new.rules.items rule k d.0 d.1 (ready names E placed n refs)),
+    )) done
 
 -- an expression that asks nothing of the same document, where more waits
 pub alone : (E : Environment) (placed : List Rule) (e : Expression) (before more : List Expression) (after : List Expression) (old : List Coded) (asked : Constraint ℕ ℕ) → AreNumbered E placed before old → after ≡ before ++ more → placed_by e ≡ node e ∷ []
@@ -136,21 +147,16 @@ alone E placed e before more after old asked n w s asks parts =
     }
 
 -- an expression without parts
-pub simply_placed : (result : Result ℕ AllocError) (numbers : List ℕ) (old new : List Coded) (before : List (Bor Shape)) (s : Bor Shape)
-    → IfOk result (λ k. (k ≡ length old) × (new ≡ old ++ coded.Simple s ∷ [])) → ((names : List (List ℕ)) → IsSimple (test_of (expression_of [] s.now)) (expression_of names s.now))
-    → IfOk result (Places numbers old new before before (λ names. expression_of names s.now))
-simply_placed result numbers old new before s done is =
-    let e = λ (names : List (List ℕ)). expression_of names s.now in
-    let waits = λ (names : List (List ℕ)). sym (append-nil (waiting names before)) ∙ ap (λ xs. waiting names before ++ xs) (sym (is names).1) in
-    finish result numbers old old new (coded.Simple s) before before e done waits
-    (λ names E placed n refs. alone E placed (e names) (waiting names before) (left_by (e names)) (waiting names before) old (asked_of (coded.Simple s)) n (waits names) (is names).0 ((is names).2 E) tt)
+pub simply_placed : (result : Result ℕ AllocError) (numbers : List ℕ) (old new : Numberer Shape Coded) (s : Bor Shape) → Pushed result old new (coded.Simple s) → new.pending ≡ old.pending
+    → ((names : List (List ℕ)) → IsSimple (test_of (expression_of [] s.now)) (expression_of names s.now)) → IfOk result (Places numbers old new (named s.now))
+simply_placed result numbers old new s done kept is =
+    let waits = λ (names : List (List ℕ)). sym (append-nil (waiting names old)) ∙ ap (λ xs. waiting names old ++ xs) (sym (is names).1) in
+    finish result numbers old old new (coded.Simple s) (named s.now) done kept waits
+    (λ names E placed n refs. let e = named s.now names in alone E placed e (waiting names old) (left_by e) (waiting names old) old.rules.items (asked_of (coded.Simple s)) n (waits names) (is names).0 ((is names).2 E) tt)
 
 -- the same, of an equal expression
-pub same_places : (result : Result ℕ AllocError) (numbers : List ℕ) (old new : List Coded) (before after : List (Bor Shape)) (e e' : List (List ℕ) → Expression) → ((names : List (List ℕ)) → e names ≡ e' names)
-    → IfOk result (Places numbers old new before after e') → IfOk result (Places numbers old new before after e)
-same_places result numbers old new before after e e' same h =
-    IfOk-weaker result (Places numbers old new before after e') (Places numbers old new before after e)
-    (λ k d names. subst (λ x. (waiting names after ≡ waiting names before ++ left_by x) × ((E : Environment) (placed : List Rule) → AreNumbered E placed (waiting names before) old → Each (IsKnown names numbers placed) (direct x) → AreNumbered E (placed ++ placed_by x) (waiting names after) new × AreAt (placed ++ placed_by x) (k ∷ []) (x ∷ []))) (sym (same names)) (d names)) h
+pub same_places : (result : Result ℕ AllocError) (numbers : List ℕ) (old new : Numberer Shape Coded) (e e' : List (List ℕ) → Expression) → ((names : List (List ℕ)) → e names ≡ e' names) → IfOk result (Places numbers old new e') → IfOk result (Places numbers old new e)
+same_places result numbers old new e e' same = subst (λ f. IfOk result (Places numbers old new f)) (λ i names. sym (same names) i)
 
 -- a known definition stays known
 pub known_more : (names : List (List ℕ)) (numbers : List ℕ) (placed more : List Rule) (n : List ℕ) → IsKnown names numbers placed n → IsKnown names numbers (placed ++ more) n

@@ -1,5 +1,5 @@
 -- One expression more is numbered.
-use Rattle.std.proofs.Common.{◌≡◌, ℕ, ◌<◌, ◌≤◌, List, [], ◌∷◌, ◌++◌, Bor, length, sym, ap, ap₂, ◌∙◌, subst, append_assoc, append-nil, length-append, lt_of_lt_of_le, arith}
+use Rattle.std.proofs.Common.{◌≡◌, ℕ, ◌<◌, ◌≤◌, List, [], ◌∷◌, ◌++◌, length, sym, ap, ap₂, ◌∙◌, subst, append_assoc, append-nil, length-append, lt_of_lt_of_le, arith}
 use Rattle.std.specs.List.{AllByRecursion as Each}
 use Rattle.std.proofs.lemmas.List.{map-append}
 use Rattle.cs_document.proofs.Each.{each_map, each_front, each_back}
@@ -7,10 +7,11 @@ use Rattle.cs_package.specs.Expression.{Expression, operands}
 use Rattle.cs_package.specs.View.{expressions_of}
 use Rattle.cs_package.specs.declared.shape.Shape.{Shape}
 use Rattle.cs_guard.specs.References.{direct, direct_all}
+use Rattle.cs_rules.specs.declared.numberer.Numberer.{Numberer}
 use Rattle.cs_instance.specs.Instance.{Rule, node}
 use Rattle.cs_instance.specs.Numbering.{rule_at}
 use Rattle.cs_instance.specs.declared.rules.Rule.{Rule as Coded}
-use Rattle.cs_instance.specs.Placing.{waiting, AreNumbered, AreAt, placed_by, placed_by_all, left_by, left_by_all, IsKnown, Places, PlacesAll}
+use Rattle.cs_instance.specs.Placing.{waiting, AreNumberedBy, AreAt, placed_by, placed_by_all, left_by, left_by_all, IsKnown, Places, PlacesAll}
 use Rattle.cs_instance.proofs.Placed.{known_more, operands_of, each_push, rules_kept}
 
 placed_push : (es : List Expression) (e : Expression) → placed_by_all (expressions_of (es ++ e ∷ [])) ≡ placed_by_all (expressions_of es) ++ placed_by e
@@ -36,12 +37,12 @@ at_push s t parts k es e all one =
       each_push (λ d. d < length (s ++ t)) parts k (each_map (λ d. d < length s) (λ d. d < length (s ++ t)) (λ d l. lt_of_lt_of_le l longer) parts all.1) one.1.0,
     )
 
-pub place_push : (numbers : List ℕ) (r0 r1 r2 : List Coded) (b0 b1 b2 : List (Bor Shape)) (es : List (List ℕ) → List Expression) (e : List (List ℕ) → Expression) (parts : List ℕ) (k : ℕ)
-    → PlacesAll numbers r0 r1 b0 b1 (λ names. expressions_of (es names)) parts → Places numbers r1 r2 b1 b2 e k
-    → PlacesAll numbers r0 r2 b0 b2 (λ names. expressions_of (es names ++ e names ∷ [])) (parts ++ k ∷ [])
-place_push numbers r0 r1 r2 b0 b1 b2 es e parts k all one = λ names. (
-  (one names).0 ∙ ap (λ xs. xs ++ left_by (e names)) (all names).0 ∙ append_assoc (waiting names b0) (left_by_all (expressions_of (es names))) (left_by (e names))
-      ∙ ap (λ xs. waiting names b0 ++ xs) (sym (left_push (es names) (e names))),
+pub place_push : (numbers : List ℕ) (n0 n1 n2 : Numberer Shape Coded) (es : List (List ℕ) → List Expression) (e : List (List ℕ) → Expression) (parts : List ℕ) (k : ℕ)
+    → PlacesAll numbers n0 n1 (λ names. expressions_of (es names)) parts → Places numbers n1 n2 e k
+    → PlacesAll numbers n0 n2 (λ names. expressions_of (es names ++ e names ∷ [])) (parts ++ k ∷ [])
+place_push numbers n0 n1 n2 es e parts k all one = λ names. (
+  (one names).0 ∙ ap (λ xs. xs ++ left_by (e names)) (all names).0 ∙ append_assoc (waiting names n0) (left_by_all (expressions_of (es names))) (left_by (e names))
+      ∙ ap (λ xs. waiting names n0 ++ xs) (sym (left_push (es names) (e names))),
   λ E placed n refs.
       let xs = expressions_of (es names) in
       let Q = IsKnown names numbers placed in
@@ -53,7 +54,7 @@ place_push numbers r0 r1 r2 b0 b1 b2 es e parts k all one = λ names. (
       let next = (one names).1 E s so_far.0 known in
       let whole : s ++ t ≡ placed ++ placed_by_all (expressions_of (es names ++ e names ∷ [])) = append_assoc placed (placed_by_all xs) t ∙ ap (λ ss. placed ++ ss) (sym (placed_push (es names) (e names))) in
       let at = subst (AreAt (s ++ t) (parts ++ k ∷ [])) (sym (operands_push (es names) (e names))) (at_push s t parts k (operands xs) (e names) so_far.1 next.1) in (
-        subst (λ ss. AreNumbered E ss (waiting names b2) r2) whole next.0,
+        subst (λ ss. AreNumberedBy E names ss n2) whole next.0,
         subst (λ ss. AreAt ss (parts ++ k ∷ []) (operands (expressions_of (es names ++ e names ∷ [])))) whole at,
       ),
 )

@@ -14,10 +14,11 @@ use Rattle.cs_package.specs.declared.shape.Shape.{Shape}
 use Rattle.cs_guard.specs.References.{direct}
 use Rattle.cs_guard.specs.Reachable.{referred, referred_all, referred_fields, referred_rest}
 use Rattle.cs_guard.proofs.Numbers.{contains_on}
+use Rattle.cs_rules.specs.declared.numberer.Numberer.{Numberer}
 use Rattle.cs_instance.specs.Instance.{Rule, node}
 use Rattle.cs_instance.specs.Rules.{subexpressions}
 use Rattle.cs_instance.specs.declared.rules.Rule.{Rule as Coded}
-use Rattle.cs_instance.specs.Placing.{waiting, AreNumbered, AreAt, IsKnown, Places, PlacesWaiting, placed_by, placed_by_all, left_by, left_by_all, values_of, each_of, rules_in}
+use Rattle.cs_instance.specs.Placing.{named, waiting, AreNumberedBy, AreAt, IsKnown, AreKnownIn, Places, PlacesWaiting, placed_by, placed_by_all, left_by, left_by_all, values_of, each_of, rules_in}
 use Rattle.cs_instance.proofs.Placed.{known_more}
 use Rattle.cs_instance.proofs.Pushed.{at_push}
 use Rattle.cs_instance.proofs.Counted.{then, equal, whole, whole_step}
@@ -77,43 +78,42 @@ module _ (Q : List ℕ → Type 0) where
 
 -- ---- one more
 
-pub nothing_placed : (E : Environment) (names : List (List ℕ)) (numbers : List ℕ) (placed : List Rule) (rules : List Coded) (pending : List (Bor Shape)) → AreNumbered E placed (waiting names pending) rules
-    → Each (λ e. Each (IsKnown names numbers placed) (referred e)) (waiting names pending) → PlacesWaiting E names numbers placed (waiting names pending) rules pending []
-nothing_placed E names numbers placed rules pending n h = record {
+pub nothing_placed : (E : Environment) (names : List (List ℕ)) (numbers : List ℕ) (placed : List Rule) (n : Numberer Shape Coded) → AreNumberedBy E names placed n → AreKnownIn names numbers placed (waiting names n) → PlacesWaiting E names numbers placed n n []
+nothing_placed E names numbers placed n a h = record {
   more = [];
-  numbered = subst (λ ss. AreNumbered E ss (waiting names pending) rules) (sym (append-nil placed)) n;
+  numbered = subst (λ ss. AreNumberedBy E names ss n) (sym (append-nil placed)) a;
   inside = (refl, tt);
-  same = equal _ _ (ap (λ ss. ss ++ rules_in (waiting names pending)) (sym (append-nil placed)));
+  same = equal _ _ (ap (λ ss. ss ++ rules_in (waiting names n)) (sym (append-nil placed)));
   known = h;
 }
 
 -- the first that waits, and what waits behind it
-abbrev pub WaitsAt : List (List ℕ) → List (Bor Shape) → ℕ → Shape → Type 0
-WaitsAt names pending k shape = drop k (waiting names pending) ≡ expression_of names shape ∷ drop (suc k) (waiting names pending)
+abbrev pub WaitsAt : List (List ℕ) → Numberer Shape Coded → ℕ → Shape → Type 0
+WaitsAt names n k shape = drop k (waiting names n) ≡ expression_of names shape ∷ drop (suc k) (waiting names n)
 
-pub waits_at : (names : List (List ℕ)) (pending : List (Bor Shape)) (k : ℕ) (b : Bor Shape) → k < length pending → b ≡ get_or pending k b → WaitsAt names pending k b.now
-waits_at names pending k b l e =
-    let W = waiting names pending in
+pub waits_at : (names : List (List ℕ)) (n : Numberer Shape Coded) (k : ℕ) (b : Bor Shape) → k < length n.pending.items → b ≡ get_or n.pending.items k b → WaitsAt names n k b.now
+waits_at names n k b l e =
+    let W = waiting names n in
+    let pending = n.pending.items in
     let f : Bor Shape → Expression = λ x. expression_of names x.now in
     let within : k < length W = subst (λ n. k < n) (sym (length-map pending f)) l in
     drop-cons W k (f b) within ∙ ap (λ x. x ∷ drop (suc k) W) (sym (mapped_at f pending k b (f b) l e))
 
-pub one_waited : (E : Environment) (names : List (List ℕ)) (numbers : List ℕ) (placed : List Rule) (first : List Expression) (rules rules' : List Coded) (pending pending' : List (Bor Shape)) (inner : List ℕ) (shape : Shape) (number : ℕ)
-    → length inner < length pending → WaitsAt names pending (length inner) shape → Places numbers rules rules' pending pending' (λ names. expression_of names shape) number
-    → PlacesWaiting E names numbers placed first rules pending inner → PlacesWaiting E names numbers placed first rules' pending' (inner ++ number ∷ [])
-one_waited E names numbers placed first rules rules' pending pending' inner shape number l at place p =
-    let W = waiting names pending in
+pub one_waited : (E : Environment) (names : List (List ℕ)) (numbers : List ℕ) (placed : List Rule) (first old new : Numberer Shape Coded) (inner : List ℕ) (shape : Shape) (number : ℕ) → length inner < length old.pending.items → WaitsAt names old (length inner) shape
+    → Places numbers old new (named shape) number → PlacesWaiting E names numbers placed first old inner → PlacesWaiting E names numbers placed first new (inner ++ number ∷ [])
+one_waited E names numbers placed first old new inner shape number l at place p =
+    let W = waiting names old in
     let k = length inner in
     let e = expression_of names shape in
     let L = left_by e in
     let s = placed ++ p.more in
     let t = placed_by e in
     let Q = IsKnown names numbers placed in
-    let within : k < length W = subst (λ n. k < n) (sym (length-map pending (λ (b : Bor Shape). expression_of names b.now))) l in
+    let within : k < length W = subst (λ n. k < n) (sym (length-map old.pending.items (λ (b : Bor Shape). expression_of names b.now))) l in
     let up : suc k ≤ length W = omega (arith, within) in
     let here : Each Q (referred e) = (subst (Each (Referred Q)) at (each_drop (Referred Q) k W p.known)).0 in
     let one = (place names).1 E s p.numbered (each_map Q (IsKnown names numbers s) (known_more names numbers placed p.more) (direct e) (direct_known Q e here)) in
-    let W' = waiting names pending' in
+    let W' = waiting names new in
     let grown : W' ≡ W ++ L = (place names).0 in
     let long : length (inner ++ number ∷ []) ≡ suc k = omega (arith, length-append inner (number ∷ [])) in
     let whole : s ++ t ≡ placed ++ (p.more ++ t) = append_assoc placed p.more t in
@@ -121,7 +121,7 @@ one_waited E names numbers placed first rules rules' pending pending' inner shap
     let left : drop (length (inner ++ number ∷ [])) W' ≡ drop (suc k) W ++ L = ap₂ drop long grown ∙ back_of W L (suc k) up in
     record {
       more = p.more ++ t;
-      numbered = subst (λ ss. AreNumbered E ss W' rules') whole one.0;
+      numbered = subst (λ ss. AreNumberedBy E names ss new) whole one.0;
       inside = subst (λ es. AreAt (placed ++ (p.more ++ t)) (inner ++ number ∷ []) es) (sym taken) (subst (λ ss. AreAt ss (inner ++ number ∷ []) (take k W ++ e ∷ [])) whole (at_push s t inner number (take k W) e p.inside one.1));
       same = then p.same (then (equal _ _ (ap (λ es. s ++ rules_in es) at)) (then (whole_step s e (drop (suc k) W)) (equal _ _ (ap₂ (λ ss es. ss ++ rules_in es) whole (sym left)))));
       known = subst (Each (Referred Q)) (sym grown) (each_append (Referred Q) W L p.known (left_known Q e here));
@@ -133,21 +133,20 @@ one_waited E names numbers placed first rules rules' pending pending' inner shap
     taken_one (x ∷ W) (suc k) e l d = ap (λ ys. x ∷ ys) (taken_one W k e (omega (arith, l)) d)
 
 -- less waits
-pub less_waits : (pending pending' : List (Bor Shape)) (inner inner' : List ℕ) (shape : Shape) → length inner < length pending → length inner' ≡ length inner + 1 → WaitsAt [] pending (length inner) shape
-    → waiting [] pending' ≡ waiting [] pending ++ left_by (expression_of [] shape)
-    → length (flat_map subexpressions (drop (length inner') (waiting [] pending'))) < length (flat_map subexpressions (drop (length inner) (waiting [] pending)))
-less_waits pending pending' inner inner' shape l longer at grown =
-    let W = waiting [] pending in
+pub less_waits : (old new : Numberer Shape Coded) (inner inner' : List ℕ) (shape : Shape) → length inner < length old.pending.items → length inner' ≡ length inner + 1 → WaitsAt [] old (length inner) shape → waiting [] new ≡ waiting [] old ++ left_by (expression_of [] shape)
+    → length (flat_map subexpressions (drop (length inner') (waiting [] new))) < length (flat_map subexpressions (drop (length inner) (waiting [] old)))
+less_waits old new inner inner' shape l longer at grown =
+    let W = waiting [] old in
     let k = length inner in
     let e = expression_of [] shape in
     let L = left_by e in
     let R = drop (suc k) W in
-    let within : k < length W = subst (λ n. k < n) (sym (length-map pending (λ (b : Bor Shape). expression_of [] b.now))) l in
-    let left : drop (length inner') (waiting [] pending') ≡ R ++ L = ap₂ drop (longer ∙ plus_one k) grown ∙ back_of W L (suc k) (omega (arith, within)) in
-    let old : length (flat_map subexpressions (drop k W)) ≡ length (subexpressions e) + length (flat_map subexpressions R) = ap (λ es. length (flat_map subexpressions es)) at ∙ length-append (subexpressions e) (flat_map subexpressions R) in
-    let new : length (flat_map subexpressions (drop (length inner') (waiting [] pending'))) ≡ length (flat_map subexpressions R) + length (flat_map subexpressions L) = ap (λ es. length (flat_map subexpressions es)) left ∙ ap length (flat_map-append subexpressions R L) ∙ length-append (flat_map subexpressions R) (flat_map subexpressions L) in
+    let within : k < length W = subst (λ n. k < n) (sym (length-map old.pending.items (λ (b : Bor Shape). expression_of [] b.now))) l in
+    let left : drop (length inner') (waiting [] new) ≡ R ++ L = ap₂ drop (longer ∙ plus_one k) grown ∙ back_of W L (suc k) (omega (arith, within)) in
+    let whole_old : length (flat_map subexpressions (drop k W)) ≡ length (subexpressions e) + length (flat_map subexpressions R) = ap (λ es. length (flat_map subexpressions es)) at ∙ length-append (subexpressions e) (flat_map subexpressions R) in
+    let whole_new : length (flat_map subexpressions (drop (length inner') (waiting [] new))) ≡ length (flat_map subexpressions R) + length (flat_map subexpressions L) = ap (λ es. length (flat_map subexpressions es)) left ∙ ap length (flat_map-append subexpressions R L) ∙ length-append (flat_map subexpressions R) (flat_map subexpressions L) in
     let all : length (map node (subexpressions e)) ≡ length (placed_by e ++ rules_in L) = length_permutation (placed_by e ++ rules_in L) (map node (subexpressions e)) (whole e) in
-    omega (arith, old, new, all, length-append (placed_by e) (rules_in L), length-map (subexpressions e) node, length-map (flat_map subexpressions L) node, some_placed e)
+    omega (arith, whole_old, whole_new, all, length-append (placed_by e) (rules_in L), length-map (subexpressions e) node, length-map (flat_map subexpressions L) node, some_placed e)
   where
     plus_one : (k : ℕ) → k + 1 ≡ suc k
     plus_one k = omega arith

@@ -1,5 +1,5 @@
 -- The rules of all that a root reaches, with their numbers.
-use Rattle.std.proofs.Common.{◌≡◌, ℕ, zero, suc, ◌<◌, inl, inr, Bool, true, false, List, [], ◌∷◌, ◌++◌, map, length, take, drop, slice_index, Bor, refl, sym, ap, ap₂, ◌∙◌, subst, append-nil, arith}
+use Rattle.std.proofs.Common.{◌≡◌, ℕ, zero, suc, ◌<◌, inl, inr, Bool, true, false, List, [], ◌∷◌, ◌++◌, map, length, take, drop, slice_index, refl, sym, ap, ap₂, ◌∙◌, subst, append-nil, arith}
 use Rattle.std.specs.Prelude.{Contains}
 use Rattle.std.specs.List.{flat_map, IsDistinct, AllByRecursion as Each}
 use Rattle.std.specs.List.Sorted.{IsPermutation}
@@ -24,10 +24,12 @@ use Rattle.cs_instance.specs.Instance.{Rule, definition, node}
 use Rattle.cs_instance.specs.Numbering.{map_declaration, map_rest, map_constraint, PartsBelow, RestBelow, rule_at, IsNumbering}
 use Rattle.cs_instance.specs.Rules.{rules_of, rules_of_one}
 use Rattle.cs_instance.specs.declared.rules.Rule.{Rule as Coded}
+use Rattle.cs_rules.specs.declared.numberer.Numberer.{Numberer}
 use Rattle.cs_rules.specs.Steps.{ArePlaced}
 use Rattle.cs_rules.proofs.Judged.{coded_found}
 use Rattle.cs_instance.specs.Steps.{asked_of, numbered}
-use Rattle.cs_instance.specs.Placing.{waiting, expression_at, AreNumbered, AreAt, IsKnown, PlacesWaiting, placed_with, left_with, bodies_of, rules_in}
+use Rattle.cs_instance.specs.declared.numbering.definitions.Placement.{Placement}
+use Rattle.cs_instance.specs.Placing.{waiting, expression_at, AreNumbered, AreAt, IsKnown, AreKnownIn, PlacesWaiting, placed_with, left_with, bodies_of, rules_in}
 use Rattle.cs_instance.specs.Ranked.{ArePlacedBy, names_in}
 use Rattle.cs_instance.specs.Rooted.{IsRooted}
 use Rattle.cs_instance.proofs.Placed.{names_same, got_front}
@@ -94,11 +96,11 @@ waiting_known E Q all known closed (n ∷ ns) inside =
     let here : Each Q (referred_all (bodies_of E n)) = subst (Each Q) (sym (all_referred bs)) (each_member Q (flat_map referred bs) (λ m c. each_found Q all m known (closed n m (inside n (inl refl)) c))) in
     each_append (Referred Q) (left_with E n) (flat_map (left_with E) ns) (left_known_all Q (bodies_of E n) here) (waiting_known E Q all known closed ns (λ k o. inside k (inr o)))
 
-pub first_known : (E : Environment) (ns : List (List ℕ)) (numbers : List ℕ) (rules : List Coded) (pending : List (Bor Shape)) → ((n m : List ℕ) → On n ns → Contains (referred_of E n) m → On m ns) → ArePlacedBy E ns numbers rules pending
-    → Each (λ e. Each (IsKnown (declared_names E) numbers (flat_map (placed_with E) ns)) (referred e)) (waiting (declared_names E) pending)
-first_known E ns numbers rules pending closed p =
-    let Q = IsKnown (declared_names E) numbers (flat_map (placed_with E) ns) in
-    subst (Each (Referred Q)) (sym p.waits) (waiting_known E Q ns p.known closed ns (λ n o. o))
+pub first_known : (E : Environment) (ns : List (List ℕ)) (p : Placement) → ((n m : List ℕ) → On n ns → Contains (referred_of E n) m → On m ns) → ArePlacedBy E ns p
+    → AreKnownIn (declared_names E) p.numbers.items (flat_map (placed_with E) ns) (waiting (declared_names E) p.numberer)
+first_known E ns p closed a =
+    let Q = IsKnown (declared_names E) p.numbers.items (flat_map (placed_with E) ns) in
+    subst (Each (Referred Q)) (sym a.waits) (waiting_known E Q ns a.known closed ns (λ n o. o))
 
 -- ---- places of what waited are numbers now
 
@@ -204,23 +206,23 @@ none_left [] (suc k) e = refl
 none_left (x ∷ xs) zero e = absurd (omega (arith, e))
 none_left (x ∷ xs) (suc k) e = none_left xs k (let f = e in omega (arith, f))
 
-module _ (E : Environment) (i : ℕ) (names : List (List ℕ)) (ns : List (List ℕ)) (numbers : List ℕ) (r0 r1 : List Coded) (b0 b1 : List (Bor Shape)) (inner : List ℕ)
-    (reach : AreReachable E (name_of E i) names) (perm : IsPermutation names ns) (p : ArePlacedBy E ns numbers r0 b0) (long : length inner ≡ length b1)
-    (w : PlacesWaiting E (declared_names E) numbers (flat_map (placed_with E) ns) (waiting (declared_names E) b0) r1 b1 inner) where
+module _ (E : Environment) (i : ℕ) (names : List (List ℕ)) (ns : List (List ℕ)) (first : Placement) (last : Numberer Shape Coded) (inner : List ℕ)
+    (reach : AreReachable E (name_of E i) names) (perm : IsPermutation names ns) (p : ArePlacedBy E ns first) (long : length inner ≡ length last.pending.items)
+    (w : PlacesWaiting E (declared_names E) first.numbers.items (flat_map (placed_with E) ns) first.numberer last inner) where
   abbrev placed : List Rule
   placed = flat_map (placed_with E) ns
 
   abbrev W : List Expression
-  W = waiting (declared_names E) b1
+  W = waiting (declared_names E) last
 
   wide : length inner ≡ length W
-  wide = long ∙ sym (length-map b1 _)
+  wide = long ∙ sym (length-map last.pending.items _)
 
   at_all : AreAt (placed ++ w.more) inner W
   at_all = subst (AreAt (placed ++ w.more) inner) (all_taken W (length inner) wide) w.inside
 
-  pub placed_all : ∥ ArePlaced (λ x r m. PartsBelow r m (asked_of x)) r1 inner ∥₁
-  placed_all = ∣ are_placed E (placed ++ w.more) W r1 inner w.numbered at_all ∣₁
+  pub placed_all : ∥ ArePlaced (λ x r m. PartsBelow r m (asked_of x)) last.rules.items inner ∥₁
+  placed_all = ∣ are_placed E (placed ++ w.more) W last.rules.items inner w.numbered at_all ∣₁
 
   counted : IsPermutation (rules_of E names) (placed ++ w.more)
   counted =
@@ -232,13 +234,13 @@ module _ (E : Environment) (i : ℕ) (names : List (List ℕ)) (ns : List (List 
   itself : Reaches E (name_of E i) (name_of E i)
   itself = record { steps = []; chain = tt; last = refl }
 
-  pub rooted : IsRooted E (name_of E i) r1 inner (slice_index numbers i)
+  pub rooted : IsRooted E (name_of E i) last.rules.items inner (slice_index first.numbers.items i)
   rooted =
       let here : On (name_of E i) ns = contains_on (name_of E i) ns (Contains-permutation names ns (name_of E i) perm ((reach.each (name_of E i)).1 itself)) in
-      let known = each_found (IsKnown (declared_names E) numbers placed) ns (name_of E i) p.known here in
+      let known = each_found (IsKnown (declared_names E) first.numbers.items placed) ns (name_of E i) p.known here in
       record {
         all = placed ++ w.more;
         are = record { names = names; reachable = reach; same = counted };
-        numbering = is_numbering E (placed ++ w.more) W r1 inner w.numbered at_all;
-        root = got_front placed w.more (slice_index numbers i) (definition (name_of E i)) (known i (names_at E i)).1;
+        numbering = is_numbering E (placed ++ w.more) W last.rules.items inner w.numbered at_all;
+        root = got_front placed w.more (slice_index first.numbers.items i) (definition (name_of E i)) (known i (names_at E i)).1;
       }

@@ -1,5 +1,7 @@
 -- What a rule of the code asks, by the numbers of its parts.
-use Rattle.std.specs.Prelude.{ℕ, Bool, false, List, [], map, slice_index}
+use Rattle.std.specs.Prelude.{ℕ, ◌<◌, Bool, false, List, [], map, slice_index}
+use Rattle.std.specs.List.{AllByRecursion}
+use Rattle.cs_document.specs.Document.{Entry}
 use Rattle.cs_rules.specs.Steps.{Step}
 use Rattle.cs_package.specs.Expression.{Expression, atom, kind, range, Declaration}
 use Rattle.cs_package.specs.View.{expression_of, mark_of}
@@ -31,7 +33,7 @@ abbrev pub asked_of : Rule → Constraint ℕ ℕ
 asked_of (rule.Simple s) = simple (test_of (expression_of [] s.now))
 asked_of (rule.All v) = all_of v.items
 asked_of (rule.Any v) = any_of v.items
-asked_of (rule.Struct v opened) = object_of (map field_of v.items) opened
+asked_of (rule.Struct fs opened) = object_of (map field_of fs.all.items) opened
 asked_of (rule.List v end) = list_of v.items (ending_of end)
 
 -- the same, with the numbers that are in that list
@@ -41,3 +43,10 @@ numbered inner r = map_constraint (λ k. k) (slice_index inner) (asked_of r)
 -- the verdict on a value, by those on the parts
 abbrev pub step : Rule → Step
 step r here inside d x = is_satisfied here inside (asked_of r) x
+
+-- the values of a map are below n, and the places of declared values below m
+abbrev pub ValuesBelow : ℕ → List (Entry ℕ) → Type 0
+ValuesBelow n ms = AllByRecursion (λ (e : Entry ℕ). e.1 < n) ms
+
+abbrev pub PlacesBelow : ℕ → List (Declaration ℕ) → Type 0
+PlacesBelow m ds = AllByRecursion (λ (d : Declaration ℕ). d.value < m) ds

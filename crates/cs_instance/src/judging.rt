@@ -8,7 +8,7 @@ ghost use Rattle.cs_instance.specs.Rules.{HasManyPairs};
 ghost use Rattle.cs_instance.specs.Judging.{IsJudge, IsTable};
 ghost use Rattle.cs_instance.specs.Refusal.{IsRefusal};
 
-use crate::rooted::numbering_of;
+use crate::numbering::numbering_of;
 use crate::{InstanceFault, InstanceJudge};
 use cs_document::Doc;
 use cs_flat::{Flat, flatten};
@@ -29,7 +29,8 @@ pub fn instance_judge<'a>(
     flat: &'a Flat<'a>,
 ) -> Result<(InstanceJudge<'a>, usize), InstanceFault>
     ensures found { IfOk result (λ t. (n : List ℕ) × Names «package».now root.now n
-        × IsJudge «package».now n flat.now t.1 (⟦<InstanceJudge<'a> as Judge>⟧.item_count t.0) (⟦<InstanceJudge<'a> as Judge>⟧.rule_count t.0) (⟦<InstanceJudge<'a> as Judge>⟧.answer t.0)) }
+        × IsJudge «package».now n flat.now t.1 (⟦<InstanceJudge<'a> as Judge>⟧.item_count t.0)
+        (⟦<InstanceJudge<'a> as Judge>⟧.rule_count t.0) (⟦<InstanceJudge<'a> as Judge>⟧.answer t.0)) }
     ensures refused { IfErr result (λ e. IsRefusal e «package».now root.now flat.now) }
     ensures fits { IsErrOf result InstanceFault.TooManyPairs → ⊥ }
 {
@@ -52,8 +53,10 @@ pub fn instance_table(
     root: &str,
     flat: &Flat<'_>,
 ) -> Result<(Verdicts, usize), InstanceFault>
-    ensures found { IfOk result (λ t. (n : List ℕ) × Names «package».now root.now n × IsTable «package».now n flat.now t.1 t.0) }
-    ensures within { OnOk result ((n : List ℕ) → Names «package».now root.now n → ¬ HasManyPairs «package».now n flat.now) }
+    ensures found { IfOk result (λ t. (n : List ℕ) × Names «package».now root.now n
+        × IsTable «package».now n flat.now t.1 t.0) }
+    ensures within { OnOk result ((n : List ℕ) → Names «package».now root.now n
+        → ¬ HasManyPairs «package».now n flat.now) }
     ensures refused { IfErr result (λ e. IsRefusal e «package».now root.now flat.now) }
 {
     let _count = flat.len(); // for the proof: the items are the values
@@ -75,8 +78,10 @@ pub fn is_instance(
 ) -> Result<bool, InstanceFault>
     ensures one_meaning { OneMeaning «package».now }
     ensures answer { IfOk result (λ b. (n : List ℕ) × Names «package».now root.now n
-        × ((I : Rule → Document → Bool) → IsInstance «package».now I → b ≡ I (definition n) (doc_view doc.now))) }
-    ensures within { OnOk result ((n : List ℕ) → Names «package».now root.now n → ¬ HasManyPairs «package».now n (doc_view doc.now)) }
+        × ((I : Rule → Document → Bool) → IsInstance «package».now I
+        → b ≡ I (definition n) (doc_view doc.now))) }
+    ensures within { OnOk result ((n : List ℕ) → Names «package».now root.now n
+        → ¬ HasManyPairs «package».now n (doc_view doc.now)) }
     ensures refused { IfErr result (λ e. IsRefusal e «package».now root.now (doc_view doc.now)) }
 {
     let _package = package.package(); // for the proof: the package is guarded

@@ -3,17 +3,14 @@
 
 mod atoms;
 mod by_kind;
-mod definitions;
 mod fault;
-mod inner;
+mod fields;
 mod judge;
 mod judging;
 mod laws;
 mod numbering;
-mod rooted;
 mod rules;
 mod steps;
-mod waiting;
 
 pub use fault::InstanceFault;
 pub use judge::InstanceJudge;

@@ -1,4 +1,5 @@
 // What rules ask, by the numbers of their parts.
+use crate::fields::Fields;
 use cs_package::{FieldMark, Shape};
 
 /// What a definition or an expression asks of a document. A rule asked of the same document is named by its number, and
@@ -9,14 +10,8 @@ pub enum Rule<'a> {
     Simple(&'a Shape),
     All(Vec<usize>),
     Any(Vec<usize>),
-    Struct {
-        fields: Vec<Field<'a>>,
-        opened: bool,
-    },
-    List {
-        front: Vec<usize>,
-        end: Ending,
-    },
+    Struct { fields: Fields<'a>, opened: bool },
+    List { front: Vec<usize>, end: Ending },
 }
 
 /// A declaration of a struct literal, with the place of its value's rule.

@@ -5,13 +5,13 @@ ghost use Rattle.cs_document.specs.Document.{Entry, under};
 ghost use Rattle.cs_document.specs.Inside.{AscendsInside, InsideBelow, KeysAscend};
 ghost use Rattle.cs_flat.specs.View.{item_view, entry_of};
 ghost use Rattle.cs_rules.specs.Knowns.{verdict_here, verdict_inside, value_count, rule_count, place_count};
-ghost use Rattle.cs_package.specs.Expression.{Declaration, is_every};
 ghost use Rattle.cs_package.specs.View.{mark_of};
 ghost use Rattle.cs_instance.specs.Constraint as constraint;
 ghost use Rattle.cs_instance.specs.Numbering.{PartsBelow, RestBelow};
-ghost use Rattle.cs_instance.specs.Steps.{asked_of, field_of, ending_of};
+ghost use Rattle.cs_instance.specs.Steps.{asked_of, field_of, ending_of, ValuesBelow, PlacesBelow};
 
 use crate::atoms::holds_simply;
+use crate::fields::{Fields, is_for_every_key};
 use crate::rules::{Ending, Field, Rule};
 use cs_flat::{Item, number_under};
 use cs_package::FieldMark;
@@ -26,32 +26,12 @@ fn may_be_absent(mark: FieldMark) -> bool
     }
 }
 
-fn is_for_every_key(mark: FieldMark) -> bool
-    ensures { result ≡ is_every (mark_of mark) }
-{
-    match mark {
-        FieldMark::Every { .. } => true,
-        FieldMark::Regular | FieldMark::Optional | FieldMark::Required => false,
-    }
-}
-
-/// Whether some declaration allows a key: that of its label, or `[string]`.
-fn is_allowed(fields: &[Field<'_>], key: &str) -> bool
-    ensures { result ≡ list_any (λ d. constraint.allows d key.now) (map field_of fields.now) }
-{
-    for field in fields {
-        if is_for_every_key(field.mark) || key == field.label {
-            return true;
-        }
-    }
-    false
-}
-
-fn are_allowed(fields: &[Field<'_>], members: &[(&str, usize)]) -> bool
-    ensures { result ≡ list_all (λ (m : Entry ℕ). list_any (λ d. constraint.allows d m.0) (map field_of fields.now)) (map entry_of members.now) }
+fn are_allowed(fields: &Fields<'_>, members: &[(&str, usize)]) -> bool
+    ensures { result ≡ list_all (λ (m : Entry ℕ). list_any (λ d. constraint.allows d m.0)
+        (map field_of fields.now.all.items)) (map entry_of members.now) }
 {
     for (key, _value) in members {
-        if !is_allowed(fields, key) {
+        if !fields.allow(key) {
             return false;
         }
     }
@@ -61,9 +41,10 @@ fn are_allowed(fields: &[Field<'_>], members: &[(&str, usize)]) -> bool
 /// Whether what is under a declaration's label is as declared.
 fn value_holds(field: &Field<'_>, members: &[(&str, usize)], known: &Known<'_>) -> bool
     requires ascends { KeysAscend (map entry_of members.now) }
-    requires members { AllByRecursion (λ (m : Entry ℕ). m.1 < value_count known.now) (map entry_of members.now) }
+    requires members { ValuesBelow (value_count known.now) (map entry_of members.now) }
     requires field { (field_of field.now).value < place_count known.now }
-    ensures { result ≡ constraint.value_holds (verdict_inside known.now) (field_of field.now) (under (field_of field.now).label (map entry_of members.now)) }
+    ensures { result ≡ constraint.value_holds (verdict_inside known.now) (field_of field.now)
+        (under (field_of field.now).label (map entry_of members.now)) }
 {
     match number_under(members, field.label) {
         None => may_be_absent(field.mark),
@@ -73,9 +54,10 @@ fn value_holds(field: &Field<'_>, members: &[(&str, usize)], known: &Known<'_>) 
 
 /// Whether the value under every key is an instance of the rule at a place.
 fn every_value_holds(members: &[(&str, usize)], part: usize, known: &Known<'_>) -> bool
-    requires members { AllByRecursion (λ (m : Entry ℕ). m.1 < value_count known.now) (map entry_of members.now) }
+    requires members { ValuesBelow (value_count known.now) (map entry_of members.now) }
     requires part { part < place_count known.now }
-    ensures { result ≡ list_all (λ (m : Entry ℕ). verdict_inside known.now m.1 part) (map entry_of members.now) }
+    ensures { result ≡ list_all (λ (m : Entry ℕ). verdict_inside known.now m.1 part)
+        (map entry_of members.now) }
 {
     for (_key, value) in members {
         if !known.inside(*value, part) {
@@ -88,9 +70,10 @@ fn every_value_holds(members: &[(&str, usize)], part: usize, known: &Known<'_>) 
 /// Only `[string]` looks at every key.
 fn declaration_holds(field: &Field<'_>, members: &[(&str, usize)], known: &Known<'_>) -> bool
     requires ascends { KeysAscend (map entry_of members.now) }
-    requires members { AllByRecursion (λ (m : Entry ℕ). m.1 < value_count known.now) (map entry_of members.now) }
+    requires members { ValuesBelow (value_count known.now) (map entry_of members.now) }
     requires field { (field_of field.now).value < place_count known.now }
-    ensures { result ≡ constraint.declaration_holds (verdict_inside known.now) (field_of field.now) (map entry_of members.now) }
+    ensures { result ≡ constraint.declaration_holds (verdict_inside known.now) (field_of field.now)
+        (map entry_of members.now) }
 {
     if is_for_every_key(field.mark) {
         every_value_holds(members, field.value, known)
@@ -101,9 +84,10 @@ fn declaration_holds(field: &Field<'_>, members: &[(&str, usize)], known: &Known
 
 fn declarations_hold(fields: &[Field<'_>], members: &[(&str, usize)], known: &Known<'_>) -> bool
     requires ascends { KeysAscend (map entry_of members.now) }
-    requires members { AllByRecursion (λ (m : Entry ℕ). m.1 < value_count known.now) (map entry_of members.now) }
-    requires fields { AllByRecursion (λ (d : Declaration ℕ). d.value < place_count known.now) (map field_of fields.now) }
-    ensures { result ≡ list_all (λ d. constraint.declaration_holds (verdict_inside known.now) d (map entry_of members.now)) (map field_of fields.now) }
+    requires members { ValuesBelow (value_count known.now) (map entry_of members.now) }
+    requires fields { PlacesBelow (place_count known.now) (map field_of fields.now) }
+    ensures { result ≡ list_all (λ d. constraint.declaration_holds (verdict_inside known.now) d
+        (map entry_of members.now)) (map field_of fields.now) }
 {
     for field in fields {
         if !declaration_holds(field, members, known) {
@@ -114,17 +98,18 @@ fn declarations_hold(fields: &[Field<'_>], members: &[(&str, usize)], known: &Kn
 }
 
 fn fields_hold(
-    fields: &[Field<'_>],
+    fields: &Fields<'_>,
     opened: bool,
     members: &[(&str, usize)],
     known: &Known<'_>,
 ) -> bool
     requires ascends { KeysAscend (map entry_of members.now) }
-    requires members { AllByRecursion (λ (m : Entry ℕ). m.1 < value_count known.now) (map entry_of members.now) }
-    requires fields { AllByRecursion (λ (d : Declaration ℕ). d.value < place_count known.now) (map field_of fields.now) }
-    ensures { result ≡ constraint.fields_hold (verdict_inside known.now) (map field_of fields.now) opened (map entry_of members.now) }
+    requires members { ValuesBelow (value_count known.now) (map entry_of members.now) }
+    requires fields { PlacesBelow (place_count known.now) (map field_of fields.now.all.items) }
+    ensures { result ≡ constraint.fields_hold (verdict_inside known.now)
+        (map field_of fields.now.all.items) opened (map entry_of members.now) }
 {
-    if !declarations_hold(fields, members, known) {
+    if !declarations_hold(&fields.all, members, known) {
         return false;
     }
     opened || are_allowed(fields, members)
@@ -133,7 +118,8 @@ fn fields_hold(
 fn rest_holds(end: &Ending, children: &[usize], known: &Known<'_>) -> bool
     requires children { AllByRecursion (λ y. y < value_count known.now) children.now }
     requires end { RestBelow (place_count known.now) (ending_of end.now) }
-    ensures { result ≡ constraint.rest_holds (verdict_inside known.now) (ending_of end.now) children.now }
+    ensures { result ≡ constraint.rest_holds (verdict_inside known.now) (ending_of end.now)
+        children.now }
 {
     match end {
         Ending::Closed => children.is_empty(),
@@ -146,7 +132,8 @@ fn elements_hold(front: &[usize], end: &Ending, children: &[usize], known: &Know
     requires children { AllByRecursion (λ y. y < value_count known.now) children.now }
     requires front { AllByRecursion (λ p. p < place_count known.now) front.now }
     requires end { RestBelow (place_count known.now) (ending_of end.now) }
-    ensures { result ≡ constraint.elements_hold (verdict_inside known.now) front.now (ending_of end.now) children.now }
+    ensures { result ≡ constraint.elements_hold (verdict_inside known.now) front.now
+        (ending_of end.now) children.now }
 {
     let mut rest = children;
     for part in front {
@@ -166,7 +153,8 @@ pub(crate) fn holds(rule: &Rule<'_>, value: &Item<'_>, known: &Known<'_>) -> boo
     requires parts { PartsBelow (rule_count known.now) (place_count known.now) (asked_of rule.now) }
     requires ascends { AscendsInside (item_view value.now) }
     requires children { InsideBelow (value_count known.now) (item_view value.now) }
-    ensures { result ≡ constraint.is_satisfied (verdict_here known.now) (verdict_inside known.now) (asked_of rule.now) (item_view value.now) }
+    ensures { result ≡ constraint.is_satisfied (verdict_here known.now) (verdict_inside known.now)
+        (asked_of rule.now) (item_view value.now) }
 {
     match rule {
         Rule::Simple(shape) => holds_simply(shape, value),
