@@ -1,14 +1,14 @@
 -- Definitions numbered by rank.
-use Rattle.std.proofs.Common.{◌≡◌, false, true≢false, ℕ, zero, suc, ◌+◌, ◌<◌, ◌≤◌, ◌⊎◌, inl, inr, List, [], ◌∷◌, ◌++◌, Some, map, length, take, get_or, slice_index, Bor, Vec, Global, refl, sym, ap, ap₂, ◌∙◌, subst, append_assoc, append-nil, arith}
+use Rattle.std.proofs.Common.{◌≡◌, false, true≢false, ℕ, zero, suc, ◌+◌, ◌<◌, ◌≤◌, ◌⊎◌, inl, inr, List, [], ◌∷◌, ◌++◌, Some, map, length, take, get_or, slice_index, Bor, Vec, Global, refl, sym, ap, ap₂, ◌∙◌, subst, append_assoc, arith}
 use Rattle.std.specs.Prelude.{slice_get, slice_set, Contains}
 use Rattle.std.specs.List.{flat_map, IsDistinct, AllByRecursion as Each}
 use Rattle.std.specs.Option.{unwrap_or}
 use Rattle.std.specs.Str.{bytes_eq}
+use Rattle.std.proofs.lemmas.Bool.{cases_eq, cases_lt}
 use Rattle.std.proofs.lemmas.Slice.Eq.{bytes_eq-Decides}
 use Rattle.std.proofs.lemmas.Map.Keys.{IsDistinct-head, IsDistinct-tail}
-use Rattle.std.proofs.lemmas.List.{get_or-set_same, get_or-set_other, map-append, take_more}
+use Rattle.std.proofs.lemmas.List.{get_or-set_same, get_or-set_other, map-append, take_more, flat_map_more}
 use Rattle.std.proofs.lemmas.List.Elements.{All-get_or}
-use Rattle.std.proofs.lemmas.Grind.{flat_map-append}
 use Rattle.std.proofs.lemmas.List.Elements.{Contains-append_left, Contains-append_right, Contains-append_cases}
 use Rattle.cs_document.proofs.Each.{each_map, each_member}
 use Rattle.cs_package.specs.Expression as cue
@@ -28,7 +28,8 @@ use Rattle.cs_instance.specs.declared.rules.Rule.TheVariants as coded
 use Rattle.cs_instance.specs.Placing.{waiting, AreNumbered, IsKnown, PlacesAll, PlacesOne, placed_by_all, placed_with, left_with, bodies_of}
 use Rattle.cs_instance.specs.Ranked.{IsRank, AreRanked, ArePlacedBy, names_in}
 use Rattle.cs_guard.proofs.Ways.{direct-strong}
-use Rattle.cs_instance.proofs.Placed.{push, got_front, operands_of, each_push}
+use Rattle.cs_rules.proofs.Lists.{each_push, got_front, got_last}
+use Rattle.cs_instance.proofs.Placed.{push, operands_of}
 
 -- ---- names
 
@@ -60,10 +61,6 @@ names_at (d ∷ E) (suc i) = names_at E i
 
 -- ---- one definition
 
-get_last : {X : Type 0} (xs : List X) (x : X) → slice_get (xs ++ x ∷ []) (length xs) ≡ Some x
-get_last [] x = refl
-get_last (y ∷ xs) x = get_last xs x
-
 pub definition_placed : (E : Environment) (names : List (List ℕ)) (n : List ℕ) (i k : ℕ) (numbers : List ℕ) (placed : List Rule) (r0 r1 r2 : List Coded) (b0 b1 : List (Bor Shape)) (shapes : List Shape) (parts : Vec ℕ Global)
     → bodies E n ≡ Some (map (expression_of names) shapes) → i < length numbers
     → PlacesAll numbers r0 r1 b0 b1 (λ names. expressions_of (map (expression_of names) shapes)) parts.items → (k ≡ length r1) × (r2 ≡ r1 ++ coded.All parts ∷ [])
@@ -82,25 +79,15 @@ definition_placed E names n i k numbers placed r0 r1 r2 b0 b1 shapes parts found
     let place : slice_index (slice_set numbers i k) i ≡ length (placed ++ P) = get_or-set_same numbers i k 0 within ∙ put.0 ∙ w.0.sizes in
     record {
       numbered = subst (λ ss. AreNumbered E ss (waiting names b1) r2) whole (subst (λ rs. AreNumbered E ((placed ++ P) ++ definition n ∷ []) (waiting names b1) rs) (sym put.1) one);
-      number = ap₂ slice_get (sym whole) place ∙ get_last (placed ++ P) (definition n);
+      number = ap₂ slice_get (sym whole) place ∙ got_last (placed ++ P) (definition n);
       others = λ j other. get_or-set_other numbers i j k 0 other;
       only = only;
     }
 
 -- ---- one definition more
 
-same_or_not : (j i : ℕ) → (j ≡ i) ⊎ ¬ (j ≡ i)
-same_or_not zero zero = inl refl
-same_or_not zero (suc i) = inr (λ e. omega (arith, e))
-same_or_not (suc j) zero = inr (λ e. omega (arith, e))
-same_or_not (suc j) (suc i) = by (same_or_not j i)
-  where
-    by : (j ≡ i) ⊎ ¬ (j ≡ i) → (suc j ≡ suc i) ⊎ ¬ (suc j ≡ suc i)
-    by (inl e) = inl (ap suc e)
-    by (inr n) = inr (λ e. n (let f = e in omega (arith, f)))
-
 flat_push : {X Y : Type 0} (f : X → List Y) (xs : List X) (x : X) → flat_map f (xs ++ x ∷ []) ≡ flat_map f xs ++ f x
-flat_push f xs x = flat_map-append f xs (x ∷ []) ∙ ap (λ ys. flat_map f xs ++ ys) (append-nil (f x))
+flat_push f xs x = sym (flat_map_more f [] xs x)
 
 pub placed_more : (E : Environment) (ns : List (List ℕ)) (i : ℕ) (numbers new : List ℕ) (rules rules' : List Coded) (pending pending' : List (Bor Shape)) → i < length E → length new ≡ length E
     → waiting (declared_names E) pending' ≡ waiting (declared_names E) pending ++ left_with E (name_of E i)
@@ -120,7 +107,7 @@ placed_more E ns i numbers new rules rules' pending pending' within long waits a
     }
   where
     kept : (m : List ℕ) → IsKnown (declared_names E) numbers (flat_map (placed_with E) ns) m → IsKnown (declared_names E) new (flat_map (placed_with E) ns ++ placed_with E (name_of E i)) m
-    kept m h j e = (subst (λ k. j < k) (all.long ∙ sym long) (h j e).0, by (same_or_not j i))
+    kept m h j e = (subst (λ k. j < k) (all.long ∙ sym long) (h j e).0, by (cases_eq j i))
       where
         by : (j ≡ i) ⊎ ¬ (j ≡ i) → slice_get (flat_map (placed_with E) ns ++ placed_with E (name_of E i)) (slice_index new j) ≡ Some (definition m)
         by (inl s) = ap (λ k. slice_get (flat_map (placed_with E) ns ++ placed_with E (name_of E i)) (slice_index new k)) s ∙ one.number ∙ ap (λ k. Some (definition k)) (sym (names_at E i) ∙ ap (λ k. get_or (declared_names E) k []) (sym s) ∙ e)
@@ -177,15 +164,6 @@ each_found P [] x h o = absurd o
 each_found P (y ∷ ys) x h (inl e) = subst P (sym e) h.0
 each_found P (y ∷ ys) x h (inr o) = each_found P ys x h.1 o
 
-lt_or_ge : (a b : ℕ) → (a < b) ⊎ (b ≤ a)
-lt_or_ge a zero = inr (omega arith)
-lt_or_ge zero (suc b) = inl (omega arith)
-lt_or_ge (suc a) (suc b) = by (lt_or_ge a b)
-  where
-    by : (a < b) ⊎ (b ≤ a) → (suc a < suc b) ⊎ (suc b ≤ suc a)
-    by (inl l) = inl (omega (arith, l))
-    by (inr l) = inr (omega (arith, l))
-
 module _ (E : Environment) (ds : List (ℕ × ℕ)) (ranked : AreRanked E ds) (i : ℕ) (within : i < length ds) where
   abbrev here : ℕ × ℕ
   here = get_or ds i (0, 0)
@@ -199,7 +177,7 @@ module _ (E : Environment) (ds : List (ℕ × ℕ)) (ranked : AreRanked E ds) (i
       let rank = All-get_or (λ (d : ℕ × ℕ). IsRank E d.1 d.0) ds p.0 (0, 0) p.1 ranked.ranks in
       let q = get_or ds p.0 (0, 0) in
       let lower : q.0 < here.0 = rank_here.falls (name_of E q.1) q.0 (subst (Contains (strong_of E (name_of E here.1))) (sym p.2) s) rank.height in
-      subst (λ n. On n (names_in E (take i ds))) p.2 (on_front (λ d. name_of E d.1) ds i p.0 (earlier p.0 q.0 (lt_or_ge p.0 i) lower (λ l. ranked.sorted i p.0 (0, 0) l p.1)) p.1)
+      subst (λ n. On n (names_in E (take i ds))) p.2 (on_front (λ d. name_of E d.1) ds i p.0 (earlier p.0 q.0 (cases_lt p.0 i) lower (λ l. ranked.sorted i p.0 (0, 0) l p.1)) p.1)
     where
       earlier : (j r : ℕ) → (j < i) ⊎ (i ≤ j) → r < here.0 → (i ≤ j → here.0 ≤ r) → j < i
       earlier j r (inl l) lower sorted = l

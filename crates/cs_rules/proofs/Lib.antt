@@ -2,3 +2,5 @@
 
 pub mod Judged
 pub mod Foretold
+-- lists that grow, for the numbering of rules
+pub mod Lists
