@@ -4,3 +4,4 @@ pub mod Judged
 pub mod Foretold
 -- lists that grow, for the numbering of rules
 pub mod Lists
+pub mod Waiting

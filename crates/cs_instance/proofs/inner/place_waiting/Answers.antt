@@ -1,48 +1,40 @@
-use Rattle.std.proofs.Common.{◌≡◌, ◌<◌, ◌≤◌, [], ◌∷◌, ◌++◌, length, get_or, sym, ap, ◌∙◌, subst, length-append, arith}
+use Rattle.std.proofs.Common.{◌≡◌, ◌<◌, ◌≤◌, [], ◌∷◌, ◌++◌, Bor, length, get_or, refl, sym, ap, ◌∙◌, subst, length-append, arith}
 use Rattle.cs_package.specs.View.{expression_of}
 use Rattle.cs_instance.specs.Placing.{waiting, left_by, PlacesWaiting}
-use Rattle.cs_instance.proofs.Places.{longer}
-use Rattle.cs_instance.proofs.Waited.{nothing_placed, one_waited, less_waits, waits_at}
+use Rattle.cs_rules.proofs.Waiting.{IsNext, not_longer}
+use Rattle.cs_package.specs.declared.shape.Shape.{Shape}
+use Rattle.cs_instance.proofs.Waited.{nothing_placed, one_waited, less_waits}
 use Rattle.cs_instance.proofs.inner.place_waiting.Goals as goal
+
+-- the next shape that waits
+next : (c : goal.In_ok-push) → IsNext c.loop-alloc.pending.items c.loop-alloc.inner.items c.push.new.self.items c.index-shape.result.now c.in_ok-number.number
+next c =
+    let inner = c.loop-alloc.inner in
+    let pending = c.loop-alloc.pending in
+    let at : c.len-in-loop-alloc-2.result ≡ length inner.items = omega (arith, inner.ok.0, c.len-in-loop-alloc-2.ensures) in
+    record {
+      within = omega (arith, inner.ok.0, pending.ok.0, c.len.ensures, c.len-in-loop-alloc.ensures, c.loop-alloc-test.true);
+      is = c.index-shape.ensures ∙ ap (λ k. get_or pending.items k c.index-shape.result.now) at;
+      put = c.in_ok-push.ensures.items;
+    }
 
 pub loop-alloc-preserved : goal.loop-alloc-preserved
 loop-alloc-preserved c =
     let l = c.loop-alloc in
-    let inner_vec = l.inner in
-    let pending_vec = l.pending in
-    let inner = l.inner.items in
-    let pending = l.pending.items in
-    let within : length inner < length pending = omega (arith, inner_vec.ok.0, pending_vec.ok.0, c.len.ensures, c.len-in-loop-alloc.ensures, c.loop-alloc-test.true) in
     let b = c.index-shape.result.now in
-    let at : c.len-in-loop-alloc-2.result ≡ length inner = omega (arith, inner_vec.ok.0, c.len-in-loop-alloc-2.ensures) in
-    let is : b ≡ get_or pending (length inner) b = c.index-shape.ensures ∙ ap (λ k. get_or pending k b) at in
-    let number = c.in_ok-number.number in
-    let put : c.push.new.self.items ≡ inner ++ number ∷ [] = c.in_ok-push.ensures.items in
-    let place = c.in_ok-number.ensures in
+    let k = c.in_ok-number.number in
+    let inner = c.push.new.self.items in
+    let pending = l.pending.items in
     let after = c.place.new.pending.items in
-    let wider : length pending ≤ length after = longer [] pending after (left_by (expression_of [] b.now)) (place []).0 in
+    let place = c.in_ok-number.ensures in
     record {
-      most = omega (arith, within, ap length put, length-append inner (number ∷ []), wider);
-      placed = λ E names placed n h.
-          let first = waiting names c.args.pending.now.items in
-          subst (PlacesWaiting E names c.args.numbers.now placed first c.place.new.rules.items after) (sym put)
-          (one_waited E names c.args.numbers.now placed first l.rules.items c.place.new.rules.items pending after inner b.now number within (waits_at names pending (length inner) b within is) place (l.invariant.placed E names placed n h));
+      most = not_longer (λ (x : Bor Shape). expression_of [] x.now) pending l.inner.items inner b k (next c) (waiting [] after) (left_by (expression_of [] b.now)) (place []).0 after refl;
+      placed = λ E names placed n h. one_waited E names c.args.numbers.now placed (waiting names c.args.pending.now.items) l.rules.items c.place.new.rules.items pending after l.inner.items inner b k (next c) place (l.invariant.placed E names placed n h);
     }
 
 pub loop-alloc-smaller : goal.loop-alloc-smaller
 loop-alloc-smaller c =
-    let l = c.loop-alloc in
-    let inner_vec = l.inner in
-    let pending_vec = l.pending in
-    let inner = l.inner.items in
-    let pending = l.pending.items in
-    let within : length inner < length pending = omega (arith, inner_vec.ok.0, pending_vec.ok.0, c.len.ensures, c.len-in-loop-alloc.ensures, c.loop-alloc-test.true) in
-    let b = c.index-shape.result.now in
-    let at : c.len-in-loop-alloc-2.result ≡ length inner = omega (arith, inner_vec.ok.0, c.len-in-loop-alloc-2.ensures) in
-    let is : b ≡ get_or pending (length inner) b = c.index-shape.ensures ∙ ap (λ k. get_or pending k b) at in
-    let number = c.in_ok-number.number in
-    let put : c.push.new.self.items ≡ inner ++ number ∷ [] = c.in_ok-push.ensures.items in
-    less_waits pending c.place.new.pending.items inner c.push.new.self.items b.now within (ap length put ∙ length-append inner (number ∷ [])) (waits_at [] pending (length inner) b within is) (c.in_ok-number.ensures []).0
+    less_waits c.loop-alloc.pending.items c.place.new.pending.items c.loop-alloc.inner.items c.push.new.self.items c.index-shape.result.now c.in_ok-number.number (next c) (c.in_ok-number.ensures []).0
 
 pub loop-alloc-init : goal.loop-alloc-init
 loop-alloc-init c =

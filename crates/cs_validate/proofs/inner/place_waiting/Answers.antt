@@ -1,54 +1,44 @@
-use Rattle.std.proofs.Common.{◌≡◌, ◌<◌, ◌≤◌, [], ◌∷◌, ◌++◌, Bor, length, get_or, sym, ap, ◌∙◌, subst, length-append, arith}
+use Rattle.std.proofs.Common.{◌≡◌, ◌<◌, ◌≤◌, [], ◌∷◌, ◌++◌, Bor, length, get_or, refl, sym, ap, ◌∙◌, subst, length-append, arith}
 use Rattle.std.proofs.lemmas.List.{length-map}
 use Rattle.cs_profile.specs.Numbered.{by_text}
 use Rattle.cs_profile.specs.SchemaDocument.{schema_view}
 use Rattle.cs_profile.specs.declared.schema.Schema.{Schema}
 use Rattle.cs_validate.specs.Placing.{waiting, left_by}
 use Rattle.cs_validate.specs.Ranked.{PlacesWaiting}
-use Rattle.cs_validate.proofs.Waited.{nothing_placed, one_waited, less_waits, waits_at}
+use Rattle.cs_rules.proofs.Waiting.{IsNext, not_longer}
+use Rattle.cs_validate.proofs.Waited.{nothing_placed, one_waited, less_waits}
 use Rattle.cs_validate.proofs.inner.place_waiting.Goals as goal
+
+-- the next schema that waits
+next : (c : goal.In_ok-push) → IsNext c.loop-alloc.pending.items c.loop-alloc.inner.items c.push.new.self.items c.index-schema.result.now c.in_ok-number.number
+next c =
+    let inner = c.loop-alloc.inner in
+    let pending = c.loop-alloc.pending in
+    let at : c.len-in-loop-alloc-2.result ≡ length inner.items = omega (arith, inner.ok.0, c.len-in-loop-alloc-2.ensures) in
+    record {
+      within = omega (arith, inner.ok.0, pending.ok.0, c.len.ensures, c.len-in-loop-alloc.ensures, c.loop-alloc-test.true);
+      is = c.index-schema.ensures ∙ ap (λ k. get_or pending.items k c.index-schema.result.now) at;
+      put = c.in_ok-push.ensures.items;
+    }
 
 pub loop-alloc-preserved : goal.loop-alloc-preserved
 loop-alloc-preserved c =
     let l = c.loop-alloc in
-    let inner_vec = l.inner in
-    let pending_vec = l.pending in
-    let inner = l.inner.items in
-    let pending = l.pending.items in
-    let within : length inner < length pending = omega (arith, inner_vec.ok.0, pending_vec.ok.0, c.len.ensures, c.len-in-loop-alloc.ensures, c.loop-alloc-test.true) in
     let b = c.index-schema.result.now in
-    let at : c.len-in-loop-alloc-2.result ≡ length inner = omega (arith, inner_vec.ok.0, c.len-in-loop-alloc-2.ensures) in
-    let is : b ≡ get_or pending (length inner) b = c.index-schema.ensures ∙ ap (λ k. get_or pending k b) at in
-    let number = c.in_ok-number.number in
-    let put : c.push.new.self.items ≡ inner ++ number ∷ [] = c.in_ok-push.ensures.items in
-    let place = c.in_ok-number.ensures in
+    let k = c.in_ok-number.number in
+    let inner = c.push.new.self.items in
+    let pending = l.pending.items in
     let after = c.place.new.pending.items in
-    let view = λ (s : Bor Schema). schema_view s.now in
-    let s = schema_view b.now in
-    let wider : length pending ≤ length after = omega (arith, ap length place.0, length-append (waiting pending) (left_by s), length-map pending view, length-map after view) in
+    let place = c.in_ok-number.ensures in
     record {
-      most = omega (arith, within, ap length put, length-append inner (number ∷ []), wider);
+      most = not_longer (λ (x : Bor Schema). schema_view x.now) pending l.inner.items inner b k (next c) (waiting after) (left_by (schema_view b.now)) place.0 after refl;
       placed = λ R placed n known.
-          let first = waiting c.args.pending.now.items in
-          let numbers = by_text c.args.numbers.now.entries in
-          subst (PlacesWaiting R placed first c.place.new.rules.items after) (sym put)
-          (one_waited R numbers placed first l.rules.items c.place.new.rules.items pending after inner b.now number within (waits_at pending (length inner) b within is) place known (l.invariant.placed R placed n known));
+          one_waited R (by_text c.args.numbers.now.entries) placed (waiting c.args.pending.now.items) l.rules.items c.place.new.rules.items pending after l.inner.items inner b k (next c) place known (l.invariant.placed R placed n known);
     }
 
 pub loop-alloc-smaller : goal.loop-alloc-smaller
 loop-alloc-smaller c =
-    let l = c.loop-alloc in
-    let inner_vec = l.inner in
-    let pending_vec = l.pending in
-    let inner = l.inner.items in
-    let pending = l.pending.items in
-    let within : length inner < length pending = omega (arith, inner_vec.ok.0, pending_vec.ok.0, c.len.ensures, c.len-in-loop-alloc.ensures, c.loop-alloc-test.true) in
-    let b = c.index-schema.result.now in
-    let at : c.len-in-loop-alloc-2.result ≡ length inner = omega (arith, inner_vec.ok.0, c.len-in-loop-alloc-2.ensures) in
-    let is : b ≡ get_or pending (length inner) b = c.index-schema.ensures ∙ ap (λ k. get_or pending k b) at in
-    let number = c.in_ok-number.number in
-    let put : c.push.new.self.items ≡ inner ++ number ∷ [] = c.in_ok-push.ensures.items in
-    less_waits pending c.place.new.pending.items inner c.push.new.self.items b.now within (ap length put ∙ length-append inner (number ∷ [])) (waits_at pending (length inner) b within is) c.in_ok-number.ensures.0
+    less_waits c.loop-alloc.pending.items c.place.new.pending.items c.loop-alloc.inner.items c.push.new.self.items c.index-schema.result.now c.in_ok-number.number (next c) c.in_ok-number.ensures.0
 
 pub loop-alloc-init : goal.loop-alloc-init
 loop-alloc-init c =
