@@ -9,27 +9,24 @@ use Rattle.cs_instance.proofs.inner.place_waiting.Goals as goal
 -- the next shape that waits
 next : (c : goal.In_ok-push) → IsNext c.loop-alloc.pending.items c.loop-alloc.inner.items c.push.new.self.items c.index-shape.result.now c.in_ok-number.number
 next c =
-    let inner = c.loop-alloc.inner in
-    let pending = c.loop-alloc.pending in
-    let at : c.len-in-loop-alloc-2.result ≡ length inner.items = omega (arith, inner.ok.0, c.len-in-loop-alloc-2.ensures) in
+    let l = c.loop-alloc in
+    let at : c.len-in-loop-alloc-2.result ≡ length l.inner.items = omega (arith, l.inner.ok.0, c.len-in-loop-alloc-2.ensures) in
     record {
-      within = omega (arith, inner.ok.0, pending.ok.0, c.len.ensures, c.len-in-loop-alloc.ensures, c.loop-alloc-test.true);
-      is = c.index-shape.ensures ∙ ap (λ k. get_or pending.items k c.index-shape.result.now) at;
+      within = omega (arith, l.inner.ok.0, l.pending.ok.0, c.len.ensures, c.len-in-loop-alloc.ensures, c.loop-alloc-test.true);
+      is = c.index-shape.ensures ∙ ap (λ k. get_or l.pending.items k c.index-shape.result.now) at;
       put = c.in_ok-push.ensures.items;
     }
 
 pub loop-alloc-preserved : goal.loop-alloc-preserved
 loop-alloc-preserved c =
-    let l = c.loop-alloc in
     let b = c.index-shape.result.now in
+    let l = c.loop-alloc in
     let k = c.in_ok-number.number in
     let inner = c.push.new.self.items in
-    let pending = l.pending.items in
     let after = c.place.new.pending.items in
-    let place = c.in_ok-number.ensures in
     record {
-      most = not_longer (λ (x : Bor Shape). expression_of [] x.now) pending l.inner.items inner b k (next c) (waiting [] after) (left_by (expression_of [] b.now)) (place []).0 after refl;
-      placed = λ E names placed n h. one_waited E names c.args.numbers.now placed (waiting names c.args.pending.now.items) l.rules.items c.place.new.rules.items pending after l.inner.items inner b k (next c) place (l.invariant.placed E names placed n h);
+      most = not_longer (λ (x : Bor Shape). expression_of [] x.now) l.pending.items l.inner.items inner b k (next c) (waiting [] after) (left_by (expression_of [] b.now)) (c.in_ok-number.ensures []).0 after refl;
+      placed = λ E names placed n h. one_waited E names c.args.numbers.now placed (waiting names c.args.pending.now.items) l.rules.items c.place.new.rules.items l.pending.items after l.inner.items inner b k (next c) c.in_ok-number.ensures (l.invariant.placed E names placed n h);
     }
 
 pub loop-alloc-smaller : goal.loop-alloc-smaller

@@ -12,28 +12,25 @@ use Rattle.cs_validate.proofs.inner.place_waiting.Goals as goal
 -- the next schema that waits
 next : (c : goal.In_ok-push) → IsNext c.loop-alloc.pending.items c.loop-alloc.inner.items c.push.new.self.items c.index-schema.result.now c.in_ok-number.number
 next c =
-    let inner = c.loop-alloc.inner in
-    let pending = c.loop-alloc.pending in
-    let at : c.len-in-loop-alloc-2.result ≡ length inner.items = omega (arith, inner.ok.0, c.len-in-loop-alloc-2.ensures) in
+    let l = c.loop-alloc in
+    let at : c.len-in-loop-alloc-2.result ≡ length l.inner.items = omega (arith, l.inner.ok.0, c.len-in-loop-alloc-2.ensures) in
     record {
-      within = omega (arith, inner.ok.0, pending.ok.0, c.len.ensures, c.len-in-loop-alloc.ensures, c.loop-alloc-test.true);
-      is = c.index-schema.ensures ∙ ap (λ k. get_or pending.items k c.index-schema.result.now) at;
+      within = omega (arith, l.inner.ok.0, l.pending.ok.0, c.len.ensures, c.len-in-loop-alloc.ensures, c.loop-alloc-test.true);
+      is = c.index-schema.ensures ∙ ap (λ k. get_or l.pending.items k c.index-schema.result.now) at;
       put = c.in_ok-push.ensures.items;
     }
 
 pub loop-alloc-preserved : goal.loop-alloc-preserved
 loop-alloc-preserved c =
-    let l = c.loop-alloc in
     let b = c.index-schema.result.now in
+    let l = c.loop-alloc in
     let k = c.in_ok-number.number in
     let inner = c.push.new.self.items in
-    let pending = l.pending.items in
     let after = c.place.new.pending.items in
-    let place = c.in_ok-number.ensures in
     record {
-      most = not_longer (λ (x : Bor Schema). schema_view x.now) pending l.inner.items inner b k (next c) (waiting after) (left_by (schema_view b.now)) place.0 after refl;
+      most = not_longer (λ (x : Bor Schema). schema_view x.now) l.pending.items l.inner.items inner b k (next c) (waiting after) (left_by (schema_view b.now)) c.in_ok-number.ensures.0 after refl;
       placed = λ R placed n known.
-          one_waited R (by_text c.args.numbers.now.entries) placed (waiting c.args.pending.now.items) l.rules.items c.place.new.rules.items pending after l.inner.items inner b k (next c) place known (l.invariant.placed R placed n known);
+          one_waited R (by_text c.args.numbers.now.entries) placed (waiting c.args.pending.now.items) l.rules.items c.place.new.rules.items l.pending.items after l.inner.items inner b k (next c) c.in_ok-number.ensures known (l.invariant.placed R placed n known);
     }
 
 pub loop-alloc-smaller : goal.loop-alloc-smaller
