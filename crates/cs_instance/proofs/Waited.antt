@@ -21,7 +21,8 @@ use Rattle.cs_instance.specs.declared.rules.Rule.{Rule as Coded}
 use Rattle.cs_instance.specs.Placing.{waiting, AreNumbered, AreAt, IsKnown, Places, PlacesWaiting, placed_by, placed_by_all, left_by, left_by_all, values_of, each_of, rules_in}
 use Rattle.cs_instance.proofs.Placed.{known_more}
 use Rattle.cs_instance.proofs.Pushed.{at_push}
-use Rattle.cs_instance.proofs.Counted.{then, equal, whole, whole_step}
+use Rattle.cs_rules.proofs.Permutations.{equal, joined}
+use Rattle.cs_instance.proofs.Counted.{whole, whole_step}
 use Rattle.cs_instance.proofs.Ordered.{direct-referred, each_found}
 
 -- ---- what an expression leaves to wait refers to nothing else
@@ -95,7 +96,7 @@ one_waited E names numbers placed first rules rules' pending pending' inner inne
       more = p.more ++ t;
       numbered = subst (λ ss. AreNumbered E ss W' rules') whole one.0;
       inside = subst (λ es. AreAt (placed ++ (p.more ++ t)) inner' es) (sym m.taken) (subst (λ ss. AreAt ss inner' (take k W ++ e ∷ [])) whole both);
-      same = then p.same (then (equal _ _ (ap (λ es. s ++ rules_in es) m.at)) (then (whole_step s e (drop (suc k) W)) (equal _ _ (ap₂ (λ ss es. ss ++ rules_in es) whole (sym m.left)))));
+      same = joined p.same (joined (equal _ _ (ap (λ es. s ++ rules_in es) m.at)) (joined (whole_step s e (drop (suc k) W)) (equal _ _ (ap₂ (λ ss es. ss ++ rules_in es) whole (sym m.left)))));
       known = subst (Each (Referred Q)) (sym grown) (each_append (Referred Q) W L p.known (left_known Q e here));
     }
 

@@ -34,7 +34,8 @@ use Rattle.cs_instance.specs.Ranked.{ArePlacedBy, names_in}
 use Rattle.cs_instance.specs.Rooted.{IsRooted}
 use Rattle.cs_rules.proofs.Lists.{got_front}
 use Rattle.cs_instance.proofs.Placed.{names_same}
-use Rattle.cs_instance.proofs.Counted.{then, equal, whole_of, gathered}
+use Rattle.cs_rules.proofs.Permutations.{equal, joined, flat_map-IsPermutation}
+use Rattle.cs_instance.proofs.Counted.{whole_of, gathered}
 use Rattle.cs_instance.proofs.Ordered.{distinct_of, each_found, names_at}
 use Rattle.cs_instance.proofs.Waited.{Referred, left_known_all}
 
@@ -59,24 +60,6 @@ pub closed_in : (E : Environment) (root : List ℕ) (names ns : List (List ℕ))
 closed_in E root names ns r p n m o c =
     let back = Contains-permutation ns names n (IsPermutation-sym names ns p) (on_contains n ns o) in
     contains_on m ns (Contains-permutation names ns m p ((r.each m).1 (reaches_more E root n m ((r.each n).0 back) c)))
-
-bytes_flip : (x y : List ℕ) → bytes_eq x y ≡ bytes_eq y x
-bytes_flip x y = by (bytes_eq x y) (bytes_eq y x) refl refl
-  where
-    by : (a b : Bool) → bytes_eq x y ≡ a → bytes_eq y x ≡ b → a ≡ b
-    by true true e f = refl
-    by false false e f = refl
-    by true false e f = sym (sym f ∙ (bytes_eq-Decides y x).1 (sym ((bytes_eq-Decides x y).0 e)))
-    by false true e f = sym e ∙ (bytes_eq-Decides x y).1 (sym ((bytes_eq-Decides y x).0 f))
-
-distinct_same : (names ns : List (List ℕ)) → IsPermutation names ns → IsDistinct bytes_eq names → Distinct ns
-distinct_same names ns p d = distinct_of ns (IsDistinct-IsPermutation bytes_eq bytes_flip names ns p d)
-
--- the rules of names in another order
-rules_same : (E : Environment) (names ns : List (List ℕ)) → IsPermutation names ns → IsDistinct bytes_eq names → IsPermutation (rules_of E names) (rules_of E ns)
-rules_same E names ns p d =
-    gathered (rules_of_one E) names ns (distinct_of names d) (distinct_same names ns p d)
-    (λ x o. contains_on x ns (Contains-permutation names ns x p (on_contains x names o))) (λ x o. contains_on x names (Contains-permutation ns names x (IsPermutation-sym names ns p) (on_contains x ns o)))
 
 -- there are as many, however the names are listed
 pub rules_count : (E : Environment) (n : List ℕ) (names ns : List (List ℕ)) → AreReachable E n names → AreReachable E n ns → length (rules_of E ns) ≡ length (rules_of E names)
@@ -193,8 +176,8 @@ module _ (E : Environment) (i : ℕ) (names : List (List ℕ)) (ns : List (List 
   counted : IsPermutation (rules_of E names) (placed ++ w.more)
   counted =
       let R = rules_in (flat_map (left_with E) ns) in
-      then (rules_same E names ns perm reach.distinct) (then (IsPermutation-sym (placed ++ R) (rules_of E ns) (whole_of E ns))
-      (then (equal _ _ (ap (λ es. placed ++ rules_in es) (sym p.waits))) (then w.same
+      joined (flat_map-IsPermutation (rules_of_one E) names ns perm) (joined (IsPermutation-sym (placed ++ R) (rules_of E ns) (whole_of E ns))
+      (joined (equal _ _ (ap (λ es. placed ++ rules_in es) (sym p.waits))) (joined w.same
       (equal _ _ (ap (λ es. (placed ++ w.more) ++ rules_in es) (drop_all (length inner) W (omega (arith, wide))) ∙ append-nil (placed ++ w.more))))))
 
   itself : Reaches E (name_of E i) (name_of E i)

@@ -5,3 +5,5 @@ pub mod Foretold
 -- lists that grow, for the numbering of rules
 pub mod Lists
 pub mod Waiting
+-- lists in another order
+pub mod Permutations

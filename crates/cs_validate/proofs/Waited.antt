@@ -15,7 +15,8 @@ use Rattle.cs_validate.specs.declared.rules.Rule.{Rule as Coded}
 use Rattle.cs_validate.specs.Placing.{waiting, AreNumbered, AreAt, IsKnown, Places, placed_by, placed_by_members, left_by}
 use Rattle.cs_validate.specs.Ranked.{PlacesWaiting}
 use Rattle.cs_validate.proofs.Placed.{known_more, schemas_kept}
-use Rattle.cs_validate.proofs.Whole.{joined, equal, inside, inside_append, whole, whole_step}
+use Rattle.cs_rules.proofs.Permutations.{joined, equal}
+use Rattle.cs_validate.proofs.Whole.{inside, inside_append, whole, whole_step}
 
 -- a schema that is numbered behind others
 at_push : (xs ys : List Document) (numbers : List ℕ) (k : ℕ) (ss : List Document) (s : Document) → AreAt xs numbers ss → AreAt (xs ++ ys) (k ∷ []) (s ∷ []) → AreAt (xs ++ ys) (numbers ++ k ∷ []) (ss ++ s ∷ [])

@@ -30,7 +30,8 @@ use Rattle.cs_validate.specs.Rooted.{IsRooted}
 use Rattle.cs_rules.proofs.Lists.{got_front, got_last}
 use Rattle.cs_validate.proofs.Placed.{at_front, names_same, known_more}
 use Rattle.cs_rules.proofs.Judged.{coded_found}
-use Rattle.cs_validate.proofs.Whole.{Same, joined, equal, inside}
+use Rattle.cs_rules.proofs.Permutations.{Same, joined, equal}
+use Rattle.cs_validate.proofs.Whole.{inside}
 use Rattle.cs_validate.proofs.Root.{root_said, before, placed_last, bodies, root_counted}
 use Rattle.cs_validate.proofs.Ordered.{placed_with, all_known}
 
