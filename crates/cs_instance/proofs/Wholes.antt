@@ -1,23 +1,20 @@
 -- The rules of all that a root reaches, with their numbers.
-use Rattle.std.proofs.Common.{◌≡◌, ℕ, ◌<◌, inl, inr, Bool, true, false, List, [], ◌∷◌, ◌++◌, map, length, slice_index, Bor, refl, sym, ap, ap₂, ◌∙◌, subst, append-nil, arith}
+use Rattle.std.proofs.Common.{◌≡◌, ℕ, ◌<◌, inl, inr, List, [], ◌∷◌, ◌++◌, map, length, slice_index, Bor, refl, sym, ap, ap₂, ◌∙◌, subst, append-nil, arith}
 use Rattle.std.specs.Prelude.{Contains}
-use Rattle.std.specs.List.{flat_map, IsDistinct, AllByRecursion as Each}
+use Rattle.std.specs.List.{flat_map, AllByRecursion as Each}
 use Rattle.std.specs.List.Sorted.{IsPermutation}
 use Rattle.std.specs.Option.{unwrap_or}
-use Rattle.std.specs.Str.{bytes_eq}
-use Rattle.std.proofs.lemmas.Slice.Eq.{bytes_eq-Decides}
 use Rattle.std.proofs.lemmas.Simd.{map-map}
 use Rattle.std.proofs.lemmas.List.{length-map, get_or-map, take_all, drop_all}
 use Rattle.std.proofs.lemmas.List.Elements.{All-from_recursion, All-get_or}
 use Rattle.std.proofs.lemmas.List.Sorted.{IsPermutation-map, IsPermutation-sym, Contains-permutation, length_permutation}
-use Rattle.std.proofs.lemmas.Map.Keys.{IsDistinct-IsPermutation}
 use Rattle.cs_document.proofs.Each.{each_member, each_map, each_over, each_append}
 use Rattle.cs_package.specs.Expression as cue
 use Rattle.cs_package.specs.Expression.{Expression, Declaration}
 use Rattle.cs_package.specs.Environment.{Environment, bodies, declared_names}
 use Rattle.cs_package.specs.View.{expressions_of}
 use Rattle.cs_package.specs.declared.shape.Shape.{Shape}
-use Rattle.cs_graph.specs.Chains.{On, Distinct, Chain}
+use Rattle.cs_graph.specs.Chains.{On, Chain}
 use Rattle.cs_guard.specs.Reachable.{referred, referred_all, referred_of, RefersTo, Reaches, AreReachable, last_of}
 use Rattle.cs_guard.specs.Numbered.{name_of}
 use Rattle.cs_guard.proofs.Numbers.{on_contains, contains_on}

@@ -1,7 +1,6 @@
 -- What waited gets its numbers.
-use Rattle.std.proofs.Common.{◌≡◌, ℕ, zero, suc, ◌+◌, ◌<◌, ◌≤◌, false, List, [], ◌∷◌, ◌++◌, length, take, drop, get_or, Bor, refl, sym, ap, ap₂, ◌∙◌, subst, append_assoc, append-nil, length-append, arith}
-use Rattle.std.proofs.Math.Seq.{drop-cons}
-use Rattle.std.proofs.lemmas.List.{map-append, length-map, get_or-map}
+use Rattle.std.proofs.Common.{◌≡◌, ℕ, suc, ◌<◌, ◌≤◌, false, List, [], ◌∷◌, ◌++◌, length, take, drop, Bor, refl, sym, ap, ap₂, ◌∙◌, subst, append_assoc, append-nil, length-append, arith}
+use Rattle.std.proofs.lemmas.List.{map-append}
 use Rattle.std.proofs.lemmas.List.Sorted.{length_permutation}
 use Rattle.cs_document.specs.Document.{Document, Entry, null, boolean, integer, text, list, object}
 use Rattle.cs_document.proofs.Each.{each_of, each_map, each_append}
@@ -16,7 +15,7 @@ use Rattle.cs_validate.specs.Placing.{waiting, AreNumbered, AreAt, IsKnown, Plac
 use Rattle.cs_validate.specs.Ranked.{PlacesWaiting}
 use Rattle.cs_validate.proofs.Placed.{known_more, schemas_kept}
 use Rattle.cs_rules.proofs.Permutations.{joined, equal}
-use Rattle.cs_validate.proofs.Whole.{inside, inside_append, whole, whole_step}
+use Rattle.cs_validate.proofs.Whole.{inside, whole, whole_step}
 
 -- a schema that is numbered behind others
 at_push : (xs ys : List Document) (numbers : List ℕ) (k : ℕ) (ss : List Document) (s : Document) → AreAt xs numbers ss → AreAt (xs ++ ys) (k ∷ []) (s ∷ []) → AreAt (xs ++ ys) (numbers ++ k ∷ []) (ss ++ s ∷ [])

@@ -1,4 +1,4 @@
-use Rattle.std.proofs.Common.{◌≡◌, ◌<◌, ◌≤◌, [], ◌∷◌, ◌++◌, Bor, length, get_or, refl, sym, ap, ◌∙◌, subst, length-append, arith}
+use Rattle.std.proofs.Common.{◌≡◌, [], Bor, length, get_or, refl, sym, ap, ◌∙◌, subst, arith}
 use Rattle.cs_package.specs.View.{expression_of}
 use Rattle.cs_instance.specs.Placing.{waiting, left_by, PlacesWaiting}
 use Rattle.cs_rules.proofs.Waiting.{IsNext, not_longer}
