@@ -106,6 +106,10 @@ module _ (G : Graph) (M : List VisitState) (S : List Frame) (last f : Frame) (w 
       let path : State G M (numbers_of S ++ last.number ∷ []) = subst (State G M) (numbers_end S last) w.state in
       slice_get_within M last.number Open (path.opened last.number (on_end last.number (numbers_of S)))
 
+  -- so is a number that it refers to
+  pub next_inside : (n : ℕ) → Within G → Refers G f.number n → n < length M
+  next_inside n within r = let low = within f.number n r in omega (arith, low, w.state.marked.long)
+
   -- its references end: it is done
   pub finishing : Stopped G M last.number f None → Onward G M (set M f.number (Done f.height)) S S
   finishing stop =

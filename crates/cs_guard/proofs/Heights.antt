@@ -1,12 +1,18 @@
 -- Heights, beside how long chains may be.
-use Rattle.std.proofs.Common.{ℕ, zero, suc, ◌<◌, ◌≤◌, List, [], ◌∷◌, ◌⊎◌, inl, inr, length, get_or, arith}
-use Rattle.std.specs.List.{All}
+use Rattle.std.proofs.Common.{◌≡◌, ℕ, zero, suc, ◌<◌, ◌≤◌, Bool, true, false, true≢false, List, [], ◌∷◌, ◌⊎◌, inl, inr, ◌↔◌, length, get_or, sym, ◌∙◌, subst, arith}
+use Rattle.std.specs.List.{All, IsDistinct}
+use Rattle.std.specs.Str.{bytes_eq}
 use Rattle.std.proofs.lemmas.List.Elements.{All-nil}
 use Rattle.std.proofs.lemmas.Option.{slice_get_within}
 use Rattle.cs_graph.specs.Chains.{Chain, NoCycle}
 use Rattle.cs_graph.specs.Graph.{Graph, Refers, AreHeights}
 use Rattle.cs_graph.proofs.Marks.{up_to}
+use Rattle.cs_package.specs.Environment.{Environment, declared_names}
 use Rattle.cs_guard.specs.Limits.{IsGuarded, IsTooDeep, LongChain, most_references}
+use Rattle.cs_guard.specs.Numbered.{IsGraphOf}
+use Rattle.cs_guard.specs.Ranks.{AreRanks}
+use Rattle.cs_guard.specs.References.{RefersStrongly}
+use Rattle.cs_guard.proofs.Numbers.{ranks_by_name, too_deep_by_name}
 
 -- heights that chains may have
 abbrev pub AreShort : List ℕ → Type 0
@@ -52,3 +58,12 @@ module _ (G : Graph) (hs : List ℕ) (are : AreHeights G hs) (none : NoCycle (Re
           record { start = far.0; steps = at.steps; chain = at.chain; long = let over = far.2 in omega (arith, at.long, over) })
     ],
   )
+
+-- ---- what the test of the heights tells of a package
+
+module _ (E : Environment) (G : Graph) (is : IsGraphOf E G) (once : IsDistinct bytes_eq (declared_names E)) (hs read : List ℕ) (same : read ≡ hs) (h : AreHeights G hs) (none : NoCycle (Refers G)) (short : Bool) (told : (short ≡ true) ↔ AreShort read) where
+  pub ranks_of : short ≡ true → AreRanks E hs
+  ranks_of e = ranks_by_name E G is once hs h (guarded_of G hs h none (subst AreShort same (told.0 e)))
+
+  pub package_too_deep : short ≡ false → IsTooDeep (RefersStrongly E)
+  package_too_deep e = too_deep_by_name E G is once (too_deep_of G hs h none (λ all. true≢false (sym (told.1 (subst AreShort (sym same) all)) ∙ e)))

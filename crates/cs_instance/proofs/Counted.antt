@@ -2,10 +2,10 @@
 use Rattle.std.proofs.Common.{◌≡◌, ℕ, ◌⊎◌, inl, inr, List, [], ◌∷◌, ◌++◌, map, refl, sym, ap, ap₂, ◌∙◌, subst, append_assoc, append-nil}
 use Rattle.std.specs.List.{flat_map}
 use Rattle.std.specs.Option.{unwrap_or}
-use Rattle.std.specs.List.Sorted.{IsPermutation}
 use Rattle.std.proofs.lemmas.List.{map-append}
 use Rattle.std.proofs.lemmas.Grind.{flat_map-append}
-use Rattle.std.proofs.lemmas.List.Sorted.{IsPermutation-refl, IsPermutation-sym, IsPermutation-trans, IsPermutation-append, IsPermutation-append_comm, IsPermutation-append_left, IsPermutation-append_right, IsPermutation-cons, IsPermutation-middle}
+use Rattle.std.proofs.lemmas.List.Sorted.{IsPermutation-refl, IsPermutation-append, IsPermutation-append_comm, IsPermutation-append_left, IsPermutation-append_right}
+use Rattle.cs_rules.proofs.Permutations.{Same, equal, joined, exchange, to_front, parted}
 use Rattle.cs_graph.specs.Chains.{On, Distinct}
 use Rattle.cs_package.specs.Expression as cue
 use Rattle.cs_package.specs.Expression.{Expression, Expressions, Declarations, operands, declarations}
@@ -14,25 +14,6 @@ use Rattle.cs_package.specs.View.{expressions_of}
 use Rattle.cs_instance.specs.Instance.{Rule, definition, node}
 use Rattle.cs_instance.specs.Rules.{subexpressions, subexpressions_all, subexpressions_fields, subexpressions_rest, rules_of_one, rules_of}
 use Rattle.cs_instance.specs.Placing.{placed_by, placed_by_all, left_by, left_by_all, values_of, each_of, bodies_of, placed_with, left_with, rules_in}
-
--- ---- permutations
-
-abbrev pub Same : {X : Type 0} → List X → List X → Type 0
-Same = IsPermutation
-
-pub equal : {X : Type 0} (xs ys : List X) → xs ≡ ys → Same xs ys
-equal xs ys e = subst (Same xs) e (IsPermutation-refl xs)
-
-pub then : {X : Type 0} {xs ys zs : List X} → Same xs ys → Same ys zs → Same xs zs
-then {X} {xs} {ys} {zs} a b = IsPermutation-trans xs ys zs a b
-
--- two in the middle change places
-pub exchange : {X : Type 0} (a b c d : List X) → Same ((a ++ b) ++ (c ++ d)) ((a ++ c) ++ (b ++ d))
-exchange a b c d =
-    let one = equal ((a ++ b) ++ (c ++ d)) (a ++ ((b ++ c) ++ d)) (append_assoc a b (c ++ d) ∙ ap (λ xs. a ++ xs) (sym (append_assoc b c d))) in
-    let two = IsPermutation-append_right a ((b ++ c) ++ d) ((c ++ b) ++ d) (IsPermutation-append_left d (b ++ c) (c ++ b) (IsPermutation-append_comm b c)) in
-    let three = equal (a ++ ((c ++ b) ++ d)) ((a ++ c) ++ (b ++ d)) (ap (λ xs. a ++ xs) (append_assoc c b d) ∙ sym (append_assoc a c (b ++ d))) in
-    then one (then two three)
 
 -- ---- an expression
 
@@ -52,10 +33,6 @@ rest_is cue.closed = refl
 rest_is cue.any = refl
 rest_is (cue.each e) = append-nil (subexpressions e)
 
--- a node put behind some is before them
-to_front : (x : Rule) (xs ys zs : List Rule) → Same (xs ++ ys) zs → Same ((xs ++ x ∷ []) ++ ys) (x ∷ zs)
-to_front x xs ys zs h = then (equal ((xs ++ x ∷ []) ++ ys) (xs ++ x ∷ ys) (append_assoc xs (x ∷ []) ys)) (then (IsPermutation-middle xs x ys) (IsPermutation-cons x (xs ++ ys) zs h))
-
 mutual
   pub whole : (e : Expression) → Same (placed_by e ++ rules_in (left_by e)) (map node (subexpressions e))
   whole (cue.atom a) = IsPermutation-refl _
@@ -74,7 +51,7 @@ mutual
       let two = exchange (placed_by e) (placed_by_all es) (rules_in (left_by e)) (rules_in (left_by_all es)) in
       let three = IsPermutation-append (placed_by e ++ rules_in (left_by e)) (map node (subexpressions e)) (placed_by_all es ++ rules_in (left_by_all es)) (map node (subexpressions_all es)) (whole e) (whole_all es) in
       let four = equal (map node (subexpressions e) ++ map node (subexpressions_all es)) (map node (subexpressions e ++ subexpressions_all es)) (sym (map-append node (subexpressions e) (subexpressions_all es))) in
-      then one (then two (then three four))
+      joined one (joined two (joined three four))
 
 -- ---- definitions
 
@@ -85,7 +62,7 @@ all_of_list (e ∷ es) = ap (λ xs. subexpressions e ++ xs) (all_of_list es)
 pub whole_one : (E : Environment) (n : List ℕ) → Same (placed_with E n ++ rules_in (left_with E n)) (rules_of_one E n)
 whole_one E n =
     let bs = unwrap_or (bodies E n) [] in
-    then (to_front (definition n) (placed_by_all (bodies_of E n)) (rules_in (left_with E n)) (map node (subexpressions_all (bodies_of E n))) (whole_all (bodies_of E n)))
+    joined (to_front (definition n) (placed_by_all (bodies_of E n)) (rules_in (left_with E n)) (map node (subexpressions_all (bodies_of E n))) (whole_all (bodies_of E n)))
     (equal _ _ (ap (λ xs. definition n ∷ map node xs) (all_of_list bs)))
 
 pub whole_of : (E : Environment) (ns : List (List ℕ)) → Same (flat_map (placed_with E) ns ++ rules_in (flat_map (left_with E) ns)) (rules_of E ns)
@@ -97,20 +74,13 @@ whole_of E (n ∷ ns) =
     let Ls = flat_map (left_with E) ns in
     let one = equal ((P ++ Ps) ++ rules_in (L ++ Ls)) ((P ++ Ps) ++ (rules_in L ++ rules_in Ls)) (ap (λ xs. (P ++ Ps) ++ xs) (in_append L Ls)) in
     let two = exchange P Ps (rules_in L) (rules_in Ls) in
-    then one (then two (IsPermutation-append (P ++ rules_in L) (rules_of_one E n) (Ps ++ rules_in Ls) (rules_of E ns) (whole_one E n) (whole_of E ns)))
+    joined one (joined two (IsPermutation-append (P ++ rules_in L) (rules_of_one E n) (Ps ++ rules_in Ls) (rules_of E ns) (whole_one E n) (whole_of E ns)))
 
 -- an expression that waited gets its number
 pub whole_step : (placed : List Rule) (e : Expression) (rest : List Expression) → Same (placed ++ rules_in (e ∷ rest)) ((placed ++ placed_by e) ++ rules_in (rest ++ left_by e))
 whole_step placed e rest =
-    let P = placed_by e in
-    let L = rules_in (left_by e) in
-    let R = rules_in rest in
-    let one = equal (placed ++ rules_in (e ∷ rest)) (placed ++ (map node (subexpressions e) ++ R)) (ap (λ xs. placed ++ xs) (map-append node (subexpressions e) (flat_map subexpressions rest))) in
-    let two = IsPermutation-append_right placed (map node (subexpressions e) ++ R) ((P ++ L) ++ R) (IsPermutation-append_left R (map node (subexpressions e)) (P ++ L) (IsPermutation-sym (P ++ L) (map node (subexpressions e)) (whole e))) in
-    let three = equal (placed ++ ((P ++ L) ++ R)) ((placed ++ P) ++ (L ++ R)) (ap (λ xs. placed ++ xs) (append_assoc P L R) ∙ sym (append_assoc placed P (L ++ R))) in
-    let four = IsPermutation-append_right (placed ++ P) (L ++ R) (R ++ L) (IsPermutation-append_comm L R) in
-    let five = equal ((placed ++ P) ++ (R ++ L)) ((placed ++ P) ++ rules_in (rest ++ left_by e)) (ap (λ xs. (placed ++ P) ++ xs) (sym (in_append rest (left_by e)))) in
-    then one (then two (then three (then four five)))
+    joined (equal _ _ (ap (λ xs. placed ++ xs) (map-append node (subexpressions e) (flat_map subexpressions rest))))
+    (joined (parted placed (map node (subexpressions e)) (placed_by e) (rules_in (left_by e)) (rules_in rest) (whole e)) (equal _ _ (ap (λ xs. (placed ++ placed_by e) ++ xs) (sym (in_append rest (left_by e))))))
 
 -- ---- lists with the same members
 
@@ -169,7 +139,7 @@ gathered {X} f (x ∷ xs) ys dx dy there back =
     let two = equal (f x ++ flat_map f (a ++ b)) ((f x ++ flat_map f a) ++ flat_map f b) (ap (λ zs. f x ++ zs) (flat_map-append f a b) ∙ sym (append_assoc (f x) (flat_map f a) (flat_map f b))) in
     let three = IsPermutation-append_left (flat_map f b) (f x ++ flat_map f a) (flat_map f a ++ f x) (IsPermutation-append_comm (f x) (flat_map f a)) in
     let four = equal ((flat_map f a ++ f x) ++ flat_map f b) (flat_map f ys) (append_assoc (flat_map f a) (f x) (flat_map f b) ∙ sym (flat_map-append f a (x ∷ b)) ∙ ap (flat_map f) (sym s.is)) in
-    then one (then two (then three four))
+    joined one (joined two (joined three four))
   where
     into : {B : Type 0} (z : X) → On z xs → (z ≡ x) ⊎ B → B
     into z o (inl e) = absurd (dx.0 (subst (λ y. On y xs) e o))

@@ -1,14 +1,14 @@
 -- Definitions numbered by rank.
-use Rattle.std.proofs.Common.{◌≡◌, false, true≢false, ℕ, zero, suc, ◌+◌, ◌<◌, ◌≤◌, ◌⊎◌, inl, inr, List, [], ◌∷◌, ◌++◌, Some, map, length, take, get_or, slice_index, Bor, Vec, Global, refl, sym, ap, ap₂, ◌∙◌, subst, append_assoc, append-nil, arith}
+use Rattle.std.proofs.Common.{◌≡◌, false, true≢false, ℕ, zero, suc, ◌+◌, ◌<◌, ◌≤◌, ◌⊎◌, inl, inr, List, [], ◌∷◌, ◌++◌, Some, map, length, take, get_or, slice_index, Bor, Vec, Global, refl, sym, ap, ap₂, ◌∙◌, subst, append_assoc, arith}
 use Rattle.std.specs.Prelude.{slice_get, slice_set, Contains}
 use Rattle.std.specs.List.{flat_map, IsDistinct, AllByRecursion as Each}
 use Rattle.std.specs.Option.{unwrap_or}
 use Rattle.std.specs.Str.{bytes_eq}
+use Rattle.std.proofs.lemmas.Bool.{cases_eq, cases_lt}
 use Rattle.std.proofs.lemmas.Slice.Eq.{bytes_eq-Decides}
 use Rattle.std.proofs.lemmas.Map.Keys.{IsDistinct-head, IsDistinct-tail}
-use Rattle.std.proofs.lemmas.List.{get_or-set_same, get_or-set_other, length-set, map-append, take_more}
+use Rattle.std.proofs.lemmas.List.{get_or-set_same, get_or-set_other, length-set, map-append, take_more, flat_map_more}
 use Rattle.std.proofs.lemmas.List.Elements.{All-get_or}
-use Rattle.std.proofs.lemmas.Grind.{flat_map-append}
 use Rattle.std.proofs.lemmas.List.Elements.{Contains-append_left, Contains-append_right, Contains-append_cases}
 use Rattle.cs_document.proofs.Each.{each_map, each_member}
 use Rattle.cs_package.specs.Expression as cue
@@ -30,7 +30,8 @@ use Rattle.cs_instance.specs.declared.numbering.definitions.Placement.{Placement
 use Rattle.cs_instance.specs.Placing.{named_all, waiting, AreNumbered, AreNumberedBy, IsKnown, PlacesAll, placed_by_all, left_by_all, placed_with, left_with, bodies_of}
 use Rattle.cs_instance.specs.Ranked.{IsRank, AreRanked, RefersBack, ArePlacedBy, names_in}
 use Rattle.cs_guard.proofs.Ways.{direct-strong}
-use Rattle.cs_instance.proofs.Placed.{push, got_front, operands_of, each_push}
+use Rattle.cs_rules.proofs.Lists.{each_push, got_front, got_last}
+use Rattle.cs_instance.proofs.Placed.{push, operands_of}
 
 -- ---- names
 
@@ -67,27 +68,14 @@ each_found P [] x h o = absurd o
 each_found P (y ∷ ys) x h (inl e) = subst P (sym e) h.0
 each_found P (y ∷ ys) x h (inr o) = each_found P ys x h.1 o
 
-get_last : {X : Type 0} (xs : List X) (x : X) → slice_get (xs ++ x ∷ []) (length xs) ≡ Some x
-get_last [] x = refl
-get_last (y ∷ xs) x = get_last xs x
-
-same_or_not : (j i : ℕ) → (j ≡ i) ⊎ ¬ (j ≡ i)
-same_or_not zero zero = inl refl
-same_or_not zero (suc i) = inr (λ e. omega (arith, e))
-same_or_not (suc j) zero = inr (λ e. omega (arith, e))
-same_or_not (suc j) (suc i) = by (same_or_not j i)
-  where
-    by : (j ≡ i) ⊎ ¬ (j ≡ i) → (suc j ≡ suc i) ⊎ ¬ (suc j ≡ suc i)
-    by (inl e) = inl (ap suc e)
-    by (inr n) = inr (λ e. n (let f = e in omega (arith, f)))
 
 flat_push : {X Y : Type 0} (f : X → List Y) (xs : List X) (x : X) → flat_map f (xs ++ x ∷ []) ≡ flat_map f xs ++ f x
-flat_push f xs x = flat_map-append f xs (x ∷ []) ∙ ap (λ ys. flat_map f xs ++ ys) (append-nil (f x))
+flat_push f xs x = sym (flat_map_more f [] xs x)
 
 -- what was known stays so with another number at i
 known_set : (names : List (List ℕ)) (numbers new : List ℕ) (placed more : List Rule) (i : ℕ) → length new ≡ length numbers → slice_get (placed ++ more) (slice_index new i) ≡ Some (definition (get_or names i [])) → ((j : ℕ) → ¬ (j ≡ i) → slice_index new j ≡ slice_index numbers j)
     → (m : List ℕ) → IsKnown names numbers placed m → IsKnown names new (placed ++ more) m
-known_set names numbers new placed more i long number others m h j e = (subst (λ k. j < k) (sym long) (h j e).0, by (same_or_not j i))
+known_set names numbers new placed more i long number others m h j e = (subst (λ k. j < k) (sym long) (h j e).0, by (cases_eq j i))
   where
     by : (j ≡ i) ⊎ ¬ (j ≡ i) → slice_get (placed ++ more) (slice_index new j) ≡ Some (definition m)
     by (inl s) = ap (λ k. slice_get (placed ++ more) (slice_index new k)) s ∙ number ∙ ap (λ k. Some (definition k)) (ap (λ k. get_or names k []) (sym s) ∙ e)
@@ -117,7 +105,7 @@ placed_more E ns i k old new mid shapes parts within found only all put kept set
     let same : waiting names mid ≡ waiting names new.numberer = ap (λ (v : Vec (Bor Shape) Global). map (λ b. expression_of names b.now) v.items) (sym kept) in
     let long : length later ≡ length numbers = ap length set ∙ length-set numbers i k in
     let place : slice_index later i ≡ length (placed ++ P) = ap (λ xs. slice_index xs i) set ∙ get_or-set_same numbers i k 0 (subst (λ m. i < m) (sym p.long) within) ∙ put.0 ∙ w.0.sizes in
-    let number : slice_get more (slice_index later i) ≡ Some (definition n) = ap₂ slice_get (sym ends) place ∙ get_last (placed ++ P) (definition n) in
+    let number : slice_get more (slice_index later i) ≡ Some (definition n) = ap₂ slice_get (sym ends) place ∙ got_last (placed ++ P) (definition n) in
     let others = λ (j : ℕ) (other : ¬ (j ≡ i)). ap (λ xs. slice_index xs j) set ∙ get_or-set_other numbers i j k 0 other in
     let known = known_set names numbers later placed (placed_with E n) i long (number ∙ ap (λ m. Some (definition m)) (sym (names_at E i))) others in
     record {
@@ -176,15 +164,6 @@ on_at f [] j b = absurd (omega (arith, b))
 on_at f (d ∷ ds) zero b = inl refl
 on_at f (d ∷ ds) (suc j) b = inr (on_at f ds j (omega (arith, b)))
 
-lt_or_ge : (a b : ℕ) → (a < b) ⊎ (b ≤ a)
-lt_or_ge a zero = inr (omega arith)
-lt_or_ge zero (suc b) = inl (omega arith)
-lt_or_ge (suc a) (suc b) = by (lt_or_ge a b)
-  where
-    by : (a < b) ⊎ (b ≤ a) → (suc a < suc b) ⊎ (suc b ≤ suc a)
-    by (inl l) = inl (omega (arith, l))
-    by (inr l) = inr (omega (arith, l))
-
 module _ (E : Environment) (ds : List (ℕ × ℕ)) (ranked : AreRanked E ds) (i : ℕ) (within : i < length ds) where
   abbrev here : ℕ × ℕ
   here = get_or ds i (0, 0)
@@ -198,7 +177,7 @@ module _ (E : Environment) (ds : List (ℕ × ℕ)) (ranked : AreRanked E ds) (i
       let rank = All-get_or (λ (d : ℕ × ℕ). IsRank E d.1 d.0) ds p.0 (0, 0) p.1 ranked.ranks in
       let q = get_or ds p.0 (0, 0) in
       let lower : q.0 < here.0 = rank_here.falls (name_of E q.1) q.0 (subst (Contains (strong_of E (name_of E here.1))) (sym p.2) s) rank.height in
-      subst (λ n. On n (names_in E (take i ds))) p.2 (on_front (λ d. name_of E d.1) ds i p.0 (earlier p.0 q.0 (lt_or_ge p.0 i) lower (λ l. ranked.sorted i p.0 (0, 0) l p.1)) p.1)
+      subst (λ n. On n (names_in E (take i ds))) p.2 (on_front (λ d. name_of E d.1) ds i p.0 (earlier p.0 q.0 (cases_lt p.0 i) lower (λ l. ranked.sorted i p.0 (0, 0) l p.1)) p.1)
     where
       earlier : (j r : ℕ) → (j < i) ⊎ (i ≤ j) → r < here.0 → (i ≤ j → here.0 ≤ r) → j < i
       earlier j r (inl l) lower sorted = l

@@ -1,5 +1,5 @@
 -- Rules one after another: each new one is that of one more rule.
-use Rattle.std.proofs.Common.{◌≡◌, ℕ, zero, suc, ◌+◌, ◌<◌, ◌≤◌, ◌⊎◌, inl, inr, ⊎_elim, List, [], ◌∷◌, ◌++◌, Some, Result, map, length, slice_index, Bor, Vec, Global, refl, sym, ap, ap₂, ◌∙◌, subst, append_assoc, append-nil, length-append, arith}
+use Rattle.std.proofs.Common.{◌≡◌, ℕ, ◌+◌, ◌<◌, ◌≤◌, ◌⊎◌, inl, inr, List, [], ◌∷◌, ◌++◌, Some, Result, map, length, slice_index, Bor, Vec, Global, refl, sym, ap, ap₂, ◌∙◌, subst, append_assoc, append-nil, length-append, arith}
 use Rattle.std.specs.Prelude.{slice_get, IfOk}
 use Rattle.std.specs.List.{AllByRecursion as Each}
 use Rattle.std.specs.declared.alloc.AllocError.{AllocError}
@@ -20,25 +20,11 @@ use Rattle.cs_instance.specs.Props.{parts_weaker}
 use Rattle.cs_instance.specs.Steps.{test_of, asked_of}
 use Rattle.cs_rules.specs.declared.numberer.Numberer.{Numberer}
 use Rattle.cs_instance.specs.Placing.{named, waiting, expression_at, AreNumbered, AreNumberedBy, AreAt, placed_by, left_by, IsKnown, Places}
+use Rattle.cs_rules.proofs.Lists.{got_push, got_front, numbers_same}
 use Rattle.cs_instance.proofs.Views.{IsSimple}
-
-pub got_push : {X : Type 0} (xs : List X) (x y : X) (r : ℕ) → slice_get (xs ++ x ∷ []) r ≡ Some y → ((r < length xs) × (slice_get xs r ≡ Some y)) ⊎ ((r ≡ length xs) × (x ≡ y))
-got_push [] x y zero e = inr (refl, cc)
-got_push [] x y (suc r) e = cc
-got_push (z ∷ zs) x y zero e = inl (omega arith, e)
-got_push (z ∷ zs) x y (suc r) e = ⊎_elim (λ (l : (r < length zs) × (slice_get zs r ≡ Some y)). let a = l.0 in inl (omega arith, l.1)) (λ (l : (r ≡ length zs) × (x ≡ y)). inr (ap suc l.0, l.1)) (got_push zs x y r e)
-
-pub got_front : {X : Type 0} (xs more : List X) (i : ℕ) (d : X) → slice_get xs i ≡ Some d → slice_get (xs ++ more) i ≡ Some d
-got_front [] more i d e = cc
-got_front (x ∷ xs) more zero d e = e
-got_front (x ∷ xs) more (suc i) d e = got_front xs more i d e
 
 -- other names that agree below n and m
 module _ {D N : Type 0} (n m : ℕ) (f f' : ℕ → D) (g g' : ℕ → N) (h : (d : ℕ) → d < n → f d ≡ f' d) (k : (p : ℕ) → p < m → g p ≡ g' p) where
-  numbers_same : {X : Type 0} (n : ℕ) (f f' : ℕ → X) → ((d : ℕ) → d < n → f d ≡ f' d) → (ds : List ℕ) → Each (λ d. d < n) ds → map f ds ≡ map f' ds
-  numbers_same n f f' h [] b = refl
-  numbers_same n f f' h (d ∷ ds) b = ap₂ ◌∷◌ (h d b.0) (numbers_same n f f' h ds b.1)
-
   declarations_same : (ds : List (Declaration ℕ)) → Each (λ (d : Declaration ℕ). d.value < m) ds → map (map_declaration g) ds ≡ map (map_declaration g') ds
   declarations_same [] b = refl
   declarations_same (d ∷ ds) b = ap₂ ◌∷◌ (ap (λ v. record { label = d.label; mark = d.mark; value = v }) (k d.value b.0)) (declarations_same ds b.1)
@@ -170,14 +156,8 @@ pub declarations_back : (ds : List (Declaration Expression)) → declarations (d
 declarations_back [] = refl
 declarations_back (d ∷ ds) = ap (λ r. d ∷ r) (declarations_back ds)
 
-pub each_push : {X : Type 0} (P : X → Type 0) (xs : List X) (x : X) → Each P xs → P x → Each P (xs ++ x ∷ [])
-each_push P [] x h p = (p, tt)
-each_push P (y ∷ ys) x h p = (h.0, each_push P ys x h.1 p)
-
 pub rules_kept : (a b : List Rule) (ps : List ℕ) → Each (λ p. p < length a) ps → map (rule_at (a ++ b)) ps ≡ map (rule_at a) ps
-rules_kept a b [] h = refl
-rules_kept a b (p ∷ ps) h = ap₂ ◌∷◌ (sym (at_front a b p h.0)) (rules_kept a b ps h.1)
+rules_kept a b ps h = sym (numbers_same (length a) (rule_at a) (rule_at (a ++ b)) (at_front a b) ps h)
 
 pub expressions_kept : (a b : List Expression) (ps : List ℕ) → Each (λ p. p < length a) ps → map (expression_at (a ++ b)) ps ≡ map (expression_at a) ps
-expressions_kept a b [] h = refl
-expressions_kept a b (p ∷ ps) h = ap₂ ◌∷◌ (sym (expression_front a b p h.0)) (expressions_kept a b ps h.1)
+expressions_kept a b ps h = sym (numbers_same (length a) (expression_at a) (expression_at (a ++ b)) (expression_front a b) ps h)

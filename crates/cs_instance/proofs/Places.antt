@@ -11,7 +11,8 @@ use Rattle.cs_rules.specs.declared.numberer.Numberer.{Numberer}
 use Rattle.cs_instance.specs.Numbering.{map_declaration}
 use Rattle.cs_instance.specs.declared.rules.Rule.{Rule as Coded}
 use Rattle.cs_instance.specs.Placing.{waiting, expression_at}
-use Rattle.cs_instance.proofs.Placed.{expression_front, each_push}
+use Rattle.cs_rules.proofs.Lists.{each_push, numbers_same}
+use Rattle.cs_instance.proofs.Placed.{expression_front}
 
 pub take_at : {X : Type 0} (xs : List X) (i : ℕ) (x : X) → i < length xs → x ≡ get_or xs i x → take (i + 1) xs ≡ take i xs ++ x ∷ []
 take_at xs i x l e = take_more xs i x l ∙ ap (λ y. take i xs ++ y ∷ []) (sym e)
@@ -34,8 +35,7 @@ module _ (names : List (List ℕ)) (old new : Numberer Shape Coded) (b : Bor Sha
   front p l = expression_front (waiting names old) (expression_of names b.now ∷ []) p (subst (λ n. p < n) (sym width) l) ∙ ap (λ xs. expression_at xs p) (sym waits_one)
 
   numbers_kept : (ps : List ℕ) → Each (λ p. p < length old.pending.items) ps → map (expression_at (waiting names old)) ps ≡ map (expression_at (waiting names new)) ps
-  numbers_kept [] h = refl
-  numbers_kept (p ∷ ps) h = ap₂ ◌∷◌ (front p h.0) (numbers_kept ps h.1)
+  numbers_kept ps h = numbers_same (length old.pending.items) (expression_at (waiting names old)) (expression_at (waiting names new)) front ps h
 
   pub places_push : (ps : List ℕ) (es : List Expression) → Each (λ p. p < length old.pending.items) ps → map (expression_at (waiting names old)) ps ≡ es → map (expression_at (waiting names new)) (ps ++ length old.pending.items ∷ []) ≡ es ++ expression_of names b.now ∷ []
   places_push ps es h e = map-append (expression_at (waiting names new)) ps (length old.pending.items ∷ []) ∙ ap₂ (λ xs x. xs ++ x ∷ []) (sym (numbers_kept ps h) ∙ e) here

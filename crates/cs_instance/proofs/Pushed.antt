@@ -12,7 +12,8 @@ use Rattle.cs_instance.specs.Instance.{Rule, node}
 use Rattle.cs_instance.specs.Numbering.{rule_at}
 use Rattle.cs_instance.specs.declared.rules.Rule.{Rule as Coded}
 use Rattle.cs_instance.specs.Placing.{waiting, AreNumberedBy, AreAt, placed_by, placed_by_all, left_by, left_by_all, IsKnown, Places, PlacesAll}
-use Rattle.cs_instance.proofs.Placed.{known_more, operands_of, each_push, rules_kept}
+use Rattle.cs_instance.proofs.Placed.{known_more, operands_of, rules_kept}
+use Rattle.cs_rules.proofs.Lists.{each_push}
 
 placed_push : (es : List Expression) (e : Expression) → placed_by_all (expressions_of (es ++ e ∷ [])) ≡ placed_by_all (expressions_of es) ++ placed_by e
 placed_push [] e = append-nil (placed_by e)

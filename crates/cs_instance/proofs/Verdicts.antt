@@ -1,10 +1,10 @@
 -- The instance relation is the table of its judge.
-use Rattle.std.proofs.Common.{◌≡◌, ℕ, ◌*◌, ◌<◌, ◌≤◌, Bool, List, [], map, length, get_or, slice_index, refl, sym, ap, ap₂, ◌∙◌, subst, arith}
-use Rattle.std.proofs.lemmas.Option.{slice_get-get_or}
+use Rattle.std.proofs.Common.{◌≡◌, ℕ, ◌*◌, ◌<◌, ◌≤◌, Bool, List, map, length, slice_index, refl, sym, ap, ap₂, ◌∙◌, subst, arith}
+use Rattle.std.specs.Prelude.{Some, slice_get}
 use Rattle.std.proofs.lemmas.List.{length-map}
 use Rattle.std.proofs.lemmas.List.Sorted.{length_permutation}
 use Rattle.cs_document.specs.Document.{Document}
-use Rattle.cs_document.specs.Opened.{a_null, opened}
+use Rattle.cs_document.specs.Opened.{Opened, opened}
 use Rattle.cs_document.specs.Inside.{map_opened}
 use Rattle.cs_flat.specs.Nodes.{nodes, node_at}
 use Rattle.cs_flat.specs.Items.{items, AreItems}
@@ -14,9 +14,9 @@ use Rattle.cs_table.specs.Refused as limits
 use Rattle.cs_table.specs.declared.fault.TableFault.{TableFault}
 use Rattle.cs_table.specs.declared.fault.TableFault.TheVariants as table
 use Rattle.cs_rules.specs.Answers.{answer}
-use Rattle.cs_rules.proofs.Judged.{answer_is, coded_found}
+use Rattle.cs_rules.proofs.Judged.{answer_is, coded_found, judged_where}
 use Rattle.cs_package.specs.Environment.{Environment, Names, written}
-use Rattle.cs_instance.specs.Constraint.{all_of, is_satisfied}
+use Rattle.cs_instance.specs.Constraint.{Constraint, is_satisfied}
 use Rattle.cs_instance.specs.Instance.{Rule, node, constraint_of, IsInstance}
 use Rattle.cs_instance.specs.Numbering.{map_constraint, rule_at}
 use Rattle.cs_instance.specs.Rules.{rules_of, HasManyPairs}
@@ -30,18 +30,14 @@ use Rattle.cs_instance.proofs.Satisfied.{named, at_documents}
 use Rattle.cs_instance.proofs.Wholes.{rules_count}
 
 pub judge_of : (E : Environment) (n : List ℕ) (d : Document) (root : ℕ) (rules : List Coded) (inner : List ℕ) → IsRooted E n rules inner root → IsJudge E n d root (length (nodes d)) (length rules) (answer step rules inner (nodes d) (items d))
-judge_of E n d root rules inner h = record {
-  all = h.all;
-  are = h.are;
-  asked = map (numbered inner) rules;
-  numbering = h.numbering;
-  item_count = refl;
-  rule_count = sym (length-map rules (numbered inner)) ∙ h.numbering.count;
-  found = h.root;
-  answers = λ f i r c x e k.
-      let y = coded_found (numbered inner) rules r c e in
-      answer_is step rules inner (nodes d) (items d) i r f y.0 x y.1 k ∙ sym (named (λ q. q) (slice_index inner) (f i) f (asked_of y.0) x) ∙ ap (λ a. is_satisfied (f i) f a x) y.2;
-}
+judge_of E n d root rules inner h =
+    let count : length rules ≡ length h.all = sym (length-map rules (numbered inner)) ∙ h.numbering.count in
+    record { all = h.all; are = h.are; asked = map (numbered inner) rules; numbering = h.numbering; item_count = refl; rule_count = count; found = h.root; answers = answers }
+  where
+    answers : (f : AllVerdicts) (i r : ℕ) (c : Constraint ℕ ℕ) (x : Opened ℕ) → slice_get (map (numbered inner) rules) r ≡ Some c → slice_get (items d) i ≡ Some x → answer step rules inner (nodes d) (items d) i r f ≡ is_satisfied (λ p. f i p) (λ y p. f y p) c x
+    answers f i r c x e k =
+        let y = coded_found (numbered inner) rules r c e in
+        answer_is step rules inner (nodes d) (items d) i r f y.0 x y.1 k ∙ sym (named (λ q. q) (slice_index inner) (f i) f (asked_of y.0) x) ∙ ap (λ a. is_satisfied (f i) f a x) y.2
 
 module _ (E : Environment) (n : List ℕ) (d : Document) (root ic rc : ℕ) (judge : Judgement) (j : IsJudge E n d root ic rc judge) (are : AreItems (nodes d) (items d)) where
   module _ (I : Rule → Document → Bool) (h : IsInstance E I) where
@@ -52,30 +48,23 @@ module _ (E : Environment) (n : List ℕ) (d : Document) (root ic rc : ℕ) (jud
     step_is rule x = h rule x ∙ sym (named (λ p. p) node (λ q. I q x) (λ y q. I q y) (constraint_of E rule) (opened x))
 
     pub is_judged : IsJudged ic rc judge table_of
-    is_judged i r l m =
-        let within : r < length j.asked = omega (arith, m, j.rule_count, j.numbering.count) in
-        let inside : i < length (items d) = omega (arith, l, j.item_count, are.count) in
-        let c = get_or j.asked r (all_of []) in
-        let o = get_or (items d) i a_null in
-        let e = slice_get-get_or j.asked r (all_of []) within in
-        let k = slice_get-get_or (items d) i a_null inside in
+    is_judged =
+        judged_where j.asked (items d) ic rc judge table_of (j.item_count ∙ sym are.count) (j.rule_count ∙ sym j.numbering.count)
+        (λ i r c o e k.
         let x = node_at (nodes d) i in
         step_is (rule_at j.all r) x
         ∙ ap₂ (is_satisfied (λ q. I q x) (λ y q. I q y)) (j.numbering.asks r c e) (are.node i o k)
         ∙ named (rule_at j.all) (rule_at j.all) (λ q. I q x) (λ y q. I q y) c (map_opened (node_at (nodes d)) o)
         ∙ at_documents (node_at (nodes d)) (λ q. I (rule_at j.all q) x) (λ y q. I (rule_at j.all q) y) c o
-        ∙ sym (j.answers table_of i r c o e k)
+        ∙ sym (j.answers table_of i r c o e k))
 
   pub is_table : (t : Table) → t.items ≡ ic → t.rules ≡ rc → length t.given ≡ ic * rc → ((f : AllVerdicts) → IsJudged ic rc judge f → (i r : ℕ) → i < ic → r < rc → verdicts t i r ≡ f i r) → IsTable E n d root t
-  is_table t a b given only = record {
-    all = j.all;
-    are = j.are;
-    item_count = a ∙ j.item_count;
-    rule_count = b ∙ j.rule_count;
-    count = given ∙ ap₂ ◌*◌ j.item_count j.rule_count;
-    found = j.found;
-    verdict = λ I h i r l m. only (table_of I h) (is_judged I h) i r (subst (λ k. i < k) (sym j.item_count) l) (subst (λ k. r < k) (sym j.rule_count) m);
-  }
+  is_table t a b given only =
+      let count = given ∙ ap₂ ◌*◌ j.item_count j.rule_count in
+      record { all = j.all; are = j.are; item_count = a ∙ j.item_count; rule_count = b ∙ j.rule_count; count = count; found = j.found; verdict = verdict }
+    where
+      verdict : (I : Rule → Document → Bool) → IsInstance E I → (i r : ℕ) → i < length (nodes d) → r < length j.all → verdicts t i r ≡ I (rule_at j.all r) (node_at (nodes d) i)
+      verdict I h i r l m = only (table_of I h) (is_judged I h) i r (subst (λ k. i < k) (sym j.item_count) l) (subst (λ k. r < k) (sym j.rule_count) m)
 
   pairs : ic * rc ≡ length (nodes d) * length (rules_of E j.are.names)
   pairs = ap₂ ◌*◌ j.item_count (j.rule_count ∙ length_permutation (rules_of E j.are.names) j.all j.are.same)

@@ -1,11 +1,10 @@
 -- What waited gets its numbers.
-use Rattle.std.proofs.Common.{◌≡◌, ℕ, zero, suc, ◌+◌, ◌<◌, ◌≤◌, List, [], ◌∷◌, ◌++◌, map, length, take, drop, get_or, Bor, refl, sym, ap, ap₂, ◌∙◌, subst, append_assoc, append-nil, length-append, arith}
+use Rattle.std.proofs.Common.{◌≡◌, ℕ, suc, ◌<◌, List, [], ◌∷◌, ◌++◌, map, length, take, drop, Bor, refl, sym, ap, ap₂, subst, append_assoc, append-nil, length-append, arith}
 use Rattle.std.specs.List.{flat_map, AllByRecursion as Each}
-use Rattle.std.proofs.Math.Seq.{drop-cons}
 use Rattle.std.proofs.lemmas.List.{length-map}
-use Rattle.std.proofs.lemmas.Grind.{flat_map-append}
 use Rattle.std.proofs.lemmas.List.Sorted.{length_permutation}
 use Rattle.cs_document.proofs.Each.{each_map, each_member, each_append, each_front, each_back, each_drop}
+use Rattle.cs_rules.proofs.Waiting.{IsNext, moved, less_inside}
 use Rattle.cs_package.specs.Expression as cue
 use Rattle.cs_package.specs.Expression.{Expression, Expressions, Declarations, operands, declarations}
 use Rattle.cs_package.specs.Environment.{Environment}
@@ -21,23 +20,9 @@ use Rattle.cs_instance.specs.declared.rules.Rule.{Rule as Coded}
 use Rattle.cs_instance.specs.Placing.{named, waiting, AreNumberedBy, AreAt, IsKnown, AreKnownIn, Places, PlacesWaiting, placed_by, placed_by_all, left_by, left_by_all, values_of, each_of, rules_in}
 use Rattle.cs_instance.proofs.Placed.{known_more}
 use Rattle.cs_instance.proofs.Pushed.{at_push}
-use Rattle.cs_instance.proofs.Counted.{then, equal, whole, whole_step}
+use Rattle.cs_rules.proofs.Permutations.{equal, joined}
+use Rattle.cs_instance.proofs.Counted.{whole, whole_step}
 use Rattle.cs_instance.proofs.Ordered.{direct-referred, each_found}
-
-front_of : {X : Type 0} (xs ys : List X) (k : ℕ) → k ≤ length xs → take k (xs ++ ys) ≡ take k xs
-front_of xs ys zero l = refl
-front_of [] ys (suc k) l = absurd (omega (arith, l))
-front_of (x ∷ xs) ys (suc k) l = ap (λ zs. x ∷ zs) (front_of xs ys k (omega (arith, l)))
-
-back_of : {X : Type 0} (xs ys : List X) (k : ℕ) → k ≤ length xs → drop k (xs ++ ys) ≡ drop k xs ++ ys
-back_of xs ys zero l = refl
-back_of [] ys (suc k) l = absurd (omega (arith, l))
-back_of (x ∷ xs) ys (suc k) l = back_of xs ys k (omega (arith, l))
-
-mapped_at : {X Y : Type 0} (f : X → Y) (xs : List X) (k : ℕ) (x : X) (d : Y) → k < length xs → x ≡ get_or xs k x → f x ≡ get_or (map f xs) k d
-mapped_at f [] k x d l e = absurd (omega (arith, l))
-mapped_at f (y ∷ xs) zero x d l e = ap f e
-mapped_at f (y ∷ xs) (suc k) x d l e = mapped_at f xs k x d (omega (arith, l)) e
 
 -- ---- what an expression leaves to wait refers to nothing else
 
@@ -87,70 +72,41 @@ nothing_placed E names numbers placed n a h = record {
   known = h;
 }
 
--- the first that waits, and what waits behind it
-abbrev pub WaitsAt : List (List ℕ) → Numberer Shape Coded → ℕ → Shape → Type 0
-WaitsAt names n k shape = drop k (waiting names n) ≡ expression_of names shape ∷ drop (suc k) (waiting names n)
-
-pub waits_at : (names : List (List ℕ)) (n : Numberer Shape Coded) (k : ℕ) (b : Bor Shape) → k < length n.pending.items → b ≡ get_or n.pending.items k b → WaitsAt names n k b.now
-waits_at names n k b l e =
-    let W = waiting names n in
-    let pending = n.pending.items in
-    let f : Bor Shape → Expression = λ x. expression_of names x.now in
-    let within : k < length W = subst (λ n. k < n) (sym (length-map pending f)) l in
-    drop-cons W k (f b) within ∙ ap (λ x. x ∷ drop (suc k) W) (sym (mapped_at f pending k b (f b) l e))
-
-pub one_waited : (E : Environment) (names : List (List ℕ)) (numbers : List ℕ) (placed : List Rule) (first old new : Numberer Shape Coded) (inner : List ℕ) (shape : Shape) (number : ℕ) → length inner < length old.pending.items → WaitsAt names old (length inner) shape
-    → Places numbers old new (named shape) number → PlacesWaiting E names numbers placed first old inner → PlacesWaiting E names numbers placed first new (inner ++ number ∷ [])
-one_waited E names numbers placed first old new inner shape number l at place p =
+pub one_waited : (E : Environment) (names : List (List ℕ)) (numbers : List ℕ) (placed : List Rule) (first old new : Numberer Shape Coded) (inner inner' : List ℕ) (b : Bor Shape) (number : ℕ) → IsNext old.pending.items inner inner' b number
+    → Places numbers old new (named b.now) number → PlacesWaiting E names numbers placed first old inner → PlacesWaiting E names numbers placed first new inner'
+one_waited E names numbers placed first old new inner inner' b number next place p =
     let W = waiting names old in
     let k = length inner in
-    let e = expression_of names shape in
+    let e = expression_of names b.now in
     let L = left_by e in
     let s = placed ++ p.more in
     let t = placed_by e in
     let Q = IsKnown names numbers placed in
-    let within : k < length W = subst (λ n. k < n) (sym (length-map old.pending.items (λ (b : Bor Shape). expression_of names b.now))) l in
-    let up : suc k ≤ length W = omega (arith, within) in
-    let here : Each Q (referred e) = (subst (Each (Referred Q)) at (each_drop (Referred Q) k W p.known)).0 in
-    let one = (place names).1 E s p.numbered (each_map Q (IsKnown names numbers s) (known_more names numbers placed p.more) (direct e) (direct_known Q e here)) in
     let W' = waiting names new in
     let grown : W' ≡ W ++ L = (place names).0 in
-    let long : length (inner ++ number ∷ []) ≡ suc k = omega (arith, length-append inner (number ∷ [])) in
+    let m = moved (λ (x : Bor Shape). expression_of names x.now) old.pending.items inner inner' b number next W' L grown in
+    let here : Each Q (referred e) = (subst (Each (Referred Q)) m.at (each_drop (Referred Q) k W p.known)).0 in
+    let one = (place names).1 E s p.numbered (each_map Q (IsKnown names numbers s) (known_more names numbers placed p.more) (direct e) (direct_known Q e here)) in
     let whole : s ++ t ≡ placed ++ (p.more ++ t) = append_assoc placed p.more t in
-    let taken : take (length (inner ++ number ∷ [])) W' ≡ take k W ++ e ∷ [] = ap₂ take long grown ∙ front_of W L (suc k) up ∙ taken_one W k e within at in
-    let left : drop (length (inner ++ number ∷ [])) W' ≡ drop (suc k) W ++ L = ap₂ drop long grown ∙ back_of W L (suc k) up in
+    let both : AreAt (s ++ t) inner' (take k W ++ e ∷ []) = subst (λ ks. AreAt (s ++ t) ks (take k W ++ e ∷ [])) (sym next.put) (at_push s t inner number (take k W) e p.inside one.1) in
     record {
       more = p.more ++ t;
       numbered = subst (λ ss. AreNumberedBy E names ss new) whole one.0;
-      inside = subst (λ es. AreAt (placed ++ (p.more ++ t)) (inner ++ number ∷ []) es) (sym taken) (subst (λ ss. AreAt ss (inner ++ number ∷ []) (take k W ++ e ∷ [])) whole (at_push s t inner number (take k W) e p.inside one.1));
-      same = then p.same (then (equal _ _ (ap (λ es. s ++ rules_in es) at)) (then (whole_step s e (drop (suc k) W)) (equal _ _ (ap₂ (λ ss es. ss ++ rules_in es) whole (sym left)))));
+      inside = subst (λ es. AreAt (placed ++ (p.more ++ t)) inner' es) (sym m.taken) (subst (λ ss. AreAt ss inner' (take k W ++ e ∷ [])) whole both);
+      same = joined p.same (joined (equal _ _ (ap (λ es. s ++ rules_in es) m.at)) (joined (whole_step s e (drop (suc k) W)) (equal _ _ (ap₂ (λ ss es. ss ++ rules_in es) whole (sym m.left)))));
       known = subst (Each (Referred Q)) (sym grown) (each_append (Referred Q) W L p.known (left_known Q e here));
     }
-  where
-    taken_one : (W : List Expression) (k : ℕ) (e : Expression) → k < length W → drop k W ≡ e ∷ drop (suc k) W → take (suc k) W ≡ take k W ++ e ∷ []
-    taken_one [] k e l d = absurd (omega (arith, l))
-    taken_one (x ∷ W) zero e l d = ap (λ ys. take 1 ys) d
-    taken_one (x ∷ W) (suc k) e l d = ap (λ ys. x ∷ ys) (taken_one W k e (omega (arith, l)) d)
 
 -- less waits
-pub less_waits : (old new : Numberer Shape Coded) (inner inner' : List ℕ) (shape : Shape) → length inner < length old.pending.items → length inner' ≡ length inner + 1 → WaitsAt [] old (length inner) shape → waiting [] new ≡ waiting [] old ++ left_by (expression_of [] shape)
+pub less_waits : (old new : Numberer Shape Coded) (inner inner' : List ℕ) (b : Bor Shape) (number : ℕ) → IsNext old.pending.items inner inner' b number → waiting [] new ≡ waiting [] old ++ left_by (expression_of [] b.now)
     → length (flat_map subexpressions (drop (length inner') (waiting [] new))) < length (flat_map subexpressions (drop (length inner) (waiting [] old)))
-less_waits old new inner inner' shape l longer at grown =
-    let W = waiting [] old in
-    let k = length inner in
-    let e = expression_of [] shape in
+less_waits old new inner inner' b number next grown =
+    let e = expression_of [] b.now in
     let L = left_by e in
-    let R = drop (suc k) W in
-    let within : k < length W = subst (λ n. k < n) (sym (length-map old.pending.items (λ (b : Bor Shape). expression_of [] b.now))) l in
-    let left : drop (length inner') (waiting [] new) ≡ R ++ L = ap₂ drop (longer ∙ plus_one k) grown ∙ back_of W L (suc k) (omega (arith, within)) in
-    let whole_old : length (flat_map subexpressions (drop k W)) ≡ length (subexpressions e) + length (flat_map subexpressions R) = ap (λ es. length (flat_map subexpressions es)) at ∙ length-append (subexpressions e) (flat_map subexpressions R) in
-    let whole_new : length (flat_map subexpressions (drop (length inner') (waiting [] new))) ≡ length (flat_map subexpressions R) + length (flat_map subexpressions L) = ap (λ es. length (flat_map subexpressions es)) left ∙ ap length (flat_map-append subexpressions R L) ∙ length-append (flat_map subexpressions R) (flat_map subexpressions L) in
     let all : length (map node (subexpressions e)) ≡ length (placed_by e ++ rules_in L) = length_permutation (placed_by e ++ rules_in L) (map node (subexpressions e)) (whole e) in
-    omega (arith, whole_old, whole_new, all, length-append (placed_by e) (rules_in L), length-map (subexpressions e) node, length-map (flat_map subexpressions L) node, some_placed e)
+    less_inside (λ (x : Bor Shape). expression_of [] x.now) old.pending.items inner inner' b number next (waiting [] new) L grown subexpressions
+    (omega (arith, all, length-append (placed_by e) (rules_in L), length-map (subexpressions e) node, length-map (flat_map subexpressions L) node, some_placed e))
   where
-    plus_one : (k : ℕ) → k + 1 ≡ suc k
-    plus_one k = omega arith
-
     some_placed : (e : Expression) → 0 < length (placed_by e)
     some_placed (cue.atom a) = omega arith
     some_placed (cue.kind a) = omega arith

@@ -1,21 +1,20 @@
 -- The rules of all that a root reaches, with their numbers.
-use Rattle.std.proofs.Common.{◌≡◌, ℕ, zero, suc, ◌<◌, inl, inr, Bool, true, false, List, [], ◌∷◌, ◌++◌, map, length, take, drop, slice_index, refl, sym, ap, ap₂, ◌∙◌, subst, append-nil, arith}
+use Rattle.std.proofs.Common.{◌≡◌, ℕ, ◌<◌, inl, inr, List, [], ◌∷◌, ◌++◌, map, length, slice_index, refl, sym, ap, ap₂, ◌∙◌, subst, append-nil, arith}
 use Rattle.std.specs.Prelude.{Contains}
-use Rattle.std.specs.List.{flat_map, IsDistinct, AllByRecursion as Each}
+use Rattle.std.specs.List.{flat_map, AllByRecursion as Each}
 use Rattle.std.specs.List.Sorted.{IsPermutation}
 use Rattle.std.specs.Option.{unwrap_or}
-use Rattle.std.specs.Str.{bytes_eq}
-use Rattle.std.proofs.lemmas.Slice.Eq.{bytes_eq-Decides}
 use Rattle.std.proofs.lemmas.Simd.{map-map}
-use Rattle.std.proofs.lemmas.List.{length-map}
+use Rattle.std.proofs.lemmas.List.{length-map, get_or-map, take_all, drop_all}
+use Rattle.std.proofs.lemmas.List.Elements.{All-from_recursion, All-get_or}
 use Rattle.std.proofs.lemmas.List.Sorted.{IsPermutation-map, IsPermutation-sym, Contains-permutation, length_permutation}
-use Rattle.std.proofs.lemmas.Map.Keys.{IsDistinct-IsPermutation}
-use Rattle.cs_document.proofs.Each.{each_member, each_append}
+use Rattle.cs_document.proofs.Each.{each_member, each_map, each_over, each_append}
+use Rattle.cs_package.specs.Expression as cue
 use Rattle.cs_package.specs.Expression.{Expression, Declaration}
 use Rattle.cs_package.specs.Environment.{Environment, bodies, declared_names}
 use Rattle.cs_package.specs.View.{expressions_of}
 use Rattle.cs_package.specs.declared.shape.Shape.{Shape}
-use Rattle.cs_graph.specs.Chains.{On, Distinct, Chain}
+use Rattle.cs_graph.specs.Chains.{On, Chain}
 use Rattle.cs_guard.specs.Reachable.{referred, referred_all, referred_of, RefersTo, Reaches, AreReachable, last_of}
 use Rattle.cs_guard.specs.Numbered.{name_of}
 use Rattle.cs_guard.proofs.Numbers.{on_contains, contains_on}
@@ -32,8 +31,10 @@ use Rattle.cs_instance.specs.declared.numbering.definitions.Placement.{Placement
 use Rattle.cs_instance.specs.Placing.{waiting, expression_at, AreNumbered, AreAt, IsKnown, AreKnownIn, PlacesWaiting, placed_with, left_with, bodies_of, rules_in}
 use Rattle.cs_instance.specs.Ranked.{ArePlacedBy, names_in}
 use Rattle.cs_instance.specs.Rooted.{IsRooted}
-use Rattle.cs_instance.proofs.Placed.{names_same, got_front}
-use Rattle.cs_instance.proofs.Counted.{then, equal, whole_of, gathered}
+use Rattle.cs_rules.proofs.Lists.{got_front}
+use Rattle.cs_instance.proofs.Placed.{names_same}
+use Rattle.cs_rules.proofs.Permutations.{equal, joined, flat_map-IsPermutation}
+use Rattle.cs_instance.proofs.Counted.{whole_of, gathered}
 use Rattle.cs_instance.proofs.Ordered.{distinct_of, each_found, names_at}
 use Rattle.cs_instance.proofs.Waited.{Referred, left_known_all}
 
@@ -58,24 +59,6 @@ pub closed_in : (E : Environment) (root : List ℕ) (names ns : List (List ℕ))
 closed_in E root names ns r p n m o c =
     let back = Contains-permutation ns names n (IsPermutation-sym names ns p) (on_contains n ns o) in
     contains_on m ns (Contains-permutation names ns m p ((r.each m).1 (reaches_more E root n m ((r.each n).0 back) c)))
-
-bytes_flip : (x y : List ℕ) → bytes_eq x y ≡ bytes_eq y x
-bytes_flip x y = by (bytes_eq x y) (bytes_eq y x) refl refl
-  where
-    by : (a b : Bool) → bytes_eq x y ≡ a → bytes_eq y x ≡ b → a ≡ b
-    by true true e f = refl
-    by false false e f = refl
-    by true false e f = sym (sym f ∙ (bytes_eq-Decides y x).1 (sym ((bytes_eq-Decides x y).0 e)))
-    by false true e f = sym e ∙ (bytes_eq-Decides x y).1 (sym ((bytes_eq-Decides y x).0 f))
-
-distinct_same : (names ns : List (List ℕ)) → IsPermutation names ns → IsDistinct bytes_eq names → Distinct ns
-distinct_same names ns p d = distinct_of ns (IsDistinct-IsPermutation bytes_eq bytes_flip names ns p d)
-
--- the rules of names in another order
-rules_same : (E : Environment) (names ns : List (List ℕ)) → IsPermutation names ns → IsDistinct bytes_eq names → IsPermutation (rules_of E names) (rules_of E ns)
-rules_same E names ns p d =
-    gathered (rules_of_one E) names ns (distinct_of names d) (distinct_same names ns p d)
-    (λ x o. contains_on x ns (Contains-permutation names ns x p (on_contains x names o))) (λ x o. contains_on x names (Contains-permutation ns names x (IsPermutation-sym names ns p) (on_contains x ns o)))
 
 -- there are as many, however the names are listed
 pub rules_count : (E : Environment) (n : List ℕ) (names ns : List (List ℕ)) → AreReachable E n names → AreReachable E n ns → length (rules_of E ns) ≡ length (rules_of E names)
@@ -121,48 +104,22 @@ module _ {D D' D'' N N' N'' : Type 0} (f' : D' → D'') (g' : N' → N'') (f : D
   twice (object_of ds o) = ap (λ xs. object_of xs o) (declarations_twice ds)
   twice (list_of es r) = ap₂ list_of (map-map g' g es) (rest_twice r)
 
-each_lower : (Q : ℕ → Type 0) (inner : List ℕ) → Each Q inner → (p : ℕ) → p < length inner → Q (slice_index inner p)
-each_lower Q [] h p l = absurd (omega (arith, l))
-each_lower Q (x ∷ inner) h zero l = h.0
-each_lower Q (x ∷ inner) h (suc p) l = each_lower Q inner h.1 p (omega (arith, l))
-
 module _ (g : ℕ → ℕ) (m k : ℕ) (lower : (p : ℕ) → p < m → g p < k) where
-  below_each : (ps : List ℕ) → Each (λ p. p < m) ps → Each (λ p. p < k) (map g ps)
-  below_each [] h = tt
-  below_each (p ∷ ps) h = (lower p h.0, below_each ps h.1)
-
   below_fields : (ds : List (Declaration ℕ)) → Each (λ (d : Declaration ℕ). d.value < m) ds → Each (λ (d : Declaration ℕ). d.value < k) (map (map_declaration g) ds)
-  below_fields [] h = tt
-  below_fields (d ∷ ds) h = (lower d.value h.0, below_fields ds h.1)
+  below_fields ds h =
+      each_over (map_declaration g) (λ (d : Declaration ℕ). d.value < k) ds (each_map (λ (d : Declaration ℕ). d.value < m) (λ (d : Declaration ℕ). g d.value < k) (λ d. lower d.value) ds h)
 
   below_rest : (r : Rest ℕ) → RestBelow m r → RestBelow k (map_rest g r)
   below_rest nothing h = tt
   below_rest anything h = tt
   below_rest (each p) h = lower p h
 
-  kept_each : (n : ℕ) (rs : List ℕ) → Each (λ r. r < n) rs → Each (λ r. r < n) (map (λ r. r) rs)
-  kept_each n [] h = tt
-  kept_each n (r ∷ rs) h = (h.0, kept_each n rs h.1)
-
   pub numbers_below : (n : ℕ) (a : Constraint ℕ ℕ) → PartsBelow n m a → PartsBelow n k (map_constraint (λ r. r) g a)
   numbers_below n (simple p) h = tt
-  numbers_below n (all_of rs) h = kept_each n rs h
-  numbers_below n (any_of rs) h = kept_each n rs h
+  numbers_below n (all_of rs) h = each_over (λ r. r) (λ r. r < n) rs h
+  numbers_below n (any_of rs) h = each_over (λ r. r) (λ r. r < n) rs h
   numbers_below n (object_of ds o) h = below_fields ds h
-  numbers_below n (list_of es r) h = (below_each es h.0, below_rest r h.1)
-
-rule_of_place : (rules : List Rule) (W : List Expression) (inner : List ℕ) → map (rule_at rules) inner ≡ map node W → (p : ℕ) → p < length W → rule_at rules (slice_index inner p) ≡ node (expression_at W p)
-rule_of_place rules [] inner e p l = absurd (omega (arith, l))
-rule_of_place rules (w ∷ W) [] e p l = let k = ap length e in absurd (omega (arith, k))
-rule_of_place rules (w ∷ W) (x ∷ inner) e zero l = first e
-  where
-    first : rule_at rules x ∷ map (rule_at rules) inner ≡ node w ∷ map node W → rule_at rules x ≡ node w
-    first q = cc
-rule_of_place rules (w ∷ W) (x ∷ inner) e (suc p) l = rule_of_place rules W inner (ap tail e) p (omega (arith, l))
-  where
-    tail : List Rule → List Rule
-    tail [] = []
-    tail (y ∷ ys) = ys
+  numbers_below n (list_of es r) h = (each_over g (λ p. p < k) es (each_map (λ p. p < m) (λ p. g p < k) lower es h.0), below_rest r h.1)
 
 module _ (E : Environment) (all : List Rule) (W : List Expression) (rules : List Coded) (inner : List ℕ) (n : AreNumbered E all W rules) (at : AreAt all inner W) where
   long : length inner ≡ length W
@@ -174,6 +131,9 @@ module _ (E : Environment) (all : List Rule) (W : List Expression) (rules : List
     inside = subst (λ k. Each (λ q. q < k) inner) (sym n.sizes) at.1;
   }
 
+  rule_of_place : (p : ℕ) → p < length W → rule_at all (slice_index inner p) ≡ node (expression_at W p)
+  rule_of_place p l = sym (get_or-map (rule_at all) inner p 0 (node (cue.atom cue.top)) (subst (λ k. p < k) (sym long) l)) ∙ ap (λ rs. rule_at rs p) at.0 ∙ get_or-map node W p (cue.atom cue.top) (node (cue.atom cue.top)) l
+
   pub is_numbering : IsNumbering E all (map (numbered inner) rules)
   is_numbering = record {
     count = length-map rules (numbered inner) ∙ n.sizes;
@@ -181,30 +141,18 @@ module _ (E : Environment) (all : List Rule) (W : List Expression) (rules : List
         let x = coded_found (numbered inner) rules r c h in
         let a = asked_of x.0 in
         ap (map_constraint (λ p. p) node) (n.asks r x.0 x.1) ∙ twice (λ p. p) node (rule_at all) (expression_at W) a
-        ∙ names_same r (length W) (rule_at all) (rule_at all) (λ p. node (expression_at W p)) (λ p. rule_at all (slice_index inner p)) (λ d l. refl) (λ p l. sym (rule_of_place all W inner at.0 p l)) a (n.parts r x.0 x.1)
+        ∙ names_same r (length W) (rule_at all) (rule_at all) (λ p. node (expression_at W p)) (λ p. rule_at all (slice_index inner p)) (λ d l. refl) (λ p l. sym (rule_of_place p l)) a (n.parts r x.0 x.1)
         ∙ sym (twice (rule_at all) (rule_at all) (λ k. k) (slice_index inner) a) ∙ ap (map_constraint (rule_at all) (rule_at all)) x.2;
     below = λ r c h.
         let x = coded_found (numbered inner) rules r c h in
         subst (PartsBelow r (length all)) x.2
-        (numbers_below (slice_index inner) (length W) (length all) (λ p l. each_lower (λ q. q < length all) inner at.1 p (subst (λ k. p < k) (sym long) l)) r (asked_of x.0) (n.parts r x.0 x.1));
+        (numbers_below (slice_index inner) (length W) (length all) (λ p l. All-get_or (λ q. q < length all) inner p 0 (subst (λ k. p < k) (sym long) l) (All-from_recursion (λ q. q < length all) inner at.1)) r (asked_of x.0) (n.parts r x.0 x.1));
   }
 
 -- ---- the whole
 
 pub names_perm : (E : Environment) (order : List ℕ) (ds : List (ℕ × ℕ)) → IsPermutation order (map (λ (d : ℕ × ℕ). d.1) ds) → IsPermutation (map (name_of E) order) (names_in E ds)
 names_perm E order ds p = subst (IsPermutation (map (name_of E) order)) (map-map (name_of E) (λ (d : ℕ × ℕ). d.1) ds) (IsPermutation-map (name_of E) order (map (λ (d : ℕ × ℕ). d.1) ds) p)
-
-all_taken : {X : Type 0} (xs : List X) (k : ℕ) → k ≡ length xs → take k xs ≡ xs
-all_taken [] zero e = refl
-all_taken [] (suc k) e = refl
-all_taken (x ∷ xs) zero e = absurd (omega (arith, e))
-all_taken (x ∷ xs) (suc k) e = ap (λ ys. x ∷ ys) (all_taken xs k (let f = e in omega (arith, f)))
-
-none_left : {X : Type 0} (xs : List X) (k : ℕ) → k ≡ length xs → drop k xs ≡ []
-none_left [] zero e = refl
-none_left [] (suc k) e = refl
-none_left (x ∷ xs) zero e = absurd (omega (arith, e))
-none_left (x ∷ xs) (suc k) e = none_left xs k (let f = e in omega (arith, f))
 
 module _ (E : Environment) (i : ℕ) (names : List (List ℕ)) (ns : List (List ℕ)) (first : Placement) (last : Numberer Shape Coded) (inner : List ℕ)
     (reach : AreReachable E (name_of E i) names) (perm : IsPermutation names ns) (p : ArePlacedBy E ns first) (long : length inner ≡ length last.pending.items)
@@ -219,7 +167,7 @@ module _ (E : Environment) (i : ℕ) (names : List (List ℕ)) (ns : List (List 
   wide = long ∙ sym (length-map last.pending.items _)
 
   at_all : AreAt (placed ++ w.more) inner W
-  at_all = subst (AreAt (placed ++ w.more) inner) (all_taken W (length inner) wide) w.inside
+  at_all = subst (AreAt (placed ++ w.more) inner) (take_all (length inner) W (omega (arith, wide))) w.inside
 
   pub placed_all : ∥ ArePlaced (λ x r m. PartsBelow r m (asked_of x)) last.rules.items inner ∥₁
   placed_all = ∣ are_placed E (placed ++ w.more) W last.rules.items inner w.numbered at_all ∣₁
@@ -227,9 +175,9 @@ module _ (E : Environment) (i : ℕ) (names : List (List ℕ)) (ns : List (List 
   counted : IsPermutation (rules_of E names) (placed ++ w.more)
   counted =
       let R = rules_in (flat_map (left_with E) ns) in
-      then (rules_same E names ns perm reach.distinct) (then (IsPermutation-sym (placed ++ R) (rules_of E ns) (whole_of E ns))
-      (then (equal _ _ (ap (λ es. placed ++ rules_in es) (sym p.waits))) (then w.same
-      (equal _ _ (ap (λ es. (placed ++ w.more) ++ rules_in es) (none_left W (length inner) wide) ∙ append-nil (placed ++ w.more))))))
+      joined (flat_map-IsPermutation (rules_of_one E) names ns perm) (joined (IsPermutation-sym (placed ++ R) (rules_of E ns) (whole_of E ns))
+      (joined (equal _ _ (ap (λ es. placed ++ rules_in es) (sym p.waits))) (joined w.same
+      (equal _ _ (ap (λ es. (placed ++ w.more) ++ rules_in es) (drop_all (length inner) W (omega (arith, wide))) ∙ append-nil (placed ++ w.more))))))
 
   itself : Reaches E (name_of E i) (name_of E i)
   itself = record { steps = []; chain = tt; last = refl }

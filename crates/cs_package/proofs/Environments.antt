@@ -1,5 +1,5 @@
 -- Environments, place by place and name by name.
-use Rattle.std.proofs.Common.{◌≡◌, ℕ, zero, suc, Bool, true, false, cond, List, [], ◌∷◌, map, length, Option, Some, None, is_some, option_map, slice_get, get_or, position, IfSome, IfNone, String, string_bytes, Vec, Global, refl, sym, ap, ◌∙◌, subst, true≢false, arith}
+use Rattle.std.proofs.Common.{◌≡◌, ℕ, zero, suc, ◌<◌, Bool, true, false, cond, List, [], ◌∷◌, map, length, Option, Some, None, is_some, option_map, slice_get, get_or, position, IfSome, IfNone, String, string_bytes, Vec, Global, refl, sym, ap, ◌∙◌, subst, true≢false, arith}
 use Rattle.std.specs.Cmp.{both_ways}
 use Rattle.std.specs.List.{IsDistinct, AllByRecursion}
 use Rattle.std.specs.Map.{keys_of, lookup}
@@ -156,6 +156,10 @@ module _ {V : Type 0} (ns : List (List ℕ)) where
   length-is [] (v ∷ vs) e = absurd (omega arith)
   length-is (x ∷ es) [] e = absurd (omega arith)
   length-is (x ∷ es) (v ∷ vs) e = ap suc (length-is es vs (omega arith))
+
+  -- the number of a definition is one of a name and of bodies
+  pub within-both : {E : Environment} (es : List (String Global × V)) (vs : List (Vec Shape Global)) (i : ℕ) → length es ≡ length vs → environment_of ns es vs ≡ E → i < length E → (i < length es) × (i < length vs)
+  within-both es vs i long is l = omega (arith, l, length-is es vs long, long, ap length is)
 
   -- the table's place of a name
   pub place : (t : List ℕ) (es : List (String Global × V)) (i : ℕ) → position (λ k. bytes_eq t (string_bytes k)) (keys_of es) ≡ Some i → slice_get (names_of es) i ≡ Some t

@@ -1,5 +1,5 @@
 -- What a judge answers at a rule and a value.
-use Rattle.std.proofs.Common.{◌≡◌, ℕ, ◌<◌, ◌≤◌, List, Option, Some, None, map, option_map, refl, sym, ap, ap₂, ◌∙◌, lt_of_lt_of_le}
+use Rattle.std.proofs.Common.{◌≡◌, ℕ, zero, suc, ◌<◌, ◌≤◌, List, [], ◌∷◌, Option, Some, None, map, length, option_map, refl, sym, ap, ap₂, ◌∙◌, lt_of_lt_of_le, arith}
 use Rattle.std.specs.Prelude.{slice_get}
 use Rattle.std.proofs.lemmas.Option.{slice_get-map, get_or_from_slice_get}
 use Rattle.cs_document.specs.Document.{Document, null, Entry}
@@ -7,7 +7,7 @@ use Rattle.cs_document.specs.Opened.{Opened, a_null, a_boolean, an_integer, a_te
 use Rattle.cs_document.specs.Inside.{InsideBelow}
 use Rattle.cs_document.proofs.Each.{each_map}
 use Rattle.cs_flat.specs.Nodes.{node_at}
-use Rattle.cs_table.specs.Judged.{AllVerdicts}
+use Rattle.cs_table.specs.Judged.{AllVerdicts, Judgement, IsJudged}
 use Rattle.cs_rules.specs.Steps.{Step}
 use Rattle.cs_rules.specs.Answers.{step_by, step_at, answer}
 
@@ -34,3 +34,17 @@ module _ {R C : Type 0} (made : R → C) (rules : List R) (r : ℕ) (c : C) wher
 
   pub coded_found : slice_get (map made rules) r ≡ Some c → (x : R) × (slice_get rules r ≡ Some x) × (made x ≡ c)
   coded_found h = coded_at (slice_get rules r) refl h
+
+-- ---- tables
+
+found_within : {X : Type 0} (xs : List X) (i : ℕ) → i < length xs → (x : X) × (slice_get xs i ≡ Some x)
+found_within [] i l = absurd (omega (arith, l))
+found_within (x ∷ xs) zero l = (x, refl)
+found_within (x ∷ xs) (suc i) l = found_within xs i (omega (arith, l))
+
+-- a table is judged if it is right wherever there is a rule and an item
+pub judged_where : {C : Type 0} (asked : List C) (xs : List (Opened ℕ)) (ic rc : ℕ) (judge : Judgement) (f : AllVerdicts) → ic ≡ length xs → rc ≡ length asked
+    → ((i r : ℕ) (c : C) (x : Opened ℕ) → slice_get asked r ≡ Some c → slice_get xs i ≡ Some x → f i r ≡ judge i r f) → IsJudged ic rc judge f
+judged_where asked xs ic rc judge f items rules h i r l m =
+    let c = found_within asked r (omega (arith, m, rules)) in
+    let x = found_within xs i (omega (arith, l, items)) in h i r c.0 x.0 c.1 x.1

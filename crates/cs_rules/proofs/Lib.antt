@@ -2,3 +2,8 @@
 
 pub mod Judged
 pub mod Foretold
+-- lists that grow, for the numbering of rules
+pub mod Lists
+pub mod Waiting
+-- lists in another order
+pub mod Permutations

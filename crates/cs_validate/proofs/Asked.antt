@@ -5,7 +5,7 @@ use Rattle.std.specs.List.{list_all, flat_map, AllByRecursion as Each}
 use Rattle.std.proofs.Math.Bool.{and-true, and_assoc}
 use Rattle.std.proofs.lemmas.List.Folds.{list_all-append}
 use Rattle.cs_document.specs.Document.{Document, Entry}
-use Rattle.cs_document.specs.Opened.{Opened, a_null, a_boolean, an_integer, a_text, a_list, an_object}
+use Rattle.cs_document.specs.Opened.{Opened, an_integer, a_list, an_object}
 use Rattle.cs_document.proofs.Each.{each_of, each_under, all_same as each_same, all_true}
 use Rattle.cs_profile.specs.Keywords.{name_of, all_keywords}
 use Rattle.cs_profile.specs.declared.keyword.Keyword.{Keyword}

@@ -17,7 +17,6 @@ pub mod Waits
 pub mod Joined
 pub mod Ordered
 pub mod Waited
-pub mod Rearranged
 pub mod Root
 pub mod Whole
 pub mod Wholes

@@ -6,8 +6,8 @@ use Rattle.std.specs.List.{All, flat_map, list_any, AllByRecursion as Each}
 use Rattle.std.specs.List.Sorted.{IsPermutation, IsNonDecreasingBy, IsStrictlySortedBy}
 use Rattle.std.specs.Map.{keys_of}
 use Rattle.std.specs.Option.{option_map_or}
-use Rattle.std.proofs.lemmas.Grind.{flat_map-append}
-use Rattle.std.proofs.lemmas.List.{map-append, take_more, length-map, get_or-map}
+use Rattle.std.proofs.lemmas.Bool.{cases_lt}
+use Rattle.std.proofs.lemmas.List.{map-append, take_more, length-map, get_or-map, flat_map_more}
 use Rattle.std.proofs.lemmas.List.Elements.{All-contains, All-from_recursion, All-get_or, Contains-append_left, Contains-push}
 use Rattle.std.proofs.lemmas.List.Folds.{list_any_at}
 use Rattle.std.proofs.lemmas.List.Sorted.{IsPermutation-map, Contains-permutation}
@@ -27,7 +27,8 @@ use Rattle.cs_validate.specs.Placing.{AreNumberedBy, Numbers, number_in, IsKnown
 use Rattle.cs_validate.specs.Ranked.{definitions_of, name_of, schema_of, definition, IsRanked, AreRanked, PlacesOne, ArePlacedBy}
 use Rattle.cs_validate.specs.declared.definitions.Placement.{Placement}
 use Rattle.cs_validate.specs.declared.definitions.Ranked.{Ranked}
-use Rattle.cs_validate.proofs.Placed.{each_push, known_more}
+use Rattle.cs_rules.proofs.Lists.{each_push}
+use Rattle.cs_validate.proofs.Placed.{known_more}
 
 -- ---- a definition is under its name
 
@@ -106,7 +107,7 @@ all_known R ds p ranked all n = known_or R p.numbers (placed_with ds) (map name_
 -- ---- one definition more
 
 flat_push : (f : Document → List Document) (ds : List Ranked) (d : Ranked) → flat_map f (map schema_of (ds ++ d ∷ [])) ≡ flat_map f (map schema_of ds) ++ f (schema_of d)
-flat_push f ds d = ap (flat_map f) (map-append schema_of ds (d ∷ [])) ∙ flat_map-append f (map schema_of ds) (schema_of d ∷ []) ∙ ap (λ ys. flat_map f (map schema_of ds) ++ ys) (append-nil (f (schema_of d)))
+flat_push f ds d = ap (flat_map f) (map-append schema_of ds (d ∷ [])) ∙ sym (flat_map_more f [] (map schema_of ds) (schema_of d))
 
 module _ (R : Document) (ds : List Ranked) (d : Ranked) (old new : Placement) (ranked : IsRanked R d)
     (refs : Each (IsKnown R old.numbers (placed_with ds)) (direct_names (schema_of d))) (all : ArePlacedBy R ds old) (one : PlacesOne d old new) where
@@ -154,15 +155,6 @@ module _ (R : Document) (ds : List Ranked) (d : Ranked) (old new : Placement) (r
 
 -- ---- what is referred to has lower rank
 
-lt_or_ge : (a b : ℕ) → (a < b) ⊎ (b ≤ a)
-lt_or_ge a zero = inr (omega arith)
-lt_or_ge zero (suc b) = inl (omega arith)
-lt_or_ge (suc a) (suc b) = by (lt_or_ge a b)
-  where
-    by : (a < b) ⊎ (b ≤ a) → (suc a < suc b) ⊎ (suc b ≤ suc a)
-    by (inl l) = inl (omega (arith, l))
-    by (inr l) = inr (omega (arith, l))
-
 -- an element stands among the first
 in_front : {X Y : Type 0} (f : X → Y) (xs : List X) (i j : ℕ) (d : X) → j < i → j < length xs → Contains (map f (take i xs)) (f (get_or xs j d))
 in_front f [] i j d l b = absurd (omega (arith, b))
@@ -185,7 +177,7 @@ module _ (R : Document) (ds : List Ranked) (ranked : AreRanked R ds) (i : ℕ) (
       let met : list_any (bytes_eq m) (direct_names (schema_of d)) ≡ true = list_any_at (bytes_eq m) (direct_names (schema_of d)) c.0 m c.1 ((bytes_eq-Decides m (get_or (direct_names (schema_of d)) c.0 m)).1 (sym c.2)) in
       let refers : RefersDirectly R (name_of d) m = subst (λ o. IsTrue (list_any (bytes_eq m) (option_map_or direct_names o []))) (sym ranked_here.found) met in
       let lower : e.rank < d.rank = ranked_here.falls m e.rank refers (subst (λ k. IsRank R k e.rank) named other.height) in
-      subst (Contains (map name_of (take i ds))) named (in_front name_of ds i j d (earlier j e.rank (lt_or_ge j i) lower (λ l. subst (λ (f : Ranked). f.rank ≤ e.rank) (sym is) (ranked.sorted i j d l inside))) inside)
+      subst (Contains (map name_of (take i ds))) named (in_front name_of ds i j d (earlier j e.rank (cases_lt j i) lower (λ l. subst (λ (f : Ranked). f.rank ≤ e.rank) (sym is) (ranked.sorted i j d l inside))) inside)
     where
       earlier : (j r : ℕ) → (j < i) ⊎ (i ≤ j) → r < d.rank → (i ≤ j → d.rank ≤ r) → j < i
       earlier j r (inl l) lower sorted = l

@@ -1,5 +1,5 @@
 -- Rules one after another: each new one is that of one more schema.
-use Rattle.std.proofs.Common.{◌≡◌, ℕ, zero, suc, ◌+◌, ◌<◌, ◌≤◌, ◌⊎◌, inl, inr, ⊎_elim, List, [], ◌∷◌, ◌++◌, Bool, true, false, Option, Some, None, option_map, Result, map, length, refl, sym, ap, ap₂, ◌∙◌, subst, append_assoc, append-nil, length-append, lt_of_lt_of_le, arith}
+use Rattle.std.proofs.Common.{◌≡◌, ℕ, ◌+◌, ◌<◌, ◌≤◌, ◌⊎◌, inl, inr, List, [], ◌∷◌, ◌++◌, Bool, true, false, Option, Some, None, option_map, Result, map, length, refl, sym, ap, ap₂, ◌∙◌, subst, append_assoc, append-nil, length-append, lt_of_lt_of_le, arith}
 use Rattle.std.specs.Prelude.{slice_get, option_to_list, IfOk}
 use Rattle.std.specs.List.{AllByRecursion as Each}
 use Rattle.std.specs.declared.alloc.AllocError.{AllocError}
@@ -8,6 +8,7 @@ use Rattle.std.proofs.lemmas.Result.{IfOk-weaker}
 use Rattle.cs_document.specs.Document.{Document, boolean, Entry}
 use Rattle.cs_document.specs.Inside.{map_entry}
 use Rattle.cs_document.proofs.Each.{each_map}
+use Rattle.cs_rules.proofs.Lists.{got_push, numbers_same}
 use Rattle.cs_profile.specs.Loops.{direct_names}
 use Rattle.cs_profile.specs.Constraint.{Assertion, valid_by, at_keys, at_other_keys, in_front, behind, valid_by_all, valid_by_any, not_valid_by, Constraint, always, never, conjunction, constraint_of}
 use Rattle.cs_validate.specs.Numbering.{map_assertion, map_constraint, said, ClaimBelow, PartsBelow, schema_at}
@@ -17,26 +18,7 @@ use Rattle.cs_validate.specs.Props.{parts_weaker}
 use Rattle.cs_validate.specs.Steps.{asked_of}
 use Rattle.cs_validate.specs.Placing.{waiting, AreNumbered, State, AreNumberedBy, AreAt, placed_by, left_by, Numbers, number_in, IsKnown, Places}
 
-pub got_push : {X : Type 0} (xs : List X) (x y : X) (r : ℕ) → slice_get (xs ++ x ∷ []) r ≡ Some y → ((r < length xs) × (slice_get xs r ≡ Some y)) ⊎ ((r ≡ length xs) × (x ≡ y))
-got_push [] x y zero e = inr (refl, cc)
-got_push [] x y (suc r) e = cc
-got_push (z ∷ zs) x y zero e = inl (omega arith, e)
-got_push (z ∷ zs) x y (suc r) e = ⊎_elim (λ (l : (r < length zs) × (slice_get zs r ≡ Some y)). let a = l.0 in inl (omega arith, l.1)) (λ (l : (r ≡ length zs) × (x ≡ y)). inr (ap suc l.0, l.1)) (got_push zs x y r e)
-
-pub got_front : {X : Type 0} (xs more : List X) (i : ℕ) (d : X) → slice_get xs i ≡ Some d → slice_get (xs ++ more) i ≡ Some d
-got_front [] more i d e = cc
-got_front (x ∷ xs) more zero d e = e
-got_front (x ∷ xs) more (suc i) d e = got_front xs more i d e
-
-pub each_push : {X : Type 0} (P : X → Type 0) (xs : List X) (x : X) → Each P xs → P x → Each P (xs ++ x ∷ [])
-each_push P [] x h p = (p, tt)
-each_push P (y ∷ ys) x h p = (h.0, each_push P ys x h.1 p)
-
 -- names that agree below a number
-pub numbers_same : {X : Type 0} (n : ℕ) (f f' : ℕ → X) → ((d : ℕ) → d < n → f d ≡ f' d) → (ds : List ℕ) → Each (λ d. d < n) ds → map f ds ≡ map f' ds
-numbers_same n f f' h [] b = refl
-numbers_same n f f' h (d ∷ ds) b = ap₂ ◌∷◌ (h d b.0) (numbers_same n f f' h ds b.1)
-
 pub number_same : {X : Type 0} (n : ℕ) (f f' : ℕ → X) → ((d : ℕ) → d < n → f d ≡ f' d) → (o : Option ℕ) → Each (λ d. d < n) (option_to_list o) → option_map f o ≡ option_map f' o
 number_same n f f' h None b = refl
 number_same n f f' h (Some d) b = ap Some (h d b.0)

@@ -24,8 +24,8 @@ use Rattle.cs_profile.proofs.Slots.{has_slot}
 use Rattle.cs_validate.specs.Numbering.{asserted, said}
 use Rattle.cs_validate.specs.Rules.{in_value, subschemas, member_schemas, list_schemas, map_schemas, named_schemas}
 use Rattle.cs_validate.specs.Placing.{placed_by, placed_by_members, left_by}
-use Rattle.cs_validate.proofs.Rearranged.{flat_map-IsPermutation}
-use Rattle.cs_validate.proofs.Whole.{Same, equal, joined, exchange, to_front, inside, inside_append, whole_members, whole_of}
+use Rattle.cs_rules.proofs.Permutations.{Same, equal, joined, exchange, to_front, flat_map-IsPermutation}
+use Rattle.cs_validate.proofs.Whole.{inside, inside_append, whole_members, whole_of}
 
 -- ---- `$schema` is put in
 

@@ -11,7 +11,7 @@ use Rattle.cs_document.specs.Document.{Document, Entry, under}
 use Rattle.cs_document.specs.Opened.{Opened, a_null, a_boolean, an_integer, a_text, a_list, an_object}
 use Rattle.cs_document.specs.Inside.{map_entry, map_opened}
 use Rattle.cs_profile.specs.Keywords.{Kind, Null, Boolean, Object, Array, Number, String, Integer}
-use Rattle.cs_profile.specs.Constraint.{Assertion, nothing, valid_by, has_kind, equals, is_among, at_least, at_most, above, below, has_keys, at_keys, at_other_keys, in_front, behind, at_least_long, valid_by_all, valid_by_any, not_valid_by, Constraint, always, never, conjunction}
+use Rattle.cs_profile.specs.Constraint.{Assertion, nothing, valid_by, has_kind, at_least, at_most, above, below, has_keys, at_keys, at_other_keys, in_front, behind, at_least_long, valid_by_all, valid_by_any, Constraint, always, never, conjunction}
 use Rattle.cs_profile.specs.Validity.{is_of_kind, if_number, if_array, if_object, if_there, front_holds, holds, is_satisfied}
 use Rattle.cs_validate.specs.Numbering.{map_assertion, map_constraint, asserted, said}
 

@@ -1,10 +1,10 @@
 -- The validity of a schema document's schemas is the table of its judge.
-use Rattle.std.proofs.Common.{◌≡◌, ℕ, ◌*◌, ◌<◌, ◌≤◌, Bool, List, map, length, get_or, slice_index, refl, sym, ap, ap₂, ◌∙◌, subst, arith}
-use Rattle.std.proofs.lemmas.Option.{slice_get-get_or}
+use Rattle.std.proofs.Common.{◌≡◌, ℕ, ◌*◌, ◌<◌, ◌≤◌, Bool, List, map, length, slice_index, refl, sym, ap, ap₂, ◌∙◌, subst, arith}
+use Rattle.std.specs.Prelude.{Some, slice_get}
 use Rattle.std.proofs.lemmas.List.{length-map}
 use Rattle.std.proofs.lemmas.List.Sorted.{length_permutation}
 use Rattle.cs_document.specs.Document.{Document}
-use Rattle.cs_document.specs.Opened.{a_null, opened}
+use Rattle.cs_document.specs.Opened.{Opened, opened}
 use Rattle.cs_document.specs.Inside.{map_opened}
 use Rattle.cs_flat.specs.Nodes.{nodes, node_at}
 use Rattle.cs_flat.specs.Items.{items, AreItems}
@@ -14,8 +14,8 @@ use Rattle.cs_table.specs.Refused as limits
 use Rattle.cs_table.specs.declared.fault.TableFault.{TableFault}
 use Rattle.cs_table.specs.declared.fault.TableFault.TheVariants as table
 use Rattle.cs_rules.specs.Answers.{answer}
-use Rattle.cs_rules.proofs.Judged.{answer_is, coded_found}
-use Rattle.cs_profile.specs.Constraint.{always, constraint_of}
+use Rattle.cs_rules.proofs.Judged.{answer_is, coded_found, judged_where}
+use Rattle.cs_profile.specs.Constraint.{Constraint, constraint_of}
 use Rattle.cs_profile.specs.Validity.{is_satisfied, IsValidity}
 use Rattle.cs_validate.specs.Numbering.{map_constraint, said, schema_at}
 use Rattle.cs_validate.specs.Rules.{rules_of, HasManyPairs}
@@ -28,19 +28,16 @@ use Rattle.cs_validate.specs.Rooted.{IsRooted}
 use Rattle.cs_validate.proofs.Satisfied.{as_said, named, at_documents}
 
 pub judge_of : (R : Document) (d : Document) (root : ℕ) (rules : List Coded) (inner : List ℕ) → IsRooted R rules inner root → IsJudge R d root (length (nodes d)) (length rules) (answer step rules inner (nodes d) (items d))
-judge_of R d root rules inner h = record {
-  all = h.all;
-  are = h.are;
-  asked = map (numbered inner) rules;
-  numbering = h.numbering;
-  item_count = refl;
-  rule_count = sym (length-map rules (numbered inner)) ∙ h.numbering.count;
-  found = h.root;
-  answers = λ f i r c x e k.
-      let y = coded_found (numbered inner) rules r c e in
-      answer_is step rules inner (nodes d) (items d) i r f y.0 x y.1 k ∙ sym (named (λ q. q) (slice_index inner) (f i) f (asked_of y.0) (node_at (nodes d) i) x)
-      ∙ ap (λ a. is_satisfied (f i) f a (node_at (nodes d) i) x) y.2;
-}
+judge_of R d root rules inner h =
+    let count : length rules ≡ length h.all = sym (length-map rules (numbered inner)) ∙ h.numbering.count in
+    record { all = h.all; are = h.are; asked = map (numbered inner) rules; numbering = h.numbering; item_count = refl; rule_count = count; found = h.root; answers = answers }
+  where
+    answers : (f : AllVerdicts) (i r : ℕ) (c : Constraint ℕ ℕ) (x : Opened ℕ) → slice_get (map (numbered inner) rules) r ≡ Some c → slice_get (items d) i ≡ Some x
+        → answer step rules inner (nodes d) (items d) i r f ≡ is_satisfied (λ p. f i p) (λ y p. f y p) c (node_at (nodes d) i) x
+    answers f i r c x e k =
+        let y = coded_found (numbered inner) rules r c e in
+        answer_is step rules inner (nodes d) (items d) i r f y.0 x y.1 k ∙ sym (named (λ q. q) (slice_index inner) (f i) f (asked_of y.0) (node_at (nodes d) i) x)
+        ∙ ap (λ a. is_satisfied (f i) f a (node_at (nodes d) i) x) y.2
 
 module _ (R : Document) (d : Document) (root ic rc : ℕ) (judge : Judgement) (j : IsJudge R d root ic rc judge) (are : AreItems (nodes d) (items d)) where
   module _ (V : Document → Document → Bool) (h : IsValidity R V) where
@@ -52,13 +49,9 @@ module _ (R : Document) (d : Document) (root ic rc : ℕ) (judge : Judgement) (j
     step_is s x = h s x ∙ sym (as_said (λ q. V q x) (λ y q. V q y) x (opened x) (constraint_of R s))
 
     pub is_judged : IsJudged ic rc judge table_of
-    is_judged i r l m =
-        let within : r < length j.asked = omega (arith, m, j.rule_count, j.numbering.count) in
-        let inside : i < length (items d) = omega (arith, l, j.item_count, are.count) in
-        let c = get_or j.asked r always in
-        let o = get_or (items d) i a_null in
-        let e = slice_get-get_or j.asked r always within in
-        let k = slice_get-get_or (items d) i a_null inside in
+    is_judged =
+        judged_where j.asked (items d) ic rc judge table_of (j.item_count ∙ sym are.count) (j.rule_count ∙ sym j.numbering.count)
+        (λ i r c o e k.
         let x = node_at (nodes d) i in
         let mapped = map_constraint (schema_at j.all) (schema_at j.all) c in
         step_is (schema_at j.all r) x
@@ -67,18 +60,15 @@ module _ (R : Document) (d : Document) (root ic rc : ℕ) (judge : Judgement) (j
         ∙ ap (is_satisfied (λ q. V q x) (λ y q. V q y) mapped x) (are.node i o k)
         ∙ named (schema_at j.all) (schema_at j.all) (λ q. V q x) (λ y q. V q y) c x (map_opened (node_at (nodes d)) o)
         ∙ at_documents (node_at (nodes d)) (λ q. V (schema_at j.all q) x) (λ y q. V (schema_at j.all q) y) c x o
-        ∙ sym (j.answers table_of i r c o e k)
+        ∙ sym (j.answers table_of i r c o e k))
 
   pub is_table : (t : Table) → t.items ≡ ic → t.rules ≡ rc → length t.given ≡ ic * rc → ((f : AllVerdicts) → IsJudged ic rc judge f → (i r : ℕ) → i < ic → r < rc → verdicts t i r ≡ f i r) → IsTable R d root t
-  is_table t a b given only = record {
-    all = j.all;
-    are = j.are;
-    item_count = a ∙ j.item_count;
-    rule_count = b ∙ j.rule_count;
-    count = given ∙ ap₂ ◌*◌ j.item_count j.rule_count;
-    found = j.found;
-    verdict = λ V h i r l m. only (table_of V h) (is_judged V h) i r (subst (λ k. i < k) (sym j.item_count) l) (subst (λ k. r < k) (sym j.rule_count) m);
-  }
+  is_table t a b given only =
+      let count = given ∙ ap₂ ◌*◌ j.item_count j.rule_count in
+      record { all = j.all; are = j.are; item_count = a ∙ j.item_count; rule_count = b ∙ j.rule_count; count = count; found = j.found; verdict = verdict }
+    where
+      verdict : (V : Document → Document → Bool) → IsValidity R V → (i r : ℕ) → i < length (nodes d) → r < length j.all → verdicts t i r ≡ V (schema_at j.all r) (node_at (nodes d) i)
+      verdict V h i r l m = only (table_of V h) (is_judged V h) i r (subst (λ k. i < k) (sym j.item_count) l) (subst (λ k. r < k) (sym j.rule_count) m)
 
   pairs : ic * rc ≡ length (nodes d) * length (rules_of R)
   pairs = ap₂ ◌*◌ j.item_count (j.rule_count ∙ length_permutation (rules_of R) j.all j.are)

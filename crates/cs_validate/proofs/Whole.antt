@@ -1,40 +1,17 @@
 -- What is numbered and what waits are, together, a schema and those inside it.
-use Rattle.std.proofs.Common.{◌≡◌, false, List, [], ◌∷◌, ◌++◌, Option, Some, map, refl, sym, ap, ap₂, ◌∙◌, subst, append_assoc, append-nil}
+use Rattle.std.proofs.Common.{◌≡◌, false, List, [], ◌∷◌, ◌++◌, Option, Some, map, refl, sym, ap, ap₂, ◌∙◌, append-nil}
 use Rattle.std.specs.Option.{option_and_then}
 use Rattle.std.specs.List.{flat_map}
-use Rattle.std.specs.List.Sorted.{IsPermutation}
 use Rattle.std.proofs.lemmas.Grind.{flat_map-append}
-use Rattle.std.proofs.lemmas.List.Sorted.{IsPermutation-refl, IsPermutation-sym, IsPermutation-trans, IsPermutation-append, IsPermutation-append_comm, IsPermutation-append_left, IsPermutation-append_right, IsPermutation-cons, IsPermutation-middle}
+use Rattle.std.proofs.lemmas.List.Sorted.{IsPermutation-refl, IsPermutation-append, IsPermutation-append_right}
 use Rattle.cs_document.specs.Document.{Document, null, boolean, integer, text, list, object, Documents, no_documents, document, Members, no_members, member, elements, entries, under}
+use Rattle.cs_rules.proofs.Permutations.{Same, equal, joined, exchange, to_front, parted}
 use Rattle.cs_profile.specs.Keywords.{keywords, elements_of, entries_of}
 use Rattle.cs_profile.specs.Shapes.{form_in}
 use Rattle.cs_profile.specs.declared.keyword.Keyword.{Keyword}
 use Rattle.cs_profile.specs.declared.keyword.Keyword.TheVariants as keyword
 use Rattle.cs_validate.specs.Rules.{in_value, subschemas, member_schemas, list_schemas, element_schemas, map_schemas, named_schemas}
 use Rattle.cs_validate.specs.Placing.{if_direct, inside_of, placed_by, placed_by_members, placed_by_list, placed_by_each, inside_members, left_by, left_by_members, left_by_list, left_by_each}
-
--- ---- permutations
-
-abbrev pub Same : {X : Type 0} → List X → List X → Type 0
-Same = IsPermutation
-
-pub equal : {X : Type 0} (xs ys : List X) → xs ≡ ys → Same xs ys
-equal xs ys e = subst (Same xs) e (IsPermutation-refl xs)
-
-pub joined : {X : Type 0} {xs ys zs : List X} → Same xs ys → Same ys zs → Same xs zs
-joined {X} {xs} {ys} {zs} a b = IsPermutation-trans xs ys zs a b
-
--- two in the middle change places
-pub exchange : {X : Type 0} (a b c d : List X) → Same ((a ++ b) ++ (c ++ d)) ((a ++ c) ++ (b ++ d))
-exchange a b c d =
-    let one = equal ((a ++ b) ++ (c ++ d)) (a ++ ((b ++ c) ++ d)) (append_assoc a b (c ++ d) ∙ ap (λ xs. a ++ xs) (sym (append_assoc b c d))) in
-    let two = IsPermutation-append_right a ((b ++ c) ++ d) ((c ++ b) ++ d) (IsPermutation-append_left d (b ++ c) (c ++ b) (IsPermutation-append_comm b c)) in
-    let three = equal (a ++ ((c ++ b) ++ d)) ((a ++ c) ++ (b ++ d)) (ap (λ xs. a ++ xs) (append_assoc c b d) ∙ sym (append_assoc a c (b ++ d))) in
-    joined one (joined two three)
-
--- what is behind some is before them
-pub to_front : (x : Document) (xs ys zs : List Document) → Same (xs ++ ys) zs → Same ((xs ++ x ∷ []) ++ ys) (x ∷ zs)
-to_front x xs ys zs h = joined (equal ((xs ++ x ∷ []) ++ ys) (xs ++ x ∷ ys) (append_assoc xs (x ∷ []) ys)) (joined (IsPermutation-middle xs x ys) (IsPermutation-cons x (xs ++ ys) zs h))
 
 -- ---- below the root
 
@@ -143,11 +120,4 @@ whole_of (s ∷ ss) = parts_whole (placed_by s) (flat_map placed_by ss) (left_by
 -- a schema that waited gets its number
 pub whole_step : (placed : List Document) (s : Document) (rest : List Document) → Same (placed ++ inside (s ∷ rest)) ((placed ++ placed_by s) ++ inside (rest ++ left_by s))
 whole_step placed s rest =
-    let P = placed_by s in
-    let L = inside (left_by s) in
-    let R = inside rest in
-    let one = IsPermutation-append_right placed (subschemas false s ++ R) ((P ++ L) ++ R) (IsPermutation-append_left R (subschemas false s) (P ++ L) (IsPermutation-sym (P ++ L) (subschemas false s) (whole s))) in
-    let two = equal (placed ++ ((P ++ L) ++ R)) ((placed ++ P) ++ (L ++ R)) (ap (λ xs. placed ++ xs) (append_assoc P L R) ∙ sym (append_assoc placed P (L ++ R))) in
-    let three = IsPermutation-append_right (placed ++ P) (L ++ R) (R ++ L) (IsPermutation-append_comm L R) in
-    let four = equal ((placed ++ P) ++ (R ++ L)) ((placed ++ P) ++ inside (rest ++ left_by s)) (ap (λ xs. (placed ++ P) ++ xs) (sym (inside_append rest (left_by s)))) in
-    joined one (joined two (joined three four))
+    joined (parted placed (subschemas false s) (placed_by s) (inside (left_by s)) (inside rest) (whole s)) (equal _ _ (ap (λ xs. (placed ++ placed_by s) ++ xs) (sym (inside_append rest (left_by s)))))

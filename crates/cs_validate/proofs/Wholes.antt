@@ -1,15 +1,18 @@
 -- The rules of a schema document, with their numbers.
-use Rattle.std.proofs.Common.{◌≡◌, ℕ, zero, suc, ◌+◌, ◌<◌, ◌⊎◌, inl, inr, false, List, [], ◌∷◌, ◌++◌, Option, Some, None, option_map, map, length, take, drop, slice_index, Bor, refl, sym, ap, ap₂, ◌∙◌, subst, append_assoc, append-nil, length-append, arith}
+use Rattle.std.proofs.Common.{◌≡◌, ℕ, ◌+◌, ◌<◌, ◌≤◌, ◌⊎◌, inl, inr, false, List, [], ◌∷◌, ◌++◌, Option, Some, None, option_map, map, length, slice_index, Bor, refl, sym, ap, ap₂, ◌∙◌, subst, append_assoc, append-nil, length-append, arith}
 use Rattle.std.specs.Prelude.{slice_get, option_to_list}
 use Rattle.std.specs.List.{AllByRecursion as Each}
 use Rattle.std.specs.List.Sorted.{IsPermutation}
-use Rattle.std.proofs.lemmas.List.{length-map, get_or_push}
+use Rattle.std.proofs.Math.Logic.{⊎_map}
+use Rattle.std.proofs.lemmas.Bool.{cases_lt}
+use Rattle.std.proofs.lemmas.List.{length-map, get_or_push, get_or-map, take_all, drop_all}
+use Rattle.std.proofs.lemmas.List.Elements.{All-from_recursion, All-get_or}
 use Rattle.std.proofs.lemmas.List.Sorted.{IsPermutation-map}
 use Rattle.std.proofs.lemmas.Option.{slice_get_within}
 use Rattle.std.proofs.lemmas.Simd.{map-map}
 use Rattle.cs_document.specs.Document.{Document, boolean, Entry}
 use Rattle.cs_document.specs.Inside.{map_entry}
-use Rattle.cs_document.proofs.Each.{each_of}
+use Rattle.cs_document.proofs.Each.{each_of, each_map, each_over}
 use Rattle.cs_profile.specs.Constraint.{Assertion, valid_by, at_keys, at_other_keys, in_front, behind, valid_by_all, valid_by_any, not_valid_by, Constraint, always, never, conjunction, constraint_of}
 use Rattle.cs_profile.specs.Loops.{direct_names}
 use Rattle.cs_profile.specs.SchemaDocument.{SchemaValue, IsWhole, schema_view, document_of, definitions_view, unless_no_map}
@@ -25,9 +28,11 @@ use Rattle.cs_validate.specs.Ranked.{definitions_of, schema_of, definition, AreR
 use Rattle.cs_validate.specs.declared.definitions.Placement.{Placement}
 use Rattle.cs_validate.specs.declared.definitions.Ranked.{Ranked}
 use Rattle.cs_validate.specs.Rooted.{IsRooted}
-use Rattle.cs_validate.proofs.Placed.{at_front, got_front, names_same, known_more}
+use Rattle.cs_rules.proofs.Lists.{got_front, got_last}
+use Rattle.cs_validate.proofs.Placed.{at_front, names_same, known_more}
 use Rattle.cs_rules.proofs.Judged.{coded_found}
-use Rattle.cs_validate.proofs.Whole.{Same, joined, equal, inside}
+use Rattle.cs_rules.proofs.Permutations.{Same, joined, equal}
+use Rattle.cs_validate.proofs.Whole.{inside}
 use Rattle.cs_validate.proofs.Root.{root_said, before, placed_last, bodies, root_counted}
 use Rattle.cs_validate.proofs.Ordered.{placed_with, all_known}
 
@@ -59,23 +64,9 @@ module _ {H H' H'' I I' I'' : Type 0} (f' : H' → H'') (g' : I' → I'') (f : H
   twice never = refl
   twice (conjunction claims) = ap conjunction (claims_twice claims)
 
-each_lower : (Q : ℕ → Type 0) (inner : List ℕ) → Each Q inner → (p : ℕ) → p < length inner → Q (slice_index inner p)
-each_lower Q [] h p l = absurd (omega (arith, l))
-each_lower Q (x ∷ inner) h zero l = h.0
-each_lower Q (x ∷ inner) h (suc p) l = each_lower Q inner h.1 p (omega (arith, l))
-
 module _ (g : ℕ → ℕ) (m k : ℕ) (lower : (p : ℕ) → p < m → g p < k) (n : ℕ) where
-  below_each : (ps : List ℕ) → Each (λ p. p < m) ps → Each (λ p. p < k) (map g ps)
-  below_each [] h = tt
-  below_each (p ∷ ps) h = (lower p h.0, below_each ps h.1)
-
   below_entries : (ps : List (Entry ℕ)) → Each (λ (e : Entry ℕ). e.1 < m) ps → Each (λ (e : Entry ℕ). e.1 < k) (map (map_entry g) ps)
-  below_entries [] h = tt
-  below_entries (p ∷ ps) h = (lower p.1 h.0, below_entries ps h.1)
-
-  kept_each : (rs : List ℕ) → Each (λ r. r < n) rs → Each (λ r. r < n) (map (λ r. r) rs)
-  kept_each [] h = tt
-  kept_each (r ∷ rs) h = (h.0, kept_each rs h.1)
+  below_entries ps h = each_over (map_entry g) (λ (e : Entry ℕ). e.1 < k) ps (each_map (λ (e : Entry ℕ). e.1 < m) (λ (e : Entry ℕ). g e.1 < k) (λ e. lower e.1) ps h)
 
   kept_option : (o : Option ℕ) → Each (λ r. r < n) (option_to_list o) → Each (λ r. r < n) (option_to_list (option_map (λ r. r) o))
   kept_option None h = tt
@@ -85,10 +76,10 @@ module _ (g : ℕ → ℕ) (m k : ℕ) (lower : (p : ℕ) → p < m → g p < k)
   claim_below (valid_by o) h = kept_option o h
   claim_below (at_keys ps) h = below_entries ps h
   claim_below (at_other_keys ks p) h = lower p h
-  claim_below (in_front ps) h = below_each ps h
+  claim_below (in_front ps) h = each_over g (λ p. p < k) ps (each_map (λ p. p < m) (λ p. g p < k) lower ps h)
   claim_below (behind j p) h = lower p h
-  claim_below (valid_by_all rs) h = kept_each rs h
-  claim_below (valid_by_any rs) h = kept_each rs h
+  claim_below (valid_by_all rs) h = each_over (λ r. r) (λ r. r < n) rs h
+  claim_below (valid_by_any rs) h = each_over (λ r. r) (λ r. r < n) rs h
   claim_below (not_valid_by r) h = h
   claim_below _ h = tt
 
@@ -101,19 +92,6 @@ module _ (g : ℕ → ℕ) (m k : ℕ) (lower : (p : ℕ) → p < m → g p < k)
   numbers_below never h = tt
   numbers_below (conjunction claims) h = claims_below claims h
 
-schema_of_place : (all W : List Document) (inner : List ℕ) → map (schema_at all) inner ≡ W → (p : ℕ) → p < length W → schema_at all (slice_index inner p) ≡ schema_at W p
-schema_of_place all [] inner e p l = absurd (omega (arith, l))
-schema_of_place all (w ∷ W) [] e p l = let k = ap length e in absurd (omega (arith, k))
-schema_of_place all (w ∷ W) (x ∷ inner) e zero l = first e
-  where
-    first : schema_at all x ∷ map (schema_at all) inner ≡ w ∷ W → schema_at all x ≡ w
-    first q = cc
-schema_of_place all (w ∷ W) (x ∷ inner) e (suc p) l = schema_of_place all W inner (ap tail e) p (omega (arith, l))
-  where
-    tail : List Document → List Document
-    tail [] = []
-    tail (y ∷ ys) = ys
-
 module _ (R : Document) (all : List Document) (W : List Document) (rules : List Coded) (inner : List ℕ) (n : AreNumbered R all W rules) (at : AreAt all inner W) where
   long : length inner ≡ length W
   long = sym (length-map inner (schema_at all)) ∙ ap length at.0
@@ -124,6 +102,9 @@ module _ (R : Document) (all : List Document) (W : List Document) (rules : List 
     inside = subst (λ k. Each (λ q. q < k) inner) (sym n.sizes) at.1;
   }
 
+  schema_of_place : (p : ℕ) → p < length W → schema_at all (slice_index inner p) ≡ schema_at W p
+  schema_of_place p l = sym (get_or-map (schema_at all) inner p 0 (boolean false) (subst (λ k. p < k) (sym long) l)) ∙ ap (λ ss. schema_at ss p) at.0
+
   is_numbering : IsNumbering R all (map (numbered inner) rules)
   is_numbering = record {
     count = length-map rules (numbered inner) ∙ n.sizes;
@@ -131,24 +112,18 @@ module _ (R : Document) (all : List Document) (W : List Document) (rules : List 
         let x = coded_found (numbered inner) rules r c h in
         let a = asked_of x.0 in
         n.asks r x.0 x.1
-        ∙ ap said (names_same r (length W) (schema_at all) (schema_at all) (schema_at W) (λ p. schema_at all (slice_index inner p)) (λ d l. refl) (λ p l. sym (schema_of_place all W inner at.0 p l)) a (n.parts r x.0 x.1)
+        ∙ ap said (names_same r (length W) (schema_at all) (schema_at all) (schema_at W) (λ p. schema_at all (slice_index inner p)) (λ d l. refl) (λ p l. sym (schema_of_place p l)) a (n.parts r x.0 x.1)
         ∙ sym (twice (schema_at all) (schema_at all) (λ k. k) (slice_index inner) a) ∙ ap (map_constraint (schema_at all) (schema_at all)) x.2);
     below = λ r c h.
         let x = coded_found (numbered inner) rules r c h in
         subst (PartsBelow r (length all)) x.2
-        (numbers_below (slice_index inner) (length W) (length all) (λ p l. each_lower (λ q. q < length all) inner at.1 p (subst (λ k. p < k) (sym long) l)) r (asked_of x.0) (n.parts r x.0 x.1));
+        (numbers_below (slice_index inner) (length W) (length all) (λ p l. All-get_or (λ q. q < length all) inner p 0 (subst (λ k. p < k) (sym long) l) (All-from_recursion (λ q. q < length all) inner at.1)) r (asked_of x.0) (n.parts r x.0 x.1));
   }
 
 -- ---- the last rule is that of the root
 
 below_or_last : (r n k : ℕ) → k ≡ n + 1 → r < k → (r < n) ⊎ (n ≡ r)
-below_or_last r zero k e l = inr (omega (arith, e, l))
-below_or_last zero (suc n) k e l = inl (omega arith)
-below_or_last (suc r) (suc n) k e l = by (below_or_last r n (n + 1) refl (omega (arith, e, l)))
-  where
-    by : (r < n) ⊎ (n ≡ r) → (suc r < suc n) ⊎ (suc n ≡ suc r)
-    by (inl b) = inl (omega (arith, b))
-    by (inr b) = inr (ap suc b)
+below_or_last r n k e l = ⊎_map (λ (b : r < n). b) (λ (b : n ≤ r). let c : n ≤ r = b in omega (arith, e, l, c)) (cases_lt r n)
 
 -- a schema that asks the same stands for the last
 module _ (R : Document) (front : List Document) (s t : Document) (W : List Document) (rules : List Coded) (same : said (constraint_of R t) ≡ said (constraint_of R s)) (n : AreNumbered R (front ++ s ∷ []) W rules) where
@@ -177,22 +152,6 @@ module _ (R : Document) (front : List Document) (s t : Document) (W : List Docum
   }
 
 -- ---- the whole
-
-all_taken : {X : Type 0} (xs : List X) (k : ℕ) → k ≡ length xs → take k xs ≡ xs
-all_taken [] zero e = refl
-all_taken [] (suc k) e = refl
-all_taken (x ∷ xs) zero e = absurd (omega (arith, e))
-all_taken (x ∷ xs) (suc k) e = ap (λ ys. x ∷ ys) (all_taken xs k (let f = e in omega (arith, f)))
-
-none_left : {X : Type 0} (xs : List X) (k : ℕ) → k ≡ length xs → drop k xs ≡ []
-none_left [] zero e = refl
-none_left [] (suc k) e = refl
-none_left (x ∷ xs) zero e = absurd (omega (arith, e))
-none_left (x ∷ xs) (suc k) e = none_left xs k (let f = e in omega (arith, f))
-
-get_last : {X : Type 0} (xs : List X) (x : X) → slice_get (xs ++ x ∷ []) (length xs) ≡ Some x
-get_last [] x = refl
-get_last (y ∷ xs) x = get_last xs x
 
 schemas_perm : (v : SchemaValue) (ds : List Ranked) → IsPermutation (definitions_of v) (map definition ds) → Same (bodies v) (map schema_of ds)
 schemas_perm v ds perm =
@@ -238,7 +197,7 @@ module _ (v : SchemaValue) (whole : IsWhole v) (ds : List Ranked) (p : Placement
     wide = long ∙ sym (length-map last.pending.items (λ (b : Bor Schema). schema_view b.now))
 
     at_all : AreAt (first ++ w.more) inner W
-    at_all = subst (AreAt (first ++ w.more) inner) (all_taken W (length inner) wide) w.inside
+    at_all = subst (AreAt (first ++ w.more) inner) (take_all (length inner) W (omega (arith, wide))) w.inside
 
     pub placed_all : ∥ ArePlaced (λ x r m. PartsBelow r m (asked_of x)) last.rules.items inner ∥₁
     placed_all = ∣ are_placed R (first ++ w.more) W last.rules.items inner w.numbered at_all ∣₁
@@ -247,7 +206,7 @@ module _ (v : SchemaValue) (whole : IsWhole v) (ds : List Ranked) (p : Placement
     counted =
         joined (root_counted v whole.bare (map schema_of ds) (schemas_perm v ds perm))
         (joined (equal _ _ (ap₂ (λ xs ys. xs ++ inside ys) (sym same_first) (sym (root.0 ∙ ap (λ xs. xs ++ left_by s) all.waits))))
-        (joined w.same (equal _ _ (ap (λ ss. (first ++ w.more) ++ inside ss) (none_left W (length inner) wide) ∙ append-nil (first ++ w.more)))))
+        (joined w.same (equal _ _ (ap (λ ss. (first ++ w.more) ++ inside ss) (drop_all (length inner) W (omega (arith, wide))) ∙ append-nil (first ++ w.more)))))
 
     pub rooted : (number : ℕ) → number + 1 ≡ length new.rules.items → IsRooted R last.rules.items inner number
     rooted number e =
@@ -256,5 +215,5 @@ module _ (v : SchemaValue) (whole : IsWhole v) (ds : List Ranked) (p : Placement
           all = first ++ w.more;
           are = counted;
           numbering = is_numbering R (first ++ w.more) W last.rules.items inner w.numbered at_all;
-          root = got_front first w.more number R (ap (slice_get first) (sym at) ∙ get_last front R);
+          root = got_front first w.more number R (ap (slice_get first) (sym at) ∙ got_last front R);
         }

@@ -12,7 +12,7 @@ use Rattle.cs_profile.proofs.Definitions.{defined_definition}
 use Rattle.cs_validate.specs.Ranked.{definition, IsRanked}
 use Rattle.cs_validate.specs.declared.definitions.Ranked.{Ranked}
 use Rattle.cs_validate.proofs.Ordered.{found_there}
-use Rattle.cs_validate.proofs.Placed.{each_push}
+use Rattle.cs_rules.proofs.Lists.{each_push}
 use Rattle.cs_validate.proofs.definitions.with_ranks.Goals as goal
 
 pub loop-name-preserved-in-Continue-branch-2 : goal.loop-name-preserved-in-Continue-branch-2

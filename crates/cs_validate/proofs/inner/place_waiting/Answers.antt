@@ -1,52 +1,39 @@
-use Rattle.std.proofs.Common.{◌≡◌, ◌<◌, ◌≤◌, [], ◌∷◌, ◌++◌, Bor, length, get_or, sym, ap, ◌∙◌, subst, length-append, arith}
-use Rattle.std.proofs.lemmas.List.{length-map}
+use Rattle.std.proofs.Common.{◌≡◌, Bor, length, get_or, refl, sym, ap, ◌∙◌, subst, arith}
 use Rattle.cs_profile.specs.SchemaDocument.{schema_view}
 use Rattle.cs_profile.specs.declared.schema.Schema.{Schema}
 use Rattle.cs_validate.specs.Placing.{waiting, left_by}
 use Rattle.cs_validate.specs.Ranked.{PlacesWaiting}
-use Rattle.cs_validate.proofs.Waited.{nothing_placed, one_waited, less_waits, waits_at}
+use Rattle.cs_rules.proofs.Waiting.{IsNext, not_longer}
+use Rattle.cs_validate.proofs.Waited.{nothing_placed, one_waited, less_waits}
 use Rattle.cs_validate.proofs.inner.place_waiting.Goals as goal
+
+-- the next schema that waits
+next : (c : goal.In_ok-push) → IsNext c.loop-alloc.numberer.pending.items c.loop-alloc.inner.items c.push.new.self.items c.index-schema.result.now c.in_ok-number.number
+next c =
+    let l = c.loop-alloc in
+    let at : c.len-in-loop-alloc-2.result ≡ length l.inner.items = omega (arith, l.inner.ok.0, c.len-in-loop-alloc-2.ensures) in
+    record {
+      within = omega (arith, l.inner.ok.0, l.numberer.pending.ok.0, c.len.ensures, c.len-in-loop-alloc.ensures, c.loop-alloc-test.true);
+      is = c.index-schema.ensures ∙ ap (λ k. get_or l.numberer.pending.items k c.index-schema.result.now) at;
+      put = c.in_ok-push.ensures.items;
+    }
 
 pub loop-alloc-preserved : goal.loop-alloc-preserved
 loop-alloc-preserved c =
-    let l = c.loop-alloc in
-    let inner_vec = l.inner in
-    let pending_vec = l.numberer.pending in
-    let inner = l.inner.items in
-    let pending = l.numberer.pending.items in
-    let within : length inner < length pending = omega (arith, inner_vec.ok.0, pending_vec.ok.0, c.len.ensures, c.len-in-loop-alloc.ensures, c.loop-alloc-test.true) in
     let b = c.index-schema.result.now in
-    let at : c.len-in-loop-alloc-2.result ≡ length inner = omega (arith, inner_vec.ok.0, c.len-in-loop-alloc-2.ensures) in
-    let is : b ≡ get_or pending (length inner) b = c.index-schema.ensures ∙ ap (λ k. get_or pending k b) at in
-    let number = c.in_ok-number.number in
-    let put : c.push.new.self.items ≡ inner ++ number ∷ [] = c.in_ok-push.ensures.items in
-    let place = c.in_ok-number.ensures in
-    let after = c.place.new.numberer.pending.items in
-    let view = λ (s : Bor Schema). schema_view s.now in
-    let s = schema_view b.now in
-    let wider : length pending ≤ length after = omega (arith, ap length place.0, length-append (waiting pending) (left_by s), length-map pending view, length-map after view) in
+    let l = c.loop-alloc in
+    let k = c.in_ok-number.number in
+    let inner = c.push.new.self.items in
+    let new = c.place.new.numberer in
     record {
-      most = omega (arith, within, ap length put, length-append inner (number ∷ []), wider);
+      most = not_longer (λ (x : Bor Schema). schema_view x.now) l.numberer.pending.items l.inner.items inner b k (next c) (waiting new.pending.items) (left_by (schema_view b.now)) c.in_ok-number.ensures.0 new.pending.items refl;
       placed = λ R placed n known.
-          let first = waiting c.args.numberer.now.pending.items in
-          subst (PlacesWaiting R placed first c.place.new.numberer) (sym put)
-          (one_waited R c.args.numbers.now placed first l.numberer c.place.new.numberer inner b.now number within (waits_at pending (length inner) b within is) place known (l.invariant.placed R placed n known));
+          one_waited R c.args.numbers.now placed (waiting c.args.numberer.now.pending.items) l.numberer new l.inner.items inner b k (next c) c.in_ok-number.ensures known (l.invariant.placed R placed n known);
     }
 
 pub loop-alloc-smaller : goal.loop-alloc-smaller
 loop-alloc-smaller c =
-    let l = c.loop-alloc in
-    let inner_vec = l.inner in
-    let pending_vec = l.numberer.pending in
-    let inner = l.inner.items in
-    let pending = l.numberer.pending.items in
-    let within : length inner < length pending = omega (arith, inner_vec.ok.0, pending_vec.ok.0, c.len.ensures, c.len-in-loop-alloc.ensures, c.loop-alloc-test.true) in
-    let b = c.index-schema.result.now in
-    let at : c.len-in-loop-alloc-2.result ≡ length inner = omega (arith, inner_vec.ok.0, c.len-in-loop-alloc-2.ensures) in
-    let is : b ≡ get_or pending (length inner) b = c.index-schema.ensures ∙ ap (λ k. get_or pending k b) at in
-    let number = c.in_ok-number.number in
-    let put : c.push.new.self.items ≡ inner ++ number ∷ [] = c.in_ok-push.ensures.items in
-    less_waits pending c.place.new.numberer.pending.items inner c.push.new.self.items b.now within (ap length put ∙ length-append inner (number ∷ [])) (waits_at pending (length inner) b within is) c.in_ok-number.ensures.0
+    less_waits c.loop-alloc.numberer.pending.items c.place.new.numberer.pending.items c.loop-alloc.inner.items c.push.new.self.items c.index-schema.result.now c.in_ok-number.number (next c) c.in_ok-number.ensures.0
 
 pub loop-alloc-init : goal.loop-alloc-init
 loop-alloc-init c =

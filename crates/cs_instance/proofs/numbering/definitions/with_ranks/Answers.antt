@@ -7,7 +7,7 @@ use Rattle.cs_guard.specs.References.{strong_of}
 use Rattle.cs_guard.specs.Guarded.{IsHeight}
 use Rattle.cs_guard.proofs.Numbers.{name_within}
 use Rattle.cs_instance.specs.Ranked.{IsRank}
-use Rattle.cs_instance.proofs.Placed.{each_push}
+use Rattle.cs_rules.proofs.Lists.{each_push}
 use Rattle.cs_instance.proofs.numbering.definitions.with_ranks.Goals as goal
 
 pub loop-number-preserved : goal.loop-number-preserved

@@ -1,15 +1,14 @@
 use Rattle.std.proofs.Common.{◌≡◌, length, is_some, Some, true≢false, sym, ap, ◌∙◌, subst, arith}
 use Rattle.cs_package.specs.Environment.{Environment, name_at, IsDefinitionName}
 use Rattle.cs_package.specs.View.{names_of}
-use Rattle.cs_package.proofs.Environments.{length-is, name-there, spelled-name}
+use Rattle.cs_package.proofs.Environments.{within-both, name-there, spelled-name}
 use Rattle.cs_package.proofs.package.Package.bare_name.Goals as goal
 
 pub unreachable-requires : goal.unreachable-requires
 unreachable-requires c =
     let inside = c.self.inside in
-    let whole = length-is (names_of inside.names.entries) inside.names.entries inside.bodies.items c.self.invariant.long in
-    let there = c.get_index.ensures.found.1 (omega (arith, c.requires, whole, c.self.invariant.long, ap length c.self.view_is)) in
-    true≢false (sym there ∙ ap is_some c.in-None.is)
+    let within = within-both (names_of inside.names.entries) inside.names.entries inside.bodies.items c.args.i c.self.invariant.long c.self.view_is c.requires in
+    true≢false (sym (c.get_index.ensures.found.1 within.0) ∙ ap is_some c.in-None.is)
 
 pub returns-clause-at : goal.returns-clause-at
 returns-clause-at c =

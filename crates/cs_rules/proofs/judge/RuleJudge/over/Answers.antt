@@ -1,7 +1,6 @@
-use Rattle.std.proofs.Common.{◌≡◌, ◌<◌, ◌≤◌, [], ◌∷◌, ◌++◌, List, drop, length, get_or, sym, refl, ap, ◌∙◌, subst, arith}
+use Rattle.std.proofs.Common.{◌<◌, [], ◌∷◌, ◌++◌, length, get_or, sym, ap, ◌∙◌, subst, arith}
 use Rattle.std.proofs.lemmas.List.{append_assoc, append-nil}
 use Rattle.cs_document.proofs.Maps.{drop_at, drop_past}
-use Rattle.cs_flat.specs.Items.{items}
 use Rattle.cs_rules.specs.Kinds.{verdict_in, AreOfStep, AreForetold}
 use Rattle.cs_rules.proofs.Foretold.{row_foretells}
 use Rattle.cs_rules.proofs.judge.RuleJudge.over.Goals as goal
