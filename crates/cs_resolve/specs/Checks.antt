@@ -4,11 +4,15 @@ use Rattle.std.specs.Borrow.{Bor}
 use Rattle.std.specs.HashMap.{HashMap, get_by}
 use Rattle.std.specs.Option.{option_map}
 use Rattle.std.specs.Str.{bytes_eq}
-use Rattle.cs_grammar.specs.View.{field_view}
+use Rattle.cs_grammar.specs.View.{field_view, fields_view}
 use Rattle.cs_grammar.specs.declared.ast.Field.{Field}
 use Rattle.cs_resolve.specs.declared.fault.ResolveFault.{ResolveFault}
-use Rattle.cs_resolve.specs.declared.fault.ResolveFault.TheVariants.{OutOfMemory}
-use Rattle.cs_resolve.specs.Opening.{Declared, one, every_key, Named, declared_for, values, has_literal_or_reference}
+use Rattle.cs_resolve.specs.declared.fault.ResolveFault.TheVariants.{OutOfMemory, NotOpened}
+use Rattle.cs_resolve.specs.declared.opening.LabelRepeats.{LabelRepeats}
+use Rattle.cs_resolve.specs.declared.opening.OpeningCheck.{OpeningCheck}
+use Rattle.cs_resolve.specs.Narrowed.{TellsRefinements}
+use Rattle.cs_resolve.specs.Opening.{Declared, one, every_key, Named, declared_for, named_fields, values, has_literal_or_reference}
+use Rattle.cs_resolve.specs.Refinement.{Refinements}
 
 -- the refusal is for want of memory, or is the first of these faults, as f says it
 abbrev pub Refuses : {X : Type 0} → ResolveFault → (X → ResolveFault) → List X → Type 0
@@ -18,6 +22,10 @@ Refuses e f xs = (e ≡ OutOfMemory) ⊎ (option_map f (slice_get xs 0) ≡ Some
 abbrev pub Checks : {X Y : Type 0} → Result Y ResolveFault → (X → ResolveFault) → List X → Type 0
 Checks (Ok y) f xs = xs ≡ []
 Checks (Err e) f xs = Refuses e f xs
+
+-- the check of a file, of which these are the plain refinements, finds these literals
+abbrev pub FindsUnopened : {Y : Type 0} → Result Y ResolveFault → OpeningCheck → (Refinements → List ℕ) → Type 0
+FindsUnopened r c found = (rs : Refinements) → TellsRefinements c.bases.now rs → Checks r (NotOpened c.file) (found rs)
 
 -- what a table has for so many values that aren't plain: nothing for none, and otherwise whether they are two or more
 abbrev pub CountsAs : Option Bool → ℕ → Type 0
@@ -45,7 +53,11 @@ with_own_name ns = filter (λ n. not (is_every_key n.name)) ns
 abbrev pub named_by : Field → Named
 named_by f = record { name = declared_for (field_view f).label (field_view f).mark; value = (field_view f).value }
 
+-- those of all fields
+abbrev pub named_values : List Field → List Named
+named_values fs = named_fields (fields_view fs)
+
 -- the table of the labels, and what it has for every key
-pub record TellsLabels {S : Type 0} (names : HashMap (Bor (List ℕ)) Bool S) (every : Option Bool) (ns : List Named) : Type 0 where
-  pub own : Repeats names (with_own_name ns)
-  pub shared : CountsAs every (unplain every_key ns)
+pub record TellsLabels (r : LabelRepeats) (ns : List Named) : Type 0 where
+  pub own : Repeats r.names (with_own_name ns)
+  pub shared : CountsAs r.every (unplain every_key ns)
