@@ -1,5 +1,5 @@
 -- What the checks of a package answer.
-use Rattle.std.specs.Prelude.{◌≡◌, ℕ, ◌<◌, Bool, true, false, not, ◌⊎◌, List, [], Option, Some, Result, Ok, Err, MatchOption, filter, count_by, nat_lt, slice_get}
+use Rattle.std.specs.Prelude.{◌≡◌, ℕ, ◌+◌, ◌<◌, Bool, true, false, not, ◌⊎◌, List, [], Option, Some, Result, Ok, Err, MatchOption, filter, count_by, nat_lt, slice_get}
 use Rattle.std.specs.Borrow.{Bor}
 use Rattle.std.specs.HashMap.{HashMap, get_by}
 use Rattle.std.specs.Option.{option_map}
@@ -26,6 +26,10 @@ Checks (Err e) f xs = Refuses e f xs
 -- the check of a file, of which these are the plain refinements, finds these literals
 abbrev pub FindsUnopened : {Y : Type 0} → Result Y ResolveFault → OpeningCheck → (Refinements → List ℕ) → Type 0
 FindsUnopened r c found = (rs : Refinements) → TellsRefinements c.bases.now rs → Checks r (NotOpened c.file) (found rs)
+
+-- what is left of a room after so many nodes, where it has so many
+abbrev pub Leaves : Option ℕ → ℕ → ℕ → Type 0
+Leaves left room taken = MatchOption left (room < taken) (λ rest. rest + taken ≡ room)
 
 -- what a table has for so many values that aren't plain: nothing for none, and otherwise whether they are two or more
 abbrev pub CountsAs : Option Bool → ℕ → Type 0

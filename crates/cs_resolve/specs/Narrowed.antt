@@ -68,14 +68,22 @@ Has b n = is_some (get_by (λ k. bytes_eq n k.now) b.numbers) ≡ true
 abbrev pub HoldsBase : {S : Type 0} → List DefinitionTree → List ℕ → HashSet (Bor (List ℕ)) S → Type 0
 HoldsBase ds n s = (ls : List (List ℕ)) × Refinement.IsBase ds n ls × HoldsTexts s ls
 
+-- all of the old stay
+abbrev pub StillHas : Bases → Bases → Type 0
+StillHas old new = (n : List ℕ) → Has old n → Has new n
+
+-- at that number is the set for the closed base n
+abbrev pub NumbersBase : List DefinitionTree → Bases → List ℕ → ℕ → Type 0
+NumbersBase ds b n number = MatchOption (slice_get b.sets.items number) ⊥ (HoldsBase ds n)
+
 -- each that was found is a closed base, with its labels, and stands there once
 pub record Sound (ds : List DefinitionTree) (b : Bases) : Type 0 where
-  pub each : (n : List ℕ) → MatchOption (get_by (λ k. bytes_eq n k.now) b.numbers) (Unit {0}) (λ i. MatchOption (slice_get b.sets.items i) ⊥ (HoldsBase ds n))
+  pub each : (n : List ℕ) → MatchOption (get_by (λ k. bytes_eq n k.now) b.numbers) (Unit {0}) (NumbersBase ds b n)
   pub once : IsDistinct (λ k l. bytes_eq k.now l.now) (keys b.numbers)
 
 -- what was found stays, each in its place
 pub record Grown (old new : Bases) : Type 0 where
-  pub kept : (n : List ℕ) → Has old n → Has new n
+  pub kept : StillHas old new
   pub more : List (Bor (List ℕ))
   pub behind : keys new.numbers ≡ keys old.numbers ++ more
 
@@ -89,9 +97,16 @@ pub record Refines (ds : List DefinitionTree) (n m : List ℕ) : Type 0 where
   pub base : Refinement.IsBase ds m labels
   pub fits : Refinement.narrows fields labels ≡ true
 
+abbrev pub IsAmong : List ℕ → List (Bor (List ℕ)) → Type 0
+IsAmong n names = list_any (λ k. bytes_eq n k.now) names ≡ true
+
 -- the table lists n among those that may narrow m
 abbrev pub Lists : {S : Type 0} → HashMap (Bor (List ℕ)) (Vec (Bor (List ℕ)) Global) S → List ℕ → List ℕ → Type 0
-Lists r m n = MatchOption (get_by (λ k. bytes_eq m k.now) r) ⊥ (λ names. list_any (λ k. bytes_eq n k.now) names.items ≡ true)
+Lists r m n = MatchOption (get_by (λ k. bytes_eq m k.now) r) ⊥ (λ names. IsAmong n names.items)
+
+-- all that the old lists stay
+abbrev pub StillLists : {S : Type 0} → HashMap (Bor (List ℕ)) (Vec (Bor (List ℕ)) Global) S → HashMap (Bor (List ℕ)) (Vec (Bor (List ℕ)) Global) S → Type 0
+StillLists old new = (m n : List ℕ) → Lists old m n → Lists new m n
 
 -- a literal is found, and what narrows is listed
 pub record IsSorted {S : Type 0} (b : Bases) (r : HashMap (Bor (List ℕ)) (Vec (Bor (List ℕ)) Global) S) (n : List ℕ) (e : Tree) : Type 0 where

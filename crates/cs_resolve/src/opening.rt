@@ -10,6 +10,7 @@ ghost use Rattle.cs_resolve.specs.Refinement.{Refinements};
 ghost use Rattle.cs_resolve.specs.Narrowed.{TellsRefinements};
 ghost use Rattle.cs_resolve.specs.Unopened as Unopened;
 ghost use Rattle.cs_resolve.specs.Unopened.{IsUnopenedAt, unopened, unopened_all, unopened_fields, unopened_end, unopened_definitions, unopened_files};
+ghost use Rattle.cs_resolve.specs.Steps.{declared_in};
 ghost use Rattle.cs_resolve.specs.Checks.{Checks, CountsAs, FindsUnopened, Repeats, TellsLabels, is_every_key, with_own_name, named_by, named_values, unplain};
 
 use crate::ResolveFault;
@@ -218,7 +219,7 @@ fn note_bodies<'a>(
 
 /// The table of the definitions of files.
 fn body_repeats(alloc: Global, files: &Vec<File>) -> Result<RepeatTable<'_>, AllocError>
-    ensures { IfOk result (λ m. Repeats m (named_bodies (flat_map definitions (map file_view files.now.items)))) }
+    ensures { IfOk result (λ m. Repeats m (named_bodies (declared_in files.now.items))) }
 {
     let mut repeats = IndexMap::new(alloc);
     for file in files {
@@ -285,7 +286,8 @@ impl OpeningCheck<'_, '_> {
 
     #[cycle(opening)]
     fn check_end(&self, demanded: bool, end: &ListEnd) -> Result<(), ResolveFault>
-        ensures { FindsUnopened result self.now (λ rs. unopened_end rs demanded (end_view end.now)) }
+        ensures { FindsUnopened result self.now
+            (λ rs. unopened_end rs demanded (end_view end.now)) }
     {
         match end {
             ListEnd::Closed | ListEnd::Any => Ok(()),

@@ -11,7 +11,8 @@ ghost use Rattle.cs_resolve.specs.ClosedBases as ClosedBases;
 ghost use Rattle.cs_resolve.specs.Refinement as Refinement;
 ghost use Rattle.cs_resolve.specs.Refinement.{IsBase, Refinements, AreRefinements};
 ghost use Rattle.cs_resolve.specs.Resolved.{IsPackage};
-ghost use Rattle.cs_resolve.specs.Narrowed.{HoldsTexts, HoldsFound, HoldBases, HoldsOnly, HoldsBase, Has, Sound, Grown, Refines, Lists, IsSorted, AreSorted, Closed, only_entry};
+ghost use Rattle.cs_resolve.specs.Narrowed.{HoldsTexts, HoldsFound, HoldBases, HoldsOnly, NumbersBase, Has, StillHas, Sound, Grown, Refines, IsAmong, Lists, StillLists, IsSorted, AreSorted, Closed, only_entry};
+ghost use Rattle.cs_resolve.specs.Steps.{declared_in};
 
 use crate::narrowing::{Labels, body_narrowing, closed_literal, narrows, operands_narrowing};
 use cs_grammar::{Definition, Expr, Field, File};
@@ -84,7 +85,7 @@ fn note_all_only<'a>(
 
 /// The only bodies of the names that files declare.
 fn only_bodies(alloc: Global, files: &Vec<File>) -> Result<OnlyBodies<'_>, AllocError>
-    ensures { IfOk result (λ m. HoldsOnly m (flat_map definitions (map file_view files.now.items))) }
+    ensures { IfOk result (λ m. HoldsOnly m (declared_in files.now.items)) }
 {
     let mut bodies = IndexMap::new(alloc);
     for file in files {
@@ -111,9 +112,10 @@ fn add_literal<'a>(
     name: &'a str,
     fields: &'a Vec<Field>,
 ) -> Result<(), AllocError>
-    ensures kept { OnOk result ((n : List ℕ) → Has bases.old n → Has bases.new n) }
+    ensures kept { OnOk result (StillHas bases.old bases.new) }
     ensures added { OnOk result (Has bases.new name.now) }
-    ensures sound { OnOk result ((ds : List DefinitionTree) → IsBase ds name.now (Refinement.texts (fields_view fields.now.items))
+    ensures sound { OnOk result ((ds : List DefinitionTree)
+        → IsBase ds name.now (Refinement.texts (fields_view fields.now.items))
         → Sound ds bases.old → Sound ds bases.new) }
 {
     let labels = texts_of(alloc, fields)?;
@@ -130,7 +132,7 @@ fn add_refiner<'a>(
     base: &'a str,
     name: &'a str,
 ) -> Result<(), AllocError>
-    ensures kept { OnOk result ((m n : List ℕ) → Lists refiners.old m n → Lists refiners.new m n) }
+    ensures kept { OnOk result (StillLists refiners.old refiners.new) }
     ensures added { OnOk result (Lists refiners.new base.now name.now) }
 {
     let mut names = match refiners.swap_remove(base) {
@@ -158,15 +160,17 @@ fn sort_body<'a>(
     alloc: Global,
     bases: &mut Bases<'a>,
     refiners: &mut RefinerTable<'a>,
-    name: &'a str,
-    body: &'a Expr,
+    definition: (&'a str, &'a Expr),
 ) -> Result<(), AllocError>
-    ensures kept { OnOk result ((n : List ℕ) → Has bases.old n → Has bases.new n) }
-    ensures listed { OnOk result ((m n : List ℕ) → Lists refiners.old m n → Lists refiners.new m n) }
-    ensures sorted { OnOk result (IsSorted bases.new refiners.new name.now (expr_view body.now)) }
-    ensures sound { OnOk result ((ds : List DefinitionTree) → bodies_of name.now ds ≡ expr_view body.now ∷ []
+    ensures kept { OnOk result (StillHas bases.old bases.new) }
+    ensures listed { OnOk result (StillLists refiners.old refiners.new) }
+    ensures sorted { OnOk result (IsSorted bases.new refiners.new definition.entry.0.now
+        (expr_view definition.entry.1.now)) }
+    ensures sound { OnOk result ((ds : List DefinitionTree)
+        → bodies_of definition.entry.0.now ds ≡ expr_view definition.entry.1.now ∷ []
         → Sound ds bases.old → Sound ds bases.new) }
 {
+    let (name, body) = definition;
     if let Some(fields) = closed_literal(body) {
         return add_literal(alloc, bases, name, fields);
     }
@@ -182,12 +186,12 @@ fn sort_bodies<'a>(
     bases: &mut Bases<'a>,
     refiners: &mut RefinerTable<'a>,
 ) -> Result<(), AllocError>
-    ensures { OnOk result ((ds : List DefinitionTree) → HoldsOnly bodies.now ds → Sound ds bases.old
-        → Sound ds bases.new × AreSorted ds bases.new refiners.new) }
+    ensures { OnOk result ((ds : List DefinitionTree) → HoldsOnly bodies.now ds
+        → Sound ds bases.old → Sound ds bases.new × AreSorted ds bases.new refiners.new) }
 {
     for place in 0..bodies.len() {
-        if let Some((name, body)) = only_body_at(bodies, place) {
-            sort_body(alloc, bases, refiners, name, body)?;
+        if let Some(definition) = only_body_at(bodies, place) {
+            sort_body(alloc, bases, refiners, definition)?;
         }
     }
     Ok(())
@@ -196,7 +200,7 @@ fn sort_bodies<'a>(
 /// The number of the labels of the base that a definition refines, if its only body is a refinement of one of these.
 fn refined_number(bodies: &OnlyBodies<'_>, bases: &Bases<'_>, name: &str) -> Option<usize>
     ensures sound { (ds : List DefinitionTree) → HoldsOnly bodies.now ds → Sound ds bases.now
-        → IfSome result (λ i. MatchOption (slice_get bases.now.sets.items i) ⊥ (HoldsBase ds name.now)) }
+        → IfSome result (NumbersBase ds bases.now name.now) }
     ensures found { (ds : List DefinitionTree) → HoldsOnly bodies.now ds → Sound ds bases.now
         → (m : List ℕ) → Has bases.now m → Refines ds name.now m → IsSome result }
 {
@@ -218,8 +222,9 @@ fn add_refinement<'a>(
     name: &'a str,
 ) -> Result<(), AllocError>
     ensures grown { OnOk result (Grown bases.old bases.new) }
-    ensures sound { OnOk result ((ds : List DefinitionTree) → HoldsOnly bodies.now ds → Sound ds bases.old
-        → Sound ds bases.new × ((m : List ℕ) → Has bases.old m → Refines ds name.now m → Has bases.new name.now)) }
+    ensures sound { OnOk result ((ds : List DefinitionTree) → HoldsOnly bodies.now ds
+        → Sound ds bases.old → Sound ds bases.new
+        × ((m : List ℕ) → Has bases.old m → Refines ds name.now m → Has bases.new name.now)) }
 {
     if let Some(number) = refined_number(bodies, bases, name) {
         bases.numbers.insert(name, number)?;
@@ -233,9 +238,9 @@ fn add_refinements<'a>(
     names: &Vec<&'a str>,
 ) -> Result<(), AllocError>
     ensures grown { OnOk result (Grown bases.old bases.new) }
-    ensures sound { OnOk result ((ds : List DefinitionTree) → HoldsOnly bodies.now ds → Sound ds bases.old
-        → Sound ds bases.new × ((m n : List ℕ) → list_any (λ k. bytes_eq n k.now) names.now.items ≡ true → Has bases.old m
-        → Refines ds n m → Has bases.new n)) }
+    ensures sound { OnOk result ((ds : List DefinitionTree) → HoldsOnly bodies.now ds
+        → Sound ds bases.old → Sound ds bases.new × ((m n : List ℕ)
+        → IsAmong n names.now.items → Has bases.old m → Refines ds n m → Has bases.new n)) }
 {
     for name in names {
         add_refinement(bodies, bases, *name)?;
@@ -250,8 +255,9 @@ fn find_refinements<'a>(
     bases: &mut Bases<'a>,
 ) -> Result<(), AllocError>
     ensures grown { OnOk result (Grown bases.old bases.new) }
-    ensures sound { OnOk result ((ds : List DefinitionTree) → HoldsOnly bodies.now ds → AreSorted ds bases.old refiners.now
-        → Sound ds bases.old → Sound ds bases.new × Closed ds bases.new (length bodies.now.entries)) }
+    ensures sound { OnOk result ((ds : List DefinitionTree) → HoldsOnly bodies.now ds
+        → AreSorted ds bases.old refiners.now → Sound ds bases.old
+        → Sound ds bases.new × Closed ds bases.new (length bodies.now.entries)) }
 {
     for place in 0..bodies.len() {
         if let Some((name, _)) = bases.numbers.get_index(place)
@@ -268,7 +274,7 @@ fn find_refinements<'a>(
 /// # Errors
 /// `AllocError`, where memory runs out.
 pub(crate) fn bases_of(alloc: Global, files: &Vec<File>) -> Result<Bases<'_>, AllocError>
-    ensures { IfOk result (λ b. HoldBases b (ClosedBases.bases (flat_map definitions (map file_view files.now.items)))) }
+    ensures { IfOk result (λ b. HoldBases b (ClosedBases.bases (declared_in files.now.items))) }
 {
     let bodies = only_bodies(alloc, files)?;
     let mut bases = Bases {
@@ -285,8 +291,12 @@ pub(crate) fn bases_of(alloc: Global, files: &Vec<File>) -> Result<Bases<'_>, Al
 /// a closed literal, or a plain refinement of another. So there are plain refinements of definitions, and no others, and
 /// files are a package of one environment.
 pub fn refinement_law()
-    ensures bases { (ds : List DefinitionTree) (n : List ℕ) (ls : List (List ℕ)) → (ClosedBases.bases ds n ≡ Some ls) ↔ IsBase ds n ls }
-    ensures found { (ds : List DefinitionTree) → AreRefinements ds (ClosedBases.is_refinement (ClosedBases.bases ds)) }
-    ensures one { (ds : List DefinitionTree) (rs qs : Refinements) → AreRefinements ds rs → AreRefinements ds qs → rs ≡ qs }
-    ensures environment { (fs : List FileTree) (E F : Environment) → IsPackage fs E → IsPackage fs F → E ≡ F }
+    ensures bases { (ds : List DefinitionTree) (n : List ℕ) (ls : List (List ℕ))
+        → (ClosedBases.bases ds n ≡ Some ls) ↔ IsBase ds n ls }
+    ensures found { (ds : List DefinitionTree)
+        → AreRefinements ds (ClosedBases.is_refinement (ClosedBases.bases ds)) }
+    ensures one { (ds : List DefinitionTree) (rs qs : Refinements)
+        → AreRefinements ds rs → AreRefinements ds qs → rs ≡ qs }
+    ensures environment { (fs : List FileTree) (E F : Environment)
+        → IsPackage fs E → IsPackage fs F → E ≡ F }
 {}

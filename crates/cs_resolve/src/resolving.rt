@@ -73,7 +73,8 @@ fn add_names(
         (map definition_view definitions.now.items) }
     ensures table { OnOk result (IsTable names.new.entries) }
     ensures added { OnOk result ((ns : List (List ℕ))
-        → names_of names.old.entries ≡ distinct ns → names_of names.new.entries
+        → names_of names.old.entries ≡ distinct ns
+        → names_of names.new.entries
         ≡ distinct (ns ++ map defined_name (map definition_view definitions.now.items))) }
 {
     for definition in definitions {
@@ -144,8 +145,9 @@ fn add_bodies(
     ensures long { length bodies.new.items ≡ length bodies.old.items }
     ensures added { OnOk result ((rs : Refinements) (ds : List DefinitionTree)
         → TellsRefinements resolver.now.bases.now rs
-        → AreBodiesOf rs (known_names resolver.now) bodies.old.items ds → AreBodiesOf rs
-        (known_names resolver.now) bodies.new.items (ds ++ map definition_view definitions.now.items)) }
+        → AreBodiesOf rs (known_names resolver.now) bodies.old.items ds
+        → AreBodiesOf rs (known_names resolver.now) bodies.new.items
+        (ds ++ map definition_view definitions.now.items)) }
     ensures faults { ResolvesIn result resolver.now (λ rs ns _. Unit {0})
         (places_of (map definition_view definitions.now.items)) }
 {
@@ -168,8 +170,9 @@ fn add_body(
     ensures long { length bodies.new.items ≡ length bodies.old.items }
     ensures added { OnOk result ((rs : Refinements) (ds : List DefinitionTree) (o : ℕ) (t : Tree)
         → AreBodiesOf rs (names_of names.now.entries) bodies.old.items ds
-        → IsShapeOf rs (names_of names.now.entries) shape t → AreBodiesOf rs
-        (names_of names.now.entries) bodies.new.items (ds ++ definition name.now o t ∷ [])) }
+        → IsShapeOf rs (names_of names.now.entries) shape t
+        → AreBodiesOf rs (names_of names.now.entries) bodies.new.items
+        (ds ++ definition name.now o t ∷ [])) }
 {
     if let Some(i) = names.get_index_of(name) {
         bodies[i].push(shape)?;

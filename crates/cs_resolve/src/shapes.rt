@@ -66,7 +66,8 @@ fn name_shape(
     at: usize,
 ) -> Result<Shape, ResolveFault>
     ensures { (rs : Refinements) (ns : List (List ℕ)) (scopes : List (List Label))
-        → HoldAround around.now.items scopes → Resolves result (λ s. IsShapeOf rs ns s (named name.now at))
+        → HoldAround around.now.items scopes
+        → Resolves result (λ s. IsShapeOf rs ns s (named name.now at))
         (faults_in file ns (places scopes (named name.now at))) }
 {
     if names_field(around, name) {
@@ -121,7 +122,8 @@ impl Resolver<'_, '_> {
     fn reference_shape(&self, name: &str, at: usize) -> Result<Shape, ResolveFault>
         ensures { (rs : Refinements) (scopes : List (List Label))
             → Resolves result (λ s. IsShapeOf rs (known_names self.now) s (reference name.now at))
-            (faults_in self.now.file (known_names self.now) (places scopes (reference name.now at))) }
+            (faults_in self.now.file (known_names self.now)
+            (places scopes (reference name.now at))) }
     {
         match self.names.get_index_of(name) {
             Some(number) => Ok(Shape::Definition(number)),

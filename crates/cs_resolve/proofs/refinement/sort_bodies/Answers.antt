@@ -22,7 +22,7 @@ loop-place-preserved c ds held sound =
             new.sound ds (w.in-Some.ensures.only ds held) before.0,
             λ n e h. sorted_more (λ n e. IsSorted w.sort_body.new.bases w.sort_body.new.refiners n (expr_view e.now)) es i
                 (λ n e h. sorted_kept c.loop-place.bases w.sort_body.new.bases c.loop-place.refiners w.sort_body.new.refiners n (expr_view e.now) new.kept new.listed (before.1 n e h))
-                (λ k e at. let same = same_entry (w.in-Some.name, w.in-Some.body) (k, e) (sym w.in-Some.is ∙ c.only_body_at.ensures.found ∙ ap only_entry at) in subst (λ u. IsSorted w.sort_body.new.bases w.sort_body.new.refiners u.now (expr_view e.now)) same.0 (subst (λ x. IsSorted w.sort_body.new.bases w.sort_body.new.refiners w.in-Some.name.now (expr_view x.now)) same.1 new.sorted))
+                (λ k e at. let same = same_entry w.in-Some.definition (k, e) (sym w.in-Some.is ∙ c.only_body_at.ensures.found ∙ ap only_entry at) in subst (λ u. IsSorted w.sort_body.new.bases w.sort_body.new.refiners u.now (expr_view e.now)) same.0 (subst (λ x. IsSorted w.sort_body.new.bases w.sort_body.new.refiners w.in-Some.definition.0.now (expr_view x.now)) same.1 new.sorted))
                 n e h inside,
           )
       | in_default w ↦ rw (w.bases-is, w.refiners-is) (

@@ -8,7 +8,7 @@ use Rattle.cs_resolve.proofs.refinement.sort_body.Goals as goal
 
 pub returns-in-Some-clause-sorted : goal.returns-in-Some-clause-sorted
 returns-in-Some-clause-sorted c =
-    let e = expr_view c.args.body.now in
+    let e = expr_view c.args.definition.1.now in
     let fields = fields_view c.in-Some.fields.now.items in
     let lit : closed_literal e ≡ Some fields = sym c.closed_literal.ensures ∙ ap (option_map (λ v. fields_view v.now.items)) c.in-Some.is in
     on_ok c.add_literal.result (λ has. record {
@@ -18,7 +18,7 @@ returns-in-Some-clause-sorted c =
 
 pub returns-in-Some-clause-sound : goal.returns-in-Some-clause-sound
 returns-in-Some-clause-sound c =
-    let e = expr_view c.args.body.now in
+    let e = expr_view c.args.definition.1.now in
     let fields = fields_view c.in-Some.fields.now.items in
     let lit : closed_literal e ≡ Some fields = sym c.closed_literal.ensures ∙ ap (option_map (λ v. fields_view v.now.items)) c.in-Some.is in
     on_ok c.add_literal.result (λ f ds is s. f ds (by_literal is lit) s) c.add_literal.ensures.sound
