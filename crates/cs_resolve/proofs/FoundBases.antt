@@ -17,7 +17,7 @@ use Rattle.cs_grammar.specs.Tree.{DefinitionTree}
 use Rattle.cs_grammar.specs.declared.ast.Expr.{Expr}
 use Rattle.cs_resolve.specs.Refinement.{IsBase, by_literal, by_refinement}
 use Rattle.cs_resolve.specs.ClosedBases.{bases}
-use Rattle.cs_resolve.specs.Narrowed.{HoldsOnly, HoldsBase, HoldsFound, HoldBases, Numbers, Has, Sound, Grown, Refines, AreSorted, Closed}
+use Rattle.cs_resolve.specs.Narrowed.{HoldsSole, HoldsBase, HoldsFound, HoldBases, Numbers, Has, Sound, Grown, Refines, AreSorted, Closed}
 use Rattle.cs_resolve.specs.declared.refinement.Bases.{Bases}
 use Rattle.cs_resolve.proofs.BaseLaw.{least}
 use Rattle.cs_resolve.proofs.Searches.{body_of}
@@ -73,7 +73,7 @@ found_labels : {S : Type 0} (ds : List DefinitionTree) (n : List ℕ) (o : Optio
 found_labels ds n None h = absurd h
 found_labels ds n (Some s) h = (h.0, (least ds n h.0).1 h.1, h.2)
 
-module _ {S : Type 0} (m : HashMap (Bor (List ℕ)) (Option (Bor Expr)) S) (ds : List DefinitionTree) (held : HoldsOnly m ds) where
+module _ {S : Type 0} (m : HashMap (Bor (List ℕ)) (Option (Bor Expr)) S) (ds : List DefinitionTree) (held : HoldsSole m ds) where
   declared : (n : List ℕ) (ls : List (List ℕ)) → IsBase ds n ls → is_some (get_by (λ k. bytes_eq n k.now) m) ≡ true
   declared n ls (by_literal {e = e} is lit) = let x = body_of m ds n e held is in ap is_some x.1
   declared n ls (by_refinement {e = e} is nar base fits) = let x = body_of m ds n e held is in ap is_some x.1

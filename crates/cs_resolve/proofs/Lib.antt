@@ -37,7 +37,7 @@ pub mod OpeningRule
 -- closed bases: the least relation, what narrows one, and the search for them
 pub mod BaseLaw
 pub mod NarrowingSteps
-pub mod OnlyBodies
+pub mod SoleBodies
 pub mod TextSets
 pub mod BaseTables
 pub mod RefinerLists

@@ -42,22 +42,22 @@ pub record TellsRefinements (b : Bases) (rs : Refinement.Refinements) : Type 0 w
   pub held : HoldBases b labels
   pub same : ClosedBases.is_refinement labels ≡ rs
 
--- ---- the only bodies of names
+-- ---- the sole bodies of names
 
-abbrev pub only_body : List Tree → Option (Option Tree)
-only_body [] = None
-only_body (e ∷ []) = Some (Some e)
-only_body (e ∷ f ∷ es) = Some None
+abbrev pub sole_body : List Tree → Option (Option Tree)
+sole_body [] = None
+sole_body (e ∷ []) = Some (Some e)
+sole_body (e ∷ f ∷ es) = Some None
 
--- the table has each name that is declared, with its only body, or none where it has several
-abbrev pub HoldsOnly : {S : Type 0} → HashMap (Bor (List ℕ)) (Option (Bor Expr)) S → List DefinitionTree → Type 0
-HoldsOnly m ds = (n : List ℕ) → option_map (option_map (λ e. expr_view e.now)) (get_by (λ k. bytes_eq n k.now) m) ≡ only_body (bodies_of n ds)
+-- the table has each name that is declared, with its sole body, or none where it has several
+abbrev pub HoldsSole : {S : Type 0} → HashMap (Bor (List ℕ)) (Option (Bor Expr)) S → List DefinitionTree → Type 0
+HoldsSole m ds = (n : List ℕ) → option_map (option_map (λ e. expr_view e.now)) (get_by (λ k. bytes_eq n k.now) m) ≡ sole_body (bodies_of n ds)
 
 -- an entry whose name has only one body
-abbrev pub only_entry : Option (Bor (List ℕ) × Option (Bor Expr)) → Option (Bor (List ℕ) × Bor Expr)
-only_entry None = None
-only_entry (Some (k, None)) = None
-only_entry (Some (k, Some e)) = Some (k, e)
+abbrev pub sole_entry : Option (Bor (List ℕ) × Option (Bor Expr)) → Option (Bor (List ℕ) × Bor Expr)
+sole_entry None = None
+sole_entry (Some (k, None)) = None
+sole_entry (Some (k, Some e)) = Some (k, e)
 
 -- ---- the search for closed bases
 

@@ -11,7 +11,7 @@ ghost use Rattle.cs_resolve.specs.ClosedBases as ClosedBases;
 ghost use Rattle.cs_resolve.specs.Refinement as Refinement;
 ghost use Rattle.cs_resolve.specs.Refinement.{IsBase, Refinements, AreRefinements};
 ghost use Rattle.cs_resolve.specs.Resolved.{IsPackage};
-ghost use Rattle.cs_resolve.specs.Narrowed.{HoldsTexts, HoldsFound, HoldBases, HoldsOnly, NumbersBase, Has, StillHas, Sound, Grown, Refines, IsAmong, Lists, StillLists, IsSorted, AreSorted, Closed, only_entry};
+ghost use Rattle.cs_resolve.specs.Narrowed.{HoldsTexts, HoldsFound, HoldBases, HoldsSole, NumbersBase, Has, StillHas, Sound, Grown, Refines, IsAmong, Lists, StillLists, IsSorted, AreSorted, Closed, sole_entry};
 ghost use Rattle.cs_resolve.specs.Steps.{declared_in};
 
 use crate::narrowing::{Labels, body_narrowing, closed_literal, narrows, operands_narrowing};
@@ -27,8 +27,8 @@ pub(crate) struct Bases<'a> {
     numbers: IndexMap<&'a str, usize>,
 }
 
-/// The only body of each name, and none where a name has several.
-type OnlyBodies<'a> = IndexMap<&'a str, Option<&'a Expr>>;
+/// The sole body of each name, and none where a name has several.
+type SoleBodies<'a> = IndexMap<&'a str, Option<&'a Expr>>;
 
 /// The definitions that may narrow a base, by its name.
 type RefinerTable<'a> = IndexMap<&'a str, Vec<&'a str>>;
@@ -56,10 +56,13 @@ pub(crate) fn is_refinement(bases: &Bases<'_>, operands: &Vec<Expr>) -> bool
     }
 }
 
-/// Notes the body of a definition, the only one of its name unless the name has one already.
-fn note_only<'a>(bodies: &mut OnlyBodies<'a>, definition: &'a Definition) -> Result<(), AllocError>
-    ensures { OnOk result ((ds : List DefinitionTree) → HoldsOnly bodies.old ds
-        → HoldsOnly bodies.new (ds ++ definition_view definition.now ∷ [])) }
+/// Records the body of a definition, the sole one of its name unless the name has one already.
+fn record_body<'a>(
+    bodies: &mut SoleBodies<'a>,
+    definition: &'a Definition,
+) -> Result<(), AllocError>
+    ensures { OnOk result ((ds : List DefinitionTree) → HoldsSole bodies.old ds
+        → HoldsSole bodies.new (ds ++ definition_view definition.now ∷ [])) }
 {
     let name = definition.name.as_str();
     if bodies.contains_key(name) {
@@ -70,26 +73,26 @@ fn note_only<'a>(bodies: &mut OnlyBodies<'a>, definition: &'a Definition) -> Res
     Ok(())
 }
 
-fn note_all_only<'a>(
-    bodies: &mut OnlyBodies<'a>,
+fn record_all_bodies<'a>(
+    bodies: &mut SoleBodies<'a>,
     definitions: &'a Vec<Definition>,
 ) -> Result<(), AllocError>
-    ensures { OnOk result ((ds : List DefinitionTree) → HoldsOnly bodies.old ds
-        → HoldsOnly bodies.new (ds ++ map definition_view definitions.now.items)) }
+    ensures { OnOk result ((ds : List DefinitionTree) → HoldsSole bodies.old ds
+        → HoldsSole bodies.new (ds ++ map definition_view definitions.now.items)) }
 {
     for definition in definitions {
-        note_only(bodies, definition)?;
+        record_body(bodies, definition)?;
     }
     Ok(())
 }
 
-/// The only bodies of the names that files declare.
-fn only_bodies(alloc: Global, files: &Vec<File>) -> Result<OnlyBodies<'_>, AllocError>
-    ensures { IfOk result (λ m. HoldsOnly m (declared_in files.now.items)) }
+/// The sole bodies of the names that files declare.
+fn sole_bodies(alloc: Global, files: &Vec<File>) -> Result<SoleBodies<'_>, AllocError>
+    ensures { IfOk result (λ m. HoldsSole m (declared_in files.now.items)) }
 {
     let mut bodies = IndexMap::new(alloc);
     for file in files {
-        note_all_only(&mut bodies, &file.definitions)?;
+        record_all_bodies(&mut bodies, &file.definitions)?;
     }
     Ok(bodies)
 }
@@ -145,13 +148,13 @@ fn add_refiner<'a>(
 }
 
 /// The name at a place of the table, with its body, if it has only one.
-fn only_body_at<'a>(bodies: &OnlyBodies<'a>, place: usize) -> Option<(&'a str, &'a Expr)>
-    ensures only { (ds : List DefinitionTree) → HoldsOnly bodies.now ds
+fn sole_body_at<'a>(bodies: &SoleBodies<'a>, place: usize) -> Option<(&'a str, &'a Expr)>
+    ensures sole { (ds : List DefinitionTree) → HoldsSole bodies.now ds
         → IfSome result (λ p. bodies_of p.0.now ds ≡ expr_view p.1.now ∷ []) }
-    ensures found { result ≡ only_entry (slice_get bodies.now.entries place) }
+    ensures found { result ≡ sole_entry (slice_get bodies.now.entries place) }
 {
-    let (name, only) = bodies.get_index(place)?;
-    let body = (*only)?;
+    let (name, sole) = bodies.get_index(place)?;
+    let body = (*sole)?;
     Some((*name, body))
 }
 
@@ -182,15 +185,15 @@ fn sort_body<'a>(
 
 fn sort_bodies<'a>(
     alloc: Global,
-    bodies: &OnlyBodies<'a>,
+    bodies: &SoleBodies<'a>,
     bases: &mut Bases<'a>,
     refiners: &mut RefinerTable<'a>,
 ) -> Result<(), AllocError>
-    ensures { OnOk result ((ds : List DefinitionTree) → HoldsOnly bodies.now ds
+    ensures { OnOk result ((ds : List DefinitionTree) → HoldsSole bodies.now ds
         → Sound ds bases.old → Sound ds bases.new × AreSorted ds bases.new refiners.new) }
 {
     for place in 0..bodies.len() {
-        if let Some(definition) = only_body_at(bodies, place) {
+        if let Some(definition) = sole_body_at(bodies, place) {
             sort_body(alloc, bases, refiners, definition)?;
         }
     }
@@ -198,10 +201,10 @@ fn sort_bodies<'a>(
 }
 
 /// The number of the labels of the base that a definition refines, if its only body is a refinement of one of these.
-fn refined_number(bodies: &OnlyBodies<'_>, bases: &Bases<'_>, name: &str) -> Option<usize>
-    ensures sound { (ds : List DefinitionTree) → HoldsOnly bodies.now ds → Sound ds bases.now
+fn refined_number(bodies: &SoleBodies<'_>, bases: &Bases<'_>, name: &str) -> Option<usize>
+    ensures sound { (ds : List DefinitionTree) → HoldsSole bodies.now ds → Sound ds bases.now
         → IfSome result (NumbersBase ds bases.now name.now) }
-    ensures found { (ds : List DefinitionTree) → HoldsOnly bodies.now ds → Sound ds bases.now
+    ensures found { (ds : List DefinitionTree) → HoldsSole bodies.now ds → Sound ds bases.now
         → (m : List ℕ) → Has bases.now m → Refines ds name.now m → IsSome result }
 {
     let body = (*bodies.get(name)?)?;
@@ -217,12 +220,12 @@ fn refined_number(bodies: &OnlyBodies<'_>, bases: &Bases<'_>, name: &str) -> Opt
 
 /// Adds a definition if it refines one of the bases.
 fn add_refinement<'a>(
-    bodies: &OnlyBodies<'a>,
+    bodies: &SoleBodies<'a>,
     bases: &mut Bases<'a>,
     name: &'a str,
 ) -> Result<(), AllocError>
     ensures grown { OnOk result (Grown bases.old bases.new) }
-    ensures sound { OnOk result ((ds : List DefinitionTree) → HoldsOnly bodies.now ds
+    ensures sound { OnOk result ((ds : List DefinitionTree) → HoldsSole bodies.now ds
         → Sound ds bases.old → Sound ds bases.new
         × ((m : List ℕ) → Has bases.old m → Refines ds name.now m → Has bases.new name.now)) }
 {
@@ -233,12 +236,12 @@ fn add_refinement<'a>(
 }
 
 fn add_refinements<'a>(
-    bodies: &OnlyBodies<'a>,
+    bodies: &SoleBodies<'a>,
     bases: &mut Bases<'a>,
     names: &Vec<&'a str>,
 ) -> Result<(), AllocError>
     ensures grown { OnOk result (Grown bases.old bases.new) }
-    ensures sound { OnOk result ((ds : List DefinitionTree) → HoldsOnly bodies.now ds
+    ensures sound { OnOk result ((ds : List DefinitionTree) → HoldsSole bodies.now ds
         → Sound ds bases.old → Sound ds bases.new × ((m n : List ℕ)
         → IsAmong n names.now.items → Has bases.old m → Refines ds n m → Has bases.new n)) }
 {
@@ -250,12 +253,12 @@ fn add_refinements<'a>(
 
 /// Adds all refinements. Each name is found at most once, so there are no more places to look at than names.
 fn find_refinements<'a>(
-    bodies: &OnlyBodies<'a>,
+    bodies: &SoleBodies<'a>,
     refiners: &RefinerTable<'a>,
     bases: &mut Bases<'a>,
 ) -> Result<(), AllocError>
     ensures grown { OnOk result (Grown bases.old bases.new) }
-    ensures sound { OnOk result ((ds : List DefinitionTree) → HoldsOnly bodies.now ds
+    ensures sound { OnOk result ((ds : List DefinitionTree) → HoldsSole bodies.now ds
         → AreSorted ds bases.old refiners.now → Sound ds bases.old
         → Sound ds bases.new × Closed ds bases.new (length bodies.now.entries)) }
 {
@@ -276,7 +279,7 @@ fn find_refinements<'a>(
 pub(crate) fn bases_of(alloc: Global, files: &Vec<File>) -> Result<Bases<'_>, AllocError>
     ensures { IfOk result (λ b. HoldBases b (ClosedBases.bases (declared_in files.now.items))) }
 {
-    let bodies = only_bodies(alloc, files)?;
+    let bodies = sole_bodies(alloc, files)?;
     let mut bases = Bases {
         sets: Vec::new(alloc),
         numbers: IndexMap::new(alloc),

@@ -3,7 +3,7 @@ use Rattle.std.proofs.lemmas.List.{take_all}
 use Rattle.std.specs.Map.{lookup}
 use Rattle.std.specs.Str.{bytes_eq}
 use Rattle.cs_grammar.specs.View.{expr_view}
-use Rattle.cs_resolve.specs.Narrowed.{IsSorted, only_entry}
+use Rattle.cs_resolve.specs.Narrowed.{IsSorted, sole_entry}
 use Rattle.cs_resolve.proofs.Searches.{body_of}
 use Rattle.cs_resolve.proofs.SortedBodies.{same_entry, sorted_more, sorted_kept}
 use Rattle.cs_resolve.proofs.refinement.sort_bodies.Goals as goal
@@ -15,20 +15,20 @@ loop-place-preserved c ds held sound =
     let i = c.loop-place.place in
     let before = c.loop-place.invariant ds held sound in
     let inside : i < length es = omega (arith, c.loop-place-test.true, c.len-place-end.ensures.len) in
-    elim c.match-only_body_at.branch [
+    elim c.match-sole_body_at.branch [
       | in-Some+in_ok-sort_body w ↦
           let new = w.in_ok-sort_body.ensures in
           rw (w.bases-is, w.refiners-is) (
-            new.sound ds (w.in-Some.ensures.only ds held) before.0,
+            new.sound ds (w.in-Some.ensures.sole ds held) before.0,
             λ n e h. sorted_more (λ n e. IsSorted w.sort_body.new.bases w.sort_body.new.refiners n (expr_view e.now)) es i
                 (λ n e h. sorted_kept c.loop-place.bases w.sort_body.new.bases c.loop-place.refiners w.sort_body.new.refiners n (expr_view e.now) new.kept new.listed (before.1 n e h))
-                (λ k e at. let same = same_entry w.in-Some.definition (k, e) (sym w.in-Some.is ∙ c.only_body_at.ensures.found ∙ ap only_entry at) in subst (λ u. IsSorted w.sort_body.new.bases w.sort_body.new.refiners u.now (expr_view e.now)) same.0 (subst (λ x. IsSorted w.sort_body.new.bases w.sort_body.new.refiners w.in-Some.definition.0.now (expr_view x.now)) same.1 new.sorted))
+                (λ k e at. let same = same_entry w.in-Some.definition (k, e) (sym w.in-Some.is ∙ c.sole_body_at.ensures.found ∙ ap sole_entry at) in subst (λ u. IsSorted w.sort_body.new.bases w.sort_body.new.refiners u.now (expr_view e.now)) same.0 (subst (λ x. IsSorted w.sort_body.new.bases w.sort_body.new.refiners w.in-Some.definition.0.now (expr_view x.now)) same.1 new.sorted))
                 n e h inside,
           )
       | in_default w ↦ rw (w.bases-is, w.refiners-is) (
         before.0,
         λ n e h. sorted_more (λ n e. IsSorted c.loop-place.bases c.loop-place.refiners n (expr_view e.now)) es i before.1
-            (λ k e at. let never : None ≡ Some (k, e) = sym w.in_default.is ∙ c.only_body_at.ensures.found ∙ ap only_entry at in cc)
+            (λ k e at. let never : None ≡ Some (k, e) = sym w.in_default.is ∙ c.sole_body_at.ensures.found ∙ ap sole_entry at in cc)
             n e h inside,
       )
     ]
