@@ -11,7 +11,7 @@ use cs_grammar::{Expr, Field, FieldMark};
 use std::collections::HashSet;
 
 /// The labels of a struct literal.
-pub(crate) type Labels<'a> = HashSet<&'a str>;
+pub(crate) type FieldLabels<'a> = HashSet<&'a str>;
 
 /// The name of the definition that is narrowed, and the fields that narrow it.
 #[derive(Clone, Copy)]
@@ -89,7 +89,7 @@ pub(crate) fn operands_narrowing(operands: &Vec<Expr>) -> Option<Narrowing<'_>>
 }
 
 /// Whether each label is one of these, and each value is plain.
-pub(crate) fn narrows(fields: &Vec<Field>, labels: &Labels<'_>) -> bool
+pub(crate) fn narrows(fields: &Vec<Field>, labels: &FieldLabels<'_>) -> bool
     ensures { (ls : List (List ℕ)) → HoldsTexts labels.now ls
         → result ≡ Refinement.narrows (fields_view fields.now.items) ls }
 {

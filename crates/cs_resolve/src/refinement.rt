@@ -14,7 +14,7 @@ ghost use Rattle.cs_resolve.specs.Resolved.{IsPackage};
 ghost use Rattle.cs_resolve.specs.Narrowed.{HoldsTexts, HoldsFound, HoldBases, HoldsSole, NumbersBase, Has, StillHas, Sound, Grown, Refines, IsAmong, Lists, StillLists, IsSorted, AreSorted, Closed, sole_entry};
 ghost use Rattle.cs_resolve.specs.Steps.{declared_in};
 
-use crate::narrowing::{Labels, body_narrowing, closed_literal, narrows, operands_narrowing};
+use crate::narrowing::{FieldLabels, body_narrowing, closed_literal, narrows, operands_narrowing};
 use cs_grammar::{Definition, Expr, Field, File};
 use indexmap::IndexMap;
 use std::alloc::{AllocError, Global};
@@ -23,7 +23,7 @@ use std::collections::HashSet;
 /// The closed bases by name, each with the number of the set of its labels. A refinement shares the set of its base.
 #[derive(Drop)]
 pub(crate) struct Bases<'a> {
-    sets: Vec<HashSet<&'a str>>,
+    sets: Vec<FieldLabels<'a>>,
     numbers: IndexMap<&'a str, usize>,
 }
 
@@ -34,7 +34,7 @@ type SoleBodies<'a> = IndexMap<&'a str, Option<&'a Expr>>;
 type RefinerTable<'a> = IndexMap<&'a str, Vec<&'a str>>;
 
 /// The labels of the closed base of that name.
-fn labels_of<'b, 'a>(bases: &'b Bases<'a>, name: &str) -> Option<&'b Labels<'a>>
+fn labels_of<'b, 'a>(bases: &'b Bases<'a>, name: &str) -> Option<&'b FieldLabels<'a>>
     ensures { (bs : ClosedBases.Bases) → HoldBases bases.now bs
         → MatchOption result (bs name.now ≡ None) (λ s. HoldsFound (bs name.now) s.now) }
 {
@@ -98,7 +98,7 @@ fn sole_bodies(alloc: Global, files: &Vec<File>) -> Result<SoleBodies<'_>, Alloc
 }
 
 /// The labels of fields.
-fn texts_of(alloc: Global, fields: &Vec<Field>) -> Result<Labels<'_>, AllocError>
+fn texts_of(alloc: Global, fields: &Vec<Field>) -> Result<FieldLabels<'_>, AllocError>
     ensures { IfOk result (λ s. HoldsTexts s (Refinement.texts (fields_view fields.now.items))) }
 {
     let mut labels = HashSet::new(alloc);

@@ -19,7 +19,7 @@ use std::alloc::{AllocError, Global};
 use std::collections::HashSet;
 
 /// The labels of a struct literal that aren't quoted: a name can refer to these alone.
-type Labels<'a> = HashSet<&'a str>;
+type ScopeLabels<'a> = HashSet<&'a str>;
 
 /// What names are resolved by in a file: its number, and the names and the closed bases of the package.
 #[derive(Clone, Copy)]
@@ -31,7 +31,7 @@ pub(crate) struct Resolver<'b, 'a> {
 }
 
 /// Puts the label of a field among these, where it isn't quoted.
-fn put_label<'a>(labels: &mut Labels<'a>, field: &'a Field) -> Result<(), AllocError>
+fn put_label<'a>(labels: &mut ScopeLabels<'a>, field: &'a Field) -> Result<(), AllocError>
     ensures { OnOk result ((ls : List Label) → HoldsLabels labels.old ls
         → HoldsLabels labels.new (ls ++ (field_view field.now).label ∷ [])) }
 {
@@ -41,7 +41,7 @@ fn put_label<'a>(labels: &mut Labels<'a>, field: &'a Field) -> Result<(), AllocE
     Ok(())
 }
 
-fn labels_of(alloc: Global, fields: &Vec<Field>) -> Result<Labels<'_>, AllocError>
+fn labels_of(alloc: Global, fields: &Vec<Field>) -> Result<ScopeLabels<'_>, AllocError>
     ensures { IfOk result (λ s. HoldsLabels s (labels (fields_view fields.now.items))) }
 {
     let mut labels = HashSet::new(alloc);
@@ -52,7 +52,7 @@ fn labels_of(alloc: Global, fields: &Vec<Field>) -> Result<Labels<'_>, AllocErro
 }
 
 /// Whether a name names a field of a struct literal around.
-fn names_field(around: &Vec<Labels<'_>>, name: &str) -> bool
+fn names_field(around: &Vec<ScopeLabels<'_>>, name: &str) -> bool
     ensures { result ≡ list_any (has_text name.now) around.now.items }
 {
     around.iter().any(|labels| labels.contains(name))
@@ -61,7 +61,7 @@ fn names_field(around: &Vec<Labels<'_>>, name: &str) -> bool
 /// The shape of a name. A field of a struct literal around hides what is predeclared, and can't be referred to itself.
 fn name_shape(
     file: usize,
-    around: &Vec<Labels<'_>>,
+    around: &Vec<ScopeLabels<'_>>,
     name: &str,
     at: usize,
 ) -> Result<Shape, ResolveFault>
@@ -77,7 +77,11 @@ fn name_shape(
 }
 
 /// Checks the name in the brackets of `[string]`, which is looked up as any other.
-fn check_key(file: usize, around: &Vec<Labels<'_>>, mark: FieldMark) -> Result<(), ResolveFault>
+fn check_key(
+    file: usize,
+    around: &Vec<ScopeLabels<'_>>,
+    mark: FieldMark,
+) -> Result<(), ResolveFault>
     ensures { (ns : List (List ℕ)) (scopes : List (List Label))
         → HoldAround around.now.items scopes → Resolves result (λ _. Unit {0})
         (faults_in file ns (key_places scopes mark)) }
@@ -138,7 +142,7 @@ impl Resolver<'_, '_> {
     #[cycle(shapes)]
     fn shape_of<'t>(
         &self,
-        around: &mut Vec<Labels<'t>>,
+        around: &mut Vec<ScopeLabels<'t>>,
         expr: &'t Expr,
     ) -> Result<Shape, ResolveFault>
         ensures kept { OnOk result (around.new.items ≡ around.old.items) }
@@ -189,7 +193,7 @@ impl Resolver<'_, '_> {
     #[cycle(shapes)]
     fn shapes_of<'t>(
         &self,
-        around: &mut Vec<Labels<'t>>,
+        around: &mut Vec<ScopeLabels<'t>>,
         exprs: &'t Vec<Expr>,
     ) -> Result<Vec<Shape>, ResolveFault>
         ensures kept { OnOk result (around.new.items ≡ around.old.items) }
@@ -209,7 +213,7 @@ impl Resolver<'_, '_> {
     #[cycle(shapes)]
     fn parts_of<'t>(
         &self,
-        around: &mut Vec<Labels<'t>>,
+        around: &mut Vec<ScopeLabels<'t>>,
         fields: &'t Vec<Field>,
     ) -> Result<Vec<Part>, ResolveFault>
         ensures kept { OnOk result (around.new.items ≡ around.old.items) }
@@ -238,7 +242,7 @@ impl Resolver<'_, '_> {
     #[cycle(shapes)]
     fn shape_end<'t>(
         &self,
-        around: &mut Vec<Labels<'t>>,
+        around: &mut Vec<ScopeLabels<'t>>,
         end: &'t ListEnd,
     ) -> Result<ShapeEnd, ResolveFault>
         ensures kept { OnOk result (around.new.items ≡ around.old.items) }
