@@ -42,7 +42,7 @@ pub mod TextSets
 pub mod BaseTables
 pub mod RefinerLists
 pub mod Searches
-pub mod SortedBodies
+pub mod ClassifiedBodies
 pub mod FoundBases
 -- offsets rise along the words, so faults come in order
 pub mod WordOrder

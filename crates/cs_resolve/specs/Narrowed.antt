@@ -100,22 +100,26 @@ pub record Refines (ds : List DefinitionTree) (n m : List ℕ) : Type 0 where
 abbrev pub IsAmong : List ℕ → List (Bor (List ℕ)) → Type 0
 IsAmong n names = list_any (λ k. bytes_eq n k.now) names ≡ true
 
--- the table lists n among those that may narrow m
-abbrev pub Lists : {S : Type 0} → HashMap (Bor (List ℕ)) (Vec (Bor (List ℕ)) Global) S → List ℕ → List ℕ → Type 0
+-- the definitions that may narrow a base, by its name
+abbrev pub Refiners : Type 0 → Type 0
+Refiners S = HashMap (Bor (List ℕ)) (Vec (Bor (List ℕ)) Global) S
+
+-- n is listed among those that may narrow m
+abbrev pub Lists : {S : Type 0} → Refiners S → List ℕ → List ℕ → Type 0
 Lists r m n = MatchOption (get_by (λ k. bytes_eq m k.now) r) ⊥ (λ names. IsAmong n names.items)
 
 -- all that the old lists stay
-abbrev pub StillLists : {S : Type 0} → HashMap (Bor (List ℕ)) (Vec (Bor (List ℕ)) Global) S → HashMap (Bor (List ℕ)) (Vec (Bor (List ℕ)) Global) S → Type 0
+abbrev pub StillLists : {S : Type 0} → Refiners S → Refiners S → Type 0
 StillLists old new = (m n : List ℕ) → Lists old m n → Lists new m n
 
 -- a literal is found, and what narrows is listed
-pub record IsSorted {S : Type 0} (b : Bases) (r : HashMap (Bor (List ℕ)) (Vec (Bor (List ℕ)) Global) S) (n : List ℕ) (e : Tree) : Type 0 where
+pub record IsClassified {S : Type 0} (b : Bases) (r : Refiners S) (n : List ℕ) (e : Tree) : Type 0 where
   pub literal : (fs : Fields) → Refinement.closed_literal e ≡ Some fs → Has b n
   pub listed : (m : List ℕ) (fs : Fields) → Refinement.narrowing_in e ≡ Some (m, fs) → Lists r m n
 
--- each only body is sorted
-abbrev pub AreSorted : {S : Type 0} → List DefinitionTree → Bases → HashMap (Bor (List ℕ)) (Vec (Bor (List ℕ)) Global) S → Type 0
-AreSorted ds b r = (n : List ℕ) (e : Tree) → bodies_of n ds ≡ e ∷ [] → IsSorted b r n e
+-- each sole body is classified
+abbrev pub AreClassified : {S : Type 0} → List DefinitionTree → Bases → Refiners S → Type 0
+AreClassified ds b r = (n : List ℕ) (e : Tree) → bodies_of n ds ≡ e ∷ [] → IsClassified b r n e
 
 -- what refines the first so many that were found is found
 abbrev pub Closed : List DefinitionTree → Bases → ℕ → Type 0

@@ -11,7 +11,7 @@ ghost use Rattle.cs_resolve.specs.ClosedBases as ClosedBases;
 ghost use Rattle.cs_resolve.specs.Refinement as Refinement;
 ghost use Rattle.cs_resolve.specs.Refinement.{IsBase, Refinements, AreRefinements};
 ghost use Rattle.cs_resolve.specs.Resolved.{IsPackage};
-ghost use Rattle.cs_resolve.specs.Narrowed.{HoldsTexts, HoldsFound, HoldBases, HoldsSole, NumbersBase, Has, StillHas, Sound, Grown, Refines, IsAmong, Lists, StillLists, IsSorted, AreSorted, Closed, sole_entry};
+ghost use Rattle.cs_resolve.specs.Narrowed.{HoldsTexts, HoldsFound, HoldBases, HoldsSole, NumbersBase, Has, StillHas, Sound, Grown, Refines, IsAmong, Lists, StillLists, IsClassified, AreClassified, Closed, sole_entry};
 ghost use Rattle.cs_resolve.specs.Steps.{declared_in};
 
 use crate::narrowing::{FieldLabels, body_narrowing, closed_literal, narrows, operands_narrowing};
@@ -159,7 +159,7 @@ fn sole_body_at<'a>(bodies: &SoleBodies<'a>, place: usize) -> Option<(&'a str, &
 }
 
 /// Adds a definition to the bases where its body is a closed literal, and lists it where its body narrows one.
-fn sort_body<'a>(
+fn classify_body<'a>(
     alloc: Global,
     bases: &mut Bases<'a>,
     refiners: &mut RefinerTable<'a>,
@@ -167,7 +167,7 @@ fn sort_body<'a>(
 ) -> Result<(), AllocError>
     ensures kept { OnOk result (StillHas bases.old bases.new) }
     ensures listed { OnOk result (StillLists refiners.old refiners.new) }
-    ensures sorted { OnOk result (IsSorted bases.new refiners.new definition.entry.0.now
+    ensures classified { OnOk result (IsClassified bases.new refiners.new definition.entry.0.now
         (expr_view definition.entry.1.now)) }
     ensures sound { OnOk result ((ds : List DefinitionTree)
         → bodies_of definition.entry.0.now ds ≡ expr_view definition.entry.1.now ∷ []
@@ -183,18 +183,18 @@ fn sort_body<'a>(
     Ok(())
 }
 
-fn sort_bodies<'a>(
+fn classify_bodies<'a>(
     alloc: Global,
     bodies: &SoleBodies<'a>,
     bases: &mut Bases<'a>,
     refiners: &mut RefinerTable<'a>,
 ) -> Result<(), AllocError>
     ensures { OnOk result ((ds : List DefinitionTree) → HoldsSole bodies.now ds
-        → Sound ds bases.old → Sound ds bases.new × AreSorted ds bases.new refiners.new) }
+        → Sound ds bases.old → Sound ds bases.new × AreClassified ds bases.new refiners.new) }
 {
     for place in 0..bodies.len() {
         if let Some(definition) = sole_body_at(bodies, place) {
-            sort_body(alloc, bases, refiners, definition)?;
+            classify_body(alloc, bases, refiners, definition)?;
         }
     }
     Ok(())
@@ -259,7 +259,7 @@ fn find_refinements<'a>(
 ) -> Result<(), AllocError>
     ensures grown { OnOk result (Grown bases.old bases.new) }
     ensures sound { OnOk result ((ds : List DefinitionTree) → HoldsSole bodies.now ds
-        → AreSorted ds bases.old refiners.now → Sound ds bases.old
+        → AreClassified ds bases.old refiners.now → Sound ds bases.old
         → Sound ds bases.new × Closed ds bases.new (length bodies.now.entries)) }
 {
     for place in 0..bodies.len() {
@@ -285,7 +285,7 @@ pub(crate) fn bases_of(alloc: Global, files: &Vec<File>) -> Result<Bases<'_>, Al
         numbers: IndexMap::new(alloc),
     };
     let mut refiners = IndexMap::new(alloc);
-    sort_bodies(alloc, &bodies, &mut bases, &mut refiners)?;
+    classify_bodies(alloc, &bodies, &mut bases, &mut refiners)?;
     find_refinements(&bodies, &refiners, &mut bases)?;
     Ok(bases)
 }
