@@ -1,5 +1,5 @@
 -- What the checks of a package answer.
-use Rattle.std.specs.Prelude.{◌≡◌, ℕ, ◌+◌, ◌<◌, Bool, true, false, not, ◌⊎◌, List, [], Option, Some, Result, Ok, Err, MatchOption, filter, count_by, nat_lt, slice_get}
+use Rattle.std.specs.Prelude.{◌≡◌, ℕ, ◌+◌, ◌<◌, Bool, true, false, not, ◌⊎◌, List, [], Option, Some, Result, Ok, Err, MatchOption, filter, count_by, slice_get, unwrap_or}
 use Rattle.std.specs.Borrow.{Bor}
 use Rattle.std.specs.HashMap.{HashMap, get_by}
 use Rattle.std.specs.Option.{option_map}
@@ -8,6 +8,8 @@ use Rattle.cs_grammar.specs.View.{field_view, fields_view}
 use Rattle.cs_grammar.specs.declared.ast.Field.{Field}
 use Rattle.cs_resolve.specs.declared.fault.ResolveFault.{ResolveFault}
 use Rattle.cs_resolve.specs.declared.fault.ResolveFault.TheVariants.{OutOfMemory, NotOpened}
+use Rattle.cs_resolve.specs.declared.opening.Count.{Count}
+use Rattle.cs_resolve.specs.declared.opening.Count.TheVariants as count
 use Rattle.cs_resolve.specs.declared.opening.LabelRepeats.{LabelRepeats}
 use Rattle.cs_resolve.specs.declared.opening.OpeningCheck.{OpeningCheck}
 use Rattle.cs_resolve.specs.Narrowed.{TellsRefinements}
@@ -31,17 +33,19 @@ FindsUnopened r c found = (rs : Refinements) → TellsRefinements c.bases.now rs
 abbrev pub Leaves : Option ℕ → ℕ → ℕ → Type 0
 Leaves left room taken = MatchOption left (room < taken) (λ rest. rest + taken ≡ room)
 
--- what a table has for so many values that aren't plain: nothing for none, and otherwise whether they are two or more
-abbrev pub CountsAs : Option Bool → ℕ → Type 0
-CountsAs o k = MatchOption o (k ≡ 0) (λ again. (0 < k) × (again ≡ nat_lt 1 k))
+-- the count of so many values
+abbrev pub CountsAs : Count → ℕ → Type 0
+CountsAs count.None k = k ≡ 0
+CountsAs count.One k = k ≡ 1
+CountsAs count.Several k = 1 < k
 
 -- how many of the values that are declared for a name, or for every key, aren't plain
 abbrev pub unplain : Declared → List Named → ℕ
 unplain d ns = count_by has_literal_or_reference (values d ns)
 
--- the table has each name that has a value that isn't plain, with whether it has two or more
-abbrev pub Repeats : {S : Type 0} → HashMap (Bor (List ℕ)) Bool S → List Named → Type 0
-Repeats m ns = (t : List ℕ) → CountsAs (get_by (λ k. bytes_eq t k.now) m) (unplain (one t) ns)
+-- the table has each name that has a value that isn't plain, with how many it has
+abbrev pub Repeats : {S : Type 0} → HashMap (Bor (List ℕ)) Count S → List Named → Type 0
+Repeats m ns = (t : List ℕ) → CountsAs (unwrap_or (get_by (λ k. bytes_eq t k.now) m) count.None) (unplain (one t) ns)
 
 -- ---- the fields of a struct literal
 

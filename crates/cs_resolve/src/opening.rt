@@ -2,9 +2,8 @@
 // literal in its operands to end with `...`. The `&` of a plain refinement asks nothing.
 
 ghost use Rattle.std.specs.Prelude.{◌≡◌, ◌+◌, ◌++◌, [], ◌∷◌, List, ℕ, map, nat_lt, IfOk, OnOk, ◌||◌, ◌↔◌, Contains};
-ghost use Rattle.cs_grammar.specs.View.{expr_view, exprs_view, end_view, field_view, fields_view, definition_view, file_view};
-ghost use Rattle.cs_grammar.specs.Tree.{FileTree, definitions};
-ghost use Rattle.std.specs.List.{flat_map};
+ghost use Rattle.cs_grammar.specs.View.{expr_view, exprs_view, end_view, fields_view, definition_view, file_view};
+ghost use Rattle.cs_grammar.specs.Tree.{FileTree};
 ghost use Rattle.cs_resolve.specs.Opening.{one, every_key, Named, values, named_bodies, IsOpened};
 ghost use Rattle.cs_resolve.specs.Refinement.{Refinements};
 ghost use Rattle.cs_resolve.specs.Narrowed.{TellsRefinements};
@@ -20,15 +19,43 @@ use cs_grammar::{Definition, Expr, Field, FieldMark, File, ListEnd};
 use indexmap::IndexMap;
 use std::alloc::{AllocError, Global};
 
-/// The names that have a value that isn't plain, each with whether it has two or more of them.
-type RepeatTable<'a> = IndexMap<&'a str, bool>;
+/// How many values there are, as far as the rule asks.
+#[derive(Clone, Copy)]
+enum Count {
+    None,
+    One,
+    Several,
+}
 
-/// The table of a struct literal's labels, and whether `[string]` has a value that isn't plain, with whether it has two or
-/// more of them.
+impl Count {
+    /// The count of these values and others together.
+    fn plus(self, other: Count) -> Count
+        ensures { (j k : ℕ) → CountsAs self j → CountsAs other k → CountsAs result (j + k) }
+    {
+        match (self, other) {
+            (Count::None, count) | (count, Count::None) => count,
+            _ => Count::Several,
+        }
+    }
+
+    fn is_several(self) -> bool
+        ensures { (k : ℕ) → CountsAs self k → result ≡ nat_lt 1 k }
+    {
+        match self {
+            Count::None | Count::One => false,
+            Count::Several => true,
+        }
+    }
+}
+
+/// The names that have a value that isn't plain, each with how many of them it has.
+type RepeatTable<'a> = IndexMap<&'a str, Count>;
+
+/// The table of a struct literal's labels, and how many values of `[string]` aren't plain.
 #[derive(Drop)]
 struct LabelRepeats<'a> {
     names: RepeatTable<'a>,
-    every: Option<bool>,
+    every: Count,
 }
 
 /// The check of a file: its number, and the closed bases of the package.
@@ -58,14 +85,22 @@ fn joined_demand_open(bases: &Bases<'_>, operands: &Vec<Expr>) -> bool
     demands_open(operands) && !is_refinement(bases, operands)
 }
 
+/// How many values of a name aren't plain.
+fn count_of(repeats: &RepeatTable<'_>, name: &str) -> Count
+    ensures { (ns : List Named) → Repeats repeats.now ns
+        → CountsAs result (unplain (one name.now) ns) }
+{
+    repeats.get(name).copied().unwrap_or(Count::None)
+}
+
 /// Notes a value under its name.
 fn note<'a>(repeats: &mut RepeatTable<'a>, name: &'a str, value: &Expr) -> Result<(), AllocError>
     ensures { OnOk result ((ns : List Named) → Repeats repeats.old ns → Repeats repeats.new
         (ns ++ record { name = one name.now; value = expr_view value.now } ∷ [])) }
 {
     if has_literal_or_reference(value) {
-        let again = repeats.contains_key(name);
-        repeats.insert(name, again)?;
+        let count = count_of(repeats, name).plus(Count::One);
+        repeats.insert(name, count)?;
     }
     Ok(())
 }
@@ -75,10 +110,7 @@ fn name_demands_open(repeats: &RepeatTable<'_>, name: &str) -> bool
     ensures { (ns : List Named) → Repeats repeats.now ns
         → result ≡ Unopened.demands_open (values (one name.now) ns) }
 {
-    match repeats.get(name) {
-        Some(again) => *again,
-        None => false,
-    }
+    count_of(repeats, name).is_several()
 }
 
 /// Whether a field is `[string]: T`.
@@ -114,22 +146,22 @@ fn name_repeats(alloc: Global, fields: &Vec<Field>) -> Result<RepeatTable<'_>, A
 }
 
 /// Counts the value of a field where it is that of `[string]` and isn't plain.
-fn count_every(every: Option<bool>, field: &Field) -> Option<bool>
+fn count_every(every: Count, field: &Field) -> Count
     ensures { (ns : List Named) → CountsAs every (unplain every_key ns)
         → CountsAs result (unplain every_key (ns ++ named_by field.now ∷ [])) }
 {
     if is_every(field) && has_literal_or_reference(&field.value) {
-        Some(every.is_some())
+        every.plus(Count::One)
     } else {
         every
     }
 }
 
-/// Whether `[string]` has a value that isn't plain, with whether it has two or more of them.
-fn every_repeats(fields: &Vec<Field>) -> Option<bool>
+/// How many values of `[string]` aren't plain.
+fn every_repeats(fields: &Vec<Field>) -> Count
     ensures { CountsAs result (unplain every_key (named_values fields.now.items)) }
 {
-    let mut every = None;
+    let mut every = Count::None;
     for field in fields {
         every = count_every(every, field);
     }
@@ -145,23 +177,14 @@ fn label_repeats(alloc: Global, fields: &Vec<Field>) -> Result<LabelRepeats<'_>,
     Ok(LabelRepeats { names, every })
 }
 
-/// Whether the values of one label and those of `[string]`, both counted, are two or more that aren't plain.
-fn are_several(own: Option<bool>, every: Option<bool>) -> bool
-    ensures { (j k : ℕ) → CountsAs own j → CountsAs every k → result ≡ nat_lt 1 (j + k) }
-{
-    match (own, every) {
-        (Some(_), Some(_)) => true,
-        (Some(again), None) | (None, Some(again)) => again,
-        (None, None) => false,
-    }
-}
-
 /// Whether the conjunction of a label asks its literals to end with `...`: its own values and those of `[string]`.
 fn label_demands_open(repeats: &LabelRepeats<'_>, label: &str) -> bool
     ensures { (ns : List Named) → TellsLabels repeats.now ns
         → result ≡ Unopened.demands_open (values (one label.now) ns) }
 {
-    are_several(repeats.names.get(label).copied(), repeats.every)
+    count_of(&repeats.names, label)
+        .plus(repeats.every)
+        .is_several()
 }
 
 /// Whether the conjunction of a field's label, or of `[string]` alone, asks its literals to end with `...`.
@@ -170,7 +193,7 @@ fn field_demands_open(repeats: &LabelRepeats<'_>, field: &Field) -> bool
         → result ≡ Unopened.demands_open (values (named_by field.now).name ns) }
 {
     if is_every(field) {
-        are_several(None, repeats.every)
+        repeats.every.is_several()
     } else {
         label_demands_open(repeats, field.label.as_str())
     }

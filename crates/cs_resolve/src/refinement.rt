@@ -1,10 +1,8 @@
 // Plain refinement: a closed definition is narrowed by a struct literal with some of its labels.
 
-ghost use Rattle.std.specs.Prelude.{◌≡◌, ◌↔◌, ◌++◌, [], ◌∷◌, List, ℕ, true, map, length, slice_get, IfOk, OnOk, None, Some, IfSome, IsSome, MatchOption};
-ghost use Rattle.std.specs.List.{flat_map, list_any};
-ghost use Rattle.std.specs.Str.{bytes_eq};
-ghost use Rattle.cs_grammar.specs.View.{expr_view, exprs_view, fields_view, definition_view, file_view};
-ghost use Rattle.cs_grammar.specs.Tree.{DefinitionTree, FileTree, definitions};
+ghost use Rattle.std.specs.Prelude.{◌≡◌, ◌↔◌, ◌++◌, [], ◌∷◌, List, ℕ, map, length, slice_get, IfOk, OnOk, None, Some, IfSome, IsSome, MatchOption};
+ghost use Rattle.cs_grammar.specs.View.{expr_view, exprs_view, fields_view, definition_view};
+ghost use Rattle.cs_grammar.specs.Tree.{DefinitionTree, FileTree};
 ghost use Rattle.cs_package.specs.Environment.{Environment};
 ghost use Rattle.cs_resolve.specs.Declarations.{bodies_of};
 ghost use Rattle.cs_resolve.specs.ClosedBases as ClosedBases;

@@ -1,7 +1,7 @@
 // From files to a package.
 ghost use Rattle.std.specs.Prelude.{◌≡◌, ℕ, List, [], ◌∷◌, ◌++◌, map, length, string_bytes, OnOk, IfOk, IfErr, IsOkUnless};
-ghost use Rattle.std.specs.List.{All, AllByRecursion, flat_map};
-ghost use Rattle.cs_grammar.specs.Tree.{Tree, DefinitionTree, definition, defined_name, definitions};
+ghost use Rattle.std.specs.List.{All, AllByRecursion};
+ghost use Rattle.cs_grammar.specs.Tree.{Tree, DefinitionTree, definition, defined_name};
 ghost use Rattle.cs_grammar.specs.View.{definition_view, file_view};
 ghost use Rattle.cs_resolve.specs.Declarations.{distinct, names, places_of, faults_from};
 ghost use Rattle.cs_package.specs.Environment.{Environment, written, IsDefinitionName};
