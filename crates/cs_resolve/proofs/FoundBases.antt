@@ -17,7 +17,7 @@ use Rattle.cs_grammar.specs.Tree.{DefinitionTree}
 use Rattle.cs_grammar.specs.declared.ast.Expr.{Expr}
 use Rattle.cs_resolve.specs.Refinement.{IsBase, by_literal, by_refinement}
 use Rattle.cs_resolve.specs.ClosedBases.{bases}
-use Rattle.cs_resolve.specs.Narrowed.{HoldsOnly, HoldsBase, HoldsFound, HoldBases, Numbers, Has, Sound, Grown, Refines, AreSorted, Closed}
+use Rattle.cs_resolve.specs.Narrowed.{HoldsSole, HoldsBase, HoldsFound, HoldBases, Numbers, Has, Sound, Grown, Refines, Refiners, AreClassified, Closed}
 use Rattle.cs_resolve.specs.declared.refinement.Bases.{Bases}
 use Rattle.cs_resolve.proofs.BaseLaw.{least}
 use Rattle.cs_resolve.proofs.Searches.{body_of}
@@ -64,8 +64,8 @@ module _ (ds : List DefinitionTree) (old new : Bases) (grown : Grown old new) (p
   front_kept within i l = ap (λ ks. slice_get ks i) grown.behind ∙ same_front (keys old.numbers) grown.more i (omega (arith, within, l))
 
 -- what narrows is listed
-pub listed_names : {S : Type 0} (r : HashMap (Bor (List ℕ)) (Vec (Bor (List ℕ)) Global) S) (ds : List DefinitionTree) (b : Bases) (m n : List ℕ) → AreSorted ds b r → Refines ds n m → (o : Option (Vec (Bor (List ℕ)) Global)) → get_by (λ k. bytes_eq m k.now) r ≡ o → MatchOption o ⊥ (λ names. list_any (λ k. bytes_eq n k.now) names.items ≡ true)
-listed_names r ds b m n sorted f o is = subst (λ x. MatchOption x ⊥ (λ names. list_any (λ k. bytes_eq n k.now) names.items ≡ true)) is ((sorted n f.body f.is).listed m f.fields f.narrowed)
+pub listed_names : {S : Type 0} (r : Refiners S) (ds : List DefinitionTree) (b : Bases) (m n : List ℕ) → AreClassified ds b r → Refines ds n m → (o : Option (Vec (Bor (List ℕ)) Global)) → get_by (λ k. bytes_eq m k.now) r ≡ o → MatchOption o ⊥ (λ names. list_any (λ k. bytes_eq n k.now) names.items ≡ true)
+listed_names r ds b m n classified f o is = subst (λ x. MatchOption x ⊥ (λ names. list_any (λ k. bytes_eq n k.now) names.items ≡ true)) is ((classified n f.body f.is).listed m f.fields f.narrowed)
 
 -- ---- the end
 
@@ -73,7 +73,7 @@ found_labels : {S : Type 0} (ds : List DefinitionTree) (n : List ℕ) (o : Optio
 found_labels ds n None h = absurd h
 found_labels ds n (Some s) h = (h.0, (least ds n h.0).1 h.1, h.2)
 
-module _ {S : Type 0} (m : HashMap (Bor (List ℕ)) (Option (Bor Expr)) S) (ds : List DefinitionTree) (held : HoldsOnly m ds) where
+module _ {S : Type 0} (m : HashMap (Bor (List ℕ)) (Option (Bor Expr)) S) (ds : List DefinitionTree) (held : HoldsSole m ds) where
   declared : (n : List ℕ) (ls : List (List ℕ)) → IsBase ds n ls → is_some (get_by (λ k. bytes_eq n k.now) m) ≡ true
   declared n ls (by_literal {e = e} is lit) = let x = body_of m ds n e held is in ap is_some x.1
   declared n ls (by_refinement {e = e} is nar base fits) = let x = body_of m ds n e held is in ap is_some x.1
@@ -97,9 +97,9 @@ module _ {S : Type 0} (m : HashMap (Bor (List ℕ)) (Option (Bor Expr)) S) (ds :
       there n None h g = cc
       there n (Some i) h g = with_set n (slice_get b.sets.items i) h
 
-  module _ {T : Type 0} (r : HashMap (Bor (List ℕ)) (Vec (Bor (List ℕ)) Global) T) (old b : Bases) (sorted : AreSorted ds old r) (grown : Grown old b) (sound : Sound ds b) (closed : Closed ds b (length m.entries)) where
+  module _ {T : Type 0} (r : Refiners T) (old b : Bases) (classified : AreClassified ds old r) (grown : Grown old b) (sound : Sound ds b) (closed : Closed ds b (length m.entries)) where
     complete : (n : List ℕ) (ls : List (List ℕ)) → IsBase ds n ls → Has b n
-    complete n ls (by_literal {e = e} {fs = fs} is lit) = grown.kept n ((sorted n e is).literal fs lit)
+    complete n ls (by_literal {e = e} {fs = fs} is lit) = grown.kept n ((classified n e is).literal fs lit)
     complete n ls (by_refinement {m = k} {e = e} {fs = fs} is nar base fits) =
         let at = place_of k b.numbers.entries (complete k ls base) in
         let inside = slice_get_within (keys b.numbers) at.0 at.1 at.2 in

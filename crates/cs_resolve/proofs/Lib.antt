@@ -37,12 +37,12 @@ pub mod OpeningRule
 -- closed bases: the least relation, what narrows one, and the search for them
 pub mod BaseLaw
 pub mod NarrowingSteps
-pub mod OnlyBodies
+pub mod SoleBodies
 pub mod TextSets
 pub mod BaseTables
 pub mod RefinerLists
 pub mod Searches
-pub mod SortedBodies
+pub mod ClassifiedBodies
 pub mod FoundBases
 -- offsets rise along the words, so faults come in order
 pub mod WordOrder

@@ -1,7 +1,7 @@
 -- Tables of the definitions that may narrow a base.
 use Rattle.std.proofs.Common.{◌≡◌, ℕ, Bool, true, false, ◌||◌, cond, List, [], ◌∷◌, ◌++◌, Some, None, Vec, Global, refl, sym, ap, ◌∙◌, subst}
 use Rattle.std.specs.Borrow.{Bor}
-use Rattle.std.specs.HashMap.{HashMap, get_by}
+use Rattle.std.specs.HashMap.{get_by}
 use Rattle.std.specs.List.{list_any}
 use Rattle.std.specs.Map.{update}
 use Rattle.std.specs.Option.{MatchOption}
@@ -9,10 +9,7 @@ use Rattle.std.specs.Str.{bytes_eq}
 use Rattle.std.proofs.lemmas.List.Folds.{list_any-append}
 use Rattle.std.proofs.lemmas.Slice.Eq.{bytes_eq-Decides}
 use Rattle.cs_package.proofs.Environments.{bytes_eq-refl}
-use Rattle.cs_resolve.specs.Narrowed.{Lists}
-
-abbrev Table : Type 0 → Type 0
-Table S = HashMap (Bor (List ℕ)) (Vec (Bor (List ℕ)) Global) S
+use Rattle.cs_resolve.specs.Narrowed.{Refiners, Lists}
 
 abbrev pub among : List ℕ → List (Bor (List ℕ)) → Bool
 among n xs = list_any (λ k. bytes_eq n k.now) xs
@@ -21,7 +18,7 @@ or_right : (a : Bool) → (a || true) ≡ true
 or_right true = refl
 or_right false = refl
 
-module _ {S : Type 0} (r mid new : Table S) (base : List ℕ) (names : Vec (Bor (List ℕ)) Global) (taken : (t : List ℕ) → get_by (λ k. bytes_eq t k.now) mid ≡ update bytes_eq (λ n. get_by (λ k. bytes_eq n k.now) r) base None t) (put : (t : List ℕ) → get_by (λ k. bytes_eq t k.now) new ≡ update bytes_eq (λ n. get_by (λ k. bytes_eq n k.now) mid) base (Some names) t) (old : List (Bor (List ℕ))) (name : Bor (List ℕ)) (pushed : names.items ≡ old ++ name ∷ []) where
+module _ {S : Type 0} (r mid new : Refiners S) (base : List ℕ) (names : Vec (Bor (List ℕ)) Global) (taken : (t : List ℕ) → get_by (λ k. bytes_eq t k.now) mid ≡ update bytes_eq (λ n. get_by (λ k. bytes_eq n k.now) r) base None t) (put : (t : List ℕ) → get_by (λ k. bytes_eq t k.now) new ≡ update bytes_eq (λ n. get_by (λ k. bytes_eq n k.now) mid) base (Some names) t) (old : List (Bor (List ℕ))) (name : Bor (List ℕ)) (pushed : names.items ≡ old ++ name ∷ []) where
   pub lists_added : Lists new base name.now
   lists_added = subst (λ o. MatchOption o ⊥ (λ xs. among name.now xs.items ≡ true)) (sym (put base ∙ ap (λ b. cond b (Some names) (get_by (λ k. bytes_eq base k.now) mid)) (bytes_eq-refl base)))
       (ap (among name.now) pushed ∙ list_any-append (λ k. bytes_eq name.now k.now) old (name ∷ []) ∙ ap (λ b. among name.now old || (b || false)) (bytes_eq-refl name.now) ∙ or_right (among name.now old))

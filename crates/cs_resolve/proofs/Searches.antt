@@ -14,7 +14,7 @@ use Rattle.cs_grammar.specs.View.{expr_view}
 use Rattle.cs_grammar.specs.declared.ast.Expr.{Expr}
 use Rattle.cs_resolve.specs.Declarations.{bodies_of}
 use Rattle.cs_resolve.specs.Refinement.{IsBase, by_refinement, Narrowing, narrowing_in, narrows}
-use Rattle.cs_resolve.specs.Narrowed.{only_body, HoldsOnly, HoldsTexts, HoldsBase, Sound, Grown, Refines}
+use Rattle.cs_resolve.specs.Narrowed.{sole_body, HoldsSole, HoldsTexts, HoldsBase, Sound, Grown, Refines}
 use Rattle.cs_resolve.specs.declared.refinement.Bases.{Bases}
 use Rattle.cs_resolve.proofs.BaseLaw.{one_labels}
 
@@ -43,23 +43,23 @@ names_more xs i d n l h = elim (or_cases (list_any (λ k. bytes_eq n k.now) (tak
   | inr e ↦ elim (or_cases (bytes_eq n (get_or xs i d).now) false e) [ inl same ↦ inr ((bytes_eq-Decides n (get_or xs i d).now).0 same) | inr never ↦ cc ]
 ]
 
--- ---- only bodies
+-- ---- sole bodies
 
-only_one : (es : List Tree) (e : Tree) → only_body es ≡ Some (Some e) → es ≡ e ∷ []
-only_one [] e h = cc
-only_one (a ∷ []) e h = let same : a ≡ e = cc in ap (λ x. x ∷ []) same
-only_one (a ∷ b ∷ es) e h = cc
+sole_one : (es : List Tree) (e : Tree) → sole_body es ≡ Some (Some e) → es ≡ e ∷ []
+sole_one [] e h = cc
+sole_one (a ∷ []) e h = let same : a ≡ e = cc in ap (λ x. x ∷ []) same
+sole_one (a ∷ b ∷ es) e h = cc
 
-pub one_body : {S : Type 0} (m : HashMap (Bor (List ℕ)) (Option (Bor Expr)) S) (ds : List DefinitionTree) (n : List ℕ) (e : Bor Expr) → HoldsOnly m ds → get_by (λ k. bytes_eq n k.now) m ≡ Some (Some e) → bodies_of n ds ≡ expr_view e.now ∷ []
-one_body m ds n e held is = only_one (bodies_of n ds) (expr_view e.now) (sym (held n) ∙ ap (option_map (option_map (λ (x : Bor Expr). expr_view x.now))) is)
+pub one_body : {S : Type 0} (m : HashMap (Bor (List ℕ)) (Option (Bor Expr)) S) (ds : List DefinitionTree) (n : List ℕ) (e : Bor Expr) → HoldsSole m ds → get_by (λ k. bytes_eq n k.now) m ≡ Some (Some e) → bodies_of n ds ≡ expr_view e.now ∷ []
+one_body m ds n e held is = sole_one (bodies_of n ds) (expr_view e.now) (sym (held n) ∙ ap (option_map (option_map (λ (x : Bor Expr). expr_view x.now))) is)
 
 body_there : (o : Option (Option (Bor Expr))) (e : Tree) → option_map (option_map (λ (x : Bor Expr). expr_view x.now)) o ≡ Some (Some e) → (x : Bor Expr) × (o ≡ Some (Some x)) × (expr_view x.now ≡ e)
 body_there None e h = cc
 body_there (Some None) e h = cc
 body_there (Some (Some x)) e h = let same : expr_view x.now ≡ e = cc in (x, refl, same)
 
-pub body_of : {S : Type 0} (m : HashMap (Bor (List ℕ)) (Option (Bor Expr)) S) (ds : List DefinitionTree) (n : List ℕ) (e : Tree) → HoldsOnly m ds → bodies_of n ds ≡ e ∷ [] → (x : Bor Expr) × (get_by (λ k. bytes_eq n k.now) m ≡ Some (Some x)) × (expr_view x.now ≡ e)
-body_of m ds n e held is = body_there (get_by (λ k. bytes_eq n k.now) m) e (held n ∙ ap only_body is)
+pub body_of : {S : Type 0} (m : HashMap (Bor (List ℕ)) (Option (Bor Expr)) S) (ds : List DefinitionTree) (n : List ℕ) (e : Tree) → HoldsSole m ds → bodies_of n ds ≡ e ∷ [] → (x : Bor Expr) × (get_by (λ k. bytes_eq n k.now) m ≡ Some (Some x)) × (expr_view x.now ≡ e)
+body_of m ds n e held is = body_there (get_by (λ k. bytes_eq n k.now) m) e (held n ∙ ap sole_body is)
 
 -- ---- the base that a definition refines
 

@@ -1,5 +1,5 @@
 -- What the parts of an expression resolve to, where sets hold the labels of the struct literals around it.
-use Rattle.std.specs.Prelude.{◌≡◌, ℕ, Bool, true, List, map, length}
+use Rattle.std.specs.Prelude.{◌≡◌, ℕ, Bool, true, List, Result, map, length}
 use Rattle.std.specs.Borrow.{Bor}
 use Rattle.std.specs.HashSet.{HashSet, contains_by}
 use Rattle.std.specs.List.{list_any, list_all}
@@ -7,7 +7,10 @@ use Rattle.std.specs.Str.{bytes_eq}
 use Rattle.cs_grammar.specs.Tree.{Label, Trees, Fields, End}
 use Rattle.cs_resolve.specs.Refinement.{Refinements}
 use Rattle.cs_resolve.specs.Resolved.{resolved_all, resolved_fields, resolved_end}
-use Rattle.cs_resolve.specs.Scopes.{has_label, names_field}
+use Rattle.cs_resolve.specs.Scopes.{Place, has_label, names_field}
+use Rattle.cs_resolve.specs.Steps.{ResolvesIn}
+use Rattle.cs_resolve.specs.declared.fault.ResolveFault.{ResolveFault}
+use Rattle.cs_resolve.specs.declared.shapes.Resolver.{Resolver}
 use Rattle.cs_package.specs.View.{expression_of, expressions_of, part_of, declarations_of, rest_of, is_known, is_known_part, is_known_end}
 use Rattle.cs_package.specs.declared.shape.Shape.{Shape}
 use Rattle.cs_package.specs.declared.shape.ShapeEnd.{ShapeEnd}
@@ -37,3 +40,7 @@ pub record ArePartsOf (rs : Refinements) (ns : List (List ℕ)) (ps : List Part)
 pub record IsEndOf (rs : Refinements) (ns : List (List ℕ)) (s : ShapeEnd) (e : End) : Type 0 where
   pub same : rest_of ns s ≡ resolved_end rs e
   pub known : is_known_end (length ns) s ≡ true
+
+-- what is answered is so, and no name is at fault, where sets hold the labels of the literals around, innermost first
+abbrev pub ResolvesAround : {S X : Type 0} → Result X ResolveFault → Resolver → List (HashSet (Bor (List ℕ)) S) → (Refinements → List (List ℕ) → X → Type 0) → (List (List Label) → List Place) → Type 0
+ResolvesAround answer r sets IsSo found = (scopes : List (List Label)) → HoldAround sets scopes → ResolvesIn answer r IsSo (found scopes)

@@ -42,22 +42,22 @@ pub record TellsRefinements (b : Bases) (rs : Refinement.Refinements) : Type 0 w
   pub held : HoldBases b labels
   pub same : ClosedBases.is_refinement labels ≡ rs
 
--- ---- the only bodies of names
+-- ---- the sole bodies of names
 
-abbrev pub only_body : List Tree → Option (Option Tree)
-only_body [] = None
-only_body (e ∷ []) = Some (Some e)
-only_body (e ∷ f ∷ es) = Some None
+abbrev pub sole_body : List Tree → Option (Option Tree)
+sole_body [] = None
+sole_body (e ∷ []) = Some (Some e)
+sole_body (e ∷ f ∷ es) = Some None
 
--- the table has each name that is declared, with its only body, or none where it has several
-abbrev pub HoldsOnly : {S : Type 0} → HashMap (Bor (List ℕ)) (Option (Bor Expr)) S → List DefinitionTree → Type 0
-HoldsOnly m ds = (n : List ℕ) → option_map (option_map (λ e. expr_view e.now)) (get_by (λ k. bytes_eq n k.now) m) ≡ only_body (bodies_of n ds)
+-- the table has each name that is declared, with its sole body, or none where it has several
+abbrev pub HoldsSole : {S : Type 0} → HashMap (Bor (List ℕ)) (Option (Bor Expr)) S → List DefinitionTree → Type 0
+HoldsSole m ds = (n : List ℕ) → option_map (option_map (λ e. expr_view e.now)) (get_by (λ k. bytes_eq n k.now) m) ≡ sole_body (bodies_of n ds)
 
 -- an entry whose name has only one body
-abbrev pub only_entry : Option (Bor (List ℕ) × Option (Bor Expr)) → Option (Bor (List ℕ) × Bor Expr)
-only_entry None = None
-only_entry (Some (k, None)) = None
-only_entry (Some (k, Some e)) = Some (k, e)
+abbrev pub sole_entry : Option (Bor (List ℕ) × Option (Bor Expr)) → Option (Bor (List ℕ) × Bor Expr)
+sole_entry None = None
+sole_entry (Some (k, None)) = None
+sole_entry (Some (k, Some e)) = Some (k, e)
 
 -- ---- the search for closed bases
 
@@ -68,14 +68,22 @@ Has b n = is_some (get_by (λ k. bytes_eq n k.now) b.numbers) ≡ true
 abbrev pub HoldsBase : {S : Type 0} → List DefinitionTree → List ℕ → HashSet (Bor (List ℕ)) S → Type 0
 HoldsBase ds n s = (ls : List (List ℕ)) × Refinement.IsBase ds n ls × HoldsTexts s ls
 
+-- all of the old stay
+abbrev pub StillHas : Bases → Bases → Type 0
+StillHas old new = (n : List ℕ) → Has old n → Has new n
+
+-- at that number is the set for the closed base n
+abbrev pub NumbersBase : List DefinitionTree → Bases → List ℕ → ℕ → Type 0
+NumbersBase ds b n number = MatchOption (slice_get b.sets.items number) ⊥ (HoldsBase ds n)
+
 -- each that was found is a closed base, with its labels, and stands there once
 pub record Sound (ds : List DefinitionTree) (b : Bases) : Type 0 where
-  pub each : (n : List ℕ) → MatchOption (get_by (λ k. bytes_eq n k.now) b.numbers) (Unit {0}) (λ i. MatchOption (slice_get b.sets.items i) ⊥ (HoldsBase ds n))
+  pub each : (n : List ℕ) → MatchOption (get_by (λ k. bytes_eq n k.now) b.numbers) (Unit {0}) (NumbersBase ds b n)
   pub once : IsDistinct (λ k l. bytes_eq k.now l.now) (keys b.numbers)
 
 -- what was found stays, each in its place
 pub record Grown (old new : Bases) : Type 0 where
-  pub kept : (n : List ℕ) → Has old n → Has new n
+  pub kept : StillHas old new
   pub more : List (Bor (List ℕ))
   pub behind : keys new.numbers ≡ keys old.numbers ++ more
 
@@ -89,18 +97,29 @@ pub record Refines (ds : List DefinitionTree) (n m : List ℕ) : Type 0 where
   pub base : Refinement.IsBase ds m labels
   pub fits : Refinement.narrows fields labels ≡ true
 
--- the table lists n among those that may narrow m
-abbrev pub Lists : {S : Type 0} → HashMap (Bor (List ℕ)) (Vec (Bor (List ℕ)) Global) S → List ℕ → List ℕ → Type 0
-Lists r m n = MatchOption (get_by (λ k. bytes_eq m k.now) r) ⊥ (λ names. list_any (λ k. bytes_eq n k.now) names.items ≡ true)
+abbrev pub IsAmong : List ℕ → List (Bor (List ℕ)) → Type 0
+IsAmong n names = list_any (λ k. bytes_eq n k.now) names ≡ true
+
+-- the definitions that may narrow a base, by its name
+abbrev pub Refiners : Type 0 → Type 0
+Refiners S = HashMap (Bor (List ℕ)) (Vec (Bor (List ℕ)) Global) S
+
+-- n is listed among those that may narrow m
+abbrev pub Lists : {S : Type 0} → Refiners S → List ℕ → List ℕ → Type 0
+Lists r m n = MatchOption (get_by (λ k. bytes_eq m k.now) r) ⊥ (λ names. IsAmong n names.items)
+
+-- all that the old lists stay
+abbrev pub StillLists : {S : Type 0} → Refiners S → Refiners S → Type 0
+StillLists old new = (m n : List ℕ) → Lists old m n → Lists new m n
 
 -- a literal is found, and what narrows is listed
-pub record IsSorted {S : Type 0} (b : Bases) (r : HashMap (Bor (List ℕ)) (Vec (Bor (List ℕ)) Global) S) (n : List ℕ) (e : Tree) : Type 0 where
+pub record IsClassified {S : Type 0} (b : Bases) (r : Refiners S) (n : List ℕ) (e : Tree) : Type 0 where
   pub literal : (fs : Fields) → Refinement.closed_literal e ≡ Some fs → Has b n
   pub listed : (m : List ℕ) (fs : Fields) → Refinement.narrowing_in e ≡ Some (m, fs) → Lists r m n
 
--- each only body is sorted
-abbrev pub AreSorted : {S : Type 0} → List DefinitionTree → Bases → HashMap (Bor (List ℕ)) (Vec (Bor (List ℕ)) Global) S → Type 0
-AreSorted ds b r = (n : List ℕ) (e : Tree) → bodies_of n ds ≡ e ∷ [] → IsSorted b r n e
+-- each sole body is classified
+abbrev pub AreClassified : {S : Type 0} → List DefinitionTree → Bases → Refiners S → Type 0
+AreClassified ds b r = (n : List ℕ) (e : Tree) → bodies_of n ds ≡ e ∷ [] → IsClassified b r n e
 
 -- what refines the first so many that were found is found
 abbrev pub Closed : List DefinitionTree → Bases → ℕ → Type 0

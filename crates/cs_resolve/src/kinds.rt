@@ -9,7 +9,8 @@ use crate::{Kind, Shape};
 
 /// The kind or range that a predeclared name names (CUE, predeclared identifiers).
 pub(crate) fn predeclared_shape(name: &str) -> Option<Shape>
-    ensures named { (ns : List (List ℕ)) → option_map (expression_of ns) result ≡ predeclared name.now }
+    ensures named { (ns : List (List ℕ))
+        → option_map (expression_of ns) result ≡ predeclared name.now }
     ensures known { (count : ℕ) → IfSome result (λ s. is_known count s ≡ true) }
 {
     match name {

@@ -11,7 +11,7 @@ use cs_grammar::{Expr, Field, FieldMark};
 use std::collections::HashSet;
 
 /// The labels of a struct literal.
-pub(crate) type Labels<'a> = HashSet<&'a str>;
+pub(crate) type FieldLabels<'a> = HashSet<&'a str>;
 
 /// The name of the definition that is narrowed, and the fields that narrow it.
 #[derive(Clone, Copy)]
@@ -34,7 +34,8 @@ fn has_every_key(fields: &Vec<Field>) -> bool
 
 /// The fields of a struct literal without `...` and without `[string]`, parentheses taken away.
 pub(crate) fn closed_literal(expr: &Expr) -> Option<&Vec<Field>>
-    ensures { option_map (λ v. fields_view v.now.items) result ≡ Refinement.closed_literal (expr_view expr.now) }
+    ensures { option_map (λ v. fields_view v.now.items) result
+        ≡ Refinement.closed_literal (expr_view expr.now) }
 {
     match expr {
         Expr::Struct { fields, opened, .. } => {
@@ -65,7 +66,8 @@ fn referred(expr: &Expr) -> Option<&str>
 /// What is narrowed by a reference and a closed literal.
 fn narrowing_of<'a>(reference: &'a Expr, literal: &'a Expr) -> Option<Narrowing<'a>>
     ensures { option_map narrowing_view result
-        ≡ Refinement.narrowing_of (Refinement.referred (expr_view reference.now)) (Refinement.closed_literal (expr_view literal.now)) }
+        ≡ Refinement.narrowing_of (Refinement.referred (expr_view reference.now))
+        (Refinement.closed_literal (expr_view literal.now)) }
 {
     let base = referred(reference)?;
     let fields = closed_literal(literal)?;
@@ -74,7 +76,8 @@ fn narrowing_of<'a>(reference: &'a Expr, literal: &'a Expr) -> Option<Narrowing<
 
 /// What is narrowed by two operands that `&` joins, in either order.
 pub(crate) fn operands_narrowing(operands: &Vec<Expr>) -> Option<Narrowing<'_>>
-    ensures { option_map narrowing_view result ≡ Refinement.narrowing (exprs_view operands.now.items) }
+    ensures { option_map narrowing_view result
+        ≡ Refinement.narrowing (exprs_view operands.now.items) }
 {
     if operands.len() != 2 {
         return None;
@@ -86,8 +89,9 @@ pub(crate) fn operands_narrowing(operands: &Vec<Expr>) -> Option<Narrowing<'_>>
 }
 
 /// Whether each label is one of these, and each value is plain.
-pub(crate) fn narrows(fields: &Vec<Field>, labels: &Labels<'_>) -> bool
-    ensures { (ls : List (List ℕ)) → HoldsTexts labels.now ls → result ≡ Refinement.narrows (fields_view fields.now.items) ls }
+pub(crate) fn narrows(fields: &Vec<Field>, labels: &FieldLabels<'_>) -> bool
+    ensures { (ls : List (List ℕ)) → HoldsTexts labels.now ls
+        → result ≡ Refinement.narrows (fields_view fields.now.items) ls }
 {
     for field in fields {
         if !labels.contains(field.label.as_str()) || has_literal_or_reference(&field.value) {

@@ -1,19 +1,18 @@
 // Plain refinement: a closed definition is narrowed by a struct literal with some of its labels.
 
-ghost use Rattle.std.specs.Prelude.{◌≡◌, ◌↔◌, ◌++◌, [], ◌∷◌, List, ℕ, true, map, length, slice_get, IfOk, OnOk, None, Some, IfSome, IsSome, MatchOption};
-ghost use Rattle.std.specs.List.{flat_map, list_any};
-ghost use Rattle.std.specs.Str.{bytes_eq};
-ghost use Rattle.cs_grammar.specs.View.{expr_view, exprs_view, fields_view, definition_view, file_view};
-ghost use Rattle.cs_grammar.specs.Tree.{DefinitionTree, FileTree, definitions};
+ghost use Rattle.std.specs.Prelude.{◌≡◌, ◌↔◌, ◌++◌, [], ◌∷◌, List, ℕ, map, length, slice_get, IfOk, OnOk, None, Some, IfSome, IsSome, MatchOption};
+ghost use Rattle.cs_grammar.specs.View.{expr_view, exprs_view, fields_view, definition_view};
+ghost use Rattle.cs_grammar.specs.Tree.{DefinitionTree, FileTree};
 ghost use Rattle.cs_package.specs.Environment.{Environment};
 ghost use Rattle.cs_resolve.specs.Declarations.{bodies_of};
 ghost use Rattle.cs_resolve.specs.ClosedBases as ClosedBases;
 ghost use Rattle.cs_resolve.specs.Refinement as Refinement;
 ghost use Rattle.cs_resolve.specs.Refinement.{IsBase, Refinements, AreRefinements};
 ghost use Rattle.cs_resolve.specs.Resolved.{IsPackage};
-ghost use Rattle.cs_resolve.specs.Narrowed.{HoldsTexts, HoldsFound, HoldBases, HoldsOnly, HoldsBase, Has, Sound, Grown, Refines, Lists, IsSorted, AreSorted, Closed, only_entry};
+ghost use Rattle.cs_resolve.specs.Narrowed.{HoldsTexts, HoldsFound, HoldBases, HoldsSole, NumbersBase, Has, StillHas, Sound, Grown, Refines, IsAmong, Lists, StillLists, IsClassified, AreClassified, Closed, sole_entry};
+ghost use Rattle.cs_resolve.specs.Steps.{declared_in};
 
-use crate::narrowing::{Labels, body_narrowing, closed_literal, narrows, operands_narrowing};
+use crate::narrowing::{FieldLabels, body_narrowing, closed_literal, narrows, operands_narrowing};
 use cs_grammar::{Definition, Expr, Field, File};
 use indexmap::IndexMap;
 use std::alloc::{AllocError, Global};
@@ -22,18 +21,18 @@ use std::collections::HashSet;
 /// The closed bases by name, each with the number of the set of its labels. A refinement shares the set of its base.
 #[derive(Drop)]
 pub(crate) struct Bases<'a> {
-    sets: Vec<HashSet<&'a str>>,
+    sets: Vec<FieldLabels<'a>>,
     numbers: IndexMap<&'a str, usize>,
 }
 
-/// The only body of each name, and none where a name has several.
-type OnlyBodies<'a> = IndexMap<&'a str, Option<&'a Expr>>;
+/// The sole body of each name, and none where a name has several.
+type SoleBodies<'a> = IndexMap<&'a str, Option<&'a Expr>>;
 
 /// The definitions that may narrow a base, by its name.
 type RefinerTable<'a> = IndexMap<&'a str, Vec<&'a str>>;
 
 /// The labels of the closed base of that name.
-fn labels_of<'b, 'a>(bases: &'b Bases<'a>, name: &str) -> Option<&'b Labels<'a>>
+fn labels_of<'b, 'a>(bases: &'b Bases<'a>, name: &str) -> Option<&'b FieldLabels<'a>>
     ensures { (bs : ClosedBases.Bases) → HoldBases bases.now bs
         → MatchOption result (bs name.now ≡ None) (λ s. HoldsFound (bs name.now) s.now) }
 {
@@ -55,10 +54,13 @@ pub(crate) fn is_refinement(bases: &Bases<'_>, operands: &Vec<Expr>) -> bool
     }
 }
 
-/// Notes the body of a definition, the only one of its name unless the name has one already.
-fn note_only<'a>(bodies: &mut OnlyBodies<'a>, definition: &'a Definition) -> Result<(), AllocError>
-    ensures { OnOk result ((ds : List DefinitionTree) → HoldsOnly bodies.old ds
-        → HoldsOnly bodies.new (ds ++ definition_view definition.now ∷ [])) }
+/// Records the body of a definition, the sole one of its name unless the name has one already.
+fn record_body<'a>(
+    bodies: &mut SoleBodies<'a>,
+    definition: &'a Definition,
+) -> Result<(), AllocError>
+    ensures { OnOk result ((ds : List DefinitionTree) → HoldsSole bodies.old ds
+        → HoldsSole bodies.new (ds ++ definition_view definition.now ∷ [])) }
 {
     let name = definition.name.as_str();
     if bodies.contains_key(name) {
@@ -69,32 +71,32 @@ fn note_only<'a>(bodies: &mut OnlyBodies<'a>, definition: &'a Definition) -> Res
     Ok(())
 }
 
-fn note_all_only<'a>(
-    bodies: &mut OnlyBodies<'a>,
+fn record_all_bodies<'a>(
+    bodies: &mut SoleBodies<'a>,
     definitions: &'a Vec<Definition>,
 ) -> Result<(), AllocError>
-    ensures { OnOk result ((ds : List DefinitionTree) → HoldsOnly bodies.old ds
-        → HoldsOnly bodies.new (ds ++ map definition_view definitions.now.items)) }
+    ensures { OnOk result ((ds : List DefinitionTree) → HoldsSole bodies.old ds
+        → HoldsSole bodies.new (ds ++ map definition_view definitions.now.items)) }
 {
     for definition in definitions {
-        note_only(bodies, definition)?;
+        record_body(bodies, definition)?;
     }
     Ok(())
 }
 
-/// The only bodies of the names that files declare.
-fn only_bodies(alloc: Global, files: &Vec<File>) -> Result<OnlyBodies<'_>, AllocError>
-    ensures { IfOk result (λ m. HoldsOnly m (flat_map definitions (map file_view files.now.items))) }
+/// The sole bodies of the names that files declare.
+fn sole_bodies(alloc: Global, files: &Vec<File>) -> Result<SoleBodies<'_>, AllocError>
+    ensures { IfOk result (λ m. HoldsSole m (declared_in files.now.items)) }
 {
     let mut bodies = IndexMap::new(alloc);
     for file in files {
-        note_all_only(&mut bodies, &file.definitions)?;
+        record_all_bodies(&mut bodies, &file.definitions)?;
     }
     Ok(bodies)
 }
 
 /// The labels of fields.
-fn texts_of(alloc: Global, fields: &Vec<Field>) -> Result<Labels<'_>, AllocError>
+fn texts_of(alloc: Global, fields: &Vec<Field>) -> Result<FieldLabels<'_>, AllocError>
     ensures { IfOk result (λ s. HoldsTexts s (Refinement.texts (fields_view fields.now.items))) }
 {
     let mut labels = HashSet::new(alloc);
@@ -111,9 +113,10 @@ fn add_literal<'a>(
     name: &'a str,
     fields: &'a Vec<Field>,
 ) -> Result<(), AllocError>
-    ensures kept { OnOk result ((n : List ℕ) → Has bases.old n → Has bases.new n) }
+    ensures kept { OnOk result (StillHas bases.old bases.new) }
     ensures added { OnOk result (Has bases.new name.now) }
-    ensures sound { OnOk result ((ds : List DefinitionTree) → IsBase ds name.now (Refinement.texts (fields_view fields.now.items))
+    ensures sound { OnOk result ((ds : List DefinitionTree)
+        → IsBase ds name.now (Refinement.texts (fields_view fields.now.items))
         → Sound ds bases.old → Sound ds bases.new) }
 {
     let labels = texts_of(alloc, fields)?;
@@ -130,7 +133,7 @@ fn add_refiner<'a>(
     base: &'a str,
     name: &'a str,
 ) -> Result<(), AllocError>
-    ensures kept { OnOk result ((m n : List ℕ) → Lists refiners.old m n → Lists refiners.new m n) }
+    ensures kept { OnOk result (StillLists refiners.old refiners.new) }
     ensures added { OnOk result (Lists refiners.new base.now name.now) }
 {
     let mut names = match refiners.swap_remove(base) {
@@ -143,30 +146,32 @@ fn add_refiner<'a>(
 }
 
 /// The name at a place of the table, with its body, if it has only one.
-fn only_body_at<'a>(bodies: &OnlyBodies<'a>, place: usize) -> Option<(&'a str, &'a Expr)>
-    ensures only { (ds : List DefinitionTree) → HoldsOnly bodies.now ds
+fn sole_body_at<'a>(bodies: &SoleBodies<'a>, place: usize) -> Option<(&'a str, &'a Expr)>
+    ensures sole { (ds : List DefinitionTree) → HoldsSole bodies.now ds
         → IfSome result (λ p. bodies_of p.0.now ds ≡ expr_view p.1.now ∷ []) }
-    ensures found { result ≡ only_entry (slice_get bodies.now.entries place) }
+    ensures found { result ≡ sole_entry (slice_get bodies.now.entries place) }
 {
-    let (name, only) = bodies.get_index(place)?;
-    let body = (*only)?;
+    let (name, sole) = bodies.get_index(place)?;
+    let body = (*sole)?;
     Some((*name, body))
 }
 
 /// Adds a definition to the bases where its body is a closed literal, and lists it where its body narrows one.
-fn sort_body<'a>(
+fn classify_body<'a>(
     alloc: Global,
     bases: &mut Bases<'a>,
     refiners: &mut RefinerTable<'a>,
-    name: &'a str,
-    body: &'a Expr,
+    definition: (&'a str, &'a Expr),
 ) -> Result<(), AllocError>
-    ensures kept { OnOk result ((n : List ℕ) → Has bases.old n → Has bases.new n) }
-    ensures listed { OnOk result ((m n : List ℕ) → Lists refiners.old m n → Lists refiners.new m n) }
-    ensures sorted { OnOk result (IsSorted bases.new refiners.new name.now (expr_view body.now)) }
-    ensures sound { OnOk result ((ds : List DefinitionTree) → bodies_of name.now ds ≡ expr_view body.now ∷ []
+    ensures kept { OnOk result (StillHas bases.old bases.new) }
+    ensures listed { OnOk result (StillLists refiners.old refiners.new) }
+    ensures classified { OnOk result (IsClassified bases.new refiners.new definition.entry.0.now
+        (expr_view definition.entry.1.now)) }
+    ensures sound { OnOk result ((ds : List DefinitionTree)
+        → bodies_of definition.entry.0.now ds ≡ expr_view definition.entry.1.now ∷ []
         → Sound ds bases.old → Sound ds bases.new) }
 {
+    let (name, body) = definition;
     if let Some(fields) = closed_literal(body) {
         return add_literal(alloc, bases, name, fields);
     }
@@ -176,28 +181,28 @@ fn sort_body<'a>(
     Ok(())
 }
 
-fn sort_bodies<'a>(
+fn classify_bodies<'a>(
     alloc: Global,
-    bodies: &OnlyBodies<'a>,
+    bodies: &SoleBodies<'a>,
     bases: &mut Bases<'a>,
     refiners: &mut RefinerTable<'a>,
 ) -> Result<(), AllocError>
-    ensures { OnOk result ((ds : List DefinitionTree) → HoldsOnly bodies.now ds → Sound ds bases.old
-        → Sound ds bases.new × AreSorted ds bases.new refiners.new) }
+    ensures { OnOk result ((ds : List DefinitionTree) → HoldsSole bodies.now ds
+        → Sound ds bases.old → Sound ds bases.new × AreClassified ds bases.new refiners.new) }
 {
     for place in 0..bodies.len() {
-        if let Some((name, body)) = only_body_at(bodies, place) {
-            sort_body(alloc, bases, refiners, name, body)?;
+        if let Some(definition) = sole_body_at(bodies, place) {
+            classify_body(alloc, bases, refiners, definition)?;
         }
     }
     Ok(())
 }
 
 /// The number of the labels of the base that a definition refines, if its only body is a refinement of one of these.
-fn refined_number(bodies: &OnlyBodies<'_>, bases: &Bases<'_>, name: &str) -> Option<usize>
-    ensures sound { (ds : List DefinitionTree) → HoldsOnly bodies.now ds → Sound ds bases.now
-        → IfSome result (λ i. MatchOption (slice_get bases.now.sets.items i) ⊥ (HoldsBase ds name.now)) }
-    ensures found { (ds : List DefinitionTree) → HoldsOnly bodies.now ds → Sound ds bases.now
+fn refined_number(bodies: &SoleBodies<'_>, bases: &Bases<'_>, name: &str) -> Option<usize>
+    ensures sound { (ds : List DefinitionTree) → HoldsSole bodies.now ds → Sound ds bases.now
+        → IfSome result (NumbersBase ds bases.now name.now) }
+    ensures found { (ds : List DefinitionTree) → HoldsSole bodies.now ds → Sound ds bases.now
         → (m : List ℕ) → Has bases.now m → Refines ds name.now m → IsSome result }
 {
     let body = (*bodies.get(name)?)?;
@@ -213,13 +218,14 @@ fn refined_number(bodies: &OnlyBodies<'_>, bases: &Bases<'_>, name: &str) -> Opt
 
 /// Adds a definition if it refines one of the bases.
 fn add_refinement<'a>(
-    bodies: &OnlyBodies<'a>,
+    bodies: &SoleBodies<'a>,
     bases: &mut Bases<'a>,
     name: &'a str,
 ) -> Result<(), AllocError>
     ensures grown { OnOk result (Grown bases.old bases.new) }
-    ensures sound { OnOk result ((ds : List DefinitionTree) → HoldsOnly bodies.now ds → Sound ds bases.old
-        → Sound ds bases.new × ((m : List ℕ) → Has bases.old m → Refines ds name.now m → Has bases.new name.now)) }
+    ensures sound { OnOk result ((ds : List DefinitionTree) → HoldsSole bodies.now ds
+        → Sound ds bases.old → Sound ds bases.new
+        × ((m : List ℕ) → Has bases.old m → Refines ds name.now m → Has bases.new name.now)) }
 {
     if let Some(number) = refined_number(bodies, bases, name) {
         bases.numbers.insert(name, number)?;
@@ -228,14 +234,14 @@ fn add_refinement<'a>(
 }
 
 fn add_refinements<'a>(
-    bodies: &OnlyBodies<'a>,
+    bodies: &SoleBodies<'a>,
     bases: &mut Bases<'a>,
     names: &Vec<&'a str>,
 ) -> Result<(), AllocError>
     ensures grown { OnOk result (Grown bases.old bases.new) }
-    ensures sound { OnOk result ((ds : List DefinitionTree) → HoldsOnly bodies.now ds → Sound ds bases.old
-        → Sound ds bases.new × ((m n : List ℕ) → list_any (λ k. bytes_eq n k.now) names.now.items ≡ true → Has bases.old m
-        → Refines ds n m → Has bases.new n)) }
+    ensures sound { OnOk result ((ds : List DefinitionTree) → HoldsSole bodies.now ds
+        → Sound ds bases.old → Sound ds bases.new × ((m n : List ℕ)
+        → IsAmong n names.now.items → Has bases.old m → Refines ds n m → Has bases.new n)) }
 {
     for name in names {
         add_refinement(bodies, bases, *name)?;
@@ -245,13 +251,14 @@ fn add_refinements<'a>(
 
 /// Adds all refinements. Each name is found at most once, so there are no more places to look at than names.
 fn find_refinements<'a>(
-    bodies: &OnlyBodies<'a>,
+    bodies: &SoleBodies<'a>,
     refiners: &RefinerTable<'a>,
     bases: &mut Bases<'a>,
 ) -> Result<(), AllocError>
     ensures grown { OnOk result (Grown bases.old bases.new) }
-    ensures sound { OnOk result ((ds : List DefinitionTree) → HoldsOnly bodies.now ds → AreSorted ds bases.old refiners.now
-        → Sound ds bases.old → Sound ds bases.new × Closed ds bases.new (length bodies.now.entries)) }
+    ensures sound { OnOk result ((ds : List DefinitionTree) → HoldsSole bodies.now ds
+        → AreClassified ds bases.old refiners.now → Sound ds bases.old
+        → Sound ds bases.new × Closed ds bases.new (length bodies.now.entries)) }
 {
     for place in 0..bodies.len() {
         if let Some((name, _)) = bases.numbers.get_index(place)
@@ -268,15 +275,15 @@ fn find_refinements<'a>(
 /// # Errors
 /// `AllocError`, where memory runs out.
 pub(crate) fn bases_of(alloc: Global, files: &Vec<File>) -> Result<Bases<'_>, AllocError>
-    ensures { IfOk result (λ b. HoldBases b (ClosedBases.bases (flat_map definitions (map file_view files.now.items)))) }
+    ensures { IfOk result (λ b. HoldBases b (ClosedBases.bases (declared_in files.now.items))) }
 {
-    let bodies = only_bodies(alloc, files)?;
+    let bodies = sole_bodies(alloc, files)?;
     let mut bases = Bases {
         sets: Vec::new(alloc),
         numbers: IndexMap::new(alloc),
     };
     let mut refiners = IndexMap::new(alloc);
-    sort_bodies(alloc, &bodies, &mut bases, &mut refiners)?;
+    classify_bodies(alloc, &bodies, &mut bases, &mut refiners)?;
     find_refinements(&bodies, &refiners, &mut bases)?;
     Ok(bases)
 }
@@ -285,8 +292,12 @@ pub(crate) fn bases_of(alloc: Global, files: &Vec<File>) -> Result<Bases<'_>, Al
 /// a closed literal, or a plain refinement of another. So there are plain refinements of definitions, and no others, and
 /// files are a package of one environment.
 pub fn refinement_law()
-    ensures bases { (ds : List DefinitionTree) (n : List ℕ) (ls : List (List ℕ)) → (ClosedBases.bases ds n ≡ Some ls) ↔ IsBase ds n ls }
-    ensures found { (ds : List DefinitionTree) → AreRefinements ds (ClosedBases.is_refinement (ClosedBases.bases ds)) }
-    ensures one { (ds : List DefinitionTree) (rs qs : Refinements) → AreRefinements ds rs → AreRefinements ds qs → rs ≡ qs }
-    ensures environment { (fs : List FileTree) (E F : Environment) → IsPackage fs E → IsPackage fs F → E ≡ F }
+    ensures bases { (ds : List DefinitionTree) (n : List ℕ) (ls : List (List ℕ))
+        → (ClosedBases.bases ds n ≡ Some ls) ↔ IsBase ds n ls }
+    ensures found { (ds : List DefinitionTree)
+        → AreRefinements ds (ClosedBases.is_refinement (ClosedBases.bases ds)) }
+    ensures one { (ds : List DefinitionTree) (rs qs : Refinements)
+        → AreRefinements ds rs → AreRefinements ds qs → rs ≡ qs }
+    ensures environment { (fs : List FileTree) (E F : Environment)
+        → IsPackage fs E → IsPackage fs F → E ≡ F }
 {}

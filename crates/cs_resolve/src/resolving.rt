@@ -1,7 +1,7 @@
 // From files to a package.
 ghost use Rattle.std.specs.Prelude.{◌≡◌, ℕ, List, [], ◌∷◌, ◌++◌, map, length, string_bytes, OnOk, IfOk, IfErr, IsOkUnless};
-ghost use Rattle.std.specs.List.{All, AllByRecursion, flat_map};
-ghost use Rattle.cs_grammar.specs.Tree.{Tree, DefinitionTree, definition, defined_name, definitions};
+ghost use Rattle.std.specs.List.{All, AllByRecursion};
+ghost use Rattle.cs_grammar.specs.Tree.{Tree, DefinitionTree, definition, defined_name};
 ghost use Rattle.cs_grammar.specs.View.{definition_view, file_view};
 ghost use Rattle.cs_resolve.specs.Declarations.{distinct, names, places_of, faults_from};
 ghost use Rattle.cs_package.specs.Environment.{Environment, written, IsDefinitionName};
@@ -9,13 +9,13 @@ ghost use Rattle.cs_resolve.specs.Refinement.{Refinements};
 ghost use Rattle.cs_resolve.specs.Narrowed.{TellsRefinements};
 ghost use Rattle.cs_resolve.specs.Refusal.{AreSpelled, IsRefusal};
 ghost use Rattle.cs_resolve.specs.Resolved.{IsPackage};
-ghost use Rattle.cs_resolve.specs.Steps.{faults_in, AreBodiesOf, IsShapeOf, Resolves};
+ghost use Rattle.cs_resolve.specs.Steps.{declared_in, known_names, AreBodiesOf, IsShapeOf, Resolves, ResolvesIn};
 ghost use Rattle.cs_package.specs.View.{names_of, IsTable};
 
 use crate::opening::check_opened;
 use crate::package_name::differing_file;
 use crate::refinement::{Bases, bases_of};
-use crate::shapes::body_shape;
+use crate::shapes::Resolver;
 use crate::size::{MOST_DEFINITIONS, has_few_nodes};
 use crate::{Package, ResolveFault, Shape};
 use cs_grammar::{Definition, File};
@@ -33,7 +33,8 @@ pub fn resolve(alloc: Global, files: Vec<File>) -> Result<Package, ResolveFault>
     requires { AreSpelled (map file_view files.items) }
     ensures found { IfOk result (λ p. IsPackage (map file_view files.items) p) }
     ensures refused { IfErr result (λ e. IsRefusal e (map file_view files.items)) }
-    ensures only { (E : Environment) → IsPackage (map file_view files.items) E → IsOkUnless result ResolveFault.OutOfMemory }
+    ensures only { (E : Environment) → IsPackage (map file_view files.items) E
+        → IsOkUnless result ResolveFault.OutOfMemory }
 {
     if let Some(file) = differing_file(&files) {
         return Err(ResolveFault::PackageName { file });
@@ -52,7 +53,7 @@ pub fn resolve(alloc: Global, files: Vec<File>) -> Result<Package, ResolveFault>
 fn declared_names(alloc: Global, files: &Vec<File>) -> Result<NameTable, AllocError>
     requires { AreSpelled (map file_view files.now.items) }
     ensures table { IfOk result (λ t. IsTable t.entries) }
-    ensures found { IfOk result (λ t. names_of t.entries ≡ names (flat_map definitions (map file_view files.now.items))) }
+    ensures found { IfOk result (λ t. names_of t.entries ≡ names (declared_in files.now.items)) }
 {
     let mut names = IndexMap::new(alloc);
     for file in files {
@@ -68,10 +69,13 @@ fn add_names(
     definitions: &Vec<Definition>,
 ) -> Result<(), AllocError>
     requires table { IsTable names.old.entries }
-    requires spelled { All (λ d. IsDefinitionName (defined_name d)) (map definition_view definitions.now.items) }
+    requires spelled { All (λ d. IsDefinitionName (defined_name d))
+        (map definition_view definitions.now.items) }
     ensures table { OnOk result (IsTable names.new.entries) }
-    ensures added { OnOk result ((ns : List (List ℕ)) → names_of names.old.entries ≡ distinct ns
-        → names_of names.new.entries ≡ distinct (ns ++ map defined_name (map definition_view definitions.now.items))) }
+    ensures added { OnOk result ((ns : List (List ℕ))
+        → names_of names.old.entries ≡ distinct ns
+        → names_of names.new.entries
+        ≡ distinct (ns ++ map defined_name (map definition_view definitions.now.items))) }
 {
     for definition in definitions {
         if names.contains_key(definition.name.as_str()) {
@@ -102,12 +106,18 @@ fn declared_bodies(
 ) -> Result<Vec<Vec<Shape>>, ResolveFault>
     requires { IsTable names.now.entries }
     ensures { (rs : Refinements) → TellsRefinements bases.now rs → Resolves result
-        (λ v. AreBodiesOf rs (names_of names.now.entries) v.items (flat_map definitions (map file_view files.now.items)))
+        (λ v. AreBodiesOf rs (names_of names.now.entries) v.items (declared_in files.now.items))
         (faults_from 0 (names_of names.now.entries) (map file_view files.now.items)) }
 {
     let mut bodies = no_bodies(alloc, names.len())?;
     for (number, file) in files.iter().enumerate() {
-        add_bodies(alloc, names, bases, &mut bodies, number, &file.definitions)?;
+        let resolver = Resolver {
+            alloc,
+            names,
+            bases,
+            file: number,
+        };
+        add_bodies(&resolver, &mut bodies, &file.definitions)?;
     }
     Ok(bodies)
 }
@@ -126,25 +136,24 @@ fn no_bodies(alloc: Global, count: usize) -> Result<Vec<Vec<Shape>>, AllocError>
 
 /// Adds the bodies that a file declares, each to those of its name.
 fn add_bodies(
-    alloc: Global,
-    names: &NameTable,
-    bases: &Bases<'_>,
+    resolver: &Resolver<'_, '_>,
     bodies: &mut Vec<Vec<Shape>>,
-    file: usize,
     definitions: &Vec<Definition>,
 ) -> Result<(), ResolveFault>
-    requires table { IsTable names.now.entries }
-    requires long { length names.now.entries ≡ length bodies.old.items }
+    requires table { IsTable resolver.now.names.now.entries }
+    requires long { length resolver.now.names.now.entries ≡ length bodies.old.items }
     ensures long { length bodies.new.items ≡ length bodies.old.items }
-    ensures added { OnOk result ((rs : Refinements) (ds : List DefinitionTree) → TellsRefinements bases.now rs
-        → AreBodiesOf rs (names_of names.now.entries) bodies.old.items ds
-        → AreBodiesOf rs (names_of names.now.entries) bodies.new.items (ds ++ map definition_view definitions.now.items)) }
-    ensures faults { (rs : Refinements) → TellsRefinements bases.now rs → Resolves result (λ _. Unit {0})
-        (faults_in file (names_of names.now.entries) (places_of (map definition_view definitions.now.items))) }
+    ensures added { OnOk result ((rs : Refinements) (ds : List DefinitionTree)
+        → TellsRefinements resolver.now.bases.now rs
+        → AreBodiesOf rs (known_names resolver.now) bodies.old.items ds
+        → AreBodiesOf rs (known_names resolver.now) bodies.new.items
+        (ds ++ map definition_view definitions.now.items)) }
+    ensures faults { ResolvesIn result resolver.now (λ rs ns _. Unit {0})
+        (places_of (map definition_view definitions.now.items)) }
 {
     for definition in definitions {
-        let shape = body_shape(alloc, names, bases, file, &definition.body)?;
-        add_body(names, bodies, definition.name.as_str(), shape)?;
+        let shape = resolver.body_shape(&definition.body)?;
+        add_body(resolver.names, bodies, definition.name.as_str(), shape)?;
     }
     Ok(())
 }
@@ -160,8 +169,10 @@ fn add_body(
     requires long { length names.now.entries ≡ length bodies.old.items }
     ensures long { length bodies.new.items ≡ length bodies.old.items }
     ensures added { OnOk result ((rs : Refinements) (ds : List DefinitionTree) (o : ℕ) (t : Tree)
-        → AreBodiesOf rs (names_of names.now.entries) bodies.old.items ds → IsShapeOf rs (names_of names.now.entries) shape t
-        → AreBodiesOf rs (names_of names.now.entries) bodies.new.items (ds ++ definition name.now o t ∷ [])) }
+        → AreBodiesOf rs (names_of names.now.entries) bodies.old.items ds
+        → IsShapeOf rs (names_of names.now.entries) shape t
+        → AreBodiesOf rs (names_of names.now.entries) bodies.new.items
+        (ds ++ definition name.now o t ∷ [])) }
 {
     if let Some(i) = names.get_index_of(name) {
         bodies[i].push(shape)?;

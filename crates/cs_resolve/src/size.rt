@@ -1,7 +1,8 @@
 // The size of a package.
 
-ghost use Rattle.std.specs.Prelude.{◌≡◌, ◌+◌, ◌<◌, ◌≤◌, ◌↔◌, IsTrue, MatchOption, map};
+ghost use Rattle.std.specs.Prelude.{◌≤◌, ◌↔◌, IsTrue, map};
 ghost use Rattle.cs_grammar.specs.View.{expr_view, exprs_view, fields_view, end_view, definition_view, file_view};
+ghost use Rattle.cs_resolve.specs.Checks.{Leaves};
 ghost use Rattle.cs_resolve.specs.Resolved.{most_nodes};
 ghost use Rattle.cs_resolve.specs.Size.{nodes, nodes_all, nodes_fields, nodes_end, nodes_of_definitions, nodes_of_files};
 
@@ -16,7 +17,7 @@ const MOST_NODES: usize = 50_000;
 /// What is left of `room` nodes after those of an expression, or `None` where it has more.
 #[cycle(room)]
 fn room_after(room: usize, expr: &Expr) -> Option<usize>
-    ensures { MatchOption result (room < nodes (expr_view expr.now)) (λ left. left + nodes (expr_view expr.now) ≡ room) }
+    ensures { Leaves result room (nodes (expr_view expr.now)) }
 {
     match expr {
         Expr::And(operands) | Expr::Or(operands) => room_after_all(room.checked_sub(1)?, operands),
@@ -33,7 +34,7 @@ fn room_after(room: usize, expr: &Expr) -> Option<usize>
 
 #[cycle(room)]
 fn room_after_all(room: usize, operands: &Vec<Expr>) -> Option<usize>
-    ensures { MatchOption result (room < nodes_all (exprs_view operands.now.items)) (λ left. left + nodes_all (exprs_view operands.now.items) ≡ room) }
+    ensures { Leaves result room (nodes_all (exprs_view operands.now.items)) }
 {
     let mut left = room;
     for operand in operands {
@@ -44,7 +45,7 @@ fn room_after_all(room: usize, operands: &Vec<Expr>) -> Option<usize>
 
 #[cycle(room)]
 fn room_after_fields(room: usize, fields: &Vec<Field>) -> Option<usize>
-    ensures { MatchOption result (room < nodes_fields (fields_view fields.now.items)) (λ left. left + nodes_fields (fields_view fields.now.items) ≡ room) }
+    ensures { Leaves result room (nodes_fields (fields_view fields.now.items)) }
 {
     let mut left = room;
     for field in fields {
@@ -55,7 +56,7 @@ fn room_after_fields(room: usize, fields: &Vec<Field>) -> Option<usize>
 
 #[cycle(room)]
 fn room_after_end(room: usize, end: &ListEnd) -> Option<usize>
-    ensures { MatchOption result (room < nodes_end (end_view end.now)) (λ left. left + nodes_end (end_view end.now) ≡ room) }
+    ensures { Leaves result room (nodes_end (end_view end.now)) }
 {
     match end {
         ListEnd::Closed | ListEnd::Any => Some(room),
@@ -64,7 +65,8 @@ fn room_after_end(room: usize, end: &ListEnd) -> Option<usize>
 }
 
 fn room_after_definitions(room: usize, definitions: &Vec<Definition>) -> Option<usize>
-    ensures { MatchOption result (room < nodes_of_definitions (map definition_view definitions.now.items)) (λ left. left + nodes_of_definitions (map definition_view definitions.now.items) ≡ room) }
+    ensures { Leaves result room
+        (nodes_of_definitions (map definition_view definitions.now.items)) }
 {
     let mut left = room;
     for definition in definitions {
@@ -74,7 +76,7 @@ fn room_after_definitions(room: usize, definitions: &Vec<Definition>) -> Option<
 }
 
 fn room_after_files(room: usize, files: &Vec<File>) -> Option<usize>
-    ensures { MatchOption result (room < nodes_of_files (map file_view files.now.items)) (λ left. left + nodes_of_files (map file_view files.now.items) ≡ room) }
+    ensures { Leaves result room (nodes_of_files (map file_view files.now.items)) }
 {
     let mut left = room;
     for file in files {

@@ -31,7 +31,7 @@ returns-in_err-check_definitions c rs tells =
     let same = c.deref-file-items.ensures.value in
     let p = err_from_is_err_and c.from_residual-in_err-check_definitions.result c.from_residual-in_err-check_definitions.ensures.1 in
     let told = subst (λ gs. Repeats c.in_ok-repeats.repeats (bodies gs)) (sym same) c.in_ok-repeats.ensures in
-    let here = first_numbered NotOpened _ i _ (c.in_err-check_definitions.ensures rs (bodies fs) tells told) in
+    let here = first_numbered NotOpened _ i _ (c.in_err-check_definitions.ensures (bodies fs) told rs tells) in
     let rest = unopened_from rs (i + 1) (bodies fs) (map file_view (drop (i + 1) fs)) in
     let whole = same_first (λ (p : ℕ × ℕ). NotOpened p.0 p.1) _ _ _ (sym (c.loop-number.invariant rs tells ∙ cut rs (bodies fs) fs i f c.loop-number-test.true c.file-item.is)) (first_left (λ (p : ℕ × ℕ). NotOpened p.0 p.1) _ (faults rs i (bodies fs) f) rest here) in
     rw (p.1, p.2) (same_first (λ (p : ℕ × ℕ). NotOpened p.0 p.1) _ _ _ (ap (λ gs. unopened_from rs 0 (bodies gs) (map file_view gs)) same) whole)
@@ -41,7 +41,7 @@ loop-number-preserved c rs tells =
     let fs = c.deref-file-items.result.now in
     let i = c.loop-number.number in
     let told = subst (λ gs. Repeats c.in_ok-repeats.repeats (bodies gs)) (sym c.deref-file-items.ensures.value) c.in_ok-repeats.ensures in
-    let none = c.in_ok-check_definitions.ensures rs (bodies fs) tells told in
+    let none = c.in_ok-check_definitions.ensures (bodies fs) told rs tells in
     c.loop-number.invariant rs tells ∙ cut rs (bodies fs) fs i c.file-item.result c.loop-number-test.true c.file-item.is ∙ ap (λ os. map (λ o. (i, o)) os ++ unopened_from rs (i + 1) (bodies fs) (map file_view (drop (i + 1) fs))) none
 
 pub returns : goal.returns

@@ -9,4 +9,4 @@ use Rattle.cs_resolve.proofs.opening.some_demand_open.Given as goal
 abbrev pub invariant-loop-field : goal.invariant-loop-field
 invariant-loop-field l =
     let all = named_fields (fields_view l.field-items) in
-    TellsLabels l.repeats.names l.repeats.every all → list_any (λ n. demands_open (values n.name all)) all ≡ list_any (λ n. demands_open (values n.name all)) (named_fields (fields_view (drop l.field-index l.field-items)))
+    TellsLabels l.repeats all → list_any (λ n. demands_open (values n.name all)) all ≡ list_any (λ n. demands_open (values n.name all)) (named_fields (fields_view (drop l.field-index l.field-items)))

@@ -12,6 +12,6 @@ returns c =
     let ds = flat_map definitions (map file_view c.args.files.now.items) in
     let empty : Bases = record { sets = c.new.result; numbers = c.new-2.result } in
     let held = c.in_ok-bodies.ensures in
-    let sorted = c.in_ok-sort_bodies.ensures ds held (sound_none ds empty c.new-2.ensures.empty) in
-    let found = c.in_ok-find_refinements.ensures.sound ds held sorted.1 sorted.0 in
-    hold_bases c.in_ok-bodies.bodies ds held c.sort_bodies.new.refiners c.sort_bodies.new.bases c.find_refinements.new.bases sorted.1 c.in_ok-find_refinements.ensures.grown found.0 found.1
+    let classified = c.in_ok-classify_bodies.ensures ds held (sound_none ds empty c.new-2.ensures.empty) in
+    let found = c.in_ok-find_refinements.ensures.sound ds held classified.1 classified.0 in
+    hold_bases c.in_ok-bodies.bodies ds held c.classify_bodies.new.refiners c.classify_bodies.new.bases c.find_refinements.new.bases classified.1 c.in_ok-find_refinements.ensures.grown found.0 found.1

@@ -1,14 +1,13 @@
--- The bodies of a table, sorted one after another.
-use Rattle.std.proofs.Common.{◌≡◌, ℕ, zero, suc, ◌+◌, ◌<◌, Bool, true, false, cond, List, [], ◌∷◌, ◌++◌, ◌⊎◌, inl, inr, Option, Some, None, length, slice_get, take, Vec, Global, refl, sym, ap, ◌∙◌, subst, arith, add-one}
+-- The bodies of a table, classified one after another.
+use Rattle.std.proofs.Common.{◌≡◌, ℕ, zero, suc, ◌+◌, ◌<◌, Bool, true, false, cond, List, [], ◌∷◌, ◌++◌, ◌⊎◌, inl, inr, Option, Some, None, length, slice_get, take, refl, sym, ap, ◌∙◌, subst, arith, add-one}
 use Rattle.std.specs.Borrow.{Bor}
-use Rattle.std.specs.HashMap.{HashMap}
 use Rattle.std.specs.Map.{lookup}
 use Rattle.std.specs.Str.{bytes_eq}
 use Rattle.std.proofs.lemmas.Option.{slice_get_cases}
 use Rattle.std.proofs.lemmas.Slice.Eq.{bytes_eq-Decides}
 use Rattle.cs_grammar.specs.Tree.{Tree}
 use Rattle.cs_grammar.specs.declared.ast.Expr.{Expr}
-use Rattle.cs_resolve.specs.Narrowed.{Has, Lists, IsSorted}
+use Rattle.cs_resolve.specs.Narrowed.{StillHas, Refiners, StillLists, IsClassified}
 use Rattle.cs_resolve.specs.declared.refinement.Bases.{Bases}
 
 abbrev Entry : Type 0
@@ -35,8 +34,8 @@ last_or_before n (x ∷ es) k v w h = by (bytes_eq n x.0.now) h (last_or_before 
     by false g rest = rest g
 
 -- what holds of the first bodies, and of one more
-pub sorted_more : (P : List ℕ → Bor Expr → Type 0) (es : List Entry) (i : ℕ) → ((n : List ℕ) (e : Bor Expr) → at_name n (take i es) ≡ Some (Some e) → P n e) → ((k : Bor (List ℕ)) (e : Bor Expr) → slice_get es i ≡ Some (k, Some e) → P k.now e) → (n : List ℕ) (e : Bor Expr) → at_name n (take (i + 1) es) ≡ Some (Some e) → i < length es → P n e
-sorted_more P es i before here n e h l = elim (slice_get_cases es i).1 [
+pub classified_more : (P : List ℕ → Bor Expr → Type 0) (es : List Entry) (i : ℕ) → ((n : List ℕ) (e : Bor Expr) → at_name n (take i es) ≡ Some (Some e) → P n e) → ((k : Bor (List ℕ)) (e : Bor Expr) → slice_get es i ≡ Some (k, Some e) → P k.now e) → (n : List ℕ) (e : Bor Expr) → at_name n (take (i + 1) es) ≡ Some (Some e) → i < length es → P n e
+classified_more P es i before here n e h l = elim (slice_get_cases es i).1 [
   | inl x ↦ elim (last_or_before n (take i es) x.0.0 x.0.1 (Some e) (sym (ap (at_name n) (take_push es i x.0 x.2)) ∙ ap (λ j. at_name n (take j es)) (sym (add-one i)) ∙ h)) [
     | inl old ↦ before n e old
     | inr new ↦ subst (λ u. P u e) (sym new.0) (here x.0.0 e (x.2 ∙ ap (λ v. Some (x.0.0, v)) new.1))
@@ -44,8 +43,8 @@ sorted_more P es i before here n e h l = elim (slice_get_cases es i).1 [
   | inr past ↦ absurd (let q = past.0 in omega (arith, l, q))
 ]
 
-pub sorted_kept : {S : Type 0} (b c : Bases) (r q : HashMap (Bor (List ℕ)) (Vec (Bor (List ℕ)) Global) S) (n : List ℕ) (e : Tree) → ((m : List ℕ) → Has b m → Has c m) → ((m k : List ℕ) → Lists r m k → Lists q m k) → IsSorted b r n e → IsSorted c q n e
-sorted_kept b c r q n e kept listed s = record {
+pub classified_kept : {S : Type 0} (b c : Bases) (r q : Refiners S) (n : List ℕ) (e : Tree) → StillHas b c → StillLists r q → IsClassified b r n e → IsClassified c q n e
+classified_kept b c r q n e kept listed s = record {
   literal = λ fs h. kept n (s.literal fs h);
   listed = λ m fs h. listed m n (s.listed m fs h);
 }

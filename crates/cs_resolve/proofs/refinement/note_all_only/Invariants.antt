@@ -1,8 +1,0 @@
-use Rattle.std.proofs.Common.{◌++◌, List, take, map}
-use Rattle.cs_grammar.specs.Tree.{DefinitionTree}
-use Rattle.cs_grammar.specs.View.{definition_view}
-use Rattle.cs_resolve.specs.Narrowed.{HoldsOnly}
-use Rattle.cs_resolve.proofs.refinement.note_all_only.Given as goal
-
-abbrev pub invariant-loop-definition : goal.invariant-loop-definition
-invariant-loop-definition l = (ds : List DefinitionTree) → HoldsOnly l.fn.bodies ds → HoldsOnly l.bodies (ds ++ map definition_view (take l.definition-index l.definition-items))

@@ -1,7 +1,0 @@
-use Rattle.std.proofs.Common.{[], ap}
-use Rattle.std.specs.List.{list_any}
-use Rattle.cs_resolve.specs.Around.{has_text}
-use Rattle.cs_resolve.proofs.shapes.body_shape.Goals as goal
-
-pub returns : goal.returns
-returns c rs held = c.shape_of.ensures.shape rs [] held (λ t. ap (list_any (has_text t)) c.new-around.ensures.items)
