@@ -6,4 +6,5 @@ pub mod Whole
 pub mod Definitions
 pub mod Grouped
 pub mod Literals
+pub mod Made
 pub mod Slots

@@ -112,6 +112,13 @@ abbrev pub least_of : List ℤ → Option ℤ
 least_of [] = None
 least_of (n ∷ ns) = Some (fold int_min n ns)
 
+-- the greatest lower limit of some operands, and the least upper one
+abbrev pub greatest_lower : List Expression → Option ℤ
+greatest_lower es = greatest_of (filter_map lower_limit es)
+
+abbrev pub least_upper : List Expression → Option ℤ
+least_upper es = least_of (filter_map upper_limit es)
+
 -- whether no integer of 64 signed bits lies between two limits
 abbrev pub are_apart : Option ℤ → Option ℤ → Bool
 are_apart lower upper = int_lt (unwrap_or upper (pos 9223372036854775807)) (unwrap_or lower (neg_ℤ (pos 9223372036854775808)))
@@ -127,7 +134,7 @@ interval_schema lower upper = if are_apart lower upper then boolean false else o
 -- integer kinds with bounds are one interval; other operands keep their schemas
 abbrev pub conjunction_schema : List Expression → Documents → Document
 conjunction_schema es ds =
-    if is_interval es then interval_schema (greatest_of (filter_map lower_limit es)) (least_of (filter_map upper_limit es))
+    if is_interval es then interval_schema (greatest_lower es) (least_upper es)
     else object (all_of ds)
 
 -- ---- literals

@@ -1,9 +1,10 @@
 // The schemas of lists.
-ghost use Rattle.std.specs.Prelude.{◌≡◌, ℕ, suc, pos, List, [], ◌∷◌, Some, None, IfOk, length};
+ghost use Rattle.std.specs.Prelude.{◌≡◌, ℕ, suc, pos, List, [], ◌∷◌, Some, None, length};
 ghost use Rattle.cs_document.specs.Document.{Document, integer};
 ghost use Rattle.cs_document.specs.View.{documents_of};
-ghost use Rattle.cs_profile.specs.SchemaDocument.{schema_view, schemas_view, value_at};
+ghost use Rattle.cs_profile.specs.SchemaDocument.{schemas_view, value_at};
 ghost use Rattle.cs_profile.specs.declared.keyword.Form.TheVariants as form;
+ghost use Rattle.cs_compile.specs.Made.{Makes};
 ghost use Rattle.cs_compile.specs.Slots.{least_count};
 ghost use Rattle.cs_compile.specs.Translation.{list_schema};
 
@@ -17,7 +18,8 @@ pub(crate) fn list_schema(
     front: Vec<Schema>,
     items: KeywordValue,
 ) -> Result<Schema, AllocError>
-    ensures { IfOk result (λ s. schema_view s ≡ list_schema (documents_of (schemas_view front.items)) (value_at form.Schema items)) }
+    ensures { Makes result
+        (list_schema (documents_of (schemas_view front.items)) (value_at form.Schema items)) }
 {
     let count = least_count(&front);
     let keywords = typed(alloc, JsonKind::Array)

@@ -1,5 +1,5 @@
 // The schemas of structs.
-ghost use Rattle.std.specs.Prelude.{◌≡◌, ◌||◌, ℕ, List, [], ◌∷◌, ◌++◌, Bool, true, false, IfOk, OnOk, codes, is_some, map, string_bytes};
+ghost use Rattle.std.specs.Prelude.{◌≡◌, ℕ, List, [], ◌∷◌, ◌++◌, Bool, true, false, IfOk, OnOk, codes, map, string_bytes};
 ghost use Rattle.std.specs.Borrow.{Bor};
 ghost use Rattle.cs_document.specs.Document.{Document};
 ghost use Rattle.cs_document.specs.View.{members_of};
@@ -9,7 +9,8 @@ ghost use Rattle.cs_profile.specs.SchemaDocument.{schema_view, schemas_view, slo
 ghost use Rattle.cs_profile.specs.Trim.{with_member};
 ghost use Rattle.cs_profile.specs.declared.keyword.Form.TheVariants as form;
 ghost use Rattle.cs_compile.specs.Grouped.{declared, declarations_at, for_every_key, is_asked, has_label, AreValues, IsGrouped, joined};
-ghost use Rattle.cs_compile.specs.Translation.{closing, labelled, must_be_there, of_type, required_of, struct_schema};
+ghost use Rattle.cs_compile.specs.Made.{Makes, closing_beside};
+ghost use Rattle.cs_compile.specs.Translation.{labelled, must_be_there, of_type, required_of, struct_schema};
 
 use crate::keywords::{object, typed, untyped};
 use crate::operands::one_or_all;
@@ -73,7 +74,9 @@ fn add_labelled(
     label: &str,
     value: Schema,
 ) -> Result<(), AllocError>
-    ensures { OnOk result ((ds : List (Declaration Document)) → (m : DeclarationMark) → IsGrouped ds groups.old → IsGrouped (ds ++ declared label.now m (schema_view value) ∷ []) groups.new) }
+    ensures { OnOk result ((ds : List (Declaration Document)) → (m : DeclarationMark)
+        → IsGrouped ds groups.old
+        → IsGrouped (ds ++ declared label.now m (schema_view value) ∷ []) groups.new) }
 {
     let label = String::from_str(alloc, label)?;
     groups.entry(label)?.or_insert(Vec::new(alloc)).push(value)?;
@@ -83,7 +86,7 @@ fn add_labelled(
 /// The schema of maps with a value of a schema under every key. It is in an object of its own, since
 /// `additionalProperties` leaves out the keys of the `properties` beside it.
 fn under_every_key(alloc: Global, value: Schema) -> Result<Schema, AllocError>
-    ensures { IfOk result (λ s. schema_view s ≡ for_every_key (schema_view value)) }
+    ensures { Makes result (for_every_key (schema_view value)) }
 {
     let value = KeywordValue::Schema(value);
     object(
@@ -106,7 +109,8 @@ fn properties(alloc: Global, groups: Groups) -> Result<BTreeMap<String, Schema>,
 
 /// The value of `required`: the labels that some declaration asks for, in the order in which labels are first declared.
 fn required(alloc: Global, parts: &[Part]) -> Result<Vec<String>, AllocError>
-    ensures { (ns : List (List ℕ)) → IfOk result (λ v. map string_bytes v.items ≡ required_of (labelled (declarations_at ns parts.now))) }
+    ensures { (ns : List (List ℕ)) → IfOk result (λ v. map string_bytes v.items
+        ≡ required_of (labelled (declarations_at ns parts.now))) }
 {
     let mut asked = asked_labels(alloc, parts)?;
     let mut labels = Vec::new(alloc);
@@ -123,7 +127,8 @@ fn required(alloc: Global, parts: &[Part]) -> Result<Vec<String>, AllocError>
 
 /// The labels that some declaration asks for.
 fn asked_labels(alloc: Global, parts: &[Part]) -> Result<BTreeSet<&str>, AllocError>
-    ensures { (ns : List (List ℕ)) → IfOk result (λ s. (l : Bor (List ℕ)) → has_label s l ≡ is_asked (declarations_at ns parts.now) l.now) }
+    ensures { (ns : List (List ℕ)) → IfOk result (λ s. (l : Bor (List ℕ))
+        → has_label s l ≡ is_asked (declarations_at ns parts.now) l.now) }
 {
     let mut asked = BTreeSet::new(alloc);
     for part in parts {
@@ -161,7 +166,8 @@ pub(crate) fn struct_schema(
     parts: &[Part],
     opened: bool,
 ) -> Result<Schema, AllocError>
-    ensures { (ns : List (List ℕ)) → AreValues (declarations_at ns parts.now) values → IfOk result (λ s. schema_view s ≡ struct_schema (declarations_at ns parts.now) opened) }
+    ensures { (ns : List (List ℕ)) → AreValues (declarations_at ns parts.now) values
+        → Makes result (struct_schema (declarations_at ns parts.now) opened) }
 {
     let labels = required(alloc, parts)?;
     let properties = properties(alloc, values.labelled)?;
@@ -178,7 +184,7 @@ fn struct_keywords(
     opened: bool,
 ) -> Keywords
     ensures { present (slots_of result) ≡
-        with_member (closing (opened || is_some (unless_no_list (schemas_view every.items)))) (codes "additionalProperties") (
+        with_member (closing_beside opened (schemas_view every.items)) (codes "additionalProperties") (
         with_member (unless_no_list (schemas_view every.items)) (codes "allOf") (
         with_member (unless_no_map (definitions_view properties.entries)) (codes "properties") (
         with_member (unless_no_list (map text_document required.items)) (codes "required") (of_type (codes "object"))))) }
@@ -198,7 +204,7 @@ fn struct_keywords(
 /// The value of `additionalProperties`: `false`, or nothing where every key is allowed, in an opened struct and in one
 /// with a `[string]`.
 fn closing(every: &Vec<Schema>, opened: bool) -> KeywordValue
-    ensures { value_at form.Schema result ≡ closing (opened || is_some (unless_no_list (schemas_view every.now.items))) }
+    ensures { value_at form.Schema result ≡ closing_beside opened (schemas_view every.now.items) }
 {
     if opened || !every.is_empty() {
         KeywordValue::Nothing

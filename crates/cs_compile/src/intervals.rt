@@ -1,12 +1,12 @@
 // Integer kinds with bounds, which are one interval.
-ghost use Rattle.std.specs.Prelude.{◌≡◌, ◌^◌, ℕ, pos, neg_ℤ, ◌≤ℤ◌, ◌<ℤ◌, List, ◌++◌, map, option_map, option_to_list, IfOk, IfSome, FitsSigned};
+ghost use Rattle.std.specs.Prelude.{◌≡◌, ◌^◌, ℕ, pos, neg_ℤ, ◌≤ℤ◌, ◌<ℤ◌, List, ◌++◌, option_map, option_to_list, IfSome, FitsSigned};
 ghost use Rattle.std.specs.Int.{w64};
-ghost use Rattle.std.specs.List.{filter_map};
 ghost use Rattle.cs_document.specs.Document.{integer};
-ghost use Rattle.cs_package.specs.View.{expression_of};
-ghost use Rattle.cs_profile.specs.SchemaDocument.{schema_view, value_at};
+ghost use Rattle.cs_package.specs.View.{expression_of, expressions_at};
+ghost use Rattle.cs_profile.specs.SchemaDocument.{value_at};
 ghost use Rattle.cs_profile.specs.declared.keyword.Form.TheVariants as form;
-ghost use Rattle.cs_compile.specs.Translation.{is_integer_kind, is_bound, is_interval, lower_limit, upper_limit, greatest_of, least_of, are_apart, interval_schema};
+ghost use Rattle.cs_compile.specs.Made.{Makes};
+ghost use Rattle.cs_compile.specs.Translation.{is_integer_kind, is_bound, is_interval, lower_limit, upper_limit, greatest_of, least_of, greatest_lower, least_upper, are_apart, interval_schema};
 
 use crate::keywords::{object, typed};
 use cs_package::{Kind, Relation, Shape};
@@ -15,7 +15,7 @@ use std::alloc::{AllocError, Global};
 
 /// Whether operands of `&` are an interval: integer kinds and bounds alone, at least one of them an integer kind.
 pub(crate) fn is_interval(operands: &[Shape]) -> bool
-    ensures { (ns : List (List ℕ)) → result ≡ is_interval (map (expression_of ns) operands.now) }
+    ensures { (ns : List (List ℕ)) → result ≡ is_interval (expressions_at ns operands.now) }
 {
     let mut has_kind = false;
     for operand in operands {
@@ -30,9 +30,9 @@ pub(crate) fn is_interval(operands: &[Shape]) -> bool
 
 /// The schema of an interval: the integers that all of its operands admit.
 pub(crate) fn interval(alloc: Global, operands: &[Shape]) -> Result<Schema, AllocError>
-    ensures { (ns : List (List ℕ)) → IfOk result (λ s. schema_view s ≡ interval_schema
-        (greatest_of (filter_map lower_limit (map (expression_of ns) operands.now)))
-        (least_of (filter_map upper_limit (map (expression_of ns) operands.now)))) }
+    ensures { (ns : List (List ℕ)) → Makes result (interval_schema
+        (greatest_lower (expressions_at ns operands.now))
+        (least_upper (expressions_at ns operands.now))) }
 {
     between(alloc, greatest_lower(operands), least_upper(operands))
 }
@@ -99,7 +99,8 @@ fn upper_limit(operand: &Shape) -> Option<i128>
 
 /// The greatest lower limit of some operands, if there is one.
 fn greatest_lower(operands: &[Shape]) -> Option<i128>
-    ensures limit { (ns : List (List ℕ)) → result ≡ greatest_of (filter_map lower_limit (map (expression_of ns) operands.now)) }
+    ensures limit { (ns : List (List ℕ))
+        → result ≡ greatest_lower (expressions_at ns operands.now) }
     ensures low { IfSome result (λ l. neg_ℤ (pos (2 ^ 63)) ≤ℤ l) }
 {
     let mut greatest = None;
@@ -111,7 +112,8 @@ fn greatest_lower(operands: &[Shape]) -> Option<i128>
 
 /// The least upper limit of some operands, if there is one.
 fn least_upper(operands: &[Shape]) -> Option<i128>
-    ensures limit { (ns : List (List ℕ)) → result ≡ least_of (filter_map upper_limit (map (expression_of ns) operands.now)) }
+    ensures limit { (ns : List (List ℕ))
+        → result ≡ least_upper (expressions_at ns operands.now) }
     ensures high { IfSome result (λ u. u <ℤ pos (2 ^ 63)) }
 {
     let mut least = None;
@@ -145,7 +147,7 @@ fn lesser(a: Option<i128>, b: Option<i128>) -> Option<i128>
 fn between(alloc: Global, lower: Option<i128>, upper: Option<i128>) -> Result<Schema, AllocError>
     requires low { IfSome lower (λ l. neg_ℤ (pos (2 ^ 63)) ≤ℤ l) }
     requires high { IfSome upper (λ u. u <ℤ pos (2 ^ 63)) }
-    ensures { IfOk result (λ s. schema_view s ≡ interval_schema lower upper) }
+    ensures { Makes result (interval_schema lower upper) }
 {
     if are_apart(lower, upper) {
         return Ok(Schema::Always(false));

@@ -1,11 +1,12 @@
 // Schema objects, and the keyword of a limit.
-ghost use Rattle.std.specs.Prelude.{◌≡◌, IfOk};
+ghost use Rattle.std.specs.Prelude.{◌≡◌};
 ghost use Rattle.cs_document.specs.Document.{object};
 ghost use Rattle.cs_package.specs.View.{relation_of};
 ghost use Rattle.cs_profile.specs.Keywords.{name_of};
 ghost use Rattle.cs_profile.specs.Shapes.{form_of};
 ghost use Rattle.cs_profile.specs.declared.keyword.Form.TheVariants as form;
-ghost use Rattle.cs_profile.specs.SchemaDocument.{schema_view, slots_of, present, kind_name};
+ghost use Rattle.cs_profile.specs.SchemaDocument.{slots_of, present, kind_name};
+ghost use Rattle.cs_compile.specs.Made.{Makes};
 ghost use Rattle.cs_compile.specs.Slots.{no_slots, typed};
 ghost use Rattle.cs_compile.specs.Translation.{limit_name};
 
@@ -15,7 +16,7 @@ use std::alloc::{AllocError, Global};
 
 /// The schema of some keywords.
 pub(crate) fn object(alloc: Global, keywords: Keywords) -> Result<Schema, AllocError>
-    ensures { IfOk result (λ s. schema_view s ≡ object (present (slots_of keywords))) }
+    ensures { Makes result (object (present (slots_of keywords))) }
 {
     Ok(Schema::Object(Box::new(alloc, keywords)?))
 }

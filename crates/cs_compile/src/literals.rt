@@ -2,7 +2,7 @@
 ghost use Rattle.std.specs.Prelude.{◌≡◌, ℕ, List, IfOk, map, option_map};
 ghost use Rattle.cs_document.specs.Document.{document_eq};
 ghost use Rattle.cs_document.specs.View.{doc_view};
-ghost use Rattle.cs_package.specs.View.{expression_of};
+ghost use Rattle.cs_package.specs.View.{expression_of, expressions_at};
 ghost use Rattle.cs_profile.specs.SchemaDocument.{schema_view};
 ghost use Rattle.cs_compile.specs.Literals.{literal_view};
 ghost use Rattle.cs_compile.specs.Translation.{enumeration, firsts, literal, literals};
@@ -26,7 +26,8 @@ enum Literal<'a> {
 /// The schema of a disjunction of literals: `enum`, with each literal where it comes first. `None` where some operand
 /// is no literal.
 pub(crate) fn enumeration(alloc: Global, operands: &[Shape]) -> Result<Option<Schema>, AllocError>
-    ensures { (ns : List (List ℕ)) → IfOk result (λ o. option_map schema_view o ≡ option_map enumeration (literals (map (expression_of ns) operands.now))) }
+    ensures { (ns : List (List ℕ)) → IfOk result (λ o. option_map schema_view o
+        ≡ option_map enumeration (literals (expressions_at ns operands.now))) }
 {
     let Some(literals) = literals(alloc, operands)? else {
         return Ok(None);
@@ -41,7 +42,8 @@ fn literals<'a>(
     alloc: Global,
     operands: &'a [Shape],
 ) -> Result<Option<Vec<Literal<'a>>>, AllocError>
-    ensures { (ns : List (List ℕ)) → IfOk result (λ o. option_map (λ v. map literal_view v.items) o ≡ literals (map (expression_of ns) operands.now)) }
+    ensures { (ns : List (List ℕ)) → IfOk result (λ o. option_map (λ v. map literal_view v.items) o
+        ≡ literals (expressions_at ns operands.now)) }
 {
     let mut literals = Vec::with_capacity(alloc, operands.len())?;
     for operand in operands {
@@ -55,7 +57,8 @@ fn literals<'a>(
 
 /// The literal that an expression is, if it is one.
 fn literal_of<'a>(shape: &'a Shape) -> Option<Literal<'a>>
-    ensures { (ns : List (List ℕ)) → option_map literal_view result ≡ literal (expression_of ns shape.now) }
+    ensures { (ns : List (List ℕ))
+        → option_map literal_view result ≡ literal (expression_of ns shape.now) }
 {
     match shape {
         Shape::Null => Some(Literal::Null),
@@ -80,7 +83,8 @@ fn literal_of<'a>(shape: &'a Shape) -> Option<Literal<'a>>
 
 /// The documents of some literals, each where it comes first.
 fn firsts(alloc: Global, literals: &[Literal<'_>]) -> Result<Vec<Doc>, AllocError>
-    ensures { IfOk result (λ v. map doc_view v.items ≡ firsts document_eq (map literal_view literals.now)) }
+    ensures { IfOk result (λ v. map doc_view v.items
+        ≡ firsts document_eq (map literal_view literals.now)) }
 {
     let mut seen = BTreeSet::new(alloc);
     let mut firsts = Vec::new(alloc);

@@ -2,10 +2,11 @@
 ghost use Rattle.std.specs.Prelude.{◌≡◌, true, IfOk, IsTrue, length, map};
 ghost use Rattle.std.specs.List.{list_all};
 ghost use Rattle.cs_package.specs.Environment.{declared_names};
-ghost use Rattle.cs_package.specs.View.{expression_of, is_known, is_known_end, is_known_part, rest_of};
-ghost use Rattle.cs_profile.specs.SchemaDocument.{schema_view, schemas_view, value_at};
+ghost use Rattle.cs_package.specs.View.{expression_in, expressions_in, is_known, is_known_end, is_known_part, rest_of};
+ghost use Rattle.cs_profile.specs.SchemaDocument.{schemas_view, value_at};
 ghost use Rattle.cs_profile.specs.declared.keyword.Form.TheVariants as form;
 ghost use Rattle.cs_compile.specs.Grouped.{declarations_at, AreValues};
+ghost use Rattle.cs_compile.specs.Made.{Makes};
 ghost use Rattle.cs_compile.specs.Translation.{schema_of, definition_schema, rest_schema};
 
 use crate::atoms::{bound, but, constant, json_kind, not_text, range, reference};
@@ -27,7 +28,7 @@ pub(crate) fn definition_schema(
     bodies: &[Shape],
 ) -> Result<Schema, AllocError>
     requires { IsTrue (list_all (is_known (length «package».now)) bodies.now) }
-    ensures { IfOk result (λ s. schema_view s ≡ definition_schema (map (expression_of (declared_names «package».now)) bodies.now)) }
+    ensures { Makes result (definition_schema (expressions_in «package».now bodies.now)) }
 {
     one_or_all(alloc, schemas_of(alloc, package, bodies)?)
 }
@@ -36,7 +37,7 @@ pub(crate) fn definition_schema(
 #[cycle(translate)]
 fn schema_of(alloc: Global, package: &Package, shape: &Shape) -> Result<Schema, AllocError>
     requires { is_known (length «package».now) shape.now ≡ true }
-    ensures { IfOk result (λ s. schema_view s ≡ schema_of (expression_of (declared_names «package».now) shape.now)) }
+    ensures { Makes result (schema_of (expression_in «package».now shape.now)) }
 {
     match shape {
         Shape::Top => Ok(Schema::Always(true)),
@@ -77,7 +78,8 @@ fn schema_of(alloc: Global, package: &Package, shape: &Shape) -> Result<Schema, 
 #[cycle(translate)]
 fn schemas_of(alloc: Global, package: &Package, shapes: &[Shape]) -> Result<Vec<Schema>, AllocError>
     requires { IsTrue (list_all (is_known (length «package».now)) shapes.now) }
-    ensures { IfOk result (λ v. schemas_view v.items ≡ map (λ s. schema_of (expression_of (declared_names «package».now) s)) shapes.now) }
+    ensures { IfOk result (λ v. schemas_view v.items
+        ≡ map (λ s. schema_of (expression_in «package».now s)) shapes.now) }
 {
     let mut schemas = Vec::with_capacity(alloc, shapes.len())?;
     for shape in shapes {
@@ -105,7 +107,8 @@ fn values_of(alloc: Global, package: &Package, parts: &[Part]) -> Result<Values,
 #[cycle(translate)]
 fn rest_of(alloc: Global, package: &Package, end: &ShapeEnd) -> Result<KeywordValue, AllocError>
     requires { is_known_end (length «package».now) end.now ≡ true }
-    ensures { IfOk result (λ v. value_at form.Schema v ≡ rest_schema (rest_of (declared_names «package».now) end.now)) }
+    ensures { IfOk result (λ v. value_at form.Schema v
+        ≡ rest_schema (rest_of (declared_names «package».now) end.now)) }
 {
     match end {
         ShapeEnd::Closed => Ok(KeywordValue::Schema(Schema::Always(false))),

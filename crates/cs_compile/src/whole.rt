@@ -26,9 +26,12 @@ use std::collections::BTreeMap;
 /// # Errors
 /// `UnknownRoot` where the package has no such definition.
 pub fn compile(alloc: Global, package: &Guarded, root: &str) -> Result<SchemaDoc, CompileFault>
-    ensures found { IfOk result (λ s. (n : List ℕ) × Names «package».now root.now n × Compiles «package».now n s) }
-    ensures translated { IfOk result (λ s. (n : List ℕ) → Names «package».now root.now n → IsTranslation «package».now n (document_of s)) }
-    ensures unknown { IsErrOf result CompileFault.UnknownRoot → (n : List ℕ) → ¬ Names «package».now root.now n }
+    ensures found { IfOk result (λ s. (n : List ℕ)
+        × Names «package».now root.now n × Compiles «package».now n s) }
+    ensures translated { IfOk result (λ s. (n : List ℕ)
+        → Names «package».now root.now n → IsTranslation «package».now n (document_of s)) }
+    ensures unknown { IsErrOf result CompileFault.UnknownRoot
+        → (n : List ℕ) → ¬ Names «package».now root.now n }
 {
     let package = package.package();
     let Some(number) = package.find(root) else {
@@ -49,9 +52,11 @@ fn definitions(
     root: usize,
 ) -> Result<BTreeMap<String, Schema>, AllocError>
     requires { root < length «package».now }
-    ensures each { IfOk result (λ m. (n : List ℕ) → Reaches «package».now (name_of «package».now root) n
+    ensures each { IfOk result (λ m. (n : List ℕ)
+        → Reaches «package».now (name_of «package».now root) n
         → IsSome (under n (definition_entries m.entries))) }
-    ensures nothing_else { IfOk result (λ m. AreDefinitions «package».now (name_of «package».now root)
+    ensures nothing_else { IfOk result
+        (λ m. AreDefinitions «package».now (name_of «package».now root)
         (members_of (definitions_view m.entries))) }
 {
     let mut schemas = BTreeMap::new(alloc);

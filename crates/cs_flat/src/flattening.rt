@@ -60,7 +60,8 @@ fn push_elements<'a>(
         ≡ map node_item nodes.old.items ++ element_items (length nodes.old.items) (list_view list.now.items)) }
     ensures values { OnOk result (map node_value nodes.new.items
         ≡ map node_value nodes.old.items ++ element_nodes (list_view list.now.items)) }
-    ensures numbers { IfOk result (λ v. v.items ≡ element_numbers (length nodes.old.items) (list_view list.now.items)) }
+    ensures numbers { IfOk result (λ v. v.items
+        ≡ element_numbers (length nodes.old.items) (list_view list.now.items)) }
     ensures document { OnOk result (AreDocuments (list_view list.now.items)) }
 {
     let mut numbers = Vec::with_capacity(alloc, list.len())?;

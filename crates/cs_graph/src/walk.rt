@@ -137,7 +137,8 @@ pub fn heights(alloc: Global, graph: &[Vec<usize>]) -> Result<Vec<usize>, GraphF
     ensures falls { IfOk result (λ v. FallAlong (graph_of graph.now) v.items) }
     ensures acyclic { OnOk result (NoCycle (Refers (graph_of graph.now))) }
     ensures refused { IfErr result (λ e. IsRefusal e (graph_of graph.now)) }
-    ensures only { NoCycle (Refers (graph_of graph.now)) → IsOkUnless result GraphFault.OutOfMemory }
+    ensures only { NoCycle (Refers (graph_of graph.now))
+        → IsOkUnless result GraphFault.OutOfMemory }
 {
     let mut marks = vec![in alloc; VisitState::New; graph.len()]?;
     let mut path = Vec::new(alloc);

@@ -97,7 +97,8 @@ fn are_within_limit(ranks: &[usize]) -> bool
 /// The names of definitions, as CUE writes them.
 fn names_of(alloc: Global, package: &Package, numbers: &[usize]) -> Result<Vec<String>, AllocError>
     requires { All (λ i. i < length «package».now) numbers.now }
-    ensures { IfOk result (λ v. map string_bytes v.items ≡ map (λ i. written (name_of «package».now i)) numbers.now) }
+    ensures { IfOk result (λ v. map string_bytes v.items
+        ≡ map (λ i. written (name_of «package».now i)) numbers.now) }
 {
     let mut names = Vec::with_capacity(alloc, numbers.len())?;
     for number in numbers {

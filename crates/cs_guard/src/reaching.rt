@@ -43,7 +43,8 @@ fn add_all(seen: &mut [bool], order: &mut Vec<usize>, numbers: &[usize]) -> Resu
 /// `AllocError`, where memory runs out.
 pub fn reachable(alloc: Global, package: &Package, root: usize) -> Result<Vec<usize>, AllocError>
     requires { root < length «package».now }
-    ensures found { IfOk result (λ v. AreReachable «package».now (name_of «package».now root) (map (name_of «package».now) v.items)) }
+    ensures found { IfOk result (λ v. AreReachable «package».now
+        (name_of «package».now root) (map (name_of «package».now) v.items)) }
     ensures within { IfOk result (λ v. All (λ i. i < length «package».now) v.items) }
     ensures distinct { IfOk result (λ v. Distinct v.items) }
     ensures first { IfOk result (λ v. slice_get v.items 0 ≡ Some root) }

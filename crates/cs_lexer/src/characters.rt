@@ -29,7 +29,8 @@ pub fn unescape(alloc: Global, text: &str) -> Result<String, SyntaxFault>
 
 /// The characters of a text between its quotes, or none where it isn't one.
 fn characters(alloc: Global, inside: &str) -> Result<String, AllocError>
-    ensures { IfOk result (λ s. string_bytes s ≡ value_from TextState.Inside (inside.now ++ codes "\"")) }
+    ensures { IfOk result (λ s. string_bytes s
+        ≡ value_from TextState.Inside (inside.now ++ codes "\"")) }
 {
     let mut found = String::new(alloc);
     let mut state = TextState::Inside;

@@ -63,7 +63,8 @@ pub(crate) fn is_integer(text: &[u8]) -> bool
 /// The number that digits stand for in a base, if it has at most 64 bits.
 fn digits_value(base: u64, digits: &[u8]) -> Option<u64>
     requires { 0 < base }
-    ensures { SomeIff result (digits_after base 0 digits.now < 2 ^ 64) (digits_after base 0 digits.now) }
+    ensures { SomeIff result (digits_after base 0 digits.now < 2 ^ 64)
+        (digits_after base 0 digits.now) }
 {
     let mut value: u64 = 0;
     for x in digits {

@@ -6,7 +6,7 @@ use Rattle.std.specs.declared.alloc.Global.{Global}
 use Rattle.std.specs.Map.{keys_of}
 use Rattle.cs_package.specs.Expression as cue
 use Rattle.cs_package.specs.Expression.{Expression, Expressions, Declaration, Declarations, Rest}
-use Rattle.cs_package.specs.Environment.{Environment, IsDefinitionName, written}
+use Rattle.cs_package.specs.Environment.{Environment, declared_names, IsDefinitionName, written}
 use Rattle.cs_package.specs.Joined.{IsJoined}
 use Rattle.cs_package.specs.declared.shape.Kind.{Kind}
 use Rattle.cs_package.specs.declared.shape.Kind.TheVariants as kinds
@@ -62,6 +62,16 @@ part_step p = record { label = string_bytes p.label; mark = mark_of p.mark; valu
 -- the expression that a shape stands for, where the names of the definitions are these
 abbrev pub expression_of : List (List ℕ) → Shape → Expression
 expression_of ns = fold-Shape Expression Rest (Declaration Expression) (shape_step ns) end_step part_step
+
+abbrev pub expressions_at : List (List ℕ) → List Shape → List Expression
+expressions_at ns = map (expression_of ns)
+
+-- the expressions of shapes in an environment, where a number stands for the name at its place
+abbrev pub expression_in : Environment → Shape → Expression
+expression_in E = expression_of (declared_names E)
+
+abbrev pub expressions_in : Environment → List Shape → List Expression
+expressions_in E = expressions_at (declared_names E)
 
 -- the parts of an expression; for private contracts alone
 abbrev pub rest_of : List (List ℕ) → ShapeEnd → Rest

@@ -1,5 +1,5 @@
 // A package: its definitions, each with its bodies.
-ghost use Rattle.std.specs.Prelude.{◌≡◌, ◌<◌, length, map, Some, None, IfSome, IfNone, IsTrue, List, ℕ};
+ghost use Rattle.std.specs.Prelude.{◌≡◌, ◌<◌, length, Some, None, IfSome, IfNone, IsTrue, List, ℕ};
 ghost use Rattle.std.specs.List.{IsDistinct, AllByRecursion, list_all};
 ghost use Rattle.std.specs.Str.{bytes_eq};
 ghost use Rattle.cs_package.specs.Environment.{bodies, declared_names, name_at, bodies_at, written, Names, IsDefinitionName};
@@ -38,7 +38,7 @@ impl Model for Package {
 }
 
 impl Package {
-    ghost use Rattle.cs_package.specs.View.{expression_of, is_known};
+    ghost use Rattle.cs_package.specs.View.{expressions_in, is_known};
 
     /// How many definitions there are. Their names are distinct.
     pub fn count(&self) -> usize
@@ -50,7 +50,8 @@ impl Package {
 
     /// The number of the definition of that name, which begins with `#`.
     pub fn find(&self, name: &str) -> Option<usize>
-        ensures found { IfSome result (λ i. (n : List ℕ) × Names self.now name.now n × (name_at self.now i ≡ Some n)) }
+        ensures found { IfSome result (λ i. (n : List ℕ)
+            × Names self.now name.now n × (name_at self.now i ≡ Some n)) }
         ensures unknown { IfNone result ((n : List ℕ) → ¬ Names self.now name.now n) }
     {
         self.names.get_index_of(name.strip_prefix("#")?)
@@ -84,10 +85,11 @@ impl Package {
     /// at that place. Each `&` and each `|` in them, at any depth, has two operands or more.
     pub fn bodies(&self, i: usize) -> &[Shape]
         requires { i < length self.now }
-        ensures at { bodies_at self.now i ≡ Some (map (expression_of (declared_names self.now)) result.now) }
+        ensures at { bodies_at self.now i ≡ Some (expressions_in self.now result.now) }
         ensures known { IsTrue (list_all (is_known (length self.now)) result.now) }
-        ensures joined { AllByRecursion IsJoined (map (expression_of (declared_names self.now)) result.now) }
-        ensures named { IfSome (name_at self.now i) (λ n. bodies self.now n ≡ bodies_at self.now i) }
+        ensures joined { AllByRecursion IsJoined (expressions_in self.now result.now) }
+        ensures named { IfSome (name_at self.now i)
+            (λ n. bodies self.now n ≡ bodies_at self.now i) }
     {
         &self.bodies[i]
     }

@@ -29,6 +29,10 @@ number_of_name ds n = under n (numbered 0 (names_in ds))
 abbrev pub numbers_of : List (Entry ℕ) → List (List ℕ) → List ℕ
 numbers_of es ns = flat_map (λ n. option_to_list (under n es)) ns
 
+-- the numbers of the definitions that a schema refers to directly
+abbrev pub direct_numbers : List (Entry ℕ) → Schema → List ℕ
+direct_numbers es s = numbers_of es (direct_names (schema_view s))
+
 -- the name that a schema refers to by `$ref`
 abbrev pub reference_names : Option (String Global) → List (List ℕ)
 reference_names o = option_to_list (option_map string_bytes o)
@@ -39,7 +43,7 @@ names_of_each ss = flat_map (λ s. direct_names (schema_view s)) ss
 
 -- for each definition, the numbers of those that it refers to directly
 abbrev pub rows_of : List (Entry ℕ) → List (String Global × Schema) → Graph
-rows_of es ds = map (λ d. numbers_of es (direct_names (schema_view d.1))) ds
+rows_of es ds = map (λ d. direct_numbers es d.1) ds
 
 -- the name of a number
 abbrev pub name_of_number : List (String Global × Schema) → ℕ → List ℕ

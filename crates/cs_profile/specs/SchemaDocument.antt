@@ -5,6 +5,7 @@ use Rattle.std.specs.declared.alloc.Global.{Global}
 use Rattle.cs_document.specs.Document.{Document, boolean, integer, text, list, object, Members, no_members, Entry, under}
 use Rattle.cs_document.specs.View.{doc_view, list_view, documents_of, members_of}
 use Rattle.cs_profile.specs.Keywords.{name_of, slot_keywords, reference_start}
+use Rattle.cs_profile.specs.Shapes.{form_of}
 use Rattle.cs_profile.specs.Trim.{with_member, with_dialect}
 use Rattle.cs_profile.specs.Root.{with_definitions}
 use Rattle.cs_profile.specs.Profile.{walk_fault, name_fault, IsSchema}
@@ -116,10 +117,17 @@ value_at form.NamedSchemas (value.NamedSchemas m) = unless_no_map (definitions_v
 -- a text says nothing, and what does not have the form
 value_at _ _ = None
 
+-- a keyword gets a value of its form
+abbrev pub with_value : Keyword → KeywordValue → List Slot → List Slot
+with_value k v ss = set_slot (name_of k) (value_at (form_of k) v) ss
+
 -- a root with its definitions
 pub record SchemaValue : Type 0 where
   pub root : Schema
   pub definitions : List (String Global × Schema)
+
+abbrev pub schema_value : Schema → List (String Global × Schema) → SchemaValue
+schema_value root ds = record { root = root; definitions = ds }
 
 -- the document that a root with its definitions stands for
 abbrev pub document_of : SchemaValue → Document

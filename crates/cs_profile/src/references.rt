@@ -5,8 +5,8 @@ ghost use Rattle.std.specs.BTreeMap.{IsOrdered, keys};
 ghost use Rattle.cs_document.specs.Document.{object};
 ghost use Rattle.cs_graph.specs.Graph.{graph_of};
 ghost use Rattle.cs_profile.specs.Loops.{direct_names};
-ghost use Rattle.cs_profile.specs.SchemaDocument.{schema_view, slots_of, present};
-ghost use Rattle.cs_profile.specs.Numbered.{by_text, names_in, numbered, numbers_of, reference_names, names_of_each, rows_of, name_of_number};
+ghost use Rattle.cs_profile.specs.SchemaDocument.{slots_of, present};
+ghost use Rattle.cs_profile.specs.Numbered.{by_text, names_in, numbered, numbers_of, direct_numbers, reference_names, names_of_each, rows_of, name_of_number};
 
 use crate::{Keywords, Schema};
 use std::alloc::{AllocError, Global};
@@ -41,7 +41,7 @@ fn push_named(
 #[cycle(references)]
 fn push_direct(schema: &Schema, numbers: &Numbers, found: &mut Vec<usize>) -> Result<(), AllocError>
     ensures { OnOk result (found.new.items
-        ≡ found.old.items ++ numbers_of (by_text numbers.now.entries) (direct_names (schema_view schema.now))) }
+        ≡ found.old.items ++ direct_numbers (by_text numbers.now.entries) schema.now) }
 {
     match schema {
         Schema::Always(_) => Ok(()),
@@ -56,7 +56,8 @@ fn push_keywords(
     found: &mut Vec<usize>,
 ) -> Result<(), AllocError>
     ensures { OnOk result (found.new.items
-        ≡ found.old.items ++ numbers_of (by_text numbers.now.entries) (direct_names (object (present (slots_of keywords.now))))) }
+        ≡ found.old.items ++ numbers_of (by_text numbers.now.entries)
+        (direct_names (object (present (slots_of keywords.now))))) }
 {
     push_named(&keywords.reference, numbers, found)?;
     push_each(&keywords.all_of, numbers, found)?;
@@ -88,7 +89,7 @@ fn references_of(
     schema: &Schema,
     numbers: &Numbers,
 ) -> Result<Vec<usize>, AllocError>
-    ensures { IfOk result (λ v. v.items ≡ numbers_of (by_text numbers.now.entries) (direct_names (schema_view schema.now))) }
+    ensures { IfOk result (λ v. v.items ≡ direct_numbers (by_text numbers.now.entries) schema.now) }
 {
     let mut found = Vec::new(alloc);
     push_direct(schema, numbers, &mut found)?;
@@ -100,7 +101,8 @@ pub(crate) fn numbers_of_definitions(
     alloc: Global,
     definitions: &Definitions,
 ) -> Result<Numbers, AllocError>
-    ensures all { IfOk result (λ m. by_text m.entries ≡ numbered 0 (names_in definitions.now.entries)) }
+    ensures all { IfOk result (λ m. by_text m.entries
+        ≡ numbered 0 (names_in definitions.now.entries)) }
     ensures ordered { IsOrdered string_cmp definitions.now }
 {
     let mut numbers = BTreeMap::new(alloc);
@@ -117,7 +119,8 @@ pub(crate) fn graph_of_definitions(
     definitions: &Definitions,
     numbers: &Numbers,
 ) -> Result<Vec<Vec<usize>>, AllocError>
-    ensures { IfOk result (λ v. graph_of v.items ≡ rows_of (by_text numbers.now.entries) definitions.now.entries) }
+    ensures { IfOk result (λ v. graph_of v.items
+        ≡ rows_of (by_text numbers.now.entries) definitions.now.entries) }
 {
     let mut graph = Vec::with_capacity(alloc, definitions.len())?;
     for schema in definitions.values() {
@@ -147,7 +150,8 @@ pub(crate) fn names_of_numbers(
     numbers: &[usize],
 ) -> Result<Vec<String>, AllocError>
     requires { All (λ i. i < length definitions.now.entries) numbers.now }
-    ensures { IfOk result (λ v. map string_bytes v.items ≡ map (name_of_number definitions.now.entries) numbers.now) }
+    ensures { IfOk result (λ v. map string_bytes v.items
+        ≡ map (name_of_number definitions.now.entries) numbers.now) }
 {
     let all = names_in_order(alloc, definitions)?;
     let mut names = Vec::with_capacity(alloc, numbers.len())?;

@@ -86,9 +86,7 @@ pub enum KeywordValue {
 impl Keywords {
     ghost use Rattle.std.specs.Prelude.{◌≡◌};
     ghost use Rattle.cs_document.specs.Document.{no_members};
-    ghost use Rattle.cs_profile.specs.Keywords.{name_of};
-    ghost use Rattle.cs_profile.specs.Shapes.{form_of};
-    ghost use Rattle.cs_profile.specs.SchemaDocument.{slots_of, present, set_slot, value_at};
+    ghost use Rattle.cs_profile.specs.SchemaDocument.{slots_of, present, with_value};
 
     /// The schema object without a keyword, which validates every document.
     pub fn empty(alloc: Global) -> Keywords
@@ -118,7 +116,7 @@ impl Keywords {
     /// The keywords with a value for one of them; an empty list or map of schemas leaves it out, and so does a value
     /// that doesn't have the keyword's form. `$schema`, `$defs` and the texts for readers change nothing.
     pub fn set(mut self, alloc: Global, keyword: Keyword, value: KeywordValue) -> Keywords
-        ensures { slots_of result ≡ set_slot (name_of keyword) (value_at (form_of keyword) value) (slots_of self) }
+        ensures { slots_of result ≡ with_value keyword value (slots_of self) }
     {
         match keyword {
             Keyword::Ref => self.reference = value.reference(),
@@ -231,7 +229,8 @@ impl KeywordValue {
 
     /// The schemas by their names; none where it is no such value.
     pub fn named_schemas(self, alloc: Global) -> BTreeMap<String, Schema>
-        ensures { unless_no_map (definitions_view result.entries) ≡ value_at form.NamedSchemas self }
+        ensures { unless_no_map (definitions_view result.entries)
+            ≡ value_at form.NamedSchemas self }
     {
         match self {
             KeywordValue::NamedSchemas(schemas) => schemas,

@@ -2,7 +2,7 @@
 ghost use Rattle.std.specs.Prelude.{◌≡◌, ◌<◌, ◌↔◌, ℕ, List, option_map, IsSome, IfSome, IfOk, IfErr, OnOk, IsOkUnless};
 ghost use Rattle.cs_profile.specs.Keywords.{defined};
 ghost use Rattle.cs_profile.specs.Trim.{trim};
-ghost use Rattle.cs_profile.specs.SchemaDocument.{schema_view, document_of, definition_of, IsWhole, IsWellFormed};
+ghost use Rattle.cs_profile.specs.SchemaDocument.{schema_view, schema_value, document_of, definition_of, IsWhole, IsWellFormed};
 ghost use Rattle.cs_profile.specs.Loops.{RefersDirectly, NoLoop, IsRank};
 ghost use Rattle.cs_profile.specs.Numbered.{number_of_name};
 ghost use Rattle.cs_profile.specs.Refusal.{IsLoopRefusal};
@@ -26,7 +26,7 @@ pub struct SchemaDoc {
 }
 
 impl Model for SchemaDoc {
-    ghost use Rattle.cs_profile.specs.SchemaDocument.{SchemaValue};
+    ghost use Rattle.cs_profile.specs.SchemaDocument.{SchemaValue, schema_value};
     ghost use Rattle.cs_profile.specs.Numbered.{AreRanks};
 
     ghost Value = { SchemaValue };
@@ -36,9 +36,10 @@ impl Model for SchemaDoc {
 
     ghost coded = { Prim.hlevel (codes, row.the_row.coded) };
 
-    ghost view = { λ s. record { root = s.root; definitions = s.definitions.entries } };
+    ghost view = { λ s. schema_value s.root s.definitions.entries };
 
-    ghost invariant = { λ s. AreRanks (record { root = s.root; definitions = s.definitions.entries }) s.numbers.entries s.ranks.items };
+    ghost invariant = { λ s.
+        AreRanks (schema_value s.root s.definitions.entries) s.numbers.entries s.ranks.items };
 }
 
 impl SchemaDoc {
@@ -48,8 +49,8 @@ impl SchemaDoc {
         root: Schema,
         definitions: BTreeMap<String, Schema>,
     ) -> Result<SchemaDoc, SchemaFault>
-        requires { IsWhole (record { root = root; definitions = definitions.entries }) }
-        ensures found { IfOk result (λ s. s ≡ record { root = root; definitions = definitions.entries }) }
+        requires { IsWhole (schema_value root definitions.entries) }
+        ensures found { IfOk result (λ s. s ≡ schema_value root definitions.entries) }
         ensures memory { IsOkUnless result SchemaFault.OutOfMemory }
     {
         SchemaDoc::checked(alloc, root, definitions)
@@ -65,11 +66,14 @@ impl SchemaDoc {
         root: Schema,
         definitions: BTreeMap<String, Schema>,
     ) -> Result<SchemaDoc, SchemaFault>
-        requires { IsWellFormed (record { root = root; definitions = definitions.entries }) }
-        ensures found { IfOk result (λ s. s ≡ record { root = root; definitions = definitions.entries }) }
-        ensures acyclic { OnOk result (NoLoop (document_of (record { root = root; definitions = definitions.entries }))) }
-        ensures refused { IfErr result (λ e. IsLoopRefusal e (document_of (record { root = root; definitions = definitions.entries }))) }
-        ensures only { NoLoop (document_of (record { root = root; definitions = definitions.entries })) → IsOkUnless result SchemaFault.OutOfMemory }
+        requires { IsWellFormed (schema_value root definitions.entries) }
+        ensures found { IfOk result (λ s. s ≡ schema_value root definitions.entries) }
+        ensures acyclic { OnOk result
+            (NoLoop (document_of (schema_value root definitions.entries))) }
+        ensures refused { IfErr result
+            (λ e. IsLoopRefusal e (document_of (schema_value root definitions.entries))) }
+        ensures only { NoLoop (document_of (schema_value root definitions.entries))
+            → IsOkUnless result SchemaFault.OutOfMemory }
     {
         let numbers = numbers_of_definitions(alloc, &definitions)?;
         let graph = graph_of_definitions(alloc, &definitions, &numbers)?;
@@ -118,8 +122,10 @@ impl SchemaDoc {
 
     /// The definition of a name, which is what the document has under that name in its `$defs`.
     pub fn definition(&self, name: &str) -> Option<&Schema>
-        ensures found { option_map (λ s. schema_view s.now) result ≡ definition_of self.now name.now }
-        ensures defined { defined (document_of self.now) name.now ≡ definition_of self.now name.now }
+        ensures found { option_map (λ s. schema_view s.now) result
+            ≡ definition_of self.now name.now }
+        ensures defined { defined (document_of self.now) name.now
+            ≡ definition_of self.now name.now }
     {
         self.definitions.get(name)
     }

@@ -1,10 +1,11 @@
 -- What the reader makes of a keyword's value, and of an object.
-use Rattle.std.specs.Prelude.{◌≡◌, ℕ, Bool, true, false, List, ◌∷◌, [], ◌++◌, Option, Some, None, codes, map, String, string_bytes, is_some, if◌then◌else◌}
-use Rattle.cs_document.specs.Document.{Document, under}
+use Rattle.std.specs.Prelude.{◌≡◌, ℕ, Bool, true, false, List, ◌∷◌, [], ◌++◌, Option, Some, None, codes, map, option_map, String, string_bytes, is_some, Result, IfOk, IfSome, if◌then◌else◌}
+use Rattle.cs_document.specs.Document.{Document, Documents, under}
+use Rattle.cs_document.specs.View.{documents_of}
 use Rattle.cs_profile.specs.Shapes.{has_form, keeping, is_kept, by_form}
-use Rattle.cs_profile.specs.Profile.{Fault, unknown, misshapen, undefined, Visit}
+use Rattle.cs_profile.specs.Profile.{Fault, unknown, misshapen, undefined, Visit, first, fault_of, undefined_at}
 use Rattle.cs_profile.specs.Values.{value_visits, value_trims}
-use Rattle.cs_profile.specs.SchemaDocument.{Slot, slots_of, unless_no_map, schema_view, definitions_view, value_at}
+use Rattle.cs_profile.specs.SchemaDocument.{Slot, slots_of, unless_no_map, text_document, schema_view, definitions_view, value_at}
 use Rattle.cs_profile.specs.declared.keyword.Form.{Form}
 use Rattle.cs_profile.specs.declared.schema.Schema.{Schema}
 use Rattle.cs_profile.specs.declared.schema.KeywordValue.{KeywordValue}
@@ -17,6 +18,10 @@ use Rattle.cs_schema.specs.declared.parts.Parts.{Parts}
 abbrev pub inside : Form → Document → List Visit
 inside f v = by_form f (value_visits [] v)
 
+-- the first fault of a keyword or a value that the walk meets
+abbrev pub fault_in : List Visit → Option Fault
+fault_in vs = first fault_of vs
+
 -- what trimming leaves of a value of a form
 abbrev pub kept_value : Form → Document → Option Document
 kept_value f v = if is_kept (keeping f) v then Some (by_form f (value_trims v)) else None
@@ -26,6 +31,17 @@ abbrev pub IsReadAs : Form → Document → Option KeywordValue → Type 0
 IsReadAs f d None = has_form f d ≡ false
 IsReadAs f d (Some v) = (has_form f d ≡ true) × (value_at f v ≡ kept_value f d)
 
+-- what a function that may run out of memory finds has P; where it finds nothing, Q
+abbrev pub IfFound : {T E : Type 0} → Result (Option T) E → (T → Type 0) → Type 0
+IfFound r P = IfOk r (λ o. IfSome o P)
+
+abbrev pub IfNothing : {T E : Type 0} → Result (Option T) E → Type 0 → Type 0
+IfNothing r Q = IfOk r (λ o. o ≡ None → Q)
+
+-- the elements of an array of texts
+abbrev pub texts_view : List (String Global) → Documents
+texts_view ts = documents_of (map text_document ts)
+
 -- the keywords of an object with its definitions
 abbrev pub slots : Parts → List Slot
 slots p = (codes "$defs", unless_no_map (definitions_view p.definitions.entries)) ∷ slots_of p.keywords
@@ -33,6 +49,10 @@ slots p = (codes "$defs", unless_no_map (definitions_view p.definitions.entries)
 -- whether a name is among the definitions
 abbrev pub is_defined_in : List (String Global × Schema) → List ℕ → Bool
 is_defined_in es n = is_some (under n (map (λ m. (string_bytes m.0, schema_view m.1)) es))
+
+-- the first `$ref` that the walk meets to a name that is not among the definitions
+abbrev pub undefined_in : List (String Global × Schema) → List Visit → Option Fault
+undefined_in es vs = first (undefined_at (is_defined_in es)) vs
 
 -- a fault of what is at a place, with that place in front of its own
 abbrev pub below : List ℕ → Fault → Fault
@@ -47,3 +67,7 @@ Refuses (fault.Keyword p n) o = o ≡ Some (unknown (string_bytes p) (string_byt
 Refuses (fault.Shape p n) o = o ≡ Some (misshapen (string_bytes p) (string_bytes n))
 Refuses (fault.Reference p n) o = o ≡ Some (undefined (string_bytes p) (string_bytes n))
 Refuses (fault.Loop ns) o = ⊥
+
+-- the second refusal names the fault of the first below a place
+abbrev pub IsBelow : List ℕ → SchemaFault → SchemaFault → Type 0
+IsBelow place e f = (o : Option Fault) → Refuses e o → Refuses f (option_map (below place) o)

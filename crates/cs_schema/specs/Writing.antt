@@ -2,9 +2,16 @@
 use Rattle.std.specs.Str.{bytes_eq}
 use Rattle.cs_profile.specs.Keywords.{name_of}
 use Rattle.cs_profile.specs.declared.keyword.Keyword.{Keyword}
-use Rattle.std.specs.Prelude.{ℕ, List, [], ◌∷◌, Option, Some, None, if◌then◌else◌}
+use Rattle.std.specs.Prelude.{ℕ, List, [], ◌∷◌, ◌≡◌, Option, Some, None, Result, IfOk, option_map, if◌then◌else◌}
+use Rattle.std.specs.declared.alloc.AllocError.{AllocError}
 use Rattle.cs_document.specs.Document.{Document, Members, put}
+use Rattle.cs_document.specs.View.{doc_view}
+use Rattle.cs_document.specs.declared.doc.Doc.{Doc}
 use Rattle.cs_profile.specs.SchemaDocument.{Slot}
+
+-- what is written of a value, if anything, unless memory runs out
+abbrev pub Writes : Result (Option Doc) AllocError → Option Document → Type 0
+Writes r d = IfOk r (λ o. option_map doc_view o ≡ d)
 
 -- a keyword with a value is put to the others
 abbrev pub put_some : List ℕ → Option Document → Members → Members

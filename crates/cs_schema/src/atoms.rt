@@ -1,11 +1,12 @@
 // Values of keywords that hold no schema.
-ghost use Rattle.std.specs.Prelude.{◌≡◌, Some, None, false, true, IfSome, IfOk};
+ghost use Rattle.std.specs.Prelude.{◌≡◌, None, false, true, IfSome, IfOk};
 ghost use Rattle.std.specs.List.{list_all};
 ghost use Rattle.cs_document.specs.Document.{text, integer, list};
 ghost use Rattle.cs_document.specs.View.{doc_view, list_view};
 ghost use Rattle.cs_profile.specs.Shapes.{has_form, is_name as text_is_name, is_name_code as code_is_name};
 ghost use Rattle.cs_profile.specs.declared.keyword.Form.TheVariants as form;
 ghost use Rattle.cs_profile.specs.SchemaDocument.{kind_name, reference_document};
+ghost use Rattle.cs_schema.specs.Reading.{IfFound, IfNothing};
 
 use cs_document::Doc;
 use cs_profile::JsonKind;
@@ -96,8 +97,8 @@ pub(crate) fn is_text(value: &Doc) -> bool
 
 /// The documents of the array that a value is.
 pub(crate) fn array_of(alloc: Global, value: &Doc) -> Result<Option<Vec<Doc>>, AllocError>
-    ensures some { IfOk result (λ o. IfSome o (λ v. doc_view value.now ≡ list (list_view v.items))) }
-    ensures none { IfOk result (λ o. o ≡ None → has_form form.Array (doc_view value.now) ≡ false) }
+    ensures some { IfFound result (λ v. doc_view value.now ≡ list (list_view v.items)) }
+    ensures none { IfNothing result (has_form form.Array (doc_view value.now) ≡ false) }
 {
     match value {
         Doc::List(items) => Ok(Some(copies_of(alloc, items)?)),
@@ -117,9 +118,9 @@ pub(crate) fn is_dialect(value: &Doc) -> bool
 
 /// The name that the value of a `$ref` refers to.
 pub(crate) fn reference_of(alloc: Global, value: &Doc) -> Result<Option<String>, AllocError>
-    ensures some { IfOk result (λ o. IfSome o (λ n. doc_view value.now ≡ reference_document n)) }
-    ensures accepted { IfOk result (λ o. IfSome o (λ n. has_form form.Reference (doc_view value.now) ≡ true)) }
-    ensures none { IfOk result (λ o. o ≡ None → has_form form.Reference (doc_view value.now) ≡ false) }
+    ensures some { IfFound result (λ n. doc_view value.now ≡ reference_document n) }
+    ensures accepted { IfFound result (λ n. has_form form.Reference (doc_view value.now) ≡ true) }
+    ensures none { IfNothing result (has_form form.Reference (doc_view value.now) ≡ false) }
 {
     match value {
         Doc::Text(text) => match text.strip_prefix("#/$defs/") {

@@ -3,9 +3,9 @@
 ghost use Rattle.std.specs.Prelude.{◌≡◌, None, OnOk, IfErr, [], false};
 ghost use Rattle.cs_document.specs.View.{doc_view, list_view, object_view};
 ghost use Rattle.cs_profile.specs.declared.keyword.Form.TheVariants as forms;
-ghost use Rattle.cs_profile.specs.Profile.{first, undefined_at, reference_fault, visits, member_visits, element_visits, named_visits};
+ghost use Rattle.cs_profile.specs.Profile.{reference_fault, visits, member_visits, element_visits, named_visits};
 ghost use Rattle.cs_profile.specs.Values.{keyword_visits};
-ghost use Rattle.cs_schema.specs.Reading.{Refuses, inside, is_defined_in};
+ghost use Rattle.cs_schema.specs.Reading.{Refuses, inside, is_defined_in, undefined_in};
 
 use crate::SchemaFault;
 use crate::places::{below_index, below_key, undefined_reference};
@@ -26,9 +26,9 @@ pub(crate) fn check_members(
     members: &BTreeMap<String, Doc>,
     definitions: &Definitions,
 ) -> Result<(), SchemaFault>
-    ensures accepted { OnOk result (first (undefined_at (is_defined_in definitions.now.entries))
+    ensures accepted { OnOk result (undefined_in definitions.now.entries
         (member_visits root [] (object_view members.now.entries)) ≡ None) }
-    ensures refused { IfErr result (λ e. Refuses e (first (undefined_at (is_defined_in definitions.now.entries))
+    ensures refused { IfErr result (λ e. Refuses e (undefined_in definitions.now.entries
         (member_visits root [] (object_view members.now.entries)))) }
 {
     for (key, value) in members {
@@ -46,9 +46,9 @@ fn check_keyword(
     value: &Doc,
     definitions: &Definitions,
 ) -> Result<(), SchemaFault>
-    ensures accepted { OnOk result (first (undefined_at (is_defined_in definitions.now.entries))
+    ensures accepted { OnOk result (undefined_in definitions.now.entries
         (keyword_visits root [] key.now (doc_view value.now)) ≡ None) }
-    ensures refused { IfErr result (λ e. Refuses e (first (undefined_at (is_defined_in definitions.now.entries))
+    ensures refused { IfErr result (λ e. Refuses e (undefined_in definitions.now.entries
         (keyword_visits root [] key.now (doc_view value.now)))) }
 {
     if key == "$ref" {
@@ -91,9 +91,9 @@ fn check_form(
     value: &Doc,
     definitions: &Definitions,
 ) -> Result<(), SchemaFault>
-    ensures accepted { OnOk result (first (undefined_at (is_defined_in definitions.now.entries))
+    ensures accepted { OnOk result (undefined_in definitions.now.entries
         (inside form (doc_view value.now)) ≡ None) }
-    ensures refused { IfErr result (λ e. Refuses e (first (undefined_at (is_defined_in definitions.now.entries))
+    ensures refused { IfErr result (λ e. Refuses e (undefined_in definitions.now.entries
         (inside form (doc_view value.now)))) }
 {
     match form {
@@ -107,9 +107,9 @@ fn check_form(
 /// Checks the references in a schema below the root.
 #[cycle(names)]
 fn check_value(alloc: Global, doc: &Doc, definitions: &Definitions) -> Result<(), SchemaFault>
-    ensures accepted { OnOk result (first (undefined_at (is_defined_in definitions.now.entries))
+    ensures accepted { OnOk result (undefined_in definitions.now.entries
         (visits false [] (doc_view doc.now)) ≡ None) }
-    ensures refused { IfErr result (λ e. Refuses e (first (undefined_at (is_defined_in definitions.now.entries))
+    ensures refused { IfErr result (λ e. Refuses e (undefined_in definitions.now.entries
         (visits false [] (doc_view doc.now)))) }
 {
     match doc {
@@ -121,9 +121,9 @@ fn check_value(alloc: Global, doc: &Doc, definitions: &Definitions) -> Result<()
 /// Checks the references in the schemas of an array, if the value is one.
 #[cycle(names)]
 fn check_some(alloc: Global, value: &Doc, definitions: &Definitions) -> Result<(), SchemaFault>
-    ensures accepted { OnOk result (first (undefined_at (is_defined_in definitions.now.entries))
+    ensures accepted { OnOk result (undefined_in definitions.now.entries
         (inside forms.Schemas (doc_view value.now)) ≡ None) }
-    ensures refused { IfErr result (λ e. Refuses e (first (undefined_at (is_defined_in definitions.now.entries))
+    ensures refused { IfErr result (λ e. Refuses e (undefined_in definitions.now.entries
         (inside forms.Schemas (doc_view value.now)))) }
 {
     match value {
@@ -135,9 +135,9 @@ fn check_some(alloc: Global, value: &Doc, definitions: &Definitions) -> Result<(
 /// Checks the references in the schemas of an object, if the value is one.
 #[cycle(names)]
 fn check_named(alloc: Global, value: &Doc, definitions: &Definitions) -> Result<(), SchemaFault>
-    ensures accepted { OnOk result (first (undefined_at (is_defined_in definitions.now.entries))
+    ensures accepted { OnOk result (undefined_in definitions.now.entries
         (inside forms.NamedSchemas (doc_view value.now)) ≡ None) }
-    ensures refused { IfErr result (λ e. Refuses e (first (undefined_at (is_defined_in definitions.now.entries))
+    ensures refused { IfErr result (λ e. Refuses e (undefined_in definitions.now.entries
         (inside forms.NamedSchemas (doc_view value.now)))) }
 {
     match value {
@@ -149,9 +149,9 @@ fn check_named(alloc: Global, value: &Doc, definitions: &Definitions) -> Result<
 /// Checks the references in the schemas of an array.
 #[cycle(names)]
 fn check_list(alloc: Global, items: &Vec<Doc>, definitions: &Definitions) -> Result<(), SchemaFault>
-    ensures accepted { OnOk result (first (undefined_at (is_defined_in definitions.now.entries))
+    ensures accepted { OnOk result (undefined_in definitions.now.entries
         (element_visits [] 0 (list_view items.now.items)) ≡ None) }
-    ensures refused { IfErr result (λ e. Refuses e (first (undefined_at (is_defined_in definitions.now.entries))
+    ensures refused { IfErr result (λ e. Refuses e (undefined_in definitions.now.entries
         (element_visits [] 0 (list_view items.now.items)))) }
 {
     for (i, item) in items.iter().enumerate() {
@@ -170,9 +170,9 @@ fn check_map(
     members: &BTreeMap<String, Doc>,
     definitions: &Definitions,
 ) -> Result<(), SchemaFault>
-    ensures accepted { OnOk result (first (undefined_at (is_defined_in definitions.now.entries))
+    ensures accepted { OnOk result (undefined_in definitions.now.entries
         (named_visits [] (object_view members.now.entries)) ≡ None) }
-    ensures refused { IfErr result (λ e. Refuses e (first (undefined_at (is_defined_in definitions.now.entries))
+    ensures refused { IfErr result (λ e. Refuses e (undefined_in definitions.now.entries
         (named_visits [] (object_view members.now.entries)))) }
 {
     for (key, value) in members {

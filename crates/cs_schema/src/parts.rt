@@ -12,9 +12,8 @@ pub(crate) struct Parts {
 impl Parts {
     ghost use Rattle.std.specs.Prelude.{◌≡◌, [], false, true};
     ghost use Rattle.cs_document.specs.Document.{no_members};
-    ghost use Rattle.cs_profile.specs.Keywords.{name_of};
-    ghost use Rattle.cs_profile.specs.Shapes.{form_of, stands};
-    ghost use Rattle.cs_profile.specs.SchemaDocument.{present, set_slot, value_at};
+    ghost use Rattle.cs_profile.specs.Shapes.{stands};
+    ghost use Rattle.cs_profile.specs.SchemaDocument.{present, with_value};
     ghost use Rattle.cs_schema.specs.Reading.{slots};
 
     /// No keywords and no definitions.
@@ -42,8 +41,9 @@ impl Parts {
 
     /// The parts with a value for a keyword.
     pub(crate) fn set(self, alloc: Global, keyword: Keyword, value: KeywordValue) -> Parts
-        ensures slots { slots result ≡ set_slot (name_of keyword) (value_at (form_of keyword) value) (slots self) }
-        ensures below { stands false keyword ≡ true → result.definitions.entries ≡ self.definitions.entries }
+        ensures slots { slots result ≡ with_value keyword value (slots self) }
+        ensures below { stands false keyword ≡ true
+            → result.definitions.entries ≡ self.definitions.entries }
     {
         match keyword {
             Keyword::Defs => Parts {

@@ -1,10 +1,10 @@
 // The places of faults, as JSON pointers (RFC 6901, sections 3 and 4). A fault has the empty place where it is found,
 // and each level on the way back puts its own step in front. So a document without a fault makes no place, and one
 // with a fault copies its place once a level.
-ghost use Rattle.std.specs.Prelude.{◌≡◌, [], Option, Some, IfOk, OnOk, option_map, string_bytes};
+ghost use Rattle.std.specs.Prelude.{◌≡◌, [], Some, IfOk, OnOk, string_bytes};
 ghost use Rattle.cs_profile.specs.Places.{at_key, at_index};
-ghost use Rattle.cs_profile.specs.Profile.{Fault, unknown, misshapen, undefined};
-ghost use Rattle.cs_schema.specs.Reading.{Refuses, below};
+ghost use Rattle.cs_profile.specs.Profile.{unknown, misshapen, undefined};
+ghost use Rattle.cs_schema.specs.Reading.{Refuses, IsBelow};
 
 use crate::SchemaFault;
 use std::alloc::{AllocError, Global};
@@ -42,7 +42,7 @@ pub(crate) fn below_key(
     key: &str,
     mut fault: SchemaFault,
 ) -> Result<SchemaFault, AllocError>
-    ensures { IfOk result (λ e. (o : Option Fault) → Refuses fault o → Refuses e (option_map (below (at_key [] key.now)) o)) }
+    ensures { IfOk result (IsBelow (at_key [] key.now) fault) }
 {
     let step = at_key(alloc, key)?;
     put_in_front(&step, &mut fault)?;
@@ -55,7 +55,7 @@ pub(crate) fn below_index(
     i: usize,
     mut fault: SchemaFault,
 ) -> Result<SchemaFault, AllocError>
-    ensures { IfOk result (λ e. (o : Option Fault) → Refuses fault o → Refuses e (option_map (below (at_index [] i)) o)) }
+    ensures { IfOk result (IsBelow (at_index [] i) fault) }
 {
     let step = at_index(alloc, i)?;
     put_in_front(&step, &mut fault)?;
@@ -64,7 +64,7 @@ pub(crate) fn below_index(
 
 /// Puts a step in front of a fault's place, if it has one.
 fn put_in_front(step: &str, fault: &mut SchemaFault) -> Result<(), AllocError>
-    ensures { OnOk result ((o : Option Fault) → Refuses fault.old o → Refuses fault.new (option_map (below step.now) o)) }
+    ensures { OnOk result (IsBelow step.now fault.old fault.new) }
 {
     match fault {
         SchemaFault::Keyword { place, .. } => place.insert_str(0, step),

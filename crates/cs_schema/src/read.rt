@@ -5,13 +5,13 @@ ghost use Rattle.cs_profile.specs.declared.keyword.Form.TheVariants as forms;
 ghost use Rattle.cs_profile.specs.declared.schema.KeywordValue.TheVariants as values;
 ghost use Rattle.cs_profile.specs.Keywords.{name_of};
 ghost use Rattle.cs_profile.specs.Shapes.{form_of, form_at, stands};
-ghost use Rattle.cs_profile.specs.Profile.{first, fault_of, visits, member_visits, element_visits, named_visits, IsSchema};
+ghost use Rattle.cs_profile.specs.Profile.{visits, member_visits, element_visits, named_visits, IsSchema};
 ghost use Rattle.cs_profile.specs.Values.{keyword_visits, trimmed_value};
 ghost use Rattle.cs_profile.specs.Refusal.{IsRefusal};
 ghost use Rattle.cs_profile.specs.Trim.{trim, KeepsValidity, trimmed, trimmed_members, trimmed_elements, trimmed_named};
 ghost use Rattle.cs_profile.specs.Validity.{OneMeaning};
 ghost use Rattle.cs_profile.specs.SchemaDocument.{schema_view, schemas_view, definitions_view, present, document_of, value_at};
-ghost use Rattle.cs_schema.specs.Reading.{Refuses, IsReadAs, slots, inside};
+ghost use Rattle.cs_schema.specs.Reading.{Refuses, IsReadAs, IfFound, IfNothing, fault_in, slots, inside};
 
 use crate::atoms::{
     array_of, copied, count_of, integer_of, is_dialect, is_text, kind_of, reference_of,
@@ -58,9 +58,10 @@ pub fn read_schema(alloc: Global, doc: &Doc) -> Result<SchemaDoc, SchemaFault>
 /// The schema that a document below the root is.
 #[cycle(read)]
 fn read_value(alloc: Global, doc: &Doc) -> Result<Schema, SchemaFault>
-    ensures accepted { OnOk result (first fault_of (visits false [] (doc_view doc.now)) ≡ None) }
+    ensures accepted { OnOk result (fault_in (visits false [] (doc_view doc.now)) ≡ None) }
     ensures found { IfOk result (λ s. schema_view s ≡ trimmed false (doc_view doc.now)) }
-    ensures refused { IfErr result (λ e. Refuses e (first fault_of (visits false [] (doc_view doc.now)))) }
+    ensures refused { IfErr result
+        (λ e. Refuses e (fault_in (visits false [] (doc_view doc.now)))) }
 {
     match doc {
         Doc::Bool(b) => Ok(Schema::Always(*b)),
@@ -80,12 +81,12 @@ fn read_members(
     members: &BTreeMap<String, Doc>,
 ) -> Result<Parts, SchemaFault>
     ensures accepted { OnOk result
-        (first fault_of (member_visits root [] (object_view members.now.entries)) ≡ None) }
+        (fault_in (member_visits root [] (object_view members.now.entries)) ≡ None) }
     ensures found { IfOk result (λ p. present (slots p)
         ≡ trimmed_members root (object_view members.now.entries)) }
     ensures below { IfOk result (λ p. root ≡ false → p.definitions.entries ≡ []) }
     ensures refused { IfErr result (λ e. Refuses e
-        (first fault_of (member_visits root [] (object_view members.now.entries)))) }
+        (fault_in (member_visits root [] (object_view members.now.entries)))) }
 {
     let mut parts = Parts::new(alloc);
     for (key, value) in members {
@@ -104,13 +105,13 @@ fn read_keyword(
     value: &Doc,
 ) -> Result<(Keyword, KeywordValue), SchemaFault>
     ensures accepted { OnOk result
-        (first fault_of (keyword_visits root [] key.now (doc_view value.now)) ≡ None) }
+        (fault_in (keyword_visits root [] key.now (doc_view value.now)) ≡ None) }
     ensures found { IfOk result
         (λ t. value_at (form_of t.0) t.1 ≡ trimmed_value root key.now (doc_view value.now)) }
     ensures name { IfOk result (λ t. name_of t.0 ≡ key.now) }
     ensures stands { IfOk result (λ t. stands root t.0 ≡ true) }
     ensures refused { IfErr result (λ e. Refuses e
-        (first fault_of (keyword_visits root [] key.now (doc_view value.now)))) }
+        (fault_in (keyword_visits root [] key.now (doc_view value.now)))) }
 {
     let Some(keyword) = keyword_at(root, key) else {
         return Err(unknown_keyword(alloc, key)?);
@@ -140,9 +141,9 @@ pub(crate) fn keyword_at(root: bool, key: &str) -> Option<Keyword>
 /// A keyword's value, by its form; `None` where it doesn't have that form.
 #[cycle(read)]
 fn read_form(alloc: Global, form: Form, value: &Doc) -> Result<Option<KeywordValue>, SchemaFault>
-    ensures accepted { OnOk result (first fault_of (inside form (doc_view value.now)) ≡ None) }
+    ensures accepted { OnOk result (fault_in (inside form (doc_view value.now)) ≡ None) }
     ensures found { IfOk result (IsReadAs form (doc_view value.now)) }
-    ensures refused { IfErr result (λ e. Refuses e (first fault_of (inside form (doc_view value.now)))) }
+    ensures refused { IfErr result (λ e. Refuses e (fault_in (inside form (doc_view value.now)))) }
 {
     Ok(match form {
         Form::Dialect => is_dialect(value).then_some(KeywordValue::Nothing),
@@ -163,10 +164,12 @@ fn read_form(alloc: Global, form: Form, value: &Doc) -> Result<Option<KeywordVal
 /// The schemas of a nonempty array.
 #[cycle(read)]
 fn read_some(alloc: Global, value: &Doc) -> Result<Option<Vec<Schema>>, SchemaFault>
-    ensures accepted { OnOk result (first fault_of (inside forms.Schemas (doc_view value.now)) ≡ None) }
-    ensures some { IfOk result (λ o. IfSome o (λ v. IsReadAs forms.Schemas (doc_view value.now) (Some (values.Schemas v)))) }
-    ensures none { IfOk result (λ o. o ≡ None → IsReadAs forms.Schemas (doc_view value.now) None) }
-    ensures refused { IfErr result (λ e. Refuses e (first fault_of (inside forms.Schemas (doc_view value.now)))) }
+    ensures accepted { OnOk result (fault_in (inside forms.Schemas (doc_view value.now)) ≡ None) }
+    ensures some { IfFound result
+        (λ v. IsReadAs forms.Schemas (doc_view value.now) (Some (values.Schemas v))) }
+    ensures none { IfNothing result (IsReadAs forms.Schemas (doc_view value.now) None) }
+    ensures refused { IfErr result
+        (λ e. Refuses e (fault_in (inside forms.Schemas (doc_view value.now)))) }
 {
     match value {
         Doc::List(items) => if items.is_empty() {
@@ -181,10 +184,13 @@ fn read_some(alloc: Global, value: &Doc) -> Result<Option<Vec<Schema>>, SchemaFa
 /// The schemas of an object, by their names.
 #[cycle(read)]
 fn read_named(alloc: Global, value: &Doc) -> Result<Option<BTreeMap<String, Schema>>, SchemaFault>
-    ensures accepted { OnOk result (first fault_of (inside forms.NamedSchemas (doc_view value.now)) ≡ None) }
-    ensures some { IfOk result (λ o. IfSome o (λ m. IsReadAs forms.NamedSchemas (doc_view value.now) (Some (values.NamedSchemas m)))) }
-    ensures none { IfOk result (λ o. o ≡ None → IsReadAs forms.NamedSchemas (doc_view value.now) None) }
-    ensures refused { IfErr result (λ e. Refuses e (first fault_of (inside forms.NamedSchemas (doc_view value.now)))) }
+    ensures accepted { OnOk result
+        (fault_in (inside forms.NamedSchemas (doc_view value.now)) ≡ None) }
+    ensures some { IfFound result
+        (λ m. IsReadAs forms.NamedSchemas (doc_view value.now) (Some (values.NamedSchemas m))) }
+    ensures none { IfNothing result (IsReadAs forms.NamedSchemas (doc_view value.now) None) }
+    ensures refused { IfErr result
+        (λ e. Refuses e (fault_in (inside forms.NamedSchemas (doc_view value.now)))) }
 {
     match value {
         Doc::Object(members) => Ok(Some(read_map(alloc, members)?)),
@@ -196,11 +202,11 @@ fn read_named(alloc: Global, value: &Doc) -> Result<Option<BTreeMap<String, Sche
 #[cycle(read)]
 fn read_list(alloc: Global, items: &Vec<Doc>) -> Result<Vec<Schema>, SchemaFault>
     ensures accepted { OnOk result
-        (first fault_of (element_visits [] 0 (list_view items.now.items)) ≡ None) }
+        (fault_in (element_visits [] 0 (list_view items.now.items)) ≡ None) }
     ensures found { IfOk result
         (λ v. documents_of (schemas_view v.items) ≡ trimmed_elements (list_view items.now.items)) }
     ensures refused { IfErr result
-        (λ e. Refuses e (first fault_of (element_visits [] 0 (list_view items.now.items)))) }
+        (λ e. Refuses e (fault_in (element_visits [] 0 (list_view items.now.items)))) }
 {
     let mut schemas = Vec::with_capacity(alloc, items.len())?;
     for (i, item) in items.iter().enumerate() {
@@ -219,11 +225,11 @@ fn read_map(
     members: &BTreeMap<String, Doc>,
 ) -> Result<BTreeMap<String, Schema>, SchemaFault>
     ensures accepted { OnOk result
-        (first fault_of (named_visits [] (object_view members.now.entries)) ≡ None) }
+        (fault_in (named_visits [] (object_view members.now.entries)) ≡ None) }
     ensures found { IfOk result (λ m. members_of (definitions_view m.entries)
         ≡ trimmed_named (object_view members.now.entries)) }
     ensures refused { IfErr result
-        (λ e. Refuses e (first fault_of (named_visits [] (object_view members.now.entries)))) }
+        (λ e. Refuses e (fault_in (named_visits [] (object_view members.now.entries)))) }
 {
     let mut schemas = BTreeMap::new(alloc);
     for (key, value) in members {

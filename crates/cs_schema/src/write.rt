@@ -6,7 +6,7 @@ ghost use Rattle.cs_profile.specs.Profile.{IsSchema};
 ghost use Rattle.cs_profile.specs.Trim.{trim};
 ghost use Rattle.cs_profile.specs.SchemaDocument.{kind_name, schema_view, schemas_view, definitions_view, slots_of, present, unless_no_list, unless_no_map, reference_document, text_document, document_of};
 ghost use Rattle.cs_profile.specs.Keywords.{name_of};
-ghost use Rattle.cs_schema.specs.Writing.{put_some, slot_value};
+ghost use Rattle.cs_schema.specs.Writing.{Writes, put_some, slot_value};
 
 use crate::atoms::{copied, copies_of, name_of};
 use crate::{SchemaDoc, SchemaFault};
@@ -88,7 +88,7 @@ fn keyword_doc(
     keywords: &Keywords,
     keyword: Keyword,
 ) -> Result<Option<Doc>, AllocError>
-    ensures { IfOk result (λ o. option_map doc_view o ≡ slot_value (name_of keyword) (slots_of keywords.now)) }
+    ensures { Writes result (slot_value (name_of keyword) (slots_of keywords.now)) }
 {
     match keyword {
         Keyword::Ref => reference_doc(alloc, &keywords.reference),
@@ -120,7 +120,7 @@ fn keyword_doc(
 /// A schema, where there is one.
 #[cycle(write)]
 fn option_doc(alloc: Global, schema: &Option<Schema>) -> Result<Option<Doc>, AllocError>
-    ensures { IfOk result (λ o. option_map doc_view o ≡ option_map schema_view schema.now) }
+    ensures { Writes result (option_map schema_view schema.now) }
 {
     match schema {
         Some(schema) => Ok(Some(schema_doc(alloc, schema)?)),
@@ -131,7 +131,7 @@ fn option_doc(alloc: Global, schema: &Option<Schema>) -> Result<Option<Doc>, All
 /// A list of schemas, unless it is empty.
 #[cycle(write)]
 fn list_doc(alloc: Global, schemas: &Vec<Schema>) -> Result<Option<Doc>, AllocError>
-    ensures { IfOk result (λ o. option_map doc_view o ≡ unless_no_list (schemas_view schemas.now.items)) }
+    ensures { Writes result (unless_no_list (schemas_view schemas.now.items)) }
 {
     if schemas.is_empty() {
         return Ok(None);
@@ -146,7 +146,7 @@ fn list_doc(alloc: Global, schemas: &Vec<Schema>) -> Result<Option<Doc>, AllocEr
 /// A map of schemas, unless it is empty.
 #[cycle(write)]
 fn map_doc(alloc: Global, schemas: &BTreeMap<String, Schema>) -> Result<Option<Doc>, AllocError>
-    ensures { IfOk result (λ o. option_map doc_view o ≡ unless_no_map (definitions_view schemas.now.entries)) }
+    ensures { Writes result (unless_no_map (definitions_view schemas.now.entries)) }
 {
     if schemas.is_empty() {
         return Ok(None);
@@ -173,7 +173,7 @@ fn integer_doc(n: Option<i64>) -> Option<Doc>
 }
 
 fn reference_doc(alloc: Global, name: &Option<String>) -> Result<Option<Doc>, AllocError>
-    ensures { IfOk result (λ o. option_map doc_view o ≡ option_map reference_document name.now) }
+    ensures { Writes result (option_map reference_document name.now) }
 {
     match name {
         Some(name) => Ok(Some(Doc::Text(format!(in alloc; "#/$defs/{name}")?))),
@@ -182,7 +182,7 @@ fn reference_doc(alloc: Global, name: &Option<String>) -> Result<Option<Doc>, Al
 }
 
 fn kind_doc(alloc: Global, kind: Option<JsonKind>) -> Result<Option<Doc>, AllocError>
-    ensures { IfOk result (λ o. option_map doc_view o ≡ option_map (λ k. a_text (kind_name k)) kind) }
+    ensures { Writes result (option_map (λ k. a_text (kind_name k)) kind) }
 {
     match kind {
         Some(kind) => Ok(Some(text_doc(alloc, name_of(kind))?)),
@@ -191,7 +191,7 @@ fn kind_doc(alloc: Global, kind: Option<JsonKind>) -> Result<Option<Doc>, AllocE
 }
 
 fn equal_doc(alloc: Global, value: &Option<Doc>) -> Result<Option<Doc>, AllocError>
-    ensures { IfOk result (λ o. option_map doc_view o ≡ option_map doc_view value.now) }
+    ensures { Writes result (option_map doc_view value.now) }
 {
     match value {
         Some(value) => Ok(Some(copied(alloc, value)?)),
@@ -200,7 +200,7 @@ fn equal_doc(alloc: Global, value: &Option<Doc>) -> Result<Option<Doc>, AllocErr
 }
 
 fn one_of_doc(alloc: Global, values: &Option<Vec<Doc>>) -> Result<Option<Doc>, AllocError>
-    ensures { IfOk result (λ o. option_map doc_view o ≡ option_map (λ v. list (list_view v.items)) values.now) }
+    ensures { Writes result (option_map (λ v. list (list_view v.items)) values.now) }
 {
     match values {
         Some(values) => Ok(Some(Doc::List(copies_of(alloc, values)?))),
@@ -210,7 +210,7 @@ fn one_of_doc(alloc: Global, values: &Option<Vec<Doc>>) -> Result<Option<Doc>, A
 
 /// A list of texts, unless it is empty.
 fn texts_doc(alloc: Global, texts: &Vec<String>) -> Result<Option<Doc>, AllocError>
-    ensures { IfOk result (λ o. option_map doc_view o ≡ unless_no_list (map text_document texts.now.items)) }
+    ensures { Writes result (unless_no_list (map text_document texts.now.items)) }
 {
     if texts.is_empty() {
         return Ok(None);

@@ -1,12 +1,15 @@
 -- What the parser's calls answer and leave.
-use Rattle.std.specs.Prelude.{◌≡◌, ◌+◌, Bool, true, false, List, [], ◌∷◌, drop, reverse, Option, Some, None, Result, Ok, Err}
+use Rattle.std.specs.Prelude.{◌≡◌, ◌+◌, Bool, true, false, List, [], ◌∷◌, drop, reverse, Option, Some, None, Result, Ok, Err, String, string_bytes}
+use Rattle.std.specs.declared.alloc.Global.{Global}
 use Rattle.cs_grammar.specs.declared.fault.SyntaxFault.{SyntaxFault}
 use Rattle.cs_syntax.specs.declared.parser.place.Parser.{Parser}
+use Rattle.cs_grammar.specs.declared.ast.FieldMark.{FieldMark}
 use Rattle.cs_grammar.specs.declared.token.Token.{Token}
 use Rattle.cs_syntax.specs.declared.parser.nesting.NestingState as rust
 use Rattle.cs_syntax.specs.Counting.{NestingState}
 use Rattle.cs_grammar.specs.Words.{Words}
-use Rattle.cs_grammar.specs.View.{lexemes_view}
+use Rattle.cs_grammar.specs.Tree.{Label}
+use Rattle.cs_grammar.specs.View.{lexemes_view, label_of}
 use Rattle.cs_grammar.specs.TokenWords.{words}
 use Rattle.cs_syntax.specs.Reading.{Fails}
 
@@ -31,6 +34,13 @@ Takes (Some t) old new = left_tokens old ≡ t ∷ left_tokens new
 abbrev pub Skips : Bool → Parser → Parser → Option Words → Type 0
 Skips true old new o = o ≡ Some (left new)
 Skips false old new o = (o ≡ None) × (left new ≡ left old)
+
+-- a label as the parser has it: its text, whether it is quoted, and its mark
+abbrev pub label_view : String Global × Bool → Label
+label_view x = label_of (string_bytes x.0) x.1
+
+abbrev pub head_view : String Global × Bool × FieldMark → Label × FieldMark
+head_view x = (label_of (string_bytes x.0) x.1, x.2)
 
 -- What a call answers, seen by view, with what it leaves, is what reading gives, unless memory ran out.
 abbrev pub Reads : {X Y : Type 0} → (X → Y) → Result X SyntaxFault → Parser → Result (Y × Words) SyntaxFault → Type 0

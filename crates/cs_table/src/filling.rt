@@ -12,12 +12,16 @@ use std::alloc::Global;
 /// # Errors
 /// `TooManyPairs` exactly where items times rules exceed 67,108,864.
 pub fn fill<J: Judge>(alloc: Global, judge: &J) -> Result<Verdicts, TableFault>
-    ensures judged { IfOk result (λ t. IsJudged (J.item_count judge.now) (J.rule_count judge.now) (J.answer judge.now) (verdicts t)) }
-    ensures unique { IfOk result (λ t. (f : AllVerdicts) → IsJudged (J.item_count judge.now) (J.rule_count judge.now) (J.answer judge.now) f
-        → (i r : ℕ) → i < J.item_count judge.now → r < J.rule_count judge.now → verdicts t i r ≡ f i r) }
+    ensures judged { IfOk result (λ t. IsJudged (J.item_count judge.now) (J.rule_count judge.now)
+        (J.answer judge.now) (verdicts t)) }
+    ensures unique { IfOk result (λ t. (f : AllVerdicts)
+        → IsJudged (J.item_count judge.now) (J.rule_count judge.now) (J.answer judge.now) f
+        → (i r : ℕ) → i < J.item_count judge.now → r < J.rule_count judge.now
+        → verdicts t i r ≡ f i r) }
     ensures items { IfOk result (λ t. t.items ≡ J.item_count judge.now) }
     ensures rules { IfOk result (λ t. t.rules ≡ J.rule_count judge.now) }
-    ensures count { IfOk result (λ t. length t.given ≡ J.item_count judge.now * J.rule_count judge.now) }
+    ensures count { IfOk result (λ t. length t.given
+        ≡ J.item_count judge.now * J.rule_count judge.now) }
     ensures within { OnOk result (J.item_count judge.now * J.rule_count judge.now ≤ most_pairs) }
     ensures refused { IfErr result (IsRefusal (J.item_count judge.now) (J.rule_count judge.now)) }
 {

@@ -98,7 +98,8 @@ impl Verdicts {
     /// Gives the verdict of the next pair.
     #[inline]
     pub(crate) fn give(&mut self, verdict: bool) -> Result<(), AllocError>
-        ensures { OnOk result (self.new ≡ record self.old { given = self.old.given ++ verdict ∷ [] }) }
+        ensures { OnOk result (self.new
+            ≡ record self.old { given = self.old.given ++ verdict ∷ [] }) }
     {
         let byte = self.count / 8;
         if byte >= self.bytes.len() {

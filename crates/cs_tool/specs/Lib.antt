@@ -1,4 +1,5 @@
 -- What the calls answer and refuse.
+pub mod Given
 pub mod Accepted
 pub mod Headline
 pub mod Translated

@@ -1,5 +1,5 @@
 // The calls over bytes.
-ghost use Rattle.std.specs.Prelude.{◌≡◌, ℕ, ◌≤◌, List, IfOk, IfErr, IsOkUnless, map};
+ghost use Rattle.std.specs.Prelude.{◌≡◌, ℕ, ◌≤◌, List, IfOk, IfErr, IsOkUnless};
 ghost use Rattle.cs_document.specs.Document.{depth};
 ghost use Rattle.cs_doc.specs.Texts.{Reads, text_of};
 ghost use Rattle.cs_package.specs.Environment.{Names};
@@ -7,6 +7,7 @@ ghost use Rattle.cs_schema.specs.Profile.{IsSchema};
 ghost use Rattle.cs_schema.specs.SchemaDocument.{document_of};
 ghost use Rattle.cs_schema.specs.Trim.{trim};
 ghost use Rattle.cs_tool.specs.Accepted.{IsAccepted};
+ghost use Rattle.cs_tool.specs.Given.{bytes_in};
 ghost use Rattle.cs_tool.specs.Headline.{IsExport, IsVerdict, IsValidated};
 ghost use Rattle.cs_tool.specs.Translated.{IsTranslated};
 ghost use Rattle.cs_tool.specs.Agreement.{IsAgreement};
@@ -29,12 +30,10 @@ use std::alloc::Global;
 /// A refusal reports the first condition that the sources and the root fail, in the order of `First`
 /// (`specs/First.antt`).
 pub fn export(alloc: Global, sources: &[&[u8]], root: &str) -> Result<Vec<u8>, Fault>
-    ensures found { IfOk result
-        (λ text. IsExport (map (λ s. s.now) sources.now) root.now text.items) }
-    ensures translated { IfOk result (λ text. IsTranslated (map (λ s. s.now) sources.now) root.now text.items) }
-    ensures refused { IfErr result
-        (λ e. ExportRefusal (map (λ s. s.now) sources.now) root.now e) }
-    ensures only { IsReady (map (λ s. s.now) sources.now) root.now → IsOkUnless result Fault.OutOfMemory }
+    ensures found { IfOk result (λ text. IsExport (bytes_in sources.now) root.now text.items) }
+    ensures translated { IfOk result (λ text. IsTranslated (bytes_in sources.now) root.now text.items) }
+    ensures refused { IfErr result (λ e. ExportRefusal (bytes_in sources.now) root.now e) }
+    ensures only { IsReady (bytes_in sources.now) root.now → IsOkUnless result Fault.OutOfMemory }
 {
     let guarded = package_of(alloc, sources)?;
     exported(alloc, &guarded, root)
@@ -48,7 +47,8 @@ fn exported(alloc: Global, guarded: &Guarded, root: &str) -> Result<Vec<u8>, Fau
         → IfOk result (λ text. IsTranslated sources root.now text.items) }
     ensures refused { (sources : List (List ℕ)) → IsAccepted sources guarded.now
         → IfErr result (λ e. ExportRefusal sources root.now e) }
-    ensures only { (n : List ℕ) → Names guarded.now root.now n → IsOkUnless result Fault.OutOfMemory }
+    ensures only { (n : List ℕ)
+        → Names guarded.now root.now n → IsOkUnless result Fault.OutOfMemory }
 {
     let schema = compile(alloc, guarded, root)?;
     cs_instance::one_meaning(guarded); // for the proof: there is one instance relation
@@ -73,11 +73,10 @@ fn text_of_schema(alloc: Global, schema: &SchemaDoc) -> Result<Vec<u8>, Fault>
 /// Refusals in order: the first condition that the sources and the root fail, as `First` has them (`specs/First.antt`);
 /// `NotJson` and `NotInteger`, of the document; then `TooManyPairs`, of the document and the rules of the root.
 pub fn vet(alloc: Global, sources: &[&[u8]], root: &str, doc: &[u8]) -> Result<bool, Fault>
-    ensures found { IfOk result
-        (λ b. IsVerdict (map (λ s. s.now) sources.now) root.now doc.now b) }
-    ensures refused { IfErr result
-        (λ e. VetRefusal (map (λ s. s.now) sources.now) root.now doc.now e) }
-    ensures only { IsReadyToVet (map (λ s. s.now) sources.now) root.now doc.now → IsOkUnless result Fault.OutOfMemory }
+    ensures found { IfOk result (λ b. IsVerdict (bytes_in sources.now) root.now doc.now b) }
+    ensures refused { IfErr result (λ e. VetRefusal (bytes_in sources.now) root.now doc.now e) }
+    ensures only { IsReadyToVet (bytes_in sources.now) root.now doc.now
+        → IsOkUnless result Fault.OutOfMemory }
 {
     let guarded = package_of(alloc, sources)?;
     if guarded.package().find(root).is_none() {
@@ -103,7 +102,8 @@ pub fn validate(alloc: Global, schema: &[u8], doc: &[u8]) -> Result<bool, Fault>
 
 /// The schema of a schema's text, trimmed. Its refusals hold whatever the document is.
 fn schema_of(alloc: Global, text: &[u8]) -> Result<SchemaDoc, Fault>
-    ensures found { IfOk result (λ s. (is : IsSchemaText text.now) × (document_of s ≡ trim is.document)) }
+    ensures found { IfOk result (λ s. (is : IsSchemaText text.now)
+        × (document_of s ≡ trim is.document)) }
     ensures refused { (doc : List ℕ) → IfErr result (λ e. ValidateRefusal text.now doc e) }
     ensures only { IsSchemaText text.now → IsOkUnless result Fault.OutOfMemory }
 {
@@ -120,11 +120,10 @@ fn schema_of(alloc: Global, text: &[u8]) -> Result<SchemaDoc, Fault>
 /// Refusals in order: those of `export`; `NotJson` and `NotInteger`, of the document; then `TooManyPairs`, of the document
 /// and the rules of the root or of the exported schema.
 pub fn agree(alloc: Global, sources: &[&[u8]], root: &str, doc: &[u8]) -> Result<bool, Fault>
-    ensures found { IfOk result
-        (λ b. IsAgreement (map (λ s. s.now) sources.now) root.now doc.now b) }
-    ensures refused { IfErr result
-        (λ e. AgreeRefusal (map (λ s. s.now) sources.now) root.now doc.now e) }
-    ensures only { IsReadyToAgree (map (λ s. s.now) sources.now) root.now doc.now → IsOkUnless result Fault.OutOfMemory }
+    ensures found { IfOk result (λ b. IsAgreement (bytes_in sources.now) root.now doc.now b) }
+    ensures refused { IfErr result (λ e. AgreeRefusal (bytes_in sources.now) root.now doc.now e) }
+    ensures only { IsReadyToAgree (bytes_in sources.now) root.now doc.now
+        → IsOkUnless result Fault.OutOfMemory }
 {
     let guarded = package_of(alloc, sources)?;
     let schema = schema_of(alloc, &exported(alloc, &guarded, root)?)?;

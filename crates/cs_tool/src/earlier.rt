@@ -10,7 +10,8 @@ ghost use Rattle.cs_tool.specs.Earlier.{IsAcceptedEarlier};
 /// A law: sources that the profile's first edition accepted are accepted, with the environment that they declared. Its
 /// instance relation is one by the earlier reading too, and each that was one gives every definition the same instances.
 pub fn earlier_law()
-    ensures accepted { (sources : List (List ℕ)) (E : Environment) → IsAcceptedEarlier sources E → IsAccepted sources E }
+    ensures accepted { (sources : List (List ℕ)) (E : Environment) → IsAcceptedEarlier sources E
+        → IsAccepted sources E }
     ensures still { (sources : List (List ℕ)) (E : Environment) → IsAcceptedEarlier sources E
         → (I : Rule → Document → Bool) → IsInstance E I → IsInstanceEarlier E I }
     ensures same { (sources : List (List ℕ)) (E : Environment) → IsAcceptedEarlier sources E

@@ -5,6 +5,7 @@ ghost use Rattle.cs_grammar.specs.Tree.{FileTree};
 ghost use Rattle.cs_grammar.specs.View.{file_view};
 ghost use Rattle.cs_package.specs.Environment.{Environment};
 ghost use Rattle.cs_tool.specs.Accepted.{most_bytes, bytes_of, AreFiles, IsAccepted};
+ghost use Rattle.cs_tool.specs.Given.{bytes_in};
 ghost use Rattle.cs_tool.specs.First.{SourcesRefusal, TextsRefusal, FilesRefusal};
 
 use crate::Fault;
@@ -20,9 +21,10 @@ pub const MOST_BYTES: usize = 1_048_576;
 /// The guarded package that the sources spell. A refusal reports the first condition that they fail, in the order of
 /// `SourcesFault` (`specs/First.antt`).
 pub(crate) fn package_of(alloc: Global, sources: &[&[u8]]) -> Result<Guarded, Fault>
-    ensures accepted { IfOk result (λ g. IsAccepted (map (λ s. s.now) sources.now) g) }
-    ensures refused { IfErr result (λ e. SourcesRefusal (map (λ s. s.now) sources.now) e) }
-    ensures only { (E : Environment) → IsAccepted (map (λ s. s.now) sources.now) E → IsOkUnless result Fault.OutOfMemory }
+    ensures accepted { IfOk result (λ g. IsAccepted (bytes_in sources.now) g) }
+    ensures refused { IfErr result (λ e. SourcesRefusal (bytes_in sources.now) e) }
+    ensures only { (E : Environment)
+        → IsAccepted (bytes_in sources.now) E → IsOkUnless result Fault.OutOfMemory }
 {
     if !fits(sources) {
         return Err(Fault::SourcesTooLong);
@@ -35,9 +37,10 @@ pub(crate) fn package_of(alloc: Global, sources: &[&[u8]]) -> Result<Guarded, Fa
 
 /// The file that each text spells; the fault is that of the first one that spells none.
 fn files_of(alloc: Global, texts: &[&str]) -> Result<Vec<File>, Fault>
-    ensures spelled { IfOk result (λ v. AreFiles (map (λ t. t.now) texts.now) (map file_view v.items)) }
-    ensures refused { IfErr result (λ e. FilesRefusal (map (λ t. t.now) texts.now) e) }
-    ensures only { (fs : List FileTree) → AreFiles (map (λ t. t.now) texts.now) fs → IsOkUnless result Fault.OutOfMemory }
+    ensures spelled { IfOk result (λ v. AreFiles (bytes_in texts.now) (map file_view v.items)) }
+    ensures refused { IfErr result (λ e. FilesRefusal (bytes_in texts.now) e) }
+    ensures only { (fs : List FileTree)
+        → AreFiles (bytes_in texts.now) fs → IsOkUnless result Fault.OutOfMemory }
 {
     let mut files = Vec::with_capacity(alloc, texts.len())?;
     for (number, text) in texts.iter().enumerate() {
@@ -51,7 +54,7 @@ fn files_of(alloc: Global, texts: &[&str]) -> Result<Vec<File>, Fault>
 
 /// Whether the sources keep the limit.
 fn fits(sources: &[&[u8]]) -> bool
-    ensures { IsTrue result ↔ (bytes_of (map (λ s. s.now) sources.now) ≤ most_bytes) }
+    ensures { IsTrue result ↔ (bytes_of (bytes_in sources.now) ≤ most_bytes) }
 {
     let mut left = MOST_BYTES;
     for source in sources {
@@ -65,10 +68,11 @@ fn fits(sources: &[&[u8]]) -> bool
 
 /// The sources as texts; the fault is that of the first one that isn't UTF-8.
 fn texts_of<'a>(alloc: Global, sources: &[&'a [u8]]) -> Result<Vec<&'a str>, Fault>
-    ensures texts { IfOk result (λ v. map (λ t. t.now) v.items ≡ map (λ s. s.now) sources.now) }
-    ensures utf8 { OnOk result (AllByRecursion IsUtf8 (map (λ s. s.now) sources.now)) }
-    ensures refused { IfErr result (λ e. TextsRefusal (map (λ s. s.now) sources.now) e) }
-    ensures only { AllByRecursion IsUtf8 (map (λ s. s.now) sources.now) → IsOkUnless result Fault.OutOfMemory }
+    ensures texts { IfOk result (λ v. bytes_in v.items ≡ bytes_in sources.now) }
+    ensures utf8 { OnOk result (AllByRecursion IsUtf8 (bytes_in sources.now)) }
+    ensures refused { IfErr result (λ e. TextsRefusal (bytes_in sources.now) e) }
+    ensures only { AllByRecursion IsUtf8 (bytes_in sources.now)
+        → IsOkUnless result Fault.OutOfMemory }
 {
     let mut texts: Vec<&'a str> = Vec::with_capacity(alloc, sources.len())?;
     for (file, source) in sources.iter().enumerate() {

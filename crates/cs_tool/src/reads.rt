@@ -21,7 +21,8 @@ pub fn read_up_to<R: Read>(
         (λ o. IfSome o (λ b. IsWholeInput (R.remaining input.old) b.items)) }
     ensures within { IfOk result (λ o. IfSome o (λ b. length b.items ≤ limit)) }
     ensures longer { IfOk result (λ o. IfNone o (IsLonger limit (R.remaining input.old))) }
-    ensures stops { LosesAtMost (limit + chunk_bytes) (R.remaining input.old) (R.remaining input.new) }
+    ensures stops { LosesAtMost (limit + chunk_bytes)
+        (R.remaining input.old) (R.remaining input.new) }
     ensures kind { IfErr result (λ e. (e ≡ Fault.OutOfMemory) ⊎ (e ≡ Fault.ReadFailed)) }
 {
     let mut bytes = Vec::new(alloc);

@@ -23,7 +23,8 @@ pub(crate) fn input_of<R: Read>(
     ensures refused { IfErr result (InputRefusal request.now (R.remaining input.old)) }
     ensures none { ¬ (ReadsInput request.now) → IsOkAnd result (λ v. v.items ≡ []) }
     ensures unread { ¬ (ReadsInput request.now) → input.new ≡ input.old }
-    ensures stops { LosesAtMost (most_of request.now + chunk_bytes) (R.remaining input.old) (R.remaining input.new) }
+    ensures stops { LosesAtMost (most_of request.now + chunk_bytes)
+        (R.remaining input.old) (R.remaining input.new) }
 {
     match request {
         Request::Validate { doc: None, .. } => {

@@ -1,7 +1,8 @@
 // A request over a reader and a writer.
-ghost use Rattle.std.specs.Prelude.{◌≡◌, ◌+◌, ◌⊎◌, ℕ, List, map, IfOk, IfErr, IsOkUnless};
+ghost use Rattle.std.specs.Prelude.{◌≡◌, ◌+◌, ◌⊎◌, ℕ, List, IfOk, IfErr, IsOkUnless};
 ghost use Rattle.std.specs.Io.KnownBytes.{Appends};
 ghost use Rattle.cs_tool.specs.Streams.{LosesAtMost, chunk_bytes};
+ghost use Rattle.cs_tool.specs.Given.{bytes_in};
 ghost use Rattle.cs_tool.specs.Runs.{sources_or, text_or, call_of, IsAnswer, IsCallAnswer, IsCallRefusal, IsReadyCall, IsReadyRequest, ReadsInput, most_of, Leaves, verdict_text, line_of};
 
 use crate::Fault;
@@ -44,7 +45,8 @@ pub fn run<R: Read, W: Write>(
     ensures only { IsReadyRequest request
         → IfErr result (λ e. (e ≡ Fault.OutOfMemory) ⊎ (e ≡ Fault.WriteFailed)) }
     ensures unread { ¬ (ReadsInput request) → input.new ≡ input.old }
-    ensures stops { LosesAtMost (most_of request + chunk_bytes) (R.remaining input.old) (R.remaining input.new) }
+    ensures stops { LosesAtMost (most_of request + chunk_bytes)
+        (R.remaining input.old) (R.remaining input.new) }
 {
     let bytes = input_of(alloc, &request, input)?;
     let answer = answer_to(alloc, &request, &bytes)?;
@@ -57,7 +59,8 @@ fn answer_to(alloc: Global, request: &Request, input: &[u8]) -> Result<Answer, F
     ensures found { IfOk result (λ a. (text : List ℕ)
         × IsCallAnswer (call_of request.now input.now) a.truth text × (a.line.items ≡ line_of text)) }
     ensures refused { IfErr result (IsCallRefusal (call_of request.now input.now)) }
-    ensures only { IsReadyCall (call_of request.now input.now) → IsOkUnless result Fault.OutOfMemory }
+    ensures only { IsReadyCall (call_of request.now input.now)
+        → IsOkUnless result Fault.OutOfMemory }
 {
     match request {
         Request::Export { files, root } => {
@@ -98,7 +101,7 @@ fn sources_or_input<'a>(
     files: &'a [Vec<u8>],
     input: &'a [u8],
 ) -> Result<Vec<&'a [u8]>, AllocError>
-    ensures { IfOk result (λ v. map (λ s. s.now) v.items ≡ sources_or files.now input.now) }
+    ensures { IfOk result (λ v. bytes_in v.items ≡ sources_or files.now input.now) }
 {
     if files.is_empty() {
         return Ok(vec![in alloc; input]?);

@@ -1,8 +1,7 @@
 // Fields, up to their values.
 
-ghost use Rattle.std.specs.Prelude.{◌≡◌, string_bytes};
-ghost use Rattle.cs_syntax.specs.Left.{left, Reads, Skips};
-ghost use Rattle.cs_grammar.specs.View.{label_of};
+ghost use Rattle.std.specs.Prelude.{◌≡◌};
+ghost use Rattle.cs_syntax.specs.Left.{left, label_view, head_view, Reads, Skips};
 ghost use Rattle.cs_syntax.specs.Reading.{begins_field, goes_on_label, goes_on_bracket, another_field, another_element, opening, rest_behind, may_end, label_at, mark_at, every_key_at, head_at, opening_at};
 
 use crate::parser::kind::kind_of;
@@ -87,7 +86,7 @@ impl Parser<'_, '_> {
     /// The name or the text of a label, and whether it is quoted.
     #[tactic(auto, unfolding(crate::specs::Reading::label_at))]
     fn label(&mut self) -> Result<(String, bool), SyntaxFault>
-        ensures { Reads (λ x. label_of (string_bytes x.0) x.1) result self.new (label_at (left self.old)) }
+        ensures { Reads label_view result self.new (label_at (left self.old)) }
     {
         let Some(token) = self.take() else {
             return Err(self.fault());
@@ -115,7 +114,7 @@ impl Parser<'_, '_> {
     /// What follows the bracket of a label: `string` and `]`. The label has no text.
     #[tactic(auto, unfolding(crate::specs::Reading::every_key_at))]
     fn every_key(&mut self) -> Result<(String, bool, FieldMark), SyntaxFault>
-        ensures { Reads (λ x. (label_of (string_bytes x.0) x.1, x.2)) result self.new (every_key_at (left self.old)) }
+        ensures { Reads head_view result self.new (every_key_at (left self.old)) }
     {
         let at = self.start();
         self.expect_string()?;
@@ -126,7 +125,7 @@ impl Parser<'_, '_> {
     /// The text of a label, whether it is quoted, and its mark.
     #[tactic(auto, unfolding(crate::specs::Reading::head_at))]
     pub(crate) fn head(&mut self) -> Result<(String, bool, FieldMark), SyntaxFault>
-        ensures { Reads (λ x. (label_of (string_bytes x.0) x.1, x.2)) result self.new (head_at (left self.old)) }
+        ensures { Reads head_view result self.new (head_at (left self.old)) }
     {
         if self.skip(Kind::OpenList) {
             return self.every_key();

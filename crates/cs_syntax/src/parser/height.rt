@@ -63,7 +63,8 @@ fn is_low_end(end: &ListEnd, limit: usize) -> bool
 
 /// Whether no body is higher than that.
 pub(crate) fn are_low_bodies(definitions: &Vec<Definition>, limit: usize) -> bool
-    ensures { result ≡ nat_le (height_definitions (map definition_view definitions.now.items)) limit }
+    ensures { result
+        ≡ nat_le (height_definitions (map definition_view definitions.now.items)) limit }
 {
     for definition in definitions {
         if !is_low(&definition.body, limit) {

@@ -81,7 +81,8 @@ impl NestingState {
     }
 
     fn close(&mut self)
-        ensures { levels_of self.new ≡ level_closed (levels_of self.old) (levels_of self.old).outer }
+        ensures { levels_of self.new
+            ≡ level_closed (levels_of self.old) (levels_of self.old).outer }
     {
         if let Some(level) = self.outer.pop() {
             self.nested = self.level.saturating_sub(1);
@@ -107,7 +108,8 @@ impl NestingState {
 
 /// Whether tokens nest too deep.
 pub(crate) fn is_too_nested(alloc: Global, tokens: &[Token<'_>]) -> Result<bool, AllocError>
-    ensures { IfOk result (λ deep. deep ≡ nat_lt most_nested (nesting (words (lexemes_view tokens.now)))) }
+    ensures { IfOk result (λ deep. deep
+        ≡ nat_lt most_nested (nesting (words (lexemes_view tokens.now)))) }
 {
     let mut before = PrecedingToken::Other;
     let mut levels = NestingState {

@@ -43,7 +43,8 @@ impl Parser<'_, '_> {
     /// The limit after a relation.
     #[tactic(auto, unfolding(crate::specs::Reading::bound_at))]
     fn bound(&mut self, relation: Relation) -> Result<Expr, SyntaxFault>
-        ensures { Reads expr_view result self.new (bound_at (View.relation_of relation) (left self.old)) }
+        ensures { Reads expr_view result self.new
+            (bound_at (View.relation_of relation) (left self.old)) }
     {
         let limit = self.number()?;
         Ok(Expr::Bound { relation, limit })
