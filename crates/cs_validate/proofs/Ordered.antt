@@ -25,8 +25,8 @@ use Rattle.cs_profile.proofs.Definitions.{defined_definition}
 use Rattle.cs_validate.specs.Numbering.{schema_at}
 use Rattle.cs_validate.specs.Placing.{AreNumberedBy, Numbers, number_in, IsKnown, placed_by, left_by}
 use Rattle.cs_validate.specs.Ranked.{definitions_of, name_of, schema_of, definition, IsRanked, AreRanked, PlacesOne, ArePlacedBy}
-use Rattle.cs_validate.specs.declared.definitions.Placement.{Placement}
-use Rattle.cs_validate.specs.declared.definitions.Ranked.{Ranked}
+use Rattle.cs_validate.specs.declared.numbering.definitions.Placement.{Placement}
+use Rattle.cs_validate.specs.declared.numbering.definitions.Ranked.{Ranked}
 use Rattle.cs_rules.proofs.Lists.{each_push}
 use Rattle.cs_validate.proofs.Placed.{known_more}
 

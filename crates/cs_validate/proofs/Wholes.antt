@@ -25,8 +25,8 @@ use Rattle.cs_validate.specs.Numbering.{PartsBelow}
 use Rattle.cs_validate.specs.Steps.{asked_of, numbered}
 use Rattle.cs_validate.specs.Placing.{waiting, AreNumbered, State, AreNumberedBy, AreAt, IsKnown, Places, placed_by, left_by}
 use Rattle.cs_validate.specs.Ranked.{definitions_of, schema_of, definition, AreRanked, ArePlacedBy, PlacesWaiting}
-use Rattle.cs_validate.specs.declared.definitions.Placement.{Placement}
-use Rattle.cs_validate.specs.declared.definitions.Ranked.{Ranked}
+use Rattle.cs_validate.specs.declared.numbering.definitions.Placement.{Placement}
+use Rattle.cs_validate.specs.declared.numbering.definitions.Ranked.{Ranked}
 use Rattle.cs_validate.specs.Rooted.{IsRooted}
 use Rattle.cs_rules.proofs.Lists.{got_front, got_last}
 use Rattle.cs_validate.proofs.Placed.{at_front, names_same, known_more}

@@ -7,8 +7,8 @@ use Rattle.cs_document.specs.Document.{Document, Entry}
 use Rattle.cs_profile.specs.Keywords.{defined}
 use Rattle.cs_profile.specs.Loops.{RefersDirectly, IsRank}
 use Rattle.cs_profile.specs.SchemaDocument.{SchemaValue, schema_view}
-use Rattle.cs_validate.specs.declared.definitions.Placement.{Placement}
-use Rattle.cs_validate.specs.declared.definitions.Ranked.{Ranked}
+use Rattle.cs_validate.specs.declared.numbering.definitions.Placement.{Placement}
+use Rattle.cs_validate.specs.declared.numbering.definitions.Ranked.{Ranked}
 use Rattle.cs_validate.specs.Rules.{subschemas}
 use Rattle.cs_validate.specs.Placing.{waiting, State, AreNumberedBy, AreAt, placed_by, left_by, number_in, IsKnown, Places}
 

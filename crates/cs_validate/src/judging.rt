@@ -8,7 +8,7 @@ ghost use Rattle.cs_validate.specs.Rules.{HasManyPairs};
 ghost use Rattle.cs_validate.specs.Judging.{IsJudge, IsTable};
 ghost use Rattle.cs_validate.specs.Refusal.{IsRefusal};
 
-use crate::rooted::numbering_of;
+use crate::numbering::rooted::numbering_of;
 use crate::{ValidJudge, ValidateFault};
 use cs_document::Doc;
 use cs_flat::{Flat, flatten};

@@ -2,18 +2,13 @@
 #![tactic(auto)]
 
 mod by_kind;
-mod definitions;
 mod fault;
-mod inner;
 mod judge;
 mod judging;
 mod numbering;
-mod numbers;
-mod rooted;
 mod rules;
 mod steps;
 mod values;
-mod waiting;
 
 pub use fault::ValidateFault;
 pub use judge::ValidJudge;

@@ -5,9 +5,15 @@ ghost use Rattle.cs_document.specs.View.{doc_view};
 ghost use Rattle.cs_profile.specs.SchemaDocument.{schema_view, schemas_view};
 ghost use Rattle.cs_validate.specs.Placing.{object_of, optional_view, number_in, Places, PlacesAll};
 
-use crate::numbers::Numbers;
+mod definitions;
+mod inner;
+mod numbers;
+pub(crate) mod rooted;
+mod waiting;
+
+use crate::numbering::numbers::Numbers;
+use crate::numbering::waiting::wait_inside;
 use crate::rules::{Conjunction, Rule};
-use crate::waiting::wait_inside;
 use cs_document::{Doc, DocSet};
 use cs_flat::Names;
 use cs_profile::{Keywords, Schema};
