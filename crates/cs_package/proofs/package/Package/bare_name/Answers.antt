@@ -1,4 +1,4 @@
-use Rattle.std.proofs.Common.{◌≡◌, length, is_some, Some, true≢false, sym, ap, ◌∙◌, subst, arith}
+use Rattle.std.proofs.Common.{◌≡◌, is_some, Some, true≢false, sym, ap, ◌∙◌, subst}
 use Rattle.cs_package.specs.Environment.{Environment, name_at, IsDefinitionName}
 use Rattle.cs_package.specs.View.{names_of}
 use Rattle.cs_package.proofs.Environments.{within-both, name-there, spelled-name}

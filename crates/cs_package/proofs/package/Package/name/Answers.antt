@@ -1,4 +1,4 @@
-use Rattle.std.proofs.Common.{◌≡◌, ℕ, List, Option, length, is_some, IfSome, true≢false, sym, ap, ◌∙◌, subst, arith}
+use Rattle.std.proofs.Common.{◌≡◌, ℕ, List, Option, is_some, IfSome, true≢false, sym, ap, ◌∙◌, subst}
 use Rattle.cs_package.specs.Environment.{Environment, name_at, written, IsDefinitionName}
 use Rattle.cs_package.specs.View.{environment_of, names_of}
 use Rattle.cs_package.proofs.Environments.{within-both, name_at-is, written-at, spelled-at}
