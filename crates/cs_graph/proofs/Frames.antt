@@ -75,8 +75,8 @@ module _ (G : Graph) (f : Frame) (xs : List ℕ) (row : slice_get G f.number ≡
 -- ---- marks
 
 -- what is neither new nor done is open
-pub open_of : (M : List VisitState) (n : ℕ) → n < length M → (get_or M n New ≡ New → ⊥) → (IsDone M n → ⊥) → slice_get M n ≡ Some Open
-open_of M n l old undone = by (get_or M n New) (slice_get-get_or M n New l) old
+pub open_of : (M : List VisitState) (n : ℕ) (d : VisitState) → n < length M → (get_or M n d ≡ New → ⊥) → (IsDone M n → ⊥) → slice_get M n ≡ Some Open
+open_of M n d l old undone = by (get_or M n d) (slice_get-get_or M n d l) old
   where
     by : (m : VisitState) → slice_get M n ≡ Some m → (m ≡ New → ⊥) → slice_get M n ≡ Some Open
     by New at none = absurd (none refl)
