@@ -12,9 +12,9 @@ use Rattle.std.specs.Str.{bytes_eq}
 use Rattle.cs_document.specs.Document.{Document, object, Members, no_members, member}
 use Rattle.cs_document.specs.View.{members_of}
 use Rattle.cs_package.specs.Expression.{Expression, DeclarationMark, Declaration}
-use Rattle.cs_package.specs.View.{part_of}
+use Rattle.cs_package.specs.View.{part_of, mark_of}
 use Rattle.cs_package.specs.declared.shape.Part.{Part}
-use Rattle.cs_profile.specs.SchemaDocument.{schemas_view}
+use Rattle.cs_profile.specs.SchemaDocument.{schema_view, schemas_view}
 use Rattle.cs_profile.specs.declared.schema.Schema.{Schema}
 use Rattle.cs_compile.specs.Translation.{schema_of, labels_of, must_be_there, values_of, one_or_all, labelled, under_every_key}
 use Rattle.cs_compile.specs.declared.fields.Values.{Values}
@@ -22,6 +22,9 @@ use Rattle.cs_compile.specs.declared.fields.Values.{Values}
 -- a declaration, with the schema of its value
 abbrev pub declared : List ℕ → DeclarationMark → Document → Declaration Document
 declared l m d = record { label = l; mark = m; value = d }
+
+abbrev pub declared_part : Part → Schema → Declaration Document
+declared_part p s = declared (string_bytes p.label) (mark_of p.mark) (schema_view s)
 
 abbrev pub with_schema : Declaration Expression → Declaration Document
 with_schema d = declared d.label d.mark (schema_of d.value)

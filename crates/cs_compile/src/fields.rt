@@ -1,5 +1,5 @@
 // The schemas of structs.
-ghost use Rattle.std.specs.Prelude.{◌≡◌, ℕ, List, [], ◌∷◌, ◌++◌, Bool, true, false, IfOk, OnOk, codes, map, string_bytes};
+ghost use Rattle.std.specs.Prelude.{◌≡◌, ℕ, List, [], ◌∷◌, ◌++◌, true, false, IfOk, OnOk, codes, map, string_bytes};
 ghost use Rattle.std.specs.Borrow.{Bor};
 ghost use Rattle.cs_document.specs.Document.{Document};
 ghost use Rattle.cs_document.specs.View.{members_of};
@@ -8,7 +8,7 @@ ghost use Rattle.cs_package.specs.View.{mark_of};
 ghost use Rattle.cs_profile.specs.SchemaDocument.{schema_view, schemas_view, slots_of, definitions_view, present, text_document, unless_no_list, unless_no_map, value_at};
 ghost use Rattle.cs_profile.specs.Trim.{with_member};
 ghost use Rattle.cs_profile.specs.declared.keyword.Form.TheVariants as form;
-ghost use Rattle.cs_compile.specs.Grouped.{declared, declarations_at, for_every_key, is_asked, has_label, AreValues, IsGrouped, joined};
+ghost use Rattle.cs_compile.specs.Grouped.{declared, declared_part, declarations_at, for_every_key, is_asked, has_label, AreValues, IsGrouped, joined};
 ghost use Rattle.cs_compile.specs.Made.{Makes, closing_beside};
 ghost use Rattle.cs_compile.specs.Translation.{labelled, must_be_there, of_type, required_of, struct_schema};
 
@@ -54,7 +54,7 @@ pub(crate) fn add_value(
     value: Schema,
 ) -> Result<(), AllocError>
     ensures { OnOk result ((ds : List (Declaration Document)) → AreValues ds values.old
-        → AreValues (ds ++ declared (string_bytes part.now.label) (mark_of part.now.mark) (schema_view value) ∷ []) values.new) }
+        → AreValues (ds ++ declared_part part.now value ∷ []) values.new) }
 {
     match part.mark {
         FieldMark::Every { .. } => {
@@ -187,7 +187,8 @@ fn struct_keywords(
         with_member (closing_beside opened (schemas_view every.items)) (codes "additionalProperties") (
         with_member (unless_no_list (schemas_view every.items)) (codes "allOf") (
         with_member (unless_no_map (definitions_view properties.entries)) (codes "properties") (
-        with_member (unless_no_list (map text_document required.items)) (codes "required") (of_type (codes "object"))))) }
+        with_member (unless_no_list (map text_document required.items)) (codes "required")
+        (of_type (codes "object"))))) }
 {
     let others = closing(&every, opened);
     typed(alloc, JsonKind::Object)

@@ -75,8 +75,8 @@ module _ (G : Graph) (f : Frame) (xs : List ℕ) (row : slice_get G f.number ≡
 -- ---- marks
 
 -- what is neither new nor done is open
-pub open_of : (M : List VisitState) (n : ℕ) → n < length M → (get_or M n New ≡ New → ⊥) → (IsDone M n → ⊥) → slice_get M n ≡ Some Open
-open_of M n l old undone = by (get_or M n New) (slice_get-get_or M n New l) old
+pub open_of : (M : List VisitState) (n : ℕ) (d : VisitState) → n < length M → (get_or M n d ≡ New → ⊥) → (IsDone M n → ⊥) → slice_get M n ≡ Some Open
+open_of M n d l old undone = by (get_or M n d) (slice_get-get_or M n d l) old
   where
     by : (m : VisitState) → slice_get M n ≡ Some m → (m ≡ New → ⊥) → slice_get M n ≡ Some Open
     by New at none = absurd (none refl)
@@ -105,10 +105,6 @@ module _ (G : Graph) (M : List VisitState) (S : List Frame) (last f : Frame) (w 
   last_within =
       let path : State G M (numbers_of S ++ last.number ∷ []) = subst (State G M) (numbers_end S last) w.state in
       slice_get_within M last.number Open (path.opened last.number (on_end last.number (numbers_of S)))
-
-  -- so is a number that it refers to
-  pub next_inside : (n : ℕ) → Within G → Refers G f.number n → n < length M
-  next_inside n within r = let low = within f.number n r in omega (arith, low, w.state.marked.long)
 
   -- its references end: it is done
   pub finishing : Stopped G M last.number f None → Onward G M (set M f.number (Done f.height)) S S

@@ -6,6 +6,7 @@ use Rattle.cs_graph.specs.Paths.{Links}
 use Rattle.cs_graph.specs.declared.fault.GraphFault.{GraphFault}
 use Rattle.cs_graph.specs.declared.walk.Frame.{Frame}
 use Rattle.cs_graph.specs.declared.walk.VisitState.{VisitState}
+use Rattle.cs_graph.specs.declared.walk.Walk.{Walk}
 use Rattle.cs_graph.specs.declared.walk.VisitState.TheVariants.{New, Open, Done}
 
 abbrev pub is_new : VisitState → Bool
@@ -103,9 +104,9 @@ pub record Onward (G : Graph) (M N : List VisitState) (S T : List Frame) : Type 
   pub kept : Keeps M N
   pub fewer : left N (length T) < left M (length S + 1)
 
-abbrev pub Stepped : Graph → List VisitState → List VisitState → List Frame → List Frame → Result (Unit {0}) GraphFault → Type 0
-Stepped G M N S T (Ok u) = Onward G M N S T
-Stepped G M N S T (Err e) = IsRefusal e G
+abbrev pub Stepped : Graph → Walk → Walk → Result (Unit {0}) GraphFault → Type 0
+Stepped G v w (Ok u) = Onward G v.marks.items w.marks.items v.path.items w.path.items
+Stepped G v w (Err e) = IsRefusal e G
 
 -- n is done, and nothing is open
 pub record Reached (G : Graph) (M N : List VisitState) (n : ℕ) : Type 0 where

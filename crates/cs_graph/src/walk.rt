@@ -26,14 +26,21 @@ pub(crate) struct Frame {
     height: usize,
 }
 
+/// A walk: what it knows of each number, and the path of those that are open, the one entered last at its end.
+#[derive(Drop)]
+struct Walk {
+    marks: Vec<VisitState>,
+    path: Vec<Frame>,
+}
+
 /// Opens a number that is new.
-fn enter(marks: &mut [VisitState], path: &mut Vec<Frame>, number: usize) -> Result<(), AllocError>
-    requires { number < length marks.old }
-    ensures marks { marks.new ≡ slice_set marks.old number VisitState.Open }
-    ensures path { OnOk result (path.new.items ≡ path.old.items ++ frame_of number ∷ []) }
+fn enter(walk: &mut Walk, number: usize) -> Result<(), AllocError>
+    requires { number < length walk.old.marks.items }
+    ensures marks { walk.new.marks.items ≡ slice_set walk.old.marks.items number VisitState.Open }
+    ensures path { OnOk result (walk.new.path.items ≡ walk.old.path.items ++ frame_of number ∷ []) }
 {
-    marks[number] = VisitState::Open;
-    path.push(Frame {
+    walk.marks[number] = VisitState::Open;
+    walk.path.push(Frame {
         number,
         passed: 0,
         height: 0,
@@ -63,28 +70,23 @@ fn pass_done(graph: &[Vec<usize>], marks: &[VisitState], frame: &mut Frame) -> O
 
 /// Goes on from the last number of the path, which was taken off: it is done, or it is put back and a number that it
 /// refers to is entered.
-fn step(
-    alloc: Global,
-    graph: &[Vec<usize>],
-    marks: &mut [VisitState],
-    path: &mut Vec<Frame>,
-    last: Frame,
-) -> Result<(), GraphFault>
+fn step(alloc: Global, graph: &[Vec<usize>], walk: &mut Walk, last: Frame) -> Result<(), GraphFault>
     requires within { Within (graph_of graph.now) }
-    requires walking { Walking (graph_of graph.now) marks.old (path.old.items ++ last ∷ []) }
-    ensures { Stepped (graph_of graph.now) marks.old marks.new path.old.items path.new.items result }
+    requires walking { Walking (graph_of graph.now) walk.old.marks.items
+        (walk.old.path.items ++ last ∷ []) }
+    ensures { Stepped (graph_of graph.now) walk.old walk.new result }
 {
     let mut frame = last;
-    let Some(next) = pass_done(graph, marks, &mut frame) else {
-        marks[frame.number] = VisitState::Done(frame.height);
+    let Some(next) = pass_done(graph, &walk.marks, &mut frame) else {
+        walk.marks[frame.number] = VisitState::Done(frame.height);
         return Ok(());
     };
-    path.push(frame)?;
-    if let VisitState::New = marks[next] {
-        enter(marks, path, next)?;
+    walk.path.push(frame)?;
+    if let VisitState::New = walk.marks[next] {
+        enter(walk, next)?;
         return Ok(());
     }
-    let numbers = cycle_from(alloc, path, next)?;
+    let numbers = cycle_from(alloc, &walk.path, next)?;
     Err(GraphFault::Cycle { numbers })
 }
 
@@ -92,20 +94,20 @@ fn step(
 fn walk_from(
     alloc: Global,
     graph: &[Vec<usize>],
-    marks: &mut [VisitState],
-    path: &mut Vec<Frame>,
+    walk: &mut Walk,
     number: usize,
 ) -> Result<(), GraphFault>
     requires within { Within (graph_of graph.now) }
-    requires state { State (graph_of graph.now) marks.old [] }
-    requires new { slice_get marks.old number ≡ Some VisitState.New }
-    requires path { path.old.items ≡ [] }
-    ensures walked { Walked (graph_of graph.now) marks.old marks.new number result }
-    ensures path { OnOk result (path.new.items ≡ []) }
+    requires state { State (graph_of graph.now) walk.old.marks.items [] }
+    requires new { slice_get walk.old.marks.items number ≡ Some VisitState.New }
+    requires path { walk.old.path.items ≡ [] }
+    ensures walked { Walked (graph_of graph.now)
+        walk.old.marks.items walk.new.marks.items number result }
+    ensures path { OnOk result (walk.new.path.items ≡ []) }
 {
-    enter(marks, path, number)?;
-    while let Some(last) = path.pop() {
-        step(alloc, graph, marks, path, last)?;
+    enter(walk, number)?;
+    while let Some(last) = walk.path.pop() {
+        step(alloc, graph, walk, last)?;
     }
     Ok(())
 }
@@ -140,12 +142,14 @@ pub fn heights(alloc: Global, graph: &[Vec<usize>]) -> Result<Vec<usize>, GraphF
     ensures only { NoCycle (Refers (graph_of graph.now))
         → IsOkUnless result GraphFault.OutOfMemory }
 {
-    let mut marks = vec![in alloc; VisitState::New; graph.len()]?;
-    let mut path = Vec::new(alloc);
+    let mut walk = Walk {
+        marks: vec![in alloc; VisitState::New; graph.len()]?,
+        path: Vec::new(alloc),
+    };
     for number in 0..graph.len() {
-        if let VisitState::New = marks[number] {
-            walk_from(alloc, graph, &mut marks, &mut path, number)?;
+        if let VisitState::New = walk.marks[number] {
+            walk_from(alloc, graph, &mut walk, number)?;
         }
     }
-    Ok(heights_of(alloc, &marks)?)
+    Ok(heights_of(alloc, &walk.marks)?)
 }

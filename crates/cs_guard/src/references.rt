@@ -1,12 +1,12 @@
 // The graph of a package: for each definition, the numbers of those that its bodies refer to strongly. The walk over
 // their shapes also takes every reference, for what is reachable.
 
-ghost use Rattle.std.specs.Prelude.{◌≡◌, OnOk, IfOk, map, []};
+ghost use Rattle.std.specs.Prelude.{◌≡◌, OnOk, IfOk, []};
 ghost use Rattle.std.specs.List.{list_all, IsDistinct};
 ghost use Rattle.std.specs.Option.{option_map_or};
 ghost use Rattle.std.specs.Str.{bytes_eq};
 ghost use Rattle.cs_package.specs.Environment.{declared_names};
-ghost use Rattle.cs_package.specs.View.{expression_of, part_of, rest_of, expressions_of, declarations_of, is_known, is_known_part, is_known_end};
+ghost use Rattle.cs_package.specs.View.{expression_of, part_of, rest_of, operands_at, fields_at, is_known, is_known_part, is_known_end};
 ghost use Rattle.cs_guard.specs.Taken.{behind_disjunction, inside_part, of_field, taken, taken_all, taken_fields, taken_rest};
 ghost use Rattle.cs_graph.specs.Graph.{graph_of};
 ghost use Rattle.cs_guard.specs.Numbered.{IsGraphOf};
@@ -79,7 +79,8 @@ fn push_all(
     numbers: &mut Vec<usize>,
 ) -> Result<(), AllocError>
     ensures { OnOk result (Pushed numbers.old.items numbers.new.items
-        (λ ns. taken_all followed (expressions_of (map (expression_of ns) shapes.now))) (λ count. list_all (is_known count) shapes.now)) }
+        (λ ns. taken_all followed (operands_at ns shapes.now))
+        (λ count. list_all (is_known count) shapes.now)) }
 {
     for shape in shapes {
         push_shape(followed, shape, numbers)?;
@@ -95,7 +96,8 @@ fn push_where(
     numbers: &mut Vec<usize>,
 ) -> Result<(), AllocError>
     ensures { OnOk result (Pushed numbers.old.items numbers.new.items
-        (λ ns. option_map_or (λ f. taken_all f (expressions_of (map (expression_of ns) shapes.now))) followed []) (λ count. list_all (is_known count) shapes.now)) }
+        (λ ns. option_map_or (λ f. taken_all f (operands_at ns shapes.now)) followed [])
+        (λ count. list_all (is_known count) shapes.now)) }
 {
     match followed {
         Some(way) => push_all(way, shapes, numbers),
@@ -110,7 +112,8 @@ fn push_parts(
     numbers: &mut Vec<usize>,
 ) -> Result<(), AllocError>
     ensures { OnOk result (Pushed numbers.old.items numbers.new.items
-        (λ ns. taken_fields followed (declarations_of (map (part_of ns) parts.now))) (λ count. list_all (is_known_part count) parts.now)) }
+        (λ ns. taken_fields followed (fields_at ns parts.now))
+        (λ count. list_all (is_known_part count) parts.now)) }
 {
     for part in parts {
         push_part(followed, part, numbers)?;
@@ -126,7 +129,8 @@ fn push_parts_where(
     numbers: &mut Vec<usize>,
 ) -> Result<(), AllocError>
     ensures { OnOk result (Pushed numbers.old.items numbers.new.items
-        (λ ns. option_map_or (λ f. taken_fields f (declarations_of (map (part_of ns) parts.now))) followed []) (λ count. list_all (is_known_part count) parts.now)) }
+        (λ ns. option_map_or (λ f. taken_fields f (fields_at ns parts.now)) followed [])
+        (λ count. list_all (is_known_part count) parts.now)) }
 {
     match followed {
         Some(way) => push_parts(way, parts, numbers),
@@ -138,7 +142,9 @@ fn push_parts_where(
 #[cycle(references)]
 fn push_part(followed: Followed, part: &Part, numbers: &mut Vec<usize>) -> Result<(), AllocError>
     ensures { OnOk result (Pushed numbers.old.items numbers.new.items
-        (λ ns. of_field (part_of ns part.now).mark followed (taken followed (part_of ns part.now).value)) (λ count. is_known_part count part.now)) }
+        (λ ns. of_field (part_of ns part.now).mark followed
+        (taken followed (part_of ns part.now).value))
+        (λ count. is_known_part count part.now)) }
 {
     match (part.mark, followed) {
         (
@@ -172,7 +178,8 @@ pub(crate) fn references_of(
     bodies: &[Shape],
 ) -> Result<Vec<usize>, AllocError>
     ensures { IfOk result (λ v. Pushed [] v.items
-        (λ ns. taken_all followed (expressions_of (map (expression_of ns) bodies.now))) (λ count. list_all (is_known count) bodies.now)) }
+        (λ ns. taken_all followed (operands_at ns bodies.now))
+        (λ count. list_all (is_known count) bodies.now)) }
 {
     let mut numbers = Vec::new(alloc);
     push_all(followed, bodies, &mut numbers)?;

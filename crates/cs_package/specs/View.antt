@@ -80,6 +80,13 @@ rest_of ns = fold-ShapeEnd Expression Rest (Declaration Expression) (shape_step 
 abbrev pub part_of : List (List ℕ) → Part → Declaration Expression
 part_of ns = fold-Part Expression Rest (Declaration Expression) (shape_step ns) end_step part_step
 
+-- shapes and parts as they stand in an expression
+abbrev pub operands_at : List (List ℕ) → List Shape → Expressions
+operands_at ns ss = expressions_of (expressions_at ns ss)
+
+abbrev pub fields_at : List (List ℕ) → List Part → Declarations
+fields_at ns ps = declarations_of (map (part_of ns) ps)
+
 -- ---- references to numbers below a count
 
 abbrev pub known_step : ℕ → Shape-F Bool Bool Bool → Bool

@@ -31,7 +31,8 @@ use std::alloc::Global;
 /// (`specs/First.antt`).
 pub fn export(alloc: Global, sources: &[&[u8]], root: &str) -> Result<Vec<u8>, Fault>
     ensures found { IfOk result (λ text. IsExport (bytes_in sources.now) root.now text.items) }
-    ensures translated { IfOk result (λ text. IsTranslated (bytes_in sources.now) root.now text.items) }
+    ensures translated { IfOk result
+        (λ text. IsTranslated (bytes_in sources.now) root.now text.items) }
     ensures refused { IfErr result (λ e. ExportRefusal (bytes_in sources.now) root.now e) }
     ensures only { IsReady (bytes_in sources.now) root.now → IsOkUnless result Fault.OutOfMemory }
 {

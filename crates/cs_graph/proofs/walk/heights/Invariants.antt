@@ -5,7 +5,7 @@ use Rattle.cs_graph.proofs.walk.heights.Given as goal
 
 abbrev pub invariant-loop-number : goal.invariant-loop-number
 invariant-loop-number l = record {
-  state : State (graph_of l.graph) l.marks.items [];
-  path : l.path.items ≡ [];
-  done : (k : ℕ) → k < l.number → IsDone l.marks.items k;
+  state : State (graph_of l.graph) l.walk.marks.items [];
+  path : l.walk.path.items ≡ [];
+  done : (k : ℕ) → k < l.number → IsDone l.walk.marks.items k;
 }

@@ -5,11 +5,11 @@ use Rattle.cs_graph.specs.declared.walk.VisitState.TheVariants.{New}
 use Rattle.cs_graph.proofs.walk.walk_from.Given as goal
 
 abbrev pub decreases-loop-last : goal.decreases-loop-last
-decreases-loop-last l = left l.marks (length l.path.items)
+decreases-loop-last l = left l.walk.marks.items (length l.walk.path.items)
 
 abbrev pub invariant-loop-last : goal.invariant-loop-last
 invariant-loop-last l = record {
-  walking : Walking (graph_of l.graph) l.marks l.path.items;
-  kept : Keeps l.fn.marks l.marks;
-  entered : slice_get l.marks l.number ≡ Some New → ⊥;
+  walking : Walking (graph_of l.graph) l.walk.marks.items l.walk.path.items;
+  kept : Keeps l.fn.walk.marks.items l.walk.marks.items;
+  entered : slice_get l.walk.marks.items l.number ≡ Some New → ⊥;
 }
