@@ -68,7 +68,6 @@ each_found P [] x h o = absurd o
 each_found P (y ∷ ys) x h (inl e) = subst P (sym e) h.0
 each_found P (y ∷ ys) x h (inr o) = each_found P ys x h.1 o
 
-
 flat_push : {X Y : Type 0} (f : X → List Y) (xs : List X) (x : X) → flat_map f (xs ++ x ∷ []) ≡ flat_map f xs ++ f x
 flat_push f xs x = sym (flat_map_more f [] xs x)
 

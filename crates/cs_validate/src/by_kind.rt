@@ -153,7 +153,9 @@ pub(crate) fn by_kind(rule: &Rule<'_>) -> ByKind
     match rule {
         Rule::Truth(verdict) => ByKind::of(Some(*verdict)),
         Rule::Object(conjunction) => {
-            let refused = by_type(conjunction.keywords.kind).or(by_const(&conjunction.keywords.equal));
+            let refused = by_type(conjunction.keywords.kind).or(by_const(
+                &conjunction.keywords.equal,
+            ));
             refused.or(by_absence(conjunction))
         }
     }
