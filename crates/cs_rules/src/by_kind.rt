@@ -25,7 +25,14 @@ impl ByKind {
 
     /// The same verdict, or none, for every kind.
     pub fn of(verdict: Option<bool>) -> ByKind
-        ensures { result ≡ record { null = verdict; boolean = verdict; integer = verdict; text = verdict; list = verdict; object = verdict } }
+        ensures { result ≡ record {
+          null = verdict;
+          boolean = verdict;
+          integer = verdict;
+          text = verdict;
+          list = verdict;
+          object = verdict;
+        } }
     {
         ByKind {
             null: verdict,
@@ -39,7 +46,8 @@ impl ByKind {
 
     /// Where these verdicts have none, the others.
     pub fn or(self, others: ByKind) -> ByKind
-        ensures { (x : Opened ℕ) → verdict_of result x ≡ option_or (verdict_of self x) (verdict_of others x) }
+        ensures { (x : Opened ℕ)
+            → verdict_of result x ≡ option_or (verdict_of self x) (verdict_of others x) }
     {
         ByKind {
             null: self.null.or(others.null),

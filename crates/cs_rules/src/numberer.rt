@@ -14,7 +14,8 @@ impl<'a, N, R: Drop> Numberer<'a, N, R> {
 
     /// Pushes a rule, and answers its number.
     pub fn put(&mut self, rule: R) -> Result<usize, AllocError>
-        ensures number { IfOk result (λ k. (k ≡ length self.old.rules.items) × (self.new.rules.items ≡ self.old.rules.items ++ rule ∷ [])) }
+        ensures number { IfOk result (λ k. (k ≡ length self.old.rules.items)
+            × (self.new.rules.items ≡ self.old.rules.items ++ rule ∷ [])) }
         ensures pending { self.new.pending ≡ self.old.pending }
     {
         let number = self.rules.len();
@@ -24,7 +25,8 @@ impl<'a, N, R: Drop> Numberer<'a, N, R> {
 
     /// A node waits. Answers its place.
     pub fn wait(&mut self, node: &'a N) -> Result<usize, AllocError>
-        ensures place { IfOk result (λ p. (p ≡ length self.old.pending.items) × (self.new.pending.items ≡ self.old.pending.items ++ node.entry ∷ [])) }
+        ensures place { IfOk result (λ p. (p ≡ length self.old.pending.items)
+            × (self.new.pending.items ≡ self.old.pending.items ++ node.entry ∷ [])) }
         ensures rules { self.new.rules ≡ self.old.rules }
     {
         let place = self.pending.len();

@@ -25,7 +25,8 @@ pub trait Asks: Drop {
         requires parts { below self.now (rule_count known.now) (place_count known.now) }
         requires ascends { AscendsInside (item_view value.now) }
         requires children { InsideBelow (value_count known.now) (item_view value.now) }
-        ensures { result ≡ step self.now (verdict_here known.now) (verdict_inside known.now) (doc_view doc.now) (item_view value.now) };
+        ensures { result ≡ step self.now (verdict_here known.now) (verdict_inside known.now)
+            (doc_view doc.now) (item_view value.now) };
 
     /// The verdicts that a value's kind alone decides.
     fn by_kind(&self) -> ByKind

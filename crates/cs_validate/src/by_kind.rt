@@ -4,10 +4,10 @@ ghost use Rattle.cs_document.specs.Document.{Document, Entry, document_eq};
 ghost use Rattle.cs_document.specs.Opened.{Opened, opened};
 ghost use Rattle.cs_document.specs.View.{doc_view};
 ghost use Rattle.cs_rules.specs.Kinds.{verdict_of, IsItem, Foretells};
-ghost use Rattle.cs_profile.specs.Validity.{is_of_kind, if_there};
+ghost use Rattle.cs_profile.specs.Validity.{is_of_kind};
 ghost use Rattle.cs_validate.specs.declared.rules.Rule.TheVariants as rule;
 ghost use Rattle.cs_validate.specs.Steps.{step, kind_of};
-ghost use Rattle.cs_validate.specs.Asked.{asks_type, asks_integer, asks_list, asks_map, refused_unless, AsksTypeAlone, IsLeftToType};
+ghost use Rattle.cs_validate.specs.Asked.{asks_type, asks_const, asks_integer, asks_list, asks_map, refused_unless, AsksTypeAlone, IsLeftToType};
 
 use crate::rules::{Conjunction, Rule};
 use cs_document::Doc;
@@ -60,7 +60,8 @@ fn by_type(kind: Option<JsonKind>) -> ByKind
 
 /// The kind of a value: no value of another kind equals it.
 fn kind_of_value(value: &Doc) -> JsonKind
-    ensures { (d : Document) → is_of_kind (kind_of result) (opened d) ≡ false → document_eq (doc_view value.now) d ≡ false }
+    ensures { (d : Document) → is_of_kind (kind_of result) (opened d) ≡ false
+        → document_eq (doc_view value.now) d ≡ false }
 {
     match value {
         Doc::Null => JsonKind::Null,
@@ -75,7 +76,7 @@ fn kind_of_value(value: &Doc) -> JsonKind
 /// What `const` decides, if it is there: it refuses the values of other kinds.
 fn by_const(value: &Option<Doc>) -> ByKind
     ensures { (d : Document) (x : Opened ℕ) → IsItem d x → (b : Bool) → verdict_of result x ≡ Some b
-        → (b ≡ false) × (if_there (λ v. document_eq (doc_view v) d) value.now ≡ false) }
+        → (b ≡ false) × (asks_const value.now d ≡ false) }
 {
     match value {
         Some(value) => by_named(kind_of_value(value)),
