@@ -12,7 +12,8 @@
 #                 time and the memory of each; two minutes
 # make bench      times the lexer and the parser on 1 MiB of source in four shapes each, packages at their limits, documents
 #                 of 50 MB and the largest table, and says how much memory the last two take; then whole runs of `vet`
-#                 and `validate` against few and many rules, and of `export` near the limits of packages
+#                 and `validate` against few and many rules, with what a judgement takes beyond reading on small, medium
+#                 and large ones, and of `export` near the limits of packages
 # make install    copies the program to $(PREFIX)/bin
 # JOBS=4 works on four crates or runs at once; there are as many as processors where it isn't given
 PREFIX ?= /usr/local

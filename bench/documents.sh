@@ -1,9 +1,9 @@
 #!/bin/sh
-# Times documents and tables: reading a text, flattening a document, filling a table. A line for each: its size; what it
+# Times documents and tables: reading a text as a tree or straight into a list, flattening a document, filling a table. A line for each: its size; what it
 # takes beyond the program's start, in all and for each byte, value or judgement; how many times longer that is than for a
 # tenth of the size; and the most memory that the program takes, for each of them too. Fails where ten times the size
 # takes more than twelve times as long, which other work on the machine can make it do.
-# usage: documents.sh PROGRAM, which takes `read`, `flatten` or `fill` and how many times, and on standard input a JSON
+# usage: documents.sh PROGRAM, which takes `read`, `list`, `flatten` or `fill` and how many times, and on standard input a JSON
 # text, or how many items a table has
 set -eu
 
@@ -87,6 +87,8 @@ printf '%-8s %-6s %20s %9s %10s %7s %11s\n' step shape size ms speed ratio 'memo
 # takes a GB.
 measure read short 50000000 byte
 measure read long 50000000 byte
+measure list short 50000000 byte
+measure list long 50000000 byte
 measure flatten short 50000000 value
 measure fill table 8192 judgement
 exit $failed

@@ -2,13 +2,18 @@
 # Times the judges by whole runs of the program: `vet` and `validate` of documents against few and many rules, packages and
 # schemas that double or are long, and large keywords. A line for each: the size of the texts whose reading it is compared
 # with; what the run takes beyond the program's start, and as a multiple of that reading; the megabytes of these texts in a
-# second; the nanoseconds for each pair of a value and a rule; the most memory. Fails where a run takes longer than the line
-# allows, which other work on the machine can make it do.
-# usage: judges.sh BENCH PROGRAM, the program for measuring, which takes `read`, and the program `cue2schema`
+# second; the nanoseconds for each pair of a value and a rule; the most memory. The lines `small`, `medium` and `large` also
+# say what a judgement takes beyond reading: the nanoseconds for each pair by which the run is longer than one that judges
+# the same document by a rule that admits everything. Fails where a run takes longer than the line allows, which other work
+# on the machine can make it do, and where one of these three hasn't the number of rules or the verdict that is stated here.
+# usage: judges.sh BENCH PROGRAM [judgements], the program for measuring, which takes `read` and `flatten`, the program
+# `cue2schema`, and a word by which those three sizes alone are measured
 set -eu
 
 . "$(dirname "$0")/timing.sh"
+. "$(dirname "$0")/fleets.sh"
 command=$2
+part=${3-all}
 
 # The nanoseconds of one run of the program: the least of some.
 run_time() { # runs words
@@ -128,11 +133,15 @@ fi
 failed=0
 echo null > "$folder/null"
 echo true > "$folder/true"
+echo '#P: _' > "$folder/everything"
 start=$(run_time 20 validate --schema "$folder/true" --doc "$folder/null")
 
+# What the next line's run takes beyond reading, in nanoseconds, where the line says that.
+beyond=
+
 # A line: what a run takes, which may be at most so many times what reading those texts of the folder takes, or so many
-# milliseconds, or any time.
-measure() { # name pairs times|ms|any most texts words
+# milliseconds, or so many nanoseconds a judgement, or any time.
+measure() { # name pairs times|ms|ns/judgement|any most texts words
     name=$1 pairs=$2 unit=$3 most=$4 texts=$5
     shift 5
     taken=$(($(run_time 7 "$@") - start))
@@ -143,11 +152,15 @@ measure() { # name pairs times|ms|any most texts words
         bytes=$((bytes + $(wc -c < "$folder/$text")))
     done
     peak=$(peak_of "$@")
-    awk -v name="$name" -v pairs="$pairs" -v unit="$unit" -v most="$most" -v bytes="$bytes" -v taken="$taken" -v reading="$reading" -v peak="$peak" 'BEGIN {
+    awk -v name="$name" -v pairs="$pairs" -v unit="$unit" -v most="$most" -v bytes="$bytes" \
+        -v taken="$taken" -v reading="$reading" -v peak="$peak" -v beyond="$beyond" 'BEGIN {
         share = reading > 0 ? taken / reading : 0
         speed = taken > 0 ? bytes * 1e3 / taken : 0
-        fault = (unit == "times" && share > most) || (unit == "ms" && taken > most * 1e6) ? "  more than " most " " unit : ""
-        printf "%-28s %10d %10d %9.2f %7.1f %7.1f %8.2f %8d%s\n", name, bytes, pairs, taken / 1e6, share, speed, (pairs ? taken / pairs : 0), peak, fault
+        slow = (unit == "times" && share > most) || (unit == "ms" && taken > most * 1e6)
+        slow = slow || (unit == "ns/judgement" && beyond > most * pairs)
+        judgement = beyond == "" ? "" : sprintf(" %12.2f", beyond / pairs)
+        fault = slow ? "  more than " most " " unit : ""
+        printf "%-28s %10d %10d %9.2f %7.1f %7.1f %8.2f %8d%s%s\n", name, bytes, pairs, taken / 1e6, share, speed, (pairs ? taken / pairs : 0), peak, judgement, fault
         exit (fault != "")
     }' || failed=1
 }
@@ -160,7 +173,68 @@ validate() { # name pairs unit most texts; the schema and the document stand in 
     measure "$1" "$2" "$3" "$4" "$5" validate --schema "$folder/schema" --doc "$folder/document"
 }
 
-printf '%-28s %10s %10s %9s %7s %7s %8s %8s\n' run bytes pairs ms 'reads' 'MB/s' 'ns/pair' 'KiB'
+# Says where a run hasn't so many rules: a list of as many values as make 67,108,864 pairs with them at most has a verdict,
+# and a list of one more is refused by 27.
+check_rules() { # name rules words
+    name=$1 values=$((67108864 / $2))
+    shift 2
+    awk -v count="$values" 'BEGIN { for (i = 2; i < count; i++) print "0,"; print "0" }' > "$folder/zeros"
+    { echo '['; cat "$folder/zeros"; echo ']'; } > "$folder/most"
+    { echo '[0,'; cat "$folder/zeros"; echo ']'; } > "$folder/more"
+    answers=$("$command" "$@" --doc "$folder/most" 2>&1 || true),$("$command" "$@" --doc "$folder/more" 2>&1 || true)
+    case $answers in
+    'valid,error 27' | 'invalid,error 27') ;;
+    *) echo "$name: it hasn't the rules that are counted here"; failed=1 ;;
+    esac
+}
+
+# What a run takes beyond one that judges the same document by a rule that admits everything, in nanoseconds: the least of
+# each, where both are made in turn, so that they meet the same load.
+beyond_reading() { # words
+    whole=
+    reading=
+    for _ in $(seq 15); do
+        taken=$(run_time 1 "$@")
+        if [ -z "$whole" ] || [ "$taken" -lt "$whole" ]; then whole=$taken; fi
+        case $1 in
+        vet) taken=$(run_time 1 vet --root '#P' --doc "$folder/document" "$folder/everything") ;;
+        validate) taken=$(run_time 1 validate --schema "$folder/true" --doc "$folder/document") ;;
+        esac
+        if [ -z "$reading" ] || [ "$taken" -lt "$reading" ]; then reading=$taken; fi
+    done
+    echo $((whole - reading))
+}
+
+# Both lines of a size, by the package and the document that stand in the folder, and by the schema that the package has.
+judgements() { # size vet-rules validate-rules ns/judgement|any most root
+    size=$1 vet_rules=$2 validate_rules=$3 unit=$4 most=$5 root=$6
+    count=$("$program" flatten < "$folder/document")
+    "$command" export --root "$root" "$folder/package" > "$folder/schema"
+    verdict=$("$command" agree --root "$root" --doc "$folder/document" "$folder/package" 2>&1 || true)
+    if [ "$verdict" != valid ]; then echo "$size: the document is judged $verdict"; failed=1; fi
+    check_rules "vet $size" "$vet_rules" vet --root "$root" "$folder/package"
+    beyond=$(beyond_reading vet --root "$root" --doc "$folder/document" "$folder/package")
+    vet "vet $size" $((count * vet_rules)) "$unit" "$most" "$root"
+    check_rules "validate $size" "$validate_rules" validate --schema "$folder/schema"
+    beyond=$(beyond_reading validate --schema "$folder/schema" --doc "$folder/document")
+    validate "validate $size" $((count * validate_rules)) "$unit" "$most" 'schema document'
+    beyond=
+}
+
+printf '%-28s %10s %10s %9s %7s %7s %8s %8s %12s\n' run bytes pairs ms 'reads' 'MB/s' 'ns/pair' 'KiB' 'ns/judgement'
+# Of a package the rules are the definitions that the root reaches and the expressions in them, of a schema its root,
+# its definitions and every schema inside them. They are counted by hand, and `check_rules` asks the program.
+records 5670000 > "$folder/document"
+record_package 0 > "$folder/package"
+judgements small 12 12 any 0 '#L'
+fleet 12700 > "$folder/document"
+fleet_package > "$folder/package"
+judgements medium 96 78 ns/judgement 3.0 '#Fleet'
+teams 100 > "$folder/document"
+teams_package 100 > "$folder/package"
+judgements large 1206 1204 ns/judgement 2.5 '#Teams'
+if [ "$part" = judgements ]; then exit $failed; fi
+
 records 5000000 > "$folder/document"
 count=$("$program" flatten < "$folder/document")
 record_package 0 > "$folder/package"

@@ -8,8 +8,10 @@
 set -eu
 cd "$(dirname "$0")/.."
 
-# The parser goes down by the brackets that are open, of which it refuses the 29th; the height of a body is followed 28 deep.
-limited='crates/cs_syntax/proofs/parser/height/+height
+# The parser goes down by the brackets that are open, of which it refuses the 29th; the height of a body is followed 28 deep; a
+# document is read 127 levels deep.
+limited='crates/cs_doc/proofs/listing/Listing/+read
+crates/cs_syntax/proofs/parser/height/+height
 crates/cs_syntax/proofs/parser/place/Parser/+parse'
 
 # The proofs of a recursion are in a folder whose name begins with `+`. The measure of the function f is `decreases-f` there, and

@@ -1,6 +1,6 @@
 // Documents, read from a text, copied, and as the list of their values.
 use crate::stop::Stop;
-use cs_doc::{Doc, flatten, read_doc};
+use cs_doc::{Doc, Scratch, flatten, read_doc, read_flat};
 use std::alloc::Global;
 
 /// Reads a text so many times: how many elements or members the document has, or 1 where it is neither list nor map.
@@ -40,6 +40,20 @@ pub fn flattened(alloc: Global, text: &[u8], times: u32) -> Result<usize, Stop> 
     for _ in 0..times {
         let flat = flatten(alloc, &doc)?;
         count = flat.len();
+    }
+    Ok(count)
+}
+
+/// Reads a text straight into the list of its values so many times: how many there are, or 0 where it is out of the
+/// ordinary.
+pub fn listed(alloc: Global, text: &[u8], times: u32) -> Result<usize, Stop> {
+    let mut count = 0;
+    for _ in 0..times {
+        let mut scratch = Scratch::new(alloc);
+        count = match read_flat(alloc, text, &mut scratch)? {
+            Some(flat) => flat.len(),
+            None => 0,
+        };
     }
     Ok(count)
 }

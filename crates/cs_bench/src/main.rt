@@ -5,6 +5,7 @@
 //   schema's document, or the bytes of its text.
 // - `read`, `flatten`, `copy`: a JSON text; the values at the top of its document, or all of them, or those at the top of a
 //   copy. `flatten` and `copy` read once.
+// - `list`: a JSON text, which is read straight into the list of its values; how many there are.
 // - `fill`: how many items a table has, with 8,192 rules; its judgements.
 // The word `again` makes a call of the tool twice, and prints a line for each answer: behind it stand the call, the root and the
 // document, and standard input is the source, or the schema. The call is `export`, `vet`, `validate`, `agree`, or `run` for
@@ -80,6 +81,7 @@ fn counted(alloc: Global, input: &[u8], words: &[String]) -> Result<usize, Stop>
     let times = word_at(words, 2, "1").parse::<u32>()?;
     match word_at(words, 1, "lex") {
         "read" => documents::read(alloc, input, times),
+        "list" => documents::listed(alloc, input, times),
         "flatten" => documents::flattened(alloc, input, times),
         "copy" => documents::copied(alloc, input, times),
         "fill" => tables::filled(alloc, str::from_utf8(input)?, times),

@@ -6,7 +6,10 @@ pub use Rattle.cs_document.specs.View
 pub use Rattle.cs_document.specs.Order
 pub use Rattle.cs_flat.specs.Nodes
 pub use Rattle.cs_flat.specs.Items
+pub use Rattle.cs_flat.specs.Listed
 pub use Rattle.cs_flat.specs.View as FlatView
 pub mod Texts
+pub mod ReadAs
 -- for contracts of private functions and proofs alone
 pub use Rattle.cs_document.specs.Equality
+pub mod Listings

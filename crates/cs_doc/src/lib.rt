@@ -2,10 +2,15 @@
 // the lists of their values those of `cs_flat`.
 #![tactic(auto)]
 
+mod document;
+mod listing;
 mod read;
 mod write;
 
 pub use cs_document::{Doc, DocFault};
 pub use cs_flat::{Flat, Item, flatten};
+pub use document::{Document, read_document};
+pub use json::Scratch;
+pub use listing::read_flat;
 pub use read::read_doc;
 pub use write::write_doc;

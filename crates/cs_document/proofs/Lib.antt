@@ -1,5 +1,4 @@
--- What the proofs of this crate show: a step whose parts are well founded has one solution (`some`, `only` in `OneMeaning`), and a
--- set of documents is looked up by halving (`among_integers`, `among_others` in `Halving`).
+-- What the proofs of this crate show: a step whose parts are well founded has one solution (`some`, `only` in `OneMeaning`).
 
 -- facts of each element of a list, the documents directly inside one with their induction, and the law of one meaning
 pub mod Each
@@ -9,8 +8,6 @@ pub mod OneMeaning
 pub mod Entries
 pub mod Maps
 pub mod Views
--- sets of documents
-pub mod Halving
 -- samples
 pub mod SampleDocuments
 mod Samples

@@ -7,5 +7,4 @@ pub mod Order
 -- for contracts of private functions and proofs alone
 pub mod Equality
 pub mod TotalOrder
-pub mod Sorted
 pub mod Code

@@ -6,8 +6,6 @@ mod doc;
 mod equal;
 mod fault;
 mod order;
-mod set;
 
 pub use doc::Doc;
 pub use fault::DocFault;
-pub use set::DocSet;

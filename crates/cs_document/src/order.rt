@@ -50,16 +50,19 @@ impl Ord for Doc {
     }
 }
 
-fn kind(doc: &Doc) -> u8
-    ensures { result ≡ kind_of (doc_view doc.now) }
-{
-    match doc {
-        Doc::Null => 0,
-        Doc::Bool(_) => 1,
-        Doc::Int(_) => 2,
-        Doc::Text(_) => 3,
-        Doc::List(_) => 4,
-        Doc::Object(_) => 5,
+impl Doc {
+    /// The place of its kind in the order of documents: from 0 for null to 5 for a map.
+    pub fn kind(&self) -> u8
+        ensures { result ≡ kind_of (doc_view self.now) }
+    {
+        match self {
+            Doc::Null => 0,
+            Doc::Bool(_) => 1,
+            Doc::Int(_) => 2,
+            Doc::Text(_) => 3,
+            Doc::List(_) => 4,
+            Doc::Object(_) => 5,
+        }
     }
 }
 
@@ -73,7 +76,7 @@ fn compare(a: &Doc, b: &Doc) -> Ordering
         (Doc::Text(x), Doc::Text(y)) => x.cmp(y),
         (Doc::List(x), Doc::List(y)) => compare_items(x, y),
         (Doc::Object(x), Doc::Object(y)) => compare_members(x, y),
-        _ => kind(a).cmp(&kind(b)),
+        _ => a.kind().cmp(&b.kind()),
     }
 }
 

@@ -15,7 +15,7 @@ numbers_above : (k : List ℕ) (n : ℕ) (ms : Members) → KeysAbove k ms → E
 numbers_above k n no_members h = tt
 numbers_above k n (member l d ms) h = (h.0, numbers_above k (suc (n + inside d)) ms h.1)
 
-numbers_ascend : (n : ℕ) (ms : Members) → AreMembers ms → KeysAscend (member_numbers n ms)
+pub numbers_ascend : (n : ℕ) (ms : Members) → AreMembers ms → KeysAscend (member_numbers n ms)
 numbers_ascend n no_members h = tt
 numbers_ascend n (member k d ms) h = let m = suc (n + inside d) in (numbers_above k m ms h.0, numbers_ascend m ms h.2)
 

@@ -49,7 +49,7 @@ mutual
 -- ---- where each stands
 
 -- the list has the document at the place
-abbrev Stands : List Document → ℕ → Document → Type 0
+abbrev pub Stands : List Document → ℕ → Document → Type 0
 Stands ns i d = node_at ns i ≡ d
 
 -- the elements, and the list behind them
@@ -76,22 +76,22 @@ stands_last ns n (text s) h = stands_alone ns n (text s) h.0
 stands_last ns n (list ds) h = (parted_list ns n ds h).1
 stands_last ns n (object ms) h = (parted_object ns n ms h).1
 
-elements_at : (ns : List Document) (n : ℕ) (ds : Documents) → EachFrom (Stands ns) n (element_nodes ds) → elements ds ≡ map (node_at ns) (element_numbers n ds)
+pub elements_at : (ns : List Document) (n : ℕ) (ds : Documents) → EachFrom (Stands ns) n (element_nodes ds) → elements ds ≡ map (node_at ns) (element_numbers n ds)
 elements_at ns n no_documents h = refl
 elements_at ns n (document d ds) h =
     let parts = parted_first ns n d (element_nodes ds) h in ap₂ ◌∷◌ (sym (stands_last ns n d parts.0)) (elements_at ns (suc (n + inside d)) ds parts.1)
 
-entries_at : (ns : List Document) (n : ℕ) (ms : Members) → EachFrom (Stands ns) n (member_nodes ms) → entries ms ≡ map (map_entry (node_at ns)) (member_numbers n ms)
+pub entries_at : (ns : List Document) (n : ℕ) (ms : Members) → EachFrom (Stands ns) n (member_nodes ms) → entries ms ≡ map (map_entry (node_at ns)) (member_numbers n ms)
 entries_at ns n no_members h = refl
 entries_at ns n (member k d ms) h =
     let parts = parted_first ns n d (member_nodes ms) h in
     ap₂ (λ (v : Document) (es : List (Entry Document)). (k, v) ∷ es) (sym (stands_last ns n d parts.0)) (entries_at ns (suc (n + inside d)) ms parts.1)
 
-elements_below : (n m : ℕ) (ds : Documents) → n + inside_elements ds ≤ m → Each (λ y. y < m) (element_numbers n ds)
+pub elements_below : (n m : ℕ) (ds : Documents) → n + inside_elements ds ≤ m → Each (λ y. y < m) (element_numbers n ds)
 elements_below n m no_documents l = tt
 elements_below n m (document d ds) l = (omega arith, elements_below (suc (n + inside d)) m ds (omega arith))
 
-entries_below : (n m : ℕ) (ms : Members) → n + inside_members ms ≤ m → Each (λ (e : Entry ℕ). e.1 < m) (member_numbers n ms)
+pub entries_below : (n m : ℕ) (ms : Members) → n + inside_members ms ≤ m → Each (λ (e : Entry ℕ). e.1 < m) (member_numbers n ms)
 entries_below n m no_members l = tt
 entries_below n m (member k d ms) l = (omega arith, entries_below (suc (n + inside d)) m ms (omega arith))
 
@@ -133,7 +133,7 @@ mutual
 
 -- ---- the laws
 
-all_stand : (ns : List Document) → EachFrom (Stands ns) 0 ns
+pub all_stand : (ns : List Document) → EachFrom (Stands ns) 0 ns
 all_stand [] = tt
 all_stand (d ∷ ds) = (refl, raised (Stands (d ∷ ds)) 0 ds (all_stand ds))
 

@@ -1,11 +1,9 @@
 -- What an item of the code is.
 use Rattle.std.specs.Prelude.{ℕ, List, map}
 use Rattle.std.specs.Borrow.{Bor}
-use Rattle.cs_document.specs.Document.{Document, Entry}
+use Rattle.cs_document.specs.Document.{Entry}
 use Rattle.cs_document.specs.Opened.{Opened, a_null, a_boolean, an_integer, a_text, a_list, an_object}
-use Rattle.cs_document.specs.View.{doc_view}
 use Rattle.cs_flat.specs.declared.flat.Item.{Item}
-use Rattle.cs_flat.specs.declared.flat.Node.{Node}
 use Rattle.cs_flat.specs.declared.flat.Item.TheVariants.{Null, Bool, Int, Text, List as TheList, Object}
 
 abbrev pub text_of : Bor (List ℕ) → List ℕ
@@ -19,12 +17,5 @@ item_view Null = a_null
 item_view (Bool b) = a_boolean b
 item_view (Int n) = an_integer n
 item_view (Text s) = a_text s.now
-item_view (TheList v) = a_list v.items
-item_view (Object v) = an_object (map entry_of v.items)
-
--- the item and the value of a node of the code; for private contracts alone
-abbrev pub node_item : Node → Opened ℕ
-node_item n = item_view n.item
-
-abbrev pub node_value : Node → Document
-node_value n = doc_view n.doc.now
+item_view (TheList v) = a_list v.now
+item_view (Object v) = an_object (map entry_of v.now)

@@ -7,7 +7,7 @@ use Rattle.std.specs.Cmp.Lexicographic.{slice_cmp, texts_ties, nat_list_eq_equiv
 use Rattle.std.specs.Str.{bytes_eq}
 use Rattle.std.proofs.lemmas.Cmp.{nat_list_cmp_total}
 use Rattle.std.proofs.lemmas.List.Sorted.{list_any-IsPermutation}
-use Rattle.cs_document.proofs.Halving.{told}
+use Rattle.cs_flat.proofs.Halving.{told}
 use Rattle.cs_flat.specs.View.{text_of}
 use Rattle.cs_package.specs.Expression.{is_every}
 use Rattle.cs_package.specs.View.{mark_of}

@@ -7,7 +7,8 @@ use Rattle.cs_document.specs.Document.{Document}
 use Rattle.cs_document.specs.Opened.{Opened, opened}
 use Rattle.cs_document.specs.Inside.{map_opened}
 use Rattle.cs_flat.specs.Nodes.{nodes, node_at}
-use Rattle.cs_flat.specs.Items.{items, AreItems}
+use Rattle.cs_flat.specs.Items.{AreItems}
+use Rattle.cs_flat.specs.Listed.{values, document_in}
 use Rattle.cs_table.specs.Judged.{AllVerdicts, Judgement, IsJudged, Table, verdicts}
 use Rattle.cs_table.specs.Limit.{most_pairs}
 use Rattle.cs_table.specs.Refused as limits
@@ -29,56 +30,56 @@ use Rattle.cs_instance.specs.Rooted.{IsRooted}
 use Rattle.cs_instance.proofs.Satisfied.{named, at_documents}
 use Rattle.cs_instance.proofs.Wholes.{rules_count}
 
-pub judge_of : (E : Environment) (n : List ℕ) (d : Document) (root : ℕ) (rules : List Coded) (inner : List ℕ) → IsRooted E n rules inner root → IsJudge E n d root (length (nodes d)) (length rules) (answer step rules inner (nodes d) (items d))
-judge_of E n d root rules inner h =
+pub judge_of : (E : Environment) (n : List ℕ) (xs : List (Opened ℕ)) (root : ℕ) (rules : List Coded) (inner : List ℕ) → IsRooted E n rules inner root → IsJudge E n xs root (length xs) (length rules) (answer step rules inner (values xs) xs)
+judge_of E n xs root rules inner h =
     let count : length rules ≡ length h.all = sym (length-map rules (numbered inner)) ∙ h.numbering.count in
     record { all = h.all; are = h.are; asked = map (numbered inner) rules; numbering = h.numbering; item_count = refl; rule_count = count; found = h.root; answers = answers }
   where
-    answers : (f : AllVerdicts) (i r : ℕ) (c : Constraint ℕ ℕ) (x : Opened ℕ) → slice_get (map (numbered inner) rules) r ≡ Some c → slice_get (items d) i ≡ Some x → answer step rules inner (nodes d) (items d) i r f ≡ is_satisfied (λ p. f i p) (λ y p. f y p) c x
+    answers : (f : AllVerdicts) (i r : ℕ) (c : Constraint ℕ ℕ) (x : Opened ℕ) → slice_get (map (numbered inner) rules) r ≡ Some c → slice_get xs i ≡ Some x → answer step rules inner (values xs) xs i r f ≡ is_satisfied (λ p. f i p) (λ y p. f y p) c x
     answers f i r c x e k =
         let y = coded_found (numbered inner) rules r c e in
-        answer_is step rules inner (nodes d) (items d) i r f y.0 x y.1 k ∙ sym (named (λ q. q) (slice_index inner) (f i) f (asked_of y.0) x) ∙ ap (λ a. is_satisfied (f i) f a x) y.2
+        answer_is step rules inner (values xs) xs i r f y.0 x y.1 k ∙ sym (named (λ q. q) (slice_index inner) (f i) f (asked_of y.0) x) ∙ ap (λ a. is_satisfied (f i) f a x) y.2
 
-module _ (E : Environment) (n : List ℕ) (d : Document) (root ic rc : ℕ) (judge : Judgement) (j : IsJudge E n d root ic rc judge) (are : AreItems (nodes d) (items d)) where
+module _ (E : Environment) (n : List ℕ) (xs : List (Opened ℕ)) (root ic rc : ℕ) (judge : Judgement) (j : IsJudge E n xs root ic rc judge) (are : AreItems (values xs) xs) (whole : length xs ≡ length (nodes (document_in xs))) where
   module _ (I : Rule → Document → Bool) (h : IsInstance E I) where
     abbrev table_of : AllVerdicts
-    table_of i r = I (rule_at j.all r) (node_at (nodes d) i)
+    table_of i r = I (rule_at j.all r) (node_at (values xs) i)
 
     step_is : (rule : Rule) (x : Document) → I rule x ≡ is_satisfied (λ q. I q x) (λ y q. I q y) (map_constraint (λ p. p) node (constraint_of E rule)) (opened x)
     step_is rule x = h rule x ∙ sym (named (λ p. p) node (λ q. I q x) (λ y q. I q y) (constraint_of E rule) (opened x))
 
     pub is_judged : IsJudged ic rc judge table_of
     is_judged =
-        judged_where j.asked (items d) ic rc judge table_of (j.item_count ∙ sym are.count) (j.rule_count ∙ sym j.numbering.count)
+        judged_where j.asked xs ic rc judge table_of j.item_count (j.rule_count ∙ sym j.numbering.count)
         (λ i r c o e k.
-        let x = node_at (nodes d) i in
+        let x = node_at (values xs) i in
         step_is (rule_at j.all r) x
         ∙ ap₂ (is_satisfied (λ q. I q x) (λ y q. I q y)) (j.numbering.asks r c e) (are.node i o k)
-        ∙ named (rule_at j.all) (rule_at j.all) (λ q. I q x) (λ y q. I q y) c (map_opened (node_at (nodes d)) o)
-        ∙ at_documents (node_at (nodes d)) (λ q. I (rule_at j.all q) x) (λ y q. I (rule_at j.all q) y) c o
+        ∙ named (rule_at j.all) (rule_at j.all) (λ q. I q x) (λ y q. I q y) c (map_opened (node_at (values xs)) o)
+        ∙ at_documents (node_at (values xs)) (λ q. I (rule_at j.all q) x) (λ y q. I (rule_at j.all q) y) c o
         ∙ sym (j.answers table_of i r c o e k))
 
-  pub is_table : (t : Table) → t.items ≡ ic → t.rules ≡ rc → length t.given ≡ ic * rc → ((f : AllVerdicts) → IsJudged ic rc judge f → (i r : ℕ) → i < ic → r < rc → verdicts t i r ≡ f i r) → IsTable E n d root t
+  pub is_table : (t : Table) → t.items ≡ ic → t.rules ≡ rc → length t.given ≡ ic * rc → ((f : AllVerdicts) → IsJudged ic rc judge f → (i r : ℕ) → i < ic → r < rc → verdicts t i r ≡ f i r) → IsTable E n xs root t
   is_table t a b given only =
       let count = given ∙ ap₂ ◌*◌ j.item_count j.rule_count in
       record { all = j.all; are = j.are; item_count = a ∙ j.item_count; rule_count = b ∙ j.rule_count; count = count; found = j.found; verdict = verdict }
     where
-      verdict : (I : Rule → Document → Bool) → IsInstance E I → (i r : ℕ) → i < length (nodes d) → r < length j.all → verdicts t i r ≡ I (rule_at j.all r) (node_at (nodes d) i)
+      verdict : (I : Rule → Document → Bool) → IsInstance E I → (i r : ℕ) → i < length xs → r < length j.all → verdicts t i r ≡ I (rule_at j.all r) (node_at (values xs) i)
       verdict I h i r l m = only (table_of I h) (is_judged I h) i r (subst (λ k. i < k) (sym j.item_count) l) (subst (λ k. r < k) (sym j.rule_count) m)
 
-  pairs : ic * rc ≡ length (nodes d) * length (rules_of E j.are.names)
-  pairs = ap₂ ◌*◌ j.item_count (j.rule_count ∙ length_permutation (rules_of E j.are.names) j.all j.are.same)
+  pairs : ic * rc ≡ length (nodes (document_in xs)) * length (rules_of E j.are.names)
+  pairs = ap₂ ◌*◌ (j.item_count ∙ whole) (j.rule_count ∙ length_permutation (rules_of E j.are.names) j.all j.are.same)
 
-  pub few_pairs : ic * rc ≤ most_pairs → HasManyPairs E n d → ⊥
+  pub few_pairs : ic * rc ≤ most_pairs → HasManyPairs E n (document_in xs) → ⊥
   few_pairs l h =
-      let same : length (nodes d) * length (rules_of E h.names) ≡ ic * rc = ap (λ k. length (nodes d) * k) (rules_count E n j.are.names h.names j.are.reachable h.reachable) ∙ sym pairs in
+      let same : length (nodes (document_in xs)) * length (rules_of E h.names) ≡ ic * rc = ap (λ k. length (nodes (document_in xs)) * k) (rules_count E n j.are.names h.names j.are.reachable h.reachable) ∙ sym pairs in
       let many : most_pairs < ic * rc = subst (λ k. most_pairs < k) same h.many in
       omega (arith, l, many)
 
-  pub many_pairs : most_pairs < ic * rc → HasManyPairs E n d
+  pub many_pairs : most_pairs < ic * rc → HasManyPairs E n (document_in xs)
   many_pairs l = record { names = j.are.names; reachable = j.are.reachable; many = subst (λ k. most_pairs < k) pairs l }
 
-  pub refused : (root : List ℕ) → Names E root n → (e : TableFault) → limits.IsRefusal ic rc e → IsRefusal (fault_of e) E root d
+  pub refused : (root : List ℕ) → Names E root n → (e : TableFault) → limits.IsRefusal ic rc e → IsRefusal (fault_of e) E root (document_in xs)
   refused root names table.OutOfMemory h = tt
   refused root names table.TooManyPairs h = (n, names, many_pairs h)
 

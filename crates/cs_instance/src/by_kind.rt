@@ -1,12 +1,14 @@
 // Verdicts of a rule that a value's kind alone decides.
-ghost use Rattle.std.specs.Prelude.{◌≡◌, [], Some};
+ghost use Rattle.std.specs.Prelude.{◌≡◌, ℕ, Bool, true, List, [], Some, map};
+ghost use Rattle.cs_document.specs.Document.{Entry};
 ghost use Rattle.cs_package.specs.View.{expression_of, kind_of};
 ghost use Rattle.cs_rules.specs.Kinds.{Foretells};
 ghost use Rattle.cs_instance.specs.Constraint as constraint;
 ghost use Rattle.cs_instance.specs.Kinds.{IsTestedByKind};
-ghost use Rattle.cs_instance.specs.Steps.{step, test_of};
+ghost use Rattle.cs_instance.specs.Steps.{step, test_of, field_of, ending_of};
 
-use crate::rules::Rule;
+use crate::fields::Fields;
+use crate::rules::{Ending, Rule};
 use cs_package::{Kind, Shape};
 use cs_rules::ByKind;
 
@@ -68,19 +70,36 @@ fn by_test(shape: &Shape) -> ByKind
     }
 }
 
-/// The verdicts of a rule that a value's kind alone decides.
-pub(crate) fn by_kind(rule: &Rule<'_>) -> ByKind
-    ensures { Foretells (step rule.now) result }
+/// Whether a struct literal is `{...}`, which asks nothing of a map.
+fn admits_every_struct(fields: &Fields<'_>, opened: bool) -> bool
+    ensures { result ≡ true → (inside : ℕ → ℕ → Bool) (ms : List (Entry ℕ))
+        → constraint.fields_hold inside (map field_of fields.now.all.items) opened ms ≡ true }
+{
+    opened && fields.all.is_empty()
+}
+
+/// Whether a list literal is `[...]`, which asks nothing of a list.
+fn admits_every_list(front: &[usize], end: &Ending) -> bool
+    ensures { result ≡ true → (inside : ℕ → ℕ → Bool) (ys : List ℕ)
+        → constraint.elements_hold inside front.now (ending_of end.now) ys ≡ true }
+{
+    front.is_empty() && matches!(end, Ending::Any)
+}
+
+/// The verdicts of a rule that a value's kind alone decides, where it decides those of earlier rules so.
+pub(crate) fn by_kind(rule: &Rule<'_>, earlier: &[ByKind]) -> ByKind
+    ensures { Foretells (step rule.now) earlier.now result }
 {
     match rule {
         Rule::Simple(shape) => by_test(shape),
-        Rule::All(_) | Rule::Any(_) => ByKind::of(None),
-        Rule::Struct { .. } => ByKind {
-            object: None,
+        Rule::All(parts) => ByKind::all(parts, earlier),
+        Rule::Any(parts) => ByKind::any(parts, earlier),
+        Rule::Struct { fields, opened } => ByKind {
+            object: admits_every_struct(fields, *opened).then_some(true),
             ..ByKind::of(Some(false))
         },
-        Rule::List { .. } => ByKind {
-            list: None,
+        Rule::List { front, end } => ByKind {
+            list: admits_every_list(front, end).then_some(true),
             ..ByKind::of(Some(false))
         },
     }

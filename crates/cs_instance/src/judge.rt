@@ -2,8 +2,7 @@
 use crate::by_kind::by_kind;
 use crate::rules::Rule;
 use crate::steps::holds;
-use cs_document::Doc;
-use cs_flat::Item;
+use cs_flat::{Flat, Item};
 use cs_rules::{Asks, ByKind, Known, RuleJudge};
 
 /// Judges the values of a document by the definitions that a root reaches and the expressions in their bodies: the items
@@ -20,12 +19,12 @@ impl<'a> Asks for Rule<'a> {
 
     ghost below = { λ s r m. PartsBelow r m (asked_of s) };
 
-    fn holds(&self, value: &Item<'_>, _doc: &Doc, known: &Known<'_>) -> bool {
+    fn holds(&self, value: &Item<'_>, _flat: &Flat<'_>, known: &Known<'_>) -> bool {
         holds(self, value, known)
     }
 
-    fn by_kind(&self) -> ByKind {
-        by_kind(self)
+    fn by_kind(&self, earlier: &[ByKind]) -> ByKind {
+        by_kind(self, earlier)
     }
 
     ghost looks_at_parts = { λ s i r m here here' inside inside' h k d. numbers_same i r m here here' inside inside' h k (asked_of s) };

@@ -2,6 +2,7 @@
 ghost use Rattle.std.specs.Prelude.{◌≡◌, ◌<◌, ℕ, List, Bool, IfOk, IfErr, OnOk, IsErrOf};
 ghost use Rattle.cs_document.specs.Document.{Document};
 ghost use Rattle.cs_document.specs.View.{doc_view};
+ghost use Rattle.cs_flat.specs.Listed.{document_in};
 ghost use Rattle.cs_package.specs.Environment.{Names};
 ghost use Rattle.cs_instance.specs.Instance.{Rule, definition, IsInstance, OneMeaning};
 ghost use Rattle.cs_instance.specs.Rules.{HasManyPairs};
@@ -31,7 +32,7 @@ pub fn instance_judge<'a>(
     ensures found { IfOk result (λ t. (n : List ℕ) × Names «package».now root.now n
         × IsJudge «package».now n flat.now t.1 (⟦<InstanceJudge<'a> as Judge>⟧.item_count t.0)
         (⟦<InstanceJudge<'a> as Judge>⟧.rule_count t.0) (⟦<InstanceJudge<'a> as Judge>⟧.answer t.0)) }
-    ensures refused { IfErr result (λ e. IsRefusal e «package».now root.now flat.now) }
+    ensures refused { IfErr result (λ e. IsRefusal e «package».now root.now (document_in flat.now)) }
     ensures fits { IsErrOf result InstanceFault.TooManyPairs → ⊥ }
 {
     let Some(i) = package.package().find(root) else {
@@ -56,13 +57,39 @@ pub fn instance_table(
     ensures found { IfOk result (λ t. (n : List ℕ) × Names «package».now root.now n
         × IsTable «package».now n flat.now t.1 t.0) }
     ensures within { OnOk result ((n : List ℕ) → Names «package».now root.now n
-        → ¬ HasManyPairs «package».now n flat.now) }
-    ensures refused { IfErr result (λ e. IsRefusal e «package».now root.now flat.now) }
+        → ¬ HasManyPairs «package».now n (document_in flat.now)) }
+    ensures refused { IfErr result (λ e. IsRefusal e «package».now root.now (document_in flat.now)) }
 {
     let _count = flat.len(); // for the proof: the items are the values
     let (judge, number) = instance_judge(alloc, package, root, flat)?;
     let table = fill(alloc, &judge)?;
     Ok((table, number))
+}
+
+/// Whether a document, as the list of its values, is an instance of the root, a definition of the package named with its
+/// `#` (CUE, values).
+///
+/// # Errors
+/// `UnknownRoot` exactly where the package doesn't declare the root, `TooManyPairs` exactly where the values of the
+/// document and the rules that the root reaches make more than 67,108,864 pairs.
+pub fn instance_verdict(
+    alloc: Global,
+    package: &Guarded,
+    root: &str,
+    flat: &Flat<'_>,
+) -> Result<bool, InstanceFault>
+    ensures one_meaning { OneMeaning «package».now }
+    ensures answer { IfOk result (λ b. (n : List ℕ) × Names «package».now root.now n
+        × ((I : Rule → Document → Bool) → IsInstance «package».now I
+        → b ≡ I (definition n) (document_in flat.now))) }
+    ensures within { OnOk result ((n : List ℕ) → Names «package».now root.now n
+        → ¬ HasManyPairs «package».now n (document_in flat.now)) }
+    ensures refused { IfErr result
+        (λ e. IsRefusal e «package».now root.now (document_in flat.now)) }
+{
+    let _package = package.package(); // for the proof: the package is guarded
+    let (table, number) = instance_table(alloc, package, root, flat)?;
+    Ok(table.get(flat.len() - 1, number))
 }
 
 /// Whether the document is an instance of the root, a definition of the package named with its `#` (CUE, values).
@@ -88,6 +115,5 @@ pub fn is_instance(
     let Ok(flat) = flatten(alloc, doc) else {
         return Err(InstanceFault::OutOfMemory);
     };
-    let (table, number) = instance_table(alloc, package, root, &flat)?;
-    Ok(table.get(flat.len() - 1, number))
+    instance_verdict(alloc, package, root, &flat)
 }

@@ -14,5 +14,5 @@ mod steps;
 
 pub use fault::InstanceFault;
 pub use judge::InstanceJudge;
-pub use judging::{instance_judge, instance_table, is_instance};
+pub use judging::{instance_judge, instance_table, instance_verdict, is_instance};
 pub use laws::one_meaning;

@@ -1,19 +1,18 @@
-// The items of a document, through the calls of `cs_doc`, `cs_document` and `cs_flat`.
+// The items of a document, through the calls of `cs_doc` and `cs_flat`.
 use cs_doc::{Doc, DocFault, Flat, Item, flatten, read_doc};
-use cs_document::DocSet;
-use cs_flat::{Names, number_under};
+use cs_flat::{DocSet, Names, number_under};
 use std::alloc::Global;
 use std::test::Fail;
 
 /// Whether the item is the one of that number of `[1,[2],{"k":"v"}]`: the number of a value comes after those inside it.
-fn is_item(number: usize, item: &Item<'_>) -> bool {
+fn is_item(number: usize, item: Item<'_>) -> bool {
     match (number, item) {
-        (0, Item::Int(n)) => *n == 1,
-        (1, Item::Int(n)) => *n == 2,
-        (2, Item::List(numbers)) => numbers.as_slice() == [1].as_slice(),
-        (3, Item::Text(text)) => *text == "v",
-        (4, Item::Object(entries)) => entries.as_slice() == [("k", 3)].as_slice(),
-        (5, Item::List(numbers)) => numbers.as_slice() == [0, 2, 4].as_slice(),
+        (0, Item::Int(n)) => n == 1,
+        (1, Item::Int(n)) => n == 2,
+        (2, Item::List(numbers)) => numbers == [1].as_slice(),
+        (3, Item::Text(text)) => text == "v",
+        (4, Item::Object(entries)) => entries == [("k", 3)].as_slice(),
+        (5, Item::List(numbers)) => numbers == [0, 2, 4].as_slice(),
         _ => false,
     }
 }
@@ -40,7 +39,7 @@ fn all_have(flat: &Flat<'_>, key: &str, number: Option<usize>) -> bool {
     let mut found = false;
     for i in 0..flat.len() {
         if let Item::Object(entries) = flat.item(i) {
-            if number_under(entries.as_slice(), key) != number {
+            if number_under(entries, key) != number {
                 return false;
             }
             found = true;
@@ -70,7 +69,7 @@ fn count_among(alloc: Global, flat: &Flat<'_>, list: &Doc) -> Result<usize, DocF
     let set = DocSet::new(alloc, docs.as_slice())?;
     let mut count: usize = 0;
     for i in 0..flat.len() {
-        if set.contains(flat.value(i)) {
+        if set.contains(flat, i) {
             count = count.saturating_add(1);
         }
     }
@@ -113,7 +112,7 @@ fn count_with(flat: &Flat<'_>, names: &Names<'_>) -> usize {
     let mut count: usize = 0;
     for i in 0..flat.len() {
         if let Item::Object(entries) = flat.item(i) {
-            if names.are_keys(entries.as_slice()) {
+            if names.are_keys(entries) {
                 count = count.saturating_add(1);
             }
         }

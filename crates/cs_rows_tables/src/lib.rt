@@ -14,6 +14,8 @@ mod instances;
 #[cfg(test)]
 mod items;
 #[cfg(test)]
+mod listings;
+#[cfg(test)]
 mod never;
 #[cfg(test)]
 mod schemas;

@@ -1,6 +1,6 @@
 // Tables of examples: a row a line, its cells parted by `=>`. A line that begins with two blanks and `…` goes on with the row
 // before it.
-use crate::{documents, instances, schemas, texts, translations};
+use crate::{documents, instances, listings, schemas, texts, translations};
 use std::alloc::Global;
 use std::test::Fail;
 
@@ -9,6 +9,10 @@ use std::test::Fail;
 pub(crate) enum Row {
     /// A text, and what it is once it was read and written again.
     Text,
+    /// A text, and the way in which it is read as the list of its values.
+    Way,
+    /// The same; the fronts of the text.
+    Fronts,
     /// Two texts, and whether they are the same document.
     Pair,
     /// A schema, and what it is once it was read and written again, or its refusal.
@@ -39,6 +43,8 @@ pub(crate) fn check(alloc: Global, table: &str, rows: Row) -> Result<(), Fail> {
 fn holds(alloc: Global, row: &str, rows: Row) -> Result<bool, Fail> {
     match rows {
         Row::Text => Ok(documents::is_read(alloc, row)?),
+        Row::Way => Ok(listings::goes(alloc, row)?),
+        Row::Fronts => Ok(listings::fronts_agree(alloc, row)?),
         Row::Pair => Ok(documents::are_compared(alloc, row)?),
         Row::Written => texts::is_answered(alloc, row),
         Row::Verdicts => texts::are_judged(alloc, row),

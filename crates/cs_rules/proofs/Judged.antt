@@ -37,7 +37,7 @@ module _ {R C : Type 0} (made : R → C) (rules : List R) (r : ℕ) (c : C) wher
 
 -- ---- tables
 
-found_within : {X : Type 0} (xs : List X) (i : ℕ) → i < length xs → (x : X) × (slice_get xs i ≡ Some x)
+pub found_within : {X : Type 0} (xs : List X) (i : ℕ) → i < length xs → (x : X) × (slice_get xs i ≡ Some x)
 found_within [] i l = absurd (omega (arith, l))
 found_within (x ∷ xs) zero l = (x, refl)
 found_within (x ∷ xs) (suc i) l = found_within xs i (omega (arith, l))

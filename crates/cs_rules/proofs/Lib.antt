@@ -2,8 +2,11 @@
 
 pub mod Judged
 pub mod Foretold
+pub mod Decided
 -- lists that grow, for the numbering of rules
 pub mod Lists
 pub mod Waiting
 -- lists in another order
 pub mod Permutations
+-- samples
+mod Samples

@@ -5,3 +5,4 @@ pub mod Props
 pub mod Looks
 pub mod Knowns
 pub mod Kinds
+pub mod Rows

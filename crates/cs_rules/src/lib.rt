@@ -5,6 +5,7 @@ mod by_kind;
 mod judge;
 mod known;
 mod numberer;
+mod rows;
 mod rule;
 
 pub use by_kind::ByKind;

@@ -1,15 +1,15 @@
 // What rules ask.
-ghost use Rattle.std.specs.Prelude.{◌≡◌, ℕ, ◌≤◌};
+ghost use Rattle.std.specs.Prelude.{◌≡◌, ℕ, ◌≤◌, Some, slice_get};
 ghost use Rattle.cs_document.specs.Inside.{AscendsInside, InsideBelow};
-ghost use Rattle.cs_document.specs.View.{doc_view};
+ghost use Rattle.cs_flat.specs.Listed.{values};
+ghost use Rattle.cs_flat.specs.Nodes.{node_at};
 ghost use Rattle.cs_flat.specs.View.{item_view};
 ghost use Rattle.cs_rules.specs.Steps.{Step, LooksAtParts};
 ghost use Rattle.cs_rules.specs.Kinds.{Foretells};
 ghost use Rattle.cs_rules.specs.Knowns.{verdict_here, verdict_inside, value_count, rule_count, place_count};
 
 use crate::{ByKind, Known};
-use cs_document::Doc;
-use cs_flat::Item;
+use cs_flat::{Flat, Item};
 
 /// A rule that documents are judged by. A part that it asks of the same value is named by its number, and one that it asks
 /// of a value inside by its place in a list of such rules.
@@ -20,17 +20,18 @@ pub trait Asks: Drop {
     /// Its parts asked of the same value are below the first number, and the places of the others below the second.
     ghost below: { Self → ℕ → ℕ → Type 0 };
 
-    /// The verdict on a value.
-    fn holds(&self, value: &Item<'_>, doc: &Doc, known: &Known<'_>) -> bool
+    /// The verdict on a value of a document: the one that the verdicts known are about.
+    fn holds(&self, value: &Item<'_>, flat: &Flat<'_>, known: &Known<'_>) -> bool
+        requires item { slice_get flat.now known.now.item ≡ Some (item_view value.now) }
         requires parts { below self.now (rule_count known.now) (place_count known.now) }
         requires ascends { AscendsInside (item_view value.now) }
         requires children { InsideBelow (value_count known.now) (item_view value.now) }
         ensures { result ≡ step self.now (verdict_here known.now) (verdict_inside known.now)
-            (doc_view doc.now) (item_view value.now) };
+            (node_at (values flat.now) known.now.item) (item_view value.now) };
 
-    /// The verdicts that a value's kind alone decides.
-    fn by_kind(&self) -> ByKind
-        ensures { Foretells (step self.now) result };
+    /// The verdicts that a value's kind alone decides, where it decides those of earlier rules so.
+    fn by_kind(&self, earlier: &[ByKind]) -> ByKind
+        ensures { Foretells (step self.now) earlier.now result };
 
     /// Law: the verdicts on its parts alone are looked at.
     ghost looks_at_parts: { (s : Self) → LooksAtParts (below s) (step s) };

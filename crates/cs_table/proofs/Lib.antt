@@ -1,7 +1,9 @@
 -- What the proofs of this crate show: a judge that looks back has one table (`only_table` in `Tables`, by induction on the item and then on the
--- rule), a verdict that is given keeps the earlier ones, and so does its bit (`Bits`).
+-- rule), a verdict that is given keeps the earlier ones, and so does its bit (`Bits`). An item is judged rule by rule, whichever rules are left of
+-- it (`Steps`).
 
 pub mod Bits
 pub mod Tables
+pub mod Steps
 -- samples
 mod Samples

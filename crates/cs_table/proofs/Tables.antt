@@ -1,6 +1,6 @@
 -- A verdict given keeps the earlier ones, and a judge has one table.
-use Rattle.std.proofs.Common.{◌≡◌, ℕ, zero, suc, ◌<◌, ◌≤◌, ◌+◌, ◌*◌, ⊎_elim, inl, inr, Bool, false, [], ◌∷◌, ◌++◌, length, sym, ◌∙◌, subst, arith}
-use Rattle.std.proofs.lemmas.List.{get_or_push, get_or_append_left}
+use Rattle.std.proofs.Common.{◌≡◌, ◌≢◌, ℕ, zero, suc, ◌<◌, ⊎_elim, inl, inr, sym, ◌∙◌, subst, arith}
+use Rattle.cs_table.specs.Filled.{OtherPairsStay}
 use Rattle.cs_table.specs.Judged.{AllVerdicts, Judgement, IsEarlier, AgreeBefore, LooksBack, IsJudged, Table, verdicts}
 
 pub earlier_trans : (a b j q i r : ℕ) → IsEarlier a b j q → IsEarlier j q i r → IsEarlier a b i r
@@ -9,27 +9,14 @@ earlier_trans a b j q i r (inl l) (inr m) = inl (let n = m.0 in omega arith)
 earlier_trans a b j q i r (inr l) (inl m) = inl (let n = l.0 in omega arith)
 earlier_trans a b j q i r (inr l) (inr m) = inr (l.0 ∙ m.0, let x = l.1 in let y = m.1 in omega arith)
 
-mul-suc : (i n : ℕ) → (i + 1) * n ≡ i * n + n
-mul-suc i n = grind arith
+-- an earlier pair is another one
+apart : (j q i r : ℕ) → IsEarlier j q i r → j ≡ i → q ≢ r
+apart j q i r (inl l) same = absurd (omega (arith, l, same))
+apart j q i r (inr l) same = λ e. let m = l.1 in omega (arith, m, e)
 
-mul-mono : (j i n : ℕ) → j ≤ i → j * n ≤ i * n
-mul-mono j i n l = grind arith
-
--- the place of an earlier pair is lower
-place_falls : (j q i r n : ℕ) → q < n → IsEarlier j q i r → j * n + q < i * n + r
-place_falls j q i r n m (inl l) = let a = mul-suc j n in let b = mul-mono (j + 1) i n (omega arith) in omega arith
-place_falls j q i r n m (inr l) = let b = l.1 in subst (λ k. j * n + q < k * n + r) l.0 (omega arith)
-
--- a verdict more leaves the earlier ones as they are
-module _ (t : Table) (v : Bool) (i r : ℕ) (full : length t.given ≡ i * t.rules + r) where
-  abbrev pub more : Table
-  more = record t { given = t.given ++ v ∷ [] }
-
-  pub others : AgreeBefore t.rules i r (verdicts more) (verdicts t)
-  others j q m e = get_or_append_left t.given (v ∷ []) false (j * t.rules + q) (let l = place_falls j q i r t.rules m e in omega arith)
-
-  pub here : verdicts more i r ≡ v
-  here = get_or_push t.given v false (i * t.rules + r) full
+-- a verdict that is given leaves the earlier ones as they are
+pub earlier_stay : (t u : Table) (i r : ℕ) → OtherPairsStay i r t u → AgreeBefore t.rules i r (verdicts u) (verdicts t)
+earlier_stay t u i r stay j q m e = stay j q m (apart j q i r e)
 
 module _ (rules : ℕ) (judge : Judgement) (back : LooksBack rules judge) where
   module _ (f f' : AllVerdicts) (i r : ℕ) (same : AgreeBefore rules i r f' f) where

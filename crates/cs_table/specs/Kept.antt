@@ -1,20 +1,21 @@
--- How a table keeps its verdicts: as bits, eight to a byte, from the lowest bit on.
-use Rattle.std.specs.Prelude.{◌≡◌, ℕ, ◌/◌, ◌%◌, ◌≤◌, ◌==◌, Bool, List, get_or, map}
+-- How a table keeps its verdicts: as bits, eight to a byte, from the lowest bit on, and each item from a byte of its own
+-- on.
+use Rattle.std.specs.Prelude.{ℕ, ◌+◌, ◌*◌, ◌/◌, ◌%◌, ◌==◌, Bool, List, get_or, map}
 use Rattle.std.specs.Int.{bit_at}
 use Rattle.std.specs.List.{range_with_len}
 
--- the bit at a place, which is 0 past the bytes
-abbrev pub bit_of : List ℕ → ℕ → ℕ
-bit_of bytes k = bit_at (get_or bytes (k / 8) 0) (k % 8)
+-- how many bytes an item has
+abbrev pub width_of : ℕ → ℕ
+width_of rules = (rules + 7) / 8
 
--- the verdict of a place
-abbrev pub is_yes : List ℕ → ℕ → Bool
-is_yes bytes k = bit_of bytes k == 1
+-- the bit of a pair, which is 0 past the bytes
+abbrev pub bit_of : List ℕ → ℕ → ℕ → ℕ → ℕ
+bit_of bytes width i r = bit_at (get_or bytes (i * width + r / 8) 0) (r % 8)
 
--- the verdicts of so many places, from the first on
-abbrev pub kept : List ℕ → ℕ → List Bool
-kept bytes count = map (is_yes bytes) (range_with_len 0 count)
+-- the verdict of a pair
+abbrev pub is_yes : List ℕ → ℕ → ℕ → ℕ → Bool
+is_yes bytes width i r = bit_of bytes width i r == 1
 
--- the bits from that place on are 0
-abbrev pub AreZeroFrom : List ℕ → ℕ → Type 0
-AreZeroFrom bytes count = (k : ℕ) → count ≤ k → bit_of bytes k ≡ 0
+-- the verdicts of all pairs, item by item
+abbrev pub kept : List ℕ → ℕ → ℕ → ℕ → List Bool
+kept bytes width items rules = map (λ k. is_yes bytes width (k / rules) (k % rules)) (range_with_len 0 (items * rules))

@@ -1,13 +1,16 @@
-// Tables filled from the first pair to the last.
-ghost use Rattle.std.specs.Prelude.{◌≡◌, ℕ, ◌<◌, ◌≤◌, ◌*◌, length, IfOk, IfErr, OnOk};
+// Tables filled from the first item to the last.
+ghost use Rattle.std.specs.Prelude.{◌≡◌, ℕ, ◌+◌, ◌<◌, ◌≤◌, ◌*◌, length, IfOk, IfErr, OnOk};
+ghost use Rattle.cs_table.specs.Decided.{IsDecided};
+ghost use Rattle.cs_table.specs.Filled.{IsFilledTo};
 ghost use Rattle.cs_table.specs.Judged.{AllVerdicts, IsJudged, verdicts};
 ghost use Rattle.cs_table.specs.Limit.{most_pairs};
 ghost use Rattle.cs_table.specs.Refused.{IsRefusal};
 
-use crate::{Judge, TableFault, Verdicts};
+use crate::{Judge, Row, TableFault, Verdicts};
 use std::alloc::Global;
 
-/// The only table in which the verdict of each pair is what the judge gives with that table. Each pair is judged once.
+/// The only table in which the verdict of each pair is what the judge gives with that table. The judge is asked once
+/// what is decided of each item, and once for each pair that isn't decided beforehand.
 ///
 /// # Errors
 /// `TooManyPairs` exactly where items times rules exceed 67,108,864.
@@ -26,12 +29,42 @@ pub fn fill<J: Judge>(alloc: Global, judge: &J) -> Result<Verdicts, TableFault>
     ensures refused { IfErr result (IsRefusal (J.item_count judge.now) (J.rule_count judge.now)) }
 {
     let items = judge.items();
-    let rules = judge.rules();
-    let mut done = Verdicts::empty(alloc, items, rules)?;
+    let mut done = Verdicts::blank(alloc, items, judge.rules())?;
     for item in 0..items {
-        for rule in 0..rules {
-            done.give(judge.judge(item, rule, &done))?;
+        match judge.decided(item) {
+            Some(row) => judge_left(judge, item, row, &mut done),
+            None => judge_all(judge, item, &mut done),
         }
     }
     Ok(done)
+}
+
+// Takes what is decided of an item, and judges the rules that are left.
+fn judge_left<J: Judge>(judge: &J, item: usize, row: Row<'_>, done: &mut Verdicts)
+    requires item { item < J.item_count judge.now }
+    requires decided { IsDecided (J.rule_count judge.now) (J.answer judge.now) item row }
+    requires before { IsFilledTo item (J.item_count judge.now) (J.rule_count judge.now)
+        (J.answer judge.now) done.old }
+    ensures { IsFilledTo (item + 1) (J.item_count judge.now) (J.rule_count judge.now)
+        (J.answer judge.now) done.new }
+{
+    done.take_row(item, row.table, row.item);
+    for &left in row.left {
+        let verdict = judge.judge(item, left, done);
+        done.give(item, left, verdict);
+    }
+}
+
+// Judges an item of which nothing is decided, by each rule.
+fn judge_all<J: Judge>(judge: &J, item: usize, done: &mut Verdicts)
+    requires item { item < J.item_count judge.now }
+    requires before { IsFilledTo item (J.item_count judge.now) (J.rule_count judge.now)
+        (J.answer judge.now) done.old }
+    ensures { IsFilledTo (item + 1) (J.item_count judge.now) (J.rule_count judge.now)
+        (J.answer judge.now) done.new }
+{
+    for rule in 0..done.rules() {
+        let verdict = judge.judge(item, rule, done);
+        done.give(item, rule, verdict);
+    }
 }

@@ -1,8 +1,19 @@
 // Judges of items by rules.
-ghost use Rattle.std.specs.Prelude.{◌≡◌, ℕ, ◌<◌};
+ghost use Rattle.std.specs.Prelude.{◌≡◌, ℕ, ◌<◌, IfSome};
 ghost use Rattle.cs_table.specs.Judged.{Judgement, LooksBack, verdicts};
+ghost use Rattle.cs_table.specs.Decided.{IsDecided};
 
 use crate::Verdicts;
+
+/// What is decided of an item before its rules are judged: its verdicts, but for the rules that are left.
+#[derive(Drop)]
+pub struct Row<'a> {
+    /// A table with the same rules, of which one item has these verdicts. It says no for the rules that are left.
+    pub table: &'a Verdicts,
+    pub item: usize,
+    /// The rules that are left to be judged, ascending.
+    pub left: &'a [usize],
+}
 
 /// Judges items by rules, where the verdicts of earlier pairs are known. Pairs are ordered by item, then by rule.
 pub trait Judge {
@@ -29,6 +40,14 @@ pub trait Judge {
         requires items { done.now.items ≡ item_count self.now }
         requires rules { done.now.rules ≡ rule_count self.now }
         ensures { result ≡ answer self.now item rule (verdicts done.now) };
+
+    /// What is decided of an item by itself, if anything is: verdicts that hold whatever those on earlier items are.
+    fn decided(&self, item: usize) -> Option<Row<'_>>
+        requires { item < item_count self.now }
+        ensures { IfSome result (IsDecided (rule_count self.now) (answer self.now) item) }
+    {
+        None
+    }
 
     /// Law: any two tables that agree on the earlier pairs give the same answer.
     ghost looks_back: { (s : Self) → LooksBack (rule_count s) (answer s) };

@@ -8,5 +8,5 @@ mod verdicts;
 
 pub use fault::TableFault;
 pub use filling::fill;
-pub use judging::Judge;
+pub use judging::{Judge, Row};
 pub use verdicts::Verdicts;

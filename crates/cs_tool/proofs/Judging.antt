@@ -2,7 +2,7 @@
 use Rattle.std.proofs.Common.{◌≡◌, ℕ, Bool, List, Err, IsErrOf, Result, refl, sym, subst, subst₂, ◌∙◌}
 use Rattle.cs_doc.specs.Texts.{Reads, IsJson, HasOtherNumber}
 use Rattle.cs_document.specs.Document.{Document, IsDocument}
-use Rattle.cs_document.specs.declared.doc.Doc.{Doc}
+use Rattle.cs_doc.specs.declared.document.Document.{Document as Read}
 use Rattle.cs_document.specs.declared.fault.DocFault.{DocFault}
 use Rattle.cs_document.specs.declared.fault.DocFault.TheVariants as doc
 use Rattle.cs_package.specs.Environment.{Environment, Names}
@@ -47,7 +47,7 @@ memory_alone text many d read few NotInteger h = absurd (no_other text d read h)
 memory_alone text many d read few TooManyPairs h = absurd (few h)
 memory_alone text many d read few _ h = absurd h
 
-abbrev pub failed : DocFault → Result Doc DocFault
+abbrev pub failed : DocFault → Result Read DocFault
 failed e = Err e
 
 module _ (text : List ℕ) (many : Type 0) where

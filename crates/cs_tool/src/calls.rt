@@ -16,12 +16,11 @@ ghost use Rattle.cs_tool.specs.CallRefusals.{ExportRefusal, VetRefusal, Validate
 
 use crate::Fault;
 use crate::packages::package_of;
+use crate::verdicts::{is_instance, is_valid};
 use cs_compile::compile;
-use cs_doc::{DocFault, read_doc, write_doc};
+use cs_doc::{DocFault, Scratch, read_doc, read_document, write_doc};
 use cs_guard::Guarded;
-use cs_instance::is_instance;
 use cs_schema::{SchemaDoc, read_schema, to_doc};
-use cs_validate::is_valid;
 use std::alloc::Global;
 
 /// The text of the schema that admits the documents that the root definition of the sources admits,
@@ -83,7 +82,8 @@ pub fn vet(alloc: Global, sources: &[&[u8]], root: &str, doc: &[u8]) -> Result<b
     if guarded.package().find(root).is_none() {
         return Err(Fault::UnknownRoot);
     }
-    let doc = read_doc(alloc, doc)?;
+    let mut scratch = Scratch::new(alloc);
+    let doc = read_document(alloc, doc, &mut scratch)?;
     Ok(is_instance(alloc, &guarded, root, &doc)?)
 }
 
@@ -97,7 +97,8 @@ pub fn validate(alloc: Global, schema: &[u8], doc: &[u8]) -> Result<bool, Fault>
     ensures only { IsReadyToValidate schema.now doc.now → IsOkUnless result Fault.OutOfMemory }
 {
     let schema = schema_of(alloc, schema)?;
-    let doc = read_doc(alloc, doc)?;
+    let mut scratch = Scratch::new(alloc);
+    let doc = read_document(alloc, doc, &mut scratch)?;
     Ok(is_valid(alloc, &schema, &doc)?)
 }
 
@@ -128,7 +129,8 @@ pub fn agree(alloc: Global, sources: &[&[u8]], root: &str, doc: &[u8]) -> Result
 {
     let guarded = package_of(alloc, sources)?;
     let schema = schema_of(alloc, &exported(alloc, &guarded, root)?)?;
-    let doc = read_doc(alloc, doc)?;
+    let mut scratch = Scratch::new(alloc);
+    let doc = read_document(alloc, doc, &mut scratch)?;
     let is_instance = is_instance(alloc, &guarded, root, &doc)?;
     let is_valid = is_valid(alloc, &schema, &doc)?;
     Ok(is_instance && is_valid)

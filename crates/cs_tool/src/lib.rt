@@ -11,6 +11,7 @@ mod reads;
 mod request;
 mod requested;
 mod runs;
+mod verdicts;
 mod writes;
 
 pub use calls::{agree, export, validate, vet};

@@ -1,77 +1,132 @@
 -- What a value's kind alone decides of a schema.
-use Rattle.std.proofs.Common.{◌≡◌, ℕ, ℤ, Bool, true, false, ◌&&◌, List, [], ◌∷◌, Option, Some, None, is_some, if◌then◌else◌, refl, sym, ap, ap₂, ◌∙◌}
+use Rattle.std.proofs.Common.{◌≡◌, ℕ, ℤ, Bool, true, false, ◌&&◌, List, [], ◌∷◌, Option, Some, None, is_some, length, refl, sym, ap, ◌∙◌}
+use Rattle.std.specs.Prelude.{not}
 use Rattle.std.specs.List.{list_all, list_any}
-use Rattle.std.specs.Bool.{then_some}
-use Rattle.std.specs.Option.{option_or}
-use Rattle.cs_document.specs.Document.{Document, Entry, under, document_eq}
+use Rattle.std.specs.Bool.{◌==◌, then_some}
+use Rattle.std.specs.Option.{option_map_or}
+use Rattle.cs_document.specs.Document.{Document, null, boolean, integer, text, list, object, Entry, under, document_eq}
 use Rattle.cs_document.specs.Opened.{Opened, a_null, a_boolean, an_integer, a_text, a_list, an_object, opened}
-use Rattle.cs_validate.specs.declared.rules.Conjunction.{Conjunction}
+use Rattle.cs_document.specs.Inside.{map_opened}
 use Rattle.cs_document.specs.View.{doc_view}
-use Rattle.cs_profile.specs.Validity.{is_of_kind, if_there}
-use Rattle.cs_profile.specs.Keywords.{Kind}
-use Rattle.cs_rules.specs.Kinds.{verdict_of, IsItem}
+use Rattle.cs_profile.specs.Validity.{if_there}
+use Rattle.cs_rules.specs.Kinds.{both, either, decided_by, verdict_of, AreDecided, Decides, IsItem}
 use Rattle.cs_rules.specs.declared.by_kind.ByKind.{ByKind}
-use Rattle.std.proofs.lemmas.Bool.{and_left, and_right}
-use Rattle.cs_validate.specs.Steps.{kind_of}
-use Rattle.cs_validate.proofs.Satisfied.{kind_at}
-use Rattle.cs_validate.specs.Asked.{asks_any, asks_here, asks_integer, asks_list, asks_map, asks_kind}
-
--- each kind of values
-pub of_each_kind : (P : Opened ℕ → Type 0) → P a_null → ((b : Bool) → P (a_boolean b)) → ((z : ℤ) → P (an_integer z)) → ((s : List ℕ) → P (a_text s)) → ((ys : List ℕ) → P (a_list ys)) → ((ms : List (Entry ℕ)) → P (an_object ms))
-    → (x : Opened ℕ) → P x
-of_each_kind P n b z s l o a_null = n
-of_each_kind P n b z s l o (a_boolean t) = b t
-of_each_kind P n b z s l o (an_integer i) = z i
-of_each_kind P n b z s l o (a_text t) = s t
-of_each_kind P n b z s l o (a_list ys) = l ys
-of_each_kind P n b z s l o (an_object ms) = o ms
+use Rattle.cs_rules.proofs.Foretold.{both_decides, either_decides, negated_decides}
+use Rattle.cs_validate.specs.declared.rules.Conjunction.{Conjunction}
+use Rattle.cs_validate.specs.Asked.{asks_type, asks_any, asks_reference, asks_alternative, asks_here, asks_integer, asks_list, asks_map, asks_kind}
+use Rattle.cs_validate.specs.Kinds.{if_asked, equals_by_kind, among_by_kind, any_by_kind, reference_by_kind, negation_by_kind}
 
 -- the map without members has no key
 pub none_required : (ks : List (List ℕ)) → list_all (λ k. is_some (under {A = ℕ} k [])) ks ≡ true → ks ≡ []
 none_required [] h = refl
 none_required (k ∷ ks) h = cc
 
-pub type_refuses : (c : Conjunction) (d : Document) (x : Opened ℕ) → if_there (λ j. is_of_kind (kind_of j) x) c.keywords.now.kind ≡ false → asks_any c d x ≡ false
-type_refuses c d x e = ap (λ t. (t && if_there (λ v. document_eq (doc_view v) d) c.keywords.now.equal) && if_there (λ vs. list_any (λ v. document_eq v d) vs) c.one_of) e
+-- ---- verdicts
 
-pub const_refuses : (c : Conjunction) (d : Document) (x : Opened ℕ) → if_there (λ v. document_eq (doc_view v) d) c.keywords.now.equal ≡ false → asks_any c d x ≡ false
-const_refuses c d x e = and_left _ (if_there (λ vs. list_any (λ v. document_eq v d) vs) c.one_of) (and_right (if_there (λ j. is_of_kind (kind_of j) x) c.keywords.now.kind) _ e)
+pub same_for_all : (v : Option Bool) (x : Opened ℕ) → verdict_of (record { null = v; boolean = v; integer = v; text = v; list = v; object = v }) x ≡ v
+same_for_all v a_null = refl
+same_for_all v (a_boolean b) = refl
+same_for_all v (an_integer z) = refl
+same_for_all v (a_text s) = refl
+same_for_all v (a_list ys) = refl
+same_for_all v (an_object ms) = refl
 
--- what a kind refuses
-pub kind_refuses : (k : Kind) (d : Document) (x : Opened ℕ) → IsItem d x → (b : Bool) → (if is_of_kind k x then None else Some false) ≡ Some b → (b ≡ false) × (is_of_kind k (opened d) ≡ false)
-kind_refuses k d x is b e =
-    let at : is_of_kind k (opened d) ≡ is_of_kind k x = ap (is_of_kind k) is.1 ∙ kind_at is.0 k x in
-    elim (is_of_kind k x) as (λ t. (is_of_kind k (opened d) ≡ t) → (if t then None else Some false) ≡ Some b → (b ≡ false) × (is_of_kind k (opened d) ≡ false)) [
-      | true ↦ λ i f. absurd (let g : None ≡ Some b = f in cc)
-      | false ↦ λ i f. ((let g : Some false ≡ Some b = f in cc), i)
-    ] at e
+pub either_no : (o : Option Bool) → either o (Some false) ≡ o
+either_no (Some true) = refl
+either_no (Some false) = refl
+either_no None = refl
 
--- by its kind a value is refused by `type` or `const`, or by no keyword
-pub by_kind_is : (here : ℕ → Bool) (inside : ℕ → ℕ → Bool) (d : Document) (c : Conjunction) (x : Opened ℕ) (b t : Bool) (k o : Option Bool)
-    → option_or (option_or (if t then None else Some false) k) o ≡ Some b → (o ≡ Some b → (b ≡ true) × (asks_here here c ≡ true) × (asks_kind inside c x ≡ true) × (asks_any c d x ≡ t))
-    → ((v : Bool) → k ≡ Some v → (v ≡ false) × (asks_any c d x ≡ false)) → (t ≡ false → asks_any c d x ≡ false)
-    → (asks_any c d x && (asks_here here c && asks_kind inside c x)) ≡ b
-by_kind_is here inside d c x b true None o e h other refused =
-    let k = h e in
-    ap₂ ◌&&◌ k.3 (ap₂ ◌&&◌ k.1 k.2) ∙ sym k.0
-by_kind_is here inside d c x b true (Some v) o e h other refused =
-    let k = other v refl in
-    ap (λ a. a && (asks_here here c && asks_kind inside c x)) k.1 ∙ sym k.0 ∙ (let f : Some v ≡ Some b = e in cc)
-by_kind_is here inside d c x b false k o e h other refused = ap (λ a. a && (asks_here here c && asks_kind inside c x)) (refused refl) ∙ (let f : Some false ≡ Some b = e in cc)
+pub either_assoc : (o p q : Option Bool) → either (either o p) q ≡ either o (either p q)
+either_assoc (Some true) p q = refl
+either_assoc (Some false) p q = refl
+either_assoc None (Some true) q = refl
+either_assoc None (Some false) (Some true) = refl
+either_assoc None (Some false) (Some false) = refl
+either_assoc None (Some false) None = refl
+either_assoc None None (Some true) = refl
+either_assoc None None (Some false) = refl
+either_assoc None None None = refl
 
-then_true : (t b : Bool) → then_some t true ≡ Some b → (t ≡ true) × (b ≡ true)
+pub as_equal : (o p : Option Bool) (v : Bool) → o ≡ p → Decides p v → Decides o v
+as_equal o p v e h b f = h b (sym e ∙ f)
+
+pub and_decides : (q o p : Option Bool) (v w : Bool) → q ≡ both o p → Decides o v → Decides p w → Decides q (v && w)
+and_decides q o p v w e h k = as_equal q (both o p) (v && w) e (both_decides o p v w h k)
+
+itself : (v : Bool) → Decides (Some v) v
+itself v b e = cc
+
+pub if_asked_decides : {A : Type 0} (f : A → Option Bool) (g : A → Bool) → ((a : A) → Decides (f a) (g a)) → (o : Option A) → Decides (if_asked f o) (if_there g o)
+if_asked_decides f g h None = itself true
+if_asked_decides f g h (Some a) = h a
+
+-- ---- by `const` and `enum`
+
+module _ {A B : Type 0} (f : A → B) where
+  equals_at : (v : Document) (x : Opened A) → equals_by_kind v (map_opened f x) ≡ equals_by_kind v x
+  equals_at null a_null = refl
+  equals_at (boolean a) (a_boolean b) = refl
+  equals_at (integer a) (an_integer b) = refl
+  equals_at (text a) (a_text b) = refl
+  equals_at (list a) (a_list b) = refl
+  equals_at (object a) (an_object b) = refl
+  equals_at _ _ = refl
+
+equals_opened : (v d : Document) → Decides (equals_by_kind v (opened d)) (document_eq v d)
+equals_opened null null b e = let f : Some true ≡ Some b = e in cc
+equals_opened (boolean a) (boolean c) b e = let f : None ≡ Some b = e in cc
+equals_opened (integer a) (integer c) b e = let f : None ≡ Some b = e in cc
+equals_opened (text a) (text c) b e = let f : None ≡ Some b = e in cc
+equals_opened (list a) (list c) b e = let f : None ≡ Some b = e in cc
+equals_opened (object a) (object c) b e = let f : None ≡ Some b = e in cc
+equals_opened _ _ b e = let f : Some false ≡ Some b = e in cc
+
+module _ (d : Document) (x : Opened ℕ) (is : IsItem d x) where
+  equals_decides : (v : Document) → Decides (equals_by_kind v x) (document_eq v d)
+  equals_decides v b e = equals_opened v d b (ap (equals_by_kind v) is.1 ∙ equals_at is.0 v x ∙ e)
+
+  among_decides : (vs : List Document) → Decides (among_by_kind vs x) (list_any (λ v. document_eq v d) vs)
+  among_decides [] = itself false
+  among_decides (v ∷ vs) = either_decides (equals_by_kind v x) (among_by_kind vs x) (document_eq v d) (list_any (λ w. document_eq w d) vs) (equals_decides v) (among_decides vs)
+
+  pub any_decides : (c : Conjunction) → Decides (any_by_kind c x) (asks_any c d x)
+  any_decides c =
+      both_decides _ _ _ _
+      (both_decides _ _ _ _ (itself (asks_type c.keywords.now.kind x)) (if_asked_decides (λ v. equals_by_kind (doc_view v) x) (λ v. document_eq (doc_view v) d) (λ v. equals_decides (doc_view v)) c.keywords.now.equal))
+      (if_asked_decides (λ vs. among_by_kind vs x) (λ vs. list_any (λ v. document_eq v d) vs) among_decides c.one_of)
+
+-- ---- by schemas that are asked of the value itself
+
+module _ (earlier : List ByKind) (x : Opened ℕ) (here : ℕ → Bool) (h : AreDecided earlier x here) where
+  named_decides : (o : Option ℕ) → Decides (option_map_or (decided_by earlier x) o (Some false)) (option_map_or here o false)
+  named_decides None = itself false
+  named_decides (Some r) = h r
+
+  pub reference_decides : (c : Conjunction) → Decides (reference_by_kind earlier c x) (asks_reference here c)
+  reference_decides c = if_asked_decides _ _ (λ n. named_decides c.reference) c.keywords.now.reference
+
+  pub negation_decides : (o : Option ℕ) → Decides (negation_by_kind earlier o x) (if_there (λ r. not (here r)) o)
+  negation_decides o = if_asked_decides _ _ (λ r. negated_decides (decided_by earlier x r) (here r) (h r)) o
+
+pub alternative_decides : (here : ℕ → Bool) (rs : List ℕ) (o : Option Bool) → (length rs == 0) ≡ false → Decides o (list_any here rs) → Decides o (asks_alternative here rs)
+alternative_decides here [] o e h = cc
+alternative_decides here (r ∷ rs) o e h = h
+
+-- ---- by keywords for values of one kind
+
+then_true : (t b : Bool) → then_some t true ≡ Some b → (t ≡ true) × (true ≡ b)
 then_true true b e = (refl, (let f : Some true ≡ Some b = e in cc))
 then_true false b e = cc
 
--- where nothing but `type` is asked of a kind, its values pass the keywords of their kind
+-- where nothing is asked of a kind, its values are valid by the keywords of their kind
 module _ (c : Conjunction) (k : ByKind) (n : k.null ≡ Some true) (t : k.boolean ≡ Some true) (s : k.text ≡ Some true) (i l m : Bool)
     (ints : (k.integer ≡ then_some i true) × (i ≡ true → (z : ℤ) → asks_integer c.keywords.now z ≡ true))
     (lists : (k.list ≡ then_some l true) × (l ≡ true → (inside : ℕ → ℕ → Bool) (ys : List ℕ) → asks_list inside c ys ≡ true))
     (maps : (k.object ≡ then_some m true) × (m ≡ true → (inside : ℕ → ℕ → Bool) (ms : List (Entry ℕ)) → asks_map inside c ms ≡ true)) where
-  pub by_absence_is : (x : Opened ℕ) (b : Bool) → verdict_of k x ≡ Some b → (b ≡ true) × ((inside : ℕ → ℕ → Bool) → asks_kind inside c x ≡ true)
-  by_absence_is a_null b e = ((let f : Some true ≡ Some b = sym n ∙ e in cc), λ inside. refl)
-  by_absence_is (a_boolean v) b e = ((let f : Some true ≡ Some b = sym t ∙ e in cc), λ inside. refl)
-  by_absence_is (a_text v) b e = ((let f : Some true ≡ Some b = sym s ∙ e in cc), λ inside. refl)
-  by_absence_is (an_integer z) b e = let f = then_true i b (sym ints.0 ∙ e) in (f.1, λ inside. ints.1 f.0 z)
-  by_absence_is (a_list ys) b e = let f = then_true l b (sym lists.0 ∙ e) in (f.1, λ inside. lists.1 f.0 inside ys)
-  by_absence_is (an_object ms) b e = let f = then_true m b (sym maps.0 ∙ e) in (f.1, λ inside. maps.1 f.0 inside ms)
+  pub absence_decides : (x : Opened ℕ) (inside : ℕ → ℕ → Bool) → Decides (verdict_of k x) (asks_kind inside c x)
+  absence_decides a_null inside b e = (let f : Some true ≡ Some b = sym n ∙ e in cc)
+  absence_decides (a_boolean v) inside b e = (let f : Some true ≡ Some b = sym t ∙ e in cc)
+  absence_decides (a_text v) inside b e = (let f : Some true ≡ Some b = sym s ∙ e in cc)
+  absence_decides (an_integer z) inside b e = let f = then_true i b (sym ints.0 ∙ e) in ints.1 f.0 z ∙ f.1
+  absence_decides (a_list ys) inside b e = let f = then_true l b (sym lists.0 ∙ e) in lists.1 f.0 inside ys ∙ f.1
+  absence_decides (an_object ms) inside b e = let f = then_true m b (sym maps.0 ∙ e) in maps.1 f.0 inside ms ∙ f.1

@@ -1,6 +1,8 @@
 -- What each keyword asks, over small lists of numbers, worked by the definitions. A wrong expectation stops the check here.
 use Rattle.std.proofs.Common.{◌≡◌, ◌+◌, ◌*◌, ℕ, pos, negsuc, Bool, true, false, List, [], ◌∷◌, Some, None, map, length, codes, nat_eq, nat_lt, nat_le, refl, arith}
-use Rattle.cs_document.specs.Document.{Document, null, boolean}
+use Rattle.std.specs.Prelude.{String}
+use Rattle.std.specs.declared.alloc.Global.{Global}
+use Rattle.cs_document.specs.Document.{Document, null, boolean, text}
 use Rattle.cs_document.specs.Opened.{Opened, a_null, a_boolean, an_integer, a_text, a_list, an_object}
 use Rattle.cs_document.proofs.SampleDocuments.{number, array, map_of}
 use Rattle.cs_flat.specs.Nodes.{nodes}
@@ -15,6 +17,8 @@ use Rattle.cs_validate.specs.Numbering.{map_constraint, said, PartsBelow}
 use Rattle.cs_validate.specs.Rules.{rules_of, HasManyPairs}
 use Rattle.cs_validate.specs.Steps.{kind_of, unless_empty, of_count, places_from, items_place, prefix_place, properties_place}
 use Rattle.cs_validate.specs.Asked.{if_count}
+use Rattle.cs_validate.specs.Kinds.{equals_by_kind, among_by_kind, any_by_kind, reference_by_kind, negation_by_kind}
+use Rattle.cs_rules.specs.declared.by_kind.ByKind.{ByKind}
 
 -- ---- short forms
 
@@ -139,6 +143,55 @@ other_kinds = refl
 
 no_number : map (λ x. each_holds null x limits) (a_null ∷ a_text A ∷ listed ∷ mapped ∷ []) ≡ (true ∷ true ∷ true ∷ true ∷ []) ∷ (true ∷ true ∷ true ∷ true ∷ []) ∷ (true ∷ true ∷ true ∷ true ∷ []) ∷ (true ∷ true ∷ true ∷ true ∷ []) ∷ []
 no_number = refl
+
+-- ---- what a kind alone decides
+
+abbrev of_each_kind : List (Opened ℕ)
+of_each_kind = a_null ∷ a_boolean true ∷ an_integer (pos 0) ∷ a_text A ∷ listed ∷ mapped ∷ []
+
+-- a constant refuses the other kinds, and null is alone of its kind
+constants_by_kind : map (λ v. map (equals_by_kind v) of_each_kind) (null ∷ boolean true ∷ number 0 ∷ text A ∷ array [] ∷ map_of [] ∷ [])
+    ≡ (Some true ∷ Some false ∷ Some false ∷ Some false ∷ Some false ∷ Some false ∷ [])
+    ∷ (Some false ∷ None ∷ Some false ∷ Some false ∷ Some false ∷ Some false ∷ [])
+    ∷ (Some false ∷ Some false ∷ None ∷ Some false ∷ Some false ∷ Some false ∷ [])
+    ∷ (Some false ∷ Some false ∷ Some false ∷ None ∷ Some false ∷ Some false ∷ [])
+    ∷ (Some false ∷ Some false ∷ Some false ∷ Some false ∷ None ∷ Some false ∷ [])
+    ∷ (Some false ∷ Some false ∷ Some false ∷ Some false ∷ Some false ∷ None ∷ [])
+    ∷ []
+constants_by_kind = refl
+
+enumerations_by_kind : map (λ vs. map (among_by_kind vs) of_each_kind) ([] ∷ (number 1 ∷ null ∷ number 2 ∷ []) ∷ [])
+    ≡ (Some false ∷ Some false ∷ Some false ∷ Some false ∷ Some false ∷ Some false ∷ [])
+    ∷ (Some true ∷ Some false ∷ None ∷ Some false ∷ Some false ∷ Some false ∷ [])
+    ∷ []
+enumerations_by_kind = refl
+
+-- rule 0 admits texts, has to look at integers and refuses the others
+abbrev decided : List ByKind
+decided = record { null = Some false; boolean = Some false; integer = None; text = Some true; list = Some false; object = Some false } ∷ []
+
+-- without a schema all are admitted, and what isn't numbered is looked at
+negations_by_kind : map (λ o. map (negation_by_kind decided o) of_each_kind) (None ∷ Some 0 ∷ Some 1 ∷ [])
+    ≡ (Some true ∷ Some true ∷ Some true ∷ Some true ∷ Some true ∷ Some true ∷ [])
+    ∷ (Some true ∷ Some true ∷ None ∷ Some false ∷ Some true ∷ Some true ∷ [])
+    ∷ (None ∷ None ∷ None ∷ None ∷ None ∷ None ∷ [])
+    ∷ []
+negations_by_kind = refl
+
+module _ (c : Conjunction) (name : String Global) where
+  no_reference_by_kind : c.keywords.now.reference ≡ None → map (reference_by_kind decided c) of_each_kind ≡ Some true ∷ Some true ∷ Some true ∷ Some true ∷ Some true ∷ Some true ∷ []
+  no_reference_by_kind e = rw e refl
+
+  undefined_by_kind : c.keywords.now.reference ≡ Some name → c.reference ≡ None → map (reference_by_kind decided c) of_each_kind ≡ Some false ∷ Some false ∷ Some false ∷ Some false ∷ Some false ∷ Some false ∷ []
+  undefined_by_kind e f = rw (e, f) refl
+
+  reference_decided : c.keywords.now.reference ≡ Some name → c.reference ≡ Some 0 → map (reference_by_kind decided c) of_each_kind ≡ Some false ∷ Some false ∷ None ∷ Some true ∷ Some false ∷ Some false ∷ []
+  reference_decided e f = rw (e, f) refl
+
+  -- a kind that `type` refuses needs no look at `const`
+  all_by_kind : c.keywords.now.kind ≡ Some kind.Integer → c.keywords.now.equal ≡ None → c.one_of ≡ Some (number 1 ∷ null ∷ [])
+      → map (any_by_kind c) of_each_kind ≡ Some false ∷ Some false ∷ None ∷ Some false ∷ Some false ∷ Some false ∷ []
+  all_by_kind e f g = rw (e, f, g) refl
 
 -- ---- constraints over numbers
 

@@ -7,7 +7,8 @@ use Rattle.cs_document.specs.Document.{Document}
 use Rattle.cs_document.specs.Opened.{Opened, opened}
 use Rattle.cs_document.specs.Inside.{map_opened}
 use Rattle.cs_flat.specs.Nodes.{nodes, node_at}
-use Rattle.cs_flat.specs.Items.{items, AreItems}
+use Rattle.cs_flat.specs.Items.{AreItems}
+use Rattle.cs_flat.specs.Listed.{values, document_in}
 use Rattle.cs_table.specs.Judged.{AllVerdicts, Judgement, IsJudged, Table, verdicts}
 use Rattle.cs_table.specs.Limit.{most_pairs}
 use Rattle.cs_table.specs.Refused as limits
@@ -27,22 +28,22 @@ use Rattle.cs_validate.specs.Steps.{asked_of, numbered, step}
 use Rattle.cs_validate.specs.Rooted.{IsRooted}
 use Rattle.cs_validate.proofs.Satisfied.{as_said, named, at_documents}
 
-pub judge_of : (R : Document) (d : Document) (root : ℕ) (rules : List Coded) (inner : List ℕ) → IsRooted R rules inner root → IsJudge R d root (length (nodes d)) (length rules) (answer step rules inner (nodes d) (items d))
-judge_of R d root rules inner h =
+pub judge_of : (R : Document) (xs : List (Opened ℕ)) (root : ℕ) (rules : List Coded) (inner : List ℕ) → IsRooted R rules inner root → IsJudge R xs root (length xs) (length rules) (answer step rules inner (values xs) xs)
+judge_of R xs root rules inner h =
     let count : length rules ≡ length h.all = sym (length-map rules (numbered inner)) ∙ h.numbering.count in
     record { all = h.all; are = h.are; asked = map (numbered inner) rules; numbering = h.numbering; item_count = refl; rule_count = count; found = h.root; answers = answers }
   where
-    answers : (f : AllVerdicts) (i r : ℕ) (c : Constraint ℕ ℕ) (x : Opened ℕ) → slice_get (map (numbered inner) rules) r ≡ Some c → slice_get (items d) i ≡ Some x
-        → answer step rules inner (nodes d) (items d) i r f ≡ is_satisfied (λ p. f i p) (λ y p. f y p) c (node_at (nodes d) i) x
+    answers : (f : AllVerdicts) (i r : ℕ) (c : Constraint ℕ ℕ) (x : Opened ℕ) → slice_get (map (numbered inner) rules) r ≡ Some c → slice_get xs i ≡ Some x
+        → answer step rules inner (values xs) xs i r f ≡ is_satisfied (λ p. f i p) (λ y p. f y p) c (node_at (values xs) i) x
     answers f i r c x e k =
         let y = coded_found (numbered inner) rules r c e in
-        answer_is step rules inner (nodes d) (items d) i r f y.0 x y.1 k ∙ sym (named (λ q. q) (slice_index inner) (f i) f (asked_of y.0) (node_at (nodes d) i) x)
-        ∙ ap (λ a. is_satisfied (f i) f a (node_at (nodes d) i) x) y.2
+        answer_is step rules inner (values xs) xs i r f y.0 x y.1 k ∙ sym (named (λ q. q) (slice_index inner) (f i) f (asked_of y.0) (node_at (values xs) i) x)
+        ∙ ap (λ a. is_satisfied (f i) f a (node_at (values xs) i) x) y.2
 
-module _ (R : Document) (d : Document) (root ic rc : ℕ) (judge : Judgement) (j : IsJudge R d root ic rc judge) (are : AreItems (nodes d) (items d)) where
+module _ (R : Document) (xs : List (Opened ℕ)) (root ic rc : ℕ) (judge : Judgement) (j : IsJudge R xs root ic rc judge) (are : AreItems (values xs) xs) (whole : length xs ≡ length (nodes (document_in xs))) where
   module _ (V : Document → Document → Bool) (h : IsValidity R V) where
     abbrev table_of : AllVerdicts
-    table_of i r = V (schema_at j.all r) (node_at (nodes d) i)
+    table_of i r = V (schema_at j.all r) (node_at (values xs) i)
 
     -- what a schema says is what it asks
     step_is : (s x : Document) → V s x ≡ is_satisfied (λ q. V q x) (λ y q. V q y) (said (constraint_of R s)) x (opened x)
@@ -50,35 +51,35 @@ module _ (R : Document) (d : Document) (root ic rc : ℕ) (judge : Judgement) (j
 
     pub is_judged : IsJudged ic rc judge table_of
     is_judged =
-        judged_where j.asked (items d) ic rc judge table_of (j.item_count ∙ sym are.count) (j.rule_count ∙ sym j.numbering.count)
+        judged_where j.asked xs ic rc judge table_of j.item_count (j.rule_count ∙ sym j.numbering.count)
         (λ i r c o e k.
-        let x = node_at (nodes d) i in
+        let x = node_at (values xs) i in
         let mapped = map_constraint (schema_at j.all) (schema_at j.all) c in
         step_is (schema_at j.all r) x
         ∙ ap (λ a. is_satisfied (λ q. V q x) (λ y q. V q y) a x (opened x)) (j.numbering.asks r c e)
         ∙ as_said (λ q. V q x) (λ y q. V q y) x (opened x) mapped
         ∙ ap (is_satisfied (λ q. V q x) (λ y q. V q y) mapped x) (are.node i o k)
-        ∙ named (schema_at j.all) (schema_at j.all) (λ q. V q x) (λ y q. V q y) c x (map_opened (node_at (nodes d)) o)
-        ∙ at_documents (node_at (nodes d)) (λ q. V (schema_at j.all q) x) (λ y q. V (schema_at j.all q) y) c x o
+        ∙ named (schema_at j.all) (schema_at j.all) (λ q. V q x) (λ y q. V q y) c x (map_opened (node_at (values xs)) o)
+        ∙ at_documents (node_at (values xs)) (λ q. V (schema_at j.all q) x) (λ y q. V (schema_at j.all q) y) c x o
         ∙ sym (j.answers table_of i r c o e k))
 
-  pub is_table : (t : Table) → t.items ≡ ic → t.rules ≡ rc → length t.given ≡ ic * rc → ((f : AllVerdicts) → IsJudged ic rc judge f → (i r : ℕ) → i < ic → r < rc → verdicts t i r ≡ f i r) → IsTable R d root t
+  pub is_table : (t : Table) → t.items ≡ ic → t.rules ≡ rc → length t.given ≡ ic * rc → ((f : AllVerdicts) → IsJudged ic rc judge f → (i r : ℕ) → i < ic → r < rc → verdicts t i r ≡ f i r) → IsTable R xs root t
   is_table t a b given only =
       let count = given ∙ ap₂ ◌*◌ j.item_count j.rule_count in
       record { all = j.all; are = j.are; item_count = a ∙ j.item_count; rule_count = b ∙ j.rule_count; count = count; found = j.found; verdict = verdict }
     where
-      verdict : (V : Document → Document → Bool) → IsValidity R V → (i r : ℕ) → i < length (nodes d) → r < length j.all → verdicts t i r ≡ V (schema_at j.all r) (node_at (nodes d) i)
+      verdict : (V : Document → Document → Bool) → IsValidity R V → (i r : ℕ) → i < length xs → r < length j.all → verdicts t i r ≡ V (schema_at j.all r) (node_at (values xs) i)
       verdict V h i r l m = only (table_of V h) (is_judged V h) i r (subst (λ k. i < k) (sym j.item_count) l) (subst (λ k. r < k) (sym j.rule_count) m)
 
-  pairs : ic * rc ≡ length (nodes d) * length (rules_of R)
-  pairs = ap₂ ◌*◌ j.item_count (j.rule_count ∙ length_permutation (rules_of R) j.all j.are)
+  pairs : ic * rc ≡ length (nodes (document_in xs)) * length (rules_of R)
+  pairs = ap₂ ◌*◌ (j.item_count ∙ whole) (j.rule_count ∙ length_permutation (rules_of R) j.all j.are)
 
-  pub few_pairs : ic * rc ≤ most_pairs → HasManyPairs R d → ⊥
+  pub few_pairs : ic * rc ≤ most_pairs → HasManyPairs R (document_in xs) → ⊥
   few_pairs l h = let many : most_pairs < ic * rc = subst (λ k. most_pairs < k) (sym pairs) h in omega (arith, l, many)
 
-  pub many_pairs : most_pairs < ic * rc → HasManyPairs R d
+  pub many_pairs : most_pairs < ic * rc → HasManyPairs R (document_in xs)
   many_pairs l = subst (λ k. most_pairs < k) pairs l
 
-  pub refused : (e : TableFault) → limits.IsRefusal ic rc e → IsRefusal (fault_of e) R d
+  pub refused : (e : TableFault) → limits.IsRefusal ic rc e → IsRefusal (fault_of e) R (document_in xs)
   refused table.OutOfMemory h = tt
   refused table.TooManyPairs h = many_pairs h

@@ -44,12 +44,16 @@ asks_integer k n = is_not_above k n && is_not_below k n
 abbrev pub asks_reference : (ℕ → Bool) → Conjunction → Bool
 asks_reference here c = if_there (λ n. option_map_or here c.reference false) c.keywords.now.reference
 
+-- by `anyOf`
+abbrev pub asks_alternative : (ℕ → Bool) → List ℕ → Bool
+asks_alternative here rs = if_there (list_any here) (unless_empty (λ ss. ss) rs)
+
 -- by the schemas that are asked of the value itself (Core, sections 8.2.3.1 and 10.2.1)
 abbrev pub asks_here : (ℕ → Bool) → Conjunction → Bool
 asks_here here c =
     asks_reference here c
     && list_all here c.all_of.items
-    && if_there (list_any here) (unless_empty (λ rs. rs) c.any_of.items)
+    && asks_alternative here c.any_of.items
     && if_there (λ r. not (here r)) c.negated
 
 -- by an integer that is a count
@@ -124,18 +128,3 @@ pub record AreBelowInside (m : ℕ) (c : Conjunction) : Type 0 where
   pub rest : IfSome c.keywords.now.rest (λ s. items_place c < m)
   pub prefix : AreBelow m (places_from (prefix_place c) c.keywords.now.prefix.items)
   pub properties : EntriesBelow m (places_named (properties_place c) c.keywords.now.properties.entries)
-
--- ---- what a kind alone decides
-
--- `type` refuses, or decides nothing
-abbrev pub refused_unless : Bool → Option Bool
-refused_unless b = if b then None else Some false
-
--- nothing but `type` is asked of values of every kind, and of this value
-abbrev pub AsksTypeAlone : Conjunction → Type 0
-AsksTypeAlone c = (here : ℕ → Bool) (d : Document) (x : Opened ℕ) → (asks_here here c ≡ true) × (asks_any c d x ≡ asks_type c.keywords.now.kind x)
-
-abbrev pub IsLeftToType : Conjunction → Opened ℕ → Type 0
-IsLeftToType c x =
-    (here : ℕ → Bool) (inside : ℕ → ℕ → Bool) (d : Document)
-    → (asks_here here c ≡ true) × (asks_kind inside c x ≡ true) × (asks_any c d x ≡ asks_type c.keywords.now.kind x)

@@ -6,6 +6,7 @@ pub mod Refusal
 -- for contracts of private functions and proofs alone
 pub mod Steps
 pub mod Asked
+pub mod Kinds
 pub mod Props
 pub mod Looks
 pub mod Placing

@@ -2,8 +2,7 @@
 use crate::by_kind::by_kind;
 use crate::rules::Rule;
 use crate::steps::holds;
-use cs_document::Doc;
-use cs_flat::Item;
+use cs_flat::{Flat, Item};
 use cs_rules::{Asks, ByKind, Known, RuleJudge};
 
 /// Judges the values of a document by a schema document, its definitions and every schema inside them: the items of
@@ -20,12 +19,12 @@ impl<'a> Asks for Rule<'a> {
 
     ghost below = { λ s r m. PartsBelow r m (asked_of s) };
 
-    fn holds(&self, value: &Item<'_>, doc: &Doc, known: &Known<'_>) -> bool {
-        holds(self, value, doc, known)
+    fn holds(&self, value: &Item<'_>, flat: &Flat<'_>, known: &Known<'_>) -> bool {
+        holds(self, value, flat, known)
     }
 
-    fn by_kind(&self) -> ByKind {
-        by_kind(self)
+    fn by_kind(&self, earlier: &[ByKind]) -> ByKind {
+        by_kind(self, earlier)
     }
 
     ghost looks_at_parts = { λ s i r m here here' inside inside' h k. numbers_same i r m here here' inside inside' h k (asked_of s) };

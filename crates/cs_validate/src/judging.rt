@@ -2,6 +2,7 @@
 ghost use Rattle.std.specs.Prelude.{◌≡◌, Bool, IfOk, IfErr, OnOk, IsOkUnless};
 ghost use Rattle.cs_document.specs.Document.{Document};
 ghost use Rattle.cs_document.specs.View.{doc_view};
+ghost use Rattle.cs_flat.specs.Listed.{document_in};
 ghost use Rattle.cs_profile.specs.SchemaDocument.{document_of};
 ghost use Rattle.cs_profile.specs.Validity.{IsValidity, OneMeaning};
 ghost use Rattle.cs_validate.specs.Rules.{HasManyPairs};
@@ -45,13 +46,36 @@ pub fn valid_table(
     flat: &Flat<'_>,
 ) -> Result<(Verdicts, usize), ValidateFault>
     ensures found { IfOk result (λ t. IsTable (document_of schema.now) flat.now t.1 t.0) }
-    ensures within { OnOk result (¬ HasManyPairs (document_of schema.now) flat.now) }
-    ensures refused { IfErr result (λ e. IsRefusal e (document_of schema.now) flat.now) }
+    ensures within { OnOk result (¬ HasManyPairs (document_of schema.now) (document_in flat.now)) }
+    ensures refused { IfErr result (λ e. IsRefusal e (document_of schema.now) (document_in flat.now)) }
 {
     let _count = flat.len(); // for the proof: the items are the values
     let (judge, number) = valid_judge(alloc, schema, flat)?;
     let table = fill(alloc, &judge)?;
     Ok((table, number))
+}
+
+/// Whether a document, as the list of its values, is valid against a schema document: its root validates it (Core, sections
+/// 4.3 and 7; Validation 2020-12, section 6).
+///
+/// # Errors
+/// `TooManyPairs` exactly where the values of the document and the schemas make more than 67,108,864 pairs.
+pub fn valid_verdict(
+    alloc: Global,
+    schema: &SchemaDoc,
+    flat: &Flat<'_>,
+) -> Result<bool, ValidateFault>
+    ensures one_meaning { OneMeaning (document_of schema.now) }
+    ensures answer { IfOk result (λ b. (V : Document → Document → Bool)
+        → IsValidity (document_of schema.now) V
+        → b ≡ V (document_of schema.now) (document_in flat.now)) }
+    ensures within { OnOk result (¬ HasManyPairs (document_of schema.now) (document_in flat.now)) }
+    ensures refused { IfErr result
+        (λ e. IsRefusal e (document_of schema.now) (document_in flat.now)) }
+{
+    one_meaning(schema); // for the proof: there is one validity
+    let (table, number) = valid_table(alloc, schema, flat)?;
+    Ok(table.get(flat.len() - 1, number))
 }
 
 /// Whether a document is valid against a schema document: its root validates it (Core, sections 4.3 and 7; Validation
@@ -70,6 +94,5 @@ pub fn is_valid(alloc: Global, schema: &SchemaDoc, doc: &Doc) -> Result<bool, Va
     let Ok(flat) = flatten(alloc, doc) else {
         return Err(ValidateFault::OutOfMemory);
     };
-    let (table, number) = valid_table(alloc, schema, &flat)?;
-    Ok(table.get(flat.len() - 1, number))
+    valid_verdict(alloc, schema, &flat)
 }

@@ -12,4 +12,4 @@ mod values;
 
 pub use fault::ValidateFault;
 pub use judge::ValidJudge;
-pub use judging::{is_valid, valid_judge, valid_table};
+pub use judging::{is_valid, valid_judge, valid_table, valid_verdict};

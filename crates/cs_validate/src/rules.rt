@@ -1,6 +1,5 @@
 // What schemas ask, by the numbers of their parts.
-use cs_document::DocSet;
-use cs_flat::Names;
+use cs_flat::{DocSet, Names};
 use cs_profile::Keywords;
 
 /// What a schema asks of a document. A schema asked of the same document is named by its number, and one asked of a

@@ -1,8 +1,9 @@
 // What a rule gives for a value, where the verdicts on the rule's parts are known.
-ghost use Rattle.std.specs.Prelude.{◌≡◌, ◌<◌, ◌+◌, ◌^◌, ◌&&◌, not, map, drop, option_to_list, IfSome};
+ghost use Rattle.std.specs.Prelude.{◌≡◌, ◌<◌, ◌+◌, ◌^◌, ◌&&◌, not, length, map, drop, option_to_list, IfSome};
 ghost use Rattle.std.specs.List.{list_all};
 ghost use Rattle.cs_document.specs.Inside.{InsideBelow, AscendsInside, KeysAscend};
-ghost use Rattle.cs_document.specs.View.{doc_view};
+ghost use Rattle.cs_flat.specs.Listed.{values};
+ghost use Rattle.cs_flat.specs.Nodes.{node_at};
 ghost use Rattle.cs_flat.specs.View.{item_view, entry_of};
 ghost use Rattle.cs_rules.specs.Knowns.{verdict_here, verdict_inside, value_count, rule_count, place_count};
 ghost use Rattle.cs_profile.specs.Numbered.{names_in};
@@ -14,8 +15,7 @@ ghost use Rattle.cs_validate.specs.Asked.{asks_any, asks_reference, asks_here, a
 
 use crate::rules::{Conjunction, Rule};
 use crate::values::{any_holds, integer_holds, length_holds};
-use cs_document::Doc;
-use cs_flat::{Item, number_under};
+use cs_flat::{Flat, Item, number_under};
 use cs_profile::Schema;
 use cs_rules::Known;
 use std::collections::BTreeMap;
@@ -231,32 +231,34 @@ fn here_holds(conjunction: &Conjunction<'_>, known: &Known<'_>) -> bool
 fn object_holds(
     conjunction: &Conjunction<'_>,
     value: &Item<'_>,
-    doc: &Doc,
+    flat: &Flat<'_>,
     known: &Known<'_>,
 ) -> bool
+    requires item { known.now.item < length flat.now }
     requires here { AreBelowHere (rule_count known.now) conjunction.now }
     requires inside { AreBelowInside (place_count known.now) conjunction.now }
     requires ascends { AscendsInside (item_view value.now) }
     requires children { InsideBelow (value_count known.now) (item_view value.now) }
-    ensures { result ≡ (asks_any conjunction.now (doc_view doc.now) (item_view value.now)
+    ensures { result ≡ (asks_any conjunction.now (node_at (values flat.now) known.now.item) (item_view value.now)
         && (asks_here (verdict_here known.now) conjunction.now
         && asks_kind (verdict_inside known.now) conjunction.now (item_view value.now))) }
 {
-    any_holds(conjunction, value, doc)
+    any_holds(conjunction, value, flat, known.item)
         && here_holds(conjunction, known)
         && kind_holds(conjunction, value, known)
 }
 
 /// Whether a value is valid by a schema, by the verdicts on the schema's parts (Core, section 4.3.2).
-pub(crate) fn holds(rule: &Rule<'_>, value: &Item<'_>, doc: &Doc, known: &Known<'_>) -> bool
+pub(crate) fn holds(rule: &Rule<'_>, value: &Item<'_>, flat: &Flat<'_>, known: &Known<'_>) -> bool
+    requires item { known.now.item < length flat.now }
     requires parts { PartsBelow (rule_count known.now) (place_count known.now) (asked_of rule.now) }
     requires ascends { AscendsInside (item_view value.now) }
     requires children { InsideBelow (value_count known.now) (item_view value.now) }
     ensures { result ≡ step rule.now (verdict_here known.now) (verdict_inside known.now)
-        (doc_view doc.now) (item_view value.now) }
+        (node_at (values flat.now) known.now.item) (item_view value.now) }
 {
     match rule {
         Rule::Truth(verdict) => *verdict,
-        Rule::Object(conjunction) => object_holds(conjunction, value, doc, known),
+        Rule::Object(conjunction) => object_holds(conjunction, value, flat, known),
     }
 }

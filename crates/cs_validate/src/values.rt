@@ -1,6 +1,7 @@
 // What keywords without schemas ask of a value.
-ghost use Rattle.std.specs.Prelude.{◌≡◌, nat_le};
-ghost use Rattle.cs_document.specs.View.{doc_view};
+ghost use Rattle.std.specs.Prelude.{◌≡◌, ◌<◌, nat_le, length};
+ghost use Rattle.cs_flat.specs.Listed.{values as documents_in};
+ghost use Rattle.cs_flat.specs.Nodes.{node_at};
 ghost use Rattle.cs_flat.specs.View.{item_view};
 ghost use Rattle.cs_profile.specs.Validity as validity;
 ghost use Rattle.cs_profile.specs.Validity.{if_there};
@@ -9,8 +10,8 @@ ghost use Rattle.cs_validate.specs.Asked as asked;
 ghost use Rattle.cs_validate.specs.Asked.{asks_type, asks_const, asks_enum, asks_any, asks_integer, if_count};
 
 use crate::rules::Conjunction;
-use cs_document::{Doc, DocSet};
-use cs_flat::Item;
+use cs_document::Doc;
+use cs_flat::{DocSet, Flat, Item};
 use cs_profile::{JsonKind, Keywords};
 
 /// Whether a value has a kind; an integer is a number too (Validation, section 6.1.1).
@@ -38,32 +39,41 @@ fn has_kind(kind: Option<JsonKind>, value: &Item<'_>) -> bool
 }
 
 /// Whether a value equals that of `const`, if it is there (Validation, section 6.1.3).
-fn is_equal(value: &Option<Doc>, doc: &Doc) -> bool
-    ensures { result ≡ asks_const value.now (doc_view doc.now) }
+fn is_equal(value: &Option<Doc>, flat: &Flat<'_>, item: usize) -> bool
+    requires { item < length flat.now }
+    ensures { result ≡ asks_const value.now (node_at (documents_in flat.now) item) }
 {
     match value {
-        Some(value) => value == doc,
+        Some(value) => flat.equals(item, value),
         None => true,
     }
 }
 
 /// Whether a value is one of those of `enum`, if it is there (Validation, section 6.1.2).
-fn is_listed(values: &Option<DocSet<'_>>, doc: &Doc) -> bool
-    ensures { result ≡ asks_enum values.now (doc_view doc.now) }
+fn is_listed(values: &Option<DocSet<'_>>, flat: &Flat<'_>, item: usize) -> bool
+    requires { item < length flat.now }
+    ensures { result ≡ asks_enum values.now (node_at (documents_in flat.now) item) }
 {
     match values {
-        Some(values) => values.contains(doc),
+        Some(values) => values.contains(flat, item),
         None => true,
     }
 }
 
 /// What keywords ask of a value of any kind (Validation, section 6.1).
-pub(crate) fn any_holds(conjunction: &Conjunction<'_>, value: &Item<'_>, doc: &Doc) -> bool
-    ensures { result ≡ asks_any conjunction.now (doc_view doc.now) (item_view value.now) }
+pub(crate) fn any_holds(
+    conjunction: &Conjunction<'_>,
+    value: &Item<'_>,
+    flat: &Flat<'_>,
+    item: usize,
+) -> bool
+    requires { item < length flat.now }
+    ensures { result ≡ asks_any conjunction.now (node_at (documents_in flat.now) item)
+        (item_view value.now) }
 {
     has_kind(conjunction.keywords.kind, value)
-        && is_equal(&conjunction.keywords.equal, doc)
-        && is_listed(&conjunction.one_of, doc)
+        && is_equal(&conjunction.keywords.equal, flat, item)
+        && is_listed(&conjunction.one_of, flat, item)
 }
 
 fn is_not_above(keywords: &Keywords, n: i64) -> bool

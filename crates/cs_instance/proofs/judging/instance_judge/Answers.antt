@@ -1,9 +1,8 @@
 use Rattle.std.proofs.Common.{◌≡◌, length, sym, ap, subst}
 use Rattle.std.specs.Option.{unwrap_or}
-use Rattle.std.specs.Prelude.{[]}
-use Rattle.cs_document.specs.Document.{Document}
-use Rattle.cs_flat.specs.Nodes.{nodes}
-use Rattle.cs_flat.specs.Items.{items}
+use Rattle.std.specs.Prelude.{ℕ, List, []}
+use Rattle.cs_document.specs.Opened.{Opened}
+use Rattle.cs_flat.specs.Listed.{values}
 use Rattle.cs_package.specs.Environment.{Environment, Names}
 use Rattle.cs_guard.specs.Numbered.{name_of}
 use Rattle.cs_rules.specs.declared.judge.Numbering.{Numbering}
@@ -28,6 +27,6 @@ returns-clause-found c =
     let d = c.args.flat.now in
     let k = c.in_ok-numbering.number in
     let judge = judge_of E n d k numbering.rules.items numbering.children.items rooted in
-    let by_flat = subst (λ (x : Document). IsJudge E n d k (length (nodes x)) (length numbering.rules.items) (answer step numbering.rules.items numbering.children.items (nodes x) (items x))) (sym c.in_ok-over.ensures.flat) judge in
+    let by_flat = subst (λ (x : List (Opened ℕ)). IsJudge E n d k (length x) (length numbering.rules.items) (answer step numbering.rules.items numbering.children.items (values x) x)) (sym c.in_ok-over.ensures.flat) judge in
     let x = c.in_ok-over.field-0.flat.now in
-    (n, names, subst (λ (m : Numbering _ _). IsJudge E n d k (length (nodes x)) (length m.rules.items) (answer step m.rules.items m.children.items (nodes x) (items x))) (sym c.in_ok-over.ensures.numbering) by_flat)
+    (n, names, subst (λ (m : Numbering _ _). IsJudge E n d k (length x) (length m.rules.items) (answer step m.rules.items m.children.items (values x) x)) (sym c.in_ok-over.ensures.numbering) by_flat)

@@ -1,6 +1,6 @@
 use Rattle.std.proofs.Common.{◌≡◌, ℕ, List, inr}
 use Rattle.std.proofs.lemmas.Result.{err_from_is_err_and}
-use Rattle.cs_document.specs.View.{doc_view}
+use Rattle.cs_doc.specs.ReadAs.{read_as}
 use Rattle.cs_tool.specs.Ready.{SchemaHasManyPairs, IsReadyToValidate}
 use Rattle.cs_tool.specs.CallRefusals.{IsSchemaText, ValidateRefusal}
 use Rattle.cs_tool.specs.declared.fault.Fault.{Fault}
@@ -43,7 +43,7 @@ returns-in_err-is_valid c =
     let t = c.args.doc.now in
     let schema = c.in_ok-schema.ensures.found in
     let p = err_from_is_err_and c.from_residual-in_err-is_valid.result c.from_residual-in_err-is_valid.ensures.1 in
-    let told = by_schema t (SchemaHasManyPairs s t) s schema.0 _ (doc_view c.in_ok-doc.doc) schema.1 c.in_ok-doc.ensures.found (λ many. many) _ c.in_err-is_valid.ensures.refused in
+    let told = by_schema t (SchemaHasManyPairs s t) s schema.0 _ (read_as c.in_ok-doc.doc) schema.1 c.in_ok-doc.ensures.found (λ many. many) _ c.in_err-is_valid.ensures.refused in
     rw (p.1, p.2) (record { found = tt; refused = refused s t schema.0 _ told; only = λ ready. only s t ready _ told })
 
 pub returns-clause-found : goal.returns-clause-found
@@ -51,4 +51,4 @@ returns-clause-found c =
     let schema = c.in_ok-schema.ensures.found in
     let doc = c.in_ok-doc.ensures in
     let judged = c.in_ok-is_valid.ensures in
-    validated c.args.schema.now c.args.doc.now schema.0 _ (doc_view c.in_ok-doc.doc) _ schema.1 doc.found doc.document c.in_ok-is_valid.ensures.one_meaning judged.within judged.answer
+    validated c.args.schema.now c.args.doc.now schema.0 _ (read_as c.in_ok-doc.doc) _ schema.1 doc.found doc.document c.in_ok-is_valid.ensures.one_meaning judged.within judged.answer

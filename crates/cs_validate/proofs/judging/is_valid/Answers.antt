@@ -1,26 +1,10 @@
-use Rattle.std.proofs.Common.{◌≡◌, ◌<◌, ◌-◌, false, length, ap, ap₂, ◌∙◌, arith}
-use Rattle.std.proofs.lemmas.Option.{slice_get_within, get_or_from_slice_get}
-use Rattle.cs_document.specs.Document.{boolean}
-use Rattle.cs_document.specs.View.{doc_view}
-use Rattle.cs_flat.specs.Items.{inside}
-use Rattle.cs_flat.specs.Nodes.{nodes, node_at}
+use Rattle.std.proofs.Common.{◌≡◌, Bool, IfOk, subst}
+use Rattle.cs_document.specs.Document.{Document}
 use Rattle.cs_profile.specs.SchemaDocument.{document_of}
+use Rattle.cs_profile.specs.Validity.{IsValidity}
 use Rattle.cs_validate.proofs.judging.is_valid.Goals as goal
 
-pub get-requires-clause-rule : goal.get-requires-clause-rule
-get-requires-clause-rule c =
-    let t = c.in_ok-table.ensures.found in
-    let within = slice_get_within t.all c.in_ok-table.number (document_of c.args.schema.now) t.found in
-    omega (arith, within, t.rule_count)
-
 pub returns-clause-answer : goal.returns-clause-answer
-returns-clause-answer c = λ V h.
+returns-clause-answer c =
     let R = document_of c.args.schema.now in
-    let t = c.in_ok-table.ensures.found in
-    let k = c.in_ok-table.number in
-    let within = slice_get_within t.all k R t.found in
-    let d = c.in-Ok.flat in
-    let is : c.len.result - 1 ≡ inside d = omega (arith, c.len.ensures.count, c.len.ensures.whole) in
-    let below : c.len.result - 1 < length (nodes d) = omega (arith, c.len.ensures.count, c.len.ensures.whole) in
-    let same : node_at (nodes d) (c.len.result - 1) ≡ doc_view c.args.doc.now = ap (node_at (nodes d)) is ∙ c.len.ensures.last ∙ c.in-Ok.ensures.found in
-    c.get.ensures ∙ t.verdict V h (c.len.result - 1) k below within ∙ ap₂ V (get_or_from_slice_get t.all k R (boolean false) t.found) same
+    subst (λ d. IfOk c.valid_verdict.result (λ b. (V : Document → Document → Bool) → IsValidity R V → b ≡ V R d)) c.in-Ok.ensures.found c.valid_verdict.ensures.answer

@@ -1,7 +1,7 @@
 use Rattle.std.proofs.Common.{length, sym, subst}
-use Rattle.cs_document.specs.Document.{Document}
-use Rattle.cs_flat.specs.Nodes.{nodes}
-use Rattle.cs_flat.specs.Items.{items}
+use Rattle.std.specs.Prelude.{ℕ, List}
+use Rattle.cs_document.specs.Opened.{Opened}
+use Rattle.cs_flat.specs.Listed.{values}
 use Rattle.cs_profile.specs.SchemaDocument.{document_of}
 use Rattle.cs_rules.specs.declared.judge.Numbering.{Numbering}
 use Rattle.cs_rules.specs.Answers.{answer}
@@ -16,6 +16,6 @@ returns-clause-found c =
     let numbering = c.in_ok-numbering.numbering in
     let k = c.in_ok-numbering.number in
     let judge = judge_of R c.args.flat.now k numbering.rules.items numbering.children.items c.in_ok-numbering.ensures in
-    let by_flat = subst (λ (x : Document). IsJudge R c.args.flat.now k (length (nodes x)) (length numbering.rules.items) (answer step numbering.rules.items numbering.children.items (nodes x) (items x))) (sym c.in_ok-over.ensures.flat) judge in
+    let by_flat = subst (λ (x : List (Opened ℕ)). IsJudge R c.args.flat.now k (length x) (length numbering.rules.items) (answer step numbering.rules.items numbering.children.items (values x) x)) (sym c.in_ok-over.ensures.flat) judge in
     let x = c.in_ok-over.field-0.flat.now in
-    subst (λ (m : Numbering _ _). IsJudge R c.args.flat.now k (length (nodes x)) (length m.rules.items) (answer step m.rules.items m.children.items (nodes x) (items x))) (sym c.in_ok-over.ensures.numbering) by_flat
+    subst (λ (m : Numbering _ _). IsJudge R c.args.flat.now k (length x) (length m.rules.items) (answer step m.rules.items m.children.items (values x) x)) (sym c.in_ok-over.ensures.numbering) by_flat

@@ -1,5 +1,6 @@
 use Rattle.std.proofs.Common.{sym, subst}
-use Rattle.cs_document.specs.View.{doc_view}
+use Rattle.cs_flat.specs.Listed.{values}
+use Rattle.cs_flat.specs.Nodes.{node_at}
 use Rattle.cs_flat.specs.View.{item_view}
 use Rattle.cs_rules.specs.Knowns.{verdict_here, verdict_inside, rule_count, place_count}
 use Rattle.cs_validate.specs.Numbering.{PartsBelow}
@@ -18,4 +19,4 @@ object_holds-requires-clause-inside c =
 pub returns-in-Object : goal.returns-in-Object
 returns-in-Object c =
     let k = c.args.known.now in
-    rw (c.in-Object.is, c.object_holds.ensures) (sym (claims_hold (verdict_here k) (verdict_inside k) (doc_view c.args.doc.now) c.in-Object.conjunction (item_view c.args.value.now)))
+    rw (c.in-Object.is, c.object_holds.ensures) (sym (claims_hold (verdict_here k) (verdict_inside k) (node_at (values c.args.flat.now) k.item) c.in-Object.conjunction (item_view c.args.value.now)))

@@ -1,43 +1,15 @@
-use Rattle.std.proofs.Common.{◌<◌, ◌≤◌, None, length, slice_index, get_or, sym, refl, ◌∙◌, ap, subst, arith}
+use Rattle.std.proofs.Common.{◌<◌, ◌≤◌, length, sym, refl, ◌∙◌, ap, subst, arith}
 use Rattle.std.proofs.Math.Logic.{∥∥₁_elim}
 use Rattle.std.specs.List.{AllByRecursion as Each}
 use Rattle.std.proofs.lemmas.Option.{slice_get_read}
-use Rattle.cs_document.specs.View.{doc_view}
-use Rattle.cs_flat.specs.Items.{items}
-use Rattle.cs_flat.specs.Nodes.{nodes, node_at}
+use Rattle.cs_flat.specs.Listed.{values}
+use Rattle.cs_flat.specs.Nodes.{node_at}
 use Rattle.cs_flat.specs.View.{item_view}
-use Rattle.cs_flat.proofs.Laws.{are_items}
 use Rattle.cs_table.specs.Judged.{verdicts}
 use Rattle.cs_rules.specs.Answers.{step_by}
 use Rattle.cs_rules.specs.Props.{below_prop}
-use Rattle.cs_rules.proofs.Foretold.{foretold_count, foretold_at}
-use Rattle.cs_rules.proofs.Judged.{inside_weaker, answer_is, node_is}
+use Rattle.cs_rules.proofs.Judged.{inside_weaker, answer_is}
 use Rattle.cs_rules.proofs.judge.RuleJudgeJudge.judge.Goals as goal
-
-pub index-requires : goal.index-requires
-index-requires g c =
-    let s = c.args.self.now in
-    let count = foretold_count g.R.Asks.step s.numbering.rules.items s.rows.items s.foretold in
-    omega (arith, c.requires.rule, count)
-
--- the value's kind decides the verdict
-pub returns-in-Some : goal.returns-in-Some
-returns-in-Some g c =
-    let s = c.args.self.now in
-    let step = g.R.Asks.step in
-    let rules = s.numbering.rules.items in
-    let rows = s.rows.items in
-    let count = foretold_count step rules rows s.foretold in
-    let w = c.index.result.now in
-    let below : c.args.rule < length rows = omega (arith, c.requires.rule, count) in
-    let found = slice_get_read rows (length rows) c.args.rule w refl below c.index.ensures in
-    let x = item_view c.item-value.result.now in
-    let f = verdicts c.args.done.now in
-    let ns = nodes s.flat.now in
-    let rule = foretold_at step rules rows c.args.rule w s.foretold found in
-    sym (answer_is step rules s.numbering.children.items ns (items s.flat.now) c.args.item c.args.rule f rule.0 x rule.1 c.item-value.ensures.found
-    ∙ rule.2 (node_at ns c.args.item) x (node_at ns, (are_items s.flat.now).node c.args.item x c.item-value.ensures.found) c.in-Some.verdict (ap (λ p. get_or w p None) (sym c.place_of.ensures.place) ∙ c.in-Some.is)
-    (f c.args.item) (λ y p. f y (slice_index s.numbering.children.items p)))
 
 pub invariant_of-known : goal.invariant_of-known
 invariant_of-known g c =
@@ -50,8 +22,8 @@ pub holds-requires-clause-parts : goal.holds-requires-clause-parts
 holds-requires-clause-parts g c =
     let s = c.args.self.now in
     let rules = s.numbering.rules.items in
-    let rule = c.index-2.result.now in
-    let there = slice_get_read rules (length rules) c.args.rule rule refl c.requires.rule c.index-2.ensures in
+    let rule = c.index.result.now in
+    let there = slice_get_read rules (length rules) c.args.rule rule refl c.requires.rule c.index.ensures in
     let l : c.args.rule ≤ c.args.done.now.rules = omega (arith, c.requires.rule, c.requires.rules) in
     let m : length s.numbering.children.items ≤ length c.deref.result.now = omega (arith, ap length c.deref.ensures.value) in
     g.met.R.Asks.below_more rule c.args.rule (length s.numbering.children.items) c.args.done.now.rules (length c.deref.result.now) l m
@@ -59,7 +31,7 @@ holds-requires-clause-parts g c =
 
 pub holds-requires-clause-children : goal.holds-requires-clause-children
 holds-requires-clause-children g c =
-    let x = item_view c.item-value.result.now in
+    let x = item_view c.item-value.result in
     let l : c.args.item ≤ c.args.done.now.items = omega (arith, c.requires.item, c.requires.items) in
     inside_weaker c.args.item c.args.done.now.items l x (c.args.self.now.lower c.args.item x c.item-value.ensures.found)
 
@@ -67,12 +39,10 @@ pub returns : goal.returns
 returns g c =
     let s = c.args.self.now in
     let rules = s.numbering.rules.items in
-    let rule = c.index-2.result.now in
-    let there = slice_get_read rules (length rules) c.args.rule rule refl c.requires.rule c.index-2.ensures in
-    let x = item_view c.item-value.result.now in
+    let rule = c.index.result.now in
+    let there = slice_get_read rules (length rules) c.args.rule rule refl c.requires.rule c.index.ensures in
+    let x = item_view c.item-value.result in
     let f = verdicts c.args.done.now in
-    let ns = nodes s.flat.now in
-    let d = doc_view c.value.result.now in
-    c.holds.ensures ∙ ap (λ l. step_by g.R.Asks.step l f c.args.item rule d x) c.deref.ensures.value
-    ∙ ap (λ y. step_by g.R.Asks.step s.numbering.children.items f c.args.item rule y x) (sym (node_is ns c.args.item d c.value.ensures))
-    ∙ sym (answer_is g.R.Asks.step rules s.numbering.children.items ns (items s.flat.now) c.args.item c.args.rule f rule x there c.item-value.ensures.found)
+    let ns = values s.flat.now in
+    c.holds.ensures ∙ ap (λ l. step_by g.R.Asks.step l f c.args.item rule (node_at ns c.args.item) x) c.deref.ensures.value
+    ∙ sym (answer_is g.R.Asks.step rules s.numbering.children.items ns s.flat.now c.args.item c.args.rule f rule x there c.item-value.ensures.found)

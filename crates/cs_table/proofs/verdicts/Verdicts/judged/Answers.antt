@@ -4,4 +4,6 @@ use Rattle.cs_table.proofs.Bits.{length-kept}
 use Rattle.cs_table.proofs.verdicts.Verdicts.judged.Goals as goal
 
 pub returns : goal.returns
-returns c = sym (length-kept c.self.inside.bytes.items c.self.inside.count) ∙ ap (λ (t : Table). length t.given) c.self.view_is
+returns c =
+    let t = c.self.inside in
+    sym (length-kept t.bytes.items t.width t.items t.rules) ∙ ap (λ (u : Table). length u.given) c.self.view_is

@@ -1,0 +1,207 @@
+-- Verdicts by kind, worked by the definitions on samples.
+use Rattle.std.proofs.Common.{◌≡◌, ◌<◌, ℕ, zero, suc, pos, Bool, true, false, not, List, [], ◌∷◌, Option, Some, None, map, refl, ap, ◌∙◌, arith}
+use Rattle.cs_document.specs.Document.{null, text, boolean}
+use Rattle.cs_document.specs.Opened.{Opened, a_null, a_boolean, an_integer, a_text, a_list, an_object}
+use Rattle.cs_table.specs.Decided.{IsNoneOf}
+use Rattle.cs_rules.specs.Steps.{Step}
+use Rattle.cs_rules.specs.Kinds.{verdict_of, row_of, kind_place, both, either, Decides, decided_by, all_decided, any_decided, AreDecided, IsItem, Foretells}
+use Rattle.cs_rules.specs.Rows.{verdict_at, kind_answer, AreOpen, AreRowsOf}
+use Rattle.cs_rules.specs.declared.by_kind.ByKind.{ByKind}
+use Rattle.cs_rules.proofs.Decided.{one_open, one_decided}
+
+-- ---- a value of each kind
+
+abbrev values : List (Opened ℕ)
+values = a_null ∷ a_boolean true ∷ an_integer (pos 0) ∷ a_text [] ∷ a_list [] ∷ an_object [] ∷ []
+
+abbrev yes : Option Bool
+yes = Some true
+
+abbrev no : Option Bool
+no = Some false
+
+-- two of the kinds have a verdict of yes, two of no, and two none
+abbrev mixed : ByKind
+mixed = record { null = yes; boolean = no; integer = None; text = yes; list = no; object = None }
+
+by_kind : map (verdict_of mixed) values ≡ yes ∷ no ∷ None ∷ yes ∷ no ∷ None ∷ []
+by_kind = refl
+
+in_a_row : row_of mixed ≡ map (verdict_of mixed) values
+in_a_row = refl
+
+places : map kind_place values ≡ 0 ∷ 1 ∷ 2 ∷ 3 ∷ 4 ∷ 5 ∷ []
+places = refl
+
+-- ---- two verdicts together
+
+abbrev each_verdict : List (Option Bool)
+each_verdict = no ∷ yes ∷ None ∷ []
+
+both_with_no : map (both no) each_verdict ≡ no ∷ no ∷ no ∷ []
+both_with_no = refl
+
+both_with_yes : map (both yes) each_verdict ≡ no ∷ yes ∷ None ∷ []
+both_with_yes = refl
+
+both_with_none : map (both None) each_verdict ≡ no ∷ None ∷ None ∷ []
+both_with_none = refl
+
+either_with_no : map (either no) each_verdict ≡ no ∷ yes ∷ None ∷ []
+either_with_no = refl
+
+either_with_yes : map (either yes) each_verdict ≡ yes ∷ yes ∷ yes ∷ []
+either_with_yes = refl
+
+either_with_none : map (either None) each_verdict ≡ None ∷ yes ∷ None ∷ []
+either_with_none = refl
+
+yes_decides : Decides yes true
+yes_decides b e = cc
+
+yes_decides_no_other : ¬ (Decides yes false)
+yes_decides_no_other h = let clash : false ≡ true = h true refl in cc
+
+none_decides : (v : Bool) → Decides None v
+none_decides v b e = cc
+
+-- ---- earlier rules
+
+-- every value; no value; texts alone, where lists aren't decided
+abbrev every : ByKind
+every = record { null = yes; boolean = yes; integer = yes; text = yes; list = yes; object = yes }
+
+abbrev texts : ByKind
+texts = record { null = no; boolean = no; integer = no; text = yes; list = None; object = no }
+
+abbrev others : ByKind
+others = record { null = yes; boolean = yes; integer = yes; text = no; list = None; object = yes }
+
+by_number : map (decided_by (every ∷ texts ∷ []) (an_integer (pos 7))) (0 ∷ 1 ∷ 2 ∷ []) ≡ yes ∷ no ∷ None ∷ []
+by_number = refl
+
+all_of_none : all_decided [] a_null [] ≡ yes
+all_of_none = refl
+
+any_of_none : any_decided [] a_null [] ≡ no
+any_of_none = refl
+
+all_by_the_last : all_decided (every ∷ texts ∷ []) a_null (0 ∷ 0 ∷ 1 ∷ []) ≡ no
+all_by_the_last = refl
+
+all_by_the_first : all_decided (every ∷ texts ∷ []) a_null (1 ∷ 0 ∷ []) ≡ no
+all_by_the_first = refl
+
+all_in_spite_of_an_open_one : all_decided (every ∷ texts ∷ []) a_null (2 ∷ 1 ∷ []) ≡ no
+all_in_spite_of_an_open_one = refl
+
+all_left_open : all_decided (every ∷ texts ∷ []) (a_list []) (0 ∷ 1 ∷ []) ≡ None
+all_left_open = refl
+
+any_by_the_first : any_decided (every ∷ texts ∷ []) a_null (0 ∷ 1 ∷ []) ≡ yes
+any_by_the_first = refl
+
+any_by_the_last : any_decided (every ∷ texts ∷ []) a_null (1 ∷ 0 ∷ []) ≡ yes
+any_by_the_last = refl
+
+any_in_spite_of_an_open_one : any_decided (every ∷ texts ∷ []) a_null (2 ∷ 0 ∷ []) ≡ yes
+any_in_spite_of_an_open_one = refl
+
+any_left_open : any_decided (every ∷ texts ∷ []) (a_list []) (1 ∷ 1 ∷ []) ≡ None
+any_left_open = refl
+
+-- ---- what is foretold: the first rule asks for a text, and each further one that the one before it doesn't hold
+
+abbrev is_text : Opened ℕ → Bool
+is_text (a_text s) = true
+is_text _ = false
+
+abbrev step : ℕ → Step
+step zero here inside d x = is_text x
+step (suc r) here inside d x = not (here r)
+
+an_item : IsItem (text []) (a_text [])
+an_item = (λ y. null, refl)
+
+no_item : ¬ (IsItem (boolean true) a_null)
+no_item h = let clash : a_boolean true ≡ a_null = h.1 in cc
+
+told_of_texts : Foretells (step 0) [] texts
+told_of_texts d a_null is here inside all b e = cc
+told_of_texts d (a_boolean t) is here inside all b e = cc
+told_of_texts d (an_integer z) is here inside all b e = cc
+told_of_texts d (a_text s) is here inside all b e = cc
+told_of_texts d (a_list ys) is here inside all b e = cc
+told_of_texts d (an_object ms) is here inside all b e = cc
+
+-- by the verdicts of the rule before
+told_of_others : Foretells (step 1) (texts ∷ []) others
+told_of_others d a_null is here inside all b e = ap not (all 0 false refl) ∙ (let f : Some true ≡ Some b = e in cc)
+told_of_others d (a_boolean t) is here inside all b e = ap not (all 0 false refl) ∙ (let f : Some true ≡ Some b = e in cc)
+told_of_others d (an_integer z) is here inside all b e = ap not (all 0 false refl) ∙ (let f : Some true ≡ Some b = e in cc)
+told_of_others d (a_text s) is here inside all b e = ap not (all 0 true refl) ∙ (let f : Some false ≡ Some b = e in cc)
+told_of_others d (a_list ys) is here inside all b e = let f : None ≡ Some b = e in cc
+told_of_others d (an_object ms) is here inside all b e = ap not (all 0 false refl) ∙ (let f : Some true ≡ Some b = e in cc)
+
+-- nothing is known of the rule before
+untold_alone : ¬ (Foretells (step 1) [] others)
+untold_alone h =
+    let clash : true ≡ false = h (text []) (a_text []) an_item (λ r. false) (λ y p. false) (λ q b e. (let f : None ≡ Some b = e in cc)) false refl in cc
+
+-- on texts the first rule holds
+first_holds : AreDecided (texts ∷ []) (a_text []) (λ r. true)
+first_holds zero b e = cc
+first_holds (suc q) b e = let f : None ≡ Some b = e in cc
+
+turned : ¬ (Foretells (step 1) (texts ∷ []) texts)
+turned h = let clash : false ≡ true = h (text []) (a_text []) an_item (λ r. true) (λ y p. false) first_holds true refl in cc
+
+-- ---- the rows of kinds
+
+rules_at_texts : map (verdict_at (mixed ∷ texts ∷ []) 3) (0 ∷ 1 ∷ 2 ∷ []) ≡ yes ∷ yes ∷ None ∷ []
+rules_at_texts = refl
+
+rules_at_objects : map (verdict_at (mixed ∷ texts ∷ []) 5) (0 ∷ 1 ∷ []) ≡ None ∷ no ∷ []
+rules_at_objects = refl
+
+past_the_kinds : verdict_at (mixed ∷ []) 6 0 ≡ None
+past_the_kinds = refl
+
+-- yes, no, and none
+answers : map (λ p. kind_answer (mixed ∷ []) p 0 (λ i r. true)) (0 ∷ 1 ∷ 2 ∷ []) ≡ true ∷ false ∷ false ∷ []
+answers = refl
+
+-- ---- the rules that are open
+
+abbrev verdict : ℕ → Option Bool
+verdict zero = None
+verdict (suc zero) = yes
+verdict (suc (suc r)) = None
+
+below_none : AreOpen 0 verdict []
+below_none = record {
+  within = λ k l. absurd (omega (arith, l));
+  ascends = λ j k m l. absurd (omega (arith, l));
+  undecided = λ k l. absurd (omega (arith, l));
+  decided = λ r l none. absurd (omega (arith, l));
+}
+
+the_open : AreOpen 3 verdict (0 ∷ 2 ∷ [])
+the_open = one_open 2 verdict (0 ∷ []) (one_decided 1 verdict (0 ∷ []) (one_open 0 verdict [] below_none refl) refl) refl
+
+not_the_first : IsNoneOf (0 ∷ []) 2
+not_the_first zero l e = cc
+not_the_first (suc k) l e = omega (arith, l)
+
+left_out : ¬ (AreOpen 3 verdict (0 ∷ []))
+left_out h = let clash : false ≡ true = h.decided 2 (omega arith) not_the_first in cc
+
+not_open : ¬ (AreOpen 3 verdict (0 ∷ 1 ∷ 2 ∷ []))
+not_open h = let clash : yes ≡ None = h.undecided 1 (omega arith) in cc
+
+out_of_order : ¬ (AreOpen 3 verdict (2 ∷ 0 ∷ []))
+out_of_order h = let l : 2 < 0 = h.ascends 0 1 (omega arith) (omega arith) in omega (arith, l)
+
+-- there are no rows only where six times the rules are more than a table takes
+not_without_rows : ¬ (AreRowsOf step (0 ∷ 1 ∷ []) None)
+not_without_rows l = omega (arith, l)
