@@ -231,6 +231,38 @@ try 'error 28' 'ulimit -v 400000; run agree --root "#P" --doc zeros port.cue'
 try_run 2 'yes' 'error 1' '{ run export --root "#P"; [ $(cat | wc -c) -ge $((67108864 - 1048576 - 4096)) ] && echo yes; } < input-limit'
 try_run 2 'yes' 'error 28' '{ run validate --schema true.json; [ $(head -c 9999999 | wc -c) -eq 9999999 ] && echo yes; } < zeros'
 
+# Many documents. A line that is too long is refused alone, and the rest of it is no line.
+try 'lines 2 error 28;valid' '{ cat input-over; echo; cat one; } | run vet --root "#P" --lines port.cue'
+try 'lines 2 error 28;invalid;valid' '{ head -c 200000000 /dev/zero; echo; echo 0; cat one; } | run vet --root "#P" --lines port.cue'
+try 'lines 2 error 25;valid' '{ cat input-limit; echo; cat one; } | run validate --schema port.json --lines'
+try 'lines 2 error 28;valid' '{ cat input-over; echo; cat one; } > over-and-one; run agree --root "#P" --lines --doc over-and-one port.cue'
+try 'lines 2 valid;error 28' 'cat one input-over > joined; { echo 80; cat joined; } | run vet --root "#P" --lines port.cue'
+try 'lines 0 valid;valid' '(printf 8; sleep 0.2; printf "0\n8"; sleep 0.2; printf 0) | run validate --schema port.json --lines'
+# Each verdict is there before the next line is sent.
+try_run 1 'valid
+invalid
+valid' '' 'mkfifo asks tells; run vet --root "#P" --lines port.cue < asks > tells & exec 3> asks 4< tells
+    for line in 80 0 443; do echo "$line" >&3; read -r answer <&4; echo "$answer"; done; exec 3>&-; wait'
+try_run 0 '200000 valid' '' 'yes 80 | head -n 200000 | run vet --root "#P" --lines port.cue | sort | uniq -c | sed "s/^ *//"'
+# As many lines as came, in little memory, in the order in which they came.
+try_run 1 'the same lines' '' 'seq 0 199999 > numbers; (ulimit -v 20000; run vet --root "#P" --lines --doc numbers port.cue > verdicts)
+    awk "{ print (\$1 >= 1 && \$1 <= 65535 ? \"valid\" : \"invalid\") }" numbers | cmp - verdicts && echo "the same lines"'
+try 'error 30' 'run vet --root "#P" --lines port.cue <&-'
+try 'error 30' 'run vet --root "#P" --lines port.cue < folder'
+try 'error 30' 'run validate --schema port.json --lines --doc folder'
+try 'error 31' 'run vet --root "#P" --lines port.cue < one > /dev/full'
+try 'error 31' 'run vet --root "#P" --lines port.cue < one >&-'
+try 'error 31' 'run vet --root "#P" port.cue --docs one > /dev/full'
+try_run 4 'val' 'error 31' 'yes 80 | head -n 200000 | run vet --root "#P" --lines port.cue | { head -c 3; echo; }'
+try_run 0 '' '' 'run vet --root "#P" --lines port.cue < empty > /dev/full'
+try_run 2 '' 'error 4 at 9' 'run vet --root "#P" --lines syntax.cue < zeros'
+# Files: each is read by itself, and one that cannot be read is told alone.
+try 'lines 4 folder: error 30;one: valid;missing: error 30;pipe: invalid;cut.json: error 25' \
+    'feed pipe echo 0; run vet --root "#P" port.cue --docs folder one missing pipe cut.json'
+try 'lines 2 input-over: error 28;one: valid' 'run validate --schema port.json --docs input-over one'
+try 'lines 2 zeros: error 28;one: valid' 'ulimit -v 400000; run agree --root "#P" port.cue --docs zeros one'
+try_run 0 '300 one: valid' '' 'yes one | head -n 300 | (ulimit -n 100; xargs "$program" vet --root "#P" port.cue --docs) | uniq -c | sed "s/^ *//"; echo 0 > "$room/status"'
+
 # The first of several faults: named files before standard input, sources or a schema before a document, in their order.
 try 'error 1' 'run export --root "#P" source-over missing.cue'
 try 'error 30' 'run export --root "#P" missing.cue source-over'

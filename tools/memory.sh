@@ -4,6 +4,8 @@
 # print nothing, say `error 15` and end with status 5, and the last one must give the whole answer. A line for each command says
 # how many growths it has, or what a run did instead; fails where there is such a run. Takes a minute on 4 processors.
 #
+# A run over many documents may answer 15 for one of them, and then it answers the others as they are wanted.
+#
 # A step `again` makes a call twice in one process, on the same inputs: where a growth of one of them is refused, that one has to
 # answer 15, and the other one the whole answer.
 #
@@ -48,7 +50,7 @@ run() {
             < "$room/in" > "$room/out" 2> "$room/said" 9> "$room/met" || status=$?
         if [ ! -s "$room/met" ]; then return; fi
         growths=$((growths + 1))
-        if ! is_refused && ! is_answered_once; then return; fi
+        if ! is_refused && ! is_answered_once && ! is_refused_once; then return; fi
     done
 }
 
@@ -70,6 +72,22 @@ error 15" ''; then
     else
         return 1
     fi
+}
+
+# Whether a run over many documents answered 15 for one of them, and all the others as they are wanted.
+is_refused_once() {
+    case $wanted in 'lines '*) ;; *) return 1 ;; esac
+    listed=${wanted#lines }
+    refused=2
+    if [ "${listed%% *}" -eq 4 ]; then refused=4; fi
+    [ "$status" -eq "$refused" ] && [ ! -s "$room/said" ] || return 1
+    printf '%s\n' "${listed#* }" | tr ';' '\n' > "$room/wanted"
+    paste -d ';' "$room/wanted" "$room/out" | awk -F ';' '
+        $1 == $2 { next }
+        { sub(/(valid|invalid|error [0-9]+)$/, "error 15", $1) }
+        $1 == $2 { refused++; next }
+        { wrong++ }
+        END { exit wrong || refused != 1 }'
 }
 
 # whether the last run met no refusal and did what is wanted
@@ -101,6 +119,7 @@ line_of() {
 # one ROW: a command with all its growths
 one() {
     line=$(line_of "$1")
+    wanted=${1#* => }
     run_line "${1%% => *}"
     if [ "$growths" -gt 0 ] && is_answered_well "${1#* => }"; then
         printf '%5d growths: %s %s\n' "$growths" "$(basename "$program")" "${1%% => *}"

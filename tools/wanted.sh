@@ -57,6 +57,13 @@ is_run() {
     [ "$status" -eq "$1" ] && is_text "$room/out" "$2" && is_text "$room/said" "$3"
 }
 
+# is_listed STATUS [TEXTS]: whether the run ended so and printed these lines, with a `;` between them in place of a newline
+is_listed() {
+    listed=$1
+    shift
+    is_run "$listed" "$(printf '%s' "$*" | tr ';' '\n')" ''
+}
+
 # is_wanted WANTED: whether the run did what a row wants; cases/README.md lists what that may be
 is_wanted() {
     case $1 in
@@ -67,6 +74,7 @@ is_wanted() {
         'error 30' | 'error 31') is_run 4 '' "$1" ;;
         'error '*) is_run 2 '' "$1" ;;
         '{'*) is_run 0 "{\"\$defs\":$1,\"\$ref\":\"#/\$defs/$root\",$dialect}" '' ;;
+        'lines '*) is_listed ${1#lines } ;;
         usage) [ "$status" -eq 3 ] && [ ! -s "$room/out" ] && [ -s "$room/said" ] ;;
         'shows '*) [ "$status" -eq 0 ] && grep -qF -- "${1#shows }" "$room/out" && [ ! -s "$room/said" ] ;;
         *) false ;;

@@ -24,6 +24,8 @@ impl Judge for Thirds {
 
     ghost looks_back = { λ s i r f g h. refl };
 
+    ghost same_class = { λ s i j c none. absurd none };
+
     fn items(&self) -> usize {
         self.items
     }

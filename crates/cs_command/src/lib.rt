@@ -1,7 +1,7 @@
 // The command line.
 #![tactic(auto)]
 
-use clap::{Arg, ArgAction, Command};
+use clap::{Arg, ArgAction, ArgGroup, Command};
 use std::alloc::{AllocError, Global};
 
 /// The program's command: `export`, `vet`, `validate` and `agree` with their words. Sources are the values of `FILE`, in the
@@ -33,8 +33,11 @@ fn vet<'a>(alloc: Global) -> Result<Command<'a>, AllocError> {
         .about("Says whether a JSON document is an instance of a definition")
         .after_help("Example: cue2schema vet --root '#Port' --doc port.json port.cue")
         .arg(root(alloc))?
-        .arg(document(alloc).required(true))?
-        .arg(files(alloc))
+        .arg(document_of_sources(alloc)?)?
+        .arg(documents(alloc)?)?
+        .arg(lines_of_sources(alloc)?)?
+        .arg(files(alloc))?
+        .group(input(alloc)?)
 }
 
 fn validate<'a>(alloc: Global) -> Result<Command<'a>, AllocError> {
@@ -44,7 +47,9 @@ fn validate<'a>(alloc: Global) -> Result<Command<'a>, AllocError> {
         .arg(schema(alloc))?
         .arg(document(alloc).help(
             "The file of the JSON document; standard input where there is none",
-        ))
+        ))?
+        .arg(documents(alloc)?)?
+        .arg(lines(alloc))
 }
 
 fn agree<'a>(alloc: Global) -> Result<Command<'a>, AllocError> {
@@ -52,8 +57,11 @@ fn agree<'a>(alloc: Global) -> Result<Command<'a>, AllocError> {
         .about("Says what `vet` says, judged by the exported schema too")
         .after_help("Example: cue2schema agree --root '#Port' --doc port.json port.cue")
         .arg(root(alloc))?
-        .arg(document(alloc).required(true))?
-        .arg(files(alloc))
+        .arg(document_of_sources(alloc)?)?
+        .arg(documents(alloc)?)?
+        .arg(lines_of_sources(alloc)?)?
+        .arg(files(alloc))?
+        .group(input(alloc)?)
 }
 
 fn root<'a>(alloc: Global) -> Arg<'a> {
@@ -72,6 +80,44 @@ fn document<'a>(alloc: Global) -> Arg<'a> {
         .value_name("DOCUMENT")
         .help("The file of the JSON document")
         .action(ArgAction::Set)
+}
+
+/// The document of a command with sources. Documents come by one of three words.
+fn document_of_sources<'a>(alloc: Global) -> Result<Arg<'a>, AllocError> {
+    document(alloc)
+        .required_unless_present("docs")?
+        .required_unless_present("lines")
+}
+
+/// The words after it are files, whatever they look like, so that another program can append them.
+fn documents<'a>(alloc: Global) -> Result<Arg<'a>, AllocError> {
+    Arg::new(alloc, "docs")
+        .long("docs")
+        .value_name("DOCUMENT")
+        .help("The files of JSON documents, all words after it: a line for each")
+        .num_args(1..)
+        .allow_hyphen_values(true)
+        .action(ArgAction::Append)
+        .conflicts_with("doc")?
+        .conflicts_with("lines")
+}
+
+fn lines<'a>(alloc: Global) -> Arg<'a> {
+    Arg::new(alloc, "lines")
+        .long("lines")
+        .help("Judges a document a line, and prints a line for each")
+        .action(ArgAction::SetTrue)
+}
+
+/// Standard input has the lines, or the source, and not both.
+fn lines_of_sources<'a>(alloc: Global) -> Result<Arg<'a>, AllocError> {
+    lines(alloc).requires_arg("input")
+}
+
+/// What is a named file, the document or a source.
+fn input<'a>(alloc: Global) -> Result<ArgGroup<'a>, AllocError> {
+    let group = ArgGroup::new(alloc, "input").arg("doc")?.arg("FILE")?;
+    Ok(group.multiple(true))
 }
 
 fn schema<'a>(alloc: Global) -> Arg<'a> {

@@ -12,6 +12,8 @@ pub mod Labels
 pub mod Found
 mod Allowed
 pub mod Satisfied
+-- scalars that no mark tells apart
+pub mod AlikeScalars
 -- rules get their numbers: expressions, what waits, definitions by rank, the whole
 pub mod Views
 pub mod Places

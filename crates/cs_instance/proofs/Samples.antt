@@ -1,15 +1,18 @@
 -- Each form of expression with those documents of a list that are its instances. A wrong expectation, or a definition
 -- of the meaning that is turned, stops the check here.
-use Rattle.std.proofs.Common.{◌≡◌, ℕ, ℤ, pos, neg_ℤ, Bool, true, false, List, [], ◌∷◌, map, filter, Some, None, codes, if◌then◌else◌, refl, ap₂, ◌∙◌}
-use Rattle.std.specs.List.{list_all}
+use Rattle.std.proofs.Common.{◌≡◌, ℕ, ℤ, pos, neg_ℤ, Bool, true, false, List, [], ◌∷◌, map, filter, Some, None, codes, if◌then◌else◌, refl, ap₂, ◌∙◌, rules}
+use Rattle.std.specs.List.{list_all, AllByRecursion}
 use Rattle.std.proofs.lemmas.Bool.{and_parts}
 use Rattle.cs_document.specs.Document as json
 use Rattle.cs_document.specs.Document.{Document}
+use Rattle.cs_document.specs.Opened as item
 use Rattle.cs_document.proofs.SampleDocuments.{number, array, map_of as object}
 use Rattle.cs_package.specs.Expression as cue
 use Rattle.cs_package.specs.Expression.{Expression}
 use Rattle.cs_package.specs.Environment.{Environment}
 use Rattle.cs_instance.specs.Instance.{Rule, node, IsInstance}
+use Rattle.cs_instance.specs.Steps.{test_of}
+use Rattle.cs_instance.specs.Told.{IsTold}
 use Rattle.cs_instance.proofs.Meaning.{is_settled, value_after, computed}
 use Rattle.cs_instance.proofs.Rows.{all_of, any_of, int, string, more_than, refers_to, list_of, regular, optional, required, every, end, closed, opened, word}
 
@@ -259,3 +262,46 @@ references : Admits named (number 2 ∷ number 3 ∷ a_text ∷ array (number 2 
     ∷ (list_of [] (cue.each (refers_to B)), array (number 3 ∷ []) ∷ [])
     ∷ [])
 references = by_values refl refl
+
+-- ---- marks
+
+-- a test tells scalars apart that these marks don't
+abbrev Untold : Expression → List (List ℕ) → List ℤ → Type 0
+Untold e texts integers = IsTold (test_of e) (record { texts = texts; integers = integers }) → ⊥
+
+-- both limits of a range are marked: the range from 0 to 3 tells 3 and 4 apart, and 0 and -1
+greatest_is_marked : Untold (cue.range (pos 0) (Some (pos 3))) [] (pos 0 ∷ [])
+greatest_is_marked h = let e : true ≡ false = h (item.an_integer (pos 3)) (item.an_integer (pos 4)) ((refl, refl), tt) in cc
+
+least_is_marked : Untold (cue.range (pos 0) (Some (pos 3))) [] (pos 3 ∷ [])
+least_is_marked h = let e : true ≡ false = h (item.an_integer (pos 0)) (item.an_integer (below_zero 1)) ((refl, refl), tt) in cc
+
+-- an integer, `!=` and an integer, and a bound in each relation
+integer_is_marked : Untold (cue.atom (cue.integer (pos 2))) [] (pos 1 ∷ [])
+integer_is_marked h = let e : true ≡ false = h (item.an_integer (pos 2)) (item.an_integer (pos 3)) ((refl, refl), tt) in cc
+
+other_integer_is_marked : Untold (cue.atom (cue.not_integer (pos 2))) [] (pos 1 ∷ [])
+other_integer_is_marked h = let e : false ≡ true = h (item.an_integer (pos 2)) (item.an_integer (pos 3)) ((refl, refl), tt) in cc
+
+less_is_marked : Untold (cue.atom (cue.bound cue.less (pos 2))) [] (pos 0 ∷ [])
+less_is_marked h = let e : true ≡ false = h (item.an_integer (pos 1)) (item.an_integer (pos 2)) ((refl, refl), tt) in cc
+
+at_most_is_marked : Untold (cue.atom (cue.bound cue.at_most (pos 2))) [] (pos 0 ∷ [])
+at_most_is_marked h = let e : true ≡ false = h (item.an_integer (pos 2)) (item.an_integer (pos 3)) ((refl, refl), tt) in cc
+
+more_is_marked : Untold (cue.atom (cue.bound cue.more (pos 2))) [] (pos 0 ∷ [])
+more_is_marked h = let e : true ≡ false = h (item.an_integer (pos 3)) (item.an_integer (pos 2)) ((refl, refl), tt) in cc
+
+at_least_is_marked : Untold (cue.atom (cue.bound cue.at_least (pos 2))) [] (pos 0 ∷ [])
+at_least_is_marked h = let e : true ≡ false = h (item.an_integer (pos 2)) (item.an_integer (pos 1)) ((refl, refl), tt) in cc
+
+-- "s" where "t" alone is marked
+text_is_marked : Untold (cue.atom (cue.text (codes "s"))) (codes "t" ∷ []) []
+text_is_marked h = let e : true ≡ false = h (item.a_text (codes "s")) (item.a_text []) (refl, tt) in cc
+
+other_text_is_marked : Untold (cue.atom (cue.not_text (codes "s"))) (codes "t" ∷ []) []
+other_text_is_marked h = let e : false ≡ true = h (item.a_text (codes "s")) (item.a_text []) (refl, tt) in cc
+
+-- where nothing is marked all integers are alike and all texts, and so the kinds and null need no mark
+kinds_need_none : AllByRecursion (λ e. IsTold (test_of e) (record { texts = []; integers = [] })) (cue.kind cue.int ∷ cue.kind cue.string ∷ cue.kind cue.bool ∷ cue.atom cue.null ∷ cue.atom cue.not_null ∷ cue.atom cue.top ∷ [])
+kinds_need_none = search rules

@@ -1,13 +1,14 @@
 -- The instance relation is the table of its judge.
-use Rattle.std.proofs.Common.{◌≡◌, ℕ, ◌*◌, ◌<◌, ◌≤◌, Bool, List, map, length, slice_index, refl, sym, ap, ap₂, ◌∙◌, subst, arith}
+use Rattle.std.proofs.Common.{◌≡◌, ℕ, suc, ◌*◌, ◌<◌, ◌≤◌, Bool, List, map, length, slice_index, refl, sym, ap, ap₂, ◌∙◌, subst, arith}
 use Rattle.std.specs.Prelude.{Some, slice_get}
 use Rattle.std.proofs.lemmas.List.{length-map}
+use Rattle.std.proofs.lemmas.Option.{slice_get_within}
 use Rattle.std.proofs.lemmas.List.Sorted.{length_permutation}
 use Rattle.cs_document.specs.Document.{Document}
 use Rattle.cs_document.specs.Opened.{Opened, opened}
 use Rattle.cs_document.specs.Inside.{map_opened}
 use Rattle.cs_flat.specs.Nodes.{nodes, node_at}
-use Rattle.cs_flat.specs.Items.{AreItems}
+use Rattle.cs_flat.specs.Items.{AreItems, inside}
 use Rattle.cs_flat.specs.Listed.{values, document_in}
 use Rattle.cs_table.specs.Judged.{AllVerdicts, Judgement, IsJudged, Table, verdicts}
 use Rattle.cs_table.specs.Limit.{most_pairs}
@@ -18,15 +19,17 @@ use Rattle.cs_rules.specs.Answers.{answer}
 use Rattle.cs_rules.proofs.Judged.{answer_is, coded_found, judged_where}
 use Rattle.cs_package.specs.Environment.{Environment, Names, written}
 use Rattle.cs_instance.specs.Constraint.{Constraint, is_satisfied}
-use Rattle.cs_instance.specs.Instance.{Rule, node, constraint_of, IsInstance}
+use Rattle.cs_instance.specs.Instance.{Rule, definition, node, constraint_of, IsInstance}
 use Rattle.cs_instance.specs.Numbering.{map_constraint, rule_at}
 use Rattle.cs_instance.specs.Rules.{rules_of, HasManyPairs}
 use Rattle.cs_instance.specs.Judging.{IsJudge, IsTable}
 use Rattle.cs_instance.specs.Refusal.{IsRefusal}
 use Rattle.cs_instance.specs.Faults.{fault_of}
+use Rattle.cs_instance.specs.declared.fault.InstanceFault.TheVariants as instance
 use Rattle.cs_instance.specs.declared.rules.Rule.{Rule as Coded}
 use Rattle.cs_instance.specs.Steps.{asked_of, numbered, step}
 use Rattle.cs_instance.specs.Rooted.{IsRooted}
+use Rattle.cs_instance.proofs.Ready.{at_of_some}
 use Rattle.cs_instance.proofs.Satisfied.{named, at_documents}
 use Rattle.cs_instance.proofs.Wholes.{rules_count}
 
@@ -39,6 +42,11 @@ judge_of E n xs root rules inner h =
     answers f i r c x e k =
         let y = coded_found (numbered inner) rules r c e in
         answer_is step rules inner (values xs) xs i r f y.0 x y.1 k ∙ sym (named (λ q. q) (slice_index inner) (f i) f (asked_of y.0) x) ∙ ap (λ a. is_satisfied (f i) f a x) y.2
+
+-- the same, where a judge has these rules and values
+pub judge_over : (E : Environment) (n : List ℕ) (xs : List (Opened ℕ)) (root : ℕ) (rules : List Coded) (inner : List ℕ) → IsRooted E n rules inner root → (ys : List (Opened ℕ)) (rules' : List Coded) (inner' : List ℕ) → ys ≡ xs → rules' ≡ rules → inner' ≡ inner
+    → IsJudge E n xs root (length ys) (length rules') (answer step rules' inner' (values ys) ys)
+judge_over E n xs root rules inner h ys rules' inner' a b d = rw (a, b, d) (judge_of E n xs root rules inner h)
 
 module _ (E : Environment) (n : List ℕ) (xs : List (Opened ℕ)) (root ic rc : ℕ) (judge : Judgement) (j : IsJudge E n xs root ic rc judge) (are : AreItems (values xs) xs) (whole : length xs ≡ length (nodes (document_in xs))) where
   module _ (I : Rule → Document → Bool) (h : IsInstance E I) where
@@ -79,9 +87,20 @@ module _ (E : Environment) (n : List ℕ) (xs : List (Opened ℕ)) (root ic rc :
   pub many_pairs : most_pairs < ic * rc → HasManyPairs E n (document_in xs)
   many_pairs l = record { names = j.are.names; reachable = j.are.reachable; many = subst (λ k. most_pairs < k) pairs l }
 
+  pub many_where : (e : TableFault) → limits.IsRefusal ic rc e → fault_of e ≡ instance.TooManyPairs → HasManyPairs E n (document_in xs)
+  many_where table.OutOfMemory h is = cc
+  many_where table.TooManyPairs h is = many_pairs h
+
   pub refused : (root : List ℕ) → Names E root n → (e : TableFault) → limits.IsRefusal ic rc e → IsRefusal (fault_of e) E root (document_in xs)
   refused root names table.OutOfMemory h = tt
   refused root names table.TooManyPairs h = (n, names, many_pairs h)
+
+-- the verdict on the last value by the root's rule is the one on the document
+pub last_verdict : (E : Environment) (n : List ℕ) (xs : List (Opened ℕ)) (root : ℕ) (t : Table) → IsTable E n xs root t → (last : ℕ) → last ≡ inside (document_in xs) → length xs ≡ suc (inside (document_in xs)) → node_at (values xs) (inside (document_in xs)) ≡ document_in xs
+    → (I : Rule → Document → Bool) → IsInstance E I → verdicts t last root ≡ I (definition n) (document_in xs)
+last_verdict E n xs root t h last is count at I i =
+    let within = slice_get_within h.all root (definition n) h.found in
+    h.verdict I i last root (omega (arith, is, count)) within ∙ ap₂ I (at_of_some h.all root (definition n) h.found) (ap (node_at (values xs)) is ∙ at)
 
 -- a text names one definition
 pub one_name : (E : Environment) (t n m : List ℕ) → Names E t n → Names E t m → m ≡ n

@@ -11,6 +11,7 @@ pub mod Steps
 pub mod Props
 pub mod Looks
 pub mod Kinds
+pub mod Told
 pub mod Keys
 pub mod Placing
 pub mod Ranked

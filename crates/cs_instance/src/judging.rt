@@ -9,8 +9,8 @@ ghost use Rattle.cs_instance.specs.Rules.{HasManyPairs};
 ghost use Rattle.cs_instance.specs.Judging.{IsJudge, IsTable};
 ghost use Rattle.cs_instance.specs.Refusal.{IsRefusal};
 
-use crate::numbering::numbering_of;
-use crate::{InstanceFault, InstanceJudge};
+use crate::numbered::numbered_root;
+use crate::{InstanceFault, InstanceJudge, root_rules};
 use cs_document::Doc;
 use cs_flat::{Flat, flatten};
 use cs_guard::Guarded;
@@ -35,11 +35,9 @@ pub fn instance_judge<'a>(
     ensures refused { IfErr result (λ e. IsRefusal e «package».now root.now (document_in flat.now)) }
     ensures fits { IsErrOf result InstanceFault.TooManyPairs → ⊥ }
 {
-    let Some(i) = package.package().find(root) else {
-        return Err(InstanceFault::UnknownRoot);
-    };
-    let (numbering, number) = numbering_of(alloc, package, i)?;
-    Ok((RuleJudge::over(alloc, numbering, flat)?, number))
+    let rooted = numbered_root(alloc, package, root)?;
+    let judge = RuleJudge::over(alloc, rooted.numbering, flat)?;
+    Ok((judge, rooted.number))
 }
 
 /// Whether each value of a document is an instance of each definition that the root reaches and of each expression in
@@ -88,8 +86,8 @@ pub fn instance_verdict(
         (λ e. IsRefusal e «package».now root.now (document_in flat.now)) }
 {
     let _package = package.package(); // for the proof: the package is guarded
-    let (table, number) = instance_table(alloc, package, root, flat)?;
-    Ok(table.get(flat.len() - 1, number))
+    let rules = root_rules(alloc, package, root)?;
+    rules.verdict(flat, &mut Verdicts::new(alloc))
 }
 
 /// Whether the document is an instance of the root, a definition of the package named with its `#` (CUE, values).

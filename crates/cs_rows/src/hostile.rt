@@ -2,5 +2,8 @@
 mod fakes;
 mod fronts;
 mod limits;
+mod lines;
 mod streams;
 mod tables;
+
+pub(crate) use lines::rules_of;

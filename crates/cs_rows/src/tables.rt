@@ -1,6 +1,6 @@
 // Tables of examples: a row a line, its cells parted by `=>`. A line that begins with two blanks and `…` goes on with the row
 // before it.
-use crate::{commands, examples, keywords, refusals, requests, streams};
+use crate::{commands, documents, examples, keywords, refusals, requests, streams};
 use std::alloc::{AllocError, Global};
 use std::test::Fail;
 
@@ -23,6 +23,8 @@ pub(crate) enum Row {
     Cycle,
     /// A call, its texts, the input and what `run` answers.
     Request,
+    /// Rules, documents, and what is written for each.
+    Documents,
     /// A call, its text, how its input and its output behave, and what `run` answers.
     Stream,
     /// The number of a refusal, and the line that reports it.
@@ -51,6 +53,7 @@ fn holds(alloc: Global, row: &str, rows: Row) -> Result<bool, Fail> {
         Row::Document => Ok(refusals::is_judged(alloc, row)?),
         Row::Front => Ok(refusals::are_fronts_refused(alloc, row)?),
         Row::Cycle => Ok(refusals::is_cycle(alloc, row)?),
+        Row::Documents => Ok(documents::are_answered(alloc, row)?),
         Row::Request => Ok(requests::is_run(alloc, row)?),
         Row::Stream => Ok(streams::is_run(alloc, row)?),
         Row::Line => Ok(streams::is_line(alloc, row)?),

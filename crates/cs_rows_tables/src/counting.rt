@@ -32,6 +32,8 @@ impl<'a, J: Judge> Judge for Counting<'a, J> {
 
     ghost looks_back = { λ s. J.looks_back s.judge.now };
 
+    ghost same_class = { λ s i j c none. absurd none };
+
     fn items(&self) -> usize {
         self.judge.items()
     }

@@ -20,6 +20,8 @@ impl Judge for Never {
 
     ghost looks_back = { λ s i r f g same. refl };
 
+    ghost same_class = { λ s i j c none. absurd none };
+
     fn items(&self) -> usize {
         self.items
     }

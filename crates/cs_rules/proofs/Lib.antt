@@ -3,6 +3,9 @@
 pub mod Judged
 pub mod Foretold
 pub mod Decided
+-- marks, and classes of scalars by them
+pub mod Marked
+pub mod Placed
 -- lists that grow, for the numbering of rules
 pub mod Lists
 pub mod Waiting

@@ -1,8 +1,12 @@
 -- Verdicts by kind, worked by the definitions on samples.
-use Rattle.std.proofs.Common.{◌≡◌, ◌<◌, ℕ, zero, suc, pos, Bool, true, false, not, List, [], ◌∷◌, Option, Some, None, map, refl, ap, ◌∙◌, arith}
-use Rattle.cs_document.specs.Document.{null, text, boolean}
+use Rattle.std.proofs.Common.{◌≡◌, ◌<◌, ℕ, zero, suc, inl, inr, ℤ, pos, negsuc, int_lt, Bool, true, false, not, List, [], ◌∷◌, ◌++◌, Option, Some, None, Equal, Greater, map, refl, ap, ◌∙◌, subst, arith}
+use Rattle.std.specs.Prelude.{slice_get}
+use Rattle.std.specs.Ordering.{int_cmp}
+use Rattle.cs_document.specs.Document.{null, text, boolean, integer}
 use Rattle.cs_document.specs.Opened.{Opened, a_null, a_boolean, an_integer, a_text, a_list, an_object}
 use Rattle.cs_table.specs.Decided.{IsNoneOf}
+use Rattle.cs_rules.specs.Alike.{Compared, AreAlike, IsToldBy, HasMore}
+use Rattle.cs_rules.specs.Classed.{HasClass, HasClassAt, IsPlace, by_place}
 use Rattle.cs_rules.specs.Steps.{Step}
 use Rattle.cs_rules.specs.Kinds.{verdict_of, row_of, kind_place, both, either, Decides, decided_by, all_decided, any_decided, AreDecided, IsItem, Foretells}
 use Rattle.cs_rules.specs.Rows.{verdict_at, kind_answer, AreOpen, AreRowsOf}
@@ -205,3 +209,142 @@ out_of_order h = let l : 2 < 0 = h.ascends 0 1 (omega arith) (omega arith) in om
 -- there are no rows only where six times the rules are more than a table takes
 not_without_rows : ¬ (AreRowsOf step (0 ∷ 1 ∷ []) None)
 not_without_rows l = omega (arith, l)
+
+-- ---- scalars that no mark tells apart: the marks are the text a and the integer 5
+
+abbrev marks : Compared
+marks = record { texts = (97 ∷ []) ∷ []; integers = pos 5 ∷ [] }
+
+abbrev none : Compared
+none = record { texts = []; integers = [] }
+
+null_is_like_null : AreAlike none a_null a_null
+null_is_like_null = tt
+
+a_boolean_is_like_itself : AreAlike none (a_boolean true) (a_boolean true)
+a_boolean_is_like_itself = refl
+
+true_is_not_like_false : ¬ (AreAlike none (a_boolean true) (a_boolean false))
+true_is_not_like_false h = let clash : true ≡ false = h in cc
+
+null_is_not_like_false : ¬ (AreAlike none a_null (a_boolean false))
+null_is_not_like_false h = h
+
+an_integer_is_not_like_a_text : ¬ (AreAlike none (an_integer (pos 0)) (a_text []))
+an_integer_is_not_like_a_text h = h
+
+a_list_is_like_nothing : ¬ (AreAlike none (a_list []) (a_list []))
+a_list_is_like_nothing h = h
+
+a_map_is_like_nothing : ¬ (AreAlike none (an_object []) (an_object []))
+a_map_is_like_nothing h = h
+
+below_the_mark : AreAlike marks (an_integer (negsuc 0)) (an_integer (pos 4))
+below_the_mark = ((refl, refl), tt)
+
+above_the_mark : AreAlike marks (an_integer (pos 6)) (an_integer (pos 7))
+above_the_mark = ((refl, refl), tt)
+
+a_mark_between : ¬ (AreAlike marks (an_integer (pos 4)) (an_integer (pos 6)))
+a_mark_between h = let clash : true ≡ false = h.0.0 in cc
+
+below_and_at_the_mark : ¬ (AreAlike marks (an_integer (pos 4)) (an_integer (pos 5)))
+below_and_at_the_mark h = let clash : true ≡ false = h.0.0 in cc
+
+at_the_mark_and_above : ¬ (AreAlike marks (an_integer (pos 5)) (an_integer (pos 6)))
+at_the_mark_and_above h = let clash : false ≡ true = h.0.1 in cc
+
+no_mark_between : AreAlike none (an_integer (pos 4)) (an_integer (pos 6))
+no_mark_between = tt
+
+texts_at_no_mark : AreAlike marks (a_text []) (a_text (98 ∷ []))
+texts_at_no_mark = (refl, tt)
+
+a_text_at_a_mark : ¬ (AreAlike marks (a_text (97 ∷ [])) (a_text (98 ∷ [])))
+a_text_at_a_mark h = let clash : true ≡ false = h.0 in cc
+
+-- ---- what marks tell: this rule asks for integers below 5
+
+abbrev is_low : Opened ℕ → Bool
+is_low (an_integer z) = int_lt z (pos 5)
+is_low _ = false
+
+abbrev low : Step
+low here inside d x = is_low x
+
+same_low : (x y : Opened ℕ) → AreAlike marks x y → is_low x ≡ is_low y
+same_low a_null a_null h = refl
+same_low (a_boolean b) (a_boolean c) h = refl
+same_low (an_integer z) (an_integer w) h = h.0.0
+same_low (a_text s) (a_text t) h = refl
+same_low a_null (a_boolean c) h = absurd h
+same_low a_null (an_integer w) h = absurd h
+same_low a_null (a_text t) h = absurd h
+same_low a_null (a_list v) h = absurd h
+same_low a_null (an_object v) h = absurd h
+same_low (a_boolean b) a_null h = absurd h
+same_low (a_boolean b) (an_integer w) h = absurd h
+same_low (a_boolean b) (a_text t) h = absurd h
+same_low (a_boolean b) (a_list v) h = absurd h
+same_low (a_boolean b) (an_object v) h = absurd h
+same_low (an_integer z) a_null h = absurd h
+same_low (an_integer z) (a_boolean c) h = absurd h
+same_low (an_integer z) (a_text t) h = absurd h
+same_low (an_integer z) (a_list v) h = absurd h
+same_low (an_integer z) (an_object v) h = absurd h
+same_low (a_text s) a_null h = absurd h
+same_low (a_text s) (a_boolean c) h = absurd h
+same_low (a_text s) (an_integer w) h = absurd h
+same_low (a_text s) (a_list v) h = absurd h
+same_low (a_text s) (an_object v) h = absurd h
+same_low (a_list v) y h = absurd h
+same_low (an_object v) y h = absurd h
+
+told_by_its_limit : IsToldBy low marks
+told_by_its_limit here inside inside' d d' x y is is' like = same_low x y like
+
+not_told_by_none : ¬ (IsToldBy low none)
+not_told_by_none h =
+    let clash : true ≡ false = h (λ r. false) (λ y p. false) (λ y p. false) (integer (pos 4)) (integer (pos 6)) (an_integer (pos 4)) (an_integer (pos 6)) (λ y. null, refl) (λ y. null, refl) tt in cc
+
+more_marks : HasMore none marks
+more_marks = ((97 ∷ []) ∷ [], pos 5 ∷ [], refl, refl)
+
+fewer_marks : ¬ (HasMore marks none)
+fewer_marks h = let clash : [] ≡ pos 5 ∷ [] ++ h.1 = h.3 in cc
+
+-- ---- classes: null, false and true; three of integers, below the mark, at it and above it; three of texts
+
+null_false_true : HasClass marks a_null 0 × HasClass marks (a_boolean false) 1 × HasClass marks (a_boolean true) 2
+null_false_true = (refl, refl, refl)
+
+false_is_not_true : ¬ (HasClass marks (a_boolean false) 2)
+false_is_not_true h = let clash : 2 ≡ 1 = h in absurd (omega (arith, clash))
+
+first_integers : (k : ℕ) (x : ℤ) → slice_get (pos 5 ∷ []) k ≡ Some x → int_cmp x (pos 4) ≡ by_place k 0
+first_integers zero x e = let same : pos 5 ≡ x = cc in subst (λ y. int_cmp y (pos 4) ≡ Greater) same refl
+first_integers (suc k) x e = let clash : None ≡ Some x = e in cc
+
+below_has_the_first : HasClass marks (an_integer (pos 4)) 3
+below_has_the_first = (0, refl, omega arith, inr (0, refl, first_integers))
+
+at_the_mark_has_the_second : HasClass marks (an_integer (pos 5)) 4
+at_the_mark_has_the_second = (1, refl, omega arith, inl (0, pos 5, refl, refl, refl))
+
+at_the_mark_has_not_the_first : ¬ (HasClass marks (an_integer (pos 5)) 3)
+at_the_mark_has_not_the_first h = not_between h.0 (omega (arith, h.1)) h.3
+  where
+    not_between : (p : ℕ) → p ≡ 0 → IsPlace (λ k. int_cmp k (pos 5)) (pos 5 ∷ []) p → ⊥
+    not_between p z (inl a) = omega (arith, z, a.2)
+    not_between p z (inr a) =
+        let first : a.0 ≡ 0 = omega (arith, z, a.1) in
+        let clash : Equal ≡ Greater = a.2 0 (pos 5) refl ∙ ap (by_place 0) first in cc
+
+text_at_the_mark : HasClass marks (a_text (97 ∷ [])) 7
+text_at_the_mark = (1, refl, inl (0, 97 ∷ [], refl, refl, refl))
+
+no_class_of_lists : ¬ (HasClassAt marks (Some (a_list [])) 0)
+no_class_of_lists h = h
+
+no_class_past_the_items : ¬ (HasClassAt marks None 0)
+no_class_past_the_items h = h

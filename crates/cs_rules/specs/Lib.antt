@@ -5,4 +5,7 @@ pub mod Props
 pub mod Looks
 pub mod Knowns
 pub mod Kinds
+pub mod Alike
+pub mod Classed
+pub mod Sharing
 pub mod Rows

@@ -1,39 +1,30 @@
 // The judge of a document's values by numbered rules.
-ghost use Rattle.cs_rules.specs.Steps.{ArePlaced, AreLower};
+ghost use Rattle.cs_rules.specs.Steps.{AreLower};
 ghost use Rattle.cs_rules.specs.Props.{inside_prop};
-ghost use Rattle.cs_rules.specs.Rows.{AreRowsOf};
+ghost use Rattle.cs_flat.specs.Items.{AreItems};
+ghost use Rattle.cs_flat.specs.Listed.{values};
 
-use crate::by_kind::place_of;
-use crate::rows::{Rows, rows_of};
-use crate::{Asks, Known};
+use crate::{Asks, Numbering, Rulebook};
 use cs_flat::Flat;
 use cs_table::{Judge, Row, Verdicts};
 use std::alloc::{AllocError, Global};
 
-/// Rules, each after those that it asks of the same document.
-#[derive(Drop)]
-pub struct Numbering<R: Asks> {
-    pub rules: Vec<R>,
-    /// The rules that are asked of documents inside.
-    pub children: Vec<usize>,
-    pub ghost placed: { ∥ ArePlaced R.below rules.items children.items ∥₁ },
-}
-
-/// Judges the values of a document by numbered rules: the items of [`cs_flat::Flat`] by rules, each of which is after
-/// those that it asks of the same value.
+/// Judges the values of a document by numbered rules, in a book of its own: the items of [`cs_flat::Flat`] by rules, each
+/// of which is after those that it asks of the same value.
 #[derive(Drop)]
 pub struct RuleJudge<'a, R: Asks> {
-    pub numbering: Numbering<R>,
+    pub book: Rulebook<R>,
     pub flat: &'a Flat<'a>,
-    /// What is decided of each kind of values; none where the table for it would be too large.
-    rows: Option<Rows>,
-    ghost told: { ∥ AreRowsOf R.step numbering.rules.items rows ∥₁ },
+    /// Whether values are judged by class: only where the document has as many values as there are classes.
+    by_class: bool,
     pub ghost lower: { AreLower flat.now } by { Prim.hlevel inside_prop },
+    pub ghost shown: { ∥ AreItems (values flat.now) flat.now ∥₁ },
 }
 
 impl<'a, R: Asks> Judge for RuleJudge<'a, R> {
-    ghost use Rattle.std.specs.Prelude.{◌<◌, ◌*◌, length, IfSome, IsNone};
-    ghost use Rattle.cs_flat.specs.Listed.{values};
+    ghost use Rattle.std.specs.Prelude.{◌<◌, ◌*◌, length, slice_get, IfSome, IsNone};
+    ghost use Rattle.cs_rules.specs.Classed.{HasClassAt};
+    ghost use Rattle.cs_rules.specs.Sharing.{answers_by_class};
     ghost use Rattle.cs_table.specs.Decided.{IsDecided};
     ghost use Rattle.cs_table.specs.Limit.{most_pairs};
     ghost use Rattle.cs_rules.specs.Answers.{answer};
@@ -42,48 +33,57 @@ impl<'a, R: Asks> Judge for RuleJudge<'a, R> {
 
     ghost item_count = { λ s. length s.flat.now };
 
-    ghost rule_count = { λ s. length s.numbering.rules.items };
+    ghost rule_count = { λ s. length s.book.numbering.rules.items };
 
-    ghost answer = { λ s. answer R.step s.numbering.rules.items s.numbering.children.items (values s.flat.now) s.flat.now };
+    ghost answer = { λ s. answer R.step s.book.numbering.rules.items s.book.numbering.children.items (values s.flat.now) s.flat.now };
 
-    ghost looks_back = { λ s. answer_looks_back R.below R.step R.looks_at_parts s.numbering.rules.items s.numbering.children.items (values s.flat.now) s.flat.now s.numbering.placed s.lower };
+    ghost is_of_class = { λ s i c. HasClassAt s.book.classes (slice_get s.flat.now i) c };
+
+    ghost same_class = { λ s. answers_by_class R.below R.step R.looks_at_parts s.book.numbering.rules.items s.book.numbering.children.items (values s.flat.now) s.flat.now s.book.classes s.book.numbering.placed s.shown s.book.marked };
+
+    ghost looks_back = { λ s. answer_looks_back R.below R.step R.looks_at_parts s.book.numbering.rules.items s.book.numbering.children.items (values s.flat.now) s.flat.now s.book.numbering.placed s.lower };
 
     fn items(&self) -> usize {
         self.flat.len()
     }
 
     fn rules(&self) -> usize {
-        self.numbering.rules.len()
+        self.book.numbering.rules.len()
     }
 
     #[inline]
     fn judge(&self, item: usize, rule: usize, done: &Verdicts) -> bool {
-        let value = self.flat.item(item);
-        let known = Known {
-            item,
-            children: &self.numbering.children,
-            done,
-        };
-        self.numbering.rules[rule].holds(&value, self.flat, &known)
+        self.book.judge(self.flat, item, rule, done)
     }
 
     #[inline]
     fn decided(&self, item: usize) -> Option<Row<'_>>
         requires { item < length self.now.flat.now }
-        ensures decided { IfSome result (IsDecided (length self.now.numbering.rules.items)
-            (answer R.step self.now.numbering.rules.items self.now.numbering.children.items
+        ensures decided { IfSome result (IsDecided (length self.now.book.numbering.rules.items)
+            (answer R.step self.now.book.numbering.rules.items
+            self.now.book.numbering.children.items
             (values self.now.flat.now) self.now.flat.now) item) }
         ensures none { IsNone result
-            → most_pairs < kind_count * length self.now.numbering.rules.items }
+            → most_pairs < kind_count * length self.now.book.numbering.rules.items }
     {
-        let _count = self.flat.len(); // for the proof: each item is its value
-        let rows = self.rows.as_ref()?;
-        let kind = place_of(&self.flat.item(item));
-        Some(Row {
-            table: &rows.table,
-            item: kind,
-            left: &rows.left[kind],
-        })
+        self.book.decided(self.flat, item)
+    }
+
+    fn classes(&self) -> usize {
+        if self.by_class {
+            self.book.classes.count()
+        } else {
+            0
+        }
+    }
+
+    #[inline]
+    fn class(&self, item: usize) -> Option<usize> {
+        if self.by_class {
+            self.book.class(self.flat, item)
+        } else {
+            None
+        }
     }
 }
 
@@ -96,15 +96,15 @@ impl<'a, R: Asks> RuleJudge<'a, R> {
         numbering: Numbering<R>,
         flat: &'a Flat<'a>,
     ) -> Result<RuleJudge<'a, R>, AllocError>
-        ensures numbering { IfOk result (λ j. j.numbering ≡ numbering) }
+        ensures numbering { IfOk result (λ j. j.book.numbering ≡ numbering) }
         ensures flat { IfOk result (λ j. j.flat.now ≡ flat.now) }
     {
-        let _count = flat.len(); // for the proof: the numbers of each item are lower
-        let rows = rows_of(alloc, &numbering.rules)?;
+        let book = Rulebook::of(alloc, numbering)?;
+        let by_class = book.classes.count() <= flat.len();
         Ok(RuleJudge {
-            numbering,
+            book,
             flat,
-            rows,
+            by_class,
         })
     }
 }

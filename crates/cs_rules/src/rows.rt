@@ -35,6 +35,8 @@ impl Judge for KindJudge<'_> {
 
     ghost looks_back = { λ s i r f g h. refl };
 
+    ghost same_class = { λ s i j c none. absurd none };
+
     fn items(&self) -> usize {
         KIND_COUNT
     }

@@ -1,15 +1,17 @@
 // What rules ask.
-ghost use Rattle.std.specs.Prelude.{◌≡◌, ℕ, ◌≤◌, Some, slice_get};
+ghost use Rattle.std.specs.Prelude.{◌≡◌, ℕ, ◌≤◌, Some, slice_get, OnOk};
 ghost use Rattle.cs_document.specs.Inside.{AscendsInside, InsideBelow};
 ghost use Rattle.cs_flat.specs.Listed.{values};
 ghost use Rattle.cs_flat.specs.Nodes.{node_at};
 ghost use Rattle.cs_flat.specs.View.{item_view};
 ghost use Rattle.cs_rules.specs.Steps.{Step, LooksAtParts};
 ghost use Rattle.cs_rules.specs.Kinds.{Foretells};
+ghost use Rattle.cs_rules.specs.Alike.{IsToldBy, HasMore};
 ghost use Rattle.cs_rules.specs.Knowns.{verdict_here, verdict_inside, value_count, rule_count, place_count};
 
-use crate::{ByKind, Known};
+use crate::{ByKind, Known, Marks};
 use cs_flat::{Flat, Item};
+use std::alloc::AllocError;
 
 /// A rule that documents are judged by. A part that it asks of the same value is named by its number, and one that it asks
 /// of a value inside by its place in a list of such rules.
@@ -32,6 +34,11 @@ pub trait Asks: Drop {
     /// The verdicts that a value's kind alone decides, where it decides those of earlier rules so.
     fn by_kind(&self, earlier: &[ByKind]) -> ByKind
         ensures { Foretells (step self.now) earlier.now result };
+
+    /// Adds to the marks what the rule compares texts and integers with. Only memory can run out.
+    fn mark(&self, marks: &mut Marks) -> Result<(), AllocError>
+        ensures told { OnOk result (IsToldBy (step self.now) marks.new) }
+        ensures more { OnOk result (HasMore marks.old marks.new) };
 
     /// Law: the verdicts on its parts alone are looked at.
     ghost looks_at_parts: { (s : Self) → LooksAtParts (below s) (step s) };

@@ -1,5 +1,5 @@
 -- A verdict is got from its bit, a bit that is set keeps the others, and so does a row that is taken.
-use Rattle.std.proofs.Common.{◌≡◌, ◌≢◌, ℕ, ◌<◌, ◌≤◌, ◌+◌, ◌-◌, ◌*◌, ◌/◌, ◌%◌, ◌^◌, max, ⊎_elim, zero, suc, Bool, true, false, ◌||◌, List, ◌++◌, length, length-append, length-drop, get_or, take, drop, replicate, slice_set, bit_or, nat_eq, refl, sym, ap, ◌∙◌, arith, rules}
+use Rattle.std.proofs.Common.{◌≡◌, ◌≢◌, ℕ, ◌<◌, ◌≤◌, ◌+◌, ◌-◌, ◌*◌, ◌/◌, ◌%◌, ◌^◌, max, ⊎_elim, zero, suc, Bool, true, false, ◌||◌, List, ◌++◌, length, length-append, append_assoc, length-drop, get_or, take, drop, replicate, slice_set, bit_or, nat_eq, refl, sym, ap, ◌∙◌, arith, rules}
 use Rattle.std.proofs.Math.Nat.{zero-mul}
 use Rattle.std.proofs.lemmas.Bool.{cases_eq, cases_lt}
 use Rattle.std.proofs.lemmas.Grind.{get_or-set_at}
@@ -8,6 +8,7 @@ use Rattle.std.proofs.lemmas.List.FromFn.{length-map-range_with_len, get_or-map-
 use Rattle.std.proofs.lemmas.Nat.{one_shl, div-mul-add, mod-mul-add}
 use Rattle.std.proofs.lemmas.Nat.Bits.{bit_at-zero, bit_at-lt, bit_at_or, bit_at-pow_same, bit_at-pow_other}
 use Rattle.std.specs.Int.{bit_at}
+use Rattle.std.specs.List.{copy_within}
 use Rattle.cs_table.specs.Filled.{AreBlankFrom, OtherItemsStay, OtherPairsStay}
 use Rattle.cs_table.specs.Judged.{Table, verdicts}
 use Rattle.cs_table.specs.Kept.{width_of, bit_of, is_yes, kept}
@@ -115,6 +116,12 @@ module _ (bytes : List ℕ) (width items rules i r b : ℕ) (v : Bool) (wide : w
 -- bytes from a place on, copied from other bytes
 abbrev pub copied : List ℕ → List ℕ → ℕ → ℕ → ℕ → List ℕ
 copied bytes other at from width = take at bytes ++ (take width (drop from other) ++ drop (at + width) bytes)
+
+-- some of the bytes themselves
+pub copied_within : (bytes : List ℕ) (at from width : ℕ) → copy_within bytes from (from + width) at ≡ copied bytes bytes at from width
+copied_within bytes at from width =
+    ap (λ n. take at bytes ++ take n (drop from bytes) ++ drop (at + n) bytes) (let same : from + width - from ≡ width = omega arith in same)
+    ∙ append_assoc (take at bytes) (take width (drop from bytes)) (drop (at + width) bytes)
 
 module _ (bytes other : List ℕ) (at from width : ℕ) (to_end : at + width ≤ length bytes) (from_end : from + width ≤ length other) where
   length-before : length (take at bytes) ≡ at

@@ -1,5 +1,6 @@
 -- The definitions, worked on samples.
-use Rattle.std.proofs.Common.{◌≡◌, ℕ, zero, suc, inl, inr, ◌<◌, Bool, true, false, not, ◌*◌, List, [], ◌∷◌, slice_index, refl, ap, arith}
+use Rattle.std.proofs.Common.{◌≡◌, ℕ, zero, suc, inl, inr, ◌<◌, Bool, true, false, not, ◌*◌, ◌%◌, nat_eq, List, [], ◌∷◌, Some, None, slice_index, refl, sym, ap, ◌∙◌, subst, arith}
+use Rattle.cs_table.specs.Classes.{AnswersByClass, AreFirsts}
 use Rattle.cs_table.specs.Decided.{IsNoneOf, HasDecided, IsDecided}
 use Rattle.cs_table.specs.Judged.{AllVerdicts, Judgement, IsEarlier, LooksBack, IsJudged, Table, verdicts}
 use Rattle.cs_table.specs.Kept.{width_of, is_yes, kept}
@@ -85,6 +86,37 @@ its_table (suc i) r l m = absurd (omega (arith, l))
 
 no_table : ¬ (IsJudged 1 2 judge (verdicts (record { items = 1; rules = 2; given = true ∷ true ∷ [] })))
 no_table h = let clash : true ≡ false = h 0 1 (omega arith) (omega arith) in cc
+
+-- ---- items of one class: this judge asks nothing of an item but its verdicts, and the other one its number
+
+one_class : AnswersByClass 2 judge (λ i c. Unit {0})
+one_class i j c h k f same zero l = refl
+one_class i j c h k f same (suc zero) l = ap not (same 0 (omega arith))
+one_class i j c h k f same (suc (suc r)) l = refl
+
+abbrev by_number : Judgement
+by_number i r f = nat_eq i 0
+
+a_class_each : AnswersByClass 1 by_number (λ i c. i ≡ c)
+a_class_each i j c h k f same r l = ap (λ n. nat_eq n 0) (h ∙ sym k)
+
+told_apart : ¬ (AnswersByClass 1 by_number (λ i c. Unit {0}))
+told_apart h = let clash : true ≡ false = h 0 1 0 tt tt (λ j q. false) (λ q l. refl) 0 (omega arith) in cc
+
+-- items with an even number are of the class 0, and the others of the class 1
+abbrev is_even : ℕ → ℕ → Type 0
+is_even i c = i % 2 ≡ c
+
+firsts : AreFirsts 3 is_even (Some 2 ∷ None ∷ [])
+firsts zero j e = let same : 2 ≡ j = cc in subst (λ k. (k < 3) × is_even k 0) same (omega arith, refl)
+firsts (suc zero) j e = absurd (let clash : None ≡ Some j = (let two : Some None ≡ Some (Some j) = e in cc) in cc)
+firsts (suc (suc c)) j e = absurd (let clash : None ≡ Some (Some j) = e in cc)
+
+not_before : ¬ (AreFirsts 2 is_even (Some 2 ∷ []))
+not_before h = let l : 2 < 2 = (h 0 2 refl).0 in absurd (omega arith)
+
+of_another_class : ¬ (AreFirsts 3 is_even (None ∷ Some 2 ∷ []))
+of_another_class h = let clash : 0 ≡ 1 = (h 1 2 refl).1 in absurd (omega (arith, clash))
 
 -- ---- what is decided of an item beforehand
 

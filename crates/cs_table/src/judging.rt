@@ -1,5 +1,6 @@
 // Judges of items by rules.
 ghost use Rattle.std.specs.Prelude.{◌≡◌, ℕ, ◌<◌, IfSome};
+ghost use Rattle.cs_table.specs.Classes.{AnswersByClass};
 ghost use Rattle.cs_table.specs.Judged.{Judgement, LooksBack, verdicts};
 ghost use Rattle.cs_table.specs.Decided.{IsDecided};
 
@@ -25,6 +26,9 @@ pub trait Judge {
     /// What the judge answers for a pair, where a table gives the other verdicts.
     ghost answer: { Self → Judgement };
 
+    /// Whether an item is of a class. Items of one class can't be told apart but by their verdicts.
+    ghost is_of_class: { Self → ℕ → ℕ → Type 0 } = { λ _ _ _. ⊥ };
+
     /// How many items there are.
     fn items(&self) -> usize
         ensures { result ≡ item_count self.now };
@@ -49,6 +53,22 @@ pub trait Judge {
         None
     }
 
+    /// How many classes of items there are: memory is taken for each.
+    fn classes(&self) -> usize {
+        0
+    }
+
+    /// The class of an item, if it has one. No rule is judged for an item whose class has an earlier one.
+    fn class(&self, item: usize) -> Option<usize>
+        requires { item < item_count self.now }
+        ensures { IfSome result (is_of_class self.now item) }
+    {
+        None
+    }
+
     /// Law: any two tables that agree on the earlier pairs give the same answer.
     ghost looks_back: { (s : Self) → LooksBack (rule_count s) (answer s) };
+
+    /// Law: items of one class that have the same verdicts by a table get the same answers by it.
+    ghost same_class: { (s : Self) → AnswersByClass (rule_count s) (answer s) (is_of_class s) };
 }

@@ -7,6 +7,6 @@ mod judging;
 mod verdicts;
 
 pub use fault::TableFault;
-pub use filling::fill;
+pub use filling::{fill, refill};
 pub use judging::{Judge, Row};
 pub use verdicts::Verdicts;

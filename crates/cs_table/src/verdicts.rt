@@ -1,7 +1,10 @@
 // Tables of verdicts.
+ghost use Rattle.std.specs.Prelude.{◌≡◌, None, replicate, IfOk};
+
 use crate::TableFault;
-use std::alloc::Global;
+use std::alloc::{AllocError, Global};
 use std::marker::Model;
+use std::mem;
 
 /// How many pairs of an item and a rule a table may have.
 const MOST_PAIRS: usize = 67_108_864;
@@ -17,6 +20,8 @@ pub struct Verdicts {
     /// A bit for each verdict, eight to a byte from the lowest on, and each item from a byte of its own on. Those still
     /// to come are 0.
     bytes: Vec<u8>,
+    /// Memory for the first item of each class while the table is filled. What it has says nothing of the table.
+    firsts: Vec<Option<usize>>,
 }
 
 impl Model for Verdicts {
@@ -38,12 +43,40 @@ impl Model for Verdicts {
         × (length v.bytes.items ≡ v.items * v.width) };
 }
 
+/// None for each class, in this memory.
+fn none_of(
+    memory: &mut Vec<Option<usize>>,
+    classes: usize,
+) -> Result<Vec<Option<usize>>, AllocError>
+    ensures { IfOk result (λ v. v.items ≡ replicate classes None) }
+{
+    let left = Vec::new(*memory.allocator());
+    let mut firsts = mem::replace(memory, left);
+    firsts.clear();
+    firsts.resize(classes, None)?;
+    Ok(firsts)
+}
+
 impl Verdicts {
-    ghost use Rattle.std.specs.Prelude.{◌≡◌, ℕ, ◌<◌, ◌≤◌, ◌*◌, ◌||◌, length, IfOk, IfErr, OnOk};
+    ghost use Rattle.std.specs.Prelude.{◌≡◌, ℕ, ◌<◌, ◌≤◌, ◌*◌, ◌||◌, None, length, replicate, IfOk, IfErr, OnOk, OnErr};
     ghost use Rattle.cs_table.specs.Filled.{AreOneSize, IsBlank, OtherItemsStay, OtherPairsStay};
     ghost use Rattle.cs_table.specs.Judged.{verdicts};
     ghost use Rattle.cs_table.specs.Limit.{most_pairs};
     ghost use Rattle.cs_table.specs.Refused.{IsRefusal};
+
+    /// A table of no item and no rule, to be filled again.
+    pub fn new(alloc: Global) -> Verdicts
+        ensures items { result.items ≡ 0 }
+        ensures rules { result.rules ≡ 0 }
+    {
+        Verdicts {
+            items: 0,
+            rules: 0,
+            width: 0,
+            bytes: Vec::new(alloc),
+            firsts: Vec::new(alloc),
+        }
+    }
 
     /// How many items the table has.
     pub fn items(&self) -> usize
@@ -76,26 +109,42 @@ impl Verdicts {
         self.bytes[item * self.width + rule / 8] >> (rule % 8) & 1 == 1
     }
 
-    /// A table of these sizes without a verdict yet.
-    pub(crate) fn blank(alloc: Global, items: usize, rules: usize) -> Result<Verdicts, TableFault>
-        ensures found { IfOk result (IsBlank items rules) }
-        ensures within { OnOk result (items * rules ≤ most_pairs) }
-        ensures refused { IfErr result (IsRefusal items rules) }
+    /// Gives the memory for first items back, for the next time.
+    pub(crate) fn keep_firsts(&mut self, firsts: Vec<Option<usize>>)
+        ensures { self.new ≡ self.old }
     {
+        self.firsts = firsts;
+    }
+
+    /// Makes the table one of these sizes without a verdict yet, in the memory that it has, and takes that for the first
+    /// item of each class. After an error the table has no item.
+    pub(crate) fn blank(
+        &mut self,
+        items: usize,
+        rules: usize,
+        classes: usize,
+    ) -> Result<Vec<Option<usize>>, TableFault>
+        ensures found { OnOk result (IsBlank items rules self.new) }
+        ensures within { OnOk result (items * rules ≤ most_pairs) }
+        ensures firsts { IfOk result (λ v. v.items ≡ replicate classes None) }
+        ensures refused { IfErr result (IsRefusal items rules) }
+        ensures emptied { OnErr result (self.new.items ≡ 0) }
+    {
+        (self.items, self.rules, self.width) = (0, 0, 0);
+        self.bytes.clear();
         let Some(pairs) = items.checked_mul(rules) else {
             return Err(TableFault::TooManyPairs);
         };
         if pairs > MOST_PAIRS {
             return Err(TableFault::TooManyPairs);
         }
+        let firsts = none_of(&mut self.firsts, classes)?;
         let width = rules.div_ceil(8);
-        let bytes = vec![in alloc; 0; items * width]?;
-        Ok(Verdicts {
-            items,
-            rules,
-            width,
-            bytes,
-        })
+        let count = items * width;
+        self.bytes.reserve_exact(count)?; // no more than it needs
+        self.bytes.resize(count, 0)?;
+        (self.items, self.rules, self.width) = (items, rules, width);
+        Ok(firsts)
     }
 
     /// Takes an item's verdicts from the item at a place of another table with as many rules.
@@ -112,6 +161,21 @@ impl Verdicts {
         let to = item * self.width;
         let from = place * table.width;
         self.bytes[to..to + self.width].copy_from_slice(&table.bytes[from..from + table.width]);
+    }
+
+    /// Takes an item's verdicts from another item of the table.
+    #[inline]
+    pub(crate) fn repeat_row(&mut self, item: usize, first: usize)
+        requires item { item < self.old.items }
+        requires first { first < self.old.items }
+        ensures size { AreOneSize self.old self.new }
+        ensures taken { (r : ℕ) → r < self.old.rules
+            → verdicts self.new item r ≡ verdicts self.old first r }
+        ensures others { OtherItemsStay item self.old self.new }
+    {
+        let from = first * self.width;
+        self.bytes
+            .copy_within(from..from + self.width, item * self.width);
     }
 
     /// Gives a pair its verdict. A yes that it has already stays.

@@ -7,24 +7,22 @@ use Rattle.cs_document.specs.declared.fault.DocFault.{DocFault}
 use Rattle.cs_document.specs.declared.fault.DocFault.TheVariants as doc
 use Rattle.cs_package.specs.Environment.{Environment, Names}
 use Rattle.cs_instance.specs.Instance.{Rule, definition, IsInstance, OneMeaning as OneInstance}
-use Rattle.cs_instance.specs.Refusal.{IsRefusal as IsRootRefusal}
 use Rattle.cs_instance.specs.Rules.{HasManyPairs as HasManyByRoot}
 use Rattle.cs_instance.specs.declared.fault.InstanceFault.{InstanceFault}
 use Rattle.cs_instance.specs.declared.fault.InstanceFault.TheVariants as instance
 use Rattle.cs_profile.proofs.Meanings.{one_meaning}
 use Rattle.cs_profile.proofs.TrimLaw.{keeps_validity}
-use Rattle.cs_profile.specs.Trim.{trim}
 use Rattle.cs_profile.specs.Validity.{IsValidity, OneMeaning as OneValidity}
 use Rattle.cs_validate.proofs.Trimmed.{many_trimmed, many_untrimmed}
 use Rattle.cs_validate.specs.Refusal.{IsRefusal as IsSchemaRefusal}
 use Rattle.cs_validate.specs.Rules.{HasManyPairs as HasManyBySchema}
 use Rattle.cs_validate.specs.declared.fault.ValidateFault.{ValidateFault}
 use Rattle.cs_validate.specs.declared.fault.ValidateFault.TheVariants as validate
-use Rattle.cs_tool.specs.Accepted.{IsAccepted, DeclaresRoot}
-use Rattle.cs_tool.specs.CallRefusals.{IsSchemaText}
+use Rattle.cs_tool.specs.Accepted.{DeclaresRoot}
 use Rattle.cs_tool.specs.Conversions.{of_document, of_instance, of_validate}
 use Rattle.cs_tool.specs.Headline.{IsVerdict, IsValidated}
 use Rattle.cs_tool.specs.Ready.{RootHasManyPairs, SchemaHasManyPairs, IsReadyToVet, IsReadyToValidate}
+use Rattle.cs_tool.specs.Sides.{IsSchemaOf}
 use Rattle.cs_tool.specs.declared.fault.Fault.{Fault}
 use Rattle.cs_tool.specs.declared.fault.Fault.TheVariants.{OutOfMemory, NotJson, NotInteger, TooManyPairs}
 use Rattle.cs_tool.proofs.Declared.{one_environment, one_name}
@@ -50,29 +48,33 @@ memory_alone text many d read few _ h = absurd h
 abbrev pub failed : DocFault → Result Read DocFault
 failed e = Err e
 
+abbrev pub unjudged : InstanceFault → Result Bool InstanceFault
+unjudged e = Err e
+
 module _ (text : List ℕ) (many : Type 0) where
   pub by_text : (e : DocFault) → (IsErrOf (failed e) doc.NotJson → ¬ (IsJson text)) → (IsErrOf (failed e) doc.NotInteger → HasOtherNumber text) → Refuses text many (of_document e)
   by_text doc.OutOfMemory not_json not_integer = tt
   by_text doc.NotJson not_json not_integer = not_json refl
   by_text doc.NotInteger not_json not_integer = not_integer refl
 
-  -- a root that is declared isn't told as unknown
+  -- a root that is numbered isn't told as unknown
   pub by_root : (sources : List (List ℕ)) (root : List ℕ) (E : Environment) (n : List ℕ) → DeclaresRoot sources root E n → (d : Document) → Reads text d
-      → (RootHasManyPairs sources root text → many) → (e : InstanceFault) → IsRootRefusal e E root d → Refuses text many (of_instance e)
-  by_root sources root E n declares d read pairs instance.OutOfMemory h = tt
-  by_root sources root E n declares d read pairs instance.UnknownRoot h = absurd (h n declares.named)
-  by_root sources root E n declares d read pairs instance.TooManyPairs h = pairs (record {
-    input = record { environment = E; name = h.0; declares = record { accepted = declares.accepted; named = h.1 }; document = d; read = read };
-    many = h.2;
+      → (RootHasManyPairs sources root text → many) → (e : InstanceFault) → (IsErrOf (unjudged e) instance.UnknownRoot → ⊥)
+      → (IsErrOf (unjudged e) instance.TooManyPairs → HasManyByRoot E n d) → Refuses text many (of_instance e)
+  by_root sources root E n declares d read pairs instance.OutOfMemory known pairs_of = tt
+  by_root sources root E n declares d read pairs instance.UnknownRoot known pairs_of = absurd (known refl)
+  by_root sources root E n declares d read pairs instance.TooManyPairs known pairs_of = pairs (record {
+    input = record { environment = E; name = n; declares = declares; document = d; read = read };
+    many = pairs_of refl;
   })
 
   -- the trimmed schema has as many rules
-  pub by_schema : (schema_text : List ℕ) (is : IsSchemaText schema_text) (S d : Document) → S ≡ trim is.document → Reads text d
+  pub by_schema : (schema_text : List ℕ) (S : Document) → IsSchemaOf schema_text S → (d : Document) → Reads text d
       → (SchemaHasManyPairs schema_text text → many) → (e : ValidateFault) → IsSchemaRefusal e S d → Refuses text many (of_validate e)
-  by_schema schema_text is S d trimmed read pairs validate.OutOfMemory h = tt
-  by_schema schema_text is S d trimmed read pairs validate.TooManyPairs h = pairs (record {
-    input = record { schema = is.document; read_schema = is.read; profile = is.profile; document = d; read = read };
-    many = many_untrimmed is.document d (subst (λ R. HasManyBySchema R d) trimmed h);
+  by_schema schema_text S is d read pairs validate.OutOfMemory h = tt
+  by_schema schema_text S is d read pairs validate.TooManyPairs h = let schema = is.text in pairs (record {
+    input = record { schema = schema.document; read_schema = schema.read; profile = schema.profile; document = d; read = read };
+    many = many_untrimmed schema.document d (subst (λ R. HasManyBySchema R d) is.trimmed h);
   })
 
 -- what is ready has few pairs
@@ -97,32 +99,32 @@ few_of_schema schema_text text ready many =
 
 -- ---- what is answered
 
-pub verdict : (sources : List (List ℕ)) (root text : List ℕ) (E : Environment) (d : Document) (b : Bool) → IsAccepted sources E → Reads text d → IsDocument d
-    → OneInstance E → (n : List ℕ) × Names E root n × ((I : Rule → Document → Bool) → IsInstance E I → b ≡ I (definition n) d)
-    → ((n : List ℕ) → Names E root n → ¬ (HasManyByRoot E n d)) → IsVerdict sources root text b
-verdict sources root text E d b accepted read proper one answer few = record {
+pub verdict : (sources : List (List ℕ)) (root text : List ℕ) (E : Environment) (n : List ℕ) (d : Document) (b : Bool) → DeclaresRoot sources root E n → Reads text d
+    → IsDocument d → OneInstance E → ((I : Rule → Document → Bool) → IsInstance E I → b ≡ I (definition n) d) → ¬ (HasManyByRoot E n d) → IsVerdict sources root text b
+verdict sources root text E n d b declares read proper one answer few = record {
   environment = E;
-  name = answer.0;
-  declares = record { accepted = accepted; named = answer.1 };
+  name = n;
+  declares = declares;
   document = d;
   read = read;
   proper = proper;
-  within = few answer.0 answer.1;
+  within = few;
   one_instance = one;
-  holds = answer.2;
+  holds = answer;
 }
 
 -- what the answer says of the trimmed schema, it says of the schema
-pub validated : (schema_text text : List ℕ) (is : IsSchemaText schema_text) (S d : Document) (b : Bool) → S ≡ trim is.document → Reads text d → IsDocument d
+pub validated : (schema_text text : List ℕ) (S d : Document) (b : Bool) → IsSchemaOf schema_text S → Reads text d → IsDocument d
     → OneValidity S → ¬ (HasManyBySchema S d) → ((W : Document → Document → Bool) → IsValidity S W → b ≡ W S d) → IsValidated schema_text text b
-validated schema_text text is S d b trimmed read proper one few answer =
-    let s = is.document in
+validated schema_text text S d b is read proper one few answer =
+    let s = is.text.document in
+    let trimmed = is.trimmed in
     let W = one.some.0 in
     let is_W = one.some.1 in
-    let no_loop = is.profile.no_loop in record {
+    let no_loop = is.text.profile.no_loop in record {
       schema = s;
-      read_schema = is.read;
-      profile = is.profile;
+      read_schema = is.text.read;
+      profile = is.text.profile;
       document = d;
       read = read;
       proper = proper;

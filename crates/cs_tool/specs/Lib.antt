@@ -9,6 +9,12 @@ pub mod Conversions
 pub mod First
 pub mod Ready
 pub mod CallRefusals
+pub mod Sides
 pub mod Earlier
 pub mod Streams
 pub mod Runs
+pub mod Judged
+pub mod Prepared
+pub mod Lines
+pub mod Begun
+pub mod Answering

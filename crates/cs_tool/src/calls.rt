@@ -1,72 +1,18 @@
-// The calls over bytes.
-ghost use Rattle.std.specs.Prelude.{◌≡◌, ℕ, ◌≤◌, List, IfOk, IfErr, IsOkUnless};
-ghost use Rattle.cs_document.specs.Document.{depth};
-ghost use Rattle.cs_doc.specs.Texts.{Reads, text_of};
-ghost use Rattle.cs_package.specs.Environment.{Names};
-ghost use Rattle.cs_schema.specs.Profile.{IsSchema};
-ghost use Rattle.cs_schema.specs.SchemaDocument.{document_of};
-ghost use Rattle.cs_schema.specs.Trim.{trim};
-ghost use Rattle.cs_tool.specs.Accepted.{IsAccepted};
+// The calls that judge one document.
+ghost use Rattle.std.specs.Prelude.{IfOk, IfErr, IsOkUnless};
 ghost use Rattle.cs_tool.specs.Given.{bytes_in};
-ghost use Rattle.cs_tool.specs.Headline.{IsExport, IsVerdict, IsValidated};
-ghost use Rattle.cs_tool.specs.Translated.{IsTranslated};
+ghost use Rattle.cs_tool.specs.Headline.{IsVerdict, IsValidated};
 ghost use Rattle.cs_tool.specs.Agreement.{IsAgreement};
-ghost use Rattle.cs_tool.specs.Ready.{IsReady, IsReadyToVet, IsReadyToValidate, IsReadyToAgree};
-ghost use Rattle.cs_tool.specs.CallRefusals.{ExportRefusal, VetRefusal, ValidateRefusal, AgreeRefusal, IsSchemaText};
+ghost use Rattle.cs_tool.specs.Ready.{IsReadyToVet, IsReadyToValidate, IsReadyToAgree};
+ghost use Rattle.cs_tool.specs.CallRefusals.{VetRefusal, ValidateRefusal, AgreeRefusal};
 
 use crate::Fault;
-use crate::packages::package_of;
-use crate::verdicts::{is_instance, is_valid};
-use cs_compile::compile;
-use cs_doc::{DocFault, Scratch, read_doc, read_document, write_doc};
-use cs_guard::Guarded;
-use cs_schema::{SchemaDoc, read_schema, to_doc};
+use crate::judgements::{judge_both, judge_root, judge_schema};
+use crate::numbering::{number_root, number_schema};
+use crate::read_rules::{read_both, read_root, read_schema_text};
+use cs_doc::Scratch;
+use cs_table::Verdicts;
 use std::alloc::Global;
-
-/// The text of the schema that admits the documents that the root definition of the sources admits,
-/// without a newline. The root is named with its `#`.
-///
-/// A refusal reports the first condition that the sources and the root fail, in the order of `First`
-/// (`specs/First.antt`).
-pub fn export(alloc: Global, sources: &[&[u8]], root: &str) -> Result<Vec<u8>, Fault>
-    ensures found { IfOk result (λ text. IsExport (bytes_in sources.now) root.now text.items) }
-    ensures translated { IfOk result
-        (λ text. IsTranslated (bytes_in sources.now) root.now text.items) }
-    ensures refused { IfErr result (λ e. ExportRefusal (bytes_in sources.now) root.now e) }
-    ensures only { IsReady (bytes_in sources.now) root.now → IsOkUnless result Fault.OutOfMemory }
-{
-    let guarded = package_of(alloc, sources)?;
-    exported(alloc, &guarded, root)
-}
-
-/// The text of the schema of the root definition, without a newline.
-fn exported(alloc: Global, guarded: &Guarded, root: &str) -> Result<Vec<u8>, Fault>
-    ensures found { (sources : List (List ℕ)) → IsAccepted sources guarded.now
-        → IfOk result (λ text. IsExport sources root.now text.items) }
-    ensures translated { (sources : List (List ℕ)) → IsAccepted sources guarded.now
-        → IfOk result (λ text. IsTranslated sources root.now text.items) }
-    ensures refused { (sources : List (List ℕ)) → IsAccepted sources guarded.now
-        → IfErr result (λ e. ExportRefusal sources root.now e) }
-    ensures only { (n : List ℕ)
-        → Names guarded.now root.now n → IsOkUnless result Fault.OutOfMemory }
-{
-    let schema = compile(alloc, guarded, root)?;
-    cs_instance::one_meaning(guarded); // for the proof: there is one instance relation
-    cs_schema::one_meaning(&schema); // for the proof: there is one validity
-    text_of_schema(alloc, &schema)
-}
-
-/// The text of the schema, without a newline.
-fn text_of_schema(alloc: Global, schema: &SchemaDoc) -> Result<Vec<u8>, Fault>
-    ensures found { IfOk result (λ text. (text.items ≡ text_of (document_of schema.now))
-        × (depth (document_of schema.now) ≤ 127 → Reads text.items (document_of schema.now))) }
-    ensures profile { IsSchema (document_of schema.now) }
-    ensures trimmed { trim (document_of schema.now) ≡ document_of schema.now }
-    ensures memory { IsOkUnless result Fault.OutOfMemory }
-{
-    let doc = to_doc(alloc, schema)?;
-    Ok(write_doc(alloc, &doc)?)
-}
 
 /// Whether the document is an instance of the root definition of the sources.
 ///
@@ -78,13 +24,10 @@ pub fn vet(alloc: Global, sources: &[&[u8]], root: &str, doc: &[u8]) -> Result<b
     ensures only { IsReadyToVet (bytes_in sources.now) root.now doc.now
         → IsOkUnless result Fault.OutOfMemory }
 {
-    let guarded = package_of(alloc, sources)?;
-    if guarded.package().find(root).is_none() {
-        return Err(Fault::UnknownRoot);
-    }
+    let guarded = read_root(alloc, sources, root)?;
+    let rules = number_root(alloc, &guarded, root)?;
     let mut scratch = Scratch::new(alloc);
-    let doc = read_document(alloc, doc, &mut scratch)?;
-    Ok(is_instance(alloc, &guarded, root, &doc)?)
+    judge_root(&rules, alloc, doc, &mut scratch, &mut Verdicts::new(alloc))
 }
 
 /// Whether the document is valid against the schema.
@@ -96,24 +39,10 @@ pub fn validate(alloc: Global, schema: &[u8], doc: &[u8]) -> Result<bool, Fault>
     ensures refused { IfErr result (λ e. ValidateRefusal schema.now doc.now e) }
     ensures only { IsReadyToValidate schema.now doc.now → IsOkUnless result Fault.OutOfMemory }
 {
-    let schema = schema_of(alloc, schema)?;
+    let schema = read_schema_text(alloc, schema)?;
+    let rules = number_schema(alloc, &schema)?;
     let mut scratch = Scratch::new(alloc);
-    let doc = read_document(alloc, doc, &mut scratch)?;
-    Ok(is_valid(alloc, &schema, &doc)?)
-}
-
-/// The schema of a schema's text, trimmed. Its refusals hold whatever the document is.
-fn schema_of(alloc: Global, text: &[u8]) -> Result<SchemaDoc, Fault>
-    ensures found { IfOk result (λ s. (is : IsSchemaText text.now)
-        × (document_of s ≡ trim is.document)) }
-    ensures refused { (doc : List ℕ) → IfErr result (λ e. ValidateRefusal text.now doc e) }
-    ensures only { IsSchemaText text.now → IsOkUnless result Fault.OutOfMemory }
-{
-    match read_doc(alloc, text) {
-        Ok(doc) => Ok(read_schema(alloc, &doc)?),
-        Err(DocFault::NotJson) => Err(Fault::SchemaNotJson),
-        Err(fault) => Err(Fault::from(fault)),
-    }
+    judge_schema(&rules, alloc, doc, &mut scratch, &mut Verdicts::new(alloc))
 }
 
 /// Whether the document is an instance of the root definition of the sources, judged on both sides: by the definition
@@ -127,11 +56,17 @@ pub fn agree(alloc: Global, sources: &[&[u8]], root: &str, doc: &[u8]) -> Result
     ensures only { IsReadyToAgree (bytes_in sources.now) root.now doc.now
         → IsOkUnless result Fault.OutOfMemory }
 {
-    let guarded = package_of(alloc, sources)?;
-    let schema = schema_of(alloc, &exported(alloc, &guarded, root)?)?;
+    let (guarded, schema) = read_both(alloc, sources, root)?;
+    let root_side = number_root(alloc, &guarded, root)?;
+    let schema_side = number_schema(alloc, &schema)?;
     let mut scratch = Scratch::new(alloc);
-    let doc = read_document(alloc, doc, &mut scratch)?;
-    let is_instance = is_instance(alloc, &guarded, root, &doc)?;
-    let is_valid = is_valid(alloc, &schema, &doc)?;
-    Ok(is_instance && is_valid)
+    let mut table = Verdicts::new(alloc);
+    judge_both(
+        &root_side,
+        &schema_side,
+        alloc,
+        doc,
+        &mut scratch,
+        &mut table,
+    )
 }

@@ -113,7 +113,7 @@ impl From<ValidateFault> for Fault {
     }
 }
 
-/// The fault of a document's text; `schema_text` among the calls reports that of a schema's.
+/// The fault of a document's text; `read_schema_text` reports that of a schema's.
 impl From<DocFault> for Fault {
     ghost use Rattle.cs_tool.specs.Conversions.{of_document};
 

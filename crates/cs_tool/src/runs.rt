@@ -6,9 +6,11 @@ ghost use Rattle.cs_tool.specs.Given.{bytes_in};
 ghost use Rattle.cs_tool.specs.Runs.{sources_or, text_or, call_of, IsAnswer, IsCallAnswer, IsCallRefusal, IsReadyCall, IsReadyRequest, ReadsInput, most_of, Leaves, verdict_text, line_of};
 
 use crate::Fault;
-use crate::calls::{agree, export, validate, vet};
+use crate::calls::{agree, validate, vet};
+use crate::exports::export;
 use crate::request::Request;
 use crate::requested::input_of;
+use crate::slices::slices_of;
 use crate::writes::write_text;
 use std::alloc::{AllocError, Global};
 use std::io::{Read, Write};
@@ -106,11 +108,7 @@ fn sources_or_input<'a>(
     if files.is_empty() {
         return Ok(vec![in alloc; input]?);
     }
-    let mut sources: Vec<&'a [u8]> = Vec::with_capacity(alloc, files.len())?;
-    for file in files {
-        sources.push(file.as_slice())?;
-    }
-    Ok(sources)
+    slices_of(alloc, files)
 }
 
 /// The document, or the bytes of the input where there is none.

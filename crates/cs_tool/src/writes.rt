@@ -51,7 +51,7 @@ fn fill_line(fault: &Fault, line: &mut [u8; LINE_ROOM]) -> usize
 }
 
 /// Puts a part at a place, and returns where it ends.
-fn put(line: &mut [u8], at: usize, part: &[u8]) -> usize
+pub(crate) fn put(line: &mut [u8], at: usize, part: &[u8]) -> usize
     requires { at + length part.now ≤ length line.old }
     ensures end { result ≡ at + length part.now }
     ensures text { take result line.new ≡ take at line.old ++ part.now }
@@ -62,7 +62,7 @@ fn put(line: &mut [u8], at: usize, part: &[u8]) -> usize
 }
 
 /// Every error counts, an interruption too.
-fn write_part<W: Write>(output: &mut W, text: &[u8]) -> Result<(), Fault>
+pub(crate) fn write_part<W: Write>(output: &mut W, text: &[u8]) -> Result<(), Fault>
     ensures all { OnOk result (Appends (W.contents output.old) (W.contents output.new) text.now) }
     ensures front { OnErr result
         (AppendsFront (W.contents output.old) (W.contents output.new) text.now) }

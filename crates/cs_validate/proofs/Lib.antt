@@ -1,5 +1,6 @@
 -- What the proofs of this crate show: an object's rule asks what its keywords assert (`claims_are` in `Claims`, `claims_hold` in `Asked`), validity is
--- the table of the judge (`is_judged`, `is_table` in `Verdicts`), and trimming changes no count of rules (`rules_trimmed` in `Trimmed`).
+-- the table of the judge (`is_judged`, `is_table` in `Verdicts`), a rule gives the same for scalars that its marks don't tell apart (`keywords_told` in
+-- `Told`), and trimming changes no count of rules (`rules_trimmed` in `Trimmed`).
 
 -- what the keywords of an object contribute, keyword by keyword
 pub mod Slots
@@ -9,6 +10,9 @@ pub mod Asked
 pub mod Found
 pub mod Satisfied
 pub mod ByKind
+-- what scalars are told apart by
+pub mod Marked
+pub mod Told
 -- schemas get their numbers: what waits, definitions by rank, the root, the whole
 pub mod Standing
 pub mod ByPlace

@@ -1,13 +1,15 @@
 -- What each keyword asks, over small lists of numbers, worked by the definitions. A wrong expectation stops the check here.
-use Rattle.std.proofs.Common.{◌≡◌, ◌+◌, ◌*◌, ℕ, pos, negsuc, Bool, true, false, List, [], ◌∷◌, Some, None, map, length, codes, nat_eq, nat_lt, nat_le, refl, arith}
+use Rattle.std.proofs.Common.{◌≡◌, ◌+◌, ◌*◌, ℕ, ℤ, pos, negsuc, Bool, true, false, List, [], ◌∷◌, Some, None, map, length, codes, nat_eq, nat_lt, nat_le, refl, arith}
 use Rattle.std.specs.Prelude.{String}
 use Rattle.std.specs.declared.alloc.Global.{Global}
 use Rattle.cs_document.specs.Document.{Document, null, boolean, text}
 use Rattle.cs_document.specs.Opened.{Opened, a_null, a_boolean, an_integer, a_text, a_list, an_object}
+use Rattle.cs_document.specs.View.{doc_view}
+use Rattle.cs_document.specs.declared.doc.Doc.{Doc}
 use Rattle.cs_document.proofs.SampleDocuments.{number, array, map_of}
 use Rattle.cs_flat.specs.Nodes.{nodes}
 use Rattle.cs_profile.specs.Keywords as keyword
-use Rattle.cs_profile.specs.Constraint.{Assertion, nothing, valid_by, has_kind, equals, is_among, at_least, at_most, above, below, has_keys, at_keys, at_other_keys, in_front, behind, at_least_long, valid_by_all, valid_by_any, not_valid_by, always, never, conjunction}
+use Rattle.cs_profile.specs.Constraint.{texts_in, Assertion, nothing, valid_by, has_kind, equals, is_among, at_least, at_most, above, below, has_keys, at_keys, at_other_keys, in_front, behind, at_least_long, valid_by_all, valid_by_any, not_valid_by, always, never, conjunction}
 use Rattle.cs_profile.specs.Validity.{holds}
 use Rattle.cs_profile.specs.Numbered.{numbered as numbers_from}
 use Rattle.cs_profile.specs.declared.schema.Schema.{Schema}
@@ -18,6 +20,9 @@ use Rattle.cs_validate.specs.Rules.{rules_of, HasManyPairs}
 use Rattle.cs_validate.specs.Steps.{kind_of, unless_empty, of_count, places_from, items_place, prefix_place, properties_place}
 use Rattle.cs_validate.specs.Asked.{if_count}
 use Rattle.cs_validate.specs.Kinds.{equals_by_kind, among_by_kind, any_by_kind, reference_by_kind, negation_by_kind}
+use Rattle.cs_validate.specs.Marked.{integers_in, texts_of, integers_of}
+use Rattle.cs_rules.specs.Steps.{Step}
+use Rattle.cs_rules.specs.Alike.{Compared, AreAlike, IsToldBy}
 use Rattle.cs_rules.specs.declared.by_kind.ByKind.{ByKind}
 
 -- ---- short forms
@@ -192,6 +197,44 @@ module _ (c : Conjunction) (name : String Global) where
   all_by_kind : c.keywords.now.kind ≡ Some kind.Integer → c.keywords.now.equal ≡ None → c.one_of ≡ Some (number 1 ∷ null ∷ [])
       → map (any_by_kind c) of_each_kind ≡ Some false ∷ Some false ∷ None ∷ Some false ∷ Some false ∷ Some false ∷ []
   all_by_kind e f g = rw (e, f, g) refl
+
+-- ---- what is marked
+
+abbrev several : List Document
+several = null ∷ number 3 ∷ text A ∷ array (number 4 ∷ text B ∷ []) ∷ map_of ((B, number 5) ∷ []) ∷ boolean true ∷ text B ∷ number 3 ∷ []
+
+marked_texts : texts_in several ≡ A ∷ B ∷ []
+marked_texts = refl
+
+marked_integers : integers_in several ≡ pos 3 ∷ pos 3 ∷ []
+marked_integers = refl
+
+module _ (c : Conjunction) (v : Doc) where
+  all_marked : c.keywords.now.equal ≡ Some v → doc_view v ≡ number 7 → c.one_of ≡ Some (text A ∷ number 1 ∷ [])
+      → c.keywords.now.maximum ≡ Some (pos 9) → c.keywords.now.minimum ≡ Some (pos 2) → c.keywords.now.below ≡ None → c.keywords.now.above ≡ Some (negsuc 0)
+      → (texts_of c ≡ A ∷ []) × (integers_of c ≡ pos 7 ∷ pos 1 ∷ pos 9 ∷ pos 2 ∷ negsuc 0 ∷ [])
+  all_marked e is f g h i j = rw (e, is, f, g, h, i, j) (refl, refl)
+
+  none_marked : c.keywords.now.equal ≡ None → c.one_of ≡ None
+      → c.keywords.now.maximum ≡ None → c.keywords.now.minimum ≡ None → c.keywords.now.below ≡ None → c.keywords.now.above ≡ None
+      → (texts_of c ≡ []) × (integers_of c ≡ [])
+  none_marked e f g h i j = rw (e, f, g, h, i, j) (refl, refl)
+
+-- integers between marks are all alike, and what isn't marked is told apart all the same
+abbrev claimed : Assertion ℕ ℕ → Step
+claimed a here inside d x = holds here inside a d x
+
+abbrev marks : List (List ℕ) → List ℤ → Compared
+marks ts zs = record { texts = ts; integers = zs }
+
+integers_between : AreAlike (marks [] (pos 3 ∷ pos 8 ∷ [])) (an_integer (pos 4)) (an_integer (pos 7))
+integers_between = ((refl, refl), ((refl, refl), tt))
+
+limit_unmarked : IsToldBy (claimed (at_most (pos 3))) (marks [] (pos 2 ∷ [])) → ⊥
+limit_unmarked told = let e : true ≡ false = told here nat_eq nat_eq (number 3) (number 4) (an_integer (pos 3)) (an_integer (pos 4)) ((λ i. null), refl) ((λ i. null), refl) ((refl, refl), tt) in cc
+
+text_unmarked : IsToldBy (claimed (equals (text A))) (marks (B ∷ []) []) → ⊥
+text_unmarked told = let e : true ≡ false = told here nat_eq nat_eq (text A) (text (codes "c")) (a_text A) (a_text (codes "c")) ((λ i. null), refl) ((λ i. null), refl) (refl, tt) in cc
 
 -- ---- constraints over numbers
 

@@ -40,6 +40,13 @@ judge_of R xs root rules inner h =
         answer_is step rules inner (values xs) xs i r f y.0 x y.1 k ∙ sym (named (λ q. q) (slice_index inner) (f i) f (asked_of y.0) (node_at (values xs) i) x)
         ∙ ap (λ a. is_satisfied (f i) f a (node_at (values xs) i) x) y.2
 
+-- and over rules and values that are the same
+pub judge_over : (R : Document) (xs ys : List (Opened ℕ)) (root : ℕ) (rules rules' : List Coded) (inner inner' : List ℕ) → ys ≡ xs → rules' ≡ rules → inner' ≡ inner
+    → IsRooted R rules inner root → IsJudge R xs root (length ys) (length rules') (answer step rules' inner' (values ys) ys)
+judge_over R xs ys root rules rules' inner inner' e f g h =
+    subst (λ y. IsJudge R xs root (length y) (length rules') (answer step rules' inner' (values y) y)) (sym e)
+    (judge_of R xs root rules' inner' (subst (λ r. IsRooted R r inner' root) (sym f) (subst (λ i. IsRooted R rules i root) (sym g) h)))
+
 module _ (R : Document) (xs : List (Opened ℕ)) (root ic rc : ℕ) (judge : Judgement) (j : IsJudge R xs root ic rc judge) (are : AreItems (values xs) xs) (whole : length xs ≡ length (nodes (document_in xs))) where
   module _ (V : Document → Document → Bool) (h : IsValidity R V) where
     abbrev table_of : AllVerdicts

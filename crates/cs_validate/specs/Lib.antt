@@ -9,6 +9,7 @@ pub mod Asked
 pub mod Kinds
 pub mod Props
 pub mod Looks
+pub mod Marked
 pub mod Placing
 pub mod Ranked
 pub mod Rooted

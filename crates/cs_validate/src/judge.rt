@@ -1,9 +1,11 @@
 // The judge of a document's values by the schemas of a schema document.
 use crate::by_kind::by_kind;
+use crate::marks::mark;
 use crate::rules::Rule;
 use crate::steps::holds;
 use cs_flat::{Flat, Item};
-use cs_rules::{Asks, ByKind, Known, RuleJudge};
+use cs_rules::{Asks, ByKind, Known, Marks, RuleJudge};
+use std::alloc::AllocError;
 
 /// Judges the values of a document by a schema document, its definitions and every schema inside them: the items of
 /// [`cs_flat::Flat`] by rules, each of which is after those that it asks of the same value.
@@ -25,6 +27,10 @@ impl<'a> Asks for Rule<'a> {
 
     fn by_kind(&self, earlier: &[ByKind]) -> ByKind {
         by_kind(self, earlier)
+    }
+
+    fn mark(&self, marks: &mut Marks) -> Result<(), AllocError> {
+        mark(self, marks)
     }
 
     ghost looks_at_parts = { λ s i r m here here' inside inside' h k. numbers_same i r m here here' inside inside' h k (asked_of s) };

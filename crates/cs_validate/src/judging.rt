@@ -10,7 +10,7 @@ ghost use Rattle.cs_validate.specs.Judging.{IsJudge, IsTable};
 ghost use Rattle.cs_validate.specs.Refusal.{IsRefusal};
 
 use crate::numbering::rooted::numbering_of;
-use crate::{ValidJudge, ValidateFault};
+use crate::{ValidJudge, ValidateFault, schema_rules};
 use cs_document::Doc;
 use cs_flat::{Flat, flatten};
 use cs_profile::{SchemaDoc, one_meaning};
@@ -74,8 +74,9 @@ pub fn valid_verdict(
         (λ e. IsRefusal e (document_of schema.now) (document_in flat.now)) }
 {
     one_meaning(schema); // for the proof: there is one validity
-    let (table, number) = valid_table(alloc, schema, flat)?;
-    Ok(table.get(flat.len() - 1, number))
+    let rules = schema_rules(alloc, schema)?;
+    let mut table = Verdicts::new(alloc);
+    rules.verdict(flat, &mut table)
 }
 
 /// Whether a document is valid against a schema document: its root validates it (Core, sections 4.3 and 7; Validation

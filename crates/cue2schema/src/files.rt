@@ -31,3 +31,11 @@ fn read_file(rt: &HostRuntime, path: &str, limit: usize) -> Result<Option<Vec<u8
     };
     read_up_to(rt.alloc(), &mut file, limit)
 }
+
+/// The bytes of standard input, as the one source.
+pub(crate) fn read_source(rt: &HostRuntime) -> Result<Vec<u8>, Fault> {
+    match read_up_to(rt.alloc(), &mut rt.stdin(), MOST_BYTES)? {
+        Some(source) => Ok(source),
+        None => Err(Fault::SourcesTooLong),
+    }
+}

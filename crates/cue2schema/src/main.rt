@@ -2,11 +2,13 @@
 #![tactic(auto)]
 
 mod files;
+mod many;
 mod requests;
 
 use clap::error::ErrorKind;
 use cs_tool::{Fault, Request, command, run, write_fault};
-use requests::request_of;
+use many::answer_many;
+use requests::{Asked, asked_by};
 use std::alloc::Global;
 use std::env::Args;
 use std::io;
@@ -37,8 +39,9 @@ fn answer(rt: &HostRuntime) -> Result<u8, Fault> {
     };
     let command = command(alloc)?;
     match command.try_get_matches_from(words.as_slice()) {
-        Ok(matches) => match request_of(rt, &matches)? {
-            Some(request) => judged(rt, request),
+        Ok(matches) => match asked_by(rt, &matches)? {
+            Some(Asked::Once(request)) => judged(rt, request),
+            Some(Asked::Many(rules, documents)) => answer_many(rt, &rules, documents),
             None => Ok(COMMAND_LINE),
         },
         Err(error) => shown(rt, &error),

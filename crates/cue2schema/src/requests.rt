@@ -1,14 +1,32 @@
-// From the words of a command to its request. Sources, or a schema, are read before a document.
-use crate::files::{read_input, read_sources};
+// From the words of a command to what is asked. Sources, or a schema, are read before a document.
+use crate::files::{read_input, read_source, read_sources};
 use clap::ArgMatches;
-use cs_tool::{Fault, Request};
+use cs_tool::{Fault, Request, Rules};
 use std::alloc::Global;
 
-/// The request of a command; `None` for no command, which `clap` refuses before.
-pub(crate) fn request_of(
+/// What the words of a command ask for.
+#[derive(Drop)]
+pub(crate) enum Asked<'a> {
+    /// One call.
+    Once(Request),
+    /// Each of these documents, judged by the same rules.
+    Many(Rules, Documents<'a>),
+}
+
+/// Documents that are judged one after another.
+#[derive(Drop)]
+pub(crate) enum Documents<'a> {
+    /// The lines of the file, or of standard input where there is none.
+    Lines(Option<&'a str>),
+    /// The files.
+    Files(&'a [&'a str]),
+}
+
+/// What a command asks for; `None` for no command, which `clap` refuses before.
+pub(crate) fn asked_by<'a>(
     rt: &HostRuntime,
-    matches: &ArgMatches<'_>,
-) -> Result<Option<Request>, Fault> {
+    matches: &'a ArgMatches<'a>,
+) -> Result<Option<Asked<'a>>, Fault> {
     let Some((name, words)) = matches.subcommand() else {
         return Ok(None);
     };
@@ -21,33 +39,60 @@ pub(crate) fn request_of(
     }
 }
 
-fn export(rt: &HostRuntime, words: &ArgMatches<'_>) -> Result<Request, Fault> {
+fn export<'a>(rt: &HostRuntime, words: &'a ArgMatches<'a>) -> Result<Asked<'a>, Fault> {
     let root = root_of(rt.alloc(), words)?;
     let files = files_of(rt, words)?;
-    Ok(Request::Export { files, root })
+    Ok(Asked::Once(Request::Export { files, root }))
 }
 
-fn vet(rt: &HostRuntime, words: &ArgMatches<'_>) -> Result<Request, Fault> {
+fn vet<'a>(rt: &HostRuntime, words: &'a ArgMatches<'a>) -> Result<Asked<'a>, Fault> {
     let root = root_of(rt.alloc(), words)?;
+    if let Some(documents) = documents_of(words) {
+        let sources = sources_of(rt, words)?;
+        return Ok(Asked::Many(Rules::Root { sources, root }, documents));
+    }
     let files = files_of(rt, words)?;
     let doc = read_input(rt, word_of(words, "doc"))?;
-    Ok(Request::Vet { files, root, doc })
+    Ok(Asked::Once(Request::Vet { files, root, doc }))
 }
 
-fn validate(rt: &HostRuntime, words: &ArgMatches<'_>) -> Result<Request, Fault> {
+fn validate<'a>(rt: &HostRuntime, words: &'a ArgMatches<'a>) -> Result<Asked<'a>, Fault> {
     let schema = read_input(rt, word_of(words, "schema"))?;
+    if let Some(documents) = documents_of(words) {
+        return Ok(Asked::Many(Rules::Schema { schema }, documents));
+    }
     let doc = match words.get_str("doc") {
         Some(path) => Some(read_input(rt, path)?),
         None => None,
     };
-    Ok(Request::Validate { schema, doc })
+    Ok(Asked::Once(Request::Validate { schema, doc }))
 }
 
-fn agree(rt: &HostRuntime, words: &ArgMatches<'_>) -> Result<Request, Fault> {
+fn agree<'a>(rt: &HostRuntime, words: &'a ArgMatches<'a>) -> Result<Asked<'a>, Fault> {
     let root = root_of(rt.alloc(), words)?;
+    if let Some(documents) = documents_of(words) {
+        let sources = sources_of(rt, words)?;
+        return Ok(Asked::Many(Rules::Both { sources, root }, documents));
+    }
     let files = files_of(rt, words)?;
     let doc = read_input(rt, word_of(words, "doc"))?;
-    Ok(Request::Agree { files, root, doc })
+    Ok(Asked::Once(Request::Agree { files, root, doc }))
+}
+
+/// The documents of `--lines` or `--docs`, where one of these words is there.
+fn documents_of<'a>(words: &'a ArgMatches<'a>) -> Option<Documents<'a>> {
+    if words.get_flag("lines") {
+        return Some(Documents::Lines(words.get_str("doc")));
+    }
+    words.get_strs("docs").map(Documents::Files)
+}
+
+/// The sources that are named, or standard input as the one source where none is.
+fn sources_of(rt: &HostRuntime, words: &ArgMatches<'_>) -> Result<Vec<Vec<u8>>, Fault> {
+    match words.get_strs("FILE") {
+        Some(paths) => read_sources(rt, paths),
+        None => Ok(vec![in rt.alloc(); read_source(rt)?]?),
+    }
 }
 
 /// The sources that are named.

@@ -54,6 +54,9 @@ pub(crate) struct Output {
     calls_before: usize,
     kind: Option<ErrorKind>,
     pub(crate) has_failed: bool,
+    flushed: usize,
+    /// How many flushes had something new to flush.
+    pub(crate) flushes: usize,
 }
 
 impl Output {
@@ -69,6 +72,8 @@ impl Output {
             calls_before,
             kind,
             has_failed: false,
+            flushed: 0,
+            flushes: 0,
         }
     }
 
@@ -104,6 +109,10 @@ impl Write for Output {
     fn flush(&mut self) -> io::Result<()> {
         if self.fails() {
             return Err(Error::from(self.kind.unwrap_or(ErrorKind::Other)));
+        }
+        if self.taken.len() > self.flushed {
+            self.flushed = self.taken.len();
+            self.flushes = self.flushes.saturating_add(1);
         }
         Ok(())
     }

@@ -1,8 +1,8 @@
 // Tables of examples: a row a line, its cells parted by `=>`. A line that begins with two blanks and `…` goes on with the row
 // before it.
-use crate::hostile::{fronts, streams};
+use crate::hostile::{fronts, lines, streams};
 use cs_tool::Fault;
-use std::alloc::Global;
+use std::alloc::{AllocError, Global};
 use std::test::Fail;
 
 /// What a row says.
@@ -18,26 +18,32 @@ pub(crate) enum Row {
     Stream,
     /// A request over so many blanks, and the number of its refusal.
     Blanks,
+    /// Rules, an input, and the answers to its lines.
+    Lines,
+    /// An input, how it is read, and how often its answers are flushed.
+    Flushes,
 }
 
 /// Fails with the first row that doesn't hold.
 pub(crate) fn check(alloc: Global, table: &str, rows: Row) -> Result<(), Fail> {
     let table = table.replace(alloc, "\n  …", "")?;
     for row in table.lines() {
-        if !holds(alloc, row, rows) {
+        if !holds(alloc, row, rows)? {
             return Err(Fail::new(row));
         }
     }
     Ok(())
 }
 
-fn holds(alloc: Global, row: &str, rows: Row) -> bool {
+fn holds(alloc: Global, row: &str, rows: Row) -> Result<bool, AllocError> {
     match rows {
-        Row::Sources => fronts::are_vetted(alloc, row),
-        Row::Schemas => fronts::are_validated(alloc, row),
-        Row::Source => fronts::is_vetted(alloc, row),
-        Row::Stream => streams::is_told(alloc, row),
-        Row::Blanks => streams::are_blanks_refused(alloc, row),
+        Row::Sources => Ok(fronts::are_vetted(alloc, row)),
+        Row::Schemas => Ok(fronts::are_validated(alloc, row)),
+        Row::Source => Ok(fronts::is_vetted(alloc, row)),
+        Row::Stream => Ok(streams::is_told(alloc, row)),
+        Row::Blanks => Ok(streams::are_blanks_refused(alloc, row)),
+        Row::Lines => lines::are_told(alloc, row),
+        Row::Flushes => lines::is_flushed(alloc, row),
     }
 }
 

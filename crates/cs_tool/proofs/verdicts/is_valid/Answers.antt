@@ -1,7 +1,7 @@
 use Rattle.cs_tool.proofs.verdicts.is_valid.Goals as goal
 
 pub returns-in-Listed-clause-answer : goal.returns-in-Listed-clause-answer
-returns-in-Listed-clause-answer c = rw c.in-Listed.is c.valid_verdict.ensures.answer
+returns-in-Listed-clause-answer c = rw c.in-Listed.is c.verdict.ensures.answer
 
-pub returns-in-Tree-clause-answer : goal.returns-in-Tree-clause-answer
-returns-in-Tree-clause-answer c = rw c.in-Tree.is c.is_valid.ensures.answer
+pub returns-in-Ok-clause-answer : goal.returns-in-Ok-clause-answer
+returns-in-Ok-clause-answer c = rw (c.in-Tree.is, ← c.in-Ok.ensures.found) c.verdict-in-Ok.ensures.answer

@@ -1,0 +1,62 @@
+use Rattle.std.proofs.Common.{ℕ, List, Bor, map, refl, sym, subst}
+use Rattle.std.proofs.lemmas.Result.{err_from_is_err_and}
+use Rattle.cs_package.specs.Environment.{Environment, Names}
+use Rattle.cs_profile.specs.SchemaDocument.{document_of}
+use Rattle.cs_tool.specs.Accepted.{IsAccepted, DeclaresRoot}
+use Rattle.cs_tool.specs.Headline.{IsExport}
+use Rattle.cs_tool.specs.Ready.{IsReady}
+use Rattle.cs_tool.specs.CallRefusals.{IsSchemaText}
+use Rattle.cs_tool.specs.Sides.{IsSchemaOf}
+use Rattle.cs_tool.proofs.Declared.{one_environment}
+use Rattle.cs_tool.proofs.read_rules.read_both.Goals as goal
+
+abbrev now : Bor (List ℕ) → List ℕ
+now s = s.now
+
+declared : {sources : List (List ℕ)} {root : List ℕ} {E : Environment} → IsAccepted sources E → (r : IsReady sources root) → DeclaresRoot sources root E r.1
+declared {root = root} accepted r = record { accepted = accepted; named = subst (λ F. Names F root r.1) (one_environment r.2.accepted accepted) r.2.named }
+
+-- the exported text is that of a schema
+is_schema_text : (sources : List (List ℕ)) (root schema_text : List ℕ) → IsExport sources root schema_text → IsSchemaText schema_text
+is_schema_text sources root schema_text exported = record { document = exported.schema; read = exported.read; profile = exported.profile }
+
+pub returns-in_err-guarded-clause-only : goal.returns-in_err-guarded-clause-only
+returns-in_err-guarded-clause-only c = λ ready.
+    let p = err_from_is_err_and c.from_residual.result c.from_residual.ensures.1 in
+    rw (p.1, p.2) (c.in_err-guarded.ensures.only ready.0 ready.2.accepted)
+
+pub returns-in_err-exported : goal.returns-in_err-exported
+returns-in_err-exported c =
+    let sources = map now c.args.sources.now in
+    let export = c.in_err-exported.ensures in
+    let accepted = c.in_ok-guarded.ensures.accepted in
+    let p = err_from_is_err_and c.from_residual-in_err-exported.result c.from_residual-in_err-exported.ensures.1 in
+    rw (p.1, p.2) (record {
+      found = tt;
+      refused = export.refused sources accepted;
+      only = λ ready. export.only ready.1 (declared accepted ready).named;
+    })
+
+-- the exported text is read again as a schema, unless memory runs out
+pub returns-in_err-schema : goal.returns-in_err-schema
+returns-in_err-schema c =
+    let sources = map now c.args.sources.now in
+    let export = c.in_ok-exported.ensures.found sources c.in_ok-guarded.ensures.accepted in
+    let is = subst IsSchemaText (sym c.deref.ensures.value) (is_schema_text sources c.args.root.now _ export) in
+    let p = err_from_is_err_and c.from_residual-in_err-schema.result c.from_residual-in_err-schema.ensures.1 in
+    rw (p.1, p.2, c.in_err-schema.ensures.only is) (record { found = tt; refused = tt; only = λ ready. refl })
+
+pub returns-clause-found : goal.returns-clause-found
+returns-clause-found c =
+    let sources = map now c.args.sources.now in
+    let accepted = c.in_ok-guarded.ensures.accepted in
+    let exported = c.in_ok-exported.ensures.found sources accepted in (
+      exported.name,
+      record {
+        declares = declared accepted (exported.environment, exported.name, exported.declares);
+        schema_text = _;
+        exported = exported;
+        translated = c.in_ok-exported.ensures.translated sources accepted;
+        read = subst (λ s. IsSchemaOf s (document_of c.in_ok-schema.schema)) c.deref.ensures.value c.in_ok-schema.ensures.found;
+      },
+    )

@@ -1,0 +1,19 @@
+-- The call that judges a text by rules.
+use Rattle.std.specs.Prelude.{ℕ, List, map, string_bytes}
+use Rattle.cs_tool.specs.declared.rules.Rules.{Rules}
+use Rattle.cs_tool.specs.declared.rules.Rules.TheVariants.{Root, Schema, Both}
+use Rattle.cs_tool.specs.Ready.{IsReady}
+use Rattle.cs_tool.specs.CallRefusals.{IsSchemaText}
+use Rattle.cs_tool.specs.Runs.{Call, vet, validate, agree}
+
+-- the call that judges the text
+abbrev pub call_on : Rules → List ℕ → Call
+call_on (Root sources root) text = vet (map (λ s. s.items) sources.items) (string_bytes root) text
+call_on (Schema schema) text = validate schema.items text
+call_on (Both sources root) text = agree (map (λ s. s.items) sources.items) (string_bytes root) text
+
+-- the rules are read, unless memory runs out
+abbrev pub AreReadable : Rules → Type 0
+AreReadable (Root sources root) = IsReady (map (λ s. s.items) sources.items) (string_bytes root)
+AreReadable (Schema schema) = IsSchemaText schema.items
+AreReadable (Both sources root) = IsReady (map (λ s. s.items) sources.items) (string_bytes root)

@@ -1,0 +1,22 @@
+-- What was read of a schema's text, and of both sides of a root.
+use Rattle.std.specs.Prelude.{◌≡◌, ℕ, List}
+use Rattle.cs_document.specs.Document.{Document}
+use Rattle.cs_package.specs.Environment.{Environment}
+use Rattle.cs_schema.specs.Trim.{trim}
+use Rattle.cs_tool.specs.Accepted.{DeclaresRoot}
+use Rattle.cs_tool.specs.Headline.{IsExport}
+use Rattle.cs_tool.specs.Translated.{IsTranslated}
+use Rattle.cs_tool.specs.CallRefusals.{IsSchemaText}
+
+-- the text is that of a schema, which is this one when it is trimmed
+pub record IsSchemaOf (schema_text : List ℕ) (schema : Document) : Type 0 where
+  pub text : IsSchemaText schema_text
+  pub trimmed : schema ≡ trim text.document
+
+-- the sources declare the root as this definition, and the schema is that of the exported text
+pub record AreSidesOf (sources : List (List ℕ)) (root : List ℕ) (E : Environment) (n : List ℕ) (schema : Document) : Type 0 where
+  pub declares : DeclaresRoot sources root E n
+  pub schema_text : List ℕ
+  pub exported : IsExport sources root schema_text
+  pub translated : IsTranslated sources root schema_text
+  pub read : IsSchemaOf schema_text schema

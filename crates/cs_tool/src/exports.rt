@@ -1,0 +1,67 @@
+// The export of a schema from sources.
+ghost use Rattle.std.specs.Prelude.{◌≡◌, ℕ, ◌≤◌, List, IfOk, IfErr, IsOkUnless};
+ghost use Rattle.cs_document.specs.Document.{depth};
+ghost use Rattle.cs_doc.specs.Texts.{Reads, text_of};
+ghost use Rattle.cs_package.specs.Environment.{Names};
+ghost use Rattle.cs_schema.specs.Profile.{IsSchema};
+ghost use Rattle.cs_schema.specs.SchemaDocument.{document_of};
+ghost use Rattle.cs_schema.specs.Trim.{trim};
+ghost use Rattle.cs_tool.specs.Accepted.{IsAccepted};
+ghost use Rattle.cs_tool.specs.Given.{bytes_in};
+ghost use Rattle.cs_tool.specs.Headline.{IsExport};
+ghost use Rattle.cs_tool.specs.Translated.{IsTranslated};
+ghost use Rattle.cs_tool.specs.Ready.{IsReady};
+ghost use Rattle.cs_tool.specs.CallRefusals.{ExportRefusal};
+
+use crate::Fault;
+use crate::packages::package_of;
+use cs_compile::compile;
+use cs_doc::write_doc;
+use cs_guard::Guarded;
+use cs_schema::{SchemaDoc, to_doc};
+use std::alloc::Global;
+
+/// The text of the schema that admits the documents that the root definition of the sources admits,
+/// without a newline. The root is named with its `#`.
+///
+/// A refusal reports the first condition that the sources and the root fail, in the order of `First`
+/// (`specs/First.antt`).
+pub fn export(alloc: Global, sources: &[&[u8]], root: &str) -> Result<Vec<u8>, Fault>
+    ensures found { IfOk result (λ text. IsExport (bytes_in sources.now) root.now text.items) }
+    ensures translated { IfOk result
+        (λ text. IsTranslated (bytes_in sources.now) root.now text.items) }
+    ensures refused { IfErr result (λ e. ExportRefusal (bytes_in sources.now) root.now e) }
+    ensures only { IsReady (bytes_in sources.now) root.now → IsOkUnless result Fault.OutOfMemory }
+{
+    let guarded = package_of(alloc, sources)?;
+    exported(alloc, &guarded, root)
+}
+
+/// The text of the schema of the root definition, without a newline.
+pub(crate) fn exported(alloc: Global, guarded: &Guarded, root: &str) -> Result<Vec<u8>, Fault>
+    ensures found { (sources : List (List ℕ)) → IsAccepted sources guarded.now
+        → IfOk result (λ text. IsExport sources root.now text.items) }
+    ensures translated { (sources : List (List ℕ)) → IsAccepted sources guarded.now
+        → IfOk result (λ text. IsTranslated sources root.now text.items) }
+    ensures refused { (sources : List (List ℕ)) → IsAccepted sources guarded.now
+        → IfErr result (λ e. ExportRefusal sources root.now e) }
+    ensures only { (n : List ℕ)
+        → Names guarded.now root.now n → IsOkUnless result Fault.OutOfMemory }
+{
+    let schema = compile(alloc, guarded, root)?;
+    cs_instance::one_meaning(guarded); // for the proof: there is one instance relation
+    cs_schema::one_meaning(&schema); // for the proof: there is one validity
+    text_of_schema(alloc, &schema)
+}
+
+/// The text of the schema, without a newline.
+fn text_of_schema(alloc: Global, schema: &SchemaDoc) -> Result<Vec<u8>, Fault>
+    ensures found { IfOk result (λ text. (text.items ≡ text_of (document_of schema.now))
+        × (depth (document_of schema.now) ≤ 127 → Reads text.items (document_of schema.now))) }
+    ensures profile { IsSchema (document_of schema.now) }
+    ensures trimmed { trim (document_of schema.now) ≡ document_of schema.now }
+    ensures memory { IsOkUnless result Fault.OutOfMemory }
+{
+    let doc = to_doc(alloc, schema)?;
+    Ok(write_doc(alloc, &doc)?)
+}

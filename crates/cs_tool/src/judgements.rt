@@ -1,0 +1,82 @@
+// Judging the document of a text by numbered rules. The memory of `scratch` and `table` is used again.
+ghost use Rattle.std.specs.Prelude.{ℕ, List, IfOk, IfErr, IsOkUnless};
+ghost use Rattle.cs_tool.specs.Accepted.{DeclaresRoot};
+ghost use Rattle.cs_tool.specs.Agreement.{IsAgreement};
+ghost use Rattle.cs_tool.specs.CallRefusals.{VetRefusal, ValidateRefusal, AgreeRefusal};
+ghost use Rattle.cs_tool.specs.Headline.{IsVerdict, IsValidated};
+ghost use Rattle.cs_tool.specs.Ready.{IsReadyToVet, IsReadyToValidate, IsReadyToAgree};
+ghost use Rattle.cs_tool.specs.Sides.{IsSchemaOf, AreSidesOf};
+
+use crate::Fault;
+use crate::verdicts::{is_instance, is_valid};
+use cs_doc::{Scratch, read_document};
+use cs_instance::RootRules;
+use cs_table::Verdicts;
+use cs_validate::SchemaRules;
+use std::alloc::Global;
+
+/// Whether the document is an instance of the root, as `vet` answers.
+pub(crate) fn judge_root(
+    rules: &RootRules<'_>,
+    alloc: Global,
+    text: &[u8],
+    scratch: &mut Scratch,
+    table: &mut Verdicts,
+) -> Result<bool, Fault>
+    ensures found { (sources : List (List ℕ)) (root : List ℕ)
+        → DeclaresRoot sources root rules.now.0 rules.now.1
+        → IfOk result (λ b. IsVerdict sources root text.now b) }
+    ensures refused { (sources : List (List ℕ)) (root : List ℕ)
+        → DeclaresRoot sources root rules.now.0 rules.now.1
+        → IfErr result (λ e. VetRefusal sources root text.now e) }
+    ensures only { (sources : List (List ℕ)) (root : List ℕ)
+        → DeclaresRoot sources root rules.now.0 rules.now.1
+        → IsReadyToVet sources root text.now → IsOkUnless result Fault.OutOfMemory }
+{
+    let doc = read_document(alloc, text, scratch)?;
+    Ok(is_instance(rules, alloc, &doc, table)?)
+}
+
+/// Whether the document is valid against the schema, as `validate` answers.
+pub(crate) fn judge_schema(
+    rules: &SchemaRules<'_>,
+    alloc: Global,
+    text: &[u8],
+    scratch: &mut Scratch,
+    table: &mut Verdicts,
+) -> Result<bool, Fault>
+    ensures found { (schema : List ℕ) → IsSchemaOf schema rules.now
+        → IfOk result (λ b. IsValidated schema text.now b) }
+    ensures refused { (schema : List ℕ) → IsSchemaOf schema rules.now
+        → IfErr result (λ e. ValidateRefusal schema text.now e) }
+    ensures only { (schema : List ℕ) → IsSchemaOf schema rules.now
+        → IsReadyToValidate schema text.now → IsOkUnless result Fault.OutOfMemory }
+{
+    let doc = read_document(alloc, text, scratch)?;
+    Ok(is_valid(rules, alloc, &doc, table)?)
+}
+
+/// Whether the document is an instance of the root, judged on both sides, as `agree` answers.
+pub(crate) fn judge_both(
+    root_side: &RootRules<'_>,
+    schema_side: &SchemaRules<'_>,
+    alloc: Global,
+    text: &[u8],
+    scratch: &mut Scratch,
+    table: &mut Verdicts,
+) -> Result<bool, Fault>
+    ensures found { (sources : List (List ℕ)) (root : List ℕ)
+        → AreSidesOf sources root root_side.now.0 root_side.now.1 schema_side.now
+        → IfOk result (λ b. IsAgreement sources root text.now b) }
+    ensures refused { (sources : List (List ℕ)) (root : List ℕ)
+        → AreSidesOf sources root root_side.now.0 root_side.now.1 schema_side.now
+        → IfErr result (λ e. AgreeRefusal sources root text.now e) }
+    ensures only { (sources : List (List ℕ)) (root : List ℕ)
+        → AreSidesOf sources root root_side.now.0 root_side.now.1 schema_side.now
+        → IsReadyToAgree sources root text.now → IsOkUnless result Fault.OutOfMemory }
+{
+    let doc = read_document(alloc, text, scratch)?;
+    let is_instance = is_instance(root_side, alloc, &doc, table)?;
+    let is_valid = is_valid(schema_side, alloc, &doc, table)?;
+    Ok(is_instance && is_valid)
+}

@@ -1,0 +1,59 @@
+// Reading what documents are judged by, before any document.
+ghost use Rattle.std.specs.Prelude.{ℕ, List, IfOk, IfErr, IsOkUnless};
+ghost use Rattle.cs_profile.specs.SchemaDocument.{document_of};
+ghost use Rattle.cs_tool.specs.Accepted.{DeclaresRoot};
+ghost use Rattle.cs_tool.specs.Given.{bytes_in};
+ghost use Rattle.cs_tool.specs.Ready.{IsReady};
+ghost use Rattle.cs_tool.specs.CallRefusals.{ExportRefusal, ValidateRefusal, IsSchemaText};
+ghost use Rattle.cs_tool.specs.Sides.{IsSchemaOf, AreSidesOf};
+
+use crate::Fault;
+use crate::exports::exported;
+use crate::packages::package_of;
+use cs_doc::{DocFault, read_doc};
+use cs_guard::Guarded;
+use cs_schema::{SchemaDoc, read_schema};
+use std::alloc::Global;
+
+/// The package of the sources, where it declares the root.
+pub(crate) fn read_root(alloc: Global, sources: &[&[u8]], root: &str) -> Result<Guarded, Fault>
+    ensures found { IfOk result (λ g. (n : List ℕ)
+        × DeclaresRoot (bytes_in sources.now) root.now g n) }
+    ensures refused { IfErr result (λ e. ExportRefusal (bytes_in sources.now) root.now e) }
+    ensures only { IsReady (bytes_in sources.now) root.now → IsOkUnless result Fault.OutOfMemory }
+{
+    let guarded = package_of(alloc, sources)?;
+    if guarded.package().find(root).is_none() {
+        return Err(Fault::UnknownRoot);
+    }
+    Ok(guarded)
+}
+
+/// The schema of a schema's text, trimmed. Its refusals hold whatever the document is.
+pub(crate) fn read_schema_text(alloc: Global, text: &[u8]) -> Result<SchemaDoc, Fault>
+    ensures found { IfOk result (λ s. IsSchemaOf text.now (document_of s)) }
+    ensures refused { (doc : List ℕ) → IfErr result (λ e. ValidateRefusal text.now doc e) }
+    ensures only { IsSchemaText text.now → IsOkUnless result Fault.OutOfMemory }
+{
+    match read_doc(alloc, text) {
+        Ok(doc) => Ok(read_schema(alloc, &doc)?),
+        Err(DocFault::NotJson) => Err(Fault::SchemaNotJson),
+        Err(fault) => Err(Fault::from(fault)),
+    }
+}
+
+/// The package of the sources, and the exported schema of the root, which is read again from its text.
+pub(crate) fn read_both(
+    alloc: Global,
+    sources: &[&[u8]],
+    root: &str,
+) -> Result<(Guarded, SchemaDoc), Fault>
+    ensures found { IfOk result (λ t. (n : List ℕ)
+        × AreSidesOf (bytes_in sources.now) root.now t.0 n (document_of t.1)) }
+    ensures refused { IfErr result (λ e. ExportRefusal (bytes_in sources.now) root.now e) }
+    ensures only { IsReady (bytes_in sources.now) root.now → IsOkUnless result Fault.OutOfMemory }
+{
+    let guarded = package_of(alloc, sources)?;
+    let schema = read_schema_text(alloc, &exported(alloc, &guarded, root)?)?;
+    Ok((guarded, schema))
+}

@@ -1,0 +1,82 @@
+// Many documents by the same rules, with a line for each.
+use crate::INVALID;
+use crate::files::read_input;
+use crate::requests::Documents;
+use cs_tool::{
+    Fault, LinesOutcome, Rules, TextJudge, prepare, run_lines, write_answer, write_unread,
+};
+use std::fs::File;
+
+/// The status where a document was refused.
+const REFUSED: u8 = 2;
+/// The status where a file could not be read.
+const UNREAD: u8 = 4;
+
+/// The status after a line for each of the documents.
+pub(crate) fn answer_many(
+    rt: &HostRuntime,
+    rules: &Rules,
+    documents: Documents<'_>,
+) -> Result<u8, Fault> {
+    match documents {
+        Documents::Lines(path) => Ok(status_of(answer_lines(rt, rules, path)?)),
+        Documents::Files(paths) => answer_files(rt, rules, paths),
+    }
+}
+
+/// What came of the lines of the file, or of standard input.
+fn answer_lines(
+    rt: &HostRuntime,
+    rules: &Rules,
+    path: Option<&str>,
+) -> Result<LinesOutcome, Fault> {
+    let Some(path) = path else {
+        return run_lines(rt.alloc(), rules, &mut rt.stdin(), &mut rt.stdout());
+    };
+    let Ok(mut file) = File::open(rt, path) else {
+        return Err(Fault::ReadFailed);
+    };
+    run_lines(rt.alloc(), rules, &mut file, &mut rt.stdout())
+}
+
+/// The status after a line for each file: that of the documents, unless one could not be read.
+fn answer_files(rt: &HostRuntime, rules: &Rules, paths: &[&str]) -> Result<u8, Fault> {
+    let prepared = prepare(rt.alloc(), rules)?;
+    let mut judge = prepared.judge(rt.alloc())?;
+    let mut outcome = LinesOutcome::AllValid;
+    let mut is_unread = false;
+    for path in paths {
+        let answer = answer_file(rt, &mut judge, path)?;
+        outcome = outcome.with(answer.unwrap_or(LinesOutcome::SomeRefused));
+        is_unread |= answer.is_none();
+    }
+    Ok(if is_unread {
+        UNREAD
+    } else {
+        status_of(outcome)
+    })
+}
+
+/// What came of a file's document; `None` where it could not be read.
+fn answer_file(
+    rt: &HostRuntime,
+    judge: &mut TextJudge<'_>,
+    path: &str,
+) -> Result<Option<LinesOutcome>, Fault> {
+    match read_input(rt, path) {
+        Ok(text) => write_answer(judge, &text, path, &mut rt.stdout()).map(Some),
+        Err(Fault::ReadFailed) => {
+            write_unread(Fault::ReadFailed, path, &mut rt.stdout())?;
+            Ok(None)
+        }
+        Err(fault) => write_unread(fault, path, &mut rt.stdout()).map(Some),
+    }
+}
+
+fn status_of(outcome: LinesOutcome) -> u8 {
+    match outcome {
+        LinesOutcome::AllValid => 0,
+        LinesOutcome::SomeInvalid => INVALID,
+        LinesOutcome::SomeRefused => REFUSED,
+    }
+}
