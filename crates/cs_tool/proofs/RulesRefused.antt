@@ -4,8 +4,9 @@ use Rattle.cs_tool.specs.Judged.{call_on}
 use Rattle.cs_tool.specs.Lines.{LeavesLines, IsOfRules}
 use Rattle.cs_tool.specs.Runs.{IsCallRefusal}
 use Rattle.cs_tool.specs.declared.fault.Fault.{Fault}
-use Rattle.cs_tool.specs.declared.fault.Fault.TheVariants.{ReadFailed, WriteFailed}
+use Rattle.cs_tool.specs.declared.fault.Fault.TheVariants.{OutOfMemory, ReadFailed, WriteFailed}
 use Rattle.cs_tool.specs.declared.rules.Rules.{Rules}
+use Rattle.cs_tool.specs.declared.rules.Rules.TheVariants.{Root, Schema, Both}
 use Rattle.cs_tool.proofs.CallFaults.{no_call_writes, no_call_reads}
 
 -- a refusal of the rules is no failed read or write
@@ -19,3 +20,9 @@ pub not_of_rules : {T : Type 0} (Q : Type 0) (r : Result T Fault) → IfErr r (�
 not_of_rules Q (Ok v) h = tt
 not_of_rules Q (Err e) (inl is) = λ of. absurd (subst IsOfRules is of)
 not_of_rules Q (Err e) (inr is) = λ of. absurd (subst IsOfRules is of)
+
+-- memory may run out in every call
+pub memory_refuses : (rules : Rules) (text : List ℕ) → IsCallRefusal (call_on rules text) OutOfMemory
+memory_refuses (Root sources root) text = tt
+memory_refuses (Schema schema) text = tt
+memory_refuses (Both sources root) text = tt

@@ -1,7 +1,7 @@
 use Rattle.std.proofs.Common.{refl, inr, subst, ◌∙◌, IfErr}
 use Rattle.std.proofs.lemmas.Result.{err_from_is_err_and}
 use Rattle.cs_tool.specs.Lines.{LeavesLines}
-use Rattle.cs_tool.proofs.RulesRefused.{rules_refused, not_of_rules}
+use Rattle.cs_tool.proofs.RulesRefused.{rules_refused, not_of_rules, memory_refuses}
 use Rattle.cs_tool.proofs.LineLists.{if_err}
 use Rattle.cs_tool.proofs.LineRuns.{nothing_read}
 use Rattle.cs_tool.proofs.lines.run_lines.Goals as goal
@@ -11,6 +11,16 @@ returns-in_err-prepared-clause-refused g c =
     let e = c.in_err-prepared.field-0.0 in
     let p = err_from_is_err_and c.from_residual.result c.from_residual.ensures.1 in
     rw (p.1, p.2) (rules_refused c.args.rules.now e _ _ _ _ c.in_err-prepared.ensures.refused)
+
+pub returns-in_err-held-clause-refused : goal.returns-in_err-held-clause-refused
+returns-in_err-held-clause-refused g c =
+    let p = err_from_is_err_and c.from_residual-in_err-held.result c.from_residual-in_err-held.ensures.1 in
+    rw (p.1, p.2) (memory_refuses c.args.rules.now)
+
+pub returns-in_err-chunk-clause-refused : goal.returns-in_err-chunk-clause-refused
+returns-in_err-chunk-clause-refused g c =
+    let p = err_from_is_err_and c.from_residual-in_err-chunk.result c.from_residual-in_err-chunk.ensures.1 in
+    rw (p.1, p.2) (memory_refuses c.args.rules.now)
 
 pub answer_input-requires-clause-start : goal.answer_input-requires-clause-start
 answer_input-requires-clause-start g c = nothing_read _ _ c.new-begun.ensures c.in_ok-held.ensures refl
