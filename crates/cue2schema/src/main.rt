@@ -5,6 +5,7 @@ mod files;
 mod many;
 mod requests;
 
+use clap::ArgMatches;
 use clap::error::ErrorKind;
 use cs_tool::{Fault, Request, command, run, write_fault};
 use many::answer_many;
@@ -39,12 +40,17 @@ fn answer(rt: &HostRuntime) -> Result<u8, Fault> {
     };
     let command = command(alloc)?;
     match command.try_get_matches_from(words.as_slice()) {
-        Ok(matches) => match asked_by(rt, &matches)? {
-            Some(Asked::Once(request)) => judged(rt, request),
-            Some(Asked::Many(rules, documents)) => answer_many(rt, &rules, documents),
-            None => Ok(COMMAND_LINE),
-        },
+        Ok(matches) => answered(rt, &matches),
         Err(error) => shown(rt, &error),
+    }
+}
+
+/// The status of what the words ask for.
+fn answered(rt: &HostRuntime, matches: &ArgMatches<'_>) -> Result<u8, Fault> {
+    match asked_by(rt, matches)? {
+        Some(Asked::Once(request)) => judged(rt, request),
+        Some(Asked::Many(rules, documents)) => answer_many(rt, &rules, documents),
+        None => Ok(COMMAND_LINE),
     }
 }
 

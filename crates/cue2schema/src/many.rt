@@ -16,7 +16,7 @@ const UNREAD: u8 = 4;
 pub(crate) fn answer_many(
     rt: &HostRuntime,
     rules: &Rules,
-    documents: Documents<'_>,
+    documents: Documents<'_, '_>,
 ) -> Result<u8, Fault> {
     match documents {
         Documents::Lines(path) => Ok(status_of(answer_lines(rt, rules, path)?)),

@@ -6,27 +6,27 @@ use std::alloc::Global;
 
 /// What the words of a command ask for.
 #[derive(Drop)]
-pub(crate) enum Asked<'a> {
+pub(crate) enum Asked<'m, 'w> {
     /// One call.
     Once(Request),
     /// Each of these documents, judged by the same rules.
-    Many(Rules, Documents<'a>),
+    Many(Rules, Documents<'m, 'w>),
 }
 
 /// Documents that are judged one after another.
 #[derive(Drop)]
-pub(crate) enum Documents<'a> {
+pub(crate) enum Documents<'m, 'w> {
     /// The lines of the file, or of standard input where there is none.
-    Lines(Option<&'a str>),
+    Lines(Option<&'w str>),
     /// The files.
-    Files(&'a [&'a str]),
+    Files(&'m [&'w str]),
 }
 
 /// What a command asks for; `None` for no command, which `clap` refuses before.
-pub(crate) fn asked_by<'a>(
+pub(crate) fn asked_by<'m, 'w>(
     rt: &HostRuntime,
-    matches: &'a ArgMatches<'a>,
-) -> Result<Option<Asked<'a>>, Fault> {
+    matches: &'m ArgMatches<'w>,
+) -> Result<Option<Asked<'m, 'w>>, Fault> {
     let Some((name, words)) = matches.subcommand() else {
         return Ok(None);
     };
@@ -39,13 +39,13 @@ pub(crate) fn asked_by<'a>(
     }
 }
 
-fn export<'a>(rt: &HostRuntime, words: &'a ArgMatches<'a>) -> Result<Asked<'a>, Fault> {
+fn export<'m, 'w>(rt: &HostRuntime, words: &'m ArgMatches<'w>) -> Result<Asked<'m, 'w>, Fault> {
     let root = root_of(rt.alloc(), words)?;
     let files = files_of(rt, words)?;
     Ok(Asked::Once(Request::Export { files, root }))
 }
 
-fn vet<'a>(rt: &HostRuntime, words: &'a ArgMatches<'a>) -> Result<Asked<'a>, Fault> {
+fn vet<'m, 'w>(rt: &HostRuntime, words: &'m ArgMatches<'w>) -> Result<Asked<'m, 'w>, Fault> {
     let root = root_of(rt.alloc(), words)?;
     if let Some(documents) = documents_of(words) {
         let sources = sources_of(rt, words)?;
@@ -56,7 +56,7 @@ fn vet<'a>(rt: &HostRuntime, words: &'a ArgMatches<'a>) -> Result<Asked<'a>, Fau
     Ok(Asked::Once(Request::Vet { files, root, doc }))
 }
 
-fn validate<'a>(rt: &HostRuntime, words: &'a ArgMatches<'a>) -> Result<Asked<'a>, Fault> {
+fn validate<'m, 'w>(rt: &HostRuntime, words: &'m ArgMatches<'w>) -> Result<Asked<'m, 'w>, Fault> {
     let schema = read_input(rt, word_of(words, "schema"))?;
     if let Some(documents) = documents_of(words) {
         return Ok(Asked::Many(Rules::Schema { schema }, documents));
@@ -68,7 +68,7 @@ fn validate<'a>(rt: &HostRuntime, words: &'a ArgMatches<'a>) -> Result<Asked<'a>
     Ok(Asked::Once(Request::Validate { schema, doc }))
 }
 
-fn agree<'a>(rt: &HostRuntime, words: &'a ArgMatches<'a>) -> Result<Asked<'a>, Fault> {
+fn agree<'m, 'w>(rt: &HostRuntime, words: &'m ArgMatches<'w>) -> Result<Asked<'m, 'w>, Fault> {
     let root = root_of(rt.alloc(), words)?;
     if let Some(documents) = documents_of(words) {
         let sources = sources_of(rt, words)?;
@@ -80,7 +80,7 @@ fn agree<'a>(rt: &HostRuntime, words: &'a ArgMatches<'a>) -> Result<Asked<'a>, F
 }
 
 /// The documents of `--lines` or `--docs`, where one of these words is there.
-fn documents_of<'a>(words: &'a ArgMatches<'a>) -> Option<Documents<'a>> {
+fn documents_of<'m, 'w>(words: &'m ArgMatches<'w>) -> Option<Documents<'m, 'w>> {
     if words.get_flag("lines") {
         return Some(Documents::Lines(words.get_str("doc")));
     }
