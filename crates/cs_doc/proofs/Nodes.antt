@@ -1,19 +1,15 @@
 -- The values inside a map, where its members were taken in another order.
-use Rattle.std.proofs.Common.{◌≡◌, ℕ, zero, suc, ◌<◌, List, [], ◌∷◌, ◌++◌, length, get_or, set, append_assoc, refl, ap, subst, arith}
+use Rattle.std.proofs.Common.{◌≡◌, ℕ, zero, suc, ◌<◌, List, [], ◌∷◌, ◌++◌, length, get_or, set, refl, ap, subst, arith}
 use Rattle.std.specs.List.{flat_map}
 use Rattle.std.specs.List.Sorted.{IsPermutation}
 use Rattle.std.proofs.lemmas.List.Edits.{swap_is}
-use Rattle.std.proofs.lemmas.List.Sorted.{IsPermutation-refl, IsPermutation-trans, IsPermutation-append_left, IsPermutation-append_right, IsPermutation-append_comm, IsPermutation-keeps}
+use Rattle.std.proofs.lemmas.List.Sorted.{IsPermutation-refl, IsPermutation-trans, IsPermutation-append_right, IsPermutation-keeps}
 use Rattle.cs_document.specs.Document.{Document, Entry}
 use Rattle.cs_flat.specs.Nodes.{nodes, element_nodes, member_nodes}
 use Rattle.cs_flat.specs.Listed.{documents_of, members_of}
+use Rattle.cs_flat.proofs.Permuted.{turned}
 
 module _ {A B : Type 0} (f : A → List B) where
-  turned : (as' bs cs : List B) → IsPermutation (as' ++ (bs ++ cs)) (bs ++ (as' ++ cs))
-  turned as' bs cs =
-      let both = IsPermutation-append_left cs (as' ++ bs) (bs ++ as') (IsPermutation-append_comm as' bs) in
-      subst (λ l. IsPermutation l (bs ++ (as' ++ cs))) (append_assoc as' bs cs) (subst (IsPermutation ((as' ++ bs) ++ cs)) (append_assoc bs as' cs) both)
-
   -- an element taken out, and another one put in its place
   exchanged : (x d : A) (ys : List A) (j : ℕ) → j < length ys → IsPermutation (f x ++ flat_map f ys) (f (get_or ys j d) ++ flat_map f (set ys j x))
   exchanged x d [] j l = absurd (omega arith)

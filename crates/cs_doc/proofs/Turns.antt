@@ -1,5 +1,5 @@
 -- The loops over the elements of a list and over the members of a map, a turn at a time.
-use Rattle.std.proofs.Common.{◌≡◌, ℕ, ◌-◌, ◌<◌, ◌≤◌, List, [], ◌∷◌, ◌++◌, length, take, drop, map, Option, Some, None, option_map, option_and_then, Ordering, Less, Equal, Greater, nat_cmp, append_assoc, append-nil, take_all, length-drop, refl, sym, ap, ap₂, ◌∙◌, subst, arith}
+use Rattle.std.proofs.Common.{◌≡◌, ℕ, ◌-◌, ◌<◌, ◌≤◌, List, [], ◌∷◌, ◌++◌, length, take, drop, map, Option, Some, None, option_map, option_and_then, Ordering, Less, Equal, Greater, nat_cmp, append_assoc, append-nil, take_all, length-drop, refl, sym, ap, ap₂, ◌∙◌, subst, subst₂, arith}
 use Rattle.std.specs.Cmp.Lexicographic.{slice_cmp}
 use Rattle.std.specs.List.{AllByRecursion as Each}
 use Rattle.std.specs.List.Sorted.{IsPermutation}
@@ -18,14 +18,14 @@ use Rattle.cs_document.specs.Document.{Document, list, object, IsDocument, Membe
 use Rattle.cs_document.specs.Opened.{Opened, a_list, an_object}
 use Rattle.cs_document.specs.Inside.{InsideBelow, AscendsInside, KeysAscend}
 use Rattle.cs_flat.specs.Nodes.{nodes}
-use Rattle.cs_flat.specs.Listed.{documents_of as listed, members_of as mapped, values}
+use Rattle.cs_flat.specs.Listed.{documents_of as listed, members_of as mapped, values, numbers_in}
 use Rattle.cs_flat.proofs.Listed.{value_behind}
 use Rattle.cs_flat.specs.View.{entry_of}
 use Rattle.cs_doc.specs.Texts.{document_of, documents_of, members_of}
 use Rattle.cs_doc.specs.Listings.{put_all, Adds, AddsRead}
 use Rattle.cs_doc.proofs.Entries.{Pair}
 use Rattle.cs_doc.proofs.PutMembers.{each_permuted, put_all-sorted}
-use Rattle.cs_doc.proofs.Additions.{Items, Adds-one, AddsAll, AddsAll-none, AddsAll-more, Numbered, Numbered-none, Numbered-more, Keyed, Keyed-none, Keyed-more, Adds-list, Adds-object, value_in}
+use Rattle.cs_doc.proofs.Additions.{Items, Adds-one, AddsAll, AddsAll-none, AddsAll-more, Numbered, Numbered-none, Numbered-more, Keyed, Keyed-none, Keyed-more, Adds-list, Adds-object, value_in, number_in}
 
 drop_front : {A : Type 0} (xs ys : List A) → drop (length xs) (xs ++ ys) ≡ ys
 drop_front [] ys = refl
@@ -66,8 +66,8 @@ pub record ElementsRead (whole : Option (value.Items × List Token)) (p : Parse 
   pub documents : List Document
   pub left : whole ≡ parse_map (items_before found) (converted of_items (items p turns tokens))
   pub same : map document_of found ≡ map Some documents
-  pub adds : AddsAll xs ys documents
   pub numbers : List ℕ
+  pub adds : AddsAll xs ys documents numbers
   pub stacked : now ≡ before ++ numbers
   pub numbered : Numbered ys numbers documents
 
@@ -99,7 +99,7 @@ module _ (whole : Option (value.Items × List Token)) (p : Parse json.Json) (tok
         documents = so_far.documents ++ d ∷ [];
         left = so_far.left ∙ ap (parse_map (items_before so_far.found)) (item_read p turns tokens rest v some going one.is_read) ∙ one_more_item so_far.found v _;
         same = map-append document_of so_far.found (v ∷ []) ∙ ap₂ (λ as' b. as' ++ b ∷ []) so_far.same one.is_document ∙ sym (map-append Some so_far.documents (d ∷ []));
-        adds = AddsAll-more xs ys zs so_far.documents n d so_far.adds one.adds;
+        adds = AddsAll-more xs ys zs so_far.documents so_far.numbers n d so_far.adds one.adds;
         numbers = so_far.numbers ++ n ∷ [];
         stacked = ap (λ l. l ++ n ∷ []) so_far.stacked ∙ append_assoc before so_far.numbers (n ∷ []);
         numbered = Numbered-more ys zs so_far.numbers so_far.documents n d so_far.numbered one.adds;
@@ -158,8 +158,8 @@ pub record MembersRead (whole : Option (value.Members × List Token)) (p : Parse
   pub documents : List (Entry Document)
   pub left : whole ≡ converted (λ ms. read_members ms found) (members p turns tokens)
   pub same : members_of found ≡ Some (put_all no_members documents)
-  pub adds : AddsAll xs ys (map value_in documents)
   pub pairs : List Pair
+  pub adds : AddsAll xs ys (map value_in documents) (map number_in (map entry_of pairs))
   pub stacked : now ≡ before ++ pairs
   pub keyed : Keyed ys (map entry_of pairs) documents
 
@@ -195,7 +195,9 @@ module _ (whole : Option (value.Members × List Token)) (p : Parse json.Json) (t
         documents = so_far.documents ++ made ∷ [];
         left = so_far.left ∙ member_read p so_far.found turns k tokens behind rest v some key one.is_read;
         same = members_of-put k v d so_far.found (put_all no_members so_far.documents) one.is_document so_far.same ∙ ap Some (sym (put_all-push no_members so_far.documents made));
-        adds = subst (AddsAll xs zs) (sym (map-append value_in so_far.documents (made ∷ []))) (AddsAll-more xs ys zs (map value_in so_far.documents) e.1 d so_far.adds one.adds);
+        adds = subst₂ (AddsAll xs zs) (sym (map-append value_in so_far.documents (made ∷ [])))
+            (sym (ap (map number_in) (map-append entry_of so_far.pairs (e ∷ [])) ∙ map-append number_in (map entry_of so_far.pairs) (entry_of e ∷ [])))
+            (AddsAll-more xs ys zs (map value_in so_far.documents) (map number_in (map entry_of so_far.pairs)) e.1 d so_far.adds one.adds);
         pairs = so_far.pairs ++ e ∷ [];
         stacked = ap (λ l. l ++ e ∷ []) so_far.stacked ∙ append_assoc before so_far.pairs (e ∷ []);
         keyed = subst (λ es. Keyed zs es (so_far.documents ++ made ∷ [])) (sym (map-append entry_of so_far.pairs (e ∷ [])))
@@ -229,11 +231,11 @@ AddsRead-at read rest xs ys zs m n same there one = subst (λ k. AddsRead read r
 
 -- a value that holds none
 pub AddsRead-one : (read : Option (Data × List Token)) (rest : List Token) (xs ys : Items) (n : ℕ) (x : Opened ℕ) (v : Data) (d : Document)
-    → InsideBelow (length xs) x → AscendsInside x → IsDocument d → nodes d ≡ d ∷ [] → value_behind (values xs) x ≡ d
+    → InsideBelow (length xs) x → AscendsInside x → IsDocument d → nodes d ≡ d ∷ [] → numbers_in x ≡ [] → value_behind (values xs) x ≡ d
     → read ≡ Some (v, rest) → document_of v ≡ Some d → (n ≡ length xs) × (ys ≡ xs ++ x ∷ []) → AddsRead read rest xs ys n
-AddsRead-one read rest xs ys n x v d below up is alone same read_as document pushed =
+AddsRead-one read rest xs ys n x v d below up is alone none same read_as document pushed =
     AddsRead-at read rest xs (xs ++ x ∷ []) ys (length xs) n pushed.1 pushed.0
-    (record { value = v; document = d; is_read = read_as; is_document = document; adds = Adds-one xs x d below up is alone same })
+    (record { value = v; document = d; is_read = read_as; is_document = document; adds = Adds-one xs x d below up is alone none same })
 
 -- a slice up to the end
 pub whole_tail : {A : Type 0} (xs : List A) (start : ℕ) → take (length xs - start) (drop start xs) ≡ drop start xs

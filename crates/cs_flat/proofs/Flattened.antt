@@ -11,6 +11,7 @@ use Rattle.cs_flat.specs.Listed.{documents_of, members_of, values_behind, values
 use Rattle.cs_flat.proofs.Places.{EachFrom, parted}
 use Rattle.cs_flat.proofs.Laws.{Stands, all_stand, elements_at, entries_at, length-nodes, length-items, are_items, node_at-inside}
 use Rattle.cs_flat.proofs.Ascents.{item_ascends}
+use Rattle.cs_flat.proofs.Named.{items_named}
 use Rattle.cs_flat.proofs.Listed.{documents_of-elements, members_of-entries, values_behind-append, values-append, length-values, document_in-IsListed}
 
 behind_stand : (ns ms : List Document) → EachFrom (Stands (ns ++ ms)) (length ns) ms
@@ -77,6 +78,7 @@ IsListed-items d is =
       last = slice_get-get_or (values (items d)) (inside d) null (omega (arith, length-values (items d), length-items 0 d))
           ∙ ap Some (ap (λ ns. node_at ns (inside d)) same ∙ node_at-inside d);
       each = subst (IsPermutation (nodes d)) (sym same) (IsPermutation-refl (nodes d));
+      once = items_named 0 d;
     }
 
 pub document_in-items : (d : Document) → IsDocument d → document_in (items d) ≡ d

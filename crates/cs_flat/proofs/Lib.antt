@@ -9,6 +9,7 @@ pub mod Opening
 pub mod Laws
 pub mod Listed
 pub mod Ascents
+pub mod Named
 pub mod Flattened
 pub mod Pushes
 -- what all items share

@@ -1,7 +1,7 @@
 -- The values of a list of items: earlier ones stay when items are pushed, and each item of a list that was built is its value, opened once.
 use Rattle.std.proofs.Common.{◌≡◌, ℕ, zero, suc, ◌+◌, ◌<◌, List, [], ◌∷◌, ◌++◌, length, map, Some, length-append, refl, sym, ap, ap₂, ◌∙◌, subst, arith}
 use Rattle.std.specs.Prelude.{slice_get}
-use Rattle.std.specs.List.{AllByRecursion as Each}
+use Rattle.std.specs.List.{AllByRecursion as Each, flat_map, range_with_len}
 use Rattle.std.specs.List.Sorted.{IsPermutation}
 use Rattle.std.proofs.Math.ListN.{get_or-append}
 use Rattle.std.proofs.Math.Seq.{get_or-append_seam}
@@ -12,7 +12,7 @@ use Rattle.cs_document.specs.Opened.{Opened, a_null, a_boolean, an_integer, a_te
 use Rattle.cs_document.specs.Inside.{map_entry, map_opened, InsideBelow, AscendsInside}
 use Rattle.cs_flat.specs.Nodes.{nodes, node_at}
 use Rattle.cs_flat.specs.Items.{inside, AreItems}
-use Rattle.cs_flat.specs.Listed.{documents_of, members_of, closed, values_behind, values, last_from, document_in, AreBuilt, IsListed}
+use Rattle.cs_flat.specs.Listed.{documents_of, members_of, closed, values_behind, values, last_from, document_in, numbers_in, AreBuilt, IsListed}
 use Rattle.cs_flat.proofs.Laws.{length-nodes}
 
 -- ---- a document opened and closed
@@ -185,8 +185,8 @@ document_in-IsListed d xs listed = last_from-node_at null (values xs) (inside d)
 
 -- items whose values are those of the document, in some order, with the document last
 pub IsListed-push : (d : Document) (xs : List (Opened ℕ)) (x : Opened ℕ) → AreBuilt (xs ++ x ∷ []) → IsDocument d → IsPermutation (nodes d) (values (xs ++ x ∷ [])) → value_behind (values xs) x ≡ d
-    → IsListed d (xs ++ x ∷ [])
-IsListed-push d xs x built is each last =
+    → IsPermutation (flat_map numbers_in (xs ++ x ∷ [])) (range_with_len 0 (length xs)) → IsListed d (xs ++ x ∷ [])
+IsListed-push d xs x built is each last once =
     let all = xs ++ x ∷ [] in
     let count : length all ≡ suc (inside d) = omega (arith, length-values all, length_permutation (nodes d) (values all) each, length-nodes d) in
     let place : length xs ≡ inside d = omega (arith, count, length-append xs (x ∷ [])) in record {
@@ -195,4 +195,5 @@ IsListed-push d xs x built is each last =
       count = count;
       last = slice_get-get_or (values all) (inside d) null (omega (arith, count, length-values all)) ∙ ap Some (ap (node_at (values all)) (sym place) ∙ node_at-values-push xs x ∙ last);
       each = each;
+      once = subst (λ n. IsPermutation (flat_map numbers_in all) (range_with_len 0 n)) place once;
     }

@@ -1,10 +1,12 @@
 -- Look-up by halving among entries whose keys ascend.
-use Rattle.std.proofs.Common.{◌≡◌, ℕ, zero, suc, ◌+◌, ◌<◌, false, if◌then◌else◌, List, [], ◌∷◌, length, get_or, map, Some, None, Bor, Ordering, Less, Equal, Greater, nat_cmp, bytes_eq, refl, sym, ap, ◌∙◌, subst, arith}
+use Rattle.std.proofs.Common.{◌≡◌, ℕ, zero, suc, ◌+◌, ◌<◌, true, false, if◌then◌else◌, List, [], ◌∷◌, length, get_or, map, Some, None, Bor, Ordering, Less, Equal, Greater, nat_cmp, bytes_eq, refl, sym, ap, ◌∙◌, subst, arith}
 use Rattle.std.specs.Cmp.Lexicographic.{slice_cmp, texts_ties, nat_list_eq_equiv}
 use Rattle.std.specs.List.{AllWithin, AllByRecursion as Each}
 use Rattle.std.specs.List.Sorted.{IsSortedBy, IsNonDecreasingBy}
 use Rattle.std.specs.Ordering.{is_lt, is_eq, ordering_index, ordering_reverse}
+use Rattle.std.proofs.lemmas.Bool.{false≢true}
 use Rattle.std.proofs.lemmas.Cmp.{nat_list_cmp_total, alike_right}
+use Rattle.std.proofs.lemmas.Map.Text.{is_eq-slice_cmp}
 use Rattle.std.proofs.lemmas.List.Sorted.{searchable_from_sorted}
 use Rattle.cs_document.specs.Document.{Entry, under}
 use Rattle.cs_document.specs.Inside.{KeysAscend}
@@ -59,3 +61,13 @@ missed k (x ∷ es) zero less more =
 missed k (x ∷ es) (suc i) less more =
     missed k es i (λ j d a b. less (suc j) d (omega arith) (omega arith)) (λ j d a b. more (suc j) d (omega arith) (omega arith))
     ∙ sym (passed k x es (ap is_eq (less 0 x (omega arith) (omega arith))))
+
+-- ---- what is found without it
+
+equal_from : (o : Ordering) → is_eq o ≡ true → o ≡ Equal
+equal_from Equal e = refl
+equal_from Less e = absurd (false≢true e)
+equal_from Greater e = absurd (false≢true e)
+
+pub hit : (k : List ℕ) (es : List Pair) (i : ℕ) (d : Pair) → KeysAscend (map entry_of es) → i < length es → bytes_eq (get_or es i d).0.now k ≡ true → Some (get_or es i d).1 ≡ under k (map entry_of es)
+hit k es i d up l e = found k es i d up l (equal_from _ (is_eq-slice_cmp (get_or es i d).0.now k ∙ e))

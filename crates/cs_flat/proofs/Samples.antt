@@ -169,6 +169,7 @@ members_listed = record {
   count = refl;
   last = refl;
   each = record { moves = (0, 1) ∷ []; below = search rules; is = refl };
+  once = record { moves = (0, 1) ∷ []; below = search rules; is = refl };
 }
 
 -- the last item isn't the document
@@ -178,6 +179,10 @@ document_in_the_middle h = let e = h.last in cc
 -- one value stands for two that are equal
 one_for_two : IsListed ones (an_integer (pos 1) ∷ a_list (0 ∷ 0 ∷ []) ∷ []) → ⊥
 one_for_two h = let e = h.count in omega (arith, e)
+
+-- one number names two that are equal, and none the other
+one_named_for_two : IsListed ones (an_integer (pos 1) ∷ an_integer (pos 1) ∷ a_list (0 ∷ 0 ∷ []) ∷ []) → ⊥
+one_named_for_two h = let e = sum_by-IsPermutation (λ n. n) _ _ h.once in omega (arith, e)
 
 -- a value that isn't in the document, in place of one that is
 other_value : IsListed ones (an_integer (pos 1) ∷ an_integer (pos 2) ∷ a_list (0 ∷ 0 ∷ []) ∷ []) → ⊥

@@ -11,7 +11,7 @@ mod packed;
 mod set;
 
 pub use builder::Builder;
-pub use entries::number_under;
+pub use entries::{next_under, number_under};
 pub use flat::{Flat, Item};
 pub use flattening::flatten;
 pub use names::Names;

@@ -1,5 +1,5 @@
 // Texts that are asked for together.
-use crate::number_under;
+use crate::next_under;
 use std::alloc::{AllocError, Global};
 use std::marker::Model;
 
@@ -49,8 +49,9 @@ impl<'a> Names<'a> {
         requires { KeysAscend (map entry_of entries.now) }
         ensures { result ≡ list_all (λ k. is_some (under k (map entry_of entries.now))) self.now }
     {
+        let mut next = 0;
         for name in &self.sorted {
-            if number_under(entries, name).is_none() {
+            if next_under(entries, name, &mut next).is_none() {
                 return false;
             }
         }

@@ -35,11 +35,25 @@ impl<'a> Fields<'a> {
         Ok(Fields { all, labels, every })
     }
 
-    /// Whether some declaration allows a key: that of its label, or `[string]`.
-    pub(crate) fn allow(&self, key: &str) -> bool
+    /// Whether some declaration allows a key: that of its label, or `[string]`. The label is looked for at the next place
+    /// first, where keys that are asked for in their order mostly have it.
+    pub(crate) fn allow(&self, key: &str, next: &mut usize) -> bool
         ensures { result ≡ list_any (λ d. allows d key.now) (map field_of self.now.all.items) }
     {
-        self.every || self.labels.binary_search(&key).is_ok()
+        if self.every {
+            return true;
+        }
+        if *next < self.labels.len() && key == self.labels[*next] {
+            *next += 1;
+            return true;
+        }
+        match self.labels.binary_search(&key) {
+            Ok(place) => {
+                *next = place + 1;
+                true
+            }
+            Err(_) => false,
+        }
     }
 }
 

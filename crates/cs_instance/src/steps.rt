@@ -30,8 +30,9 @@ fn are_allowed(fields: &Fields<'_>, members: &[(&str, usize)]) -> bool
     ensures { result ≡ list_all (λ (m : Entry ℕ). list_any (λ d. constraint.allows d m.0)
         (map field_of fields.now.all.items)) (map entry_of members.now) }
 {
+    let mut next = 0;
     for (key, _value) in members {
-        if !fields.allow(key) {
+        if !fields.allow(key, &mut next) {
             return false;
         }
     }

@@ -1,6 +1,6 @@
 // The items of a document, through the calls of `cs_doc` and `cs_flat`.
 use cs_doc::{Doc, DocFault, Flat, Item, flatten, read_doc};
-use cs_flat::{DocSet, Names, number_under};
+use cs_flat::{DocSet, Names, next_under, number_under};
 use std::alloc::Global;
 use std::test::Fail;
 
@@ -46,6 +46,48 @@ fn all_have(flat: &Flat<'_>, key: &str, number: Option<usize>) -> bool {
         }
     }
     found
+}
+
+/// Whether the keys have these numbers, when they are looked for one after another, beginning at a place.
+fn have_in_turn(entries: &[(&str, usize)], start: usize, wanted: &[(&str, Option<usize>)]) -> bool {
+    let mut next = start;
+    for (key, number) in wanted {
+        if next_under(entries, key, &mut next) != *number {
+            return false;
+        }
+    }
+    true
+}
+
+#[test]
+fn keys_are_looked_up_in_turn(rt: HostRuntime) {
+    let entries = [("", 7), ("b", 2), ("c", 5), ("d", 0)];
+    let in_order = [
+        ("", Some(7)),
+        ("b", Some(2)),
+        ("c", Some(5)),
+        ("d", Some(0)),
+        ("e", None),
+    ];
+    let with_others = [
+        ("", Some(7)),
+        ("a", None),
+        ("c", Some(5)),
+        ("cc", None),
+        ("d", Some(0)),
+    ];
+    let backwards = [
+        ("d", Some(0)),
+        ("c", Some(5)),
+        ("b", Some(2)),
+        ("", Some(7)),
+        ("d", Some(0)),
+    ];
+    for start in [0, 1, 3, 4, 9] {
+        assert!(rt; have_in_turn(&entries, start, &in_order));
+        assert!(rt; have_in_turn(&entries, start, &with_others));
+        assert!(rt; have_in_turn(&entries, start, &backwards));
+    }
 }
 
 #[test]

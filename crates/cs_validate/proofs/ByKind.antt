@@ -13,7 +13,7 @@ use Rattle.cs_rules.specs.Kinds.{both, either, decided_by, verdict_of, AreDecide
 use Rattle.cs_rules.specs.declared.by_kind.ByKind.{ByKind}
 use Rattle.cs_rules.proofs.Foretold.{both_decides, either_decides, negated_decides}
 use Rattle.cs_validate.specs.declared.rules.Conjunction.{Conjunction}
-use Rattle.cs_validate.specs.Asked.{asks_type, asks_any, asks_reference, asks_alternative, asks_here, asks_integer, asks_list, asks_map, asks_kind}
+use Rattle.cs_validate.specs.Asked.{asks_type, asks_any, asks_reference, asks_alternative, asks_integer, asks_list, asks_map, asks_kind}
 use Rattle.cs_validate.specs.Kinds.{if_asked, equals_by_kind, among_by_kind, any_by_kind, reference_by_kind, negation_by_kind}
 
 -- the map without members has no key

@@ -1,5 +1,5 @@
 -- Definitions numbered by rank.
-use Rattle.std.proofs.Common.{◌≡◌, ℕ, zero, suc, ◌+◌, ◌<◌, ◌≤◌, ◌⊎◌, inl, inr, Bool, true, false, List, [], ◌∷◌, ◌++◌, Option, Some, None, option_map, map, length, take, get_or, String, Global, string_bytes, string_cmp, nat_cmp, bytes_eq, is_eq, Less, refl, sym, ap, ◌∙◌, subst, append-nil, arith, if◌then◌else◌, IsTrue}
+use Rattle.std.proofs.Common.{◌≡◌, ℕ, zero, suc, ◌+◌, ◌<◌, ◌≤◌, ◌⊎◌, inl, inr, Bool, true, false, List, [], ◌∷◌, ◌++◌, Option, Some, None, option_map, map, length, take, get_or, String, Global, string_bytes, string_cmp, nat_cmp, bytes_eq, is_eq, Less, refl, sym, ap, ◌∙◌, subst, arith, if◌then◌else◌, IsTrue}
 use Rattle.std.specs.Prelude.{option_to_list, Contains}
 use Rattle.std.specs.Cmp.Lexicographic.{slice_cmp}
 use Rattle.std.specs.List.{All, flat_map, list_any, AllByRecursion as Each}

@@ -1,5 +1,5 @@
 -- What the keywords of an object ask of a value, by what it is. A keyword that is absent asks nothing.
-use Rattle.std.specs.Prelude.{◌≡◌, ℕ, ◌<◌, ℤ, pos, IfSome, option_to_list, Option, None, Some, if◌then◌else◌, Bool, true, false, not, ◌&&◌, ◌||◌, List, String, length, drop, is_some, nat_le, int_lt, int_le}
+use Rattle.std.specs.Prelude.{ℕ, ◌<◌, ℤ, pos, IfSome, option_to_list, Option, Bool, true, false, not, ◌&&◌, ◌||◌, List, String, length, drop, is_some, nat_le, int_lt, int_le}
 use Rattle.std.specs.Option.{option_map_or}
 use Rattle.std.specs.List.{list_all, list_any, AllByRecursion}
 use Rattle.std.specs.Str.{bytes_eq}

@@ -1,6 +1,7 @@
 // What a rule gives for a value, where the verdicts on the rule's parts are known.
-ghost use Rattle.std.specs.Prelude.{◌≡◌, ◌<◌, ◌+◌, ◌^◌, ◌&&◌, not, length, map, drop, option_to_list, IfSome};
-ghost use Rattle.std.specs.List.{list_all};
+ghost use Rattle.std.specs.Prelude.{◌≡◌, ℕ, ◌<◌, ◌+◌, ◌^◌, ◌&&◌, not, true, List, length, map, drop, option_to_list, IfSome, IsTrue, string_bytes};
+ghost use Rattle.std.specs.List.{list_all, list_any};
+ghost use Rattle.std.specs.Str.{bytes_eq};
 ghost use Rattle.cs_document.specs.Inside.{InsideBelow, AscendsInside, KeysAscend};
 ghost use Rattle.cs_flat.specs.Listed.{values};
 ghost use Rattle.cs_flat.specs.Nodes.{node_at};
@@ -11,14 +12,15 @@ ghost use Rattle.cs_profile.specs.Validity.{if_there};
 ghost use Rattle.cs_validate.specs.declared.rules.Rule.TheVariants as rule;
 ghost use Rattle.cs_validate.specs.Numbering.{PartsBelow};
 ghost use Rattle.cs_validate.specs.Steps.{step, asked_of, places_from, one_if};
-ghost use Rattle.cs_validate.specs.Asked.{asks_any, asks_reference, asks_here, asks_front, asks_at, asks_named, asks_other, asks_others, asks_list, asks_map, asks_kind, places_named, AreBelow, EntriesBelow, ReferenceBelow, AreBelowHere, AreBelowInside};
+ghost use Rattle.cs_validate.specs.Asked.{asks_any, asks_reference, asks_here, asks_front, asks_named, asks_other, asks_others, asks_list, asks_map, asks_kind, places_named, AreBelow, EntriesBelow, ReferenceBelow, AreBelowHere, AreBelowInside};
 
 use crate::rules::{Conjunction, Rule};
 use crate::values::{any_holds, integer_holds, length_holds};
-use cs_flat::{Flat, Item, number_under};
+use cs_flat::{Flat, Item, next_under};
 use cs_profile::Schema;
 use cs_rules::Known;
 use std::collections::BTreeMap;
+use std::collections::btree_map::Keys;
 
 // ---- schemas that are asked of the value itself
 
@@ -81,15 +83,13 @@ fn rest_holds(front: usize, part: usize, children: &[usize], known: &Known<'_>) 
     known.each(&children[front..], part)
 }
 
-/// Whether the value under a key, if it is there, is valid by the schema at a place.
-fn property_holds(name: &str, place: usize, members: &[(&str, usize)], known: &Known<'_>) -> bool
-    requires ascends { KeysAscend (map entry_of members.now) }
-    requires members { EntriesBelow (value_count known.now) (map entry_of members.now) }
+/// Whether the value under a declared name, if there is one, is valid by the schema at a place.
+fn property_holds(value: Option<usize>, place: usize, known: &Known<'_>) -> bool
+    requires value { IfSome value (λ y. y < value_count known.now) }
     requires place { place < place_count known.now }
-    ensures { result ≡ asks_at (verdict_inside known.now) (map entry_of members.now)
-        name.now place }
+    ensures { result ≡ if_there (λ y. verdict_inside known.now y place) value }
 {
-    match number_under(members, name) {
+    match value {
         Some(child) => known.inside(child, place),
         None => true,
     }
@@ -110,13 +110,30 @@ fn properties_hold(
         (places_named first properties.now.entries) }
 {
     let mut place = first;
+    let mut next = 0;
     for name in properties.keys() {
-        if !property_holds(name, place, members, known) {
+        let value = next_under(members, name, &mut next);
+        if !property_holds(value, place, known) {
             return false;
         }
         place += 1;
     }
     true
+}
+
+/// Whether a key is the first of the names that isn't below it in byte order. The names up to that one are taken.
+fn take_name(names: &mut Keys<'_, String, Schema>, key: &str) -> bool
+    ensures found { IsTrue result
+        → list_any (bytes_eq key.now) (map string_bytes names.old) ≡ true }
+    ensures left { (k : List ℕ) → list_any (bytes_eq k) (map string_bytes names.new) ≡ true
+        → list_any (bytes_eq k) (map string_bytes names.old) ≡ true }
+{
+    while let Some(name) = names.next() {
+        if name.as_str() >= key {
+            return key == name.as_str();
+        }
+    }
+    false
 }
 
 /// Whether a member's key is a declared name, or its value is valid by the schema at a place.
@@ -136,7 +153,7 @@ fn other_holds(
 }
 
 /// Whether each value whose key is no declared name is valid by the schema at a place (Core, section
-/// 10.3.2.3).
+/// 10.3.2.3). Both keys and names are in byte order, so a declared key is mostly the next name.
 fn others_hold(
     properties: &BTreeMap<String, Schema>,
     part: usize,
@@ -148,8 +165,9 @@ fn others_hold(
     ensures { result ≡ asks_others (verdict_inside known.now) (names_in properties.now.entries)
         part (map entry_of members.now) }
 {
+    let mut names = properties.keys();
     for member in members {
-        if !other_holds(properties, member, part, known) {
+        if !take_name(&mut names, member.0) && !other_holds(properties, member, part, known) {
             return false;
         }
     }

@@ -1,6 +1,5 @@
-use Rattle.std.proofs.Common.{sym, ap, ◌∙◌}
+use Rattle.std.proofs.Common.{sym, ◌∙◌}
 use Rattle.std.proofs.Math.Bool.{and_assoc}
-use Rattle.cs_rules.specs.Kinds.{verdict_of}
 use Rattle.cs_validate.specs.Asked.{asks_any, asks_here, asks_kind}
 use Rattle.cs_validate.proofs.Asked.{claims_hold}
 use Rattle.cs_validate.proofs.ByKind.{and_decides, as_equal, any_decides}

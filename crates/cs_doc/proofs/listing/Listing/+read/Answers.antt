@@ -24,7 +24,7 @@ read-returns-in_ok-text-in-String-clause-read t c =
     let s = c.in-String.text.now in
     let first : c.args.self.now.reader ≡ token_of c.in_ok-token.token ∷ c.next.new.self = grind arith in
     let is : c.args.self.now.reader ≡ Token.string s ∷ c.next.new.self = grind (arith, first) in
-    AddsRead-one _ _ c.args.self.now.items _ _ (a_text s) (json_value.string s) (text s) tt tt tt refl refl (ap (converted of_json) (ap (value c.args.depth) is ∙ value_is c.args.depth _)) refl
+    AddsRead-one _ _ c.args.self.now.items _ _ (a_text s) (json_value.string s) (text s) tt tt tt refl refl refl (ap (converted of_json) (ap (value c.args.depth) is ∙ value_is c.args.depth _)) refl
     c.in_ok-text-in-String.ensures
 
 pub read-returns-in_ok-integer-in-Some-clause-read : goal.read-returns-in_ok-integer-in-Some-clause-read
@@ -36,7 +36,7 @@ read-returns-in_ok-integer-in-Some-clause-read t c =
     let fits : FitsSigned w64 z = search rules in
     let n = number_in (number_of c.in-Number.text.now) z c.in-Some.ensures in
     let pushed = c.in_ok-integer-in-Some.ensures in
-    AddsRead-one _ _ c.args.self.now.items _ _ (an_integer z) (json_value.number n.0) (integer z) tt tt fits refl refl
+    AddsRead-one _ _ c.args.self.now.items _ _ (an_integer z) (json_value.number n.0) (integer z) tt tt fits refl refl refl
     (ap (converted of_json) (ap (value c.args.depth) is ∙ value_is c.args.depth _) ∙ ap (λ o. option_map (λ d. (d, c.next.new.self)) (option_map json_value.number o)) n.1)
     (ap (option_map integer) n.2) (pushed.0, pushed.1 ∙ ap (λ i. c.args.self.now.items ++ an_integer i ∷ []) back)
 
@@ -45,14 +45,14 @@ read-returns-in_ok-boolean-in-Bool-clause-read t c =
     let b = c.in-Bool.value in
     let first : c.args.self.now.reader ≡ token_of c.in_ok-token.token ∷ c.next.new.self = grind arith in
     let is : c.args.self.now.reader ≡ Token.boolean b ∷ c.next.new.self = grind (arith, first) in
-    AddsRead-one _ _ c.args.self.now.items _ _ (a_boolean b) (json_value.boolean b) (boolean b) tt tt tt refl refl (ap (converted of_json) (ap (value c.args.depth) is ∙ value_is c.args.depth _)) refl
+    AddsRead-one _ _ c.args.self.now.items _ _ (a_boolean b) (json_value.boolean b) (boolean b) tt tt tt refl refl refl (ap (converted of_json) (ap (value c.args.depth) is ∙ value_is c.args.depth _)) refl
     c.in_ok-boolean-in-Bool.ensures
 
 pub read-returns-in_ok-null-in-Null-clause-read : goal.read-returns-in_ok-null-in-Null-clause-read
 read-returns-in_ok-null-in-Null-clause-read t c =
     let first : c.args.self.now.reader ≡ token_of c.in_ok-token.token ∷ c.next.new.self = grind arith in
     let is : c.args.self.now.reader ≡ Token.null ∷ c.next.new.self = grind (arith, first) in
-    AddsRead-one _ _ c.args.self.now.items _ _ a_null json_value.null null tt tt tt refl refl (ap (converted of_json) (ap (value c.args.depth) is ∙ value_is c.args.depth _)) refl
+    AddsRead-one _ _ c.args.self.now.items _ _ a_null json_value.null null tt tt tt refl refl refl (ap (converted of_json) (ap (value c.args.depth) is ∙ value_is c.args.depth _)) refl
     c.in_ok-null-in-Null.ensures
 
 -- ---- lists and maps

@@ -18,7 +18,7 @@ pub returns-then-is_none : goal.returns-then-is_none
 returns-then-is_none c =
     let p : List ℕ → Bool = λ k. is_some (under k (map entry_of c.args.entries.now)) in
     let names = c.deref-name-items.result.now in
-    let missed = list_all_at (λ t. p (text_of t)) names c.loop-name.name-index _ c.loop-name-test.true (ap is_some (sym c.number_under.ensures) ∙ c.if-is_none.ensures) in
+    let missed = list_all_at (λ t. p (text_of t)) names c.loop-name.name-index _ c.loop-name-test.true (ap is_some (sym c.next_under.ensures) ∙ c.if-is_none.ensures) in
     sym missed ∙ in_order p (map string_bytes c.self.inside.texts.now) c.args.self.now c.self.inside.sorted.items names c.self.invariant c.self.view_is c.deref-name-items.ensures.value
 
 pub returns : goal.returns
