@@ -1,0 +1,19 @@
+use Rattle.std.proofs.Common.{◌<◌, ◌≤◌, ⊎_elim, length, false, sym, ◌∙◌, arith}
+use Rattle.std.proofs.lemmas.Bool.{cases_lt}
+use Rattle.std.proofs.lemmas.List.{get_or_default}
+use Rattle.cs_reasons.proofs.Marked.{unflagged, beyond_rules}
+use Rattle.cs_reasons.proofs.marks.Marks.first_rule.Goals as goal
+
+pub returns : goal.returns
+returns c = λ q l.
+    let m = c.args.self.now in
+    ⊎_elim
+    (λ (h : q < c.loop-rule.rule). c.loop-rule.invariant q l h)
+    (λ (h : c.loop-rule.rule ≤ q). beyond_rules m c.args.item q (omega arith))
+    (cases_lt q c.loop-rule.rule)
+
+pub returns-then-not-index : goal.returns-then-not-index
+returns-then-not-index c = λ q l.
+    let m = c.args.self.now in
+    let there : c.args.item < length m.any.items = omega (arith, m.flags, c.requires.item) in
+    unflagged m c.args.item q (sym (get_or_default m.any.items c.args.item c.index.result.now false there) ∙ sym c.index.ensures ∙ c.if-not-index.true)
