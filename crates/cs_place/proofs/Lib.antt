@@ -1,0 +1,3 @@
+-- What the proofs of this crate show: how lines and columns go on.
+pub mod Lines
+mod Samples

@@ -1,0 +1,2 @@
+-- Lines and columns of texts.
+pub mod Positions
