@@ -5,6 +5,12 @@ pub mod Numbering
 pub mod Rules
 pub mod Judging
 pub mod Refusal
+pub mod Causes
+pub mod Why
+pub mod NumberedCauses
+pub mod SeenCauses
+pub mod WhyTold
+pub mod Meanings
 pub mod Earlier
 -- for contracts of private functions and proofs alone
 pub mod Steps
@@ -17,3 +23,6 @@ pub mod Placing
 pub mod Ranked
 pub mod Rooted
 pub mod Faults
+pub mod Led
+pub mod CauseLists
+pub mod Leads

@@ -6,7 +6,7 @@ use Rattle.cs_rules.specs.Steps.{Step}
 use Rattle.cs_package.specs.Expression.{Expression, atom, kind, range, Declaration}
 use Rattle.cs_package.specs.View.{expression_of, mark_of}
 use Rattle.cs_instance.specs.Constraint.{Rest, nothing, anything, each, Outline, Constraint, simple, all_of, any_of, object_of, list_of, is_of_kind, is_integer, is_within, admits, is_satisfied}
-use Rattle.cs_instance.specs.Numbering.{map_constraint}
+use Rattle.cs_instance.specs.Numbering.{map_declaration, map_constraint}
 use Rattle.cs_instance.specs.declared.rules.Rule.{Rule}
 use Rattle.cs_instance.specs.declared.rules.Rule.TheVariants as rule
 use Rattle.cs_instance.specs.declared.rules.Field.{Field}
@@ -39,6 +39,12 @@ asked_of (rule.List v end) = list_of v.items (ending_of end)
 -- the same, with the numbers that are in that list
 abbrev pub numbered : List ℕ → Rule → Constraint ℕ ℕ
 numbered inner r = map_constraint (λ k. k) (slice_index inner) (asked_of r)
+
+abbrev pub numbered_field : List ℕ → Field → Declaration ℕ
+numbered_field inner f = map_declaration (slice_index inner) (field_of f)
+
+abbrev pub numbered_fields : List ℕ → List Field → List (Declaration ℕ)
+numbered_fields inner fs = map (map_declaration (slice_index inner)) (map field_of fs)
 
 -- the verdict on a value, by those on the parts
 abbrev pub step : Rule → Step

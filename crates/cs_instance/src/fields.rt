@@ -35,6 +35,16 @@ impl<'a> Fields<'a> {
         Ok(Fields { all, labels, every })
     }
 
+    /// A declaration that asks for a key, if there is one: that of the key as its label.
+    pub(crate) fn asking_for(&self, key: &str) -> Option<&Field<'a>> {
+        for field in &self.all {
+            if field.label == key && is_asked_for(field.mark) {
+                return Some(field);
+            }
+        }
+        None
+    }
+
     /// Whether some declaration allows a key: that of its label, or `[string]`. The label is looked for at the next place
     /// first, where keys that are asked for in their order mostly have it.
     pub(crate) fn allow(&self, key: &str, next: &mut usize) -> bool
@@ -68,6 +78,13 @@ pub(crate) fn is_for_every_key(mark: FieldMark) -> bool
     match mark {
         FieldMark::Every { .. } => true,
         FieldMark::Regular | FieldMark::Optional | FieldMark::Required => false,
+    }
+}
+
+fn is_asked_for(mark: FieldMark) -> bool {
+    match mark {
+        FieldMark::Regular | FieldMark::Required => true,
+        FieldMark::Optional | FieldMark::Every { .. } => false,
     }
 }
 

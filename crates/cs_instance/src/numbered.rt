@@ -56,12 +56,12 @@ pub(crate) fn numbered_root<'a>(
 /// their bodies.
 #[derive(Drop)]
 pub struct RootRules<'a> {
-    package: &'a Guarded,
+    pub(crate) package: &'a Guarded,
     /// The root's number among the definitions.
-    root: usize,
-    book: Rulebook<rules::Rule<'a>>,
+    pub(crate) root: usize,
+    pub(crate) book: Rulebook<rules::Rule<'a>>,
     /// The number of the root's rule in the book.
-    number: usize,
+    pub(crate) number: usize,
 }
 
 impl<'a> Model for RootRules<'a> {

@@ -17,7 +17,7 @@ use cs_flat::{Item, number_under};
 use cs_package::FieldMark;
 use cs_rules::Known;
 
-fn may_be_absent(mark: FieldMark) -> bool
+pub(crate) fn may_be_absent(mark: FieldMark) -> bool
     ensures { result ≡ constraint.may_be_absent (mark_of mark) }
 {
     match mark {

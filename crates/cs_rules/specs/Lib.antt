@@ -9,3 +9,4 @@ pub mod Alike
 pub mod Classed
 pub mod Sharing
 pub mod Rows
+pub mod Pointers

@@ -104,7 +104,7 @@ impl<R: Asks> Rulebook<R> {
 
     /// What a value's kind decides, unless the table for it would be too large.
     #[inline]
-    pub(crate) fn decided(&self, flat: &Flat<'_>, item: usize) -> Option<Row<'_>>
+    pub fn decided(&self, flat: &Flat<'_>, item: usize) -> Option<Row<'_>>
         requires { item < length flat.now }
         ensures decided { IfSome result (IsDecided (length self.now.numbering.rules.items)
             (answer R.step self.now.numbering.rules.items self.now.numbering.children.items
