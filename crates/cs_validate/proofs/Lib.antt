@@ -6,6 +6,14 @@
 pub mod Slots
 pub mod Claims
 pub mod Asked
+pub mod CauseLists
+pub mod Once
+pub mod ObjectSome
+pub mod ObjectOnce
+pub mod ObjectComplete
+pub mod ToldCauses
+pub mod ObjectSound
+pub mod Elements
 -- one judgement, and the parts named by numbers
 pub mod Found
 pub mod Satisfied
@@ -28,6 +36,24 @@ pub mod Wholes
 pub mod Verdicts
 -- counts of rules
 pub mod Trimmed
+-- why documents aren't valid
+pub mod Contained
+pub mod Caused
+pub mod Refused
+pub mod Denied
+pub mod Pointed
+pub mod CausesAgree
+pub mod CausesBelow
+pub mod CausesNumbered
+pub mod Chains
+pub mod Whys
+pub mod Tells
+pub mod Settings
+pub mod Parts
+pub mod PlacedNamed
+pub mod KeyedOnce
+pub mod Explained
 -- samples
 mod Samples
 mod RuleRows
+mod WhySamples

@@ -2,16 +2,26 @@
 #![tactic(auto)]
 
 mod by_kind;
+mod cause;
+mod causes;
+mod explaining;
 mod fault;
+mod graph;
 mod judge;
 mod judging;
 mod marks;
+mod naming;
+mod nearness;
 mod numbered;
 mod numbering;
+mod placed_cause;
 mod rules;
 mod steps;
 mod values;
+mod wanting;
 
+pub use cause::ValidCause;
+pub use explaining::{Want, Wanted};
 pub use fault::ValidateFault;
 pub use judge::ValidJudge;
 pub use judging::{is_valid, valid_judge, valid_table, valid_verdict};

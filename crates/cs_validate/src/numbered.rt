@@ -20,10 +20,10 @@ use std::marker::Model;
 /// The rules of a schema document, numbered once for any number of documents.
 #[derive(Drop)]
 pub struct SchemaRules<'a> {
-    schema: &'a SchemaDoc,
-    book: Rulebook<Rule<'a>>,
+    pub(crate) schema: &'a SchemaDoc,
+    pub(crate) book: Rulebook<Rule<'a>>,
     /// The number of the root.
-    root: usize,
+    pub(crate) root: usize,
 }
 
 impl<'a> Model for SchemaRules<'a> {

@@ -1,6 +1,9 @@
 // What schemas ask, by the numbers of their parts.
+ghost use Rattle.std.specs.Prelude.{◌≡◌, map, string_bytes};
+
 use cs_flat::{DocSet, Names};
 use cs_profile::Keywords;
+use cs_rules::Rulebook;
 
 /// What a schema asks of a document. A schema asked of the same document is named by its number, and one asked of a
 /// document inside by its place in a list of such schemas.
@@ -30,4 +33,16 @@ pub struct Conjunction<'a> {
     /// The place of the first schema that is asked of documents inside: those of `additionalProperties`, `items`,
     /// `prefixItems` and `properties` are one after another.
     pub(crate) first: usize,
+    ghost names: { required ≡ map string_bytes keywords.now.required.items },
+}
+
+/// The rules of a schema document.
+pub(crate) type Book<'a> = Rulebook<Rule<'a>>;
+
+/// What the rule at a place asks, if it is one of an object.
+pub(crate) fn conjunction_at<'a>(book: &'a Book<'_>, rule: usize) -> Option<&'a Conjunction<'a>> {
+    match book.numbering.rules.get(rule)? {
+        Rule::Truth(_) => None,
+        Rule::Object(conjunction) => Some(conjunction),
+    }
 }

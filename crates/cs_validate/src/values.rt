@@ -29,7 +29,7 @@ fn is_of_kind(kind: JsonKind, value: &Item<'_>) -> bool
 }
 
 /// Whether a value has the kind that `type` names, if it is there.
-fn has_kind(kind: Option<JsonKind>, value: &Item<'_>) -> bool
+pub(crate) fn has_kind(kind: Option<JsonKind>, value: &Item<'_>) -> bool
     ensures { result ≡ asks_type kind (item_view value.now) }
 {
     match kind {
@@ -39,7 +39,7 @@ fn has_kind(kind: Option<JsonKind>, value: &Item<'_>) -> bool
 }
 
 /// Whether a value equals that of `const`, if it is there (Validation, section 6.1.3).
-fn is_equal(value: &Option<Doc>, flat: &Flat<'_>, item: usize) -> bool
+pub(crate) fn is_equal(value: &Option<Doc>, flat: &Flat<'_>, item: usize) -> bool
     requires { item < length flat.now }
     ensures { result ≡ asks_const value.now (node_at (documents_in flat.now) item) }
 {
@@ -50,7 +50,7 @@ fn is_equal(value: &Option<Doc>, flat: &Flat<'_>, item: usize) -> bool
 }
 
 /// Whether a value is one of those of `enum`, if it is there (Validation, section 6.1.2).
-fn is_listed(values: &Option<DocSet<'_>>, flat: &Flat<'_>, item: usize) -> bool
+pub(crate) fn is_listed(values: &Option<DocSet<'_>>, flat: &Flat<'_>, item: usize) -> bool
     requires { item < length flat.now }
     ensures { result ≡ asks_enum values.now (node_at (documents_in flat.now) item) }
 {

@@ -1,0 +1,116 @@
+use Rattle.std.proofs.Common.{◌≡◌, ◌<◌, ◌-◌, Bool, true, false, length, sym, ap, ap₂, ◌∙◌, subst, arith}
+use Rattle.std.proofs.lemmas.Option.{slice_get_within, get_or_from_slice_get}
+use Rattle.std.proofs.lemmas.Result.{err_from_is_err_and}
+use Rattle.cs_document.specs.Document.{Document, boolean}
+use Rattle.cs_flat.specs.Items.{inside}
+use Rattle.cs_flat.specs.Listed.{values, document_in}
+use Rattle.cs_flat.specs.Nodes.{node_at}
+use Rattle.cs_profile.specs.SchemaDocument.{document_of}
+use Rattle.cs_profile.specs.Validity.{IsValidity}
+use Rattle.cs_rules.specs.declared.book.Numbering.{Numbering}
+use Rattle.cs_validate.specs.Rules.{HasManyPairs}
+use Rattle.cs_validate.specs.Faults.{fault_of}
+use Rattle.cs_table.specs.Judged.{verdicts}
+use Rattle.cs_validate.specs.Refusal.{IsRefusal}
+use Rattle.cs_validate.specs.WhyTold.{IsToldWhy}
+use Rattle.cs_validate.proofs.Explained.{table_over, explained}
+use Rattle.cs_validate.proofs.Verdicts.{judge_over, is_table, few_pairs, refused}
+use Rattle.cs_validate.proofs.numbered.SchemaRules.explained.Goals as goal
+
+pub get-requires-clause-rule : goal.get-requires-clause-rule
+get-requires-clause-rule c =
+    let s = c.self.inside in
+    let R = document_of s.schema.now in
+    let judge = judge_over R c.args.flat.now _ s.root _ _ _ _ c.over.ensures.flat (ap (λ (u : Numbering _ _). u.rules.items) c.over.ensures.book) (ap (λ (u : Numbering _ _). u.children.items) c.over.ensures.book) c.self.invariant in
+    let e = c.in_ok-refill.ensures in
+    let t = is_table R c.args.flat.now s.root _ _ _ judge c.len-last.ensures.items c.len-last.ensures.whole c.refill.new.done e.items e.rules e.count e.unique in
+    let within = slice_get_within t.all s.root R t.found in
+    omega (arith, within, t.rule_count)
+
+pub returns-then-get-clause-answer : goal.returns-then-get-clause-answer
+returns-then-get-clause-answer c =
+    let s = c.self.inside in
+    let R = document_of s.schema.now in
+    let xs = c.args.flat.now in
+    let judge = judge_over R xs _ s.root _ _ _ _ c.over.ensures.flat (ap (λ (u : Numbering _ _). u.rules.items) c.over.ensures.book) (ap (λ (u : Numbering _ _). u.children.items) c.over.ensures.book) c.self.invariant in
+    let e = c.in_ok-refill.ensures in
+    let t = is_table R xs s.root _ _ _ judge c.len-last.ensures.items c.len-last.ensures.whole c.refill.new.done e.items e.rules e.count e.unique in
+    let within = slice_get_within t.all s.root R t.found in
+    let last = c.len-last.result - 1 in
+    let is : last ≡ inside (document_in xs) = omega (arith, c.len-last.ensures.count, c.len-last.ensures.inside) in
+    let below : last < length xs = omega (arith, c.len-last.ensures.count, c.len-last.ensures.inside) in
+    let same : node_at (values xs) last ≡ document_in xs = ap (node_at (values xs)) is ∙ c.len-last.ensures.last in
+    subst (λ (D : Document). (V : Document → Document → Bool) → IsValidity D V → true ≡ V D (document_in xs)) c.self.view_is
+    (λ V h. sym c.if-get.true ∙ c.get.ensures ∙ t.verdict V h last s.root below within ∙ ap₂ V (get_or_from_slice_get t.all s.root R (boolean false) t.found) same)
+
+pub returns-then-get-clause-within : goal.returns-then-get-clause-within
+returns-then-get-clause-within c =
+    let s = c.self.inside in
+    let R = document_of s.schema.now in
+    let judge = judge_over R c.args.flat.now _ s.root _ _ _ _ c.over.ensures.flat (ap (λ (u : Numbering _ _). u.rules.items) c.over.ensures.book) (ap (λ (u : Numbering _ _). u.children.items) c.over.ensures.book) c.self.invariant in
+    subst (λ (D : Document). HasManyPairs D (document_in c.args.flat.now) → ⊥) c.self.view_is
+    (few_pairs R c.args.flat.now s.root _ _ _ judge c.len-last.ensures.items c.len-last.ensures.whole c.in_ok-refill.ensures.within)
+
+pub returns-clause-answer : goal.returns-clause-answer
+returns-clause-answer c =
+    let s = c.self.inside in
+    let R = document_of s.schema.now in
+    let xs = c.args.flat.now in
+    let judge = judge_over R xs _ s.root _ _ _ _ c.over.ensures.flat (ap (λ (u : Numbering _ _). u.rules.items) c.over.ensures.book) (ap (λ (u : Numbering _ _). u.children.items) c.over.ensures.book) c.self.invariant in
+    let e = c.in_ok-refill.ensures in
+    let t = is_table R xs s.root _ _ _ judge c.len-last.ensures.items c.len-last.ensures.whole c.refill.new.done e.items e.rules e.count e.unique in
+    let within = slice_get_within t.all s.root R t.found in
+    let last = c.len-last.result - 1 in
+    let is : last ≡ inside (document_in xs) = omega (arith, c.len-last.ensures.count, c.len-last.ensures.inside) in
+    let below : last < length xs = omega (arith, c.len-last.ensures.count, c.len-last.ensures.inside) in
+    let same : node_at (values xs) last ≡ document_in xs = ap (node_at (values xs)) is ∙ c.len-last.ensures.last in
+    subst (λ (D : Document). (V : Document → Document → Bool) → IsValidity D V → false ≡ V D (document_in xs)) c.self.view_is
+    (λ V h. sym c.if-get.false ∙ c.get.ensures ∙ t.verdict V h last s.root below within ∙ ap₂ V (get_or_from_slice_get t.all s.root R (boolean false) t.found) same)
+
+pub returns-clause-within : goal.returns-clause-within
+returns-clause-within c =
+    let s = c.self.inside in
+    let R = document_of s.schema.now in
+    let judge = judge_over R c.args.flat.now _ s.root _ _ _ _ c.over.ensures.flat (ap (λ (u : Numbering _ _). u.rules.items) c.over.ensures.book) (ap (λ (u : Numbering _ _). u.children.items) c.over.ensures.book) c.self.invariant in
+    subst (λ (D : Document). HasManyPairs D (document_in c.args.flat.now) → ⊥) c.self.view_is
+    (few_pairs R c.args.flat.now s.root _ _ _ judge c.len-last.ensures.items c.len-last.ensures.whole c.in_ok-refill.ensures.within)
+
+pub told-requires : goal.told-requires
+told-requires c =
+    let s = c.self.inside in
+    let R = document_of s.schema.now in
+    let judge = judge_over R c.args.flat.now _ s.root _ _ _ _ c.over.ensures.flat (ap (λ (u : Numbering _ _). u.rules.items) c.over.ensures.book) (ap (λ (u : Numbering _ _). u.children.items) c.over.ensures.book) c.self.invariant in
+    let e = c.in_ok-refill.ensures in
+    let t = is_table R c.args.flat.now s.root _ _ _ judge c.len-last.ensures.items c.len-last.ensures.whole c.refill.new.done e.items e.rules e.count e.unique in
+    let within = slice_get_within t.all s.root R t.found in
+    let rules : c.refill.new.done.rules ≡ length s.book.numbering.rules.items = e.rules ∙ ap (λ (u : Numbering _ _). length u.rules.items) c.over.ensures.book in
+    record {
+      item = omega (arith, c.len-last.ensures.count, c.len-last.ensures.inside);
+      rule = omega (arith, within, t.rule_count, rules);
+      refused = sym c.get.ensures ∙ c.if-get.false;
+    }
+
+pub returns-clause-why : goal.returns-clause-why
+returns-clause-why c =
+    let s = c.self.inside in
+    let R = document_of s.schema.now in
+    let xs = c.args.flat.now in
+    let l = c.len-last.ensures in
+    let f = verdicts c.refill.new.done in
+    let only = table_over f c.over.result.flat.now xs _ s.book.numbering.rules.items _ s.book.numbering.children.items c.over.ensures.flat (ap (λ (u : Numbering _ _). u.rules.items) c.over.ensures.book) (ap (λ (u : Numbering _ _). u.children.items) c.over.ensures.book) c.in_ok-refill.ensures.unique in
+    let last = c.len-last.result - 1 in
+    let is : last ≡ inside (document_in xs) = omega (arith, l.count, l.inside) in
+    let below : last < length xs = omega (arith, l.count, l.inside) in
+    let same : node_at (values xs) last ≡ document_in xs = ap (node_at (values xs)) is ∙ l.last in
+    subst (λ (D : Document). (V : Document → Document → Bool) → IsValidity D V → IsToldWhy D V xs c.args.telling c.in_ok-named.named) c.self.view_is
+    (λ V h. explained R xs s.root s.book.numbering.rules.items s.book.numbering.children.items c.self.invariant l.items l.whole l.listed.document f only last below same (sym c.get.ensures ∙ c.if-get.false)
+    c.args.telling c.in_ok-reasons.reasons c.in_ok-named.named c.in_ok-named.ensures V h c.in_ok-reasons.ensures)
+
+pub returns-in_err-refill-clause-refused : goal.returns-in_err-refill-clause-refused
+returns-in_err-refill-clause-refused c =
+    let s = c.self.inside in
+    let R = document_of s.schema.now in
+    let judge = judge_over R c.args.flat.now _ s.root _ _ _ _ c.over.ensures.flat (ap (λ (u : Numbering _ _). u.rules.items) c.over.ensures.book) (ap (λ (u : Numbering _ _). u.children.items) c.over.ensures.book) c.self.invariant in
+    let r = refused R c.args.flat.now s.root _ _ _ judge c.len-last.ensures.items c.len-last.ensures.whole in
+    let p = err_from_is_err_and c.from_residual.result c.from_residual.ensures.1 in
+    rw (p.1, p.2) (subst (λ (D : Document). IsRefusal (fault_of c.in_err-refill.field-0.0) D (document_in c.args.flat.now)) c.self.view_is (r c.in_err-refill.field-0.0 c.in_err-refill.ensures.refused))

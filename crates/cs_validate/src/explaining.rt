@@ -1,0 +1,123 @@
+// Why documents aren't valid against schema documents.
+ghost use Rattle.std.specs.Prelude.{◌≡◌, ◌<◌, Bool, false, length, IfOk, IfErr, IfSome, OnOk, is_none};
+ghost use Rattle.cs_document.specs.Document.{Document};
+ghost use Rattle.cs_flat.specs.Listed.{document_in};
+ghost use Rattle.cs_profile.specs.Validity.{IsValidity, OneMeaning};
+ghost use Rattle.cs_table.specs.Judged.{verdicts};
+ghost use Rattle.cs_validate.specs.Rules.{HasManyPairs};
+ghost use Rattle.cs_validate.specs.PlacedTold.{AreReasonsOf};
+ghost use Rattle.cs_validate.specs.Refusal.{IsRefusal};
+ghost use Rattle.cs_validate.specs.WhyTold.{IsToldWhy};
+
+use crate::graph::ValidGraph;
+use crate::naming::Named;
+use crate::numbered::SchemaRules;
+use crate::placed_cause::PlacedCause;
+use crate::wanting::wanted_of;
+use crate::{ValidCause, ValidateFault};
+use cs_document::Doc;
+use cs_flat::Flat;
+use cs_profile::{JsonKind, Keywords, SchemaDoc, one_meaning};
+use cs_reasons::{Reasons, Telling, explain_all, explain_closest};
+use cs_table::{Verdicts, refill};
+use std::alloc::{AllocError, Global};
+
+/// What is asked of a value by itself, or by its kind: for wording.
+#[derive(Clone, Copy, Drop)]
+pub enum Want<'a> {
+    Kind(JsonKind),
+    /// The value of `const`, or one of `enum`.
+    Value(&'a Doc),
+    /// The limits of these keywords.
+    Limits(&'a Keywords),
+}
+
+/// What a value would have to be by the alternatives of a schema, none of which holds.
+#[derive(Drop)]
+pub struct Wanted<'a> {
+    /// The key whose value tells the alternatives apart, with the number of the value under it; none where the value itself
+    /// is of no alternative's kind.
+    pub key: Option<(&'a str, usize)>,
+    /// For each alternative what is asked of that value, all of it together.
+    pub alternatives: Vec<Vec<Want<'a>>>,
+}
+
+/// The reasons of a refused pair: all of them, or where of alternatives the closest one is followed.
+fn told(
+    alloc: Global,
+    graph: &ValidGraph<'_, '_>,
+    item: usize,
+    rule: usize,
+    telling: Telling,
+) -> Result<Reasons<PlacedCause>, AllocError>
+    requires item { item < length graph.now.flat.now }
+    requires rule { rule < length graph.now.book.now.numbering.rules.items }
+    requires refused { verdicts graph.now.table.now item rule ≡ false }
+    ensures { IfOk result (AreReasonsOf graph.now.flat.now
+        graph.now.book.now.numbering.rules.items graph.now.book.now.numbering.children.items
+        (verdicts graph.now.table.now) telling.all item rule telling.most) }
+{
+    if telling.all {
+        explain_all(alloc, graph, item, rule, telling.most)
+    } else {
+        explain_closest(alloc, graph, item, rule, telling.most)
+    }
+}
+
+impl SchemaRules<'_> {
+    /// The schema document.
+    pub fn schema(&self) -> &SchemaDoc {
+        self.schema
+    }
+
+    /// Why a document, as the list of its values, isn't valid against the schema document; `None` where it is (Core, sections
+    /// 4.3 and 7; Validation 2020-12, section 6).
+    ///
+    /// # Errors
+    /// Those of [`SchemaRules::verdict`].
+    pub fn explained<'b>(
+        &'b self,
+        alloc: Global,
+        flat: &'b Flat<'b>,
+        table: &mut Verdicts,
+        telling: Telling,
+    ) -> Result<Option<Reasons<ValidCause<'b>>>, ValidateFault>
+        ensures one_meaning { OneMeaning self.now }
+        ensures answer { IfOk result (λ o. (V : Document → Document → Bool)
+            → IsValidity self.now V → is_none o ≡ V self.now (document_in flat.now)) }
+        ensures within { OnOk result (¬ HasManyPairs self.now (document_in flat.now)) }
+        ensures refused { IfErr result (λ e. IsRefusal e self.now (document_in flat.now)) }
+        ensures why { IfOk result (λ o. (V : Document → Document → Bool)
+            → IsValidity self.now V → IfSome o (IsToldWhy self.now V flat.now telling)) }
+    {
+        one_meaning(self.schema); // for the proof: there is one validity
+        let last = flat.len() - 1; // the document itself
+        refill(&self.book.over(flat), table)?;
+        if table.get(last, self.root) {
+            return Ok(None);
+        }
+        let graph = ValidGraph {
+            book: &self.book,
+            flat: &*flat, // lent for as long as the table
+            table,
+        };
+        let reasons = told(alloc, &graph, last, self.root, telling)?;
+        let names = Named {
+            book: &self.book,
+            flat,
+        };
+        let named = names.reasons(alloc, &reasons)?;
+        Ok(Some(named))
+    }
+
+    /// What a value would have to be by the alternatives of a schema, for the wording of [`ValidCause::NoAlternative`].
+    pub fn wanted<'b>(
+        &'b self,
+        alloc: Global,
+        flat: &'b Flat<'b>,
+        item: usize,
+        rule: usize,
+    ) -> Result<Wanted<'b>, AllocError> {
+        wanted_of(alloc, &self.book, flat, item, rule)
+    }
+}
