@@ -1,0 +1,3 @@
+-- What reports name.
+pub mod Pointer
+pub mod Valid

@@ -1,0 +1,148 @@
+// Reasons in words.
+use crate::Named;
+use crate::text::put_number;
+use cs_place::position_of;
+use std::alloc::{AllocError, Global};
+use std::collections::HashSet;
+
+/// A reason in words, with the place of the value and that of the rule that refuses it.
+#[derive(Drop)]
+pub(crate) struct Entry<'a> {
+    /// The place of the value in the document, or that of the key that isn't allowed (RFC 6901).
+    pub(crate) pointer: String,
+    /// The offset in the document's text.
+    pub(crate) offset: usize,
+    pub(crate) line: usize,
+    pub(crate) column: usize,
+    /// What kind of reason it is, in a word.
+    pub(crate) reason: &'static str,
+    /// What is wrong.
+    pub(crate) text: String,
+    /// The key that is missing, or the one that may have been meant.
+    pub(crate) label: Option<&'a str>,
+    /// The name of the definition that the rule is in; empty in a schema.
+    pub(crate) definition: &'a str,
+    /// The rule: the definition's name and the path from there.
+    pub(crate) rule: String,
+    /// Where the rule is in its text, if it was found.
+    pub(crate) source: Option<SourcePlace<'a>>,
+    /// Which alternative was followed; empty where there is none.
+    pub(crate) alternative: String,
+    /// How many disjunctions are on the way.
+    pub(crate) depth: usize,
+}
+
+/// A place in a source.
+#[derive(Clone, Copy, Drop)]
+pub(crate) struct SourcePlace<'a> {
+    pub(crate) file: &'a str,
+    /// The number of the file.
+    pub(crate) number: usize,
+    pub(crate) offset: usize,
+    pub(crate) line: usize,
+    pub(crate) column: usize,
+}
+
+impl Entry<'_> {
+    /// The place of the rule for the order of entries: by file, then by offset; first where it wasn't found.
+    fn rule_order(&self) -> (usize, usize) {
+        match &self.source {
+            None => (0, 0),
+            Some(place) => (place.number, place.offset),
+        }
+    }
+
+    /// The path in the definition.
+    pub(crate) fn path(&self) -> &str {
+        let rule = self.rule.as_str();
+        let path = rule.strip_prefix(self.definition).unwrap_or(rule);
+        path.strip_prefix('.').unwrap_or(path)
+    }
+}
+
+/// The pointer of what a key is in.
+fn above(pointer: &str) -> &str {
+    match pointer.rsplit_once('/') {
+        None => "",
+        Some((map, _key)) => map,
+    }
+}
+
+/// Leaves out that a key is missing where another one is told to be its misspelling, in the same map and alternative.
+pub(crate) fn without_misspelt<'a>(
+    alloc: Global,
+    entries: Vec<Entry<'a>>,
+) -> Result<Vec<Entry<'a>>, AllocError> {
+    let kept = told_apart(alloc, &entries)?;
+    let mut left = Vec::with_capacity(alloc, entries.len())?;
+    for (entry, is_kept) in entries.into_iter().zip(kept) {
+        if is_kept {
+            left.push(entry)?;
+        }
+    }
+    Ok(left)
+}
+
+/// Which entries aren't told by another one.
+fn told_apart(alloc: Global, entries: &[Entry<'_>]) -> Result<Vec<bool>, AllocError> {
+    let mut meant = HashSet::new(alloc);
+    for entry in entries {
+        if entry.reason == "extra" {
+            let map = above(entry.pointer.as_str());
+            meant.insert((map, entry.label, entry.alternative.as_str()))?;
+        }
+    }
+    let mut kept = Vec::with_capacity(alloc, entries.len())?;
+    for entry in entries {
+        let map = entry.pointer.as_str();
+        let is_missing = entry.reason == "missing" && entry.label.is_some();
+        let is_told = is_missing && meant.contains(&(map, entry.label, entry.alternative.as_str()));
+        kept.push(!is_told)?;
+    }
+    Ok(kept)
+}
+
+/// Sorts entries by the place in the document, then by that of the rule.
+pub(crate) fn sort_entries(entries: &mut Vec<Entry<'_>>) -> Result<(), AllocError> {
+    entries.sort_by_key(|entry| (entry.offset, entry.rule_order()))
+}
+
+/// Gives entries, which are sorted, the lines and columns of their offsets, by one walk over the text.
+pub(crate) fn place_entries(document: Named<'_>, entries: &mut Vec<Entry<'_>>) {
+    let mut from = 0;
+    let mut line = document.line;
+    let mut column = 1usize;
+    for entry in entries.iter_mut() {
+        if from <= entry.offset && entry.offset <= document.text.len() {
+            let step = position_of(&document.text[from..], entry.offset - from);
+            column = if step.line == 1 {
+                column.saturating_add(step.column).saturating_sub(1)
+            } else {
+                step.column
+            };
+            line = line.saturating_add(step.line).saturating_sub(1);
+            from = entry.offset;
+        }
+        entry.line = line;
+        entry.column = column;
+    }
+}
+
+/// Puts which alternative was followed: the one at a place among so many, and how many others were as close.
+pub(crate) fn put_alternative(
+    text: &mut String,
+    place: usize,
+    count: usize,
+    as_close: usize,
+) -> Result<(), AllocError> {
+    text.push_str("alternative ")?;
+    put_number(text, place.saturating_add(1))?;
+    text.push_str(" of ")?;
+    put_number(text, count)?;
+    if as_close > 0 {
+        text.push_str(", ")?;
+        put_number(text, as_close)?;
+        text.push_str(" as close")?;
+    }
+    Ok(())
+}

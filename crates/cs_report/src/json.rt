@@ -1,0 +1,92 @@
+// Reasons as JSON for programs.
+ghost use Rattle.std.specs.Prelude.{◌≡◌, ◌++◌, OnOk, string_bytes};
+ghost use Rattle.cs_report.specs.Valid.{flag_text};
+
+use crate::entry::{Entry, SourcePlace};
+use crate::text::{put_number, put_quoted};
+use std::alloc::AllocError;
+
+/// Puts a member with a string behind others: its key needs no escape.
+pub(crate) fn put_string(text: &mut String, key: &str, value: &str) -> Result<(), AllocError> {
+    text.push_str(",\"")?;
+    text.push_str(key)?;
+    text.push_str("\":")?;
+    put_quoted(text, value)
+}
+
+/// Puts a member with a number behind others: its key needs no escape.
+pub(crate) fn put_count(text: &mut String, key: &str, value: usize) -> Result<(), AllocError> {
+    text.push_str(",\"")?;
+    text.push_str(key)?;
+    text.push_str("\":")?;
+    put_number(text, value)
+}
+
+fn put_source(text: &mut String, place: &SourcePlace<'_>) -> Result<(), AllocError> {
+    put_string(text, "file", place.file)?;
+    put_count(text, "sourceLine", place.line)?;
+    put_count(text, "sourceColumn", place.column)
+}
+
+/// Puts what an entry says of the value.
+pub(crate) fn put_value_members(text: &mut String, entry: &Entry<'_>) -> Result<(), AllocError> {
+    text.push_str("\"valid\":false")?;
+    put_string(text, "instanceLocation", entry.pointer.as_str())?;
+    put_count(text, "line", entry.line)?;
+    put_count(text, "column", entry.column)?;
+    put_string(text, "reason", entry.reason)?;
+    put_string(text, "error", entry.text.as_str())
+}
+
+/// Puts what an entry says of the rule.
+fn put_rule_members(text: &mut String, entry: &Entry<'_>) -> Result<(), AllocError> {
+    if entry.definition.is_empty() {
+        put_string(text, "schemaPath", entry.rule.as_str())?;
+    } else {
+        put_string(text, "definition", entry.definition)?;
+        put_string(text, "path", entry.path())?;
+    }
+    if !entry.alternative.is_empty() {
+        put_string(text, "alternative", entry.alternative.as_str())?;
+    }
+    if let Some(place) = &entry.source {
+        put_source(text, place)?;
+    }
+    Ok(())
+}
+
+fn put_entry(text: &mut String, entry: &Entry<'_>) -> Result<(), AllocError> {
+    text.push('{')?;
+    put_value_members(text, entry)?;
+    put_rule_members(text, entry)?;
+    text.push('}')
+}
+
+/// Puts the object with the reasons, and how many are left out.
+pub(crate) fn put_object(
+    text: &mut String,
+    entries: &[Entry<'_>],
+    more: usize,
+) -> Result<(), AllocError> {
+    text.push_str("{\"valid\":false,\"errors\":[")?;
+    for (place, entry) in entries.iter().enumerate() {
+        if place > 0 {
+            text.push(',')?;
+        }
+        put_entry(text, entry)?;
+    }
+    text.push(']')?;
+    put_count(text, "more", more)?;
+    text.push_str("}\n")
+}
+
+/// Puts the object that says whether the document is valid, and no more (Core, section 12.4.1).
+pub(crate) fn put_flag(text: &mut String, valid: bool) -> Result<(), AllocError>
+    ensures { OnOk result (string_bytes text.new ≡ string_bytes text.old ++ flag_text valid) }
+{
+    if valid {
+        text.push_str("{\"valid\":true}\n")
+    } else {
+        text.push_str("{\"valid\":false}\n")
+    }
+}

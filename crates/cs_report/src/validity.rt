@@ -1,0 +1,141 @@
+// Reports of why documents aren't valid against schema documents.
+ghost use Rattle.std.specs.Prelude.{◌≡◌, ◌++◌, true, false, OnOk, OnErr, is_none, string_bytes};
+ghost use Rattle.cs_report.specs.Valid.{flag_text, valid_text};
+
+mod causes;
+mod finding;
+mod leaves;
+mod targets;
+mod units;
+mod walk;
+mod words;
+
+use crate::entry::{Entry, place_entries, sort_entries, without_misspelt};
+use crate::json::put_object;
+use crate::lines::put_lines;
+use crate::{Form, Named};
+use cs_flat::Flat;
+use cs_place::Place;
+use cs_reasons::{Reasons, Telling};
+use cs_validate::{SchemaRules, ValidCause};
+use finding::Findings;
+use leaves::{Leaf, leaves};
+use std::alloc::{AllocError, Global};
+use targets::Targets;
+use units::{leaf_units, link_units, put_basic, sort_units};
+
+/// As [`crate::report_instance`], of a document that isn't valid against a schema document.
+pub fn report_validity(
+    alloc: Global,
+    form: Form,
+    telling: Telling,
+    rules: &SchemaRules<'_>,
+    document: Named<'_>,
+    flat: &Flat<'_>,
+    reasons: Option<&Reasons<ValidCause<'_>>>,
+    output: &mut Vec<u8>,
+) -> Result<(), AllocError>
+    ensures flag { form ≡ Form.Flag
+        → OnOk result (output.new.items ≡ output.old.items ++ flag_text (is_none reasons.entry)) }
+    ensures valid { is_none reasons.entry ≡ true
+        → OnOk result (output.new.items ≡ output.old.items ++ valid_text form) }
+    ensures kept { OnErr result (output.new.items ≡ output.old.items) }
+{
+    let Some(reasons) = reasons else {
+        return output.extend_from_slice(valid_words(form).as_bytes());
+    };
+    let mut text = String::new(alloc);
+    let findings = Findings { alloc, rules, flat };
+    put_reasons(&mut text, form, telling, findings, document, reasons)?;
+    output.extend_from_slice(text.as_bytes())
+}
+
+/// That a document is valid, and that it isn't (Core, section 12.4.1).
+const VALID: &str = "{\"valid\":true}\n";
+
+const INVALID: &str = "{\"valid\":false}\n";
+
+/// What is told of a document that is valid.
+fn valid_words(form: Form) -> &'static str
+    ensures { result.now ≡ valid_text form }
+{
+    match form {
+        Form::Lines => "",
+        Form::Json | Form::Flag | Form::Basic => VALID,
+    }
+}
+
+fn put_reasons<'t>(
+    text: &mut String,
+    form: Form,
+    telling: Telling,
+    findings: Findings<'t>,
+    document: Named<'_>,
+    reasons: &Reasons<ValidCause<'t>>,
+) -> Result<(), AllocError>
+    ensures { form ≡ Form.Flag
+        → OnOk result (string_bytes text.new ≡ string_bytes text.old ++ flag_text false) }
+{
+    let more = reasons.count.saturating_sub(reasons.told.len());
+    match form {
+        Form::Flag => text.push_str(INVALID),
+        Form::Basic => put_units(text, telling, findings, document, reasons),
+        Form::Lines => {
+            let entries = entries(telling, findings, document, reasons)?;
+            put_lines(text, document, &entries, more)
+        }
+        Form::Json => {
+            let entries = entries(telling, findings, document, reasons)?;
+            put_object(text, &entries, more)
+        }
+    }
+}
+
+/// The reasons in words, in the order of their places.
+fn entries<'t>(
+    telling: Telling,
+    findings: Findings<'t>,
+    document: Named<'_>,
+    reasons: &Reasons<ValidCause<'t>>,
+) -> Result<Vec<Entry<'t>>, AllocError> {
+    let mut targets = Targets::new(findings.alloc, &reasons.links)?;
+    let leaves = leaves(findings, telling, reasons, &mut targets)?;
+    let found = targets.find(findings.alloc, document.text)?;
+    let entries = entries_at(findings.alloc, leaves, &found)?;
+    let mut entries = without_misspelt(findings.alloc, entries)?;
+    sort_entries(&mut entries)?;
+    place_entries(document, &mut entries);
+    Ok(entries)
+}
+
+fn entries_at<'t>(
+    alloc: Global,
+    leaves: Vec<Leaf<'t>>,
+    found: &[Option<Place>],
+) -> Result<Vec<Entry<'t>>, AllocError> {
+    let mut entries = Vec::with_capacity(alloc, leaves.len())?;
+    for leaf in leaves {
+        entries.push(leaf.into_entry(found))?;
+    }
+    Ok(entries)
+}
+
+/// Puts the output format `basic`.
+fn put_units<'t>(
+    text: &mut String,
+    telling: Telling,
+    findings: Findings<'t>,
+    document: Named<'_>,
+    reasons: &Reasons<ValidCause<'t>>,
+) -> Result<(), AllocError> {
+    let alloc = findings.alloc;
+    let mut targets = Targets::new(alloc, &reasons.links)?;
+    let schema = findings.rules.schema();
+    let mut schemas = link_units(alloc, schema, &reasons.links, &mut targets)?;
+    let leaves = leaves(findings, telling, reasons, &mut targets)?;
+    let mut refusals = leaf_units(alloc, leaves)?;
+    let found = targets.find(alloc, document.text)?;
+    sort_units(&mut schemas, &found)?;
+    sort_units(&mut refusals, &found)?;
+    put_basic(text, document, &schemas, &refusals)
+}
