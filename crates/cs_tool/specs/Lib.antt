@@ -14,6 +14,7 @@ pub mod Earlier
 pub mod Streams
 pub mod Runs
 pub mod Judged
+pub mod Explained
 pub mod Prepared
 pub mod Lines
 pub mod Begun

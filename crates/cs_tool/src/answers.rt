@@ -112,7 +112,7 @@ pub fn write_unread<W: Write>(
 }
 
 /// Writes the label, the answer and a newline, and flushes.
-fn write_labelled<W: Write>(
+pub(crate) fn write_labelled<W: Write>(
     answer: &Result<bool, Fault>,
     label: &str,
     output: &mut W,

@@ -10,7 +10,7 @@ use std::alloc::Global;
 
 /// What is kept of the front of a line.
 #[derive(Clone, Copy)]
-enum Kept {
+pub(crate) enum Kept {
     /// All of its bytes.
     All,
     /// None: it has more bytes than a text may have.
@@ -22,8 +22,8 @@ enum Kept {
 /// The front of a line, up to where the input is read. Its memory is used again for the next line.
 #[derive(Drop)]
 pub(crate) struct BegunLine {
-    bytes: Vec<u8>,
-    kept: Kept,
+    pub(crate) bytes: Vec<u8>,
+    pub(crate) kept: Kept,
 }
 
 impl BegunLine {

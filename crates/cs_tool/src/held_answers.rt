@@ -6,7 +6,7 @@ ghost use Rattle.cs_tool.specs.Lines.{answer_line, most_held, Hands};
 
 use crate::Fault;
 use crate::answers::{ANSWER_ROOM, put_answer};
-use crate::writes::{write_part, write_text};
+use crate::writes::{put, write_part, write_text};
 use std::alloc::{AllocError, Global};
 use std::io::Write;
 use std::marker::Model;
@@ -55,6 +55,22 @@ impl HeldAnswers {
             self.end = 0;
         }
         self.end = put_answer(&mut self.bytes, self.end, answer);
+        Ok(())
+    }
+
+    /// Holds one more text, behind the answers. Writes what is held, or also the text, where there is no room.
+    pub(crate) fn hold_text<W: Write>(&mut self, text: &[u8], output: &mut W) -> Result<(), Fault>
+        ensures kind { OnErr result (result ≡ Err Fault.WriteFailed) }
+    {
+        if text.len() > HELD - self.end {
+            let held = &self.bytes[..self.end];
+            write_part(output, held)?;
+            self.end = 0;
+        }
+        if text.len() > HELD {
+            return write_part(output, text);
+        }
+        self.end = put(&mut self.bytes, self.end, text);
         Ok(())
     }
 

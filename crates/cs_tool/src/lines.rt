@@ -2,7 +2,7 @@
 ghost use Rattle.std.specs.Prelude.{◌≡◌, ◌+◌, ◌⊎◌, ℕ, List, ◌∷◌, [], ◌++◌, ◌<◌, length, Option, Some, OnOk, OnErr, IfOk, IfErr, Err};
 ghost use Rattle.cs_tool.specs.Judged.{AreReadable};
 ghost use Rattle.cs_tool.specs.Begun.{HoldsFront};
-ghost use Rattle.cs_tool.specs.Lines.{IsDone, IsCutOff, LeavesLines, IsOfRules};
+ghost use Rattle.cs_tool.specs.Lines.{IsLineAnswer, worse, outcome_of_answer, IsDone, IsCutOff, LeavesLines, IsOfRules};
 ghost use Rattle.cs_tool.specs.Answering.{AreAnswered, IsAnswered, AreCutOff, IsCutOffIn};
 
 use crate::Fault;
@@ -11,20 +11,22 @@ use crate::begun_line::BegunLine;
 use crate::held_answers::HeldAnswers;
 use crate::rules::Rules;
 use crate::text_judge::{TextJudge, prepare};
+use crate::why::Why;
+use cs_report::Named;
 use memchr::memchr;
 use std::alloc::Global;
 use std::io::{Read, Write};
 
 /// How many bytes are asked for at a time.
-const CHUNK: usize = 65_536;
+pub(crate) const CHUNK: usize = 65_536;
 
 /// A run between two reads.
 #[derive(Drop)]
-struct LineRun<'a> {
-    judge: TextJudge<'a>,
-    begun: BegunLine,
-    held: HeldAnswers,
-    outcome: LinesOutcome,
+pub(crate) struct LineRun<'a> {
+    pub(crate) judge: TextJudge<'a>,
+    pub(crate) begun: BegunLine,
+    pub(crate) held: HeldAnswers,
+    pub(crate) outcome: LinesOutcome,
 }
 
 /// Judges each line of the input by the rules, and writes for it one line: `valid`, `invalid`, or `error N` with the number
@@ -139,6 +141,27 @@ impl LineRun<'_> {
         let answer = self.begun.finish(&mut self.judge, piece);
         self.outcome = self.outcome.with(outcome_of(&answer));
         self.held.hold(&answer, output)
+    }
+
+    /// Answers the line that ends with the piece, of which nothing is held yet, and adds what is told of it.
+    pub(crate) fn explain(
+        &mut self,
+        piece: &[u8],
+        line: Named<'_>,
+        why: Why<'_>,
+        told: &mut Vec<u8>,
+    ) -> Result<bool, Fault>
+        ensures answer { (front : List ℕ) → HoldsFront self.old.begun front
+            → IsLineAnswer self.old.judge (front ++ piece.now) result }
+        ensures begun { HoldsFront self.new.begun [] }
+        ensures outcome { self.new.outcome ≡ worse self.old.outcome (outcome_of_answer result) }
+        ensures held { self.new.held ≡ self.old.held }
+        ensures same { self.new.judge ≡ self.old.judge }
+    {
+        let answer = self.begun.explain(&mut self.judge, piece, line, why, told);
+        let outcome = outcome_of(&answer);
+        self.outcome = self.outcome.with(outcome);
+        answer
     }
 
     /// Answers the line without a newline, where the input ends in one, and writes what is held.

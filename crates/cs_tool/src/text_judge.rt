@@ -1,12 +1,15 @@
 // Judging texts one after another by the same rules.
+use crate::explanations::{explain_both, explain_root, explain_schema};
 use crate::judgements::{judge_both, judge_root, judge_schema};
 use crate::numbering::{number_root, number_schema};
 use crate::read_rules::{read_both, read_root, read_schema_text};
 use crate::slices::slices_of;
+use crate::why::Why;
 use crate::{Fault, Rules};
 use cs_doc::Scratch;
 use cs_guard::Guarded;
 use cs_instance::RootRules;
+use cs_report::Named;
 use cs_schema::SchemaDoc;
 use cs_table::Verdicts;
 use cs_validate::SchemaRules;
@@ -149,7 +152,8 @@ fn number_rules<'a>(
 }
 
 impl TextJudge<'_> {
-    ghost use Rattle.std.specs.Prelude.{◌≡◌, IfOk, IfErr, IsOkUnless};
+    ghost use Rattle.std.specs.Prelude.{◌≡◌, IfOk, IfErr, OnErr, IsOkUnless};
+    ghost use Rattle.cs_tool.specs.Explained.{Tells};
     ghost use Rattle.cs_tool.specs.Judged.{call_on};
     ghost use Rattle.cs_tool.specs.Runs.{IsCallAnswer, IsCallRefusal, IsReadyCall, verdict_text};
 
@@ -173,6 +177,49 @@ impl TextJudge<'_> {
             NumberedRules::Both(root_side, schema_side) => {
                 judge_both(root_side, schema_side, alloc, text, scratch, table)
             }
+        }
+    }
+
+    /// What the call on the document's text answers: `vet`, `validate` or `agree`. Adds what is told of it in the form that is
+    /// asked for: in lines the verdict's line, and behind `invalid` a line for each reason; else one line, the object of JSON.
+    /// `agree` takes the reasons of the definition, and in the output formats of JSON Schema those of the schema.
+    ///
+    /// # Errors
+    /// Those of that call; nothing is added then. The next text is judged all the same.
+    pub fn explain(
+        &mut self,
+        document: Named<'_>,
+        why: Why<'_>,
+        output: &mut Vec<u8>,
+    ) -> Result<bool, Fault>
+        ensures found { IfOk result
+            (λ b. IsCallAnswer (call_on self.old document.entry.text.now) b (verdict_text b)) }
+        ensures refused { IfErr result (IsCallRefusal (call_on self.old document.entry.text.now)) }
+        ensures only { IsReadyCall (call_on self.old document.entry.text.now)
+            → IsOkUnless result Fault.OutOfMemory }
+        ensures same { self.new ≡ self.old }
+        ensures told { IfOk result (λ b. Tells why.entry.form b output.old.items output.new.items) }
+        ensures kept { OnErr result (output.new.items ≡ output.old.items) }
+    {
+        let alloc = self.alloc;
+        let (scratch, table) = (&mut self.scratch, &mut self.table);
+        match &self.numbered {
+            NumberedRules::Root(rules) => {
+                explain_root(rules, alloc, document, why, scratch, table, output)
+            }
+            NumberedRules::Schema(rules) => {
+                explain_schema(rules, alloc, document, why, scratch, table, output)
+            }
+            NumberedRules::Both(root_side, schema_side) => explain_both(
+                root_side,
+                schema_side,
+                alloc,
+                document,
+                why,
+                scratch,
+                table,
+                output,
+            ),
         }
     }
 }

@@ -1,0 +1,140 @@
+// Answers with their reasons, over writers.
+use crate::Fault;
+use crate::answers::{LinesOutcome, outcome_of, write_labelled};
+use crate::objects::{MEMBER_ROOM, document_front, put_error};
+use crate::rules::Rules;
+use crate::text_judge::TextJudge;
+use crate::why::Why;
+use crate::writes::{put, write_part, write_text};
+use cs_report::{Form, Named};
+use std::alloc::{AllocError, Global};
+use std::io::Write;
+
+/// The sources of the rules with their names, in their order; none for a schema. A source without a name is `-`.
+pub fn named_sources<'a>(
+    alloc: Global,
+    rules: &'a Rules,
+    names: &[&'a str],
+) -> Result<Vec<Named<'a>>, AllocError> {
+    let mut named = Vec::new(alloc);
+    match rules {
+        Rules::Schema { .. } => {}
+        Rules::Root { sources, .. } | Rules::Both { sources, .. } => {
+            for (place, source) in sources.iter().enumerate() {
+                let name = names.get(place).copied().unwrap_or("-");
+                let text = source.as_slice();
+                named.push(Named {
+                    name,
+                    text,
+                    line: 1,
+                })?;
+            }
+        }
+    }
+    Ok(named)
+}
+
+/// Judges the document, writes what [`TextJudge::explain`] tells of it, and flushes.
+///
+/// A refusal of the call is handed on, with nothing written. `WriteFailed`: what the writer took is a front of what is told.
+pub fn run_explained<W: Write>(
+    alloc: Global,
+    judge: &mut TextJudge<'_>,
+    document: Named<'_>,
+    why: Why<'_>,
+    output: &mut W,
+) -> Result<bool, Fault> {
+    let mut told = Vec::new(alloc);
+    let truth = judge.explain(document, why, &mut told)?;
+    write_text(output, &told)?;
+    Ok(truth)
+}
+
+/// Judges the document, and writes what is told of it under its name; then flushes. In lines that is `NAME: valid`, or
+/// `NAME: invalid` and a line for each reason, or `NAME: error N`, where N is the number of the refusal; else one object, whose
+/// first member is `document`, with `error` for a refusal.
+///
+/// `WriteFailed` alone.
+pub fn write_explained<W: Write>(
+    alloc: Global,
+    judge: &mut TextJudge<'_>,
+    document: Named<'_>,
+    why: Why<'_>,
+    output: &mut W,
+) -> Result<LinesOutcome, Fault> {
+    let mut told = Vec::new(alloc);
+    let answer = judge.explain(document, why, &mut told);
+    match why.form {
+        Form::Lines => write_lines(&answer, document.name, &told, output)?,
+        Form::Json | Form::Flag | Form::Basic => {
+            write_object(alloc, &answer, document.name, &told, output)?;
+        }
+    }
+    Ok(outcome_of(&answer))
+}
+
+/// Writes the refusal of a document that couldn't be read, as [`write_explained`] does.
+pub fn write_unexplained<W: Write>(
+    alloc: Global,
+    fault: Fault,
+    name: &str,
+    form: Form,
+    output: &mut W,
+) -> Result<LinesOutcome, Fault> {
+    match form {
+        Form::Lines => write_labelled(&Err(fault), name, output)?,
+        Form::Json | Form::Flag | Form::Basic => {
+            write_object(alloc, &Err(fault), name, b"", output)?;
+        }
+    }
+    Ok(LinesOutcome::SomeRefused)
+}
+
+/// Writes an answer under a name in lines, of which the last ones are told; then flushes.
+fn write_lines<W: Write>(
+    answer: &Result<bool, Fault>,
+    name: &str,
+    told: &[u8],
+    output: &mut W,
+) -> Result<(), Fault> {
+    match answer {
+        Ok(_) => {
+            write_part(output, name.as_bytes())?;
+            write_part(output, b": ")?;
+            write_text(output, told)
+        }
+        Err(_) => write_labelled(answer, name, output),
+    }
+}
+
+/// Writes the object of an answer, whose name is its first member; then flushes. The name is left out where memory runs out.
+fn write_object<W: Write>(
+    alloc: Global,
+    answer: &Result<bool, Fault>,
+    name: &str,
+    told: &[u8],
+    output: &mut W,
+) -> Result<(), Fault> {
+    match document_front(alloc, name) {
+        Ok(front) => write_part(output, &front)?,
+        Err(AllocError) => write_part(output, b"{")?,
+    }
+    match answer {
+        Ok(_) => write_text(output, members_of(told)),
+        Err(fault) => {
+            let mut line = [0u8; MEMBER_ROOM];
+            let line = &mut line[..];
+            let end = put_error(line, 0, fault);
+            let end = put(line, end, b"}\n");
+            write_text(output, &line[..end])
+        }
+    }
+}
+
+/// What follows the first byte of an object.
+pub(crate) fn members_of(object: &[u8]) -> &[u8] {
+    match object {
+        [] => object,
+        [_, members @ ..] => members,
+    }
+}

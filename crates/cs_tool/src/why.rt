@@ -1,0 +1,12 @@
+// What is asked about the reasons of verdicts.
+use cs_reasons::Telling;
+use cs_report::{Form, Named};
+
+/// How documents are explained.
+#[derive(Clone, Copy)]
+pub struct Why<'a> {
+    /// The sources that the rules were read from, with their names; none where there is a schema.
+    pub sources: &'a [Named<'a>],
+    pub form: Form,
+    pub telling: Telling,
+}
