@@ -13,7 +13,8 @@
 # make bench      times the lexer and the parser on 1 MiB of source in four shapes each, packages at their limits, documents
 #                 of 50 MB and the largest table, and says how much memory the last two take; then whole runs of `vet`
 #                 and `validate` against few and many rules, with what a judgement takes beyond reading on small, medium
-#                 and large ones, of `export` near the limits of packages, and of `vet --lines` over 1,000,000 lines
+#                 and large ones, of `export` near the limits of packages, of `vet --lines` over 1,000,000 lines, and of `--why`
+#                 beside the verdict alone
 # make install    copies the program to $(PREFIX)/bin
 # JOBS=4 works on four crates or runs at once; there are as many as processors where it isn't given
 PREFIX ?= /usr/local
@@ -74,6 +75,7 @@ bench: bin/cue2schema | toolchain
 	sh bench/judges.sh crates/cs_bench/out/cs_bench bin/cue2schema
 	sh bench/exports.sh bin/cue2schema crates/cs_bench/out/cs_bench
 	sh bench/lines.sh bin/cue2schema
+	sh bench/why.sh bin/cue2schema
 
 install: bin/cue2schema
 	install -D -m 755 bin/cue2schema $(DESTDIR)$(PREFIX)/bin/cue2schema

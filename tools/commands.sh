@@ -5,6 +5,7 @@
 #     tools/commands.sh PROGRAM
 set -eu
 program=$(realpath "$1")
+cases=$(cd "$(dirname "$0")/../cases" && pwd)
 . "$(dirname "$0")/wanted.sh"
 root=P
 status=-
@@ -300,6 +301,28 @@ try 'error 15' 'ulimit -v 50000; run validate --schema true.json --doc input-lim
 try 'error 15' 'ulimit -v 50000; run validate --schema true.json < input-limit'
 try 'error 15' 'ulimit -v 50000; run vet --root "#P" --doc input-limit port.cue'
 try 'error 15' 'ulimit -v 50000; run agree --root "#P" --doc input-limit port.cue'
+
+# Reasons of lines are told beside the verdicts, with the line of the input.
+try_run 1 'valid
+invalid' '-:2:1: (root): found 0, want >=1 [port.cue:1:11 #P]' 'printf "1\n0\n" | run vet --root "#P" --lines --why port.cue'
+printf '1\n[0,\n0\n' > lines.json
+try_run 2 'valid
+error 25
+invalid' 'lines.json:3:1: (root): found 0, want >=1 [port.cue:1:11 #P]' 'run vet --root "#P" --lines --why --doc lines.json port.cue'
+
+# Outputs for programs, judged by the program itself: `basic` by the standard's own schema as far as the profile has its
+# keywords, and `json` by a definition of it.
+cp "$cases"/why-schema/*.json "$cases"/why-schema/output.cue "$cases"/why-instance/forms.* .
+try valid '"$program" validate --format basic --schema schema.json --doc keywords.json > out.json || true; run validate --schema output.schema.json --doc out.json'
+try valid '"$program" validate --format basic --why=all --most 1000 --schema schema.json --doc keywords.json > out.json || true; run validate --schema output.schema.json --doc out.json'
+try_run 1 '{"valid":false}' '' 'run validate --format flag --schema schema.json --doc keywords.json'
+try valid '"$program" agree --format basic --root "#P" --doc forms.json forms.cue > out.json || true; run validate --schema output.schema.json --doc out.json'
+try valid '"$program" validate --format json --most 1000 --schema schema.json --doc keywords.json > out.json || true; run vet --root "#Output" --doc out.json output.cue'
+try valid '"$program" vet --format json --most 1000 --root "#P" --doc forms.json forms.cue > out.json || true; run vet --root "#Output" --doc out.json output.cue'
+try valid '"$program" agree --format json --why=all --most 1000 --root "#P" --doc forms.json forms.cue > out.json || true; run vet --root "#Output" --doc out.json output.cue'
+try valid '"$program" vet --format json --root "#P" --doc one port.cue > out.json || true; run vet --root "#Output" --doc out.json output.cue'
+try valid '"$program" vet --format json --root "#P" --doc one syntax.cue > out.json || true; run vet --root "#Output" --doc out.json output.cue'
+try valid '"$program" validate --format json --schema keyword.json --doc one > out.json || true; run vet --root "#Output" --doc out.json output.cue'
 
 # Rights, which the administrator always has: there the program runs as nobody.
 as=

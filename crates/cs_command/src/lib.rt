@@ -1,8 +1,18 @@
 // The command line.
 #![tactic(auto)]
 
+use clap::builder::ValueParser;
 use clap::{Arg, ArgAction, ArgGroup, Command};
 use std::alloc::{AllocError, Global};
+
+/// The values of `--why`.
+const ALTERNATIVES: &[&str] = &["closest", "all"];
+/// The values of `--format` where documents are judged by a definition alone.
+const FORMATS: &[&str] = &["json"];
+/// The values of `--format` where documents are judged by a schema.
+const SCHEMA_FORMATS: &[&str] = &["json", "flag", "basic"];
+/// How many reasons may be told at most.
+const MOST_REASONS: u64 = 1_000_000;
 
 /// The program's command: `export`, `vet`, `validate` and `agree` with their words. Sources are the values of `FILE`, in the
 /// order of the words.
@@ -36,8 +46,12 @@ fn vet<'a>(alloc: Global) -> Result<Command<'a>, AllocError> {
         .arg(document_of_sources(alloc)?)?
         .arg(documents(alloc)?)?
         .arg(lines_of_sources(alloc)?)?
+        .arg(why(alloc))?
+        .arg(most(alloc)?)?
+        .arg(format(alloc, FORMATS))?
         .arg(files(alloc))?
-        .group(input(alloc)?)
+        .group(input(alloc)?)?
+        .group(reasons(alloc)?)
 }
 
 fn validate<'a>(alloc: Global) -> Result<Command<'a>, AllocError> {
@@ -49,7 +63,11 @@ fn validate<'a>(alloc: Global) -> Result<Command<'a>, AllocError> {
             "The file of the JSON document; standard input where there is none",
         ))?
         .arg(documents(alloc)?)?
-        .arg(lines(alloc))
+        .arg(lines(alloc))?
+        .arg(why(alloc))?
+        .arg(most(alloc)?)?
+        .arg(format(alloc, SCHEMA_FORMATS))?
+        .group(reasons(alloc)?)
 }
 
 fn agree<'a>(alloc: Global) -> Result<Command<'a>, AllocError> {
@@ -60,8 +78,12 @@ fn agree<'a>(alloc: Global) -> Result<Command<'a>, AllocError> {
         .arg(document_of_sources(alloc)?)?
         .arg(documents(alloc)?)?
         .arg(lines_of_sources(alloc)?)?
+        .arg(why(alloc))?
+        .arg(most(alloc)?)?
+        .arg(format(alloc, SCHEMA_FORMATS))?
         .arg(files(alloc))?
-        .group(input(alloc)?)
+        .group(input(alloc)?)?
+        .group(reasons(alloc)?)
 }
 
 fn root<'a>(alloc: Global) -> Arg<'a> {
@@ -117,6 +139,48 @@ fn lines_of_sources<'a>(alloc: Global) -> Result<Arg<'a>, AllocError> {
 /// What is a named file, the document or a source.
 fn input<'a>(alloc: Global) -> Result<ArgGroup<'a>, AllocError> {
     let group = ArgGroup::new(alloc, "input").arg("doc")?.arg("FILE")?;
+    Ok(group.multiple(true))
+}
+
+/// The reasons of the closest alternatives, or with `=all` of all. A word after it is no value, so that it can stand before
+/// files.
+fn why<'a>(alloc: Global) -> Arg<'a> {
+    Arg::new(alloc, "why")
+        .long("why")
+        .value_name("ALTERNATIVES")
+        .help(
+            "Says why a document is invalid, a line for each reason: of alternatives the closest, or all",
+        )
+        .num_args(0..=1)
+        .require_equals(true)
+        .default_missing_value("closest")
+        .value_parser(ValueParser::Names(ALTERNATIVES))
+        .action(ArgAction::Set)
+}
+
+fn most<'a>(alloc: Global) -> Result<Arg<'a>, AllocError> {
+    Arg::new(alloc, "most")
+        .long("most")
+        .value_name("NUMBER")
+        .help("How many reasons are told at most; 20 where it isn't given")
+        .value_parser(ValueParser::unsigned(1, MOST_REASONS))
+        .action(ArgAction::Set)
+        .requires_arg("reasons")
+}
+
+/// In one of these formats an answer tells the reasons too.
+fn format<'a>(alloc: Global, formats: &'a [&'a str]) -> Arg<'a> {
+    Arg::new(alloc, "format")
+        .long("format")
+        .value_name("FORMAT")
+        .help("Prints an object of JSON in place of the answer, with the reasons")
+        .value_parser(ValueParser::Names(formats))
+        .action(ArgAction::Set)
+}
+
+/// What asks for reasons.
+fn reasons<'a>(alloc: Global) -> Result<ArgGroup<'a>, AllocError> {
+    let group = ArgGroup::new(alloc, "reasons").arg("why")?.arg("format")?;
     Ok(group.multiple(true))
 }
 

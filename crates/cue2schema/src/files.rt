@@ -39,3 +39,11 @@ pub(crate) fn read_source(rt: &HostRuntime) -> Result<Vec<u8>, Fault> {
         None => Err(Fault::SourcesTooLong),
     }
 }
+
+/// The bytes of standard input, as the document.
+pub(crate) fn read_document(rt: &HostRuntime) -> Result<Vec<u8>, Fault> {
+    match read_up_to(rt.alloc(), &mut rt.stdin(), MOST_INPUT_BYTES)? {
+        Some(text) => Ok(text),
+        None => Err(Fault::InputTooLong),
+    }
+}

@@ -1,14 +1,18 @@
 // The program: its words, the files that they name, the standard streams and the exit status.
 #![tactic(auto)]
 
+mod explained;
 mod files;
 mod many;
+mod reasons;
 mod requests;
 
 use clap::ArgMatches;
 use clap::error::ErrorKind;
 use cs_tool::{Fault, Request, command, run, write_fault};
+use explained::answer_with_reasons;
 use many::answer_many;
+use reasons::{are_at_odds, reasons_of};
 use requests::{Asked, asked_by};
 use std::alloc::Global;
 use std::env::Args;
@@ -47,6 +51,17 @@ fn answer(rt: &HostRuntime) -> Result<u8, Fault> {
 
 /// The status of what the words ask for.
 fn answered(rt: &HostRuntime, matches: &ArgMatches<'_>) -> Result<u8, Fault> {
+    if let Some((command, words)) = matches.subcommand() {
+        if are_at_odds(words) {
+            let _ = eprintln!(rt;
+                "error: '--format' tells reasons by itself; beside it only '--why=all' can be given"
+            );
+            return Ok(COMMAND_LINE);
+        }
+        if let Some(reasons) = reasons_of(words) {
+            return Ok(answer_with_reasons(rt, command, words, reasons)?.unwrap_or(COMMAND_LINE));
+        }
+    }
     match asked_by(rt, matches)? {
         Some(Asked::Once(request)) => judged(rt, request),
         Some(Asked::Many(rules, documents)) => answer_many(rt, &rules, documents),

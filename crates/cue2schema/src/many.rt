@@ -10,7 +10,7 @@ use std::fs::File;
 /// The status where a document was refused.
 const REFUSED: u8 = 2;
 /// The status where a file could not be read.
-const UNREAD: u8 = 4;
+pub(crate) const UNREAD: u8 = 4;
 
 /// The status after a line for each of the documents.
 pub(crate) fn answer_many(
@@ -73,7 +73,7 @@ fn answer_file(
     }
 }
 
-fn status_of(outcome: LinesOutcome) -> u8 {
+pub(crate) fn status_of(outcome: LinesOutcome) -> u8 {
     match outcome {
         LinesOutcome::AllValid => 0,
         LinesOutcome::SomeInvalid => INVALID,

@@ -80,7 +80,7 @@ fn agree<'m, 'w>(rt: &HostRuntime, words: &'m ArgMatches<'w>) -> Result<Asked<'m
 }
 
 /// The documents of `--lines` or `--docs`, where one of these words is there.
-fn documents_of<'m, 'w>(words: &'m ArgMatches<'w>) -> Option<Documents<'m, 'w>> {
+pub(crate) fn documents_of<'m, 'w>(words: &'m ArgMatches<'w>) -> Option<Documents<'m, 'w>> {
     if words.get_flag("lines") {
         return Some(Documents::Lines(words.get_str("doc")));
     }
@@ -88,7 +88,7 @@ fn documents_of<'m, 'w>(words: &'m ArgMatches<'w>) -> Option<Documents<'m, 'w>> 
 }
 
 /// The sources that are named, or standard input as the one source where none is.
-fn sources_of(rt: &HostRuntime, words: &ArgMatches<'_>) -> Result<Vec<Vec<u8>>, Fault> {
+pub(crate) fn sources_of(rt: &HostRuntime, words: &ArgMatches<'_>) -> Result<Vec<Vec<u8>>, Fault> {
     match words.get_strs("FILE") {
         Some(paths) => read_sources(rt, paths),
         None => Ok(vec![in rt.alloc(); read_source(rt)?]?),
@@ -104,11 +104,11 @@ fn files_of(rt: &HostRuntime, words: &ArgMatches<'_>) -> Result<Vec<Vec<u8>>, Fa
 }
 
 /// The word after `--root`, as it is.
-fn root_of(alloc: Global, words: &ArgMatches<'_>) -> Result<String, Fault> {
+pub(crate) fn root_of(alloc: Global, words: &ArgMatches<'_>) -> Result<String, Fault> {
     Ok(String::from_str(alloc, word_of(words, "root"))?)
 }
 
 /// The value of an option that `clap` asks for.
-fn word_of<'a>(words: &ArgMatches<'a>, name: &str) -> &'a str {
+pub(crate) fn word_of<'a>(words: &ArgMatches<'a>, name: &str) -> &'a str {
     words.get_str(name).unwrap_or("")
 }

@@ -1,0 +1,71 @@
+#!/bin/sh
+# Times `--why` by whole runs of the program, beside the same runs without it: a fleet of 5.79 MB with one fault, by `vet` and
+# `validate`, and by `vet` where each of its apps is refused for a misspelt key; and the largest table in which each pair is
+# refused and reached. A line for each: the milliseconds of both runs, how many times as long the one with `--why` takes, and
+# its most memory in MB. Fails where one fault takes more than 1.5 times as long as the verdict, where the largest table takes
+# more than 300 MB, or where the answer isn't the one that is wanted. Other work on the machine makes it fail too.
+# usage: why.sh PROGRAM
+set -eu
+
+. "$(dirname "$0")/timing.sh"
+. "$(dirname "$0")/fleets.sh"
+failed=0
+
+# The nanoseconds of one run: the least of seven.
+run_time() { # words
+    best=
+    for _ in 1 2 3 4 5 6 7; do
+        begin=$(date +%s%N)
+        "$program" "$@" > "$folder/said" || true
+        end=$(date +%s%N)
+        taken=$((end - begin))
+        if [ -z "$best" ] || [ "$taken" -lt "$best" ]; then best=$taken; fi
+    done
+    echo "$best"
+}
+
+# The most memory of a run in KiB, by GNU's time, where it is there.
+peak_of() { # words
+    if [ -x /usr/bin/time ]; then
+        /usr/bin/time -f %M -o "$folder/peak" "$program" "$@" > /dev/null || true
+        tail -n 1 "$folder/peak"
+    else
+        echo 0
+    fi
+}
+
+# measure NAME TIMES MEGABYTES LAST WORDS: a line, and what it may take; LAST is in the last line that is printed
+measure() {
+    name=$1 times=$2 megabytes=$3 last=$4
+    shift 4
+    plain=$(run_time "$@")
+    why=$(run_time "$@" --why)
+    if ! tail -n 1 "$folder/said" | grep -qF -- "$last"; then
+        echo "$name: the last line isn't the one that is wanted: $(tail -n 1 "$folder/said" | cut -c 1-200)"
+        failed=1
+    fi
+    peak=$(peak_of "$@" --why)
+    awk -v name="$name" -v plain="$plain" -v why="$why" -v peak="$peak" -v times="$times" -v megabytes="$megabytes" 'BEGIN {
+        share = why / plain
+        fault = share > times ? "  more than " times " times" : (peak > megabytes * 1024 ? "  more than " megabytes " MB" : "")
+        printf "%-28s %9.1f %9.1f %8.2f %8.0f%s\n", name, plain / 1e6, why / 1e6, share, peak / 1024, fault
+        exit (fault != "")
+    }' || failed=1
+}
+
+[ -x /usr/bin/time ] || echo "no memory is measured: there is no GNU /usr/bin/time"
+printf '%-28s %9s %9s %8s %8s\n' why 'ms' 'ms --why' times MB
+fleet_package > "$folder/fleet.cue"
+fleet 12624 > "$folder/good"
+sed '6000s/"cpu":[0-9]*/"cpu":"much"/' "$folder/good" > "$folder/one"
+sed 's/"count":/"coumt":/' "$folder/good" > "$folder/all"
+"$program" export --root '#Fleet' "$folder/fleet.cue" > "$folder/fleet.json"
+measure 'one fault: vet' 1.5 300 '/apps/5999/size/cpu: found "much", want int' vet --root '#Fleet' --doc "$folder/one" "$folder/fleet.cue"
+measure 'one fault: validate' 1.5 300 '/apps/5999/size/cpu: found "much", want integer' validate --schema "$folder/fleet.json" --doc "$folder/one"
+measure 'a fault in each app: vet' 1000 300 'more; --most N tells more' vet --root '#Fleet' --doc "$folder/all" "$folder/fleet.cue"
+
+# 8,192 values by 8,191 rules.
+awk 'BEGIN { printf "#P: [...(_|_"; for (i = 1; i < 8188; i++) printf " & _|_"; print ")]" }' > "$folder/never.cue"
+awk 'BEGIN { printf "[0"; for (i = 1; i < 8191; i++) printf ",0"; print "]" }' > "$folder/zeros"
+measure 'all pairs refused: vet' 1000 300 '67067888 more; --most N tells more' vet --root '#P' --doc "$folder/zeros" "$folder/never.cue"
+exit "$failed"

@@ -1,0 +1,321 @@
+// Answers with their reasons.
+use crate::INVALID;
+use crate::files::{read_document, read_input, read_source, read_sources};
+use crate::many::{UNREAD, status_of};
+use crate::reasons::Reasons;
+use crate::requests::{Documents, documents_of, root_of, sources_of, word_of};
+use clap::ArgMatches;
+use cs_tool::{
+    Fault, Form, LinesOutcome, Named, Prepared, Rules, TextJudge, Why, explain_lines,
+    named_sources, prepare, run_explained, write_explained, write_fault_json, write_unexplained,
+};
+use std::alloc::{AllocError, Global};
+use std::fs::File;
+use std::io::{Read, sink};
+
+/// The name of standard input.
+const STANDARD_INPUT: &str = "-";
+/// The names of the sources where none is given.
+const UNNAMED: &[&str] = &[STANDARD_INPUT];
+
+/// The status of a command that asks for reasons; `None` for one that has none. Where a format is asked for, a refusal is told as
+/// an object too.
+pub(crate) fn answer_with_reasons(
+    rt: &HostRuntime,
+    command: &str,
+    words: &ArgMatches<'_>,
+    reasons: Reasons,
+) -> Result<Option<u8>, Fault> {
+    match answered(rt, command, words, reasons) {
+        Err(fault) if is_told_as_object(reasons.form, &fault) => {
+            write_refusal(rt, &fault, words)?;
+            Ok(Some(fault.status()))
+        }
+        answer => answer,
+    }
+}
+
+/// Whether a refusal is told on standard output. One that nothing can be written is not.
+fn is_told_as_object(form: Form, fault: &Fault) -> bool {
+    match form {
+        Form::Lines => false,
+        Form::Json | Form::Flag | Form::Basic => !matches!(fault, Fault::WriteFailed),
+    }
+}
+
+/// Writes the object of a refusal.
+fn write_refusal(rt: &HostRuntime, fault: &Fault, words: &ArgMatches<'_>) -> Result<(), Fault> {
+    match words.get_strs("FILE") {
+        Some(names) => write_fault_json(rt.alloc(), fault, names, &mut rt.stdout()),
+        None => write_fault_json(rt.alloc(), fault, UNNAMED, &mut rt.stdout()),
+    }
+}
+
+/// The names of the sources.
+fn names_of(alloc: Global, words: &ArgMatches<'_>) -> Result<Vec<String>, AllocError> {
+    let mut names = Vec::new(alloc);
+    match words.get_strs("FILE") {
+        Some(paths) => {
+            for path in paths {
+                let name = String::from_str(alloc, path)?;
+                names.push(name)?;
+            }
+        }
+        None => {
+            let name = String::from_str(alloc, STANDARD_INPUT)?;
+            names.push(name)?;
+        }
+    }
+    Ok(names)
+}
+
+/// The sources of the rules with their names.
+fn sources_by_name<'a>(
+    alloc: Global,
+    rules: &'a Rules,
+    names: &'a [String],
+) -> Result<Vec<Named<'a>>, AllocError> {
+    let mut slices: Vec<&'a str> = Vec::with_capacity(alloc, names.len())?;
+    for name in names {
+        slices.push(name.as_str())?;
+    }
+    named_sources(alloc, rules, &slices)
+}
+
+fn answered(
+    rt: &HostRuntime,
+    command: &str,
+    words: &ArgMatches<'_>,
+    reasons: Reasons,
+) -> Result<Option<u8>, Fault> {
+    if let Some(documents) = documents_of(words) {
+        return match rules_of(rt, command, words)? {
+            Some(rules) => explain_many(rt, rules, words, reasons, documents).map(Some),
+            None => Ok(None),
+        };
+    }
+    match once(rt, command, words)? {
+        Some((rules, text)) => explain_once(rt, rules, text, words, reasons).map(Some),
+        None => Ok(None),
+    }
+}
+
+/// The rules of a command for many documents.
+fn rules_of(
+    rt: &HostRuntime,
+    command: &str,
+    words: &ArgMatches<'_>,
+) -> Result<Option<Rules>, Fault> {
+    match command {
+        "vet" => {
+            let root = root_of(rt.alloc(), words)?;
+            let sources = sources_of(rt, words)?;
+            Ok(Some(Rules::Root { sources, root }))
+        }
+        "validate" => {
+            let schema = read_input(rt, word_of(words, "schema"))?;
+            Ok(Some(Rules::Schema { schema }))
+        }
+        "agree" => {
+            let root = root_of(rt.alloc(), words)?;
+            let sources = sources_of(rt, words)?;
+            Ok(Some(Rules::Both { sources, root }))
+        }
+        _ => Ok(None),
+    }
+}
+
+/// The rules of a command and its one document. Named files are read before standard input.
+fn once(
+    rt: &HostRuntime,
+    command: &str,
+    words: &ArgMatches<'_>,
+) -> Result<Option<(Rules, Vec<u8>)>, Fault> {
+    match command {
+        "vet" => {
+            let root = root_of(rt.alloc(), words)?;
+            let (sources, text) = sources_and_document(rt, words)?;
+            Ok(Some((Rules::Root { sources, root }, text)))
+        }
+        "validate" => {
+            let schema = read_input(rt, word_of(words, "schema"))?;
+            let text = match words.get_str("doc") {
+                Some(path) => read_input(rt, path)?,
+                None => read_document(rt)?,
+            };
+            Ok(Some((Rules::Schema { schema }, text)))
+        }
+        "agree" => {
+            let root = root_of(rt.alloc(), words)?;
+            let (sources, text) = sources_and_document(rt, words)?;
+            Ok(Some((Rules::Both { sources, root }, text)))
+        }
+        _ => Ok(None),
+    }
+}
+
+fn sources_and_document(
+    rt: &HostRuntime,
+    words: &ArgMatches<'_>,
+) -> Result<(Vec<Vec<u8>>, Vec<u8>), Fault> {
+    if let Some(paths) = words.get_strs("FILE") {
+        let sources = read_sources(rt, paths)?;
+        let text = read_input(rt, word_of(words, "doc"))?;
+        return Ok((sources, text));
+    }
+    let text = read_input(rt, word_of(words, "doc"))?;
+    let source = read_source(rt)?;
+    Ok((vec![in rt.alloc(); source]?, text))
+}
+
+/// The status after one document.
+fn explain_once(
+    rt: &HostRuntime,
+    rules: Rules,
+    text: Vec<u8>,
+    words: &ArgMatches<'_>,
+    reasons: Reasons,
+) -> Result<u8, Fault> {
+    let names = names_of(rt.alloc(), words)?;
+    let sources = sources_by_name(rt.alloc(), &rules, &names)?;
+    let document = Named {
+        name: words.get_str("doc").unwrap_or(STANDARD_INPUT),
+        text: &text,
+        line: 1,
+    };
+    let prepared = prepare(rt.alloc(), &rules)?;
+    explain_document(rt, &prepared, document, reasons.by(&sources))
+}
+
+/// The status after a document, by rules that were read.
+fn explain_document(
+    rt: &HostRuntime,
+    prepared: &Prepared<'_>,
+    document: Named<'_>,
+    why: Why<'_>,
+) -> Result<u8, Fault> {
+    let mut judge = prepared.judge(rt.alloc())?;
+    let truth = run_explained(rt.alloc(), &mut judge, document, why, &mut rt.stdout())?;
+    Ok(if truth { 0 } else { INVALID })
+}
+
+/// The status after many documents.
+fn explain_many(
+    rt: &HostRuntime,
+    rules: Rules,
+    words: &ArgMatches<'_>,
+    reasons: Reasons,
+    documents: Documents<'_, '_>,
+) -> Result<u8, Fault> {
+    let names = names_of(rt.alloc(), words)?;
+    let sources = sources_by_name(rt.alloc(), &rules, &names)?;
+    let why = reasons.by(&sources);
+    match documents {
+        Documents::Lines(path) => explain_input(rt, &rules, why, path),
+        Documents::Files(paths) => explain_files(rt, &rules, why, paths),
+    }
+}
+
+/// The status after the lines of the file, or of standard input.
+fn explain_input(
+    rt: &HostRuntime,
+    rules: &Rules,
+    why: Why<'_>,
+    path: Option<&str>,
+) -> Result<u8, Fault> {
+    let Some(path) = path else {
+        return explain_lines_of(rt, rules, STANDARD_INPUT, why, &mut rt.stdin());
+    };
+    let Ok(mut file) = File::open(rt, path) else {
+        return Err(Fault::ReadFailed);
+    };
+    explain_lines_of(rt, rules, path, why, &mut file)
+}
+
+/// The status after the lines of an input. Their objects take the place of the verdicts, and reasons in lines go to standard error.
+fn explain_lines_of<R: Read>(
+    rt: &HostRuntime,
+    rules: &Rules,
+    name: &str,
+    why: Why<'_>,
+    input: &mut R,
+) -> Result<u8, Fault> {
+    let prepared = prepare(rt.alloc(), rules)?;
+    let judge = prepared.judge(rt.alloc())?;
+    Ok(status_of(lines_outcome(rt, judge, name, why, input)?))
+}
+
+/// What came of the lines of an input.
+fn lines_outcome<R: Read>(
+    rt: &HostRuntime,
+    judge: TextJudge<'_>,
+    name: &str,
+    why: Why<'_>,
+    input: &mut R,
+) -> Result<LinesOutcome, Fault> {
+    let (alloc, output) = (rt.alloc(), &mut rt.stdout());
+    match why.form {
+        Form::Lines => explain_lines(alloc, judge, name, why, input, output, &mut rt.stderr()),
+        Form::Json | Form::Flag | Form::Basic => {
+            explain_lines(alloc, judge, name, why, input, &mut sink(), output)
+        }
+    }
+}
+
+/// The status after the files: that of the documents, unless one could not be read.
+fn explain_files(
+    rt: &HostRuntime,
+    rules: &Rules,
+    why: Why<'_>,
+    paths: &[&str],
+) -> Result<u8, Fault> {
+    let prepared = prepare(rt.alloc(), rules)?;
+    let mut judge = prepared.judge(rt.alloc())?;
+    explain_paths(rt, &mut judge, why, paths)
+}
+
+/// The status after these files, by a judge.
+fn explain_paths(
+    rt: &HostRuntime,
+    judge: &mut TextJudge<'_>,
+    why: Why<'_>,
+    paths: &[&str],
+) -> Result<u8, Fault> {
+    let mut outcome = LinesOutcome::AllValid;
+    let mut is_unread = false;
+    for path in paths {
+        let answer = explain_file(rt, judge, why, path)?;
+        outcome = outcome.with(answer.unwrap_or(LinesOutcome::SomeRefused));
+        is_unread |= answer.is_none();
+    }
+    Ok(if is_unread {
+        UNREAD
+    } else {
+        status_of(outcome)
+    })
+}
+
+/// What came of a file's document; `None` where it could not be read.
+fn explain_file(
+    rt: &HostRuntime,
+    judge: &mut TextJudge<'_>,
+    why: Why<'_>,
+    path: &str,
+) -> Result<Option<LinesOutcome>, Fault> {
+    let (alloc, output) = (rt.alloc(), &mut rt.stdout());
+    match read_input(rt, path) {
+        Ok(text) => {
+            let document = Named {
+                name: path,
+                text: &text,
+                line: 1,
+            };
+            write_explained(alloc, judge, document, why, output).map(Some)
+        }
+        Err(Fault::ReadFailed) => {
+            write_unexplained(alloc, Fault::ReadFailed, path, why.form, output)?;
+            Ok(None)
+        }
+        Err(fault) => write_unexplained(alloc, fault, path, why.form, output).map(Some),
+    }
+}
