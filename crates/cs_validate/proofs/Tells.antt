@@ -27,7 +27,7 @@ use Rattle.cs_validate.specs.Causes.{Cause}
 use Rattle.cs_validate.specs.NumberedCauses.{NumberedCause, IsNumberedCause}
 use Rattle.cs_validate.specs.Renamed.{IsUpRenamed, IsLinkRenamed, IsReasonRenamed, AreRenamed}
 use Rattle.cs_validate.specs.Why.{Way, by_alternative, is_by_alternative, way_of, led, steps_of, IsWhyNot, IsWhy, IsTold, itself, none}
-use Rattle.cs_validate.specs.WhyTold.{cause_of, ways_of, ways_to, numbered_entry, value_of, schema_of, meant, LeadTo, IsToldWhy, IsEachOnce}
+use Rattle.cs_validate.specs.WhyTold.{cause_of, ways_of, ways_to, numbered_entry, value_of, schema_of, meant, LeadTo, IsToldWhy}
 use Rattle.cs_validate.specs.declared.cause.ValidCause.{ValidCause}
 use Rattle.cs_validate.proofs.Contained.{place_of, at_place, got_map, got_map_back}
 use Rattle.cs_validate.proofs.Pointed.{refused_at}
@@ -245,7 +245,7 @@ module _ (R : Document) (xs : List (Opened ℕ)) (all : List Document) (asked : 
     told_there (itself h) = refused_at R V R (document_in xs) fits h.refused
     told_there (none e h a) = refused_at R V R (document_in xs) fits h
 
-    module _ (rs : Reasons C) (reasons : AreReasons leads_to followed i r telling.most rs) (ss : Reasons ValidCause) (same : AreRenamed (says followed named) rs ss) where
+    module _ (rs : Reasons C) (reasons : AreReasons leads_to followed i r telling.most rs) (ss : Reasons ValidCause) (same : AreRenamed (says followed named) rs ss) (distinct : AreDistinct followed named) where
       abbrev all_numbered : List ((ℕ × ℕ) × NumberedCause)
       all_numbered = map (numbered_by followed named) reasons.all
 
@@ -282,8 +282,8 @@ module _ (R : Document) (xs : List (Opened ℕ)) (all : List Document) (asked : 
           let told : Told (ways_of c.0) b.0.0 (named b.0.0 b.0.1) = told_by_chain c.1 s.cause s.leaf in
           (ways_of c.0, subst (λ (z : (ℕ × ℕ) × NumberedCause). Leads (ways_of c.0) z.0) b.2 (leads_by_chain R xs all asked f V setting i r c.1), subst (λ (z : (ℕ × ℕ) × NumberedCause). Told (ways_of c.0) z.0 z.1) b.2 told)
 
-      once_of : AreDistinct followed named → (j k : ℕ) (e : (ℕ × ℕ) × NumberedCause) → slice_get all_numbered j ≡ Some e → slice_get all_numbered k ≡ Some e → j ≡ k
-      once_of distinct j k e g h =
+      once_of : (j k : ℕ) (e : (ℕ × ℕ) × NumberedCause) → slice_get all_numbered j ≡ Some e → slice_get all_numbered k ≡ Some e → j ≡ k
+      once_of j k e g h =
           let a = got_map_back (numbered_by followed named) reasons.all j e g in
           let b = got_map_back (numbered_by followed named) reasons.all k e h in
           let s = reasons.sound j a.0 a.1 in
@@ -313,8 +313,8 @@ module _ (R : Document) (xs : List (Opened ℕ)) (all : List Document) (asked : 
           let p = place_of reasons.all e (reasons.complete e given) in
           (numbered_by followed named e, at_place all_numbered (numbered_by followed named e) p.0 (got_map (numbered_by followed named) reasons.all p.0 e p.1), subst (λ w. Leads w (h.there.item, h.there.rule)) h.there.same (leads_by_chain R xs all asked f V setting i r h.there.chain), h.there.schema, h.there.value, ap (meant all xs) d.2 ∙ h.means)
 
-      abbrev told_here : AreRules R all → IsToldWhy R V xs telling ss
-      told_here rules = record {
+      pub tells : AreRules R all → IsToldWhy R V xs telling ss
+      tells rules = record {
         rules = all;
         are = rules;
         asked = asked;
@@ -331,14 +331,9 @@ module _ (R : Document) (xs : List (Opened ℕ)) (all : List Document) (asked : 
         told = same_told followed named rs.links.items ss (pairs rs.links.items ss.links.items same.links) rs.told.items ss.told.items (λ k t e. (reasons.sound k (entry_of rs.links.items t) (entry_at k t e)).cause) same.told ∙ ap (map (numbered_by followed named)) reasons.told ∙ sym (take-map (numbered_by followed named) telling.most reasons.all);
         count = same.count ∙ reasons.count ∙ sym (length-map reasons.all (numbered_by followed named));
         some = subst (λ n. 0 < n) (sym (length-map reasons.all (numbered_by followed named))) reasons.some;
+        once = once_of;
         complete = complete_of;
       }
-
-      pub tells : AreRules R all → IsToldWhy R V xs telling ss
-      tells rules = told_here rules
-
-      pub tells_once : AreDistinct followed named → AreRules R all → (w : IsToldWhy R V xs telling ss) × IsEachOnce w
-      tells_once distinct rules = (told_here rules, once_of distinct)
 
 -- ---- the two ways of telling
 
