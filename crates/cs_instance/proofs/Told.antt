@@ -75,6 +75,7 @@ module _ (E : Environment) (I : Rule → Document → Bool) (all : List Rule) (a
       all = h.all;
       sound = λ k e at. sound_at leads_to meaning i r whole true is_cause (λ j q c k s is e. see.seen j q c is) alone e (h.sound k e at);
       once = h.once;
+      in_order = h.in_order;
       complete = λ full w s x c why. let t = why_told E I all asked numbering xs are f verdict leads_to meaning is_cause see i r within_items within_rules why in (t.entry, h.complete t.entry t.reason, t.rule_is, t.value_is, t.cause_is);
       first = h.told;
       count = h.count;
@@ -122,6 +123,7 @@ module _ (E : Environment) (I : Rule → Document → Bool) (all : List Rule) (a
         all = h.all;
         sound = λ k e at. sound_at leads_to meaning i r whole false Followed followed_steps followed_leaves e (h.sound k e at);
         once = h.once;
+        in_order = h.in_order;
         complete = λ full w s x c why. cc;
         first = h.told;
         count = h.count;

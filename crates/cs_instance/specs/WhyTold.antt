@@ -7,6 +7,7 @@ use Rattle.cs_flat.specs.Nodes.{node_at}
 use Rattle.cs_reasons.specs.Told.{entry_of, chain_to}
 use Rattle.cs_reasons.specs.declared.reasons.Reason.{Reason}
 use Rattle.cs_reasons.specs.declared.reasons.Reasons.{Reasons}
+use Rattle.cs_table.specs.Judged.{IsEarlier}
 use Rattle.cs_package.specs.Environment.{Environment}
 use Rattle.cs_instance.specs.Causes.{Cause, no_alternative}
 use Rattle.cs_instance.specs.Constraint.{any_of}
@@ -53,6 +54,8 @@ module _ (E : Environment) (I : Rule → Document → Bool) (r0 : Rule) (x0 : Do
       pub all : List ((ℕ × ℕ) × C)
       pub sound : (k : ℕ) (e : (ℕ × ℕ) × C) → slice_get all k ≡ Some e → (w : List Way) × TellsOf w e
       pub once : (j k : ℕ) (e : (ℕ × ℕ) × C) → slice_get all j ≡ Some e → slice_get all k ≡ Some e → j ≡ k
+      -- in the order of their pairs
+      pub in_order : (j k : ℕ) (e g : (ℕ × ℕ) × C) → j < k → slice_get all j ≡ Some e → slice_get all k ≡ Some g → ¬ (IsEarlier g.0.0 g.0.1 e.0.0 e.0.1)
       -- where all alternatives are followed each reason is among them
       pub complete : full ≡ true → (w : List Way) (r : Rule) (x : Document) (c : Cause Document Rule Rule) → IsWhy E I r0 x0 w r x c
           → (e : (ℕ × ℕ) × C) × Contains all e × (rule_at rules e.0.1 ≡ r) × (node_at values e.0.0 ≡ x) × (meaning e.0.0 e.1 ≡ c)

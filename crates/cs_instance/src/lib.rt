@@ -24,5 +24,5 @@ pub use explaining::{Want, Wanted};
 pub use fault::InstanceFault;
 pub use judge::InstanceJudge;
 pub use judging::{instance_judge, instance_table, instance_verdict, is_instance};
-pub use laws::one_meaning;
+pub use laws::{one_meaning, reasons_hold};
 pub use numbered::{RootRules, root_rules};

@@ -89,6 +89,7 @@ module _ {C : Type 0} (leads_to : C → Option (ℕ × ℕ)) (is_cause : ℕ →
       sound = h.sound;
       complete = h.complete;
       once = h.once;
+      in_order = h.in_order;
       told = ap (λ xs. map (entry_of xs) now.told.items) is ∙ ap (λ ts. map (entry_of links) ts) told
           ∙ map_agrees (entry_of links) (entry_of old) rs.told.items (λ k t at. ap (λ p. (p, t.cause)) (pair_same t.link (subst (λ xs. t.link < length xs) was (h.within k t at))))
           ∙ ap (λ xs. map (entry_of xs) rs.told.items) (sym was) ∙ h.told;

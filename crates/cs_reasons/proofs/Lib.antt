@@ -14,3 +14,4 @@ pub mod Passes
 pub mod Filtered
 pub mod Follows
 pub mod Closest
+mod Samples

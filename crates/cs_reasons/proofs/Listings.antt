@@ -27,6 +27,7 @@ module _ {C : Type 0} (leads_to : C → Option (ℕ × ℕ)) (R : ℕ → ℕ �
       sound = λ k e at. let x = h.told.sound k e at in (to e x.0, x.1);
       complete = λ e d leaf. h.told.complete e (from e d) leaf;
       once = h.told.once;
+      in_order = h.told.in_order;
       within = h.told.within;
       told = h.told.told;
       count = h.told.count;
@@ -34,6 +35,7 @@ module _ {C : Type 0} (leads_to : C → Option (ℕ × ℕ)) (R : ℕ → ℕ �
   }
 
   module _ (D : (ℕ × ℕ) × C → Type 0) (n k most : ℕ) (here : R n k) (upto : (j q : ℕ) → R j q → IsUpTo j q n k) (ahead : AreAhead leads_to R D n k here upto) (c : C) (fresh : ¬ (D ((n, k), c)))
+      (behind : (e : (ℕ × ℕ) × C) → D e → ¬ (IsEarlier n k e.0.0 e.0.1))
       (own : (j q : ℕ) → leads_to c ≡ Some (j, q) → IsEarlier j q n k) (rs now : Reasons C) (h : AreListed leads_to R D most rs) where
     none_leads : leads_to c ≡ None → (links : List (Link C)) (a : ℕ) (l : Link C) → slice_get links a ≡ Some l → leads_to c ≡ Some (l.item, l.rule) → ¬ (l.up ≡ None)
     none_leads leaf links a l at lead = let x = sym leaf ∙ lead in absurd (cc)
@@ -46,8 +48,8 @@ module _ {C : Type 0} (leads_to : C → Option (ℕ × ℕ)) (R : ℕ → ℕ �
     tell_more : leads_to c ≡ None → IsTold most n k c rs now → AreListed leads_to R (More D ((n, k), c)) most now
     tell_more leaf told = record {
       links = links_after leaf told;
-      all = more leads_to R D most h.all rs h.told n k c leaf fresh;
-      told = leaf_done leads_to R D most h.all rs h.told n k c leaf fresh now told;
+      all = more leads_to R D most h.all rs h.told n k c leaf fresh behind;
+      told = leaf_done leads_to R D most h.all rs h.told n k c leaf fresh behind now told;
     }
 
     same_pair : (l : Link C) (p : ℕ × ℕ) → leads_to c ≡ Some p → l.item ≡ p.0 → l.rule ≡ p.1 → leads_to c ≡ Some (l.item, l.rule)

@@ -106,6 +106,7 @@ module _ {C : Type 0} (leads_to : C → Option (ℕ × ℕ)) (is_cause : ℕ →
             sound = λ j e x. absurd (empty refl j e x);
             complete = λ e d leaf. absurd (none e.0.0 e.0.1 d.0 d.2);
             once = λ a b e x y. absurd (empty refl a e x);
+            in_order = λ a b e g lt x y. absurd (empty refl a e x);
             within = λ j t x. absurd (empty told j t x);
             told = ap (λ ts. map (entry_of rs.links.items) ts) told ∙ sym (take_none most);
             count = count;
@@ -123,6 +124,11 @@ module _ {C : Type 0} (leads_to : C → Option (ℕ × ℕ)) (is_cause : ℕ →
     not_done : (h : ℕ) (c : C) → slice_get cs h ≡ Some c → IsCauseTo leads_to is_cause i r cs h n k ((n, k), c) → ⊥
     not_done h c at (inl d) = not_earlier n k d.2
     not_done h c at (inr d) = let s = causes.once d.0 h c d.4 at in let l = d.1 in omega arith
+
+    -- no cause that is done is one of a later pair
+    done_behind : (h : ℕ) (e : (ℕ × ℕ) × C) → IsCauseTo leads_to is_cause i r cs h n k e → ¬ (IsEarlier n k e.0.0 e.0.1)
+    done_behind h e (inl d) = not_both e.0.0 e.0.1 n k d.2
+    done_behind h e (inr d) = λ later. not_earlier n k (moved n k e.0.0 e.0.1 n k n k refl refl d.2 d.3 later)
 
     done_more : (h : ℕ) (c : C) → slice_get cs h ≡ Some c → (e : (ℕ × ℕ) × C) → More (IsCauseTo leads_to is_cause i r cs h n k) ((n, k), c) e → IsCauseTo leads_to is_cause i r cs (h + 1) n k e
     done_more h c at e (inl (inl d)) = inl d
@@ -144,7 +150,7 @@ module _ {C : Type 0} (leads_to : C → Option (ℕ × ℕ)) (is_cause : ℕ →
     cause_listed h c at rs now before step =
         same_done leads_to (IsPairTo leads_to is_cause i r n k) (More (IsCauseTo leads_to is_cause i r cs h n k) ((n, k), c)) (IsCauseTo leads_to is_cause i r cs (h + 1) n k) (done_more h c at) (more_done h c at)
         (IsPairTo leads_to is_cause i r n k) (λ j q x. x) most now
-        (listed_more leads_to (IsPairTo leads_to is_cause i r n k) (IsCauseTo leads_to is_cause i r cs h n k) n k most (w, inr (refl, refl)) (λ j q x. x.1) (not_ahead h) c (not_done h c at)
+        (listed_more leads_to (IsPairTo leads_to is_cause i r n k) (IsCauseTo leads_to is_cause i r cs h n k) n k most (w, inr (refl, refl)) (λ j q x. x.1) (not_ahead h) c (not_done h c at) (done_behind h)
         (λ j q lead. (earlier n k j q c (causes.sound h c at) lead).1) rs now before step)
 
     -- before the first of them
@@ -223,6 +229,7 @@ module _ {C : Type 0} (leads_to : C → Option (ℕ × ℕ)) (is_cause : ℕ →
       sound = λ k e at. let h = done.listed.told.sound k e at in record { reached = h.0.0; cause = h.0.1; leaf = h.1 };
       complete = λ e h. done.listed.told.complete e (h.reached, h.cause, tt) h.leaf;
       once = done.listed.told.once;
+      in_order = done.listed.told.in_order;
       told = done.listed.told.told;
       count = done.listed.told.count;
       some = let h = done.some i r IsReached.first tt in let c = done.listed.told.count in omega arith;

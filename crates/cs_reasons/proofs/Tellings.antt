@@ -2,6 +2,7 @@
 use Rattle.std.proofs.Common.{◌≡◌, ℕ, ◌<◌, ◌+◌, ⊎_elim, inl, inr, List, [], ◌∷◌, ◌++◌, length, take, map, Option, Some, None, ap, ◌∙◌, sym, subst, refl, arith}
 use Rattle.std.specs.Prelude.{slice_get, Contains}
 use Rattle.std.proofs.lemmas.Option.{slice_get_within, get_or_from_slice_get, slice_get_read}
+use Rattle.cs_table.specs.Judged.{IsEarlier}
 use Rattle.cs_reasons.specs.Told.{pair_of, entry_of}
 use Rattle.cs_reasons.specs.Listed.{IsTold, AreTold}
 use Rattle.cs_reasons.specs.declared.reasons.Link.{Link}
@@ -28,6 +29,7 @@ module _ {C : Type 0} (leads_to : C → Option (ℕ × ℕ)) (R : ℕ → ℕ �
     sound = told.sound;
     complete = told.complete;
     once = told.once;
+    in_order = told.in_order;
     within = λ k t e. let h = told.within k t (subst (λ ts. slice_get ts k ≡ Some t) same e) in let l = stay.0 in omega arith;
     told = ap (λ ts. map (entry_of now.links.items) ts) same ∙ same_entries now.links.items stay ∙ told.told;
     count = count ∙ told.count;
@@ -46,12 +48,13 @@ module _ {C : Type 0} (leads_to : C → Option (ℕ × ℕ)) (R : ℕ → ℕ �
           (λ (h : e ≡ x). let f = sym lead ∙ ap (λ z. leads_to z.1) (sym h) ∙ leaf in absurd (cc))
           d;
       once = told.once;
+      in_order = told.in_order;
       within = told.within;
       told = told.told;
       count = told.count;
     }
 
-    module _ (leaf : leads_to c ≡ None) (fresh : ¬ (D x)) where
+    module _ (leaf : leads_to c ≡ None) (fresh : ¬ (D x)) (behind : (e : (ℕ × ℕ) × C) → D e → ¬ (IsEarlier n k e.0.0 e.0.1)) where
       abbrev pub more : List ((ℕ × ℕ) × C)
       more = all ++ x ∷ []
 
@@ -82,6 +85,19 @@ module _ {C : Type 0} (leads_to : C → Option (ℕ × ℕ)) (R : ℕ → ℕ �
           (at_either all x j e jt))
           (at_either all x i e it)
 
+      -- the last entry is of the pair n, k, before which or at which all that is done is
+      in_orders : (i j : ℕ) (e g : (ℕ × ℕ) × C) → i < j → slice_get more i ≡ Some e → slice_get more j ≡ Some g → ¬ (IsEarlier g.0.0 g.0.1 e.0.0 e.0.1)
+      in_orders i j e g lt it jt = ⊎_elim
+          (λ (h : slice_get all i ≡ Some e). ⊎_elim
+          (λ (m : slice_get all j ≡ Some g). told.in_order i j e g lt h m)
+          (λ (m : (j ≡ length all) × (g ≡ x)). subst (λ (z : (ℕ × ℕ) × C). ¬ (IsEarlier z.0.0 z.0.1 e.0.0 e.0.1)) (sym m.1) (behind e (told.sound i e h).0))
+          (at_either all x j g jt))
+          (λ (h : (i ≡ length all) × (e ≡ x)). ⊎_elim
+          (λ (m : slice_get all j ≡ Some g). let l = slice_get_within all j g m in let s = h.0 in absurd (omega arith))
+          (λ (m : (j ≡ length all) × (g ≡ x)). let s = h.0 in let t = m.0 in absurd (omega arith))
+          (at_either all x j g jt))
+          (at_either all x i e it)
+
       length_told : length rs.told.items ≡ length (take most all)
       length_told = sym (length_mapped (entry_of rs.links.items) rs.told.items) ∙ ap (λ ts. length ts) told.told
 
@@ -93,6 +109,7 @@ module _ {C : Type 0} (leads_to : C → Option (ℕ × ℕ)) (R : ℕ → ℕ �
         sound = sounds;
         complete = completes;
         once = onces;
+        in_order = in_orders;
         within = λ j t e. subst (λ ls. t.link < length ls) (sym h.1) (told.within j t (subst (λ ts. slice_get ts j ≡ Some t) h.2 e));
         told = ap (λ ts. map (entry_of now.links.items) ts) h.2 ∙ ap (λ ls. map (entry_of ls) rs.told.items) h.1 ∙ told.told
             ∙ sym (take_same most all x (taken_all most all (let l = h.0 in let m = length_told in omega arith)));
@@ -107,6 +124,7 @@ module _ {C : Type 0} (leads_to : C → Option (ℕ × ℕ)) (R : ℕ → ℕ �
             sound = sounds;
             complete = completes;
             once = onces;
+            in_order = in_orders;
             within = λ j s e. ⊎_elim
                 (λ (m : slice_get rs.told.items j ≡ Some s). let l = told.within j s m in let w = stay.0 in omega arith)
                 (λ (m : (j ≡ length rs.told.items) × (s ≡ t)). subst (λ (z : Reason C). z.link < length now.links.items) (sym m.1) (slice_get_within now.links.items a is.0 is.1))

@@ -65,6 +65,7 @@ module _ {C : Type 0} (leads_to : C → Option (ℕ × ℕ)) (is_reached : ℕ �
     pub sound : (k : ℕ) (e : (ℕ × ℕ) × C) → slice_get all k ≡ Some e → is_done e × (leads_to e.1 ≡ None)
     pub complete : (e : (ℕ × ℕ) × C) → is_done e → leads_to e.1 ≡ None → Contains all e
     pub once : (j k : ℕ) (e : (ℕ × ℕ) × C) → slice_get all j ≡ Some e → slice_get all k ≡ Some e → j ≡ k
+    pub in_order : (j k : ℕ) (e g : (ℕ × ℕ) × C) → j < k → slice_get all j ≡ Some e → slice_get all k ≡ Some g → ¬ (IsEarlier g.0.0 g.0.1 e.0.0 e.0.1)
     pub within : (k : ℕ) (t : Reason C) → slice_get rs.told.items k ≡ Some t → t.link < length rs.links.items
     pub told : map (entry_of rs.links.items) rs.told.items ≡ take most all
     pub count : rs.count ≡ length all

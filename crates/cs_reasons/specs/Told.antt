@@ -1,5 +1,6 @@
 -- What is told of a refused pair: the first of its reasons, how many there are, and the chains that lead to them.
 use Rattle.std.specs.Prelude.{◌≡◌, ℕ, zero, suc, ◌<◌, List, [], ◌∷◌, ◌++◌, Option, Some, None, Contains, length, take, map, slice_get}
+use Rattle.cs_table.specs.Judged.{IsEarlier}
 use Rattle.cs_reasons.specs.Reasons.{IsReason}
 use Rattle.cs_reasons.specs.declared.reasons.Link.{Link}
 use Rattle.cs_reasons.specs.declared.reasons.Up.{Up}
@@ -35,6 +36,7 @@ module _ {C : Type 0} (leads_to : C → Option (ℕ × ℕ)) (is_cause : ℕ →
     pub sound : (k : ℕ) (e : (ℕ × ℕ) × C) → slice_get all k ≡ Some e → IsReason leads_to is_cause i r e
     pub complete : (e : (ℕ × ℕ) × C) → IsReason leads_to is_cause i r e → Contains all e
     pub once : (j k : ℕ) (e : (ℕ × ℕ) × C) → slice_get all j ≡ Some e → slice_get all k ≡ Some e → j ≡ k
+    pub in_order : (j k : ℕ) (e g : (ℕ × ℕ) × C) → j < k → slice_get all j ≡ Some e → slice_get all k ≡ Some g → ¬ (IsEarlier g.0.0 g.0.1 e.0.0 e.0.1)
     pub told : map (entry_of rs.links.items) rs.told.items ≡ take most all
     pub count : rs.count ≡ length all
     pub some : 0 < length all
