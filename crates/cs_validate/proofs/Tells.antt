@@ -9,7 +9,7 @@ use Rattle.cs_document.specs.Document.{Document, null, boolean, IsDocument}
 use Rattle.cs_document.specs.Opened.{Opened}
 use Rattle.cs_flat.specs.Nodes.{node_at}
 use Rattle.cs_flat.specs.Listed.{values, document_in}
-use Rattle.cs_table.specs.Judged.{AllVerdicts}
+use Rattle.cs_table.specs.Judged.{AllVerdicts, IsEarlier}
 use Rattle.cs_reasons.specs.Reasons as reason
 use Rattle.cs_reasons.specs.Reasons.{IsReached, IsReason, IsFollowed}
 use Rattle.cs_reasons.specs.Told.{pair_at, entry_of, chain_to, IsUnder, AreReasons}
@@ -296,6 +296,15 @@ module _ (R : Document) (xs : List (Opened ℕ)) (all : List Document) (asked : 
           let entry : b.0 ≡ a.0 = ap₂ (λ (p : ℕ × ℕ) (c : C). (p, c)) pair (sym cause) in
           reasons.once j k a.0 a.1 (b.1 ∙ ap (λ z. Some z) entry)
 
+      in_order_of : (j k : ℕ) (e g : (ℕ × ℕ) × NumberedCause) → j < k → slice_get all_numbered j ≡ Some e → slice_get all_numbered k ≡ Some g → ¬ (IsEarlier g.0.0 g.0.1 e.0.0 e.0.1)
+      in_order_of j k e g l a b earlier =
+          let x = got_map_back (numbered_by followed named) reasons.all j e a in
+          let y = got_map_back (numbered_by followed named) reasons.all k g b in
+          let first : e.0 ≡ x.0.0 = ap (λ (z : (ℕ × ℕ) × NumberedCause). z.0) (sym x.2) in
+          let second : g.0 ≡ y.0.0 = ap (λ (z : (ℕ × ℕ) × NumberedCause). z.0) (sym y.2) in
+          let here : IsEarlier g.0.0 g.0.1 x.0.0.0 x.0.0.1 = subst (λ (p : ℕ × ℕ). IsEarlier g.0.0 g.0.1 p.0 p.1) first earlier in
+          reasons.in_order j k x.0 y.0 l x.1 y.1 (subst (λ (p : ℕ × ℕ). IsEarlier p.0 p.1 x.0.0.0 x.0.0.1) second here)
+
       complete_of : (ways : List Way) (s x : Document) (c : Cause Document Document Document) → IsWhy R V R (document_in xs) ways s x c → IsGoneInto telling.all ways
           → (e : (ℕ × ℕ) × NumberedCause) × Contains all_numbered e × Leads ways e.0 × (schema_of all xs e.0 ≡ s) × (value_of all xs e.0 ≡ x) × (meant all xs e.1 ≡ c)
       complete_of ways s x c why on =
@@ -332,6 +341,7 @@ module _ (R : Document) (xs : List (Opened ℕ)) (all : List Document) (asked : 
         count = same.count ∙ reasons.count ∙ sym (length-map reasons.all (numbered_by followed named));
         some = subst (λ n. 0 < n) (sym (length-map reasons.all (numbered_by followed named))) reasons.some;
         once = once_of;
+        in_order = in_order_of;
         complete = complete_of;
       }
 
