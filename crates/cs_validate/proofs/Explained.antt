@@ -1,10 +1,10 @@
 -- What is told over a table of verdicts tells why the document isn't valid.
 use Rattle.std.proofs.Common.{◌≡◌, ◌⊎◌, inl, inr, ℕ, ◌<◌, Bool, true, false, List, Option, Some, None, length, refl, sym, subst}
-use Rattle.cs_document.specs.Document.{Document, IsDocument}
+use Rattle.cs_document.specs.Document.{Document}
 use Rattle.cs_document.specs.Opened.{Opened}
 use Rattle.cs_flat.specs.Nodes.{nodes, node_at}
 use Rattle.cs_flat.specs.Items.{AreItems}
-use Rattle.cs_flat.specs.Listed.{values, document_in}
+use Rattle.cs_flat.specs.Listed.{values, document_in, IsListed}
 use Rattle.cs_reasons.specs.Reasons as reason
 use Rattle.cs_reasons.specs.Reasons.{IsFollowed}
 use Rattle.cs_reasons.specs.declared.reasons.Link.{Link}
@@ -14,6 +14,7 @@ use Rattle.cs_reasons.specs.declared.reasons.Reasons.{Reasons}
 use Rattle.cs_reasons.specs.declared.telling.Telling.{Telling}
 use Rattle.cs_rules.specs.Answers.{answer}
 use Rattle.cs_table.specs.Judged.{AllVerdicts, IsJudged}
+use Rattle.cs_profile.specs.Profile.{walk_fault}
 use Rattle.cs_profile.specs.Validity.{IsValidity}
 use Rattle.cs_validate.specs.PlacedCauses.{leads_to, is_alternative, IsPlacedCause}
 use Rattle.cs_validate.specs.PlacedTold.{IsNamed, AreReasonsOf}
@@ -25,9 +26,10 @@ use Rattle.cs_validate.specs.declared.cause.ValidCause.{ValidCause}
 use Rattle.cs_validate.specs.declared.placed_cause.PlacedCause.{PlacedCause}
 use Rattle.cs_validate.specs.declared.placed_cause.PlacedCause.TheVariants.{NoAlternative}
 use Rattle.cs_validate.specs.declared.rules.Rule.{Rule as Coded}
-use Rattle.cs_validate.proofs.PlacedNamed.{named, are_named, follows_all, follows_closest}
+use Rattle.cs_validate.proofs.PlacedNamed.{named, are_named, only_none, alternatives, follows_all, follows_closest}
+use Rattle.cs_validate.proofs.PlacedOnce.{placed_distinct}
 use Rattle.cs_validate.proofs.Settings.{told_why}
-use Rattle.cs_validate.proofs.Tells.{AreFollowed, says, zip_map}
+use Rattle.cs_validate.proofs.Tells.{AreFollowed, AreDistinct, closest_distinct, says, zip_map}
 
 -- ---- reasons in another form, where more is said of the form
 
@@ -66,7 +68,7 @@ table_over f ys xs rules' rules inner' inner a b d h =
 -- ---- the root's refusal of the document
 
 module _ (R : Document) (xs : List (Opened ℕ)) (root : ℕ) (rules : List Coded) (inner : List ℕ) (rooted : IsRooted R rules inner root) (are : AreItems (values xs) xs) (many : length xs ≡ length (nodes (document_in xs)))
-    (fits : IsDocument (document_in xs)) (f : AllVerdicts) (only : IsTableOf xs rules inner f) (last : ℕ) (within : last < length xs) (is_last : node_at (values xs) last ≡ document_in xs) (denied : f last root ≡ false)
+    (listed : IsListed (document_in xs) xs) (shaped : walk_fault R ≡ None) (f : AllVerdicts) (only : IsTableOf xs rules inner f) (last : ℕ) (within : last < length xs) (is_last : node_at (values xs) last ≡ document_in xs) (denied : f last root ≡ false)
     (telling : Telling) (rs : Reasons PlacedCause) (ss : Reasons ValidCause) (same : AreRenamed (IsNamed xs rules inner) rs ss) (V : Document → Document → Bool) (h : IsValidity R V) where
   abbrev is_cause : ℕ → ℕ → PlacedCause → Type 0
   is_cause = IsPlacedCause f xs rules inner
@@ -79,14 +81,18 @@ module _ (R : Document) (xs : List (Opened ℕ)) (root : ℕ) (rules : List Code
   cause_or_none chosen j q c (reason.alternative a b m k) = inl a
   cause_or_none chosen j q c (reason.unchosen a b k) = inr refl
 
+  distinct : AreDistinct is_cause (named f xs rules inner)
+  distinct = placed_distinct R xs root rules inner rooted shaped listed f
+
   by_telling : (b : Bool) → telling.all ≡ b → AreReasonsOf xs rules inner f b last root telling.most rs → IsToldWhy R V xs telling ss
   by_telling true e reasons =
-      told_why R xs root rules inner rooted are many fits f only last within is_last denied leads_to is_cause is_cause (named f xs rules inner) (are_named f xs rules inner) telling (follows_all f xs rules inner telling.all) rs reasons ss
-      (renamed (IsNamed xs rules inner) (says is_cause (named f xs rules inner)) (λ p c d n a. n f (inl a)) rs ss same) V h
+      told_why R xs root rules inner rooted are many listed.document f only last within is_last denied leads_to is_cause is_cause (named f xs rules inner) (are_named f xs rules inner) telling (follows_all f xs rules inner telling.all) rs reasons ss
+      (renamed (IsNamed xs rules inner) (says is_cause (named f xs rules inner)) (λ p c d n a. n f (inl a)) rs ss same) distinct V h
   by_telling false e reasons =
-      told_why R xs root rules inner rooted are many fits f only last within is_last denied leads_to is_cause (Closest reasons.0) (named f xs rules inner) (are_named f xs rules inner) telling
+      told_why R xs root rules inner rooted are many listed.document f only last within is_last denied leads_to is_cause (Closest reasons.0) (named f xs rules inner) (are_named f xs rules inner) telling
       (subst (AreFollowed leads_to is_cause (Closest reasons.0) (named f xs rules inner)) (sym e) (follows_closest f xs rules inner reasons.0)) rs reasons.1 ss
-      (renamed (IsNamed xs rules inner) (says (Closest reasons.0) (named f xs rules inner)) (λ p c d n a. n f (cause_or_none reasons.0 p.0 p.1 c a)) rs ss same) V h
+      (renamed (IsNamed xs rules inner) (says (Closest reasons.0) (named f xs rules inner)) (λ p c d n a. n f (cause_or_none reasons.0 p.0 p.1 c a)) rs ss same)
+      (closest_distinct leads_to is_cause (named f xs rules inner) is_alternative NoAlternative reasons.0 refl (λ p. refl) (only_none f xs rules inner) (alternatives f xs rules inner) distinct) V h
 
   pub explained : AreReasonsOf xs rules inner f telling.all last root telling.most rs → IsToldWhy R V xs telling ss
   explained reasons = by_telling telling.all refl reasons

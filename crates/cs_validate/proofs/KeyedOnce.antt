@@ -95,30 +95,36 @@ there y (m ∷ ms) zero k e =
     omega (arith, s, t)
 there y (m ∷ ms) (suc j) k e = let s = sum_by-cons (one y) m.1 (numbers ms) in let r = there y ms j k e in omega (arith, s, r)
 
-one_key : (y : ℕ) (ms : List (Entry ℕ)) → times y (numbers ms) ≤ 1 → (i j : ℕ) (k l : List ℕ) → slice_get ms i ≡ Some (k, y) → slice_get ms j ≡ Some (l, y) → k ≡ l
-one_key y [] h i j k l d e = cc
-one_key y (m ∷ ms) h zero zero k l d e = ap (λ (z : Entry ℕ). z.0) (sym (same_Some m (k, y) d) ∙ same_Some m (l, y) e)
-one_key y (m ∷ ms) h zero (suc j) k l d e =
+one_place : (y : ℕ) (ms : List (Entry ℕ)) → times y (numbers ms) ≤ 1 → (i j : ℕ) (k l : List ℕ) → slice_get ms i ≡ Some (k, y) → slice_get ms j ≡ Some (l, y) → i ≡ j
+one_place y [] h i j k l d e = cc
+one_place y (m ∷ ms) h zero zero k l d e = refl
+one_place y (m ∷ ms) h zero (suc j) k l d e =
     let s = sum_by-cons (one y) m.1 (numbers ms) in
     let t : one y m.1 ≡ 1 = ap (λ (z : Entry ℕ). one y z.1) (same_Some m (k, y) d) ∙ one_here y in
     let r = there y ms j l e in
     absurd (omega (arith, h, s, t, r))
-one_key y (m ∷ ms) h (suc i) zero k l d e =
+one_place y (m ∷ ms) h (suc i) zero k l d e =
     let s = sum_by-cons (one y) m.1 (numbers ms) in
     let t : one y m.1 ≡ 1 = ap (λ (z : Entry ℕ). one y z.1) (same_Some m (l, y) e) ∙ one_here y in
     let r = there y ms i k d in
     absurd (omega (arith, h, s, t, r))
-one_key y (m ∷ ms) h (suc i) (suc j) k l d e = let s = sum_by-cons (one y) m.1 (numbers ms) in one_key y ms (omega (arith, h, s)) i j k l d e
+one_place y (m ∷ ms) h (suc i) (suc j) k l d e = let s = sum_by-cons (one y) m.1 (numbers ms) in ap suc (one_place y ms (omega (arith, h, s)) i j k l d e)
 
--- the keys of a value in a map of a listed document
-pub same_key : (d : Document) (xs : List (Opened ℕ)) → IsListed d xs → (i : ℕ) (ms : List (Entry ℕ)) → slice_get xs i ≡ Some (an_object ms) → (y : ℕ) (k l : List ℕ) → Contains ms (k, y) → Contains ms (l, y) → k ≡ l
-same_key d xs h i ms e y k l a b =
+-- the place of a value in a map of a listed document
+pub same_place : (d : Document) (xs : List (Opened ℕ)) → IsListed d xs → (i : ℕ) (ms : List (Entry ℕ)) → slice_get xs i ≡ Some (an_object ms) → (y p q : ℕ) (k l : List ℕ) → slice_get ms p ≡ Some (k, y) → slice_get ms q ≡ Some (l, y) → p ≡ q
+same_place d xs h i ms e y p q k l a b =
     let s = sum_by-IsPermutation (one y) (flat_map numbers_in xs) (range_with_len 0 (inside d)) h.once in
     let few = one_at_most y 0 (inside d) in
     let part = in_one y xs i (an_object ms) e in
+    one_place y ms (omega (arith, s, few, part)) p q k l a b
+
+-- and its key
+pub same_key : (d : Document) (xs : List (Opened ℕ)) → IsListed d xs → (i : ℕ) (ms : List (Entry ℕ)) → slice_get xs i ≡ Some (an_object ms) → (y : ℕ) (k l : List ℕ) → Contains ms (k, y) → Contains ms (l, y) → k ≡ l
+same_key d xs h i ms e y k l a b =
     let p = place_of ms (k, y) a in
     let q = place_of ms (l, y) b in
-    one_key y ms (omega (arith, s, few, part)) p.0 q.0 k l p.1 q.1
+    let is = same_place d xs h i ms e y p.0 q.0 k l p.1 q.1 in
+    ap (λ (z : Entry ℕ). z.0) (same_Some (k, y) (l, y) (sym p.1 ∙ ap (slice_get ms) is ∙ q.1))
 
 -- ---- the key of a property
 

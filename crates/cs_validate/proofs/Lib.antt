@@ -52,6 +52,8 @@ pub mod Settings
 pub mod Parts
 pub mod PlacedNamed
 pub mod KeyedOnce
+pub mod RequiredOnce
+pub mod PlacedOnce
 pub mod Explained
 -- samples
 mod Samples

@@ -20,7 +20,7 @@ use Rattle.cs_validate.specs.Numbering.{schema_at}
 use Rattle.cs_validate.specs.Judging.{IsJudge}
 use Rattle.cs_validate.specs.NumberedCauses.{NumberedCause}
 use Rattle.cs_validate.specs.Renamed.{AreRenamed}
-use Rattle.cs_validate.specs.WhyTold.{IsToldWhy, IsEachOnce}
+use Rattle.cs_validate.specs.WhyTold.{IsToldWhy}
 use Rattle.cs_validate.specs.declared.cause.ValidCause.{ValidCause}
 use Rattle.cs_validate.specs.declared.rules.Rule.{Rule as Coded}
 use Rattle.cs_validate.specs.Steps.{asked_of, numbered, step}
@@ -28,7 +28,7 @@ use Rattle.cs_validate.specs.Rooted.{IsRooted}
 use Rattle.cs_validate.proofs.Satisfied.{named as mapped}
 use Rattle.cs_validate.proofs.Verdicts.{is_judged}
 use Rattle.cs_validate.proofs.Whys.{IsSetting}
-use Rattle.cs_validate.proofs.Tells.{AreNamed, AreFollowed, AreDistinct, says, tells, tells_once}
+use Rattle.cs_validate.proofs.Tells.{AreNamed, AreFollowed, AreDistinct, says, tells}
 
 module _ (R : Document) (xs : List (Opened ℕ)) (root : ℕ) (rules : List Coded) (inner : List ℕ) (rooted : IsRooted R rules inner root) where
   answers_here : (f : AllVerdicts) (i r : ℕ) (c : Constraint ℕ ℕ) (x : Opened ℕ) → slice_get (map (numbered inner) rules) r ≡ Some c → slice_get xs i ≡ Some x
@@ -69,7 +69,7 @@ module _ (R : Document) (xs : List (Opened ℕ)) (root : ℕ) (rules : List Code
       (last : ℕ) (within : last < length xs) (is_last : node_at (values xs) last ≡ document_in xs) (denied : g last root ≡ false)
       {C : Type 0} (leads_to : C → Option (ℕ × ℕ)) (is_cause followed : ℕ → ℕ → C → Type 0) (called : ℕ × ℕ → C → NumberedCause) (names : AreNamed leads_to is_cause called g xs (map (numbered inner) rules))
       (telling : Telling) (follows : AreFollowed leads_to is_cause followed called telling.all)
-      (rs : Reasons C) (reasons : AreReasons leads_to followed last root telling.most rs) (ss : Reasons ValidCause) (same : AreRenamed (says followed called) rs ss)
+      (rs : Reasons C) (reasons : AreReasons leads_to followed last root telling.most rs) (ss : Reasons ValidCause) (same : AreRenamed (says followed called) rs ss) (distinct : AreDistinct followed called)
       (V : Document → Document → Bool) (h : IsValidity R V) where
     setting : IsSetting R xs rooted.all (map (numbered inner) rules) g V
     setting = setting_of are many g only V h
@@ -79,8 +79,4 @@ module _ (R : Document) (xs : List (Opened ℕ)) (root : ℕ) (rules : List Code
 
     pub told_why : IsToldWhy R V xs telling ss
     told_why =
-        tells R xs rooted.all (map (numbered inner) rules) g V setting leads_to is_cause followed called names telling follows last root within root_within root_there is_last bad fits rs reasons ss same rooted.are
-
-    pub told_why_once : AreDistinct followed called → (w : IsToldWhy R V xs telling ss) × IsEachOnce w
-    told_why_once distinct =
-        tells_once R xs rooted.all (map (numbered inner) rules) g V setting leads_to is_cause followed called names telling follows last root within root_within root_there is_last bad fits rs reasons ss same distinct rooted.are
+        tells R xs rooted.all (map (numbered inner) rules) g V setting leads_to is_cause followed called names telling follows last root within root_within root_there is_last bad fits rs reasons ss same distinct rooted.are

@@ -9,7 +9,7 @@ use Rattle.cs_document.specs.Document.{Document, null, boolean, IsDocument}
 use Rattle.cs_document.specs.Opened.{Opened}
 use Rattle.cs_flat.specs.Nodes.{node_at}
 use Rattle.cs_flat.specs.Listed.{values, document_in}
-use Rattle.cs_table.specs.Judged.{AllVerdicts}
+use Rattle.cs_table.specs.Judged.{AllVerdicts, IsEarlier}
 use Rattle.cs_reasons.specs.Reasons as reason
 use Rattle.cs_reasons.specs.Reasons.{IsReached, IsReason, IsFollowed}
 use Rattle.cs_reasons.specs.Told.{pair_at, entry_of, chain_to, IsUnder, AreReasons}
@@ -27,7 +27,7 @@ use Rattle.cs_validate.specs.Causes.{Cause}
 use Rattle.cs_validate.specs.NumberedCauses.{NumberedCause, IsNumberedCause}
 use Rattle.cs_validate.specs.Renamed.{IsUpRenamed, IsLinkRenamed, IsReasonRenamed, AreRenamed}
 use Rattle.cs_validate.specs.Why.{Way, by_alternative, is_by_alternative, way_of, led, steps_of, IsWhyNot, IsWhy, IsTold, itself, none}
-use Rattle.cs_validate.specs.WhyTold.{cause_of, ways_of, ways_to, numbered_entry, value_of, schema_of, meant, LeadTo, IsToldWhy, IsEachOnce}
+use Rattle.cs_validate.specs.WhyTold.{cause_of, ways_of, ways_to, numbered_entry, value_of, schema_of, meant, LeadTo, IsToldWhy}
 use Rattle.cs_validate.specs.declared.cause.ValidCause.{ValidCause}
 use Rattle.cs_validate.proofs.Contained.{place_of, at_place, got_map, got_map_back}
 use Rattle.cs_validate.proofs.Pointed.{refused_at}
@@ -245,7 +245,7 @@ module _ (R : Document) (xs : List (Opened ℕ)) (all : List Document) (asked : 
     told_there (itself h) = refused_at R V R (document_in xs) fits h.refused
     told_there (none e h a) = refused_at R V R (document_in xs) fits h
 
-    module _ (rs : Reasons C) (reasons : AreReasons leads_to followed i r telling.most rs) (ss : Reasons ValidCause) (same : AreRenamed (says followed named) rs ss) where
+    module _ (rs : Reasons C) (reasons : AreReasons leads_to followed i r telling.most rs) (ss : Reasons ValidCause) (same : AreRenamed (says followed named) rs ss) (distinct : AreDistinct followed named) where
       abbrev all_numbered : List ((ℕ × ℕ) × NumberedCause)
       all_numbered = map (numbered_by followed named) reasons.all
 
@@ -282,8 +282,8 @@ module _ (R : Document) (xs : List (Opened ℕ)) (all : List Document) (asked : 
           let told : Told (ways_of c.0) b.0.0 (named b.0.0 b.0.1) = told_by_chain c.1 s.cause s.leaf in
           (ways_of c.0, subst (λ (z : (ℕ × ℕ) × NumberedCause). Leads (ways_of c.0) z.0) b.2 (leads_by_chain R xs all asked f V setting i r c.1), subst (λ (z : (ℕ × ℕ) × NumberedCause). Told (ways_of c.0) z.0 z.1) b.2 told)
 
-      once_of : AreDistinct followed named → (j k : ℕ) (e : (ℕ × ℕ) × NumberedCause) → slice_get all_numbered j ≡ Some e → slice_get all_numbered k ≡ Some e → j ≡ k
-      once_of distinct j k e g h =
+      once_of : (j k : ℕ) (e : (ℕ × ℕ) × NumberedCause) → slice_get all_numbered j ≡ Some e → slice_get all_numbered k ≡ Some e → j ≡ k
+      once_of j k e g h =
           let a = got_map_back (numbered_by followed named) reasons.all j e g in
           let b = got_map_back (numbered_by followed named) reasons.all k e h in
           let s = reasons.sound j a.0 a.1 in
@@ -295,6 +295,15 @@ module _ (R : Document) (xs : List (Opened ℕ)) (all : List Document) (asked : 
           let cause : a.0.1 ≡ b.0.1 = distinct a.0.0.0 a.0.0.1 a.0.1 b.0.1 s.cause other causes in
           let entry : b.0 ≡ a.0 = ap₂ (λ (p : ℕ × ℕ) (c : C). (p, c)) pair (sym cause) in
           reasons.once j k a.0 a.1 (b.1 ∙ ap (λ z. Some z) entry)
+
+      in_order_of : (j k : ℕ) (e g : (ℕ × ℕ) × NumberedCause) → j < k → slice_get all_numbered j ≡ Some e → slice_get all_numbered k ≡ Some g → ¬ (IsEarlier g.0.0 g.0.1 e.0.0 e.0.1)
+      in_order_of j k e g l a b earlier =
+          let x = got_map_back (numbered_by followed named) reasons.all j e a in
+          let y = got_map_back (numbered_by followed named) reasons.all k g b in
+          let first : e.0 ≡ x.0.0 = ap (λ (z : (ℕ × ℕ) × NumberedCause). z.0) (sym x.2) in
+          let second : g.0 ≡ y.0.0 = ap (λ (z : (ℕ × ℕ) × NumberedCause). z.0) (sym y.2) in
+          let here : IsEarlier g.0.0 g.0.1 x.0.0.0 x.0.0.1 = subst (λ (p : ℕ × ℕ). IsEarlier g.0.0 g.0.1 p.0 p.1) first earlier in
+          reasons.in_order j k x.0 y.0 l x.1 y.1 (subst (λ (p : ℕ × ℕ). IsEarlier p.0 p.1 x.0.0.0 x.0.0.1) second here)
 
       complete_of : (ways : List Way) (s x : Document) (c : Cause Document Document Document) → IsWhy R V R (document_in xs) ways s x c → IsGoneInto telling.all ways
           → (e : (ℕ × ℕ) × NumberedCause) × Contains all_numbered e × Leads ways e.0 × (schema_of all xs e.0 ≡ s) × (value_of all xs e.0 ≡ x) × (meant all xs e.1 ≡ c)
@@ -313,8 +322,8 @@ module _ (R : Document) (xs : List (Opened ℕ)) (all : List Document) (asked : 
           let p = place_of reasons.all e (reasons.complete e given) in
           (numbered_by followed named e, at_place all_numbered (numbered_by followed named e) p.0 (got_map (numbered_by followed named) reasons.all p.0 e p.1), subst (λ w. Leads w (h.there.item, h.there.rule)) h.there.same (leads_by_chain R xs all asked f V setting i r h.there.chain), h.there.schema, h.there.value, ap (meant all xs) d.2 ∙ h.means)
 
-      abbrev told_here : AreRules R all → IsToldWhy R V xs telling ss
-      told_here rules = record {
+      pub tells : AreRules R all → IsToldWhy R V xs telling ss
+      tells rules = record {
         rules = all;
         are = rules;
         asked = asked;
@@ -331,14 +340,10 @@ module _ (R : Document) (xs : List (Opened ℕ)) (all : List Document) (asked : 
         told = same_told followed named rs.links.items ss (pairs rs.links.items ss.links.items same.links) rs.told.items ss.told.items (λ k t e. (reasons.sound k (entry_of rs.links.items t) (entry_at k t e)).cause) same.told ∙ ap (map (numbered_by followed named)) reasons.told ∙ sym (take-map (numbered_by followed named) telling.most reasons.all);
         count = same.count ∙ reasons.count ∙ sym (length-map reasons.all (numbered_by followed named));
         some = subst (λ n. 0 < n) (sym (length-map reasons.all (numbered_by followed named))) reasons.some;
+        once = once_of;
+        in_order = in_order_of;
         complete = complete_of;
       }
-
-      pub tells : AreRules R all → IsToldWhy R V xs telling ss
-      tells rules = told_here rules
-
-      pub tells_once : AreDistinct followed named → AreRules R all → (w : IsToldWhy R V xs telling ss) × IsEachOnce w
-      tells_once distinct rules = (told_here rules, once_of distinct)
 
 -- ---- the two ways of telling
 

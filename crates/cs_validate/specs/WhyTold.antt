@@ -5,7 +5,7 @@ use Rattle.cs_document.specs.Document.{Document}
 use Rattle.cs_document.specs.Opened.{Opened}
 use Rattle.cs_flat.specs.Nodes.{node_at}
 use Rattle.cs_flat.specs.Listed.{values, document_in}
-use Rattle.cs_table.specs.Judged.{AllVerdicts}
+use Rattle.cs_table.specs.Judged.{AllVerdicts, IsEarlier}
 use Rattle.cs_reasons.specs.Told.{pair_at, chain_to}
 use Rattle.cs_reasons.specs.declared.reasons.Reason.{Reason}
 use Rattle.cs_reasons.specs.declared.reasons.Reasons.{Reasons}
@@ -93,10 +93,9 @@ pub record IsToldWhy (R : Document) (V : Document → Document → Bool) (xs : L
   pub told : map (numbered_entry rs) rs.told.items ≡ take telling.most all
   pub count : rs.count ≡ length all
   pub some : 0 < length all
+  -- each is counted once, in the order of their pairs
+  pub once : (j k : ℕ) (e : (ℕ × ℕ) × NumberedCause) → slice_get all j ≡ Some e → slice_get all k ≡ Some e → j ≡ k
+  pub in_order : (j k : ℕ) (e g : (ℕ × ℕ) × NumberedCause) → j < k → slice_get all j ≡ Some e → slice_get all k ≡ Some g → ¬ (IsEarlier g.0.0 g.0.1 e.0.0 e.0.1)
   -- no reason is left out, but by schemas of `anyOf` where these aren't told of one by one
   pub complete : (ways : List Way) (s x : Document) (c : Cause Document Document Document) → IsWhy R V R (document_in xs) ways s x c → (telling.all || not (list_any is_by_alternative ways)) ≡ true
       → (e : (ℕ × ℕ) × NumberedCause) × Contains all e × LeadTo rules xs V asked whole root ways e.0 × (schema_of rules xs e.0 ≡ s) × (value_of rules xs e.0 ≡ x) × (meant rules xs e.1 ≡ c)
-
--- each reason is counted once
-abbrev pub IsEachOnce : {R : Document} {V : Document → Document → Bool} {xs : List (Opened ℕ)} {telling : Telling} {rs : Reasons ValidCause} → IsToldWhy R V xs telling rs → Type 0
-IsEachOnce w = (j k : ℕ) (e : (ℕ × ℕ) × NumberedCause) → slice_get w.all j ≡ Some e → slice_get w.all k ≡ Some e → j ≡ k

@@ -91,6 +91,7 @@ impl SchemaRules<'_> {
             → IsValidity self.now V → IfSome o (IsToldWhy self.now V flat.now telling)) }
     {
         one_meaning(self.schema); // for the proof: there is one validity
+        self.schema.whole_law(); // for the proof: no name is required twice
         let last = flat.len() - 1; // the document itself
         refill(&self.book.over(flat), table)?;
         if table.get(last, self.root) {

@@ -48,6 +48,7 @@ fn place_object<'a>(
     let all_of = place_all(alloc, &keywords.all_of, numbers, numberer)?;
     let any_of = place_all(alloc, &keywords.any_of, numbers, numberer)?;
     let negated = place_option(alloc, &keywords.negated, numbers, numberer)?;
+    let _count = keywords.properties.len(); // for the proof: the names are in order
     let conjunction = Conjunction {
         keywords,
         required: Names::new(alloc, &keywords.required)?,

@@ -1,5 +1,7 @@
 // What schemas ask, by the numbers of their parts.
-ghost use Rattle.std.specs.Prelude.{◌≡◌, map, string_bytes};
+ghost use Rattle.std.specs.Prelude.{◌≡◌, map, string_bytes, string_cmp};
+ghost use Rattle.std.specs.BTreeMap.{IsOrdered};
+ghost use Rattle.std.proofs.lemmas.Map.Keys.{IsStrictlySortedBy-prop};
 
 use cs_flat::{DocSet, Names};
 use cs_profile::Keywords;
@@ -34,6 +36,7 @@ pub struct Conjunction<'a> {
     /// `prefixItems` and `properties` are one after another.
     pub(crate) first: usize,
     ghost names: { required ≡ map string_bytes keywords.now.required.items },
+    ghost ordered: { IsOrdered string_cmp keywords.now.properties } by { Prim.hlevel IsStrictlySortedBy-prop },
 }
 
 /// The rules of a schema document.

@@ -59,6 +59,7 @@ place_object-returns t c =
     let n4 : State = record { rules = n3.rules; pending = c.wait_inside.new.pending } in
     let j : Conjunction = record {
       names = _;
+      ordered = _;
       keywords = c.args.keywords;
       required = c.in_ok-new.field-0;
       one_of = c.in_ok-set_of.field-0;

@@ -103,7 +103,7 @@ returns-clause-why c =
     let below : last < length xs = omega (arith, l.count, l.inside) in
     let same : node_at (values xs) last ≡ document_in xs = ap (node_at (values xs)) is ∙ l.last in
     subst (λ (D : Document). (V : Document → Document → Bool) → IsValidity D V → IsToldWhy D V xs c.args.telling c.in_ok-named.named) c.self.view_is
-    (λ V h. explained R xs s.root s.book.numbering.rules.items s.book.numbering.children.items c.self.invariant l.items l.whole l.listed.document f only last below same (sym c.get.ensures ∙ c.if-get.false)
+    (λ V h. explained R xs s.root s.book.numbering.rules.items s.book.numbering.children.items c.self.invariant l.items l.whole l.listed c.whole_law.ensures.whole.profile.shaped f only last below same (sym c.get.ensures ∙ c.if-get.false)
     c.args.telling c.in_ok-reasons.reasons c.in_ok-named.named c.in_ok-named.ensures V h c.in_ok-reasons.ensures)
 
 pub returns-in_err-refill-clause-refused : goal.returns-in_err-refill-clause-refused
