@@ -210,6 +210,10 @@ try '5,000,000 empty lists: validate true' 5000001 valid 'validate --schema true
 { printf '['; many 2999999 '0,'; printf '0]'; } > values
 printf '#A: [...int]' > rest.cue
 try '3,000,000 zeros: vet [...int]' 9000003 valid 'vet --root #A --doc values rest.cue'
+printf '#A: [...string]' > rest.cue
+try '3,000,000 zeros: vet --why [...string]' 9000003 \
+    'lines 1 invalid;values:1:2: /0: found 0, want string [rest.cue:1:9 #A[]];2999999 more; --most N tells more' \
+    'vet --why --most 1 --root #A --doc values rest.cue'
 rm values
 
 # Keys and texts that agree but for their last bytes.
@@ -368,6 +372,10 @@ doubling 40 '|' > wide.cue
 try 'doubling 40 times by |: vet' 162 valid 'vet --root #A0 --doc seven wide.cue'
 doubling 64 '|' > wide.cue
 try 'doubling 64 times by |: vet' 258 valid 'vet --root #A0 --doc seven wide.cue'
+try 'doubling 64 times by |: vet --why' 258 'lines 1 invalid;null:1:1: (root): found null, want int [wide.cue:1:6 #A0]' \
+    'vet --why --root #A0 --doc null wide.cue'
+try 'doubling 64 times by |: vet --why=all' 258 'lines 1 invalid;null:1:1: (root): found null, want int [wide.cue:65:7 #A64]' \
+    'vet --why=all --root #A0 --doc null wide.cue'
 doubling 64 '&' > wide.cue
 awk 'BEGIN {
     printf "{\"$defs\":{"
@@ -377,6 +385,10 @@ awk 'BEGIN {
 try 'doubling 64 times: vet' 258 valid 'vet --root #A0 --doc seven wide.cue'
 try 'doubling 64 times: validate' 194 valid 'validate --schema schema --doc seven'
 try 'doubling 64 times: agree' 452 valid 'agree --root #A0 --doc seven wide.cue'
+try 'doubling 64 times: vet --why' 258 'lines 1 invalid;null:1:1: (root): found null, want int [wide.cue:65:7 #A64]' \
+    'vet --why --root #A0 --doc null wide.cue'
+try 'doubling 64 times: validate --why' 194 'lines 1 invalid;null:1:1: (root): found null, want integer [#/$defs/A64/type]' \
+    'validate --why --schema schema --doc null'
 doubling 65 '&' > wide.cue
 try 'doubling 65 times: vet' 0 'error 16' 'vet --root #A0 --doc seven wide.cue'
 closing

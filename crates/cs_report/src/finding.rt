@@ -233,12 +233,13 @@ impl<'t> Findings<'t> {
     /// That a list is longer than its fixed elements.
     fn many(&self, item: Item<'_>, fixed: usize) -> Result<Finding<'t>, AllocError> {
         let mut text = String::new(self.alloc);
-        match element_count(item).saturating_sub(fixed) {
+        let count = element_count(item);
+        match count.saturating_sub(fixed) {
             0 | 1 => text.push_str("one element")?,
             others => put_counted(&mut text, others, "element")?,
         }
         text.push_str(" too many: the list has ")?;
-        crate::text::put_number(&mut text, fixed)?;
+        crate::text::put_number(&mut text, count)?;
         let mut finding = self.here("many", text);
         finding.step = Some(Step::Element(fixed));
         Ok(finding)

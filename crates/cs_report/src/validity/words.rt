@@ -191,12 +191,12 @@ pub(crate) fn put_few(text: &mut String, count: usize, least: i64) -> Result<(),
     put_least(text, least)
 }
 
-/// Puts how many elements there are behind those that a list has.
+/// Puts how many elements a list has behind those that it may have, and how many in all.
 pub(crate) fn put_many(text: &mut String, count: usize, fixed: usize) -> Result<(), AllocError> {
     match count.saturating_sub(fixed) {
         0 | 1 => text.push_str("one element")?,
         others => put_counted(text, others, "element")?,
     }
     text.push_str(" too many: the list has ")?;
-    put_number(text, fixed)
+    put_number(text, count)
 }
