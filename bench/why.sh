@@ -1,7 +1,7 @@
 #!/bin/sh
 # Times `--why` by whole runs of the program, beside the same runs without it: a fleet of 5.79 MB with one fault, by `vet` and
 # `validate`, and by `vet` where each of its apps is refused for a misspelt key; and the largest table in which each pair is
-# refused and reached. A line for each: the milliseconds of both runs, how many times as long the one with `--why` takes, and
+# refused and reached. A line for each: the milliseconds of the processor for both runs, how many times as long the one with `--why` takes, and
 # its most memory in MB. Fails where one fault takes more than 1.5 times as long as the verdict, where the largest table takes
 # more than 300 MB, or where the answer isn't the one that is wanted. Other work on the machine makes it fail too.
 # usage: why.sh PROGRAM
@@ -11,27 +11,21 @@ set -eu
 . "$(dirname "$0")/fleets.sh"
 failed=0
 
-# The nanoseconds of one run: the least of seven.
+# The milliseconds of the processor for one run: the least of nine, by GNU's time, which counts in hundredths of a second.
 run_time() { # words
     best=
-    for _ in 1 2 3 4 5 6 7; do
-        begin=$(date +%s%N)
-        "$program" "$@" > "$folder/said" || true
-        end=$(date +%s%N)
-        taken=$((end - begin))
+    for _ in 1 2 3 4 5 6 7 8 9; do
+        /usr/bin/time -f '%U %S' -o "$folder/taken" "$program" "$@" > "$folder/said" || true
+        taken=$(tail -n 1 "$folder/taken" | awk '{ printf "%.0f", ($1 + $2) * 1e3 }')
         if [ -z "$best" ] || [ "$taken" -lt "$best" ]; then best=$taken; fi
     done
     echo "$best"
 }
 
-# The most memory of a run in KiB, by GNU's time, where it is there.
+# The most memory of a run in KiB.
 peak_of() { # words
-    if [ -x /usr/bin/time ]; then
-        /usr/bin/time -f %M -o "$folder/peak" "$program" "$@" > /dev/null || true
-        tail -n 1 "$folder/peak"
-    else
-        echo 0
-    fi
+    /usr/bin/time -f %M -o "$folder/peak" "$program" "$@" > /dev/null || true
+    tail -n 1 "$folder/peak"
 }
 
 # measure NAME TIMES MEGABYTES LAST WORDS: a line, and what it may take; LAST is in the last line that is printed
@@ -46,14 +40,14 @@ measure() {
     fi
     peak=$(peak_of "$@" --why)
     awk -v name="$name" -v plain="$plain" -v why="$why" -v peak="$peak" -v times="$times" -v megabytes="$megabytes" 'BEGIN {
-        share = why / plain
+        share = why / (plain > 0 ? plain : 10)
         fault = share > times ? "  more than " times " times" : (peak > megabytes * 1024 ? "  more than " megabytes " MB" : "")
-        printf "%-28s %9.1f %9.1f %8.2f %8.0f%s\n", name, plain / 1e6, why / 1e6, share, peak / 1024, fault
+        printf "%-28s %9.0f %9.0f %8.2f %8.0f%s\n", name, plain, why, share, peak / 1024, fault
         exit (fault != "")
     }' || failed=1
 }
 
-[ -x /usr/bin/time ] || echo "no memory is measured: there is no GNU /usr/bin/time"
+[ -x /usr/bin/time ] || { echo "there is no GNU time at /usr/bin/time" >&2; exit 1; }
 printf '%-28s %9s %9s %8s %8s\n' why 'ms' 'ms --why' times MB
 fleet_package > "$folder/fleet.cue"
 fleet 12624 > "$folder/good"

@@ -211,9 +211,9 @@ try '5,000,000 empty lists: validate true' 5000001 valid 'validate --schema true
 printf '#A: [...int]' > rest.cue
 try '3,000,000 zeros: vet [...int]' 9000003 valid 'vet --root #A --doc values rest.cue'
 printf '#A: [...string]' > rest.cue
-try '3,000,000 zeros: vet --why [...string]' 9000003 \
-    'lines 1 invalid;values:1:2: /0: found 0, want string [rest.cue:1:9 #A[]];2999999 more; --most N tells more' \
-    'vet --why --most 1 --root #A --doc values rest.cue'
+try '3,000,000 zeros: vet --format json [...string]' 9000003 \
+    'lines 1 {"valid":false,"errors":[{"valid":false,"instanceLocation":"/0","line":1,"column":2,"reason":"kind","error":"found 0, want string","definition":"#A","path":"[]","file":"rest.cue","sourceLine":1,"sourceColumn":9}],"more":2999999}' \
+    'vet --format json --most 1 --root #A --doc values rest.cue'
 rm values
 
 # Keys and texts that agree but for their last bytes.
@@ -374,8 +374,9 @@ doubling 64 '|' > wide.cue
 try 'doubling 64 times by |: vet' 258 valid 'vet --root #A0 --doc seven wide.cue'
 try 'doubling 64 times by |: vet --why' 258 'lines 1 invalid;null:1:1: (root): found null, want int [wide.cue:1:6 #A0]' \
     'vet --why --root #A0 --doc null wide.cue'
-try 'doubling 64 times by |: vet --why=all' 258 'lines 1 invalid;null:1:1: (root): found null, want int [wide.cue:65:7 #A64]' \
-    'vet --why=all --root #A0 --doc null wide.cue'
+try 'doubling 64 times by |: vet --why=all' 258 \
+    'lines 1 {"valid":false,"errors":[{"valid":false,"instanceLocation":"","line":1,"column":1,"reason":"kind","error":"found null, want int","definition":"#A64","path":"","alternative":"alternative 1 of 2","file":"wide.cue","sourceLine":65,"sourceColumn":7}],"more":0}' \
+    'vet --why=all --format json --root #A0 --doc null wide.cue'
 doubling 64 '&' > wide.cue
 awk 'BEGIN {
     printf "{\"$defs\":{"
