@@ -1,5 +1,5 @@
 -- What is told of a document beside its verdict.
-use Rattle.std.specs.Prelude.{◌≡◌, ℕ, List, ◌++◌, Bool, true, false, Option, Ok, Err, codes, decimal}
+use Rattle.std.specs.Prelude.{◌≡◌, ℕ, List, ◌++◌, Bool, true, false, Option, Ok, codes, decimal}
 use Rattle.std.specs.Io.KnownBytes.{Appends, Keeps}
 use Rattle.cs_report.specs.declared.named.Form.{Form}
 use Rattle.cs_report.specs.declared.named.Form.TheVariants.{Lines, Json, Flag, Basic}
