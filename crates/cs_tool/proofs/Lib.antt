@@ -20,6 +20,8 @@ pub mod Newlines
 pub mod OneSplit
 pub mod CallFaults
 pub mod RulesRefused
+-- documents with what is told of them
+pub mod ExplainedRuns
 -- what the first edition accepted
 pub mod EarlierSources
 -- samples

@@ -35,6 +35,10 @@ module _ (start mid now : Option (List ℕ)) (lines : List (List ℕ)) (run : Li
   pub lines_cut_off : AppendsFront mid now run.held → AreCutOff run.judge lines start now
   lines_cut_off w = record { answers = a.answers; answered = a.answered; written = front_written start mid now (answers_text a.answers) run.held a.handed w }
 
+-- nothing more is written
+pub lines_unwritten : (start now : Option (List ℕ)) (lines : List (List ℕ)) (run : LineRun) → AreAnswered start now lines run → AreCutOff run.judge lines start now
+lines_unwritten start now lines run a = lines_cut_off start now now lines run a (0, omega arith, Appends-nil now)
+
 -- ---- what was read
 
 pub lines_of_whole : (remaining left : Option (List ℕ)) (bytes : List ℕ) (lines : List (List ℕ)) → Consumes remaining left bytes → IsAtEnd left → AreLines bytes lines → IfSome remaining (λ xs. AreLines xs lines)
@@ -199,6 +203,9 @@ module _ (rules : Rules) (start mid now : Option (List ℕ)) (bytes : List ℕ) 
     answered = subst (λ r. AreAnswers r a.0 a.2.answers) a.3 a.2.answered;
     written = front_written start mid now (answers_text a.2.answers) run.held a.2.handed w;
   }
+
+pub all_unwritten : (rules : Rules) (start now : Option (List ℕ)) (bytes : List ℕ) (run : LineRun) → AreAllAnswered rules start now bytes run → IsCutOff rules (Some bytes) start now
+all_unwritten rules start now bytes run a = all_cut_off rules start now now bytes run a (0, omega arith, Appends-nil now)
 
 pub cut_off_more : (rules : Rules) (bytes more : List ℕ) (start now : Option (List ℕ)) → IsCutOffIn rules bytes start now → IsCutOffIn rules (bytes ++ more) start now
 cut_off_more rules bytes more start now h = (h.0, begins_more bytes more h.0 h.1, h.2)

@@ -2,6 +2,7 @@
 use Rattle.std.proofs.Common.{◌≡◌, ◌≢◌, ℕ, [], ◌∷◌, ◌++◌, map, true, false, Ok, Err, codes, refl, arith}
 use Rattle.std.specs.Fmt.{digits}
 use Rattle.std.proofs.lemmas.List.Elements.{All-nil, All-cons}
+use Rattle.cs_tool.specs.Explained.{IsLabelled}
 use Rattle.cs_tool.specs.Lines.{IsLine, AreLines, answer_line, labelled, outcome_of}
 use Rattle.cs_tool.specs.declared.answers.LinesOutcome.TheVariants.{AllValid, SomeInvalid, SomeRefused}
 use Rattle.cs_tool.specs.declared.fault.Fault.TheVariants.{Syntax, NotJson, OutOfMemory, InputTooLong, ReadFailed}
@@ -15,6 +16,17 @@ answer_lines = refl
 of_a_file : labelled (codes "a.json") (Err ReadFailed) ≡ codes "a.json: error 30" ++ 10 ∷ []
 unfolding digits
 of_a_file = refl
+
+-- reasons follow the line of a file that is invalid
+with_reasons : IsLabelled (codes "a") (Ok false) (codes "a: invalid\nb\n")
+with_reasons = (codes "b\n", refl)
+
+without_reasons : IsLabelled (codes "a") (Ok true) (codes "a: valid\n")
+without_reasons = refl
+
+refused_with_reasons : IsLabelled (codes "a") (Err NotJson) (codes "a: error 25\n")
+unfolding digits
+refused_with_reasons = refl
 
 outcomes : map outcome_of ([] ∷ (Ok true ∷ Ok true ∷ []) ∷ (Ok false ∷ Ok true ∷ []) ∷ (Ok true ∷ Ok false ∷ []) ∷ (Err NotJson ∷ Ok false ∷ []) ∷ (Ok false ∷ Err NotJson ∷ Ok true ∷ []) ∷ [])
     ≡ AllValid ∷ AllValid ∷ SomeInvalid ∷ SomeInvalid ∷ SomeRefused ∷ SomeRefused ∷ []

@@ -14,8 +14,8 @@ pub mod Earlier
 pub mod Streams
 pub mod Runs
 pub mod Judged
-pub mod Explained
 pub mod Prepared
 pub mod Lines
+pub mod Explained
 pub mod Begun
 pub mod Answering

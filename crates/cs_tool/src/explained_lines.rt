@@ -1,4 +1,9 @@
 // A run over the lines of an input that tells reasons.
+ghost use Rattle.std.specs.Prelude.{◌≡◌, ◌⊎◌, ℕ, List, ◌∷◌, [], ◌++◌, ◌<◌, length, Option, Some, OnOk, OnErr, IfOk, IfErr, IsOkUnless, Err};
+ghost use Rattle.cs_tool.specs.Begun.{HoldsFront};
+ghost use Rattle.cs_tool.specs.Lines.{IsDone, IsCutOff, LeavesLines, IsOfRules};
+ghost use Rattle.cs_tool.specs.Answering.{AreAnswered, IsAnswered, AreCutOff, IsCutOffIn};
+
 use crate::Fault;
 use crate::answers::LinesOutcome;
 use crate::begun_line::BegunLine;
@@ -42,7 +47,17 @@ pub fn explain_lines<R: Read, W: Write, E: Write>(
     input: &mut R,
     output: &mut W,
     notes: &mut E,
-) -> Result<LinesOutcome, Fault> {
+) -> Result<LinesOutcome, Fault>
+    ensures done { IfOk result (IsDone judge.entry (R.remaining input.old)
+        (W.contents output.old) (W.contents output.new)) }
+    ensures refused { IfErr result (λ e. LeavesLines judge.entry e
+        (R.remaining input.old) (R.remaining input.new)
+        (W.contents output.old) (W.contents output.new)) }
+    ensures unread { IfErr result (λ e. IsOfRules e
+        → (input.new ≡ input.old) × (output.new ≡ output.old)) }
+    ensures only { IfErr result (λ e. (e ≡ Fault.OutOfMemory)
+        ⊎ (e ≡ Fault.ReadFailed) ⊎ (e ≡ Fault.WriteFailed)) }
+{
     let mut run = begin(alloc, judge, name, why)?;
     answer_input(alloc, &mut run, input, output, notes)
 }
@@ -53,7 +68,13 @@ fn begin<'a, 'b>(
     judge: TextJudge<'a>,
     name: &'b str,
     why: Why<'b>,
-) -> Result<ExplainedRun<'a, 'b>, Fault> {
+) -> Result<ExplainedRun<'a, 'b>, Fault>
+    ensures begun { IfOk result (λ r. HoldsFront r.run.begun []) }
+    ensures held { IfOk result (λ r. r.run.held ≡ []) }
+    ensures outcome { IfOk result (λ r. r.run.outcome ≡ LinesOutcome.AllValid) }
+    ensures rules { IfOk result (λ r. r.run.judge ≡ judge.entry) }
+    ensures memory { IsOkUnless result Fault.OutOfMemory }
+{
     let held = HeldAnswers::new(alloc)?;
     let notes = HeldAnswers::new(alloc)?;
     let line = Named {
@@ -83,7 +104,19 @@ fn answer_input<R: Read, W: Write, E: Write>(
     input: &mut R,
     output: &mut W,
     notes: &mut E,
-) -> Result<LinesOutcome, Fault> {
+) -> Result<LinesOutcome, Fault>
+    requires start { IsAnswered (W.contents output.old) (W.contents output.old) [] run.old.run }
+    requires none { run.old.run.held ≡ [] }
+    ensures done { IfOk result (IsDone run.old.run.judge (R.remaining input.old)
+        (W.contents output.old) (W.contents output.new)) }
+    ensures refused { IfErr result (λ e. LeavesLines run.old.run.judge e
+        (R.remaining input.old) (R.remaining input.new)
+        (W.contents output.old) (W.contents output.new)) }
+    ensures unread { IfErr result (λ e. IsOfRules e
+        → (input.new ≡ input.old) × (output.new ≡ output.old)) }
+    ensures kind { IfErr result (λ e. (e ≡ Fault.OutOfMemory)
+        ⊎ (e ≡ Fault.ReadFailed) ⊎ (e ≡ Fault.WriteFailed)) }
+{
     let mut chunk = vec![in alloc; 0u8; CHUNK]?;
     answer_chunks(run, &mut chunk, input, output, notes)
 }
@@ -95,7 +128,17 @@ fn answer_chunks<R: Read, W: Write, E: Write>(
     input: &mut R,
     output: &mut W,
     notes: &mut E,
-) -> Result<LinesOutcome, Fault> {
+) -> Result<LinesOutcome, Fault>
+    requires room { 0 < length chunk.old }
+    requires start { IsAnswered (W.contents output.old) (W.contents output.old) [] run.old.run }
+    requires none { run.old.run.held ≡ [] }
+    ensures done { IfOk result (IsDone run.old.run.judge (R.remaining input.old)
+        (W.contents output.old) (W.contents output.new)) }
+    ensures refused { IfErr result (λ e. LeavesLines run.old.run.judge e
+        (R.remaining input.old) (R.remaining input.new)
+        (W.contents output.old) (W.contents output.new)) }
+    ensures kind { IfErr result (λ e. (e ≡ Fault.ReadFailed) ⊎ (e ≡ Fault.WriteFailed)) }
+{
     for _ in 0..u64::MAX {
         let Ok(count) = input.read(chunk) else {
             return Err(Fault::ReadFailed);
@@ -118,7 +161,18 @@ impl ExplainedRun<'_, '_> {
         chunk: &[u8],
         output: &mut W,
         notes: &mut E,
-    ) -> Result<(), Fault> {
+    ) -> Result<(), Fault>
+        ensures all { (start : Option (List ℕ)) (bytes : List ℕ)
+            → IsAnswered start (W.contents output.old) bytes self.old.run
+            → OnOk result (IsAnswered start (W.contents output.new)
+            (bytes ++ chunk.now) self.new.run) }
+        ensures front { (start : Option (List ℕ)) (bytes : List ℕ)
+            → IsAnswered start (W.contents output.old) bytes self.old.run
+            → OnErr result (IsCutOffIn self.old.run.judge (bytes ++ chunk.now)
+            start (W.contents output.new)) }
+        ensures kind { OnErr result (result ≡ Err Fault.WriteFailed) }
+        ensures same { self.new.run.judge ≡ self.old.run.judge }
+    {
         let mut at = 0;
         while let Some(count) = memchr(b'\n', &chunk[at..]) {
             self.answer_line(&chunk[at..at + count], output, notes)?;
@@ -134,7 +188,19 @@ impl ExplainedRun<'_, '_> {
         piece: &[u8],
         output: &mut W,
         notes: &mut E,
-    ) -> Result<(), Fault> {
+    ) -> Result<(), Fault>
+        ensures all { (start : Option (List ℕ)) (lines : List (List ℕ)) (front : List ℕ)
+            → AreAnswered start (W.contents output.old) lines self.old.run
+            → HoldsFront self.old.run.begun front
+            → OnOk result (AreAnswered start (W.contents output.new)
+            (lines ++ (front ++ piece.now) ∷ []) self.new.run) }
+        ensures begun { HoldsFront self.new.run.begun [] }
+        ensures front { (start : Option (List ℕ)) (lines : List (List ℕ))
+            → AreAnswered start (W.contents output.old) lines self.old.run
+            → OnErr result (AreCutOff self.old.run.judge lines start (W.contents output.new)) }
+        ensures kind { OnErr result (result ≡ Err Fault.WriteFailed) }
+        ensures same { self.new.run.judge ≡ self.old.run.judge }
+    {
         self.told.clear();
         let answer = self.run.explain(piece, self.line, self.why, &mut self.told);
         self.note(&answer, notes)?;
@@ -143,7 +209,10 @@ impl ExplainedRun<'_, '_> {
     }
 
     /// Holds what is told of a line.
-    fn note<E: Write>(&mut self, answer: &Result<bool, Fault>, notes: &mut E) -> Result<(), Fault> {
+    fn note<E: Write>(&mut self, answer: &Result<bool, Fault>, notes: &mut E) -> Result<(), Fault>
+        ensures kind { OnErr result (result ≡ Err Fault.WriteFailed) }
+        ensures same { self.new.run ≡ self.old.run }
+    {
         match self.why.form {
             Form::Lines => {
                 let reasons = self.told.strip_prefix(verdict_line(false));
@@ -158,7 +227,10 @@ impl ExplainedRun<'_, '_> {
         &mut self,
         answer: &Result<bool, Fault>,
         notes: &mut E,
-    ) -> Result<(), Fault> {
+    ) -> Result<(), Fault>
+        ensures kind { OnErr result (result ≡ Err Fault.WriteFailed) }
+        ensures same { self.new.run ≡ self.old.run }
+    {
         let mut front = [0u8; 2 * MEMBER_ROOM];
         let front = &mut front[..];
         let end = put_input(front, self.line.line);
@@ -176,7 +248,17 @@ impl ExplainedRun<'_, '_> {
     }
 
     /// Answers the line without a newline, where the input ends in one, and writes what is held.
-    fn finish<W: Write, E: Write>(&mut self, output: &mut W, notes: &mut E) -> Result<(), Fault> {
+    fn finish<W: Write, E: Write>(&mut self, output: &mut W, notes: &mut E) -> Result<(), Fault>
+        ensures all { (start : Option (List ℕ)) (bytes : List ℕ)
+            → IsAnswered start (W.contents output.old) bytes self.old.run
+            → OnOk result (IsDone self.old.run.judge (Some bytes)
+            start (W.contents output.new) self.new.run.outcome) }
+        ensures front { (start : Option (List ℕ)) (bytes : List ℕ)
+            → IsAnswered start (W.contents output.old) bytes self.old.run
+            → OnErr result (IsCutOff self.old.run.judge (Some bytes)
+            start (W.contents output.new)) }
+        ensures kind { OnErr result (result ≡ Err Fault.WriteFailed) }
+    {
         if !self.run.begun.is_empty() {
             self.answer_line(&[], output, notes)?;
         }

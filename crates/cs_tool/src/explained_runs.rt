@@ -1,4 +1,11 @@
 // Answers with their reasons, over writers.
+ghost use Rattle.std.specs.Prelude.{◌≡◌, ◌⊎◌, ℕ, List, Err, OnOk, OnErr, IfOk, IfErr};
+ghost use Rattle.std.specs.Io.KnownBytes.{Appends};
+ghost use Rattle.cs_tool.specs.Explained.{IsToldAnswer, LeavesTold, IsTold, WritesLabelled};
+ghost use Rattle.cs_tool.specs.Judged.{call_on};
+ghost use Rattle.cs_tool.specs.Lines.{Answer, IsTextAnswer, outcome_of_answer};
+ghost use Rattle.cs_tool.specs.Runs.{IsReadyCall};
+
 use crate::Fault;
 use crate::answers::{LinesOutcome, outcome_of, write_labelled};
 use crate::objects::{MEMBER_ROOM, document_front, put_error};
@@ -43,7 +50,17 @@ pub fn run_explained<W: Write>(
     document: Named<'_>,
     why: Why<'_>,
     output: &mut W,
-) -> Result<bool, Fault> {
+) -> Result<bool, Fault>
+    ensures done { IfOk result (λ truth. (told : List ℕ)
+        × IsToldAnswer judge.old document.entry.text.now why.entry.form truth told
+        × Appends (W.contents output.old) (W.contents output.new) told) }
+    ensures refused { IfErr result (λ e.
+        LeavesTold judge.old document.entry.text.now why.entry.form e
+        (W.contents output.old) (W.contents output.new)) }
+    ensures only { IsReadyCall (call_on judge.old document.entry.text.now)
+        → IfErr result (λ e. (e ≡ Fault.OutOfMemory) ⊎ (e ≡ Fault.WriteFailed)) }
+    ensures same { judge.new ≡ judge.old }
+{
     let mut told = Vec::new(alloc);
     let truth = judge.explain(document, why, &mut told)?;
     write_text(output, &told)?;
@@ -61,15 +78,18 @@ pub fn write_explained<W: Write>(
     document: Named<'_>,
     why: Why<'_>,
     output: &mut W,
-) -> Result<LinesOutcome, Fault> {
+) -> Result<LinesOutcome, Fault>
+    ensures done { IfOk result (λ outcome. (answer : Answer)
+        × IsTextAnswer judge.old document.entry.text.now answer
+        × (outcome ≡ outcome_of_answer answer)
+        × WritesLabelled why.entry.form document.entry.name.now answer
+        (W.contents output.old) (W.contents output.new)) }
+    ensures kind { OnErr result (result ≡ Err Fault.WriteFailed) }
+    ensures same { judge.new ≡ judge.old }
+{
     let mut told = Vec::new(alloc);
     let answer = judge.explain(document, why, &mut told);
-    match why.form {
-        Form::Lines => write_lines(&answer, document.name, &told, output)?,
-        Form::Json | Form::Flag | Form::Basic => {
-            write_object(alloc, &answer, document.name, &told, output)?;
-        }
-    }
+    write_told(alloc, why.form, &answer, document.name, &told, output)?;
     Ok(outcome_of(&answer))
 }
 
@@ -80,7 +100,12 @@ pub fn write_unexplained<W: Write>(
     name: &str,
     form: Form,
     output: &mut W,
-) -> Result<LinesOutcome, Fault> {
+) -> Result<LinesOutcome, Fault>
+    ensures done { IfOk result (λ outcome. (outcome ≡ LinesOutcome.SomeRefused)
+        × WritesLabelled form name.now (Err fault)
+        (W.contents output.old) (W.contents output.new)) }
+    ensures kind { OnErr result (result ≡ Err Fault.WriteFailed) }
+{
     match form {
         Form::Lines => write_labelled(&Err(fault), name, output)?,
         Form::Json | Form::Flag | Form::Basic => {
@@ -90,13 +115,38 @@ pub fn write_unexplained<W: Write>(
     Ok(LinesOutcome::SomeRefused)
 }
 
+/// Writes an answer under a name, with what is told of it; then flushes.
+fn write_told<W: Write>(
+    alloc: Global,
+    form: Form,
+    answer: &Result<bool, Fault>,
+    name: &str,
+    told: &[u8],
+    output: &mut W,
+) -> Result<(), Fault>
+    ensures all { IfOk answer.now (λ b. IsTold form b told.now)
+        → OnOk result (WritesLabelled form name.now answer.now
+        (W.contents output.old) (W.contents output.new)) }
+    ensures kind { OnErr result (result ≡ Err Fault.WriteFailed) }
+{
+    match form {
+        Form::Lines => write_lines(answer, name, told, output),
+        Form::Json | Form::Flag | Form::Basic => write_object(alloc, answer, name, told, output),
+    }
+}
+
 /// Writes an answer under a name in lines, of which the last ones are told; then flushes.
 fn write_lines<W: Write>(
     answer: &Result<bool, Fault>,
     name: &str,
     told: &[u8],
     output: &mut W,
-) -> Result<(), Fault> {
+) -> Result<(), Fault>
+    ensures all { IfOk answer.now (λ b. IsTold Form.Lines b told.now)
+        → OnOk result (WritesLabelled Form.Lines name.now answer.now
+        (W.contents output.old) (W.contents output.new)) }
+    ensures kind { OnErr result (result ≡ Err Fault.WriteFailed) }
+{
     match answer {
         Ok(_) => {
             write_part(output, name.as_bytes())?;
@@ -114,7 +164,9 @@ fn write_object<W: Write>(
     name: &str,
     told: &[u8],
     output: &mut W,
-) -> Result<(), Fault> {
+) -> Result<(), Fault>
+    ensures kind { OnErr result (result ≡ Err Fault.WriteFailed) }
+{
     match document_front(alloc, name) {
         Ok(front) => write_part(output, &front)?,
         Err(AllocError) => write_part(output, b"{")?,
