@@ -14,7 +14,7 @@ ghost use Rattle.cs_tool.specs.Ready.{IsReady};
 ghost use Rattle.cs_tool.specs.CallRefusals.{ExportRefusal};
 
 use crate::Fault;
-use crate::packages::package_of;
+use crate::packages::accepted_package;
 use cs_compile::compile;
 use cs_doc::write_doc;
 use cs_guard::Guarded;
@@ -33,7 +33,7 @@ pub fn export(alloc: Global, sources: &[&[u8]], root: &str) -> Result<Vec<u8>, F
     ensures refused { IfErr result (λ e. ExportRefusal (bytes_in sources.now) root.now e) }
     ensures only { IsReady (bytes_in sources.now) root.now → IsOkUnless result Fault.OutOfMemory }
 {
-    let guarded = package_of(alloc, sources)?;
+    let guarded = accepted_package(alloc, sources)?;
     exported(alloc, &guarded, root)
 }
 

@@ -45,7 +45,7 @@ pub use exports::export;
 pub use fault::Fault;
 pub use lines::run_lines;
 pub use objects::write_fault_json;
-pub use packages::MOST_BYTES;
+pub use packages::{MOST_BYTES, accepted_package};
 pub use reads::read_up_to;
 pub use request::Request;
 pub use requested::MOST_INPUT_BYTES;

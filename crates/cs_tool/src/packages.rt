@@ -20,7 +20,7 @@ pub const MOST_BYTES: usize = 1_048_576;
 
 /// The guarded package that the sources spell. A refusal reports the first condition that they fail, in the order of
 /// `SourcesFault` (`specs/First.antt`).
-pub(crate) fn package_of(alloc: Global, sources: &[&[u8]]) -> Result<Guarded, Fault>
+pub fn accepted_package(alloc: Global, sources: &[&[u8]]) -> Result<Guarded, Fault>
     ensures accepted { IfOk result (λ g. IsAccepted (bytes_in sources.now) g) }
     ensures refused { IfErr result (λ e. SourcesRefusal (bytes_in sources.now) e) }
     ensures only { (E : Environment)

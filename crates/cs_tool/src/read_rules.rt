@@ -9,7 +9,7 @@ ghost use Rattle.cs_tool.specs.Sides.{IsSchemaOf, AreSidesOf};
 
 use crate::Fault;
 use crate::exports::exported;
-use crate::packages::package_of;
+use crate::packages::accepted_package;
 use cs_doc::{DocFault, read_doc};
 use cs_guard::Guarded;
 use cs_schema::{SchemaDoc, read_schema};
@@ -22,7 +22,7 @@ pub(crate) fn read_root(alloc: Global, sources: &[&[u8]], root: &str) -> Result<
     ensures refused { IfErr result (λ e. ExportRefusal (bytes_in sources.now) root.now e) }
     ensures only { IsReady (bytes_in sources.now) root.now → IsOkUnless result Fault.OutOfMemory }
 {
-    let guarded = package_of(alloc, sources)?;
+    let guarded = accepted_package(alloc, sources)?;
     if guarded.package().find(root).is_none() {
         return Err(Fault::UnknownRoot);
     }
@@ -53,7 +53,7 @@ pub(crate) fn read_both(
     ensures refused { IfErr result (λ e. ExportRefusal (bytes_in sources.now) root.now e) }
     ensures only { IsReady (bytes_in sources.now) root.now → IsOkUnless result Fault.OutOfMemory }
 {
-    let guarded = package_of(alloc, sources)?;
+    let guarded = accepted_package(alloc, sources)?;
     let schema = read_schema_text(alloc, &exported(alloc, &guarded, root)?)?;
     Ok((guarded, schema))
 }

@@ -17,7 +17,7 @@ use Rattle.cs_tool.specs.First.{IsUnguarded, SourcesRefusal}
 use Rattle.cs_tool.specs.Conversions.{of_resolve, of_guard}
 use Rattle.cs_tool.specs.declared.fault.Fault.{Fault}
 use Rattle.cs_tool.proofs.Declared.{one_files}
-use Rattle.cs_tool.proofs.packages.package_of.Goals as goal
+use Rattle.cs_tool.proofs.packages.accepted_package.Goals as goal
 
 each_spelled : (ss : List (List ℕ)) (fs : List FileTree) → AreFiles ss fs → AllByRecursion (λ f. (t : List ℕ) × IsSpelledBy t f) fs
 each_spelled [] [] h = tt

@@ -1,0 +1,2 @@
+-- What is told of sources.
+pub mod Told

@@ -1,0 +1,19 @@
+-- What a list of the faults of sources tells (own rules).
+use Rattle.std.specs.Prelude.{◌≡◌, ℕ, List, [], ◌∷◌}
+use Rattle.cs_package.specs.Environment.{Environment}
+use Rattle.cs_tool.specs.Accepted.{IsAccepted}
+use Rattle.cs_tool.specs.First.{SourcesFault}
+use Rattle.cs_tool.specs.declared.fault.Fault.{Fault}
+
+-- the sources are accepted, with some environment
+abbrev pub AreAccepted : List (List ℕ) → Type 0
+AreAccepted sources = (E : Environment) × IsAccepted sources E
+
+-- the first fault of the list is what the sources fail first
+abbrev pub BeginsWithFirst : List (List ℕ) → List Fault → Type 0
+BeginsWithFirst sources [] = Unit {0}
+BeginsWithFirst sources (first ∷ further) = SourcesFault sources first
+
+-- the list begins with that fault; for private contracts alone
+abbrev pub BeginsWith : Fault → List Fault → Type 0
+BeginsWith first faults = (further : List Fault) × (faults ≡ first ∷ further)

@@ -1,0 +1,19 @@
+// All faults of sources in one run.
+#![tactic(auto)]
+
+mod coarse;
+mod cutting;
+mod draft;
+mod faults;
+mod forms;
+mod front;
+mod labels;
+mod layout;
+mod lexemes;
+mod names;
+mod operands;
+mod pieces;
+mod texts;
+mod told;
+
+pub use faults::{MOST_FAULTS, check};
