@@ -1,0 +1,42 @@
+-- What summaries say of instances.
+use Rattle.std.specs.Prelude.{◌≡◌, ℕ, ◌<◌, ◌≤◌, Bool, true, false, List, [], Some, get_or, slice_get}
+use Rattle.std.specs.List.{list_all, list_any}
+use Rattle.cs_document.specs.Document.{Document, depth}
+use Rattle.cs_package.specs.Environment.{Environment, declared_names}
+use Rattle.cs_package.specs.Expression.{Expression}
+use Rattle.cs_instance.specs.Instance.{Rule, definition, node, IsInstance}
+use Rattle.cs_warnings.specs.Admits.{Admits}
+use Rattle.cs_warnings.specs.declared.summary.Known.{Known}
+use Rattle.cs_warnings.specs.declared.summary.Summary.{Summary}
+
+-- the definition of a number
+abbrev pub numbered : Environment → ℕ → Rule
+numbered E m = definition (get_or (declared_names E) m [])
+
+-- no document of less depth than n is an instance of a definition that isn't alive
+abbrev pub AreDead : Environment → (Rule → Document → Bool) → List Known → ℕ → Type 0
+AreDead E I table n = (m : ℕ) (k : Known) (x : Document) → slice_get table m ≡ Some k → k.alive ≡ false → depth x < n → I (numbered E m) x ≡ false
+
+-- the table says the truth of the instance relation I, for documents of depth n and less
+pub record World (E : Environment) (table : List Known) : Type 0 where
+  pub I : Rule → Document → Bool
+  pub instance : IsInstance E I
+  pub n : ℕ
+  pub dead : AreDead E I table n
+  pub seen : (m : ℕ) (k : Known) (x : Document) → slice_get table m ≡ Some k → depth x ≤ n → I (numbered E m) x ≡ true → Admits k.summary x
+
+-- a document that is asked for, or one inside
+abbrev pub IsDeep : Bool → ℕ → Document → Type 0
+IsDeep true n x = depth x < n
+IsDeep false n x = depth x ≤ n
+
+-- each instance of the expression is admitted
+abbrev pub Covers : Environment → List Known → Bool → Expression → Summary → Type 0
+Covers E table is_inside e s = (w : World E table) (x : Document) → IsDeep is_inside w.n x → w.I (node e) x ≡ true → Admits s x
+
+-- each document that is an instance of all of the expressions, or of some of them, is admitted
+abbrev pub CoversAll : Environment → List Known → Bool → List Expression → Summary → Type 0
+CoversAll E table is_inside es s = (w : World E table) (x : Document) → IsDeep is_inside w.n x → list_all (λ e. w.I (node e) x) es ≡ true → Admits s x
+
+abbrev pub CoversAny : Environment → List Known → Bool → List Expression → Summary → Type 0
+CoversAny E table is_inside es s = (w : World E table) (x : Document) → IsDeep is_inside w.n x → list_any (λ e. w.I (node e) x) es ≡ true → Admits s x
