@@ -1,3 +1,4 @@
 -- What the proofs of this crate show: summaries admit each instance.
 pub mod Tests
 pub mod KeyLists
+pub mod Wholes

@@ -19,7 +19,11 @@ pub(crate) fn meet_keys<'a>(
     let required = joined(alloc, &a.required, &b.required)?;
     let allowed = allowed_by_both(alloc, &a.allowed, &b.allowed)?;
     let closed_by = closing(a, b);
-    Ok(Keys { required, allowed, closed_by })
+    Ok(Keys {
+        required,
+        allowed,
+        closed_by,
+    })
 }
 
 /// The maps that are in one of the two, and perhaps others.
@@ -34,7 +38,11 @@ pub(crate) fn join_keys<'a>(
     let required = shared(alloc, &a.required, &b.required)?;
     let allowed = allowed_by_one(alloc, &a.allowed, &b.allowed)?;
     let closed_by = closing(a, b);
-    Ok(Keys { required, allowed, closed_by })
+    Ok(Keys {
+        required,
+        allowed,
+        closed_by,
+    })
 }
 
 /// The definition of the first closed literal.
