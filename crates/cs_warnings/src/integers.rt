@@ -43,6 +43,17 @@ pub(crate) fn within(least: Option<i64>, greatest: Option<i64>) -> Integers
     }
 }
 
+/// Every integer but one.
+pub(crate) fn all_but(n: i64) -> Integers
+    ensures { result ≡ record { least = None; greatest = None; but = Some n } }
+{
+    Integers {
+        least: None,
+        greatest: None,
+        but: Some(n),
+    }
+}
+
 /// The integers that are in both.
 pub(crate) fn meet_integers(a: Integers, b: Integers) -> Option<Integers>
     ensures { (z : ℤ) → HasInteger a z → HasInteger b z → IsSomeAnd result (λ s. HasInteger s z) }

@@ -2,13 +2,19 @@
 #![tactic(auto)]
 
 mod copies;
+mod fields;
 mod integers;
 mod keys;
 mod kinds;
 mod lengths;
+mod lists;
 mod maps;
 mod reasons;
+mod referred;
 mod sets;
+mod simple;
+mod structs;
+mod summaries;
 mod summary;
 mod texts;
 mod unions;

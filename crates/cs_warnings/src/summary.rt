@@ -51,6 +51,14 @@ pub(crate) struct Keys<'a> {
     pub(crate) closed_by: Option<usize>,
 }
 
+/// A declaration with a label: whether its key is required, and what may stand under it.
+#[derive(Drop)]
+pub(crate) struct Field<'a> {
+    pub(crate) label: &'a str,
+    pub(crate) is_required: bool,
+    pub(crate) value: Summary<'a>,
+}
+
 /// Why nothing is an instance of a rule.
 #[derive(Clone, Copy)]
 pub(crate) enum Cause<'a> {
