@@ -8,16 +8,19 @@ use Rattle.cs_document.specs.Document.{Document, null, boolean, integer, text, l
 use Rattle.cs_document.specs.Opened.{opened}
 use Rattle.cs_package.specs.Expression as cue
 use Rattle.cs_package.specs.Expression.{Expression, Declaration, declarations, operands, is_every}
-use Rattle.cs_package.specs.Environment.{Environment, declared_names}
+use Rattle.cs_package.specs.Environment.{Environment, declared_names, bodies, bodies_at, name_at}
 use Rattle.cs_package.specs.View.{expressions_of, declarations_of, expression_in, expressions_in, expression_of, part_of, rest_of}
 use Rattle.cs_package.proofs.Views.{of-Definition, of-And, of-Or, of-Struct, of-List}
 use Rattle.cs_package.specs.declared.shape.Shape as Shapes
 use Rattle.cs_package.specs.declared.shape.Shape.{Shape}
 use Rattle.cs_package.specs.declared.shape.ShapeEnd.{ShapeEnd}
 use Rattle.cs_package.specs.declared.shape.Part.{Part}
-use Rattle.cs_instance.specs.Constraint.{Rest, outline, is_object, is_list, elements_hold, rest_holds, declaration_holds, value_holds, fields_hold, may_be_absent}
-use Rattle.cs_instance.specs.Instance.{Rule, definition, node, IsInstance, rest_of as constraint_rest}
+use Rattle.cs_instance.specs.Constraint.{Rest, outline, is_object, is_list, is_satisfied, elements_hold, rest_holds, declaration_holds, value_holds, fields_hold, may_be_absent}
+use Rattle.cs_instance.specs.Instance.{Rule, definition, node, all_bodies, IsInstance, rest_of as constraint_rest}
+use Rattle.cs_instance.proofs.Ordered.{names_at}
 use Rattle.cs_instance.proofs.Placed.{operands_of, declarations_back}
+use Rattle.cs_guard.specs.Numbered.{name_of}
+use Rattle.cs_guard.proofs.Numbers.{name_within}
 use Rattle.cs_warnings.specs.Admits.{Admits}
 use Rattle.cs_warnings.specs.Covers.{World, IsDeep, Covers, CoversAll, CoversAny, CoversDefinition, HasField, NoElements, NoFields, NoRest, numbered}
 use Rattle.cs_warnings.specs.Simple.{may_hold}
@@ -51,14 +54,16 @@ module _ (E : Environment) (table : List Known) (b : Bool) where
       let any : list_any P (map node (operands (expressions_of es))) ≡ true = sym (w.instance (node (cue.disjunction (expressions_of es))) x) ∙ ap (λ e. w.I (node e) x) (sym seen) ∙ h in
       f w x deep (ap (λ ss. list_any (λ e. w.I (node e) x) (expressions_in E ss)) same ∙ sym (any_mapped P node es) ∙ ap (λ xs. list_any P (map node xs)) (sym (operands_of es)) ∙ any)
 
-  -- ---- references
+  -- ---- definitions
 
-  pub of_reference : (s : Shape) (i : ℕ) (r : Summary) → s ≡ Shapes.Definition i → CoversDefinition E table b i r → Covers E table b (expression_in E s) r
-  of_reference s i r is f = λ w x deep h.
-      let n = get_or (declared_names E) i [] in
-      let seen : expression_in E s ≡ cue.reference n = ap (expression_in E) is ∙ of-Definition (declared_names E) i in
-      let here : (w.I (definition n) x && true) ≡ true = sym (w.instance (node (cue.reference n)) x) ∙ ap (λ e. w.I (node e) x) (sym seen) ∙ h in
-      f w x deep (and_parts (w.I (definition n) x) true here).0
+  pub of_definition : (i : ℕ) (ss : List Shape) (r : Summary) → i < length E → bodies_at E i ≡ Some (expressions_in E ss) → IfSome (name_at E i) (λ n. bodies E n ≡ bodies_at E i) → CoversAll E table b (expressions_in E ss) r → CoversDefinition E table b i r
+  of_definition i ss r within at same f = λ w x deep h.
+      let n = name_of E i in
+      let P = λ (p : Rule). w.I p x in
+      let es = expressions_in E ss in
+      let found : bodies E n ≡ Some es = subst (λ o. IfSome o (λ m. bodies E m ≡ bodies_at E i)) (name_within E i within) same ∙ at in
+      let all : list_all P (map node es) ≡ true = sym (ap (λ o. is_satisfied P (λ y e. w.I (node e) y) (all_bodies o) (opened x)) found) ∙ sym (w.instance (definition n) x) ∙ ap (λ m. w.I (definition m) x) (sym (names_at E i)) ∙ h in
+      f w x deep (sym (list_all-map P node es) ∙ all)
 
   -- ---- what looks at no part
 

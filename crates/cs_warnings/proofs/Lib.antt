@@ -7,3 +7,4 @@ pub mod Loops
 pub mod Depths
 pub mod Declared
 pub mod Instances
+pub mod Settled

@@ -19,13 +19,29 @@ numbered E m = definition (get_or (declared_names E) m [])
 abbrev pub AreDead : Environment → (Rule → Document → Bool) → List Known → ℕ → Type 0
 AreDead E I table n = (m : ℕ) (k : Known) (x : Document) → slice_get table m ≡ Some k → k.alive ≡ false → depth x < n → I (numbered E m) x ≡ false
 
--- the table says the truth of the instance relation I, for documents of depth n and less
+-- the instances of each definition are admitted, of documents of depth n and less
+abbrev pub AreSeen : Environment → (Rule → Document → Bool) → List Known → ℕ → Type 0
+AreSeen E I table n = (m : ℕ) (k : Known) (x : Document) → slice_get table m ≡ Some k → depth x ≤ n → I (numbered E m) x ≡ true → Admits k.summary x
+
+-- an instance relation of which the table says the truth, for documents of depth n and less
 pub record World (E : Environment) (table : List Known) : Type 0 where
   pub I : Rule → Document → Bool
   pub instance : IsInstance E I
   pub n : ℕ
   pub dead : AreDead E I table n
-  pub seen : (m : ℕ) (k : Known) (x : Document) → slice_get table m ≡ Some k → depth x ≤ n → I (numbered E m) x ≡ true → Admits k.summary x
+  pub seen : AreSeen E I table n
+
+-- what the table says of instances follows from what is dead inside them
+abbrev pub IsSound : Environment → List Known → Type 0
+IsSound E table = (I : Rule → Document → Bool) → IsInstance E I → (n : ℕ) → AreDead E I table n → AreSeen E I table n
+
+-- nothing is admitted of a definition that isn't alive
+abbrev pub IsSettled : Known → Type 0
+IsSettled k = k.alive ≡ false → (x : Document) → Admits k.summary x → ⊥
+
+-- the definition of a number isn't alive
+abbrev pub IsDeadAt : List Known → ℕ → Type 0
+IsDeadAt table m = (k : Known) × (slice_get table m ≡ Some k) × (k.alive ≡ false)
 
 -- a document that is asked for, or one inside
 abbrev pub IsDeep : Bool → ℕ → Document → Type 0

@@ -1,4 +1,6 @@
--- Which documents summaries of rules admit. For contracts of private functions alone: the public one speaks of `IsInstance`.
+-- What a definition without instances is.
+pub mod NoInstance
+-- for contracts of private functions and proofs alone
 pub mod Admits
 pub mod Simple
 pub mod Covers

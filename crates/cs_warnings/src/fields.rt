@@ -38,10 +38,18 @@ pub(crate) fn empty_field<'a>(fields: &[Field<'a>]) -> Option<Cause<'a>>
 {
     for field in fields {
         if field.is_required && is_nothing(&field.value) {
-            return Some(Cause::Field(field.label));
+            return Some(around(&field.value, Cause::Field(field.label)));
         }
     }
     None
+}
+
+/// Why nothing is admitted around a part of which nothing is: for the part, unless a definition needs itself there.
+pub(crate) fn around<'a>(part: &Summary<'a>, cause: Cause<'a>) -> Cause<'a> {
+    match part {
+        Summary::Nothing(Cause::Itself) => Cause::Itself,
+        Summary::Nothing(_) | Summary::Within(_) => cause,
+    }
 }
 
 /// Whether nothing is admitted.

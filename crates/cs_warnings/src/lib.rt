@@ -16,5 +16,11 @@ mod simple;
 mod structs;
 mod summaries;
 mod summary;
+mod table;
 mod texts;
 mod unions;
+mod warned;
+mod warning;
+
+pub use warned::warnings;
+pub use warning::{Reason, Warning};

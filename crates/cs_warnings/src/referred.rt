@@ -18,22 +18,31 @@ pub(crate) fn inside(place: Place) -> Place
     }
 }
 
+/// Why a reference from that place admits nothing.
+fn through<'a>(place: Place, number: usize) -> Cause<'a> {
+    if number == place.definition {
+        Cause::Itself
+    } else {
+        Cause::Through(number)
+    }
+}
+
 /// What a definition admits, by the table. Inside a document a definition that isn't alive admits nothing.
 pub(crate) fn referred<'a>(
     alloc: Global,
     table: &[Known<'a>],
-    is_inside: bool,
+    place: Place,
     number: usize,
 ) -> Result<Summary<'a>, AllocError>
     ensures { IfOk result (λ s. (E : Environment)
-        → CoversDefinition E table.now is_inside number s) }
+        → CoversDefinition E table.now place.is_inside number s) }
 {
     if number >= table.len() {
         return Ok(anything(alloc));
     }
     let known = &table[number];
-    if is_inside && !known.alive {
-        return Ok(Summary::Nothing(Cause::Through(number)));
+    if place.is_inside && !known.alive {
+        return Ok(Summary::Nothing(through(place, number)));
     }
     match &known.summary {
         Summary::Nothing(_) => Ok(Summary::Nothing(Cause::Through(number))),

@@ -5,7 +5,7 @@ ghost use Rattle.cs_package.specs.View.{expression_in, expressions_in, part_of, 
 ghost use Rattle.cs_instance.specs.Instance.{rest_of as constraint_rest};
 ghost use Rattle.cs_warnings.specs.Covers.{Covers, CoversAll, CoversAny, CoversFields, NoElements, NoFields, NoRest};
 
-use crate::fields::{empty_field, field, is_for_every_key, is_nothing};
+use crate::fields::{around, empty_field, field, is_for_every_key, is_nothing};
 use crate::lists::list_summary;
 use crate::referred::{inside, referred};
 use crate::simple::{anything, simple};
@@ -27,7 +27,7 @@ fn summary_of<'a>(
         → Covers E table.now place.is_inside (expression_in E shape.now) s) }
 {
     match shape {
-        Shape::Definition(number) => referred(alloc, table, place.is_inside, *number),
+        Shape::Definition(number) => referred(alloc, table, place, *number),
         Shape::And(operands) => all_of(alloc, table, place, operands),
         Shape::Or(operands) => any_of(alloc, table, place, operands),
         Shape::Struct { parts, opened } => {
@@ -142,7 +142,7 @@ fn empty_element<'a>(
     for (i, shape) in front.iter().enumerate() {
         let element = summary_of(alloc, table, inside(place), shape)?;
         if is_nothing(&element) {
-            return Ok(Some(Cause::Element(i)));
+            return Ok(Some(around(&element, Cause::Element(i))));
         }
     }
     Ok(None)

@@ -83,6 +83,8 @@ pub(crate) enum Cause<'a> {
     Element(usize),
     /// Each alternative has no instance.
     Alternatives,
+    /// The definition needs an instance of itself inside each of its own.
+    Itself,
     /// The definition of that number has no instance.
     Through(usize),
 }

@@ -32,6 +32,10 @@ pub(crate) fn join<'a>(
     ensures right { IfOk result (λ s. (x : Document) → Admits b.now x → Admits s x) }
 {
     match (a, b) {
+        (Summary::Nothing(Cause::Itself), Summary::Nothing(_))
+        | (Summary::Nothing(_), Summary::Nothing(Cause::Itself)) => {
+            Ok(Summary::Nothing(Cause::Itself))
+        }
         (Summary::Nothing(_), Summary::Nothing(_)) => Ok(Summary::Nothing(Cause::Alternatives)),
         (Summary::Nothing(_), Summary::Within(_)) => copy_of(alloc, b),
         (Summary::Within(_), Summary::Nothing(_)) => copy_of(alloc, a),
