@@ -1,5 +1,5 @@
 // The declarations of struct literals.
-ghost use Rattle.std.specs.Prelude.{◌≡◌, not, IsSome, IsTrue, List, string_bytes};
+ghost use Rattle.std.specs.Prelude.{◌≡◌, not, All, IfOk, IsSome, IsTrue, List, string_bytes};
 ghost use Rattle.std.specs.List.{AllByRecursion};
 ghost use Rattle.cs_document.specs.Document.{Document, Entry};
 ghost use Rattle.cs_package.specs.Expression.{is_every};
@@ -8,8 +8,13 @@ ghost use Rattle.cs_instance.specs.Constraint.{may_be_absent};
 ghost use Rattle.cs_warnings.specs.Admits.{Admits};
 ghost use Rattle.cs_warnings.specs.Covers.{HasField};
 
+use crate::copies::copy_of;
+use crate::sets::either;
+use crate::simple::anything;
 use crate::summary::{Cause, Field, Summary};
+use crate::unions::meet;
 use cs_package::{FieldMark, Part};
+use std::alloc::{AllocError, Global};
 
 /// Whether a declaration is `[string]: T`.
 pub(crate) fn is_for_every_key(mark: FieldMark) -> bool
@@ -31,17 +36,67 @@ pub(crate) fn is_asked_for(mark: FieldMark) -> bool
     }
 }
 
-/// Why no map has these fields, where it is seen.
-pub(crate) fn empty_field<'a>(fields: &[Field<'a>]) -> Option<Cause<'a>>
-    ensures { IsSome result → (ms : List (Entry Document))
-        → ¬ AllByRecursion (HasField ms) fields.now }
+/// Why no map has these fields, where it is seen. What a label stands at twice has to be an instance of both values.
+pub(crate) fn empty_field<'a>(
+    alloc: Global,
+    mut fields: Vec<Field<'a>>,
+) -> Result<Option<Cause<'a>>, AllocError>
+    ensures { IfOk result (λ o. IsSome o → (ms : List (Entry Document))
+        → ¬ AllByRecursion (HasField ms) fields.entry.items) }
 {
+    fields.sort_unstable_by_key(|field| field.label);
+    empty_among(alloc, &fields)
+}
+
+/// The same, where fields of one label stand behind each other.
+fn empty_among<'a>(alloc: Global, fields: &[Field<'a>]) -> Result<Option<Cause<'a>>, AllocError>
+    ensures { IfOk result (λ o. IsSome o → (ms : List (Entry Document))
+        → ¬ All (HasField ms) fields.now) }
+{
+    let mut last = any_field(alloc);
     for field in fields {
-        if field.is_required && is_nothing(&field.value) {
-            return Some(around(&field.value, Cause::Field(field.label)));
+        last = joined_to(alloc, &last, field)?;
+        if last.is_required && is_nothing(&last.value) {
+            return Ok(Some(around(&field.value, Cause::Field(last.label))));
         }
     }
-    None
+    Ok(None)
+}
+
+/// A field that every map has.
+fn any_field<'a>(alloc: Global) -> Field<'a>
+    ensures { (ms : List (Entry Document)) → HasField ms result }
+{
+    Field {
+        label: "",
+        is_required: false,
+        value: anything(alloc),
+    }
+}
+
+/// A field, together with the last one where that has its label.
+fn joined_to<'a>(
+    alloc: Global,
+    last: &Field<'a>,
+    field: &Field<'a>,
+) -> Result<Field<'a>, AllocError>
+    ensures { IfOk result (λ f. (ms : List (Entry Document)) → HasField ms last.now
+        → HasField ms field.now → HasField ms f) }
+{
+    if last.label == field.label {
+        let value = meet(alloc, &last.value, &field.value)?;
+        return Ok(Field {
+            label: field.label,
+            is_required: either(last.is_required, field.is_required),
+            value,
+        });
+    }
+    let value = copy_of(alloc, &field.value)?;
+    Ok(Field {
+        label: field.label,
+        is_required: field.is_required,
+        value,
+    })
 }
 
 /// Why nothing is admitted around a part of which nothing is: for the part, unless a definition needs itself there.

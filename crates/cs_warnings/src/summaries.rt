@@ -104,7 +104,7 @@ fn empty_part<'a>(
         → NoFields E table.now place.is_inside (map (part_of (declared_names E)) parts.now)) }
 {
     let fields = fields_of(alloc, table, place, parts)?;
-    Ok(empty_field(&fields))
+    empty_field(alloc, fields)
 }
 
 /// The declarations with a label.

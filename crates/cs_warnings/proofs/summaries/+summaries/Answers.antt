@@ -55,10 +55,6 @@ is_closed-returns-in_ok-rest-in-Each t c = λ e E.
     let covers : Covers E T true (expression_of names c.in-Each.shape.value) r = subst (λ s. Covers E T true (expression_of names s) r) c.deref.ensures (subst (λ b. Covers E T b (expression_of names c.deref.result.now) r) c.inside.ensures (c.in_ok-rest-in-Each.ensures E)) in
     subst (λ o. NoRest E T (constraint_rest o)) (sym seen) (no_rest E T true (expression_of names c.in-Each.shape.value) r covers (c.is_nothing.ensures e))
 
-pub empty_part-returns : goal.empty_part-returns
-empty_part-returns t c = λ some E w ms deep h.
-    c.empty_field.ensures some _ (subst (Each _) (sym c.deref.ensures.value) (c.in_ok-fields.ensures E w ms deep h))
-
 -- ---- one more
 
 pub all_of-loop-shape-preserved : goal.all_of-loop-shape-preserved
@@ -115,3 +111,7 @@ fields_of-loop-part-preserved t c = λ E w ms deep h.
 pub fields_of-returns : goal.fields_of-returns
 fields_of-returns t c = λ E w ms deep h.
     c.loop-part.invariant E w ms deep (ap (λ ps. list_all (λ d. declaration_holds (λ y e. w.I (node e) y) d (entries ms)) (map (part_of (declared_names E)) ps)) (take_all c.loop-part.part-index c.args.parts.now c.loop-part-test.false) ∙ h)
+
+pub empty_part-returns : goal.empty_part-returns
+empty_part-returns t c =
+    IfOk-weaker c.empty_field.result _ _ (λ o f some E w ms deep h. f some (entries ms) (c.in_ok-fields.ensures E w ms deep h)) c.empty_field.ensures
