@@ -1,12 +1,14 @@
 // The program: its words, the files that they name, the standard streams and the exit status.
 #![tactic(auto)]
 
+mod checked;
 mod explained;
 mod files;
 mod many;
 mod reasons;
 mod requests;
 
+use checked::answer_of_sources;
 use clap::ArgMatches;
 use clap::error::ErrorKind;
 use cs_tool::{Fault, Request, command, run, write_fault};
@@ -52,6 +54,9 @@ fn answer(rt: &HostRuntime) -> Result<u8, Fault> {
 /// The status of what the words ask for.
 fn answered(rt: &HostRuntime, matches: &ArgMatches<'_>) -> Result<u8, Fault> {
     if let Some((command, words)) = matches.subcommand() {
+        if let Some(status) = answer_of_sources(rt, command, words)? {
+            return Ok(status);
+        }
         if are_at_odds(words) {
             let _ = eprintln!(rt;
                 "error: '--format' tells reasons by itself; beside it only '--why=all' can be given"

@@ -1,0 +1,25 @@
+// Writing into texts.
+use cs_place::position_of;
+use cs_report::Named;
+use itoa::Buffer;
+use std::alloc::AllocError;
+
+/// Puts a number.
+pub(crate) fn put_number(text: &mut String, number: usize) -> Result<(), AllocError> {
+    text.push_str(Buffer::new().format(number))
+}
+
+/// Puts the place of an offset in a source: `FILE:LINE:COLUMN: `.
+pub(crate) fn put_place(
+    text: &mut String,
+    source: Named<'_>,
+    offset: usize,
+) -> Result<(), AllocError> {
+    let position = position_of(source.text, offset);
+    text.push_str(source.name)?;
+    text.push(':')?;
+    put_number(text, position.line)?;
+    text.push(':')?;
+    put_number(text, position.column)?;
+    text.push_str(": ")
+}

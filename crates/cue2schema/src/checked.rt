@@ -1,0 +1,88 @@
+// The commands that speak of sources and refusals alone: `check` and `explain`.
+use crate::COMMAND_LINE;
+use crate::requests::sources_of;
+use clap::ArgMatches;
+use cs_findings::{Checked, write_findings};
+use cs_refusals::explanation;
+use cs_tool::{Fault, Named};
+use std::alloc::{AllocError, Global};
+
+/// The name of standard input.
+const STANDARD_INPUT: &str = "-";
+/// The status of warnings alone, where they count.
+const WARNED: u8 = 1;
+/// The status of faults.
+const FAULTY: u8 = 2;
+
+/// The status of a command that judges no document; `None` for every other one.
+pub(crate) fn answer_of_sources(
+    rt: &HostRuntime,
+    command: &str,
+    words: &ArgMatches<'_>,
+) -> Result<Option<u8>, Fault> {
+    match command {
+        "check" => check(rt, words).map(Some),
+        "explain" => explain(rt, words).map(Some),
+        _ => Ok(None),
+    }
+}
+
+/// The sources with the names that the words give them.
+fn named<'a>(
+    alloc: Global,
+    words: &ArgMatches<'a>,
+    sources: &'a [Vec<u8>],
+) -> Result<Vec<Named<'a>>, AllocError> {
+    let names = words.get_strs("FILE");
+    let mut named = Vec::with_capacity(alloc, sources.len())?;
+    for (place, source) in sources.iter().enumerate() {
+        let name = match names {
+            Some(names) => names.get(place).copied().unwrap_or(STANDARD_INPUT),
+            None => STANDARD_INPUT,
+        };
+        let text = source.as_slice();
+        named.push(Named {
+            name,
+            text,
+            line: 1,
+        })?;
+    }
+    Ok(named)
+}
+
+/// The texts of sources.
+fn texts<'a>(alloc: Global, sources: &'a [Vec<u8>]) -> Result<Vec<&'a [u8]>, AllocError> {
+    let mut texts: Vec<&'a [u8]> = Vec::with_capacity(alloc, sources.len())?;
+    for source in sources {
+        texts.push(source.as_slice())?;
+    }
+    Ok(texts)
+}
+
+/// The status after all that is found in the sources.
+fn check(rt: &HostRuntime, words: &ArgMatches<'_>) -> Result<u8, Fault> {
+    let sources = sources_of(rt, words)?;
+    let named = named(rt.alloc(), words, &sources)?;
+    let texts = texts(rt.alloc(), &sources)?;
+    let root = words.get_str("root");
+    let checked = write_findings(rt.alloc(), &texts, &named, root, &mut rt.stdout())?;
+    Ok(match checked {
+        Checked::Well => 0,
+        Checked::Warned if words.get_flag("strict") => WARNED,
+        Checked::Warned => 0,
+        Checked::Faulty => FAULTY,
+    })
+}
+
+/// The status after what a number means.
+fn explain(rt: &HostRuntime, words: &ArgMatches<'_>) -> Result<u8, Fault> {
+    let number = words.get_one("NUMBER").unwrap_or(0);
+    let Some(found) = explanation(number) else {
+        let _ = eprintln!(rt; "error: no refusal has the number {number}");
+        return Ok(COMMAND_LINE);
+    };
+    match println!(rt; "{}: {}\n{}", found.number, found.meaning, found.remedy) {
+        Ok(()) => Ok(0),
+        Err(_) => Err(Fault::WriteFailed),
+    }
+}
