@@ -25,5 +25,7 @@ mod tables;
 mod texts;
 #[cfg(test)]
 mod translations;
+#[cfg(test)]
+mod warnings;
 
 pub use forms::FORMS;

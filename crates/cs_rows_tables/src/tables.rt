@@ -1,6 +1,6 @@
 // Tables of examples: a row a line, its cells parted by `=>`. A line that begins with two blanks and `…` goes on with the row
 // before it.
-use crate::{documents, instances, listings, schemas, texts, translations};
+use crate::{documents, instances, listings, schemas, texts, translations, warnings};
 use std::alloc::Global;
 use std::test::Fail;
 
@@ -27,6 +27,8 @@ pub(crate) enum Row {
     Package,
     /// A schema, a document, how many judgements its table has and the verdict.
     Schema,
+    /// A package, and the definitions of it that are told to have no instance, each with why.
+    Warned,
 }
 
 /// Fails with the first row that doesn't hold.
@@ -52,6 +54,7 @@ fn holds(alloc: Global, row: &str, rows: Row) -> Result<bool, Fail> {
         Row::Unknown => instances::is_unknown(alloc, row),
         Row::Package => instances::is_judged(alloc, row),
         Row::Schema => schemas::is_judged(alloc, row),
+        Row::Warned => warnings::are_told(alloc, row),
     }
 }
 

@@ -1,18 +1,18 @@
 -- Declarations of struct literals, and the keys that they ask for and allow.
-use Rattle.std.proofs.Common.{◌≡◌, ℕ, ◌+◌, ◌<◌, ◌≤◌, Bool, true, false, true≢false, not, ◌||◌, ◌&&◌, ◌⊎◌, inl, inr, List, [], ◌∷◌, ◌++◌, Bor, Option, Some, None, IfSome, is_some, cond, map, take, get_or, length, string_bytes, refl, sym, ap, ◌∙◌, subst, arith}
+use Rattle.std.proofs.Common.{◌≡◌, ℕ, ◌+◌, ◌<◌, ◌≤◌, Bool, true, false, true≢false, not, ◌||◌, ◌&&◌, inl, inr, List, [], ◌∷◌, ◌++◌, Bor, Option, Some, None, is_some, cond, map, take, get_or, length, string_bytes, refl, sym, ap, ◌∙◌, subst, arith}
 use Rattle.std.specs.List.{list_all, list_any}
 use Rattle.std.specs.Str.{bytes_eq}
 use Rattle.std.proofs.lemmas.Bool.{and_parts}
 use Rattle.std.proofs.lemmas.List.Folds.{list_all-append}
 use Rattle.std.proofs.lemmas.Option.{same_Some}
 use Rattle.std.proofs.lemmas.Slice.Eq.{bytes_eq-Decides}
-use Rattle.cs_document.specs.Document.{Document, Members, no_members, member, object, Entry, entries, under, depth, members_depth}
+use Rattle.cs_document.specs.Document.{Document, Members, no_members, member, Entry, entries, under, depth, members_depth}
 use Rattle.cs_package.specs.Expression.{Expression, Declaration, DeclarationMark, regular, optional, required, every, is_every}
-use Rattle.cs_package.specs.View.{part_of, mark_of, expression_of}
+use Rattle.cs_package.specs.View.{part_of, mark_of}
 use Rattle.cs_package.specs.declared.shape.Part.{Part}
-use Rattle.cs_instance.specs.Constraint.{allows, declaration_holds, value_holds, may_be_absent, fields_hold}
-use Rattle.cs_instance.proofs.Views.{label_is, mark_is, value_is}
-use Rattle.cs_warnings.specs.Admits.{is_among, has_required, has_allowed, Admits}
+use Rattle.cs_instance.specs.Constraint.{allows, declaration_holds, value_holds, may_be_absent}
+use Rattle.cs_instance.proofs.Views.{label_is, mark_is}
+use Rattle.cs_warnings.specs.Admits.{is_among, has_required, has_allowed}
 use Rattle.cs_warnings.proofs.Tests.{told, or_first, or_second, or_cases, and_both}
 use Rattle.cs_warnings.proofs.Loops.{all_front, any_front}
 

@@ -1,5 +1,5 @@
 -- How deep documents are.
-use Rattle.std.proofs.Common.{◌≡◌, ℕ, suc, ◌<◌, ◌≤◌, Bool, true, false, List, arith}
+use Rattle.std.proofs.Common.{◌≡◌, ℕ, suc, ◌<◌, ◌≤◌, Bool, true, false, arith}
 use Rattle.std.specs.List.{AllByRecursion as Each}
 use Rattle.cs_document.specs.Document.{Document, Documents, no_documents, document, list, elements, depth, documents_depth}
 use Rattle.cs_document.proofs.Each.{each_map}

@@ -1,16 +1,16 @@
 -- What an instance of each form of expression is an instance of.
-use Rattle.std.proofs.Common.{◌≡◌, ℕ, zero, suc, ◌<◌, ◌≤◌, Bool, true, false, true≢false, not, ◌&&◌, ◌||◌, List, [], ◌∷◌, map, length, get_or, Option, Some, None, IsSome, IfSome, is_some, Vec, Box, Bor, Global, refl, sym, ap, ◌∙◌, subst, arith}
+use Rattle.std.proofs.Common.{◌≡◌, ℕ, zero, suc, ◌<◌, ◌≤◌, Bool, true, false, true≢false, not, ◌||◌, List, [], ◌∷◌, map, length, get_or, Option, Some, None, IsSome, IfSome, is_some, Vec, Global, refl, sym, ap, ◌∙◌, subst, arith}
 use Rattle.std.specs.List.{list_all, list_any, AllByRecursion as Each}
 use Rattle.std.proofs.lemmas.Bool.{and_parts}
 use Rattle.std.proofs.lemmas.List.{get_or-map, length-map}
 use Rattle.std.proofs.lemmas.List.Folds.{list_all-map}
-use Rattle.cs_document.specs.Document.{Document, null, boolean, integer, text, list, object, Documents, document, Members, Entry, elements, entries, under, depth, documents_depth, members_depth}
+use Rattle.cs_document.specs.Document.{Document, null, boolean, integer, text, list, object, Documents, Members, elements, entries, under, depth, members_depth}
 use Rattle.cs_document.specs.Opened.{opened}
 use Rattle.cs_package.specs.Expression as cue
 use Rattle.cs_package.specs.Expression.{Expression, Declaration, declarations, operands, is_every}
 use Rattle.cs_package.specs.Environment.{Environment, declared_names, bodies, bodies_at, name_at}
-use Rattle.cs_package.specs.View.{expressions_of, declarations_of, expression_in, expressions_in, expression_of, part_of, rest_of}
-use Rattle.cs_package.proofs.Views.{of-Definition, of-And, of-Or, of-Struct, of-List}
+use Rattle.cs_package.specs.View.{expressions_of, declarations_of, expression_in, expressions_in, part_of, rest_of}
+use Rattle.cs_package.proofs.Views.{of-And, of-Or, of-Struct, of-List}
 use Rattle.cs_package.specs.declared.shape.Shape as Shapes
 use Rattle.cs_package.specs.declared.shape.Shape.{Shape}
 use Rattle.cs_package.specs.declared.shape.ShapeEnd.{ShapeEnd}
@@ -22,7 +22,7 @@ use Rattle.cs_instance.proofs.Placed.{operands_of, declarations_back}
 use Rattle.cs_guard.specs.Numbered.{name_of}
 use Rattle.cs_guard.proofs.Numbers.{name_within}
 use Rattle.cs_warnings.specs.Admits.{Admits}
-use Rattle.cs_warnings.specs.Covers.{World, IsDeep, Covers, CoversAll, CoversAny, CoversDefinition, HasField, NoElements, NoFields, NoRest, numbered}
+use Rattle.cs_warnings.specs.Covers.{World, IsDeep, Covers, CoversAll, CoversAny, CoversDefinition, HasField, NoElements, NoFields, NoRest}
 use Rattle.cs_warnings.specs.Simple.{may_hold}
 use Rattle.cs_warnings.specs.declared.summary.Known.{Known}
 use Rattle.cs_warnings.specs.declared.summary.Field.{Field}

@@ -1,6 +1,6 @@
 -- Keys that are required, and keys that are allowed.
-use Rattle.std.proofs.Common.{◌≡◌, ℕ, Bool, true, false, true≢false, not, ◌||◌, ◌&&◌, ◌⊎◌, inl, inr, List, [], ◌∷◌, ◌++◌, Bor, Vec, Global, Option, IfSome, Some, is_some, cond, length, get_or, ◌<◌, refl, sym, ap, ◌∙◌, subst}
-use Rattle.std.specs.List.{list_all, list_any, filter}
+use Rattle.std.proofs.Common.{◌≡◌, ℕ, Bool, true, false, true≢false, not, inl, inr, List, [], ◌∷◌, ◌++◌, Bor, Vec, Global, Option, IfSome, Some, is_some, cond, length, get_or, ◌<◌, refl, sym, ap, ◌∙◌, subst}
+use Rattle.std.specs.List.{filter}
 use Rattle.std.specs.Str.{bytes_eq}
 use Rattle.std.proofs.lemmas.Bool.{and_parts}
 use Rattle.std.proofs.lemmas.List.Folds.{list_all-append, list_all_at}

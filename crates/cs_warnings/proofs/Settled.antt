@@ -1,5 +1,5 @@
 -- What a table says that nothing more follows from.
-use Rattle.std.proofs.Common.{◌≡◌, ℕ, zero, suc, ◌<◌, ◌≤◌, Bool, true, false, true≢false, ◌⊎◌, inl, inr, List, [], ◌∷◌, Some, length, slice_get, refl, sym, ap, ◌∙◌, subst, arith}
+use Rattle.std.proofs.Common.{◌≡◌, ℕ, zero, suc, ◌<◌, Bool, false, ◌⊎◌, inl, inr, List, [], ◌∷◌, Some, length, slice_get, refl, sym, ap, ◌∙◌, subst, arith}
 use Rattle.std.specs.Prelude.{slice_set}
 use Rattle.std.specs.List.{AllByRecursion as Each}
 use Rattle.std.proofs.lemmas.Bool.{cases_eq}
@@ -12,7 +12,7 @@ use Rattle.cs_package.specs.Environment.{Environment}
 use Rattle.cs_instance.specs.Instance.{Rule, definition, IsInstance}
 use Rattle.cs_instance.proofs.Ordered.{names_at}
 use Rattle.cs_warnings.specs.Admits.{Admits}
-use Rattle.cs_warnings.specs.Covers.{World, AreDead, AreSeen, IsSound, IsSettled, IsDeadAt, CoversDefinition, numbered}
+use Rattle.cs_warnings.specs.Covers.{World, AreDead, IsSound, IsSettled, IsDeadAt, CoversDefinition, numbered}
 use Rattle.cs_warnings.specs.NoInstance.{HasNoInstance}
 use Rattle.cs_warnings.specs.declared.summary.Known.{Known}
 use Rattle.cs_warnings.specs.declared.summary.Summary.{Summary}

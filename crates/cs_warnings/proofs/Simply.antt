@@ -1,5 +1,5 @@
 -- Every document but `null`.
-use Rattle.std.proofs.Common.{◌≡◌, Bool, true, false, true≢false}
+use Rattle.std.proofs.Common.{◌≡◌, true, false, true≢false}
 use Rattle.cs_document.specs.Document.{Document, null, boolean, integer, text, list, object}
 use Rattle.cs_document.specs.Opened.{opened}
 use Rattle.cs_instance.specs.Constraint.{outline, is_null}

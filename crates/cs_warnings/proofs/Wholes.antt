@@ -1,5 +1,5 @@
 -- Sets of documents of all kinds, by those of each kind.
-use Rattle.std.proofs.Common.{◌≡◌, ℕ, ℤ, Bool, true, false, ◌&&◌, List, IsSomeAnd, length, ◌∙◌}
+use Rattle.std.proofs.Common.{◌≡◌, ℕ, ℤ, true, false, ◌&&◌, List, IsSomeAnd, length, ◌∙◌}
 use Rattle.cs_document.specs.Document.{Document, null, boolean, integer, text, list, object, Entry, elements, entries}
 use Rattle.cs_warnings.specs.Admits.{HasInteger, HasText, HasLength, HasKeys, HasDocument}
 use Rattle.cs_warnings.specs.declared.summary.Sets.{Sets}

@@ -1,5 +1,5 @@
 -- What simple expressions admit.
-use Rattle.std.specs.Prelude.{Bool, true, false, Option, Some, None}
+use Rattle.std.specs.Prelude.{Bool, true, false, None}
 use Rattle.cs_package.specs.Expression.{Expression, atom, kind, range, reference, conjunction, disjunction, struct, list}
 use Rattle.cs_instance.specs.Constraint.{Outline, is_of_kind, is_integer, is_within, admits}
 use Rattle.cs_warnings.specs.declared.summary.Sets.{Sets}

@@ -4,6 +4,10 @@ ghost use Rattle.cs_warnings.specs.Admits.{is_among};
 
 use std::alloc::{AllocError, Global};
 
+/// So many keys are looked at, and twice as many at most once two sets are put together. Of more required ones some are
+/// passed over, and where more are allowed every key is.
+pub(crate) const MOST_KEYS: usize = 128;
+
 /// Whether a key is one of these.
 pub(crate) fn is_among(keys: &[&str], key: &str) -> bool
     ensures { result ≡ is_among keys.now key.now }

@@ -3,7 +3,7 @@ ghost use Rattle.std.specs.Prelude.{◌≡◌, true, List, IfOk, IfSome, IsSome,
 ghost use Rattle.cs_document.specs.Document.{Document, Entry};
 ghost use Rattle.cs_warnings.specs.Admits.{HasKeys, has_allowed, has_required, is_among};
 
-use crate::keys::{is_among, joined, shared};
+use crate::keys::{MOST_KEYS, is_among, joined, shared};
 use crate::summary::Keys;
 use std::alloc::{AllocError, Global};
 
@@ -16,7 +16,7 @@ pub(crate) fn meet_keys<'a>(
     ensures { IfOk result (λ s. (ms : List (Entry Document)) → HasKeys a.now ms → HasKeys b.now ms
         → HasKeys s ms) }
 {
-    let required = joined(alloc, &a.required, &b.required)?;
+    let required = required_by_both(alloc, &a.required, &b.required)?;
     let allowed = allowed_by_both(alloc, &a.allowed, &b.allowed)?;
     let closed_by = closing(a, b);
     Ok(Keys {
@@ -43,6 +43,21 @@ pub(crate) fn join_keys<'a>(
         allowed,
         closed_by,
     })
+}
+
+/// The keys that one of the two requires, as far as they are looked at.
+fn required_by_both<'a>(
+    alloc: Global,
+    keys: &[&'a str],
+    others: &[&'a str],
+) -> Result<Vec<&'a str>, AllocError>
+    ensures { IfOk result (λ v. (ms : List (Entry Document)) → has_required keys.now ms ≡ true
+        → has_required others.now ms ≡ true → has_required v.items ms ≡ true) }
+{
+    if keys.len() >= MOST_KEYS {
+        return Vec::from_slice(alloc, keys);
+    }
+    joined(alloc, keys, others)
 }
 
 /// The definition of the first closed literal.
@@ -108,7 +123,10 @@ fn allowed_by_one<'a>(
         → IfSome o (λ v. has_allowed v.items ms ≡ true)) }
 {
     match (a, b) {
-        (Some(keys), Some(others)) => Ok(Some(joined(alloc, keys, others)?)),
+        (Some(keys), Some(others)) if keys.len() < MOST_KEYS => {
+            Ok(Some(joined(alloc, keys, others)?))
+        }
+        (Some(_), Some(_)) => Ok(None),
         (None, _) | (_, None) => Ok(None),
     }
 }

@@ -1,16 +1,17 @@
 // What struct literals admit.
-ghost use Rattle.std.specs.Prelude.{◌≡◌, true, false, None, ℕ, Bool, List, map, IfOk, IfSome, IsSome};
+ghost use Rattle.std.specs.Prelude.{◌≡◌, true, false, None, ℕ, Bool, List, map, IfOk, IfSome, IsSome, IsTrue, not};
 ghost use Rattle.std.specs.List.{list_all, list_any};
 ghost use Rattle.cs_document.specs.Document.{Document, Entry, Members, entries, object};
 ghost use Rattle.cs_package.specs.Expression.{Expression};
-ghost use Rattle.cs_package.specs.View.{part_of};
-ghost use Rattle.cs_instance.specs.Constraint.{allows, declaration_holds, fields_hold};
+ghost use Rattle.cs_package.specs.View.{mark_of, part_of};
+ghost use Rattle.cs_instance.specs.Constraint.{allows, declaration_holds, fields_hold, may_be_absent};
 ghost use Rattle.cs_warnings.specs.Admits.{Admits, HasKeys, has_required, is_among};
 
 use crate::fields::{is_asked_for, is_for_every_key};
+use crate::keys::MOST_KEYS;
 use crate::simple::maps_alone;
 use crate::summary::{Cause, Keys, Summary};
-use cs_package::Part;
+use cs_package::{FieldMark, Part};
 use std::alloc::{AllocError, Global};
 
 /// The keys of a struct literal in a body of that definition.
@@ -34,6 +35,13 @@ pub(crate) fn keys_of<'a>(
     })
 }
 
+/// Whether a key has to be there and is looked at, behind that many others.
+fn is_taken(mark: FieldMark, count: usize) -> bool
+    ensures { IsTrue result → not (may_be_absent (mark_of mark)) ≡ true }
+{
+    count < MOST_KEYS && is_asked_for(mark)
+}
+
 /// The labels of the keys that have to be there.
 fn required_keys<'a>(alloc: Global, parts: &'a [Part]) -> Result<Vec<&'a str>, AllocError>
     ensures { IfOk result (λ v. (ns : List (List ℕ)) (inside : Document → Expression → Bool)
@@ -43,7 +51,7 @@ fn required_keys<'a>(alloc: Global, parts: &'a [Part]) -> Result<Vec<&'a str>, A
 {
     let mut keys = Vec::new(alloc);
     for part in parts {
-        if is_asked_for(part.mark) {
+        if is_taken(part.mark, keys.len()) {
             keys.push(part.label.as_str())?;
         }
     }
@@ -61,7 +69,7 @@ fn allowed_unless<'a>(
         → is_among v.items k ≡ true)) }
     ensures open { opened ≡ true → IfOk result (λ o. o ≡ None) }
 {
-    if opened {
+    if opened || parts.len() > MOST_KEYS {
         return Ok(None);
     }
     let mut keys = Vec::new(alloc);

@@ -1,5 +1,5 @@
 // The table of what is known of the definitions.
-ghost use Rattle.std.specs.Prelude.{◌≡◌, ◌<◌, Some, false, All, IfOk, IsTrue, length, slice_get, slice_set};
+ghost use Rattle.std.specs.Prelude.{◌≡◌, ◌<◌, Some, false, All, IfOk, OnOk, IsTrue, length, slice_get, slice_set};
 ghost use Rattle.std.specs.List.{AllByRecursion};
 ghost use Rattle.cs_document.specs.Document.{Document};
 ghost use Rattle.cs_warnings.specs.Admits.{Admits};
@@ -101,8 +101,77 @@ pub(crate) fn is_settled(table: &[Known<'_>]) -> bool
     true
 }
 
-/// Which definitions are alive by a table: those that were, and those of which something is admitted.
-pub(crate) fn revived(alloc: Global, table: &[Known<'_>]) -> Result<Vec<bool>, AllocError>
+/// Which definitions are alive: those that are by a table, and those that are found to be when each is looked at again, in
+/// their order and against it. What is found alive counts at once.
+pub(crate) fn revived<'a>(
+    alloc: Global,
+    package: &'a Guarded,
+    order: &[(usize, usize)],
+    mut table: Vec<Known<'a>>,
+) -> Result<Vec<bool>, AllocError>
+    requires order { All (λ d. d.1 < length «package».now) order.now }
+    requires length { length table.items ≡ length «package».now }
+    ensures { IfOk result (λ v. length v.items ≡ length «package».now) }
+{
+    look_forward(alloc, package, order, &mut table)?;
+    look_back(alloc, package, order, &mut table)?;
+    alive_of(alloc, &table)
+}
+
+fn look_forward<'a>(
+    alloc: Global,
+    package: &'a Guarded,
+    order: &[(usize, usize)],
+    table: &mut Vec<Known<'a>>,
+) -> Result<(), AllocError>
+    requires order { All (λ d. d.1 < length «package».now) order.now }
+    requires length { length table.old.items ≡ length «package».now }
+    ensures { OnOk result (length table.new.items ≡ length «package».now) }
+{
+    for definition in order {
+        let (_rank, number) = *definition;
+        look_again(alloc, package, table, number)?;
+    }
+    Ok(())
+}
+
+fn look_back<'a>(
+    alloc: Global,
+    package: &'a Guarded,
+    order: &[(usize, usize)],
+    table: &mut Vec<Known<'a>>,
+) -> Result<(), AllocError>
+    requires order { All (λ d. d.1 < length «package».now) order.now }
+    requires length { length table.old.items ≡ length «package».now }
+    ensures { OnOk result (length table.new.items ≡ length «package».now) }
+{
+    for i in 0..order.len() {
+        let (_rank, number) = order[order.len() - 1 - i];
+        look_again(alloc, package, table, number)?;
+    }
+    Ok(())
+}
+
+/// Sums up a definition anew. It is alive where something is admitted.
+fn look_again<'a>(
+    alloc: Global,
+    package: &'a Guarded,
+    table: &mut Vec<Known<'a>>,
+    number: usize,
+) -> Result<(), AllocError>
+    requires number { number < length «package».now }
+    requires length { length table.old.items ≡ length «package».now }
+    ensures { OnOk result (length table.new.items ≡ length «package».now) }
+{
+    let summary = definition_summary(alloc, package.package(), table, number)?;
+    if !is_nothing(&summary) {
+        table[number].alive = true;
+    }
+    put(table, number, summary);
+    Ok(())
+}
+
+fn alive_of(alloc: Global, table: &[Known<'_>]) -> Result<Vec<bool>, AllocError>
     ensures { IfOk result (λ v. length v.items ≡ length table.now) }
 {
     let mut alive = Vec::with_capacity(alloc, table.len())?;

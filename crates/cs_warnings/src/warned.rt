@@ -25,7 +25,7 @@ pub fn warnings(alloc: Global, package: &Guarded) -> Result<Vec<Warning>, AllocE
         if is_settled(&table) {
             return told(alloc, &table);
         }
-        alive = revived(alloc, &table)?;
+        alive = revived(alloc, package, &order, table)?;
     }
     Ok(Vec::new(alloc))
 }

@@ -1,8 +1,4 @@
-use Rattle.std.proofs.Common.{◌∙◌}
-use Rattle.cs_document.specs.Document.{Document}
-use Rattle.cs_warnings.specs.Admits.{HasDocument}
-use Rattle.cs_warnings.specs.declared.summary.Sets.{Sets}
-use Rattle.cs_warnings.proofs.Wholes.{AreInBoth, common}
+use Rattle.cs_warnings.proofs.Wholes.{common}
 use Rattle.cs_warnings.proofs.sets.meet_sets.Goals as goal
 
 pub returns-then-is_empty : goal.returns-then-is_empty

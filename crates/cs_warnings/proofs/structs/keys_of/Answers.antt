@@ -1,4 +1,4 @@
-use Rattle.std.proofs.Common.{◌≡◌, ◌||◌, true, false, inl, inr, map, IfSome, Option, Some, None, Vec, Bor, Global, ℕ, List, sym, ap, subst}
+use Rattle.std.proofs.Common.{◌≡◌, ◌||◌, true, inl, inr, map, IfSome, Option, Some, None, Vec, Bor, Global, ℕ, List, sym, subst}
 use Rattle.std.specs.List.{list_all, list_any}
 use Rattle.std.proofs.lemmas.Bool.{and_parts}
 use Rattle.cs_document.specs.Document.{Document, Entry}

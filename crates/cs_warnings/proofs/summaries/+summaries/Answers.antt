@@ -1,4 +1,4 @@
-use Rattle.std.proofs.Common.{◌≡◌, true, not, [], ◌∷◌, map, take, length, refl, sym, ap, ◌∙◌, subst, inl, inr, take_all, arith}
+use Rattle.std.proofs.Common.{◌≡◌, true, not, [], ◌∷◌, map, length, sym, ap, ◌∙◌, subst, inl, inr, take_all, arith}
 use Rattle.std.proofs.lemmas.Result.{IfOk-weaker}
 use Rattle.std.specs.List.{list_all, list_any, AllByRecursion as Each}
 use Rattle.cs_document.specs.Document.{entries}

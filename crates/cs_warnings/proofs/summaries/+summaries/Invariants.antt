@@ -1,4 +1,4 @@
-use Rattle.std.proofs.Common.{◌≡◌, true, false, map, take}
+use Rattle.std.proofs.Common.{map, take}
 use Rattle.cs_package.specs.Environment.{Environment, declared_names}
 use Rattle.cs_package.specs.View.{expressions_in, part_of}
 use Rattle.cs_warnings.specs.Covers.{CoversAll, CoversAny, CoversFields}
