@@ -13,8 +13,10 @@ const FORMATS: &[&str] = &["json"];
 const SCHEMA_FORMATS: &[&str] = &["json", "flag", "basic"];
 /// How many reasons may be told at most.
 const MOST_REASONS: u64 = 1_000_000;
+/// The greatest number of a refusal.
+const GREATEST_REFUSAL: u64 = 31;
 
-/// The program's command: `export`, `vet`, `validate` and `agree` with their words. Sources are the values of `FILE`, in the
+/// The program's command: `export`, `vet`, `validate`, `agree`, `check` and `explain` with their words. Sources are the values of `FILE`, in the
 /// order of the words.
 pub fn command<'a>(alloc: Global) -> Result<Command<'a>, AllocError> {
     let mut commands = Vec::new(alloc);
@@ -22,6 +24,8 @@ pub fn command<'a>(alloc: Global) -> Result<Command<'a>, AllocError> {
     commands.push(vet(alloc)?)?;
     commands.push(validate(alloc)?)?;
     commands.push(agree(alloc)?)?;
+    commands.push(check(alloc)?)?;
+    commands.push(explain(alloc)?)?;
     Command::new(alloc, "cue2schema")
         .about("Compiles CUE definitions to JSON Schema 2020-12, and judges documents by both")
         .version("0.1.0")
@@ -84,6 +88,38 @@ fn agree<'a>(alloc: Global) -> Result<Command<'a>, AllocError> {
         .arg(files(alloc))?
         .group(input(alloc)?)?
         .group(reasons(alloc)?)
+}
+
+fn check<'a>(alloc: Global) -> Result<Command<'a>, AllocError> {
+    Command::new(alloc, "check")
+        .about("Tells all faults of CUE files, and the definitions that nothing is an instance of")
+        .after_help("Example: cue2schema check port.cue")
+        .arg(root(alloc).required(false))?
+        .arg(strict(alloc))?
+        .arg(files(alloc))
+}
+
+fn explain<'a>(alloc: Global) -> Result<Command<'a>, AllocError> {
+    Command::new(alloc, "explain")
+        .about("Says what the number of a refusal means, and what to do")
+        .after_help("Example: cue2schema explain 11")
+        .arg(number(alloc))
+}
+
+/// Warnings change the status.
+fn strict<'a>(alloc: Global) -> Arg<'a> {
+    Arg::new(alloc, "strict")
+        .long("strict")
+        .help("Ends with status 1 where there are warnings alone")
+        .action(ArgAction::SetTrue)
+}
+
+fn number<'a>(alloc: Global) -> Arg<'a> {
+    Arg::new(alloc, "NUMBER")
+        .help("The number of a refusal, as `error 11` says it")
+        .required(true)
+        .value_parser(ValueParser::unsigned(1, GREATEST_REFUSAL))
+        .action(ArgAction::Set)
 }
 
 fn root<'a>(alloc: Global) -> Arg<'a> {
