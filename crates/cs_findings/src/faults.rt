@@ -1,16 +1,33 @@
 // The lines of faults.
+use crate::readable::readable;
 use crate::text::{put_number, put_place};
-use cs_refusals::{advice, explanation};
+use cs_refusals::{advice, form_of, meaning_of};
 use cs_report::Named;
 use cs_tool::Fault;
 use std::alloc::{AllocError, Global};
+use std::str;
+
+/// Puts a line for each fault of these sources.
+pub(crate) fn put_faults(
+    alloc: Global,
+    faults: &[Fault],
+    sources: &[Named<'_>],
+    text: &mut String,
+) -> Result<(), AllocError> {
+    let copies = readable(alloc, sources)?;
+    for fault in faults {
+        put_fault(alloc, fault, sources, &copies, text)?;
+    }
+    Ok(())
+}
 
 /// Puts the line of a fault of these sources: its place, its number, and what to do. A fault that no file is at has no place, and
 /// one without an offset has that of the file.
-pub(crate) fn put_fault(
+fn put_fault(
     alloc: Global,
     fault: &Fault,
     sources: &[Named<'_>],
+    copies: &[Vec<u8>],
     text: &mut String,
 ) -> Result<(), AllocError> {
     let source = fault.file().and_then(|file| sources.get(file).copied());
@@ -25,7 +42,15 @@ pub(crate) fn put_fault(
     text.push_str("error ")?;
     put_number(text, fault.number() as usize)?;
     text.push_str(": ")?;
-    put_meaning(alloc, fault, source, text)?;
+    let read = match fault {
+        // The copy has blanks there.
+        Fault::NoToken { .. } | Fault::IntegerRange { .. } => source.map(|source| source.text),
+        _ => fault
+            .file()
+            .and_then(|file| copies.get(file))
+            .map(|copy| copy.as_slice()),
+    };
+    put_meaning(alloc, fault, read, text)?;
     text.push('\n')
 }
 
@@ -33,18 +58,26 @@ pub(crate) fn put_fault(
 fn put_meaning(
     alloc: Global,
     fault: &Fault,
-    source: Option<Named<'_>>,
+    read: Option<&[u8]>,
     text: &mut String,
 ) -> Result<(), AllocError> {
-    if let (Some(source), Some(offset)) = (source, fault.offset()) {
-        return text.push_str(advice(alloc, fault.number(), source.text, offset)?);
-    }
     if let Fault::Cycle { names } = fault {
         return put_cycle(names, text);
     }
-    match explanation(fault.number()) {
-        Some(explanation) => text.push_str(explanation.meaning),
-        None => text.push_str("the sources are refused"),
+    match read {
+        Some(read) => text.push_str(advice_at(alloc, fault, read)?),
+        None => text.push_str(meaning_of(fault.number())),
+    }
+}
+
+/// What to do about the form at a fault's offset; what its number means where no form is found.
+fn advice_at(alloc: Global, fault: &Fault, read: &[u8]) -> Result<&'static str, AllocError> {
+    let Ok(text) = str::from_utf8(read) else {
+        return Ok(meaning_of(fault.number()));
+    };
+    match form_of(alloc, text, fault)? {
+        Some(found) => Ok(advice(found.form)),
+        None => Ok(meaning_of(fault.number())),
     }
 }
 

@@ -4,7 +4,7 @@ ghost use Rattle.cs_check.specs.Told.{AreAccepted};
 ghost use Rattle.cs_tool.specs.Given.{bytes_in};
 
 use crate::declared::declarations;
-use crate::faults::put_fault;
+use crate::faults::put_faults;
 use crate::warnings::put_warning;
 use cs_check::check;
 use cs_guard::Guarded;
@@ -49,7 +49,7 @@ pub fn write_findings<W: Write>(
     }
     let package = accepted_package(alloc, sources)?;
     if is_undeclared(&package, root) {
-        write_fault_line(alloc, &Fault::UnknownRoot, named, output)?;
+        write_faults(alloc, &[Fault::UnknownRoot], named, output)?;
         return Ok(Checked::Faulty);
     }
     write_warnings(alloc, &package, named, output)
@@ -63,19 +63,6 @@ fn is_undeclared(package: &Guarded, root: Option<&str>) -> bool {
     }
 }
 
-/// The lines of faults.
-fn lines_of(
-    alloc: Global,
-    faults: &[Fault],
-    named: &[Named<'_>],
-) -> Result<String, AllocError> {
-    let mut text = String::new(alloc);
-    for fault in faults {
-        put_fault(alloc, fault, named, &mut text)?;
-    }
-    Ok(text)
-}
-
 /// Writes a line for each fault.
 fn write_faults<W: Write>(
     alloc: Global,
@@ -83,19 +70,8 @@ fn write_faults<W: Write>(
     named: &[Named<'_>],
     output: &mut W,
 ) -> Result<(), Fault> {
-    let text = lines_of(alloc, faults, named)?;
-    write_out(text.as_bytes(), output)
-}
-
-/// Writes the line of one fault.
-fn write_fault_line<W: Write>(
-    alloc: Global,
-    fault: &Fault,
-    named: &[Named<'_>],
-    output: &mut W,
-) -> Result<(), Fault> {
     let mut text = String::new(alloc);
-    put_fault(alloc, fault, named, &mut text)?;
+    put_faults(alloc, faults, named, &mut text)?;
     write_out(text.as_bytes(), output)
 }
 

@@ -4,6 +4,7 @@
 mod declared;
 mod faults;
 mod findings;
+mod readable;
 mod text;
 mod warnings;
 

@@ -1,31 +1,15 @@
-// A stub.
+// What refusals mean, and what to do about them: in words, by the forms of CUE at their places.
 #![tactic(auto)]
 
-use std::alloc::{AllocError, Global};
+mod advice;
+mod forms;
+mod left_out;
+mod near;
+mod rows;
+mod stuck;
+mod syntax;
+mod text;
 
-/// A stub.
-#[derive(Clone, Copy, Drop)]
-pub struct Explanation {
-    pub number: u32,
-    pub meaning: &'static str,
-    pub remedy: &'static str,
-}
-
-/// A stub.
-pub fn explanation(number: u32) -> Option<Explanation> {
-    Some(Explanation {
-        number,
-        meaning: "meaning",
-        remedy: "remedy",
-    })
-}
-
-/// A stub.
-pub fn advice(
-    _alloc: Global,
-    _number: u32,
-    _source: &[u8],
-    _offset: usize,
-) -> Result<&'static str, AllocError> {
-    Ok("advice")
-}
+pub use advice::advice;
+pub use forms::{Form, Found, form_of};
+pub use rows::{explanation, meaning_of};
