@@ -8,3 +8,4 @@ pub mod Depths
 pub mod Declared
 pub mod Instances
 pub mod Settled
+mod Samples
