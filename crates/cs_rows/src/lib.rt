@@ -1,4 +1,4 @@
-// Worked examples, and hostile input: the calls of `cs_tool`.
+// Worked examples, and hostile input: the calls of `cs_tool` and `cs_check`.
 #![tactic(auto)]
 
 #[cfg(test)]
@@ -9,6 +9,8 @@ mod commands;
 mod documents;
 #[cfg(test)]
 mod examples;
+#[cfg(test)]
+mod faults;
 #[cfg(test)]
 mod hostile;
 #[cfg(test)]

@@ -1,6 +1,6 @@
 // Tables of examples: a row a line, its cells parted by `=>`. A line that begins with two blanks and `…` goes on with the row
 // before it.
-use crate::{commands, documents, examples, keywords, refusals, requests, streams};
+use crate::{commands, documents, examples, faults, keywords, refusals, requests, streams};
 use std::alloc::{AllocError, Global};
 use std::test::Fail;
 
@@ -21,6 +21,10 @@ pub(crate) enum Row {
     Front,
     /// A source, and the names of its cycle.
     Cycle,
+    /// Sources, and all their faults.
+    Faults,
+    /// A source of which each front begins with the fault that `export` reports.
+    FaultFront,
     /// A call, its texts, the input and what `run` answers.
     Request,
     /// Rules, documents, and what is written for each.
@@ -53,6 +57,8 @@ fn holds(alloc: Global, row: &str, rows: Row) -> Result<bool, Fail> {
         Row::Document => Ok(refusals::is_judged(alloc, row)?),
         Row::Front => Ok(refusals::are_fronts_refused(alloc, row)?),
         Row::Cycle => Ok(refusals::is_cycle(alloc, row)?),
+        Row::Faults => Ok(faults::are_told(alloc, row)?),
+        Row::FaultFront => Ok(faults::are_fronts_told(alloc, row)?),
         Row::Documents => Ok(documents::are_answered(alloc, row)?),
         Row::Request => Ok(requests::is_run(alloc, row)?),
         Row::Stream => Ok(streams::is_run(alloc, row)?),
