@@ -1,11 +1,10 @@
 // The lines of faults.
 use crate::readable::readable;
 use crate::text::{put_number, put_place};
-use cs_refusals::{advice, form_of, meaning_of};
+use cs_refusals::{advice, explanation};
 use cs_report::Named;
 use cs_tool::Fault;
 use std::alloc::{AllocError, Global};
-use std::str;
 
 /// Puts a line for each fault of these sources.
 pub(crate) fn put_faults(
@@ -64,20 +63,12 @@ fn put_meaning(
     if let Fault::Cycle { names } = fault {
         return put_cycle(names, text);
     }
-    match read {
-        Some(read) => text.push_str(advice_at(alloc, fault, read)?),
-        None => text.push_str(meaning_of(fault.number())),
+    if let (Some(read), Some(offset)) = (read, fault.offset()) {
+        return text.push_str(advice(alloc, fault.number(), read, offset)?);
     }
-}
-
-/// What to do about the form at a fault's offset; what its number means where no form is found.
-fn advice_at(alloc: Global, fault: &Fault, read: &[u8]) -> Result<&'static str, AllocError> {
-    let Ok(text) = str::from_utf8(read) else {
-        return Ok(meaning_of(fault.number()));
-    };
-    match form_of(alloc, text, fault)? {
-        Some(found) => Ok(advice(found.form)),
-        None => Ok(meaning_of(fault.number())),
+    match explanation(fault.number()) {
+        Some(explanation) => text.push_str(explanation.meaning),
+        None => Ok(()),
     }
 }
 

@@ -1,78 +1,77 @@
-// Forms that begin with a token which only forms outside the profile have (5).
-use crate::forms::{Form, Found};
+// Advice at a token of a form that is left out.
 use crate::near::{Near, ends_value};
 use cs_grammar::Sort;
 
-/// The form at a token that the profile leaves out.
-pub(crate) fn form_left_out(near: Near<'_, '_>) -> Found {
-    match near.here().sort {
-        Sort::Hidden => near.shows(Form::HiddenName),
-        Sort::Name => near.shows(form_of_word(near.here().text)),
-        _ => form_of_mark(near),
+const ARITHMETIC: &str = "arithmetic is left out: write what it comes to";
+
+/// What to read at a form of CUE that is left out.
+pub(crate) fn advice_left_out(near: &Near<'_>) -> Option<&'static str> {
+    match near.here.sort {
+        Sort::Hidden => Some(advice_at_hidden(near.here.text)),
+        Sort::Name => advice_at_word(near.here.text),
+        _ => advice_at_mark(near),
     }
 }
 
-fn form_of_word(word: &str) -> Form {
-    match word {
-        "import" => Form::Import,
-        "let" => Form::Let,
-        "for" => Form::For,
-        "if" => Form::If,
-        _ => Form::Misplaced,
+fn advice_at_hidden(name: &str) -> &'static str {
+    match name.as_bytes() {
+        [_, b'#', ..] =>
+            "hidden definitions are left out: drop the `_`; only what the root reaches is exported anyway",
+        _ => "hidden fields are left out: drop the `_`, or take the field out",
     }
 }
 
-fn form_of_mark(near: Near<'_, '_>) -> Found {
-    match near.here().text {
-        "*" if !ends_value(near.before(1)) => near.shows(Form::DefaultMark),
-        "." => form_of_dot(near),
-        "=" if near.is_in_label() => near.shows(Form::AliasLabel),
-        "=" => near.shows(Form::Alias),
-        "=~" | "!~" if near.is_in_label() => near.shows(Form::Pattern),
-        "=~" | "!~" => near.shows(Form::RegularExpression),
-        "==" | "&&" | "||" => near.shows(Form::Comparison),
-        _ => near.shows(Form::Arithmetic),
+/// What to read at a word that begins a form, and behind it.
+pub(crate) fn advice_at_word(word: &str) -> Option<&'static str> {
+    match word.as_bytes() {
+        b"import" => Some("imports are left out; remove it and write what it gives by hand"),
+        b"let" => Some("`let` is left out: write a definition in place of it"),
+        b"if" => Some("`if`: comprehensions are left out: say the cases as alternatives"),
+        b"for" => Some("`for`: comprehensions are left out: write out what it makes"),
+        _ => None,
     }
 }
 
-fn form_of_dot(near: Near<'_, '_>) -> Found {
-    if !ends_value(near.before(1)) {
-        return near.shows(Form::Float);
+fn advice_at_mark(near: &Near<'_>) -> Option<&'static str> {
+    match near.here.text.as_bytes() {
+        b"*" => Some(advice_at_star(near)),
+        b"." => Some(advice_at_dot(near)),
+        b"=~" | b"!~" => Some(advice_at_expression(near)),
+        b"+" | b"-" | b"/" => Some(ARITHMETIC),
+        b"==" => Some(
+            "comparisons are left out: fields can't be compared; say the cases as alternatives",
+        ),
+        b"&&" | b"||" => Some(
+            "`&&` and `||` are left out: `&` joins types, and `|` gives alternatives",
+        ),
+        b"=" => Some("aliases are left out: give the value a definition, and name that"),
+        _ => None,
     }
-    if near.behind(1).sort != Sort::Name {
-        return near.shows(Form::Selector);
-    }
-    let is_name = near.before(1).sort == Sort::Name;
-    if is_name && near.behind(2).text == "(" {
-        return near.both_show(Form::PackageCall);
-    }
-    if is_name && is_package(near.before(1).text) {
-        return near.both_show(Form::PackageValue);
-    }
-    near.both_show(Form::Selector)
 }
 
-/// Whether a name is that of a package which comes with CUE.
-fn is_package(name: &str) -> bool {
-    matches!(
-        name,
-        "base64"
-            | "bool"
-            | "csv"
-            | "hex"
-            | "json"
-            | "list"
-            | "math"
-            | "bits"
-            | "net"
-            | "path"
-            | "regexp"
-            | "strconv"
-            | "strings"
-            | "struct"
-            | "template"
-            | "time"
-            | "uuid"
-            | "yaml"
-    )
+fn advice_at_star(near: &Near<'_>) -> &'static str {
+    if ends_value(&near.before) {
+        return ARITHMETIC;
+    }
+    "default marks are left out; a document may leave the field out, so make the field optional with `?`"
+}
+
+fn advice_at_dot(near: &Near<'_>) -> &'static str {
+    if near.before.sort == Sort::Integer || !ends_value(&near.before) {
+        return "floats are left out: scale it, as to percent or to milliseconds";
+    }
+    if near.later.text == "(" {
+        return "calls are left out, and so are packages: `[T, ...T]` says a list that isn't empty; lengths of texts can't be said";
+    }
+    if near.before.sort == Sort::Name {
+        return "packages are left out: write by hand what it gives; `string` is what remains of a text";
+    }
+    "selectors are left out: give what is selected a definition of its own"
+}
+
+fn advice_at_expression(near: &Near<'_>) -> &'static str {
+    if near.before.text == "[" {
+        return "of patterns only `[string]: T` is taken";
+    }
+    "regular expressions are left out; `string` is what remains"
 }

@@ -1,15 +1,20 @@
-// What refusals mean, and what to do about them: in words, by the forms of CUE at their places.
+// What a refusal means and what to do about it, in words.
 #![tactic(auto)]
 
-mod advice;
-mod forms;
+mod advised;
+mod bytes;
 mod left_out;
+mod line;
+mod names;
 mod near;
+mod numbers;
+mod out_of_place;
 mod rows;
-mod stuck;
-mod syntax;
-mod text;
 
-pub use advice::advice;
-pub use forms::{Form, Found, form_of};
-pub use rows::{explanation, meaning_of};
+pub use advised::advice;
+pub use line::marked_line;
+pub use numbers::explanation;
+pub use rows::Explanation;
+
+#[cfg(test)]
+mod tests;

@@ -1,172 +1,136 @@
-// Tokens and those near them.
-use crate::forms::{Form, Found};
+// The tokens around a place of a source.
 use cs_grammar::{Sort, Token};
 
-/// What tokens are inside of.
+/// What the innermost bracket that is open at a token begins.
 #[derive(Clone, Copy, Debug, PartialEq, Eq)]
 pub(crate) enum Around {
-    Top,
+    /// No bracket is open.
+    File,
     Struct,
     List,
     Parentheses,
 }
 
-/// A token among those of a source.
-#[derive(Clone, Copy)]
-pub(crate) struct Near<'t, 'a> {
-    tokens: &'t [Token<'a>],
-    at: usize,
-    token: Token<'a>,
+/// A token with its neighbours; where there is none, one without a text.
+#[derive(Clone, Copy, Debug)]
+pub(crate) struct Near<'a> {
+    /// The token before the one before.
+    pub earlier: Token<'a>,
+    pub before: Token<'a>,
+    pub here: Token<'a>,
+    pub after: Token<'a>,
+    pub later: Token<'a>,
+    pub around: Around,
 }
 
-/// The token in place of those that a source doesn't have.
-fn nothing<'a>() -> Token<'a> {
-    Token {
-        sort: Sort::End,
-        text: "",
-        start: 0,
-    }
-}
-
-/// The place behind a token.
-pub(crate) fn end_of(token: Token<'_>) -> usize {
-    token.start.saturating_add(token.text.len())
-}
-
-/// Whether a value ends with a token.
-pub(crate) fn ends_value(token: Token<'_>) -> bool {
-    match token.sort {
-        Sort::Mark => matches!(token.text, "}" | "]" | ")"),
-        Sort::LeftOut | Sort::Inserted | Sort::End => false,
-        _ => true,
-    }
-}
-
-/// Whether a value begins with a token.
-pub(crate) fn begins_value(token: Token<'_>) -> bool {
-    match token.sort {
-        Sort::Mark => matches!(
-            token.text,
-            "{" | "[" | "(" | "<" | "<=" | ">" | ">=" | "!=" | "-"
-        ),
-        Sort::LeftOut | Sort::Inserted | Sort::End => false,
-        _ => true,
+/// The token at an offset, or the next one after it, with its neighbours.
+pub(crate) fn neighbours<'a>(tokens: &[Token<'a>], offset: usize) -> Near<'a> {
+    let place = tokens.iter().take_while(|t| t.start < offset).count();
+    let (front, back) = tokens.split_at(place);
+    let mut behind = front.iter().rev();
+    let before = token_or_end(behind.next());
+    let earlier = token_or_end(behind.next());
+    let mut ahead = back.iter();
+    let here = token_or_end(ahead.next());
+    let after = token_or_end(ahead.next());
+    let later = token_or_end(ahead.next());
+    let around = open_behind(front);
+    Near {
+        earlier,
+        before,
+        here,
+        after,
+        later,
+        around,
     }
 }
 
-/// Whether what follows a token is a declaration, where declarations are.
-fn precedes_declaration(token: Token<'_>) -> bool {
-    match token.sort {
-        Sort::Mark => matches!(token.text, "{" | ","),
-        Sort::Inserted | Sort::End => true,
-        _ => false,
+fn token_or_end<'a>(token: Option<&Token<'a>>) -> Token<'a> {
+    match token {
+        Some(found) => *found,
+        None => Token {
+            sort: Sort::End,
+            text: "",
+            start: 0,
+        },
     }
 }
 
-impl<'t, 'a> Near<'t, 'a> {
-    /// The token that starts at an offset.
-    pub(crate) fn at(tokens: &'t [Token<'a>], offset: usize) -> Option<Near<'t, 'a>> {
-        let at = tokens.partition_point(|token| token.start < offset);
-        let token = *tokens.get(at)?;
-        if token.start != offset {
-            return None;
-        }
-        Some(Near { tokens, at, token })
-    }
-
-    pub(crate) fn here(&self) -> Token<'a> {
-        self.token
-    }
-
-    /// The token so many before; the end where there is none.
-    pub(crate) fn before(&self, steps: usize) -> Token<'a> {
-        match self
-            .at
-            .checked_sub(steps)
-            .and_then(|at| self.tokens.get(at))
-        {
-            Some(token) => *token,
-            None => nothing(),
-        }
-    }
-
-    /// The token so many behind; the end where there is none.
-    pub(crate) fn behind(&self, steps: usize) -> Token<'a> {
-        match self.tokens.get(self.at.saturating_add(steps)) {
-            Some(token) => *token,
-            None => nothing(),
-        }
-    }
-
-    /// The bracket that is open at the token, as another place.
-    pub(crate) fn bracket(&self) -> Option<Near<'t, 'a>> {
-        let mut closed = 0usize;
-        for at in (0..self.at).rev() {
-            let token = *self.tokens.get(at)?;
-            match token.text {
-                "{" | "[" | "(" if closed == 0 => {
-                    let tokens = self.tokens;
-                    return Some(Near { tokens, at, token });
+/// What is open behind these tokens.
+fn open_behind(front: &[Token<'_>]) -> Around {
+    let mut closed: usize = 0;
+    for token in front.iter().rev() {
+        match opened(token) {
+            Some(around) => {
+                if closed == 0 {
+                    return around;
                 }
-                "{" | "[" | "(" => closed = closed.saturating_sub(1),
-                "}" | "]" | ")" => closed = closed.saturating_add(1),
-                _ => {}
+                closed -= 1;
+            }
+            None => {
+                if is_closing(token) {
+                    closed = closed.saturating_add(1);
+                }
             }
         }
-        None
     }
+    Around::File
+}
 
-    /// What the token is inside of.
-    pub(crate) fn around(&self) -> Around {
-        match self.bracket() {
-            None => Around::Top,
-            Some(bracket) => match bracket.token.text {
-                "{" => Around::Struct,
-                "[" => Around::List,
-                _ => Around::Parentheses,
-            },
-        }
+fn opened(token: &Token<'_>) -> Option<Around> {
+    match token.text.as_bytes() {
+        b"{" => Some(Around::Struct),
+        b"[" => Some(Around::List),
+        b"(" => Some(Around::Parentheses),
+        _ => None,
     }
+}
 
-    /// Whether a declaration begins with the token, of a file or of a struct.
-    pub(crate) fn begins_declaration(&self) -> bool {
-        precedes_declaration(self.before(1))
-            && matches!(self.around(), Around::Top | Around::Struct)
-    }
+/// Whether a token is a closing bracket.
+pub(crate) fn is_closing(token: &Token<'_>) -> bool {
+    matches!(token.text.as_bytes(), b"}" | b"]" | b")")
+}
 
-    /// Whether the token is inside of the brackets of a label.
-    pub(crate) fn is_in_label(&self) -> bool {
-        match self.bracket() {
-            Some(bracket) => bracket.token.text == "[" && bracket.begins_declaration(),
-            None => false,
-        }
+/// Whether a declaration may begin behind a token.
+pub(crate) fn begins_declaration(token: &Token<'_>) -> bool {
+    match token.sort {
+        Sort::Inserted | Sort::End => true,
+        _ => matches!(token.text.as_bytes(), b"{" | b","),
     }
+}
 
-    /// A form that the token shows.
-    pub(crate) fn shows(&self, form: Form) -> Found {
-        Found {
-            form,
-            start: self.token.start,
-            end: end_of(self.token),
-        }
+/// Whether a value may end with a token.
+pub(crate) fn ends_value(token: &Token<'_>) -> bool {
+    match token.sort {
+        Sort::Name
+        | Sort::Definition
+        | Sort::Hidden
+        | Sort::Top
+        | Sort::Bottom
+        | Sort::Integer
+        | Sort::Text => true,
+        _ => is_closing(token),
     }
+}
 
-    /// A form that the token before it shows.
-    pub(crate) fn before_shows(&self, form: Form) -> Found {
-        let token = self.before(1);
-        Found {
-            form,
-            start: token.start,
-            end: end_of(token),
-        }
+/// Whether a value may begin with a token.
+pub(crate) fn begins_value(token: &Token<'_>) -> bool {
+    match token.sort {
+        Sort::Name
+        | Sort::Definition
+        | Sort::Hidden
+        | Sort::Top
+        | Sort::Bottom
+        | Sort::Integer
+        | Sort::Text => true,
+        _ => opened(token).is_some(),
     }
+}
 
-    /// A form that the tokens from the one before up to the one behind show.
-    pub(crate) fn both_show(&self, form: Form) -> Found {
-        Found {
-            form,
-            start: self.before(1).start,
-            end: end_of(self.behind(1)),
-        }
-    }
+/// Whether a token is a label's or may be one.
+pub(crate) fn is_label(token: &Token<'_>) -> bool {
+    matches!(
+        token.sort,
+        Sort::Name | Sort::Definition | Sort::Hidden | Sort::Text
+    )
 }

@@ -77,11 +77,11 @@ fn check(rt: &HostRuntime, words: &ArgMatches<'_>) -> Result<u8, Fault> {
 /// The status after what a number means.
 fn explain(rt: &HostRuntime, words: &ArgMatches<'_>) -> Result<u8, Fault> {
     let number = words.get_one("NUMBER").unwrap_or(0);
-    let Some(text) = explanation(rt.alloc(), number)? else {
+    let Some(found) = explanation(number) else {
         let _ = eprintln!(rt; "error: no refusal has the number {number}");
         return Ok(COMMAND_LINE);
     };
-    match print!(rt; "{text}") {
+    match println!(rt; "{}: {}\n{}", found.number, found.meaning, found.remedy) {
         Ok(()) => Ok(0),
         Err(_) => Err(Fault::WriteFailed),
     }
