@@ -41,8 +41,8 @@ try: | toolchain
 run: bin/cue2schema
 	bin/cue2schema export --root '#P' < examples/port.cue
 
-# All three run, also where one fails.
-answers = tools/cases.sh $(1); cases=$$?; tools/pages.sh $(1); pages=$$?; tools/commands.sh $(1) && [ $$cases$$pages = 00 ]
+# All four run, also where one fails.
+answers = tools/cases.sh $(1); cases=$$?; tools/pages.sh $(1); pages=$$?; tools/explained.py $(1); rows=$$?; tools/commands.sh $(1) && [ $$cases$$pages$$rows = 000 ]
 
 # The gate leaves the program that it built; the cases never run on one that is older than a source.
 test: | toolchain
