@@ -1,6 +1,6 @@
 // Where sources declare definitions.
 use cs_report::Named;
-use cs_syntax::{File, parse_file};
+use cs_syntax::{File, SyntaxFault, parse_file};
 use std::alloc::{AllocError, Global};
 use std::collections::BTreeMap;
 use std::str;
@@ -12,11 +12,15 @@ pub(crate) struct Place {
     pub(crate) offset: usize,
 }
 
-/// The file that a source spells; none where it spells none.
-fn file_of(alloc: Global, source: Named<'_>) -> Option<File> {
-    match str::from_utf8(source.text) {
-        Ok(text) => parse_file(alloc, text).ok(),
-        Err(_) => None,
+/// The file that a source spells; none where it spells none. Only memory can run out.
+fn file_of(alloc: Global, source: Named<'_>) -> Result<Option<File>, AllocError> {
+    let Ok(text) = str::from_utf8(source.text) else {
+        return Ok(None);
+    };
+    match parse_file(alloc, text) {
+        Ok(file) => Ok(Some(file)),
+        Err(SyntaxFault::OutOfMemory) => Err(AllocError),
+        Err(_) => Ok(None),
     }
 }
 
@@ -27,7 +31,7 @@ pub(crate) fn declarations(
 ) -> Result<BTreeMap<String, Place>, AllocError> {
     let mut places = BTreeMap::new(alloc);
     for (file, source) in sources.iter().enumerate() {
-        if let Some(spelled) = file_of(alloc, *source) {
+        if let Some(spelled) = file_of(alloc, *source)? {
             add_declarations(file, spelled, &mut places)?;
         }
     }
