@@ -1,5 +1,6 @@
 // The commands that speak of sources and refusals alone: `check` and `explain`.
 use crate::COMMAND_LINE;
+use crate::explained::{STANDARD_INPUT, names_of};
 use crate::requests::sources_of;
 use clap::ArgMatches;
 use cs_findings::{Checked, write_findings};
@@ -7,8 +8,6 @@ use cs_refusals::explanation;
 use cs_tool::{Fault, Named};
 use std::alloc::{AllocError, Global};
 
-/// The name of standard input.
-const STANDARD_INPUT: &str = "-";
 /// The status of warnings alone, where they count.
 const WARNED: u8 = 1;
 /// The status of faults.
@@ -27,17 +26,16 @@ pub(crate) fn answer_of_sources(
     }
 }
 
-/// The sources with the names that the words give them.
+/// The sources with their names.
 fn named<'a>(
     alloc: Global,
-    words: &ArgMatches<'a>,
+    names: &'a [String],
     sources: &'a [Vec<u8>],
 ) -> Result<Vec<Named<'a>>, AllocError> {
-    let names = words.get_strs("FILE");
     let mut named = Vec::with_capacity(alloc, sources.len())?;
     for (place, source) in sources.iter().enumerate() {
-        let name = match names {
-            Some(names) => names.get(place).copied().unwrap_or(STANDARD_INPUT),
+        let name = match names.get(place) {
+            Some(name) => name.as_str(),
             None => STANDARD_INPUT,
         };
         let text = source.as_slice();
@@ -62,7 +60,8 @@ fn texts<'a>(alloc: Global, sources: &'a [Vec<u8>]) -> Result<Vec<&'a [u8]>, All
 /// The status after all that is found in the sources.
 fn check(rt: &HostRuntime, words: &ArgMatches<'_>) -> Result<u8, Fault> {
     let sources = sources_of(rt, words)?;
-    let named = named(rt.alloc(), words, &sources)?;
+    let names = names_of(rt.alloc(), words)?;
+    let named = named(rt.alloc(), &names, &sources)?;
     let texts = texts(rt.alloc(), &sources)?;
     let root = words.get_str("root");
     let checked = write_findings(rt.alloc(), &texts, &named, root, &mut rt.stdout())?;

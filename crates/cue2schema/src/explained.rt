@@ -14,7 +14,7 @@ use std::fs::File;
 use std::io::{Read, sink};
 
 /// The name of standard input.
-const STANDARD_INPUT: &str = "-";
+pub(crate) const STANDARD_INPUT: &str = "-";
 /// The names of the sources where none is given.
 const UNNAMED: &[&str] = &[STANDARD_INPUT];
 
@@ -52,7 +52,7 @@ fn write_refusal(rt: &HostRuntime, fault: &Fault, words: &ArgMatches<'_>) -> Res
 }
 
 /// The names of the sources.
-fn names_of(alloc: Global, words: &ArgMatches<'_>) -> Result<Vec<String>, AllocError> {
+pub(crate) fn names_of(alloc: Global, words: &ArgMatches<'_>) -> Result<Vec<String>, AllocError> {
     let mut names = Vec::new(alloc);
     match words.get_strs("FILE") {
         Some(paths) => {
