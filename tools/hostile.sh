@@ -147,6 +147,8 @@ rm open
 try 'source of 1,048,572 open parentheses' 0 'error 7' 'export --root #A open.cue'
 { printf '#A: '; fill 1048572 '['; } > open.cue
 try 'source of 1,048,572 open lists' 0 'error 7' 'export --root #A open.cue'
+try 'source of 1,048,572 open lists: check' 0 \
+    'lines 2 open.cue: error 7: An expression is higher than 28: structs, lists, parentheses, `&` and `|` nest too deep.' 'check open.cue'
 { printf '#A: '; many 262143 '"a":'; } > open.cue
 try 'source of 262,143 labels' 0 'error 7' 'export --root #A open.cue'
 
@@ -383,6 +385,7 @@ awk 'BEGIN {
     for (i = 0; i < 64; i++) printf "\"A%d\":{\"allOf\":[{\"$ref\":\"#/$defs/A%d\"},{\"$ref\":\"#/$defs/A%d\"}]},", i, i + 1, i + 1
     printf "\"A64\":{\"type\":\"integer\"}},\"$ref\":\"#/$defs/A0\"}\n"
 }' > schema
+try 'doubling 64 times: check' 0 'lines 0' 'check wide.cue'
 try 'doubling 64 times: vet' 258 valid 'vet --root #A0 --doc seven wide.cue'
 try 'doubling 64 times: validate' 194 valid 'validate --schema schema --doc seven'
 try 'doubling 64 times: agree' 452 valid 'agree --root #A0 --doc seven wide.cue'
@@ -390,6 +393,12 @@ try 'doubling 64 times: vet --why' 258 'lines 1 invalid;null:1:1: (root): found 
     'vet --why --root #A0 --doc null wide.cue'
 try 'doubling 64 times: validate --why' 194 'lines 1 invalid;null:1:1: (root): found null, want integer [#/$defs/A64/type]' \
     'validate --why --schema schema --doc null'
+awk 'BEGIN {
+    for (i = 0; i < 999; i++) print "#A" i ": {x: null | #A" i + 1 "}"
+    print "#A999: int & string"
+}' > wide.cue
+try 'a chain of 1,000 definitions: check' 0 \
+    'lines 0 wide.cue:1000:1: warning: no document is an instance of #A999: its operands are of different kinds' 'check wide.cue'
 doubling 65 '&' > wide.cue
 try 'doubling 65 times: vet' 0 'error 16' 'vet --root #A0 --doc seven wide.cue'
 closing

@@ -1,7 +1,7 @@
 #!/bin/sh
 # Whether want of memory is told each time. Makes each command of cases/growths, and each step below of cs_bench, with its first
 # growth of memory refused, then with its second one, and so on, until a run meets no refusal. Each run that meets one must
-# print nothing, say `error 15` and end with status 5, and the last one must give the whole answer. A line for each command says
+# print nothing, say `error 15` (or with `--format` print that as an object) and end with status 5, and the last one must give the whole answer. A line for each command says
 # how many growths it has, or what a run did instead; fails where there is such a run. Takes a minute on 4 processors.
 #
 # A run over many documents may answer 15 for one of them, and then it answers the others as they are wanted.
@@ -54,8 +54,9 @@ run() {
     done
 }
 
-# whether the run was refused by want of memory
+# whether the run was refused by want of memory: by a line, or in a format by an object in place of the answer
 is_refused() {
+    is_run 5 '{"error":15}' '' && return
     [ "$status" -eq 5 ] && [ ! -s "$room/out" ] \
         && { IFS= read -r said && [ "$said" = 'error 15' ] && ! read -r said && [ -z "$said" ]; } < "$room/said"
 }
