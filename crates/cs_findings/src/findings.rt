@@ -1,5 +1,5 @@
 // A check of sources: what it finds, and its lines.
-ghost use Rattle.std.specs.Prelude.{◌≡◌, IfOk};
+ghost use Rattle.std.specs.Prelude.{◌≡◌, IfOk, None, false};
 ghost use Rattle.cs_check.specs.Told.{AreAccepted};
 ghost use Rattle.cs_tool.specs.Given.{bytes_in};
 
@@ -40,7 +40,10 @@ pub fn write_findings<W: Write>(
     root: Option<&str>,
     output: &mut W,
 ) -> Result<Checked, Fault>
-    ensures accepted { IfOk result (λ c. ¬ (c ≡ Checked.Faulty) → AreAccepted (bytes_in sources.now)) }
+    ensures accepted { IfOk result
+        (λ c. ¬ (c ≡ Checked.Faulty) → AreAccepted (bytes_in sources.now)) }
+    ensures refused { root.entry ≡ None → IfOk result
+        (λ c. c ≡ Checked.Faulty → ¬ (AreAccepted (bytes_in sources.now))) }
 {
     let faults = check(alloc, sources)?;
     if !faults.is_empty() {
@@ -56,7 +59,9 @@ pub fn write_findings<W: Write>(
 }
 
 /// Whether a root is asked for that the package doesn't declare.
-fn is_undeclared(package: &Guarded, root: Option<&str>) -> bool {
+fn is_undeclared(package: &Guarded, root: Option<&str>) -> bool
+    ensures { root.entry ≡ None → result ≡ false }
+{
     match root {
         Some(root) => package.package().find(root).is_none(),
         None => false,
