@@ -3,7 +3,8 @@
 # make try        runs the program from its sources without the proofs, in about a minute: on examples/port.cue, or as
 #                 make try ARGS="vet --root '#P' --doc d.json port.cue"
 # make test       the gate: every proof from nothing, the must-fail edits, the tests, the program's stored run and its cases
-# make cases      the cases of the program alone, what the pages for users show, and what needs pipes, rights or special files
+# make cases      the cases of the program alone, what the pages for users show, what needs pipes, rights or special files, and
+#                 how many faults of ordinary CUE `check` tells
 # make edits      the edits that the gate doesn't try, of the crates that differ from what landed last: from the commit where this
 #                 branch left the one that it tracks, or from SINCE=REV; CRATES="cs_x cs_y" for those of some crates, ALL=1 for all
 # make memory     runs each command, and each step from bytes to a file or a document, with each of its growths of memory refused
@@ -41,8 +42,9 @@ try: | toolchain
 run: bin/cue2schema
 	bin/cue2schema export --root '#P' < examples/port.cue
 
-# All four run, also where one fails.
-answers = tools/cases.sh $(1); cases=$$?; tools/pages.sh $(1); pages=$$?; tools/explained.py $(1); rows=$$?; tools/commands.sh $(1) && [ $$cases$$pages$$rows = 000 ]
+# All five run, also where one fails.
+answers = tools/cases.sh $(1); cases=$$?; tools/pages.sh $(1); pages=$$?; tools/explained.py $(1); rows=$$?; \
+	tools/natural.py $(1); natural=$$?; tools/commands.sh $(1) && [ $$cases$$pages$$rows$$natural = 0000 ]
 
 # The gate leaves the program that it built; the cases never run on one that is older than a source.
 test: | toolchain

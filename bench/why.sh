@@ -1,9 +1,10 @@
 #!/bin/sh
 # Times `--why` by whole runs of the program, beside the same runs without it: a fleet of 5.79 MB with one fault, by `vet` and
-# `validate`, and by `vet` where each of its apps is refused for a misspelt key; and the largest table in which each pair is
-# refused and reached. A line for each: the milliseconds of the processor for both runs, how many times as long the one with `--why` takes, and
-# its most memory in MB. Fails where one fault takes more than 1.5 times as long as the verdict, where the largest table takes
-# more than 300 MB, or where the answer isn't the one that is wanted. Other work on the machine makes it fail too.
+# `validate`, and by `vet` where each of its apps is refused for a misspelt key; the largest table in which each pair is refused
+# and reached; and the most missing names that are told. A line for each: the milliseconds of the processor for both runs, how many
+# times as long the one with `--why` takes, and its most memory in MB. Fails where one fault takes more than 1.5 times as long as
+# the verdict, where another run takes more than 300 MB, or where the answer isn't the one that is wanted. Other work on the machine
+# makes it fail too.
 # usage: why.sh PROGRAM
 set -eu
 
@@ -62,4 +63,9 @@ measure 'a fault in each app: vet' 1000 300 'more; --most N tells more' vet --ro
 awk 'BEGIN { printf "#P: [...(_|_"; for (i = 1; i < 8188; i++) printf " & _|_"; print ")]" }' > "$folder/never.cue"
 awk 'BEGIN { printf "[0"; for (i = 1; i < 8191; i++) printf ",0"; print "]" }' > "$folder/zeros"
 measure 'all pairs refused: vet' 1000 300 '67067888 more; --most N tells more' vet --root '#P' --doc "$folder/zeros" "$folder/never.cue"
+
+# 8,192 values by 8,192 names that each map lacks: the most missing names that are told.
+awk 'BEGIN { printf "{\"items\":{\"required\":["; for (i = 0; i < 8192; i++) printf "%s\"k%d\"", (i ? "," : ""), i; print "]}}" }' > "$folder/names.json"
+awk 'BEGIN { printf "[{}"; for (i = 1; i < 8191; i++) printf ",{}"; print "]" }' > "$folder/maps"
+measure 'all names missing: validate' 1000 300 '67100652 more; --most N tells more' validate --schema "$folder/names.json" --doc "$folder/maps"
 exit "$failed"

@@ -2,7 +2,8 @@
 # Runs the program on the cases of cases/ and compares what it prints, what it says on standard error and its status.
 # A line for each case that fails, and a closing count. cases/README.md says how a case is written.
 #
-#     tools/cases.sh PROGRAM [FOLDER..]        the folders of cases/ to run; all of them where none is named
+#     tools/cases.sh PROGRAM [FOLDER..]        the folders of cases/ to run; where none is named all but natural, which is
+#                                              that of tools/natural.py
 set -eu
 program=$(realpath "$1")
 shift
@@ -115,7 +116,7 @@ single() { # folder
     fi
 }
 
-[ $# -gt 0 ] || set -- $(cd "$cases" && for it in */; do echo "${it%/}"; done)
+[ $# -gt 0 ] || set -- $(cd "$cases" && for it in */; do [ "$it" = natural/ ] || echo "${it%/}"; done)
 for name in "$@"; do
     # The program runs in a copy of the folder, where the files stand that its words name.
     cp -r "$cases/$name" "$room/here"

@@ -176,6 +176,18 @@ try_run 1 invalid '' 'run vet --root "#P" --doc true.json port.cue 2>&-'
 try "$port" 'run export --root "#P" port.cue 2>&-'
 try "$port" 'run export --root "#P" port.cue <&- 2>&-'
 try_run 4 '' '' 'run export --root "#P" port.cue <&- >&- 2>&-'
+try_run 2 '' '' 'run export --why --root "#P" syntax.cue 2>&-'
+try_run 2 '' '' 'run export --why --root "#P" syntax.cue 2> /dev/full'
+
+# What is told of reads and writes that fail.
+try 'says 4 error 30⏎folder: this is a folder' 'run vet --why --root "#P" --doc folder port.cue'
+try 'says 4 error 30⏎folder: this is a folder' 'run export --why --root "#P" port.cue folder'
+try 'prints 4 {"error":30,"path":"folder","hint":"this is a folder"}' 'run vet --format json --root "#P" --doc folder port.cue'
+try 'says 4 error 31⏎A write failed. What was written is the beginning of the text. Write elsewhere.' \
+    'run export --why --root "#P" port.cue > /dev/full'
+try 'says 4 error 31⏎A write failed. What was written is the beginning of the text. Write elsewhere.' \
+    'run vet --why --root "#P" --doc one port.cue > /dev/full'
+try 'error 31' 'run explain 31 > /dev/full'
 
 # Limits: the greatest input that is read, and one byte more.
 try 'error 13' 'run export --root "#P" source-limit'
@@ -186,6 +198,14 @@ try 'error 13' 'run export --root "#P" source-limit empty'
 try 'error 1' 'run export --root "#P" one source-limit'
 try 'error 1' 'run vet --root "#P" --doc one port.cue source-limit'
 try 'error 1' 'run agree --root "#P" --doc one source-limit port.cue'
+try 'says 2 error 1⏎The sources have more than 1,048,576 bytes together. Split the package: give only the files that the root needs.⏎one: 2 bytes⏎source-limit: 1048576 bytes' \
+    'run export --why --root "#P" one source-limit'
+try 'prints 2 {"error":28,"path":"input-over","hint":"A schema or a document has more than 67,108,864 bytes. It is read no further. Give a smaller one.","files":[{"path":"input-over","bytes":67108865}]}' \
+    'run vet --format json --root "#P" --doc input-over port.cue'
+try 'prints 2 error 14: 1,001 definitions, and 1,000 may be: split the package by roots' 'seq -f "#A%.0f: int" 1001 | run check'
+try 'says 2 error 14⏎1,001 definitions, and 1,000 may be: split the package by roots' 'seq -f "#A%.0f: int" 1001 | run export --why --root "#P"'
+try 'says 2 error 28⏎input-over: A schema or a document has more than 67,108,864 bytes. It is read no further. Give a smaller one.⏎input-over: 67108865 bytes' \
+    'run vet --why --root "#P" --doc input-over port.cue'
 try 'error 25' 'run vet --root "#P" --doc input-limit port.cue'
 try 'error 28' 'run vet --root "#P" --doc input-over port.cue'
 try 'error 25' 'run validate --schema true.json --doc input-limit'
@@ -211,6 +231,8 @@ try_run 0 'all of it' '' 'run export --root "#P" fields.cue | cmp - fields.json 
 try invalid 'run vet --root "#A" --doc zeros.json twice.cue'
 try 'error 27' 'run export --root "#A" twice.cue > twice.json; run validate --schema twice.json --doc zeros.json'
 try 'error 27' 'run agree --root "#A" --doc zeros.json twice.cue'
+try 'says 2 error 27⏎zeros.json: 8,001 values, so that 8,387 rules may be, and there are more: judge the parts of the document one by one, or split the package by roots' \
+    'run agree --why --root "#A" --doc zeros.json twice.cue'
 
 # Inputs without an end, in 400 MB of memory: reading stops at the limit.
 try 'error 1' 'ulimit -v 400000; yes | run export --root "#P"'
@@ -310,6 +332,20 @@ try_run 2 'valid
 error 25
 invalid' 'lines.json:3:1: (root): found 0, want >=1 [port.cue:1:11 #P]' 'run vet --root "#P" --lines --why --doc lines.json port.cue'
 
+# Reasons by as many names as are told, 8,192 of each of 8,191 maps, and by more: a list of these maps is a value too.
+{ printf '{"items":{"required":['; listed '"k%05d"' | cut -d , -f -8192; printf ']}}'; } > names.json
+{ printf '[{}'; yes ',{}' | head -n 8190 | tr -d '\n'; printf ']'; } > maps.json
+sed 's/]$/,{}]/' maps.json > many.json
+try 'prints 1 67100652 more; --most N tells more' 'run validate --why --schema names.json --doc maps.json | tail -n 1'
+untold="the reasons aren't told: values and required names make more than 67,108,864 pairs"
+try "lines 1 invalid;$untold" 'run validate --why --schema names.json --doc many.json'
+try 'lines 1 {"valid":false,"errors":[],"more":1}' 'run validate --format json --schema names.json --doc many.json'
+try 'lines 1 {"valid":false}' 'run validate --format flag --schema names.json --doc many.json'
+try 'lines 1 {"valid":false,"errors":[]}' 'run validate --format basic --schema names.json --doc many.json'
+try_run 1 "many.json: invalid
+$untold
+one: valid" '' 'run validate --why --schema names.json --docs many.json one'
+
 # Outputs for programs, judged by the program itself: `basic` by the standard's own schema as far as the profile has its
 # keywords, and `json` by a definition of it.
 cp "$cases"/why-schema/*.json "$cases"/why-schema/output.cue "$cases"/why-instance/forms.* .
@@ -323,6 +359,8 @@ try valid '"$program" agree --format json --why=all --most 1000 --root "#P" --do
 try valid '"$program" vet --format json --root "#P" --doc one port.cue > out.json || true; run vet --root "#Output" --doc out.json output.cue'
 try valid '"$program" vet --format json --root "#P" --doc one syntax.cue > out.json || true; run vet --root "#Output" --doc out.json output.cue'
 try valid '"$program" validate --format json --schema keyword.json --doc one > out.json || true; run vet --root "#Output" --doc out.json output.cue'
+try valid '"$program" validate --format json --schema names.json --doc many.json > out.json || true; run vet --root "#Output" --doc out.json output.cue'
+try valid '"$program" validate --format basic --schema names.json --doc many.json > out.json || true; run validate --schema output.schema.json --doc out.json'
 
 # Rights, which the administrator always has: there the program runs as nobody.
 as=

@@ -138,6 +138,34 @@ try '1,500 times 26 nested lists, 101 values: vet' 3939202 invalid 'vet --root #
 fill 60000000 '[' > open
 try '60,000,000 open lists: vet' 0 'error 25' 'vet --root #A --doc open any.cue'
 try '60,000,000 open lists: validate' 0 'error 25' 'validate --schema true < open'
+try '60,000,000 open lists: vet --why' 0 'told error 25' 'vet --why --root #A --doc open any.cue'
+# What is told of refusals: long lines, many names, long cycles.
+{ printf '#A: {'; listed 40000 'a%d: int' ', '; printf ', z: float}'; } > wide.cue
+try '40,000 fields on a line: export --why' 0 'told error 9 at' 'export --why --root #A wide.cue'
+{ printf '#A: {'; listed 40000 'a%d: int' ', '; printf ', z: a39999}'; } > wide.cue
+try '40,000 fields, one named: export --why' 0 'told error 10 at' 'export --why --root #A wide.cue'
+{ printf '#A: {'; listed 40000 'a%d: int' ', '; printf ', b: {x: 1}, b: {y: 1}}'; } > wide.cue
+try '40,000 fields, one twice: export --why' 0 'told error 11 at' 'export --why --root #A wide.cue'
+{ printf '#A: '; fill 1000000 '['; } > wide.cue
+try '1,000,000 open lists: export --why' 0 'told error 7' 'export --why --root #A wide.cue'
+{ printf '#A: {a: *1 |'; many 100000 ' 1 |'; printf ' 1}'; } > wide.cue
+try '100,000 alternatives behind a mark: export --why' 0 'told error 5 at' 'export --why --root #A wide.cue'
+listed 80000 '#a%d: _' > wide.cue
+try '80,000 definitions: export --why' 0 'told error 14' 'export --why --root #A wide.cue'
+listed 1000 '#abcdefghijklmnopqrstuvwxyzabcdefghijklmnopqrstuvwxyzabcd%d: _' > wide.cue
+try '1,000 long names, another root: export --why' 0 'told error 13' \
+    'export --why --root #abcdefghijklmnopqrstuvwxyzabcdefghijklmnopqrstuvwxyzabce9 wide.cue'
+awk 'BEGIN { for (i = 0; i < 1000; i++) printf "#a%d: {x: #a%d}\n", i, (i + 1) % 1000 }' > wide.cue
+try 'cycle of 1,000 definitions: export --why' 0 'told error 12' 'export --why --root #a0 wide.cue'
+{ printf '['; many 10000000 '1,'; printf '1.5]'; } > numbers
+try '10,000,000 numbers, the last with a fraction' 0 'told error 26' 'vet --why --root #A --doc numbers any.cue'
+{ printf '{"allOf":['; many 1000000 'true,'; printf '{"pattern":""}]}'; } > wide
+try '1,000,000 schemas, the last with a fault' 0 'told error 21' 'validate --why --schema wide --doc null'
+{ printf '{"allOf":['; many 1000000 'true,'; many 60 '{"pattern":""},'; printf 'true]}'; } > wide
+all=$(awk 'BEGIN { for (i = 0; i < 50; i++) printf "%swide:1:%d: error 21: /allOf/%d: `pattern` isn\047t in the profile: say it by other keywords, or take it out where it says nothing", i ? ";" : "", 5000012 + 15 * i, 1000000 + i }')
+slow='the schema is read again for each of 50 faults'
+try '1,000,000 schemas, the last 60 with a fault: check' 0 "lines 2 $all" 'check --schema wide'
+slow=
 try '60,000,000 open lists: schema' 0 'error 20' 'validate --schema open --doc null'
 many 10000000 '{"a":' > open
 try '10,000,000 open maps: vet' 0 'error 25' 'vet --root #A --doc open any.cue'
@@ -148,7 +176,7 @@ try 'source of 1,048,572 open parentheses' 0 'error 7' 'export --root #A open.cu
 { printf '#A: '; fill 1048572 '['; } > open.cue
 try 'source of 1,048,572 open lists' 0 'error 7' 'export --root #A open.cue'
 try 'source of 1,048,572 open lists: check' 0 \
-    'lines 2 open.cue: error 7: An expression is higher than 28: structs, lists, parentheses, `&` and `|` nest too deep.' 'check open.cue'
+    'prints 2 open.cue:1:33: error 7: this is the 29th bracket that is open; 28 may be: give an inner part a definition' 'check open.cue'
 { printf '#A: '; many 262143 '"a":'; } > open.cue
 try 'source of 262,143 labels' 0 'error 7' 'export --root #A open.cue'
 
@@ -244,6 +272,10 @@ rm keys texts schema front members
 { printf '{"items":{"required":['; listed 500000 '"k%06d"'; printf ']}}'; } > schema
 { printf '['; many 499999 '{"k000000":0},'; printf '{"k000000":0}]'; } > maps
 try '500,000 maps, 500,000 required' 2000002 invalid 'validate --schema schema --doc maps'
+{ printf '['; many 499999 '{},'; printf '{}]'; } > maps
+try '500,000 empty maps, 500,000 required: validate --why' 1000002 \
+    "lines 1 invalid;the reasons aren't told: values and required names make more than 67,108,864 pairs" \
+    'validate --why --schema schema --doc maps'
 rm maps
 
 # Schemas of many definitions, and names.

@@ -64,6 +64,23 @@ is_listed() {
     is_run "$listed" "$(printf '%s' "$*" | tr ';' '\n')" ''
 }
 
+# is_told TEXT: whether the run printed nothing, and ended with the status and said the lines of the text: with a blank behind the
+# status, and a ⏎ between them in place of a newline
+is_told() {
+    is_run "${1%% *}" '' "$(printf '%s' "${1#* }" | sed 's/⏎/\n/g')"
+}
+
+# is_printed TEXT: the same of a run that said nothing, and printed these lines
+is_printed() {
+    is_run "${1%% *}" "$(printf '%s' "${1#* }" | sed 's/⏎/\n/g')" ''
+}
+
+# is_told_more TEXT: whether the run printed nothing, was refused by a line that begins so, and said more behind it
+is_told_more() {
+    [ "$status" -eq 2 ] && [ ! -s "$room/out" ] && [ "$(wc -l < "$room/said")" -gt 1 ] \
+        && case $(head -n 1 "$room/said") in "$1"*) true ;; *) false ;; esac
+}
+
 # is_wanted WANTED: whether the run did what a row wants; cases/README.md lists what that may be
 is_wanted() {
     case $1 in
@@ -75,6 +92,9 @@ is_wanted() {
         'error '*) is_run 2 '' "$1" ;;
         '{'*) is_run 0 "{\"\$defs\":$1,\"\$ref\":\"#/\$defs/$root\",$dialect}" '' ;;
         'lines '*) is_listed ${1#lines } ;;
+        'prints '*) is_printed "${1#prints }" ;;
+        'says '*) is_told "${1#says }" ;;
+        'told '*) is_told_more "${1#told }" ;;
         usage) [ "$status" -eq 3 ] && [ ! -s "$room/out" ] && [ -s "$room/said" ] ;;
         'shows '*) [ "$status" -eq 0 ] && grep -qF -- "${1#shows }" "$room/out" && [ ! -s "$room/said" ] ;;
         *) false ;;

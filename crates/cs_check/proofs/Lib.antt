@@ -1,1 +1,3 @@
 mod Samples
+pub mod SchemaFaults
+mod SchemaSamples

@@ -1,4 +1,4 @@
-// All faults of sources in one run.
+// All faults of sources, or of a schema, in one run.
 #![tactic(auto)]
 
 mod coarse;
@@ -13,7 +13,9 @@ mod lexemes;
 mod names;
 mod operands;
 mod pieces;
+mod schema;
 mod texts;
 mod told;
 
 pub use faults::{MOST_FAULTS, check};
+pub use schema::check_schema;

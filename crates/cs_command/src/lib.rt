@@ -39,6 +39,7 @@ fn export<'a>(alloc: Global) -> Result<Command<'a>, AllocError> {
         .about("Writes the JSON Schema of a definition")
         .after_help("Example: cue2schema export --root '#Port' port.cue > port.schema.json")
         .arg(root(alloc))?
+        .arg(why_refused(alloc))?
         .arg(files(alloc))
 }
 
@@ -92,9 +93,12 @@ fn agree<'a>(alloc: Global) -> Result<Command<'a>, AllocError> {
 
 fn check<'a>(alloc: Global) -> Result<Command<'a>, AllocError> {
     Command::new(alloc, "check")
-        .about("Tells all faults of CUE files, and the definitions that nothing is an instance of")
+        .about(
+            "Tells all faults of CUE files or of a schema, and the definitions that nothing is an instance of",
+        )
         .after_help("Example: cue2schema check port.cue")
         .arg(root(alloc).required(false))?
+        .arg(schema_in_place(alloc)?)?
         .arg(strict(alloc))?
         .arg(files(alloc))
 }
@@ -185,13 +189,21 @@ fn why<'a>(alloc: Global) -> Arg<'a> {
         .long("why")
         .value_name("ALTERNATIVES")
         .help(
-            "Says why a document is invalid, a line for each reason: of alternatives the closest, or all",
+            "Says why a document is invalid, a line for each reason: of alternatives the closest, or all; and why a call is refused",
         )
         .num_args(0..=1)
         .require_equals(true)
         .default_missing_value("closest")
         .value_parser(ValueParser::Names(ALTERNATIVES))
         .action(ArgAction::Set)
+}
+
+/// The same word for a command that judges no document.
+fn why_refused<'a>(alloc: Global) -> Arg<'a> {
+    Arg::new(alloc, "why_refused")
+        .long("why")
+        .help("Says why a call is refused, with the place and what to do")
+        .action(ArgAction::SetTrue)
 }
 
 fn most<'a>(alloc: Global) -> Result<Arg<'a>, AllocError> {
@@ -227,6 +239,15 @@ fn schema<'a>(alloc: Global) -> Arg<'a> {
         .help("The file of the JSON Schema")
         .required(true)
         .action(ArgAction::Set)
+}
+
+/// A schema in the place of sources.
+fn schema_in_place<'a>(alloc: Global) -> Result<Arg<'a>, AllocError> {
+    schema(alloc)
+        .help("The file of a JSON Schema, whose faults are told in the place of those of CUE files")
+        .required(false)
+        .conflicts_with("root")?
+        .conflicts_with("FILE")
 }
 
 fn files<'a>(alloc: Global) -> Arg<'a> {

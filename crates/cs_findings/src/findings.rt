@@ -5,6 +5,7 @@ ghost use Rattle.cs_tool.specs.Given.{bytes_in};
 
 use crate::declared::declarations;
 use crate::faults::put_faults;
+use crate::text::write_out;
 use crate::warnings::put_warning;
 use cs_check::check;
 use cs_guard::Guarded;
@@ -47,12 +48,12 @@ pub fn write_findings<W: Write>(
 {
     let faults = check(alloc, sources)?;
     if !faults.is_empty() {
-        write_faults(alloc, &faults, named, output)?;
+        write_faults(alloc, &faults, named, root, output)?;
         return Ok(Checked::Faulty);
     }
     let package = accepted_package(alloc, sources)?;
     if is_undeclared(&package, root) {
-        write_faults(alloc, &[Fault::UnknownRoot], named, output)?;
+        write_faults(alloc, &[Fault::UnknownRoot], named, root, output)?;
         return Ok(Checked::Faulty);
     }
     write_warnings(alloc, &package, named, output)
@@ -73,10 +74,11 @@ fn write_faults<W: Write>(
     alloc: Global,
     faults: &[Fault],
     named: &[Named<'_>],
+    root: Option<&str>,
     output: &mut W,
 ) -> Result<(), Fault> {
     let mut text = String::new(alloc);
-    put_faults(alloc, faults, named, &mut text)?;
+    put_faults(alloc, faults, named, root.unwrap_or(""), &mut text)?;
     write_out(text.as_bytes(), output)
 }
 
@@ -113,12 +115,4 @@ fn write_warnings<W: Write>(
     }
     write_out(text.as_bytes(), output)?;
     Ok(Checked::Warned)
-}
-
-/// Writes the text and flushes.
-fn write_out<W: Write>(text: &[u8], output: &mut W) -> Result<(), Fault> {
-    if output.write_all(text).is_err() || output.flush().is_err() {
-        return Err(Fault::WriteFailed);
-    }
-    Ok(())
 }

@@ -1,8 +1,10 @@
-// Writing into texts.
+// Writing into texts, and writing texts out.
 use cs_place::position_of;
 use cs_report::Named;
+use cs_tool::Fault;
 use itoa::Buffer;
 use std::alloc::AllocError;
+use std::io::Write;
 
 /// Puts a number.
 pub(crate) fn put_number(text: &mut String, number: usize) -> Result<(), AllocError> {
@@ -22,4 +24,12 @@ pub(crate) fn put_place(
     text.push(':')?;
     put_number(text, position.column)?;
     text.push_str(": ")
+}
+
+/// Writes the text and flushes.
+pub(crate) fn write_out<W: Write>(text: &[u8], output: &mut W) -> Result<(), Fault> {
+    if output.write_all(text).is_err() || output.flush().is_err() {
+        return Err(Fault::WriteFailed);
+    }
+    Ok(())
 }

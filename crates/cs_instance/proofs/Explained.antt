@@ -24,14 +24,16 @@ use Rattle.cs_instance.specs.Numbering.{rule_at}
 use Rattle.cs_instance.specs.Rooted.{IsRooted}
 use Rattle.cs_instance.specs.SeenCauses.{IsCauseAt}
 use Rattle.cs_instance.specs.Steps.{asked_of, numbered, step}
+use Rattle.cs_instance.specs.Closest.{AreOfChosen}
 use Rattle.cs_instance.specs.WhyTold.{AreWhys}
 use Rattle.cs_instance.specs.declared.cause.InstanceCause.{InstanceCause}
 use Rattle.cs_instance.specs.declared.cause.InstanceCause.TheVariants.{NoAlternative}
 use Rattle.cs_instance.specs.declared.rules.Rule.{Rule as Coded}
+use Rattle.cs_instance.proofs.Closest.{of_chosen}
 use Rattle.cs_instance.proofs.Ready.{at_of_some}
 use Rattle.cs_instance.proofs.Satisfied.{named}
-use Rattle.cs_instance.proofs.Seen.{are_seen, shows_alternative}
-use Rattle.cs_instance.proofs.Told.{whys_of_all, whys_of_closest}
+use Rattle.cs_instance.proofs.Seen.{are_seen, shows_alternative, shown_by_alternative}
+use Rattle.cs_instance.proofs.Told.{whys_of_all, whys_of_closest, same_all}
 use Rattle.cs_instance.proofs.Verdicts.{is_judged}
 
 -- f gives what every table does that the judge of these rules and values fills
@@ -76,19 +78,28 @@ module _ (E : Environment) (n : List ℕ) (xs : List (Opened ℕ)) (root : ℕ) 
     no_instance = sym (verdict (inside (document_in xs)) root within root_within) ∙ refused
 
     abbrev Whys : Bool → ℕ → Reasons InstanceCause → Rule → Document → Type 0
-    Whys full most rs r x = AreWhys E I r x h.all (values xs) leads_to (meaning_of h.all xs) (inside (document_in xs)) full most rs
+    Whys full most rs r x =
+        (w : AreWhys E I r x h.all (values xs) leads_to (meaning_of h.all xs) (inside (document_in xs)) full most rs)
+        × (full ≡ false → AreOfChosen E I h.all xs (meaning_of h.all xs) (inside (document_in xs)) (definition n) w.all)
 
     at_root : (full : Bool) (most : ℕ) (rs : Reasons InstanceCause) → Whys full most rs (rule_at h.all root) (node_at (values xs) (inside (document_in xs))) → Whys full most rs (definition n) (document_in xs)
     at_root full most rs w = subst (Whys full most rs (definition n)) at (subst (λ r. Whys full most rs r (node_at (values xs) (inside (document_in xs)))) (at_of_some h.all root (definition n) h.root) w)
 
     all_whys : (most : ℕ) (rs : Reasons InstanceCause) → AreReasons leads_to (IsCauseAt asked xs f) (inside (document_in xs)) root most rs → Whys true most rs (definition n) (document_in xs)
     all_whys most rs t =
-        at_root true most rs (whys_of_all E I h.all asked h.numbering xs are f verdict leads_to (meaning_of h.all xs) (IsCauseAt asked xs f) (are_seen h.all asked xs f) (inside (document_in xs)) root within root_within no_instance most rs t)
+        at_root true most rs (whys_of_all E I h.all asked h.numbering xs are f verdict leads_to (meaning_of h.all xs) (IsCauseAt asked xs f) (are_seen h.all asked xs f) (inside (document_in xs)) root within root_within no_instance most rs t, λ e. cc)
 
     closest_whys : (most : ℕ) (rs : Reasons InstanceCause) (chosen : AllVerdicts) → AreReasons leads_to (IsFollowed leads_to (IsCauseAt asked xs f) is_alternative NoAlternative chosen) (inside (document_in xs)) root most rs → Whys false most rs (definition n) (document_in xs)
     closest_whys most rs chosen t =
-        at_root false most rs (whys_of_closest E I h.all asked h.numbering xs are f verdict leads_to (meaning_of h.all xs) (IsCauseAt asked xs f) (are_seen h.all asked xs f) (inside (document_in xs)) root within root_within no_instance
-        instance is_alternative NoAlternative chosen refl (λ j. refl) (λ j c k. shows_alternative h.all xs j c k) most rs t)
+        at_root false most rs (
+          whys_of_closest E I h.all asked h.numbering xs are f verdict leads_to (meaning_of h.all xs) (IsCauseAt asked xs f) (are_seen h.all asked xs f) (inside (document_in xs)) root within root_within no_instance
+              instance is_alternative NoAlternative chosen refl (λ j. refl) (λ j c k. shows_alternative h.all xs j c k) most rs t,
+          λ e. subst (AreOfChosen E I h.all xs (meaning_of h.all xs) (inside (document_in xs)) (definition n))
+              (same_all E I h.all asked h.numbering xs are f verdict leads_to (meaning_of h.all xs) (IsCauseAt asked xs f) (are_seen h.all asked xs f) (inside (document_in xs)) root within root_within no_instance
+              instance is_alternative NoAlternative chosen refl (λ j. refl) (λ j c k. shows_alternative h.all xs j c k) most rs t)
+              (of_chosen E I h.all asked h.numbering xs f verdict leads_to (meaning_of h.all xs) (IsCauseAt asked xs f) (are_seen h.all asked xs f) is_alternative NoAlternative chosen refl (λ j. refl)
+              (λ j c k. shows_alternative h.all xs j c k) (λ j c k s. shown_by_alternative h.all xs j c k s) (inside (document_in xs)) root most rs t (definition n) h.root),
+        )
 
   -- where all alternatives are followed, and where the closest ones are
   pub explained_all : (most : ℕ) (rs : Reasons InstanceCause) → AreReasons leads_to (IsCauseAt asked xs f) last root most rs → IsExplained E n xs true most rs

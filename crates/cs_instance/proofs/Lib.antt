@@ -36,6 +36,7 @@ pub mod Reached
 pub mod Traced
 pub mod Told
 pub mod Seen
+pub mod Closest
 pub mod Explained
 -- causes, one after another
 pub mod Tellings

@@ -108,7 +108,7 @@ end_below i m (extra k) q y b e = cc
 abbrev pub turned : ℕ × ℕ → ℕ × ℕ
 turned e = (e.1, e.0)
 
-turned_back : (o : Option (ℕ × ℕ)) (j q : ℕ) → option_map turned o ≡ Some (j, q) → o ≡ Some (q, j)
+pub turned_back : (o : Option (ℕ × ℕ)) (j q : ℕ) → option_map turned o ≡ Some (j, q) → o ≡ Some (q, j)
 turned_back None j q e = cc
 turned_back (Some p) j q e = let same = same_Some (turned p) (j, q) e in ap (λ s. Some (turned s)) same
 

@@ -108,3 +108,15 @@ module _ (all : List Rule) (xs : List (Opened ℕ)) (j : ℕ) where
   shows_alternative Few k h e = cc
   shows_alternative Many k h e = cc
   shows_alternative NoAlternative k h e = cc
+
+  pub shown_by_alternative : (c : InstanceCause) (n s : ℕ) → IsSeen all xs leads_to (meaning_of all xs) j c (alternative n s) → is_alternative c ≡ true
+  shown_by_alternative (Alternative item rule m) n s h = refl
+  shown_by_alternative (Part item rule m) n s h = let e = h.means in cc
+  shown_by_alternative (Member d m item rule) n s h = let e = h.means in cc
+  shown_by_alternative (Element m item rule) n s h = let e = h.means in cc
+  shown_by_alternative Unmet n s h = let e = h.means in cc
+  shown_by_alternative (Missing d rule) n s h = let e = h.means in cc
+  shown_by_alternative (Extra m item) n s h = let e = h.means in cc
+  shown_by_alternative Few n s h = let e = h.means in cc
+  shown_by_alternative Many n s h = let e = h.means in cc
+  shown_by_alternative NoAlternative n s h = let e = h.means in cc

@@ -1,5 +1,5 @@
 -- What is told over numbers is told by the meaning.
-use Rattle.std.proofs.Common.{◌≡◌, ℕ, zero, suc, ◌<◌, Bool, true, false, List, [], ◌∷◌, map, take, length, Option, Some, None, refl, sym, ap, ◌∙◌, subst, slice_get, inl, inr}
+use Rattle.std.proofs.Common.{◌≡◌, ℕ, zero, suc, ◌<◌, Bool, true, false, true≢false, not, ◌||◌, List, [], ◌∷◌, map, take, length, Option, Some, None, refl, sym, ap, ◌∙◌, subst, slice_get, inl, inr}
 use Rattle.std.specs.List.{list_any, AllByRecursion as Each}
 use Rattle.std.proofs.lemmas.Bool.{or_parts}
 use Rattle.cs_document.specs.Document.{Document}
@@ -19,13 +19,17 @@ use Rattle.cs_instance.specs.Constraint.{Constraint, any_of, is_satisfied}
 use Rattle.cs_instance.specs.Instance.{Rule, node, constraint_of, IsInstance}
 use Rattle.cs_instance.specs.Numbering.{rule_at, map_constraint, IsNumbering}
 use Rattle.cs_instance.specs.NumberedCauses.{IsNumberedCause}
-use Rattle.cs_instance.specs.Why.{asked_by, Way, IsRefused, IsWhy}
+use Rattle.cs_instance.specs.Why.{asked_by, Way, way_of, is_to_alternative, map_cause, IsRefused, IsWhy}
 use Rattle.cs_instance.specs.WhyTold.{ways_along, IsNoneOf, Tells, TellsOf, AreWhys}
 use Rattle.cs_instance.proofs.Carried.{map_at}
 use Rattle.cs_instance.proofs.Reached.{IsSeen, reached_refused, chain_refused}
 use Rattle.cs_instance.proofs.Refusals.{refused_is_false}
 use Rattle.cs_instance.proofs.Satisfied.{named}
-use Rattle.cs_instance.proofs.Traced.{AreSeen, why_told, leaf_meant}
+use Rattle.cs_instance.proofs.Traced.{AreSeen, leads_into_one, why_told, leaf_meant}
+
+from_not : (b : Bool) → not b ≡ true → b ≡ false
+from_not true e = absurd (true≢false (sym e))
+from_not false e = refl
 
 from_take : {X : Type 0} (n : ℕ) (xs : List X) (k : ℕ) (x : X) → slice_get (take n xs) k ≡ Some x → slice_get xs k ≡ Some x
 from_take zero xs k x e = cc
@@ -76,7 +80,7 @@ module _ (E : Environment) (I : Rule → Document → Bool) (all : List Rule) (a
       sound = λ k e at. sound_at leads_to meaning i r whole true is_cause (λ j q c k s is e. see.seen j q c is) alone e (h.sound k e at);
       once = h.once;
       in_order = h.in_order;
-      complete = λ full w s x c why. let t = why_told E I all asked numbering xs are f verdict leads_to meaning is_cause see i r within_items within_rules why in (t.entry, h.complete t.entry t.reason, t.rule_is, t.value_is, t.cause_is);
+      complete = λ w s x c why e. let t = why_told E I all asked numbering xs are f verdict leads_to meaning is_cause see i r within_items within_rules is_cause (λ j q c is n. is) why in (t.entry, h.complete t.entry t.reason, t.rule_is, t.value_is, t.cause_is);
       first = h.told;
       count = h.count;
       some = h.some;
@@ -117,6 +121,21 @@ module _ (E : Environment) (I : Rule → Document → Bool) (all : List Rule) (a
       followed_leaves w j q c h (chosen_one is alt to chose) e = cc
       followed_leaves w j q _ h (unchosen {c = c} is alt rest) e = inr (none_of w j q c h is alt, means j)
 
+      -- what leads into no alternative is followed
+      kept_if : (j q : ℕ) (c : C) → is_cause j q c → leads_into_one (way_of (meaning j c)) ≡ false → (b : Bool) → is_alternative c ≡ b → Followed j q c
+      kept_if j q c is n false e = other is e
+      kept_if j q c is n true e =
+          let s = see.seen j q c is in
+          let k = shows j c s.0 s.2 e in
+          let wrong : leads_into_one (way_of (meaning j c)) ≡ true = ap (λ d. leads_into_one (way_of d)) ((s.2).means ∙ ap (map_cause value rule rule) k.2) in
+          absurd (true≢false (sym wrong ∙ n))
+
+      kept : (j q : ℕ) (c : C) → is_cause j q c → leads_into_one (way_of (meaning j c)) ≡ false → Followed j q c
+      kept j q c is n = kept_if j q c is n (is_alternative c) refl
+
+      none_in : (w : List Way) → (false || not (list_any is_to_alternative w)) ≡ true → list_any is_to_alternative w ≡ false
+      none_in w e = from_not (list_any is_to_alternative w) e
+
       pub whys_of_closest : (most : ℕ) (rs : Reasons C) → AreReasons leads_to Followed i r most rs → AreWhys E I (rule r) (value i) all (values xs) leads_to meaning i false most rs
       whys_of_closest most rs h = record {
         told = told_at leads_to meaning i r whole false Followed followed_steps followed_leaves most rs h;
@@ -124,8 +143,14 @@ module _ (E : Environment) (I : Rule → Document → Bool) (all : List Rule) (a
         sound = λ k e at. sound_at leads_to meaning i r whole false Followed followed_steps followed_leaves e (h.sound k e at);
         once = h.once;
         in_order = h.in_order;
-        complete = λ full w s x c why. cc;
+        complete = λ w s x c why e.
+            let t = why_told E I all asked numbering xs are f verdict leads_to meaning is_cause see i r within_items within_rules Followed kept why in
+            (t.entry, h.complete t.entry (t.follows (none_in w e)), t.rule_is, t.value_is, t.cause_is);
         first = h.told;
         count = h.count;
         some = h.some;
       }
+
+      pub same_all : (most : ℕ) (rs : Reasons C) (h : AreReasons leads_to Followed i r most rs) → h.all ≡ (whys_of_closest most rs h).all
+      unfolding whys_of_closest
+      same_all most rs h = refl

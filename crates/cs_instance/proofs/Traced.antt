@@ -1,5 +1,9 @@
 -- Chains by the meaning are chains of causes over numbers, and so are the reasons that they end in.
-use Rattle.std.proofs.Common.{◌≡◌, ℕ, ◌<◌, List, [], ◌∷◌, ◌++◌, Bool, length, Option, Some, None, option_map, refl, sym, ap, ◌∙◌, arith}
+use Rattle.std.proofs.Common.{◌≡◌, ℕ, ◌<◌, List, [], ◌∷◌, ◌++◌, Bool, false, length, Option, Some, None, option_map, refl, sym, ap, ◌∙◌, arith}
+use Rattle.std.specs.Prelude.{◌||◌}
+use Rattle.std.specs.List.{list_any}
+use Rattle.std.proofs.lemmas.Bool.{or_parts}
+use Rattle.std.proofs.lemmas.List.Folds.{list_any-append}
 use Rattle.cs_document.specs.Document.{Document}
 use Rattle.cs_document.specs.Opened.{Opened}
 use Rattle.cs_flat.specs.Nodes.{node_at}
@@ -14,7 +18,7 @@ use Rattle.cs_instance.specs.Constraint.{Constraint}
 use Rattle.cs_instance.specs.Instance.{Rule}
 use Rattle.cs_instance.specs.Numbering.{rule_at, IsNumbering}
 use Rattle.cs_instance.specs.NumberedCauses.{IsNumberedCause}
-use Rattle.cs_instance.specs.Why.{Way, way_of, end_of, IsCauseOf, IsRefused, whole, next, IsWhy}
+use Rattle.cs_instance.specs.Why.{Way, way_of, is_to_alternative, end_of, IsCauseOf, IsRefused, whole, next, IsWhy}
 use Rattle.cs_instance.specs.WhyTold.{item_after, ways_along}
 use Rattle.cs_instance.proofs.Carried.{from_some, from_none}
 use Rattle.cs_instance.proofs.Reached.{same_way, end_named, same_end, no_way_if, no_end_if, end_below, turned, IsSeen, last_item, last_more, ways_more, numbered_meant, numbered_below, numbered_from}
@@ -29,6 +33,16 @@ module _ {C : Type 0} (leads_to : C → Option (ℕ × ℕ)) (is_cause : ℕ →
   reached start = reasons.first
   reached (more h is leads) = reasons.next (reached h) is leads
 
+-- whether a cause that leads this way leads into an alternative
+abbrev pub leads_into_one : Option Way → Bool
+leads_into_one None = false
+leads_into_one (Some v) = is_to_alternative v
+
+none_before : (w : List Way) (v : Way) → list_any is_to_alternative (w ++ v ∷ []) ≡ false → (list_any is_to_alternative w ≡ false) × (is_to_alternative v ≡ false)
+none_before w v e =
+    let p = or_parts (list_any is_to_alternative w) (list_any is_to_alternative (v ∷ [])) (sym (list_any-append is_to_alternative w (v ∷ [])) ∙ e) in
+    (p.0, (or_parts (is_to_alternative v) false p.1).0)
+
 -- the causes of the code are those over numbers, each seen as one
 pub record AreSeen {C : Type 0} (leads_to : C → Option (ℕ × ℕ)) (meaning : ℕ → C → Cause Document Rule Rule) (is_cause : ℕ → ℕ → C → Type 0) (all : List Rule) (asked : List (Constraint ℕ ℕ)) (xs : List (Opened ℕ)) (f : AllVerdicts) : Type 0 where
   pub seen : (i r : ℕ) (c : C) → is_cause i r c → (k : Cause ℕ ℕ ℕ) × IsNumberedCause asked xs f i r k × IsSeen all xs leads_to meaning i c k
@@ -42,7 +56,8 @@ module _ (E : Environment) (I : Rule → Document → Bool) (all : List Rule) (a
   abbrev rule : ℕ → Rule
   rule r = rule_at all r
 
-  module _ {C : Type 0} (leads_to : C → Option (ℕ × ℕ)) (meaning : ℕ → C → Cause Document Rule Rule) (is_cause : ℕ → ℕ → C → Type 0) (see : AreSeen leads_to meaning is_cause all asked xs f) (i r : ℕ) (l : i < length xs) (m : r < length all) where
+  module _ {C : Type 0} (leads_to : C → Option (ℕ × ℕ)) (meaning : ℕ → C → Cause Document Rule Rule) (is_cause : ℕ → ℕ → C → Type 0) (see : AreSeen leads_to meaning is_cause all asked xs f) (i r : ℕ) (l : i < length xs) (m : r < length all)
+      (followed : ℕ → ℕ → C → Type 0) (kept : (j q : ℕ) (c : C) → is_cause j q c → leads_into_one (way_of (meaning j c)) ≡ false → followed j q c) where
     -- the chain over numbers that a chain by the meaning is
     pub record IsTraced (w : List Way) (s : Rule) (y : Document) : Type 0 where
       pub causes : List C
@@ -55,9 +70,11 @@ module _ (E : Environment) (I : Rule → Document → Bool) (all : List Rule) (a
       pub number_within : number < length all
       pub rule_is : rule number ≡ s
       pub value_is : value place ≡ y
+      -- but for alternatives it is one that is followed
+      pub follows : list_any is_to_alternative w ≡ false → IsChain leads_to followed i r causes place number
 
     pub traced : {w : List Way} {s : Rule} {y : Document} → IsRefused E I (rule r) (value i) w s y → IsTraced w s y
-    traced (whole e) = record { causes = []; place = i; number = r; chain = start; ways = refl; last = refl; item_within = l; number_within = m; rule_is = refl; value_is = refl }
+    traced (whole e) = record { causes = []; place = i; number = r; chain = start; ways = refl; last = refl; item_within = l; number_within = m; rule_is = refl; value_is = refl; follows = λ e. start }
     traced (next {w = w} {r = q} {s = s} {x = x} {y = y} {c = c} {v = v} h is way end) =
         let t = traced h in
         let here : IsCauseOf E I (rule t.number) (value t.place) c = rw (t.rule_is, t.value_is) is in
@@ -79,6 +96,9 @@ module _ (E : Environment) (I : Rule → Document → Bool) (all : List Rule) (a
           number_within = b.1;
           rule_is = ap (λ e. e.0) to.2;
           value_is = ap (λ e. e.1) to.2;
+          follows = λ e.
+              let p = none_before w v e in
+              more (t.follows p.0) (kept t.place t.number code.0 code.1 (ap leads_into_one wayed ∙ p.1)) leads;
         }
 
     -- each reason by the meaning is one over numbers
@@ -88,6 +108,7 @@ module _ (E : Environment) (I : Rule → Document → Bool) (all : List Rule) (a
       pub rule_is : rule entry.0.1 ≡ s
       pub value_is : value entry.0.0 ≡ y
       pub cause_is : meaning entry.0.0 entry.1 ≡ c
+      pub follows : list_any is_to_alternative w ≡ false → IsReason leads_to followed i r entry
 
     pub why_told : {w : List Way} {s : Rule} {y : Document} {c : Cause Document Rule Rule} → IsWhy E I (rule r) (value i) w s y c → IsTold w s y c
     why_told {c = c} h =
@@ -96,12 +117,15 @@ module _ (E : Environment) (I : Rule → Document → Bool) (all : List Rule) (a
         let from = numbered_from E I all asked numbering xs are f verdict t.place t.number t.item_within t.number_within c here in
         let code = see.shown t.place t.number from.0 from.1 in
         let leaf : end_of t.place from.0 ≡ None = no_end_if t.place from.0 (sym (same_way value rule from.0) ∙ ap way_of from.2 ∙ h.leaf) in
+        let ends : leads_to code.0 ≡ None = (code.2).leads ∙ ap (option_map turned) leaf in
+        let wayed : way_of (meaning t.place code.0) ≡ None = ap way_of ((code.2).means ∙ from.2) ∙ h.leaf in
         record {
           entry = ((t.place, t.number), code.0);
-          reason = record { reached = reached leads_to is_cause i r t.chain; cause = code.1; leaf = (code.2).leads ∙ ap (option_map turned) leaf };
+          reason = record { reached = reached leads_to is_cause i r t.chain; cause = code.1; leaf = ends };
           rule_is = t.rule_is;
           value_is = t.value_is;
           cause_is = (code.2).means ∙ from.2;
+          follows = λ e. record { reached = reached leads_to followed i r (t.follows e); cause = kept t.place t.number code.0 code.1 (ap leads_into_one wayed); leaf = ends };
         }
 
   module _ {C : Type 0} (leads_to : C → Option (ℕ × ℕ)) (meaning : ℕ → C → Cause Document Rule Rule) where

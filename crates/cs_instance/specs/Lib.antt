@@ -10,6 +10,7 @@ pub mod Why
 pub mod NumberedCauses
 pub mod SeenCauses
 pub mod WhyTold
+pub mod Closest
 pub mod Meanings
 pub mod Earlier
 -- for contracts of private functions and proofs alone

@@ -1,5 +1,5 @@
 -- What the causes of the code mean: the rules, the values and the keys that their numbers name.
-use Rattle.std.specs.Prelude.{ℕ, Bool, true, false, List, [], Option, Some, get_or, slice_get}
+use Rattle.std.specs.Prelude.{◌≡◌, ℕ, Bool, true, false, List, [], Option, Some, get_or, slice_get}
 use Rattle.cs_document.specs.Document.{Document}
 use Rattle.cs_document.specs.Opened.{Opened, an_object}
 use Rattle.cs_flat.specs.Items.{inside}
@@ -11,6 +11,7 @@ use Rattle.cs_reasons.specs.declared.reasons.Reasons.{Reasons}
 use Rattle.cs_table.specs.Judged.{AllVerdicts}
 use Rattle.cs_package.specs.Environment.{Environment}
 use Rattle.cs_instance.specs.Causes.{Cause, part, alternative, member, element, unmet, few, many, no_alternative, missing, extra}
+use Rattle.cs_instance.specs.Closest.{AreOfChosen}
 use Rattle.cs_instance.specs.Constraint.{Constraint}
 use Rattle.cs_instance.specs.Instance.{Rule, definition, IsInstance}
 use Rattle.cs_instance.specs.Led.{leads_to, is_alternative}
@@ -53,4 +54,5 @@ pub record IsExplained (E : Environment) (n : List ℕ) (xs : List (Opened ℕ))
   pub rules : List Rule
   pub are : AreRules E n rules
   pub whys : (I : Rule → Document → Bool) → IsInstance E I
-      → AreWhys E I (definition n) (document_in xs) rules (values xs) leads_to (meaning_of rules xs) (inside (document_in xs)) full most rs
+      → (w : AreWhys E I (definition n) (document_in xs) rules (values xs) leads_to (meaning_of rules xs) (inside (document_in xs)) full most rs)
+      × (full ≡ false → AreOfChosen E I rules xs (meaning_of rules xs) (inside (document_in xs)) (definition n) w.all)

@@ -1,5 +1,5 @@
 -- Why a document is no instance of a rule: chains of causes, from the rule on down to what a value isn't by itself.
-use Rattle.std.specs.Prelude.{◌≡◌, ℕ, Bool, false, List, [], ◌∷◌, ◌++◌, Option, Some, None, flat_map}
+use Rattle.std.specs.Prelude.{◌≡◌, ℕ, Bool, true, false, List, [], ◌∷◌, ◌++◌, Option, Some, None, flat_map}
 use Rattle.cs_document.specs.Document.{Document, IsDocument}
 use Rattle.cs_document.specs.Opened.{opened}
 use Rattle.cs_rules.specs.Pointers.{Step, key, place, At}
@@ -29,6 +29,11 @@ way_of (alternative k r) = Some (to_alternative k)
 way_of (member j k y e) = Some (to_member j k)
 way_of (element k y e) = Some (to_element k)
 way_of c = None
+
+-- whether a way goes into one of the alternatives
+abbrev pub is_to_alternative : Way → Bool
+is_to_alternative (to_alternative k) = true
+is_to_alternative _ = false
 
 -- where a cause leads from the value x: to a rule, and x or a value inside it
 abbrev pub end_of : {A D : Type 0} → A → Cause A D D → Option (D × A)

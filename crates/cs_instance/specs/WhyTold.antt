@@ -1,7 +1,7 @@
 -- What is told of why a document is no instance of a rule. C stands for causes of the code, which name rules and values by
 -- numbers; `meaning i c` is the cause by the meaning that c is of the item i.
-use Rattle.std.specs.Prelude.{◌≡◌, ℕ, ◌<◌, Bool, true, false, List, [], ◌∷◌, ◌⊎◌, Option, Some, None, Contains, length, take, map, slice_get}
-use Rattle.std.specs.List.{cons_option, AllByRecursion}
+use Rattle.std.specs.Prelude.{◌≡◌, ℕ, ◌<◌, Bool, true, false, not, ◌||◌, List, [], ◌∷◌, ◌⊎◌, Option, Some, None, Contains, length, take, map, slice_get}
+use Rattle.std.specs.List.{cons_option, list_any, AllByRecursion}
 use Rattle.cs_document.specs.Document.{Document}
 use Rattle.cs_flat.specs.Nodes.{node_at}
 use Rattle.cs_reasons.specs.Told.{entry_of, chain_to}
@@ -13,7 +13,7 @@ use Rattle.cs_instance.specs.Causes.{Cause, no_alternative}
 use Rattle.cs_instance.specs.Constraint.{any_of}
 use Rattle.cs_instance.specs.Instance.{Rule}
 use Rattle.cs_instance.specs.Numbering.{rule_at}
-use Rattle.cs_instance.specs.Why.{asked_by, Way, way_of, IsRefused, IsWhy}
+use Rattle.cs_instance.specs.Why.{asked_by, Way, way_of, is_to_alternative, IsRefused, IsWhy}
 
 -- the item that a cause of the item i leads to
 abbrev pub item_after : ℕ → Option (ℕ × ℕ) → ℕ
@@ -56,8 +56,8 @@ module _ (E : Environment) (I : Rule → Document → Bool) (r0 : Rule) (x0 : Do
       pub once : (j k : ℕ) (e : (ℕ × ℕ) × C) → slice_get all j ≡ Some e → slice_get all k ≡ Some e → j ≡ k
       -- in the order of their pairs
       pub in_order : (j k : ℕ) (e g : (ℕ × ℕ) × C) → j < k → slice_get all j ≡ Some e → slice_get all k ≡ Some g → ¬ (IsEarlier g.0.0 g.0.1 e.0.0 e.0.1)
-      -- where all alternatives are followed each reason is among them
-      pub complete : full ≡ true → (w : List Way) (r : Rule) (x : Document) (c : Cause Document Rule Rule) → IsWhy E I r0 x0 w r x c
+      -- no reason is left out, but below alternatives where not all of them are followed
+      pub complete : (w : List Way) (r : Rule) (x : Document) (c : Cause Document Rule Rule) → IsWhy E I r0 x0 w r x c → (full || not (list_any is_to_alternative w)) ≡ true
           → (e : (ℕ × ℕ) × C) × Contains all e × (rule_at rules e.0.1 ≡ r) × (node_at values e.0.0 ≡ x) × (meaning e.0.0 e.1 ≡ c)
       -- the first of them are told, and how many there are; there is one
       pub first : map (entry_of rs.links.items) rs.told.items ≡ take most all

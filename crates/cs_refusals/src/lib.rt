@@ -1,20 +1,37 @@
-// What a refusal means and what to do about it, in words.
+// What refusals mean, and what to do about them: in words, with the place and the line of the source.
 #![tactic(auto)]
 
-mod advised;
-mod bytes;
-mod left_out;
-mod line;
-mod names;
-mod near;
+mod advice;
+mod bases;
+mod chains;
+mod cycles;
+mod documents;
+mod excerpt;
+mod fields;
+mod form_names;
+mod keys;
+mod labels;
+mod layout;
+mod lines;
+mod nearest;
 mod numbers;
-mod out_of_place;
+mod objects;
+mod packages;
+mod parts;
 mod rows;
+mod schemas;
+mod sentences;
+mod sources;
+mod spot;
+mod strong;
+mod text;
+mod told;
+mod unknown;
 
-pub use advised::advice;
-pub use line::marked_line;
-pub use numbers::explanation;
+pub use cs_forms::{Form, Found, form_among, form_of};
+pub use lines::{put_finding, why_refused};
+pub use numbers::{explained, explanation};
+pub use objects::write_refusal_json;
 pub use rows::Explanation;
-
-#[cfg(test)]
-mod tests;
+pub use sources::{Source, cut_sources};
+pub use told::About;

@@ -1,11 +1,44 @@
-// From a number to its explanation.
+// From a number to what docs/REFUSALS.md says of it.
 ghost use Rattle.std.specs.Prelude.{◌≡◌, IfSome};
 
 use crate::rows::{EXPLANATIONS, Explanation};
+use crate::text::put_number;
+use std::alloc::{AllocError, Global};
 
 /// What a number means, and what to do about it; none for a number that no refusal has.
 pub fn explanation(number: u32) -> Option<Explanation>
     ensures { IfSome result (λ e. e.number ≡ number) }
 {
     EXPLANATIONS.iter().copied().find(|e| e.number == number)
+}
+
+/// What docs/REFUSALS.md says of a number: for each of its rows a line with the number and the meaning, and one with what to
+/// do. `None` for a number that no refusal has. Only memory can run out.
+pub fn explained(alloc: Global, number: u32) -> Result<Option<String>, AllocError> {
+    let mut text = String::new(alloc);
+    for row in EXPLANATIONS {
+        if row.number == number {
+            put_row(&mut text, row)?;
+        }
+    }
+    Ok(if text.is_empty() { None } else { Some(text) })
+}
+
+fn put_row(text: &mut String, row: &Explanation) -> Result<(), AllocError> {
+    put_number(text, row.number as usize)?;
+    text.push_str(": ")?;
+    text.push_str(row.meaning)?;
+    text.push('\n')?;
+    text.push_str(row.remedy)?;
+    text.push('\n')
+}
+
+/// Puts what a number means and what to do, in one line.
+pub(crate) fn put_meaning(text: &mut String, number: u32) -> Result<(), AllocError> {
+    let Some(found) = explanation(number) else {
+        return Ok(());
+    };
+    text.push_str(found.meaning)?;
+    text.push(' ')?;
+    text.push_str(found.remedy)
 }

@@ -8,7 +8,8 @@ pub struct Explanation {
     pub remedy: &'static str,
 }
 
-/// All of them, in the order of their numbers.
+/// All of them, in the order of their numbers: for each number first what it means, then its forms. They are the rows of
+/// docs/REFUSALS.md, with which `tools/explained.py` compares them.
 pub(crate) const EXPLANATIONS: &[Explanation] = &[
     Explanation {
         number: 1,
@@ -31,9 +32,59 @@ pub(crate) const EXPLANATIONS: &[Explanation] = &[
         remedy: "It may be correct CUE too, of a form that is left out and begins like one of the profile: an embedded or nested definition, `if`, `for` or `let` in a struct, a pattern, an alias, a call, a difference, or a limit that isn't a literal. The offset is that of the first token out of place, which may be the end of the source.",
     },
     Explanation {
+        number: 4,
+        meaning: "an embedded definition",
+        remedy: "Write its fields out.",
+    },
+    Explanation {
+        number: 4,
+        meaning: "a nested definition",
+        remedy: "Move it to the top of the file.",
+    },
+    Explanation {
+        number: 4,
+        meaning: "a condition in a struct",
+        remedy: "Write the cases as alternatives.",
+    },
+    Explanation {
+        number: 4,
+        meaning: "a pattern",
+        remedy: "Only `string` may be in the brackets of a label.",
+    },
+    Explanation {
+        number: 4,
+        meaning: "a call",
+        remedy: "Take it out: structs in definitions are closed.",
+    },
+    Explanation {
+        number: 4,
+        meaning: "a limit that isn't a literal",
+        remedy: "Fields can't be compared.",
+    },
+    Explanation {
         number: 5,
         meaning: "A form of CUE that is left out.",
         remedy: "Write it in another way, or take it out. It is a token that only forms outside the profile have, such as `*`, `+`, `.`, `=~`, hidden names, `import`, and `let`, `for` and `if` where no label may begin.",
+    },
+    Explanation {
+        number: 5,
+        meaning: "a default",
+        remedy: "Leave the mark out and make the field optional: `mode?: \"prod\" | \"dev\"`. Without the `?` documents have to have the field.",
+    },
+    Explanation {
+        number: 5,
+        meaning: "a regular expression",
+        remedy: "`string` is what remains.",
+    },
+    Explanation {
+        number: 5,
+        meaning: "an import",
+        remedy: "Take it out, and write by hand what it gives.",
+    },
+    Explanation {
+        number: 5,
+        meaning: "a hidden definition",
+        remedy: "Take the `_` away.",
     },
     Explanation {
         number: 6,
@@ -54,6 +105,11 @@ pub(crate) const EXPLANATIONS: &[Explanation] = &[
         number: 9,
         meaning: "A name, or a reference to a definition, that isn't declared.",
         remedy: "Declare the definition, give its file too, or correct the name. Floats and `bytes` are left out.",
+    },
+    Explanation {
+        number: 9,
+        meaning: "The same, with a reference.",
+        remedy: "Declare the definition, or give the file that declares it.",
     },
     Explanation {
         number: 10,
@@ -106,6 +162,11 @@ pub(crate) const EXPLANATIONS: &[Explanation] = &[
         remedy: "Correct the value.",
     },
     Explanation {
+        number: 22,
+        meaning: "A schema that is neither a truth value nor an object.",
+        remedy: "Write `true`, `false` or an object.",
+    },
+    Explanation {
         number: 23,
         meaning: "A `$ref` to a name that `$defs` doesn't have.",
         remedy: "Define the name.",
@@ -124,6 +185,16 @@ pub(crate) const EXPLANATIONS: &[Explanation] = &[
         number: 26,
         meaning: "A number isn't an integer, or doesn't fit in 64 signed bits.",
         remedy: "Write integers, without a fraction or an exponent.",
+    },
+    Explanation {
+        number: 26,
+        meaning: "A number in the schema's text isn't an integer of 64 signed bits.",
+        remedy: "Write integers.",
+    },
+    Explanation {
+        number: 26,
+        meaning: "`-0` is no integer to `serde_json`.",
+        remedy: "Write `0`.",
     },
     Explanation {
         number: 27,

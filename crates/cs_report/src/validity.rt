@@ -1,6 +1,7 @@
 // Reports of why documents aren't valid against schema documents.
-ghost use Rattle.std.specs.Prelude.{◌≡◌, ◌++◌, true, false, OnOk, OnErr, is_none, string_bytes};
+ghost use Rattle.std.specs.Prelude.{◌≡◌, ◌++◌, true, false, OnOk, OnErr, string_bytes};
 ghost use Rattle.cs_report.specs.Valid.{flag_text, valid_text};
+ghost use Rattle.cs_validate.specs.WhyTold.{says_valid};
 
 mod causes;
 mod finding;
@@ -17,7 +18,7 @@ use crate::{Form, Named};
 use cs_flat::Flat;
 use cs_place::Place;
 use cs_reasons::{Reasons, Telling};
-use cs_validate::{SchemaRules, ValidCause};
+use cs_validate::{Explanation, SchemaRules, ValidCause};
 use finding::Findings;
 use leaves::{Leaf, leaves};
 use std::alloc::{AllocError, Global};
@@ -32,28 +33,41 @@ pub fn report_validity(
     rules: &SchemaRules<'_>,
     document: Named<'_>,
     flat: &Flat<'_>,
-    reasons: Option<&Reasons<ValidCause<'_>>>,
+    explanation: &Explanation<'_>,
     output: &mut Vec<u8>,
 ) -> Result<(), AllocError>
     ensures flag { form ≡ Form.Flag
-        → OnOk result (output.new.items ≡ output.old.items ++ flag_text (is_none reasons.entry)) }
-    ensures valid { is_none reasons.entry ≡ true
+        → OnOk result (output.new.items
+        ≡ output.old.items ++ flag_text (says_valid explanation.now)) }
+    ensures valid { says_valid explanation.now ≡ true
         → OnOk result (output.new.items ≡ output.old.items ++ valid_text form) }
     ensures kept { OnErr result (output.new.items ≡ output.old.items) }
 {
-    let Some(reasons) = reasons else {
-        return output.extend_from_slice(valid_words(form).as_bytes());
-    };
-    let mut text = String::new(alloc);
-    let findings = Findings { alloc, rules, flat };
-    put_reasons(&mut text, form, telling, findings, document, reasons)?;
-    output.extend_from_slice(text.as_bytes())
+    match explanation {
+        Explanation::Valid => output.extend_from_slice(valid_words(form).as_bytes()),
+        Explanation::Untold => output.extend_from_slice(untold_words(form).as_bytes()),
+        Explanation::Invalid(reasons) => {
+            let mut text = String::new(alloc);
+            let findings = Findings { alloc, rules, flat };
+            put_reasons(&mut text, form, telling, findings, document, reasons)?;
+            output.extend_from_slice(text.as_bytes())
+        }
+    }
 }
 
 /// That a document is valid, and that it isn't (Core, section 12.4.1).
 const VALID: &str = "{\"valid\":true}\n";
 
 const INVALID: &str = "{\"valid\":false}\n";
+
+/// That a document isn't valid, where the reasons aren't told: for people, for programs, and in the output format `basic` (Core,
+/// section 12.4.2).
+const UNTOLD_LINE: &str =
+    "the reasons aren't told: values and required names make more than 67,108,864 pairs\n";
+
+const UNTOLD_OBJECT: &str = "{\"valid\":false,\"errors\":[],\"more\":1}\n";
+
+const UNTOLD_BASIC: &str = "{\"valid\":false,\"errors\":[]}\n";
 
 /// What is told of a document that is valid.
 fn valid_words(form: Form) -> &'static str
@@ -62,6 +76,18 @@ fn valid_words(form: Form) -> &'static str
     match form {
         Form::Lines => "",
         Form::Json | Form::Flag | Form::Basic => VALID,
+    }
+}
+
+/// What is told of a document that isn't valid, where the reasons aren't told. There is one reason at least.
+fn untold_words(form: Form) -> &'static str
+    ensures { form ≡ Form.Flag → result.now ≡ flag_text false }
+{
+    match form {
+        Form::Lines => UNTOLD_LINE,
+        Form::Json => UNTOLD_OBJECT,
+        Form::Flag => INVALID,
+        Form::Basic => UNTOLD_BASIC,
     }
 }
 

@@ -20,7 +20,20 @@ export --root #P a b => export #P a b
 export a --root #P b => export #P a b
 export --root --root => export --root
 vet --doc d --root #P a => vet #P a
-agree --root #P --doc d => agree #P"##;
+agree --root #P --doc d => agree #P
+export --why --root #P a => export #P a
+export --why=all --root #P a => -
+check => check
+check a b => check a b
+check --root #P a => check #P a
+check --schema s => check
+check --schema s --strict => check
+check --schema s a => -
+check --schema s --root #P => -
+check --schema => -
+explain => -
+explain 32 => -
+explain 12 => explain"##;
 
 /// The command with its root and its files, or `-`.
 fn outcome(alloc: Global, words: &[&str]) -> Result<String, Fault> {

@@ -8,6 +8,8 @@ mod counting;
 mod documents;
 #[cfg(test)]
 mod fillings;
+#[cfg(test)]
+mod flaws;
 mod forms;
 #[cfg(test)]
 mod instances;

@@ -1,6 +1,6 @@
 // Tables of examples: a row a line, its cells parted by `=>`. A line that begins with two blanks and `…` goes on with the row
 // before it.
-use crate::{documents, instances, listings, schemas, texts, translations, warnings};
+use crate::{documents, flaws, instances, listings, schemas, texts, translations, warnings};
 use std::alloc::Global;
 use std::test::Fail;
 
@@ -29,6 +29,8 @@ pub(crate) enum Row {
     Schema,
     /// A package, and the definitions of it that are told to have no instance, each with why.
     Warned,
+    /// A schema, and all its flaws.
+    Flaws,
 }
 
 /// Fails with the first row that doesn't hold.
@@ -55,6 +57,7 @@ fn holds(alloc: Global, row: &str, rows: Row) -> Result<bool, Fail> {
         Row::Package => instances::is_judged(alloc, row),
         Row::Schema => schemas::is_judged(alloc, row),
         Row::Warned => warnings::are_told(alloc, row),
+        Row::Flaws => flaws::are_told(alloc, row),
     }
 }
 

@@ -124,8 +124,8 @@ fn listed_validity(
     ensures within { OnOk result (¬ by_schema.HasManyPairs rules.now (document_in flat.now)) }
     ensures refused { IfErr result (λ e. IsRefusal e rules.now (document_in flat.now)) }
 {
-    let reasons = rules.explained(alloc, flat, table, why.telling)?;
-    let is_valid = reasons.is_none();
+    let explanation = rules.explained(alloc, flat, table, why.telling)?;
+    let is_valid = explanation.is_valid();
     report_validity(
         alloc,
         why.form,
@@ -133,7 +133,7 @@ fn listed_validity(
         rules,
         document,
         flat,
-        reasons.as_ref(),
+        &explanation,
         report,
     )?;
     Ok(is_valid)

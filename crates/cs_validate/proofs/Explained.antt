@@ -26,7 +26,7 @@ use Rattle.cs_validate.specs.declared.cause.ValidCause.{ValidCause}
 use Rattle.cs_validate.specs.declared.placed_cause.PlacedCause.{PlacedCause}
 use Rattle.cs_validate.specs.declared.placed_cause.PlacedCause.TheVariants.{NoAlternative}
 use Rattle.cs_validate.specs.declared.rules.Rule.{Rule as Coded}
-use Rattle.cs_validate.proofs.PlacedNamed.{named, are_named, only_none, alternatives, follows_all, follows_closest}
+use Rattle.cs_validate.proofs.PlacedNamed.{named, are_named, only_none, alternatives, shown_alternative, follows_all, follows_closest}
 use Rattle.cs_validate.proofs.PlacedOnce.{placed_distinct}
 use Rattle.cs_validate.proofs.Settings.{told_why}
 use Rattle.cs_validate.proofs.Tells.{AreFollowed, AreDistinct, closest_distinct, says, zip_map}
@@ -92,7 +92,8 @@ module _ (R : Document) (xs : List (Opened ℕ)) (root : ℕ) (rules : List Code
       told_why R xs root rules inner rooted are many listed.document f only last within is_last denied leads_to is_cause (Closest reasons.0) (named f xs rules inner) (are_named f xs rules inner) telling
       (subst (AreFollowed leads_to is_cause (Closest reasons.0) (named f xs rules inner)) (sym e) (follows_closest f xs rules inner reasons.0)) rs reasons.1 ss
       (renamed (IsNamed xs rules inner) (says (Closest reasons.0) (named f xs rules inner)) (λ p c d n a. n f (cause_or_none reasons.0 p.0 p.1 c a)) rs ss same)
-      (closest_distinct leads_to is_cause (named f xs rules inner) is_alternative NoAlternative reasons.0 refl (λ p. refl) (only_none f xs rules inner) (alternatives f xs rules inner) distinct) V h
+      (closest_distinct leads_to is_cause (named f xs rules inner) is_alternative NoAlternative reasons.0 refl (λ p. refl) (only_none f xs rules inner) (alternatives f xs rules inner)
+      (shown_alternative f xs rules inner) (are_named f xs rules inner).leads distinct) V h
 
   pub explained : AreReasonsOf xs rules inner f telling.all last root telling.most rs → IsToldWhy R V xs telling ss
   explained reasons = by_telling telling.all refl reasons

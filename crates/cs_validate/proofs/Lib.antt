@@ -1,6 +1,6 @@
 -- What the proofs of this crate show: an object's rule asks what its keywords assert (`claims_are` in `Claims`, `claims_hold` in `Asked`), validity is
 -- the table of the judge (`is_judged`, `is_table` in `Verdicts`), a rule gives the same for scalars that its marks don't tell apart (`keywords_told` in
--- `Told`), and trimming changes no count of rules (`rules_trimmed` in `Trimmed`).
+-- `Told`), trimming changes no count of rules (`rules_trimmed` in `Trimmed`), and rules require as many names as schemas (`names_are` in `NamesCounted`).
 
 -- what the keywords of an object contribute, keyword by keyword
 pub mod Slots
@@ -34,8 +34,9 @@ pub mod Whole
 pub mod Wholes
 -- the table
 pub mod Verdicts
--- counts of rules
+-- counts of rules, and of the names that they require
 pub mod Trimmed
+pub mod NamesCounted
 -- why documents aren't valid
 pub mod Contained
 pub mod Caused

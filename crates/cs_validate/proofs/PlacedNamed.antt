@@ -134,9 +134,22 @@ module _ (f : AllVerdicts) (xs : List (Opened ℕ)) (rules : List Coded) (inner 
   alternatives p (Alternative item q place) e = (place, q, refl)
   alternatives p _ e = cc
 
+  pub shown_alternative : (p : ℕ × ℕ) (c : PlacedCause) (k q : ℕ) → named p c ≡ cause.alternative k q → is_alternative c ≡ true
+  shown_alternative p (Reference item r) k q e = cc
+  shown_alternative p (Part item r place) k q e = cc
+  shown_alternative p (Alternative item r place) k q e = refl
+  shown_alternative p (Property place item r) k q e = cc
+  shown_alternative p (Additional place item r) k q e = cc
+  shown_alternative p (Prefix place item r) k q e = cc
+  shown_alternative p (Items place item r) k q e = cc
+  shown_alternative p Never k q e = cc
+  shown_alternative p (Missing place) k q e = cc
+  shown_alternative p (Keyword w) k q e = cc
+  shown_alternative p NoAlternative k q e = cc
+
   -- where every cause is followed, and where of alternatives the closest ones are
   pub follows_all : (one_by_one : Bool) → AreFollowed leads_to (IsPlacedCause f xs rules inner) (IsPlacedCause f xs rules inner) named one_by_one
   follows_all one_by_one = all_followed leads_to (IsPlacedCause f xs rules inner) named one_by_one
 
   pub follows_closest : (chosen : AllVerdicts) → AreFollowed leads_to (IsPlacedCause f xs rules inner) (IsFollowed leads_to (IsPlacedCause f xs rules inner) is_alternative NoAlternative chosen) named false
-  follows_closest chosen = closest_followed leads_to (IsPlacedCause f xs rules inner) named is_alternative NoAlternative chosen refl (λ p. refl) only_none alternatives
+  follows_closest chosen = closest_followed leads_to (IsPlacedCause f xs rules inner) named is_alternative NoAlternative chosen refl (λ p. refl) only_none alternatives shown_alternative are_named.leads

@@ -1,10 +1,10 @@
 -- What is told of reasons over numbers is told of reasons by the meaning.
-use Rattle.std.proofs.Common.{◌≡◌, ◌<◌, ◌⊎◌, inl, inr, ⊎_elim, ℕ, zero, suc, Bool, true, false, not, ◌||◌, List, [], ◌∷◌, ◌++◌, Option, Some, None, Contains, length, map, take, get_or, ◌+◌, refl, sym, ap, ap₂, ◌∙◌, subst}
+use Rattle.std.proofs.Common.{◌≡◌, ◌<◌, ◌⊎◌, inl, inr, ⊎_elim, ℕ, zero, suc, Bool, true, false, true≢false, not, ◌||◌, List, [], ◌∷◌, ◌++◌, Option, Some, None, Contains, length, map, take, get_or, ◌+◌, refl, sym, ap, ap₂, ◌∙◌, subst}
 use Rattle.std.specs.Prelude.{slice_get}
 use Rattle.std.specs.List.{AllZip, list_any}
 use Rattle.std.proofs.lemmas.List.{length-map, map-append, take-map, take_more}
 use Rattle.std.proofs.lemmas.List.Folds.{list_any-append}
-use Rattle.std.proofs.lemmas.Option.{slice_get-get_or}
+use Rattle.std.proofs.lemmas.Option.{same_Some, slice_get-get_or}
 use Rattle.cs_document.specs.Document.{Document, null, boolean, IsDocument}
 use Rattle.cs_document.specs.Opened.{Opened}
 use Rattle.cs_flat.specs.Nodes.{node_at}
@@ -22,6 +22,7 @@ use Rattle.cs_rules.specs.Pointers.{At}
 use Rattle.cs_profile.specs.Constraint.{Constraint}
 use Rattle.cs_validate.specs.Numbering.{schema_at}
 use Rattle.cs_validate.specs.Rules.{AreRules}
+use Rattle.cs_validate.specs.Closest.{IsGoneInto as Goes, IsFollowedTo, stay, go, HasNoneChosen, AreOfChosen}
 use Rattle.cs_validate.specs.Causes as cause
 use Rattle.cs_validate.specs.Causes.{Cause}
 use Rattle.cs_validate.specs.NumberedCauses.{NumberedCause, IsNumberedCause}
@@ -108,12 +109,26 @@ no_way i (cause.prefix k y s) e = cc
 no_way i (cause.items k y s) e = cc
 no_way i _ e = refl
 
+-- an alternative leads into a chosen pair; and no alternative of a pair does
+abbrev pub IsInto : AllVerdicts → ℕ → NumberedCause → Type 0
+IsInto chosen i (cause.alternative k s) = chosen i s ≡ true
+IsInto chosen i n = Unit {0}
+
+abbrev pub AreUnchosen : {C : Type 0} → (ℕ → ℕ → C → Type 0) → (ℕ × ℕ → C → NumberedCause) → AllVerdicts → ℕ → ℕ → Type 0
+AreUnchosen {C} is_cause named chosen j q = (d : C) (k p : ℕ) → is_cause j q d → named (j, q) d ≡ cause.alternative k p → chosen j p ≡ false
+
 -- what is followed: causes that lead somewhere; and leaves, or that there are alternatives where these aren't told of one by one
 pub record AreFollowed {C : Type 0} (leads_to : C → Option (ℕ × ℕ)) (is_cause followed : ℕ → ℕ → C → Type 0) (named : ℕ × ℕ → C → NumberedCause) (one_by_one : Bool) : Type 0 where
   pub follows : (j q : ℕ) (c : C) (p : ℕ × ℕ) → followed j q c → leads_to c ≡ Some p → is_cause j q c
   pub ends : (j q : ℕ) (c : C) → followed j q c → leads_to c ≡ None
       → is_cause j q c ⊎ ((one_by_one ≡ false) × (named (j, q) c ≡ cause.no_alternative) × (a : C) × (k : ℕ) × (p : ℕ) × is_cause j q a × (named (j, q) a ≡ cause.alternative k p))
   pub over : (j q : ℕ) (c : C) → is_cause j q c → IsGoneInto one_by_one (way_of (named (j, q) c)) → followed j q c
+  -- of alternatives those that were chosen are followed, and everything else; or where none was chosen, that there are some
+  pub chosen : AllVerdicts
+  pub into : (j q : ℕ) (c : C) → is_cause j q c → IsInto chosen j (named (j, q) c) → followed j q c
+  pub led_into : (j q : ℕ) (c : C) (p : ℕ × ℕ) → followed j q c → leads_to c ≡ Some p → IsInto chosen j (named (j, q) c)
+  pub without : (j q : ℕ) (a : C) (k p : ℕ) → is_cause j q a → named (j, q) a ≡ cause.alternative k p → AreUnchosen is_cause named chosen j q
+      → (c : C) × followed j q c × (leads_to c ≡ None) × (named (j, q) c ≡ cause.no_alternative)
 
 -- what is followed at a pair differs where the causes over numbers do
 abbrev pub AreDistinct : {C : Type 0} → (ℕ → ℕ → C → Type 0) → (ℕ × ℕ → C → NumberedCause) → Type 0
@@ -322,6 +337,86 @@ module _ (R : Document) (xs : List (Opened ℕ)) (all : List Document) (asked : 
           let p = place_of reasons.all e (reasons.complete e given) in
           (numbered_by followed named e, at_place all_numbered (numbered_by followed named e) p.0 (got_map (numbered_by followed named) reasons.all p.0 e p.1), subst (λ w. Leads w (h.there.item, h.there.rule)) h.there.same (leads_by_chain R xs all asked f V setting i r h.there.chain), h.there.schema, h.there.value, ap (meant all xs) d.2 ∙ h.means)
 
+      -- ---- of alternatives the chosen ones
+
+      abbrev To : ℕ → ℕ → Type 0
+      To = IsFollowedTo f xs asked are.chosen i r
+
+      same_into : (j : ℕ) (n : NumberedCause) → IsInto are.chosen j n → Goes f xs asked are.chosen j n
+      same_into j (cause.alternative k s) h = h
+      same_into j (cause.reference s) h = tt
+      same_into j (cause.part k s) h = tt
+      same_into j (cause.property k y s) h = tt
+      same_into j (cause.additional k y s) h = tt
+      same_into j (cause.prefix k y s) h = tt
+      same_into j (cause.items k y s) h = tt
+      same_into j cause.never_valid h = tt
+      same_into j cause.no_alternative h = tt
+      same_into j (cause.missing k) h = tt
+      same_into j (cause.by_keyword w) h = tt
+
+      back_into : (j : ℕ) (n : NumberedCause) → Goes f xs asked are.chosen j n → IsInto are.chosen j n
+      back_into j (cause.alternative k s) h = h
+      back_into j (cause.reference s) h = tt
+      back_into j (cause.part k s) h = tt
+      back_into j (cause.property k y s) h = tt
+      back_into j (cause.additional k y s) h = tt
+      back_into j (cause.prefix k y s) h = tt
+      back_into j (cause.items k y s) h = tt
+      back_into j cause.never_valid h = tt
+      back_into j cause.no_alternative h = tt
+      back_into j (cause.missing k) h = tt
+      back_into j (cause.by_keyword w) h = tt
+
+      leaf_into : (j : ℕ) (n : NumberedCause) → led j n ≡ None → IsInto are.chosen j n
+      leaf_into j (cause.alternative k s) h = cc
+      leaf_into j (cause.reference s) h = cc
+      leaf_into j (cause.part k s) h = cc
+      leaf_into j (cause.property k y s) h = cc
+      leaf_into j (cause.additional k y s) h = cc
+      leaf_into j (cause.prefix k y s) h = cc
+      leaf_into j (cause.items k y s) h = cc
+      leaf_into j cause.never_valid h = tt
+      leaf_into j cause.no_alternative h = tt
+      leaf_into j (cause.missing k) h = tt
+      leaf_into j (cause.by_keyword w) h = tt
+
+      to_reached : {j q : ℕ} → To j q → IsReached leads_to followed i r j q
+      to_reached stay = reason.first
+      to_reached (go {j = j} {q = q} {k = k} {s = s} {c = n} h is into end) =
+          let c = names.complete j q n is in
+          reason.next (to_reached h) (are.into j q c.0 c.1 (subst (IsInto are.chosen j) (sym c.2) (back_into j n into))) (names.leads j q c.0 c.1 ∙ ap (led j) c.2 ∙ end)
+
+      from_reached : {j q : ℕ} → IsReached leads_to followed i r j q → To j q
+      from_reached reason.first = stay
+      from_reached (reason.next {j} {q} {k} {s} {c} h a l) =
+          go (from_reached h) (names.sound j q c (are.follows j q c (k, s) a l)) (same_into j (named (j, q) c) (are.led_into j q c (k, s) a l)) (followed_leads j q c (k, s) a l)
+
+      contained : (e : (ℕ × ℕ) × C) → IsReason leads_to followed i r e → Contains all_numbered (numbered_by followed named e)
+      contained e h =
+          let p = place_of reasons.all e (reasons.complete e h) in
+          at_place all_numbered (numbered_by followed named e) p.0 (got_map (numbered_by followed named) reasons.all p.0 e p.1)
+
+      leaves_of : (j q : ℕ) (n : NumberedCause) → To j q → IsNumberedCause f xs asked j q n → led j n ≡ None → Contains all_numbered ((j, q), n)
+      leaves_of j q n t is nowhere =
+          let c = names.complete j q n is in
+          let given : IsReason leads_to followed i r ((j, q), c.0) = record { reached = to_reached t; cause = are.into j q c.0 c.1 (subst (IsInto are.chosen j) (sym c.2) (leaf_into j n nowhere)); leaf = names.leads j q c.0 c.1 ∙ ap (led j) c.2 ∙ nowhere } in
+          subst (λ m. Contains all_numbered ((j, q), m)) c.2 (contained ((j, q), c.0) given)
+
+      none_of : (j q k s : ℕ) → To j q → IsNumberedCause f xs asked j q (cause.alternative k s) → HasNoneChosen f xs asked are.chosen j q → Contains all_numbered ((j, q), cause.no_alternative)
+      none_of j q k s t is unchosen =
+          let c = names.complete j q (cause.alternative k s) is in
+          let w = are.without j q c.0 k s c.1 c.2 (λ d m p one e. unchosen m p (subst (IsNumberedCause f xs asked j q) e (names.sound j q d one))) in
+          subst (λ m. Contains all_numbered ((j, q), m)) w.3 (contained ((j, q), w.0) (record { reached = to_reached t; cause = w.1; leaf = w.2 }))
+
+      only_of : (k : ℕ) (e : (ℕ × ℕ) × NumberedCause) → slice_get all_numbered k ≡ Some e → To e.0.0 e.0.1
+      only_of k e h =
+          let b = got_map_back (numbered_by followed named) reasons.all k e h in
+          subst (λ (z : (ℕ × ℕ) × NumberedCause). To z.0.0 z.0.1) b.2 (from_reached (reasons.sound k b.0 b.1).reached)
+
+      of_chosen : AreOfChosen V all xs asked i r all_numbered
+      of_chosen = record { verdicts = f; by_meaning = setting.agree; chosen = are.chosen; only = only_of; leaves = leaves_of; none = none_of }
+
       pub tells : AreRules R all → IsToldWhy R V xs telling ss
       tells rules = record {
         rules = all;
@@ -343,19 +438,43 @@ module _ (R : Document) (xs : List (Opened ℕ)) (all : List Document) (asked : 
         once = once_of;
         in_order = in_order_of;
         complete = complete_of;
+        closest = of_chosen;
       }
 
 -- ---- the two ways of telling
 
+into_any : (i : ℕ) (n : NumberedCause) → IsInto (λ j q. true) i n
+into_any i (cause.alternative k s) = refl
+into_any i (cause.reference s) = tt
+into_any i (cause.part k s) = tt
+into_any i (cause.property k y s) = tt
+into_any i (cause.additional k y s) = tt
+into_any i (cause.prefix k y s) = tt
+into_any i (cause.items k y s) = tt
+into_any i cause.never_valid = tt
+into_any i cause.no_alternative = tt
+into_any i (cause.missing k) = tt
+into_any i (cause.by_keyword w) = tt
+
 module _ {C : Type 0} (leads_to : C → Option (ℕ × ℕ)) (is_cause : ℕ → ℕ → C → Type 0) (named : ℕ × ℕ → C → NumberedCause) where
   -- every cause is followed
   pub all_followed : (one_by_one : Bool) → AreFollowed leads_to is_cause is_cause named one_by_one
-  all_followed one_by_one = record { follows = λ j q c p a l. a; ends = λ j q c a l. inl a; over = λ j q c a e. a }
+  all_followed one_by_one =
+      record {
+        follows = λ j q c p a l. a;
+        ends = λ j q c a l. inl a;
+        over = λ j q c a e. a;
+        chosen = λ j q. true;
+        into = λ j q c a e. a;
+        led_into = λ j q c p a l. into_any j (named (j, q) c);
+        without = λ j q a k p is e rest. absurd (true≢false (rest a k p is e));
+      }
 
   -- of alternatives the closest ones
   module _ (is_alternative : C → Bool) (no_one : C) (chosen : AllVerdicts) (nowhere : leads_to no_one ≡ None) (is_none : (p : ℕ × ℕ) → named p no_one ≡ cause.no_alternative)
       (only : (p : ℕ × ℕ) (c : C) → named p c ≡ cause.no_alternative → c ≡ no_one)
-      (alternatives : (p : ℕ × ℕ) (c : C) → is_alternative c ≡ true → (k : ℕ) × (q : ℕ) × (named p c ≡ cause.alternative k q)) where
+      (alternatives : (p : ℕ × ℕ) (c : C) → is_alternative c ≡ true → (k : ℕ) × (q : ℕ) × (named p c ≡ cause.alternative k q))
+      (shown : (p : ℕ × ℕ) (c : C) (k q : ℕ) → named p c ≡ cause.alternative k q → is_alternative c ≡ true) (leads : (j q : ℕ) (c : C) → is_cause j q c → leads_to c ≡ led j (named (j, q) c)) where
     abbrev Followed : ℕ → ℕ → C → Type 0
     Followed = IsFollowed leads_to is_cause is_alternative no_one chosen
 
@@ -397,5 +516,54 @@ module _ {C : Type 0} (leads_to : C → Option (ℕ × ℕ)) (is_cause : ℕ →
         (λ (a : c ≡ no_one). a ∙ sym (only (j, q) d (sym e ∙ ap (named (j, q)) a ∙ is_none (j, q))))
         (cause_or_none j q c g)
 
+    -- where an alternative leads
+    led_there : (j q : ℕ) (c : C) (k s : ℕ) → is_cause j q c → named (j, q) c ≡ cause.alternative k s → leads_to c ≡ Some (j, s)
+    led_there j q c k s a e = leads j q c a ∙ ap (led j) e
+
+    chosen_followed : (j q : ℕ) (c : C) → is_cause j q c → IsInto chosen j (named (j, q) c) → (b : Bool) → is_alternative c ≡ b → Followed j q c
+    chosen_followed j q c a into false h = reason.other a h
+    chosen_followed j q c a into true h =
+        let p = alternatives (j, q) c h in
+        reason.alternative a h (led_there j q c p.0 p.1 a p.2) (subst (IsInto chosen j) p.2 into)
+
+    other_into : (j q : ℕ) (c : C) (n : NumberedCause) → named (j, q) c ≡ n → is_alternative c ≡ false → IsInto chosen j n
+    other_into j q c (cause.alternative k s) e h = absurd (true≢false (sym (shown (j, q) c k s e) ∙ h))
+    other_into j q c (cause.reference s) e h = tt
+    other_into j q c (cause.part k s) e h = tt
+    other_into j q c (cause.property k y s) e h = tt
+    other_into j q c (cause.additional k y s) e h = tt
+    other_into j q c (cause.prefix k y s) e h = tt
+    other_into j q c (cause.items k y s) e h = tt
+    other_into j q c cause.never_valid e h = tt
+    other_into j q c cause.no_alternative e h = tt
+    other_into j q c (cause.missing k) e h = tt
+    other_into j q c (cause.by_keyword w) e h = tt
+
+    followed_into : (j q : ℕ) (c : C) (p : ℕ × ℕ) → Followed j q c → leads_to c ≡ Some p → IsInto chosen j (named (j, q) c)
+    followed_into j q c p (reason.other a b) l = other_into j q c (named (j, q) c) refl b
+    followed_into j q c p (reason.alternative {j = m} {q = s} a b to h) l =
+        let n = alternatives (j, q) c b in
+        let same = same_Some (m, s) (j, n.1) (sym to ∙ led_there j q c n.0 n.1 a n.2) in
+        let into : IsInto chosen j (cause.alternative n.0 n.1) = subst (λ (x : ℕ × ℕ). chosen x.0 x.1 ≡ true) same h in
+        subst (IsInto chosen j) (sym n.2) into
+    followed_into j q c p (reason.unchosen a b h) l = absurd (let e : None ≡ Some p = sym nowhere ∙ l in cc)
+
+    none_followed : (j q : ℕ) (a : C) (k p : ℕ) → is_cause j q a → named (j, q) a ≡ cause.alternative k p → AreUnchosen is_cause named chosen j q
+        → (c : C) × Followed j q c × (leads_to c ≡ None) × (named (j, q) c ≡ cause.no_alternative)
+    none_followed j q a k p is e without =
+        let rest : (d : C) (m s : ℕ) → is_cause j q d → is_alternative d ≡ true → leads_to d ≡ Some (m, s) → chosen m s ≡ false = λ d m s one alt to.
+        let n = alternatives (j, q) d alt in
+        let same = same_Some (j, n.1) (m, s) (sym (led_there j q d n.0 n.1 one n.2) ∙ to) in
+        subst (λ (x : ℕ × ℕ). chosen x.0 x.1 ≡ false) same (without d n.0 n.1 one n.2) in
+        (no_one, reason.unchosen is (shown (j, q) a k p e) rest, nowhere, is_none (j, q))
+
     pub closest_followed : AreFollowed leads_to is_cause Followed named false
-    closest_followed = record { follows = follows_causes; ends = ends_at_causes; over = others_followed }
+    closest_followed = record {
+      follows = follows_causes;
+      ends = ends_at_causes;
+      over = others_followed;
+      chosen = chosen;
+      into = λ j q c a into. chosen_followed j q c a into (is_alternative c) refl;
+      led_into = followed_into;
+      without = none_followed;
+    }

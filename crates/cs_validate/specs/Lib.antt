@@ -5,6 +5,8 @@ pub mod Judging
 pub mod Refusal
 pub mod Causes
 pub mod Why
+pub mod NumberedCauses
+pub mod Closest
 pub mod WhyTold
 -- for contracts of private functions and proofs alone
 pub mod Steps
@@ -18,7 +20,6 @@ pub mod Ranked
 pub mod Rooted
 pub mod Faults
 pub mod Led
-pub mod NumberedCauses
 pub mod PlacedCauses
 pub mod PlacedTold
 pub mod CauseLists

@@ -1,5 +1,5 @@
 -- What is told of why a document isn't valid against a schema document.
-use Rattle.std.specs.Prelude.{◌≡◌, ◌<◌, ℕ, Bool, true, not, ◌||◌, List, [], ◌++◌, Some, Contains, length, take, map, slice_get}
+use Rattle.std.specs.Prelude.{◌≡◌, ◌<◌, ℕ, Bool, true, false, not, ◌||◌, List, [], ◌++◌, Some, Contains, length, take, map, slice_get}
 use Rattle.std.specs.List.{flat_map, list_any}
 use Rattle.cs_document.specs.Document.{Document}
 use Rattle.cs_document.specs.Opened.{Opened}
@@ -13,13 +13,16 @@ use Rattle.cs_reasons.specs.declared.telling.Telling.{Telling}
 use Rattle.cs_rules.specs.Pointers.{At}
 use Rattle.cs_profile.specs.Constraint.{Constraint}
 use Rattle.cs_validate.specs.Numbering.{schema_at, IsNumbering}
-use Rattle.cs_validate.specs.Rules.{AreRules}
+use Rattle.cs_validate.specs.Rules.{AreRules, HasManyNames}
+use Rattle.cs_validate.specs.Closest.{AreOfChosen}
 use Rattle.cs_validate.specs.Causes as cause
 use Rattle.cs_validate.specs.Causes.{Cause}
 use Rattle.cs_validate.specs.NumberedCauses.{NumberedCause, IsNumberedCause}
 use Rattle.cs_validate.specs.Why.{Way, way_of, led, steps_of, is_by_alternative, map_cause, IsWhy, IsTold}
 use Rattle.cs_validate.specs.declared.cause.ValidCause.{ValidCause}
 use Rattle.cs_validate.specs.declared.cause.ValidCause.TheVariants.{Reference, Part, Alternative, Property, Additional, Prefix, Items, Never, Missing, Keyword, NoAlternative}
+use Rattle.cs_validate.specs.declared.explaining.Explanation.{Explanation}
+use Rattle.cs_validate.specs.declared.explaining.Explanation.TheVariants.{Valid, Invalid, Untold}
 
 -- the cause by the numbers of schemas and of values inside
 abbrev pub cause_of : ValidCause → NumberedCause
@@ -99,3 +102,18 @@ pub record IsToldWhy (R : Document) (V : Document → Document → Bool) (xs : L
   -- no reason is left out, but by schemas of `anyOf` where these aren't told of one by one
   pub complete : (ways : List Way) (s x : Document) (c : Cause Document Document Document) → IsWhy R V R (document_in xs) ways s x c → (telling.all || not (list_any is_by_alternative ways)) ≡ true
       → (e : (ℕ × ℕ) × NumberedCause) × Contains all e × LeadTo rules xs V asked whole root ways e.0 × (schema_of rules xs e.0 ≡ s) × (value_of rules xs e.0 ≡ x) × (meant rules xs e.1 ≡ c)
+  -- of schemas of `anyOf` some are chosen, and of everything that is reached by them no reason is left out
+  pub closest : AreOfChosen V rules xs asked whole root all
+
+-- it says that the document is valid
+abbrev pub says_valid : Explanation → Bool
+says_valid Valid = true
+says_valid (Invalid rs) = false
+says_valid Untold = false
+
+-- what is told of the document of the values xs, V as above: no reason where it is valid; where it isn't, why, unless values and
+-- required names are too many
+abbrev pub IsExplained : Document → (Document → Document → Bool) → List (Opened ℕ) → Telling → Explanation → Type 0
+IsExplained R V xs telling Valid = V R (document_in xs) ≡ true
+IsExplained R V xs telling (Invalid rs) = (V R (document_in xs) ≡ false) × (¬ (HasManyNames R (document_in xs))) × IsToldWhy R V xs telling rs
+IsExplained R V xs telling Untold = (V R (document_in xs) ≡ false) × HasManyNames R (document_in xs)

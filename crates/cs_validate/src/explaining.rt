@@ -1,5 +1,5 @@
 // Why documents aren't valid against schema documents.
-ghost use Rattle.std.specs.Prelude.{◌≡◌, ◌<◌, Bool, false, length, IfOk, IfErr, IfSome, OnOk, is_none};
+ghost use Rattle.std.specs.Prelude.{◌≡◌, ◌<◌, Bool, false, length, IfOk, IfErr, OnOk};
 ghost use Rattle.cs_document.specs.Document.{Document};
 ghost use Rattle.cs_flat.specs.Listed.{document_in};
 ghost use Rattle.cs_profile.specs.Validity.{IsValidity, OneMeaning};
@@ -7,12 +7,13 @@ ghost use Rattle.cs_table.specs.Judged.{verdicts};
 ghost use Rattle.cs_validate.specs.Rules.{HasManyPairs};
 ghost use Rattle.cs_validate.specs.PlacedTold.{AreReasonsOf};
 ghost use Rattle.cs_validate.specs.Refusal.{IsRefusal};
-ghost use Rattle.cs_validate.specs.WhyTold.{IsToldWhy};
+ghost use Rattle.cs_validate.specs.WhyTold.{IsExplained, says_valid};
 
 use crate::graph::ValidGraph;
 use crate::naming::Named;
 use crate::numbered::SchemaRules;
 use crate::placed_cause::PlacedCause;
+use crate::required::has_many_names;
 use crate::wanting::wanted_of;
 use crate::{ValidCause, ValidateFault};
 use cs_document::Doc;
@@ -40,6 +41,29 @@ pub struct Wanted<'a> {
     pub key: Option<(&'a str, usize)>,
     /// For each alternative what is asked of that value, all of it together.
     pub alternatives: Vec<Vec<Want<'a>>>,
+}
+
+/// What is told of why a document isn't valid.
+#[derive(Drop)]
+pub enum Explanation<'b> {
+    /// It is valid.
+    Valid,
+    /// It isn't, and these are the reasons.
+    Invalid(Reasons<ValidCause<'b>>),
+    /// It isn't. The reasons aren't told, since there may be as many as its values times the names that all schemas require.
+    Untold,
+}
+
+impl Explanation<'_> {
+    /// Whether the document is valid.
+    pub fn is_valid(&self) -> bool
+        ensures { result ≡ says_valid self.now }
+    {
+        match self {
+            Explanation::Valid => true,
+            Explanation::Invalid(_) | Explanation::Untold => false,
+        }
+    }
 }
 
 /// The reasons of a refused pair: all of them, or where of alternatives the closest one is followed.
@@ -70,8 +94,9 @@ impl SchemaRules<'_> {
         self.schema
     }
 
-    /// Why a document, as the list of its values, isn't valid against the schema document; `None` where it is (Core, sections
-    /// 4.3 and 7; Validation 2020-12, section 6).
+    /// Why a document, as the list of its values, isn't valid against the schema document, if it isn't (Core, sections 4.3
+    /// and 7; Validation 2020-12, section 6). `Untold` exactly where it isn't, and its values and the names that the schemas
+    /// require, each counted for each schema that requires it, make more than 67,108,864 pairs.
     ///
     /// # Errors
     /// Those of [`SchemaRules::verdict`].
@@ -81,21 +106,24 @@ impl SchemaRules<'_> {
         flat: &'b Flat<'b>,
         table: &mut Verdicts,
         telling: Telling,
-    ) -> Result<Option<Reasons<ValidCause<'b>>>, ValidateFault>
+    ) -> Result<Explanation<'b>, ValidateFault>
         ensures one_meaning { OneMeaning self.now }
         ensures answer { IfOk result (λ o. (V : Document → Document → Bool)
-            → IsValidity self.now V → is_none o ≡ V self.now (document_in flat.now)) }
+            → IsValidity self.now V → says_valid o ≡ V self.now (document_in flat.now)) }
         ensures within { OnOk result (¬ HasManyPairs self.now (document_in flat.now)) }
         ensures refused { IfErr result (λ e. IsRefusal e self.now (document_in flat.now)) }
         ensures why { IfOk result (λ o. (V : Document → Document → Bool)
-            → IsValidity self.now V → IfSome o (IsToldWhy self.now V flat.now telling)) }
+            → IsValidity self.now V → IsExplained self.now V flat.now telling o) }
     {
         one_meaning(self.schema); // for the proof: there is one validity
         self.schema.whole_law(); // for the proof: no name is required twice
         let last = flat.len() - 1; // the document itself
         refill(&self.book.over(flat), table)?;
         if table.get(last, self.root) {
-            return Ok(None);
+            return Ok(Explanation::Valid);
+        }
+        if has_many_names(&self.book.numbering.rules, flat.len()) {
+            return Ok(Explanation::Untold);
         }
         let graph = ValidGraph {
             book: &self.book,
@@ -108,7 +136,7 @@ impl SchemaRules<'_> {
             flat,
         };
         let named = names.reasons(alloc, &reasons)?;
-        Ok(Some(named))
+        Ok(Explanation::Invalid(named))
     }
 
     /// What a value would have to be by the alternatives of a schema, for the wording of [`ValidCause::NoAlternative`].

@@ -15,13 +15,14 @@ mod nearness;
 mod numbered;
 mod numbering;
 mod placed_cause;
+mod required;
 mod rules;
 mod steps;
 mod values;
 mod wanting;
 
 pub use cause::ValidCause;
-pub use explaining::{Want, Wanted};
+pub use explaining::{Explanation, Want, Wanted};
 pub use fault::ValidateFault;
 pub use judge::ValidJudge;
 pub use judging::{is_valid, valid_judge, valid_table, valid_verdict};

@@ -1,10 +1,12 @@
 // The commands that speak of sources and refusals alone: `check` and `explain`.
 use crate::COMMAND_LINE;
 use crate::explained::{STANDARD_INPUT, names_of};
+use crate::files::read_input;
+use crate::refused::print;
 use crate::requests::sources_of;
 use clap::ArgMatches;
-use cs_findings::{Checked, write_findings};
-use cs_refusals::explanation;
+use cs_findings::{Checked, write_findings, write_schema_findings};
+use cs_refusals::explained;
 use cs_tool::{Fault, Named};
 use std::alloc::{AllocError, Global};
 
@@ -57,31 +59,49 @@ fn texts<'a>(alloc: Global, sources: &'a [Vec<u8>]) -> Result<Vec<&'a [u8]>, All
     Ok(texts)
 }
 
-/// The status after all that is found in the sources.
+/// The status of what was found, where warnings count and where they don't.
+fn status(checked: Checked, is_strict: bool) -> u8 {
+    match checked {
+        Checked::Well => 0,
+        Checked::Warned if is_strict => WARNED,
+        Checked::Warned => 0,
+        Checked::Faulty => FAULTY,
+    }
+}
+
+/// The status after all that is found in the sources, or in a schema.
 fn check(rt: &HostRuntime, words: &ArgMatches<'_>) -> Result<u8, Fault> {
+    if let Some(path) = words.get_str("schema") {
+        return check_schema(rt, path);
+    }
     let sources = sources_of(rt, words)?;
     let names = names_of(rt.alloc(), words)?;
     let named = named(rt.alloc(), &names, &sources)?;
     let texts = texts(rt.alloc(), &sources)?;
     let root = words.get_str("root");
     let checked = write_findings(rt.alloc(), &texts, &named, root, &mut rt.stdout())?;
-    Ok(match checked {
-        Checked::Well => 0,
-        Checked::Warned if words.get_flag("strict") => WARNED,
-        Checked::Warned => 0,
-        Checked::Faulty => FAULTY,
-    })
+    Ok(status(checked, words.get_flag("strict")))
+}
+
+/// The status after all faults of a schema.
+fn check_schema(rt: &HostRuntime, path: &str) -> Result<u8, Fault> {
+    let text = read_input(rt, path)?;
+    let schema = Named {
+        name: path,
+        text: text.as_slice(),
+        line: 1,
+    };
+    let checked = write_schema_findings(rt.alloc(), schema, &mut rt.stdout())?;
+    Ok(status(checked, false))
 }
 
 /// The status after what a number means.
 fn explain(rt: &HostRuntime, words: &ArgMatches<'_>) -> Result<u8, Fault> {
     let number = words.get_one("NUMBER").unwrap_or(0);
-    let Some(found) = explanation(number) else {
+    let Some(text) = explained(rt.alloc(), number)? else {
         let _ = eprintln!(rt; "error: no refusal has the number {number}");
         return Ok(COMMAND_LINE);
     };
-    match println!(rt; "{}: {}\n{}", found.number, found.meaning, found.remedy) {
-        Ok(()) => Ok(0),
-        Err(_) => Err(Fault::WriteFailed),
-    }
+    print(rt, text.as_bytes())?;
+    Ok(0)
 }

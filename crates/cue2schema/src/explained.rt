@@ -3,11 +3,13 @@ use crate::INVALID;
 use crate::files::{read_document, read_input, read_source, read_sources};
 use crate::many::{UNREAD, status_of};
 use crate::reasons::Reasons;
+use crate::refused::{about_rules, or_told, tell_unread};
 use crate::requests::{Documents, documents_of, root_of, sources_of, word_of};
 use clap::ArgMatches;
+use cs_refusals::About;
 use cs_tool::{
-    Fault, Form, LinesOutcome, Named, Prepared, Rules, TextJudge, Why, explain_lines,
-    named_sources, prepare, run_explained, write_explained, write_fault_json, write_unexplained,
+    Fault, Form, LinesOutcome, Named, Rules, TextJudge, Why, explain_lines, named_sources, prepare,
+    run_explained, write_explained, write_unexplained,
 };
 use std::alloc::{AllocError, Global};
 use std::fs::File;
@@ -15,11 +17,8 @@ use std::io::{Read, sink};
 
 /// The name of standard input.
 pub(crate) const STANDARD_INPUT: &str = "-";
-/// The names of the sources where none is given.
-const UNNAMED: &[&str] = &[STANDARD_INPUT];
 
-/// The status of a command that asks for reasons; `None` for one that has none. Where a format is asked for, a refusal is told as
-/// an object too.
+/// The status of a command that asks for reasons; `None` for one that has none. A refusal is told as the reasons would be.
 pub(crate) fn answer_with_reasons(
     rt: &HostRuntime,
     command: &str,
@@ -27,27 +26,8 @@ pub(crate) fn answer_with_reasons(
     reasons: Reasons,
 ) -> Result<Option<u8>, Fault> {
     match answered(rt, command, words, reasons) {
-        Err(fault) if is_told_as_object(reasons.form, &fault) => {
-            write_refusal(rt, &fault, words)?;
-            Ok(Some(fault.status()))
-        }
+        Err(fault) => tell_unread(rt, reasons.form, &fault, words).map(Some),
         answer => answer,
-    }
-}
-
-/// Whether a refusal is told on standard output. One that nothing can be written is not.
-fn is_told_as_object(form: Form, fault: &Fault) -> bool {
-    match form {
-        Form::Lines => false,
-        Form::Json | Form::Flag | Form::Basic => !matches!(fault, Fault::WriteFailed),
-    }
-}
-
-/// Writes the object of a refusal.
-fn write_refusal(rt: &HostRuntime, fault: &Fault, words: &ArgMatches<'_>) -> Result<(), Fault> {
-    match words.get_strs("FILE") {
-        Some(names) => write_fault_json(rt.alloc(), fault, names, &mut rt.stdout()),
-        None => write_fault_json(rt.alloc(), fault, UNNAMED, &mut rt.stdout()),
     }
 }
 
@@ -70,7 +50,7 @@ pub(crate) fn names_of(alloc: Global, words: &ArgMatches<'_>) -> Result<Vec<Stri
 }
 
 /// The sources of the rules with their names.
-fn sources_by_name<'a>(
+pub(crate) fn sources_by_name<'a>(
     alloc: Global,
     rules: &'a Rules,
     names: &'a [String],
@@ -183,17 +163,27 @@ fn explain_once(
         text: &text,
         line: 1,
     };
-    let prepared = prepare(rt.alloc(), &rules)?;
-    explain_document(rt, &prepared, document, reasons.by(&sources))
+    let about = About {
+        document: Some(document),
+        ..about_rules(
+            &rules,
+            &sources,
+            word_of(words, "root"),
+            word_of(words, "schema"),
+        )
+    };
+    let answer = explain_document(rt, &rules, document, reasons.by(&sources));
+    or_told(rt, reasons.form, about, words, answer)
 }
 
-/// The status after a document, by rules that were read.
+/// The status after a document.
 fn explain_document(
     rt: &HostRuntime,
-    prepared: &Prepared<'_>,
+    rules: &Rules,
     document: Named<'_>,
     why: Why<'_>,
 ) -> Result<u8, Fault> {
+    let prepared = prepare(rt.alloc(), rules)?;
     let mut judge = prepared.judge(rt.alloc())?;
     let truth = run_explained(rt.alloc(), &mut judge, document, why, &mut rt.stdout())?;
     Ok(if truth { 0 } else { INVALID })
@@ -210,10 +200,13 @@ fn explain_many(
     let names = names_of(rt.alloc(), words)?;
     let sources = sources_by_name(rt.alloc(), &rules, &names)?;
     let why = reasons.by(&sources);
-    match documents {
+    let answer = match documents {
         Documents::Lines(path) => explain_input(rt, &rules, why, path),
         Documents::Files(paths) => explain_files(rt, &rules, why, paths),
-    }
+    };
+    let (root, schema) = (word_of(words, "root"), word_of(words, "schema"));
+    let about = about_rules(&rules, &sources, root, schema);
+    or_told(rt, reasons.form, about, words, answer)
 }
 
 /// The status after the lines of the file, or of standard input.

@@ -6,7 +6,9 @@ mod explained;
 mod files;
 mod many;
 mod reasons;
+mod refused;
 mod requests;
+mod unread;
 
 use checked::answer_of_sources;
 use clap::ArgMatches;
@@ -15,6 +17,7 @@ use cs_tool::{Fault, Request, command, run, write_fault};
 use explained::answer_with_reasons;
 use many::answer_many;
 use reasons::{are_at_odds, reasons_of};
+use refused::export_or_tell;
 use requests::{Asked, asked_by};
 use std::alloc::Global;
 use std::env::Args;
@@ -56,6 +59,9 @@ fn answered(rt: &HostRuntime, matches: &ArgMatches<'_>) -> Result<u8, Fault> {
     if let Some((command, words)) = matches.subcommand() {
         if let Some(status) = answer_of_sources(rt, command, words)? {
             return Ok(status);
+        }
+        if command == "export" && words.get_flag("why_refused") {
+            return export_or_tell(rt, words);
         }
         if are_at_odds(words) {
             let _ = eprintln!(rt;

@@ -8,12 +8,14 @@ use Rattle.cs_flat.specs.Nodes.{node_at}
 use Rattle.cs_profile.specs.SchemaDocument.{document_of}
 use Rattle.cs_profile.specs.Validity.{IsValidity}
 use Rattle.cs_rules.specs.declared.book.Numbering.{Numbering}
-use Rattle.cs_validate.specs.Rules.{HasManyPairs}
+use Rattle.cs_validate.specs.Rules.{HasManyPairs, HasManyNames}
 use Rattle.cs_validate.specs.Faults.{fault_of}
 use Rattle.cs_table.specs.Judged.{verdicts}
+use Rattle.cs_table.specs.Limit.{most_pairs}
 use Rattle.cs_validate.specs.Refusal.{IsRefusal}
 use Rattle.cs_validate.specs.WhyTold.{IsToldWhy}
 use Rattle.cs_validate.proofs.Explained.{table_over, explained}
+use Rattle.cs_validate.proofs.NamesCounted.{pairs_are}
 use Rattle.cs_validate.proofs.Verdicts.{judge_over, is_table, few_pairs, refused}
 use Rattle.cs_validate.proofs.numbered.SchemaRules.explained.Goals as goal
 
@@ -43,6 +45,9 @@ returns-then-get-clause-answer c =
     subst (λ (D : Document). (V : Document → Document → Bool) → IsValidity D V → true ≡ V D (document_in xs)) c.self.view_is
     (λ V h. sym c.if-get.true ∙ c.get.ensures ∙ t.verdict V h last s.root below within ∙ ap₂ V (get_or_from_slice_get t.all s.root R (boolean false) t.found) same)
 
+pub returns-then-get-clause-why : goal.returns-then-get-clause-why
+returns-then-get-clause-why c = λ V h. sym (returns-then-get-clause-answer c V h)
+
 pub returns-then-get-clause-within : goal.returns-then-get-clause-within
 returns-then-get-clause-within c =
     let s = c.self.inside in
@@ -50,6 +55,38 @@ returns-then-get-clause-within c =
     let judge = judge_over R c.args.flat.now _ s.root _ _ _ _ c.over.ensures.flat (ap (λ (u : Numbering _ _). u.rules.items) c.over.ensures.book) (ap (λ (u : Numbering _ _). u.children.items) c.over.ensures.book) c.self.invariant in
     subst (λ (D : Document). HasManyPairs D (document_in c.args.flat.now) → ⊥) c.self.view_is
     (few_pairs R c.args.flat.now s.root _ _ _ judge c.len-last.ensures.items c.len-last.ensures.whole c.in_ok-refill.ensures.within)
+
+pub returns-then-has_many_names-clause-answer : goal.returns-then-has_many_names-clause-answer
+returns-then-has_many_names-clause-answer c =
+    let s = c.self.inside in
+    let R = document_of s.schema.now in
+    let xs = c.args.flat.now in
+    let judge = judge_over R xs _ s.root _ _ _ _ c.over.ensures.flat (ap (λ (u : Numbering _ _). u.rules.items) c.over.ensures.book) (ap (λ (u : Numbering _ _). u.children.items) c.over.ensures.book) c.self.invariant in
+    let e = c.in_ok-refill.ensures in
+    let t = is_table R xs s.root _ _ _ judge c.len-last.ensures.items c.len-last.ensures.whole c.refill.new.done e.items e.rules e.count e.unique in
+    let within = slice_get_within t.all s.root R t.found in
+    let last = c.len-last.result - 1 in
+    let is : last ≡ inside (document_in xs) = omega (arith, c.len-last.ensures.count, c.len-last.ensures.inside) in
+    let below : last < length xs = omega (arith, c.len-last.ensures.count, c.len-last.ensures.inside) in
+    let same : node_at (values xs) last ≡ document_in xs = ap (node_at (values xs)) is ∙ c.len-last.ensures.last in
+    subst (λ (D : Document). (V : Document → Document → Bool) → IsValidity D V → false ≡ V D (document_in xs)) c.self.view_is
+    (λ V h. sym c.if-get.false ∙ c.get.ensures ∙ t.verdict V h last s.root below within ∙ ap₂ V (get_or_from_slice_get t.all s.root R (boolean false) t.found) same)
+
+pub returns-then-has_many_names-clause-within : goal.returns-then-has_many_names-clause-within
+returns-then-has_many_names-clause-within c =
+    let s = c.self.inside in
+    let R = document_of s.schema.now in
+    let judge = judge_over R c.args.flat.now _ s.root _ _ _ _ c.over.ensures.flat (ap (λ (u : Numbering _ _). u.rules.items) c.over.ensures.book) (ap (λ (u : Numbering _ _). u.children.items) c.over.ensures.book) c.self.invariant in
+    subst (λ (D : Document). HasManyPairs D (document_in c.args.flat.now) → ⊥) c.self.view_is
+    (few_pairs R c.args.flat.now s.root _ _ _ judge c.len-last.ensures.items c.len-last.ensures.whole c.in_ok-refill.ensures.within)
+
+pub returns-then-has_many_names-clause-why : goal.returns-then-has_many_names-clause-why
+returns-then-has_many_names-clause-why c =
+    let s = c.self.inside in
+    let xs = c.args.flat.now in
+    let pairs = pairs_are (document_of s.schema.now) c.args.self.now (document_in xs) s.book.numbering.rules.items _ _ s.root _ c.self.invariant c.self.view_is c.deref.ensures.value (c.len.ensures.count ∙ c.len.ensures.whole) in
+    let many : HasManyNames c.args.self.now (document_in xs) = subst (λ n. most_pairs < n) pairs (c.has_many_names.ensures.0 c.if-has_many_names.true) in
+    λ V h. (sym (returns-then-has_many_names-clause-answer c V h), many)
 
 pub returns-clause-answer : goal.returns-clause-answer
 returns-clause-answer c =
@@ -102,9 +139,15 @@ returns-clause-why c =
     let is : last ≡ inside (document_in xs) = omega (arith, l.count, l.inside) in
     let below : last < length xs = omega (arith, l.count, l.inside) in
     let same : node_at (values xs) last ≡ document_in xs = ap (node_at (values xs)) is ∙ l.last in
-    subst (λ (D : Document). (V : Document → Document → Bool) → IsValidity D V → IsToldWhy D V xs c.args.telling c.in_ok-named.named) c.self.view_is
+    let pairs = pairs_are R c.args.self.now (document_in xs) s.book.numbering.rules.items _ _ s.root _ c.self.invariant c.self.view_is c.deref.ensures.value (c.len.ensures.count ∙ c.len.ensures.whole) in
+    let few : HasManyNames c.args.self.now (document_in xs) → ⊥ = λ h.
+    let found = c.has_many_names.ensures.1 (subst (λ n. most_pairs < n) (sym pairs) h) in
+    let none = c.if-has_many_names.false in
+    cc in
+    let told = subst (λ (D : Document). (V : Document → Document → Bool) → IsValidity D V → IsToldWhy D V xs c.args.telling c.in_ok-named.named) c.self.view_is
     (λ V h. explained R xs s.root s.book.numbering.rules.items s.book.numbering.children.items c.self.invariant l.items l.whole l.listed c.whole_law.ensures.whole.profile.shaped f only last below same (sym c.get.ensures ∙ c.if-get.false)
-    c.args.telling c.in_ok-reasons.reasons c.in_ok-named.named c.in_ok-named.ensures V h c.in_ok-reasons.ensures)
+    c.args.telling c.in_ok-reasons.reasons c.in_ok-named.named c.in_ok-named.ensures V h c.in_ok-reasons.ensures) in
+    λ V h. (sym (returns-clause-answer c V h), few, told V h)
 
 pub returns-in_err-refill-clause-refused : goal.returns-in_err-refill-clause-refused
 returns-in_err-refill-clause-refused c =

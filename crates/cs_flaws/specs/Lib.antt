@@ -1,0 +1,2 @@
+-- What is told of a schema's text.
+pub mod Told

@@ -1,0 +1,190 @@
+// Forms at a token that is out of place, and that the profile has elsewhere (4).
+use crate::forms::{Form, Found};
+use crate::near::{Around, Near, begins_value, ends_value};
+use cs_grammar::{Sort, Token};
+
+/// The form at a token that is out of place.
+pub(crate) fn form_out_of_place(near: Near<'_, '_>) -> Found {
+    if let Some(found) = after_word(near) {
+        return found;
+    }
+    if near.is_in_label() {
+        return form_in_label(near);
+    }
+    if near.begins_declaration() {
+        return form_of_declaration(near);
+    }
+    if let Some(found) = in_expression(near) {
+        return found;
+    }
+    plain(near)
+}
+
+/// The form after a word that begins a clause, or after the mark of a limit.
+fn after_word(near: Near<'_, '_>) -> Option<Found> {
+    let before = near.before(1);
+    match before.text {
+        "if" => Some(near.before_shows(Form::If)),
+        "for" => Some(near.before_shows(Form::For)),
+        "let" => Some(near.before_shows(Form::Let)),
+        "<" | "<=" | ">" | ">=" | "!=" if begins_value(near.here()) => {
+            Some(near.shows(form_of_limit(near.here())))
+        }
+        "-" if is_relation(near.before(2)) && begins_value(near.here()) => {
+            Some(near.shows(Form::Limit))
+        }
+        _ => None,
+    }
+}
+
+fn is_relation(token: Token<'_>) -> bool {
+    matches!(token.text, "<" | "<=" | ">" | ">=" | "!=")
+}
+
+fn form_of_limit(token: Token<'_>) -> Form {
+    match token.text {
+        "true" | "false" | "null" | "{" | "[" => Form::LimitKind,
+        _ if token.sort == Sort::Text => Form::LimitKind,
+        _ => Form::Limit,
+    }
+}
+
+/// The form inside of the brackets of a label.
+fn form_in_label(near: Near<'_, '_>) -> Found {
+    if near.behind(1).text == "=" {
+        return near.shows(Form::AliasLabel);
+    }
+    near.shows(Form::Pattern)
+}
+
+/// The form at the first token of a declaration.
+fn form_of_declaration(near: Near<'_, '_>) -> Found {
+    match near.here().text {
+        _ if near.before(2).text == "..." => near.shows(Form::EarlyEllipsis),
+        "&" | "|" if near.before(1).sort == Sort::Inserted => near.shows(Form::BrokenLine),
+        "}" | "]" | ")" => closing(near),
+        "" | "," | "&" | "|" | ":" | "?" | "!" => plain(near),
+        _ if near.around() == Around::Top => near.shows(form_at_top(near)),
+        _ => near.shows(form_in_struct(near)),
+    }
+}
+
+fn form_at_top(near: Near<'_, '_>) -> Form {
+    if near.here().text == "package" {
+        return Form::LatePackage;
+    }
+    let is_label = matches!(near.here().sort, Sort::Name | Sort::Text);
+    if is_label && matches!(near.behind(1).text, ":" | "?" | "!") {
+        return Form::TopLevelField;
+    }
+    Form::TopLevelValue
+}
+
+fn form_in_struct(near: Near<'_, '_>) -> Form {
+    let here = near.here();
+    match here.sort {
+        Sort::Definition if matches!(near.behind(1).text, ":" | "?" | "!") =>
+            Form::NestedDefinition,
+        Sort::Definition => Form::EmbeddedDefinition,
+        Sort::Integer if near.behind(1).text == ":" => Form::DigitLabel,
+        _ => match here.text {
+            "{" => Form::EmbeddedStruct,
+            "(" => Form::DynamicLabel,
+            _ => Form::EmbeddedValue,
+        },
+    }
+}
+
+/// The form inside of an expression, where it is left out.
+fn in_expression(near: Near<'_, '_>) -> Option<Found> {
+    let before = near.before(1);
+    match near.here().text {
+        "(" if before.text == "close" => Some(near.before_shows(Form::Close)),
+        "(" if before.sort == Sort::Name => Some(near.before_shows(Form::Call)),
+        "[" if ends_value(before) && before.text != "}" => Some(near.shows(Form::Index)),
+        "-" if ends_value(before) => Some(near.shows(Form::Arithmetic)),
+        "div" | "mod" | "quo" | "rem" if ends_value(before) => Some(near.shows(Form::Arithmetic)),
+        "<" | "<=" | ">" | ">=" | "!=" if ends_value(before) => Some(near.shows(Form::Comparison)),
+        "!" if !ends_value(before) => Some(near.shows(Form::Negation)),
+        ":" if before.sort == Sort::Definition => Some(near.before_shows(Form::NestedDefinition)),
+        "&" | "|" if before.sort == Sort::Inserted => Some(near.shows(Form::BrokenLine)),
+        _ if before.text == "-" && begins_value(near.here()) => {
+            Some(near.before_shows(Form::Arithmetic))
+        }
+        _ if before.text == "..." && near.around() == Around::Struct => {
+            let is_typed = begins_value(near.here());
+            let form = if is_typed {
+                Form::TypedEllipsis
+            } else {
+                Form::EarlyEllipsis
+            };
+            Some(near.shows(form))
+        }
+        _ => None,
+    }
+}
+
+/// A mistake of plain syntax.
+fn plain(near: Near<'_, '_>) -> Found {
+    let (before, here) = (near.before(1), near.here());
+    if is_label_before(near) {
+        return near.before_shows(Form::MissingColon);
+    }
+    if begins_value(here) && ends_value(before) {
+        return near.shows(Form::MissingComma);
+    }
+    if begins_value(here) && before.sort == Sort::Inserted && near.around() == Around::List {
+        return near.shows(Form::NewLineInList);
+    }
+    if is_end(here) && wants_value(before) {
+        return near.shows(Form::MissingValue);
+    }
+    match here.text {
+        "}" | "]" | ")" => closing(near),
+        "" if is_at_end(near) => closing(near),
+        _ => near.shows(Form::Misplaced),
+    }
+}
+
+/// Whether the token before is a label, with or without its mark, that a colon would have to follow.
+fn is_label_before(near: Near<'_, '_>) -> bool {
+    let before = near.before(1);
+    let is_label = matches!(before.sort, Sort::Name | Sort::Text | Sort::Definition);
+    let (around, first) = (near.around(), near.before(2));
+    let is_first = match first.sort {
+        Sort::Mark => first.text == "{" || first.text == "," && around != Around::List,
+        Sort::Inserted | Sort::End => around != Around::List,
+        _ => false,
+    };
+    is_label && is_first && near.here().text != ":"
+}
+
+/// Whether the source ends at the token, the comma that its end inserts aside.
+fn is_at_end(near: Near<'_, '_>) -> bool {
+    near.here().sort == Sort::End || near.behind(1).sort == Sort::End
+}
+
+/// Whether an expression ends before a token.
+fn is_end(token: Token<'_>) -> bool {
+    match token.sort {
+        Sort::Inserted | Sort::End => true,
+        _ => matches!(token.text, "," | "}" | "]" | ")" | "&" | "|" | ":"),
+    }
+}
+
+/// Whether a value has to follow a token.
+fn wants_value(token: Token<'_>) -> bool {
+    matches!(
+        token.text,
+        ":" | "&" | "|" | "<" | "<=" | ">" | ">=" | "!=" | "-" | "("
+    )
+}
+
+/// The form at the end of a source, or at a closing bracket that closes nothing.
+fn closing(near: Near<'_, '_>) -> Found {
+    match near.bracket() {
+        Some(bracket) => bracket.shows(Form::Unclosed),
+        None if near.here().text.is_empty() => near.shows(Form::Misplaced),
+        None => near.shows(Form::StrayBracket),
+    }
+}

@@ -1,0 +1,165 @@
+// What is said of a form at its place, with the names that the source has there.
+use crate::bases::put_not_opened;
+use crate::fields::{put_embedded_definition, put_embedded_struct};
+use crate::labels::{field_of, value_without};
+use crate::sentences::{
+    sentence_of, sentence_of_character, sentence_of_comparison, sentence_of_number,
+};
+use crate::sources::Source;
+use crate::text::{put_all, put_code, put_line};
+use crate::unknown::{put_field_reference, put_kind, put_unknown};
+use cs_forms::{Form, Found, Near};
+use cs_grammar::{Sort, Token};
+use std::alloc::{AllocError, Global};
+use std::str;
+
+/// The bytes of a source as a text, or none of them.
+pub(crate) fn text_of(bytes: Option<&[u8]>) -> &str {
+    match str::from_utf8(bytes.unwrap_or(&[])) {
+        Ok(text) => text,
+        Err(_) => "",
+    }
+}
+
+/// Puts what is said of a form in a source, one of these.
+pub(crate) fn put_advice(
+    alloc: Global,
+    text: &mut String,
+    source: &Source<'_, '_>,
+    sources: &[Source<'_, '_>],
+    found: Found,
+) -> Result<(), AllocError> {
+    let shown = text_of(source.named.text.get(found.start..found.end));
+    match found.form {
+        Form::PackageValue | Form::PackageCall | Form::Selector | Form::Call | Form::LargeInteger =>
+            {
+                put_code(text, shown)?;
+                text.push_str(": ")?;
+                text.push_str(sentence_of(found.form))
+            }
+        Form::NumberSpelling => {
+            put_code(text, shown)?;
+            text.push_str(": ")?;
+            text.push_str(sentence_of_number(shown))
+        }
+        Form::Comparison => {
+            put_code(text, shown)?;
+            text.push_str(": ")?;
+            text.push_str(sentence_of_comparison(shown))
+        }
+        Form::StrayCharacter => text.push_str(sentence_of_character(shown)),
+        Form::UnknownKind => put_kind(text, shown),
+        Form::UnknownName | Form::UnknownDefinition => put_unknown(alloc, text, shown, sources),
+        _ => match Near::at(&source.tokens, found.start) {
+            Some(near) => put_advice_near(alloc, text, source, sources, near, found.form),
+            None => text.push_str(sentence_of(found.form)),
+        },
+    }
+}
+
+/// Puts what is said of a form that a token shows.
+fn put_advice_near(
+    alloc: Global,
+    text: &mut String,
+    source: &Source<'_, '_>,
+    sources: &[Source<'_, '_>],
+    near: Near<'_, '_>,
+    form: Form,
+) -> Result<(), AllocError> {
+    match form {
+        Form::DefaultMark => put_default(text, source.named.text, near),
+        Form::Let => put_let(text, near),
+        Form::HiddenName => put_hidden(text, near.here()),
+        Form::EmbeddedDefinition => put_embedded_definition(text, source.named.text, near),
+        Form::EmbeddedStruct => put_embedded_struct(alloc, text, near),
+        Form::Limit => put_limit(text, near, "a literal"),
+        Form::LimitKind => put_limit(text, near, limits_of(near.before(1))),
+        Form::TopLevelField => put_field_at_top(text, near.here()),
+        Form::FieldReference => put_field_reference(text, source.named.text, near),
+        Form::NotOpened => put_not_opened(alloc, text, sources, near),
+        _ => text.push_str(sentence_of(form)),
+    }
+}
+
+/// Puts that a default mark is left out, and what to write.
+fn put_default(text: &mut String, source: &[u8], near: Near<'_, '_>) -> Result<(), AllocError> {
+    text.push_str("default marks are left out; ")?;
+    let Some(field) = field_of(near) else {
+        return text.push_str("take it out");
+    };
+    if field.label.sort == Sort::Definition {
+        return text.push_str("take it out");
+    }
+    text.push_str("a document may leave the field out, so write `")?;
+    put_line(text, field.label.text)?;
+    text.push_str("?:")?;
+    match value_without(source, field, near.here()) {
+        Some((before, behind)) => {
+            let before = before.trim_ascii_start();
+            text.push(' ')?;
+            put_line(text, text_of(Some(before)))?;
+            let behind = if before.is_empty() {
+                behind.trim_ascii_start()
+            } else {
+                behind
+            };
+            put_line(text, text_of(Some(behind)))?;
+        }
+        None => text.push_str(" ..")?,
+    }
+    text.push('`')
+}
+
+/// Puts that `let` is left out, with the name behind the word.
+fn put_let(text: &mut String, near: Near<'_, '_>) -> Result<(), AllocError> {
+    let name = near.behind(1);
+    if name.sort != Sort::Name {
+        return text.push_str("`let` is left out");
+    }
+    let name = name.text;
+    put_all(
+        text,
+        &[
+            "`let` is left out; write `#",
+            name,
+            ": ..` at the top of a file, and `#",
+        ],
+    )?;
+    put_all(text, &[name, "` for `", name, "`"])
+}
+
+fn put_hidden(text: &mut String, name: Token<'_>) -> Result<(), AllocError> {
+    if name.text.starts_with("_#") {
+        return text.push_str(
+            "hidden definitions are left out: drop the `_`; only what the root reaches is exported anyway",
+        );
+    }
+    text.push_str("hidden fields are left out: documents don't have them, so take it out")
+}
+
+/// What the limit of a relation may be.
+fn limits_of(relation: Token<'_>) -> &'static str {
+    match relation.text {
+        "!=" => "an integer, a text or `null`",
+        _ => "an integer",
+    }
+}
+
+/// Puts what a limit has to be, with its relation.
+fn put_limit(text: &mut String, near: Near<'_, '_>, wanted: &str) -> Result<(), AllocError> {
+    let (before, first) = (near.before(1), near.before(2));
+    let relation = if before.text == "-" { first } else { before };
+    put_all(
+        text,
+        &["the limit of `", relation.text, "` has to be ", wanted],
+    )
+}
+
+/// Puts that a field is no definition.
+fn put_field_at_top(text: &mut String, label: Token<'_>) -> Result<(), AllocError> {
+    text.push_str("a field at the top of a file: a root is a definition")?;
+    if label.sort == Sort::Name {
+        put_all(text, &[", so write `#", label.text, ": ..`"])?;
+    }
+    Ok(())
+}

@@ -1,0 +1,153 @@
+// What is told of texts of JSON that are refused.
+use crate::keys::{Inner, pointer_of};
+use crate::spot::{Spot, Words};
+use crate::text::{put_code, put_grouped};
+use cs_tool::Named;
+use serde_json::Value;
+use std::alloc::{AllocError, Global};
+use std::str;
+
+/// How many pairs of a value and a rule are judged at most.
+const MOST_PAIRS: usize = 67_108_864;
+
+/// Where a text isn't JSON (20, 25).
+pub(crate) fn put_not_json<'a>(
+    alloc: Global,
+    text: &mut String,
+    named: Option<Named<'a>>,
+) -> Result<Spot<'a>, AllocError> {
+    let Some(named) = named else {
+        return Ok(Spot::nowhere());
+    };
+    if named.text.starts_with(&[0xef, 0xbb, 0xbf]) {
+        text.push_str("a byte order mark: save the file as UTF-8 without it")?;
+        return Ok(Spot::at(named, 0, 3));
+    }
+    match Value::from_slice(alloc, named.text) {
+        Err(error) if error.is_memory() => Err(AllocError),
+        Err(error) if error.is_eof() => {
+            text.push_str("the JSON ends too early")?;
+            let end = named.text.len();
+            Ok(Spot::at(named, end, end))
+        }
+        Err(error) => {
+            text.push_str("this is no JSON here, or nests more than 127 levels deep")?;
+            let offset = offset_of(named.text, error.line(), error.column());
+            Ok(Spot::at(named, offset, offset))
+        }
+        Ok(_) => Ok(Spot::in_file(named)),
+    }
+}
+
+/// The offset of a line and a column in bytes, which count from 1.
+fn offset_of(text: &[u8], line: usize, column: usize) -> usize {
+    let mut passed = 1usize;
+    for (at, byte) in text.iter().enumerate() {
+        if passed >= line {
+            return at.saturating_add(column).saturating_sub(1);
+        }
+        if *byte == b'\n' {
+            passed = passed.saturating_add(1);
+        }
+    }
+    text.len()
+}
+
+/// The first number of a text that isn't an integer of 64 signed bits (26), if there is one.
+pub(crate) fn put_not_integer<'a>(
+    alloc: Global,
+    words: &mut Words,
+    named: Option<Named<'a>>,
+) -> Result<Spot<'a>, AllocError> {
+    let Some(named) = named else {
+        return Ok(Spot::nowhere());
+    };
+    let mut inner = Inner::new(alloc);
+    let Some(offset) = other_number(named.text, &mut inner)? else {
+        return Ok(Spot::nowhere());
+    };
+    let rest = named.text.get(offset..).unwrap_or(&[]);
+    let number = rest.get(..number_len(rest)).unwrap_or(&[]);
+    words.pointer = Some(pointer_of(alloc, named.text, &inner)?);
+    put_code(&mut words.hint, str::from_utf8(number).unwrap_or(""))?;
+    words.hint.push_str(
+        " isn't an integer of 64 signed bits: write one without a fraction or an exponent",
+    )?;
+    Ok(Spot::at(named, offset, offset.saturating_add(number.len())))
+}
+
+/// The length of the number at the front of a text of JSON.
+fn number_len(text: &[u8]) -> usize {
+    text.iter()
+        .take_while(|byte| byte.is_ascii_digit()
+            || matches!(**byte, b'-' | b'+' | b'.' | b'e' | b'E'))
+        .count()
+}
+
+/// Where a text of JSON has the first number that isn't an integer of 64 signed bits; what it is inside of is then in `inner`.
+fn other_number(text: &[u8], inner: &mut Inner) -> Result<Option<usize>, AllocError> {
+    let mut past = 0;
+    for (at, byte) in text.iter().enumerate() {
+        let is_outside = inner.pass(at, *byte)?;
+        if is_outside && at >= past && (*byte == b'-' || byte.is_ascii_digit()) {
+            let number = text.get(at..).unwrap_or(&[]);
+            let len = number_len(number);
+            if !is_integer(number.get(..len).unwrap_or(&[])) {
+                return Ok(Some(at));
+            }
+            past = at.saturating_add(len);
+        }
+    }
+    Ok(None)
+}
+
+/// Whether a number is an integer of 64 signed bits, as JSON's readers see it.
+fn is_integer(number: &[u8]) -> bool {
+    match str::from_utf8(number) {
+        Ok("-0") | Err(_) => false,
+        Ok(number) => number.parse::<i64>().is_ok(),
+    }
+}
+
+/// How many values the document has, where there are too many pairs of one and a rule (27).
+pub(crate) fn put_too_many_pairs<'a>(
+    text: &mut String,
+    document: Option<Named<'a>>,
+) -> Result<Spot<'a>, AllocError> {
+    let Some(named) = document else {
+        return Ok(Spot::nowhere());
+    };
+    let count = values_of(named.text);
+    put_grouped(text, count)?;
+    text.push_str(" values, so that ")?;
+    put_grouped(text, MOST_PAIRS.checked_div(count).unwrap_or(MOST_PAIRS))?;
+    text.push_str(
+        " rules may be, and there are more: judge the parts of the document one by one, or split the package by roots",
+    )?;
+    Ok(Spot::in_file(named))
+}
+
+/// How many values a text of JSON has, without its keys.
+fn values_of(text: &[u8]) -> usize {
+    let mut count = 0usize;
+    let mut is_in_text = false;
+    let mut is_escaped = false;
+    let mut is_in_word = false;
+    for byte in text {
+        if is_in_text {
+            is_in_text = is_escaped || *byte != b'"';
+            is_escaped = *byte == b'\\' && !is_escaped;
+            continue;
+        }
+        let is_word = byte.is_ascii_alphanumeric() || matches!(*byte, b'-' | b'+' | b'.');
+        let begins = matches!(*byte, b'"' | b'{' | b'[') || is_word && !is_in_word;
+        if begins {
+            count = count.saturating_add(1);
+        } else if *byte == b':' {
+            count = count.saturating_sub(1);
+        }
+        is_in_text = *byte == b'"';
+        is_in_word = is_word;
+    }
+    count
+}

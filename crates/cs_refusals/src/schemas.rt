@@ -1,0 +1,168 @@
+// What is told of schemas that are refused.
+use crate::cycles::put_names_of_loop;
+use crate::spot::{Spot, Words};
+use crate::text::put_code;
+use cs_place::{Step, ValuePath, places};
+use cs_tool::{Fault, Named};
+use std::alloc::{AllocError, Global};
+
+/// What a step of a pointer into a schema leads to.
+#[derive(Clone, Copy, PartialEq, Eq)]
+enum Part {
+    Schema,
+    Names,
+    Elements,
+}
+
+/// Puts a key of a pointer with its escapes undone (RFC 6901, section 3).
+fn unescaped(alloc: Global, key: &str) -> Result<String, AllocError> {
+    let mut text = String::with_capacity(alloc, key.len())?;
+    let mut is_escaped = false;
+    for character in key.chars() {
+        match character {
+            '~' if !is_escaped => is_escaped = true,
+            '0' if is_escaped => {
+                text.push('~')?;
+                is_escaped = false;
+            }
+            '1' if is_escaped => {
+                text.push('/')?;
+                is_escaped = false;
+            }
+            _ => text.push(character)?,
+        }
+    }
+    Ok(text)
+}
+
+/// The keys of a pointer.
+fn keys_of(alloc: Global, pointer: &str) -> Result<Vec<String>, AllocError> {
+    let mut keys = Vec::new(alloc);
+    for key in pointer.split('/').skip(1) {
+        let key = unescaped(alloc, key)?;
+        keys.push(key)?;
+    }
+    Ok(keys)
+}
+
+/// What is under a keyword.
+fn part_under(keyword: &str) -> Part {
+    match keyword {
+        "properties" | "$defs" => Part::Names,
+        "allOf" | "anyOf" | "prefixItems" => Part::Elements,
+        _ => Part::Schema,
+    }
+}
+
+/// Where a value of a schema is in its text, by its keys: the offset of its key, or of the value where it has none.
+fn offset_of(alloc: Global, text: &[u8], keys: &[String]) -> Result<Option<usize>, AllocError> {
+    let mut paths = Vec::with_capacity(alloc, keys.len())?;
+    let mut part = Part::Schema;
+    let mut parent = None;
+    for (at, key) in keys.iter().enumerate() {
+        let step = match part {
+            Part::Elements => Step::Element(key.as_str().parse::<usize>().unwrap_or(0)),
+            _ => Step::Key(key.as_str()),
+        };
+        part = match part {
+            Part::Schema => part_under(key.as_str()),
+            _ => Part::Schema,
+        };
+        paths.push(ValuePath { parent, step })?;
+        parent = Some(at);
+    }
+    let found = places(alloc, text, &paths)?;
+    let last = found.last().copied().flatten();
+    Ok(last.map(|place| place.key.unwrap_or(place.value)))
+}
+
+/// What is told of a keyword, its value or a reference in a schema (21, 22, 23).
+pub(crate) fn put_schema_fault<'a>(
+    alloc: Global,
+    words: &mut Words,
+    schema: Option<Named<'a>>,
+    fault: &Fault,
+) -> Result<Spot<'a>, AllocError> {
+    match fault {
+        Fault::Keyword { place, name } => {
+            put_code(&mut words.hint, name.as_str())?;
+            words.hint.push_str(
+                " isn't in the profile: say it by other keywords, or take it out where it says nothing",
+            )?;
+            spot_of(alloc, words, schema, place.as_str(), name.as_str())
+        }
+        Fault::Shape { place, name } if name.is_empty() => {
+            words
+                .hint
+                .push_str("a schema is `true`, `false` or an object")?;
+            spot_of(alloc, words, schema, place.as_str(), "")
+        }
+        Fault::Shape { place, name } => {
+            words.hint.push_str("the value of ")?;
+            put_code(&mut words.hint, name.as_str())?;
+            words.hint.push_str(" has another form in the profile")?;
+            spot_of(alloc, words, schema, place.as_str(), name.as_str())
+        }
+        Fault::Reference { place, name } => {
+            words.hint.push_str("`$defs` doesn't have ")?;
+            put_code(&mut words.hint, name.as_str())?;
+            spot_of(alloc, words, schema, place.as_str(), "$ref")
+        }
+        _ => Ok(Spot::nowhere()),
+    }
+}
+
+/// The place of a keyword in the schema at a pointer, which is kept; that of the schema itself where the keyword is empty.
+fn spot_of<'a>(
+    alloc: Global,
+    words: &mut Words,
+    schema: Option<Named<'a>>,
+    pointer: &str,
+    keyword: &str,
+) -> Result<Spot<'a>, AllocError> {
+    words.pointer = Some(String::from_str(alloc, pointer)?);
+    let Some(schema) = schema else {
+        return Ok(Spot::nowhere());
+    };
+    let mut keys = keys_of(alloc, pointer)?;
+    if !keyword.is_empty() {
+        let keyword = String::from_str(alloc, keyword)?;
+        keys.push(keyword)?;
+    }
+    Ok(match offset_of(alloc, schema.text, &keys)? {
+        Some(offset) => Spot::at(schema, offset, text_end(schema.text, offset)),
+        None => Spot::in_file(schema),
+    })
+}
+
+/// The place behind the text of JSON that begins at an offset; the offset itself where none does.
+fn text_end(text: &[u8], offset: usize) -> usize {
+    let [b'"', rest @ ..] = text.get(offset..).unwrap_or(&[]) else {
+        return offset;
+    };
+    let mut is_escaped = false;
+    for (at, byte) in rest.iter().enumerate() {
+        if *byte == b'"' && !is_escaped {
+            return offset.saturating_add(at).saturating_add(2);
+        }
+        is_escaped = *byte == b'\\' && !is_escaped;
+    }
+    offset
+}
+
+/// What is told of definitions that refer to one another in a loop (24).
+pub(crate) fn put_loop<'a>(
+    alloc: Global,
+    words: &mut Words,
+    schema: Option<Named<'a>>,
+    names: &[String],
+) -> Result<Spot<'a>, AllocError> {
+    let Some(first) = names.first() else {
+        return Ok(Spot::nowhere());
+    };
+    put_names_of_loop(&mut words.hint, names, first.as_str())?;
+    words.hint.push_str(
+        ": put a reference under `properties`, `additionalProperties`, `prefixItems` or `items`, or take it out",
+    )?;
+    spot_of(alloc, words, schema, "/$defs", first.as_str())
+}

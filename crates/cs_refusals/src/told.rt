@@ -1,0 +1,146 @@
+// What is told of a refusal.
+use crate::advice::put_advice;
+use crate::chains::put_chain;
+use crate::cycles::put_cycle;
+use crate::documents::{put_not_integer, put_not_json, put_too_many_pairs};
+use crate::numbers::put_meaning;
+use crate::packages::{put_no_root, put_not_utf8, put_package_name, put_too_high, put_too_large};
+use crate::schemas::{put_loop, put_schema_fault};
+use crate::sources::Source;
+use crate::spot::{Spot, Words};
+use crate::text::put_line;
+use cs_forms::form_among;
+use cs_tool::{Fault, Named};
+use std::alloc::{AllocError, Global};
+use std::str;
+
+/// What a call was given, as far as it is known.
+#[derive(Clone, Copy)]
+pub struct About<'a> {
+    /// The sources in their order.
+    pub sources: &'a [Named<'a>],
+    /// The root as it was asked for.
+    pub root: &'a str,
+    pub schema: Option<Named<'a>>,
+    pub document: Option<Named<'a>>,
+    /// The file that could not be read, or was too long.
+    pub path: Option<&'a str>,
+    /// Why it could not be read, in words; empty where it isn't known.
+    pub cause: &'a str,
+    /// Files with their bytes, where they are too long together.
+    pub sizes: &'a [(&'a str, u64)],
+}
+
+/// Puts what is told of a fault, and gives its place. What isn't known is left out; then it is what the number means.
+pub(crate) fn put_told<'a>(
+    alloc: Global,
+    words: &mut Words,
+    fault: &Fault,
+    about: About<'a>,
+    root: &str,
+    sources: &[Source<'a, '_>],
+) -> Result<Spot<'a>, AllocError> {
+    let mut spot = put_at_token(alloc, words, fault, sources)?;
+    if words.hint.is_empty() {
+        spot = put_by_kind(alloc, words, fault, about, root, sources)?;
+    }
+    if words.hint.is_empty() && spot.named.is_none() {
+        spot = unread(about.path);
+        put_line(&mut words.hint, about.cause)?;
+    }
+    if words.hint.is_empty() {
+        put_meaning(&mut words.hint, fault.number())?;
+    }
+    Ok(spot)
+}
+
+/// The place of a fault of reading.
+fn unread<'a>(path: Option<&'a str>) -> Spot<'a> {
+    let text: &'a [u8] = &[];
+    match path {
+        Some(name) => Spot::in_file(Named {
+            name,
+            text,
+            line: 1,
+        }),
+        None => Spot::nowhere(),
+    }
+}
+
+/// Puts what is told of a fault with an offset, if there is anything.
+fn put_at_token<'a>(
+    alloc: Global,
+    words: &mut Words,
+    fault: &Fault,
+    sources: &[Source<'a, '_>],
+) -> Result<Spot<'a>, AllocError> {
+    let Some(source) = fault.file().and_then(|file| sources.get(file)) else {
+        return Ok(Spot::nowhere());
+    };
+    let Ok(whole) = str::from_utf8(source.named.text) else {
+        return Ok(Spot::in_file(source.named));
+    };
+    let Some(found) = form_among(whole, &source.tokens, fault) else {
+        return Ok(Spot::in_file(source.named));
+    };
+    put_advice(alloc, &mut words.hint, source, sources, found)?;
+    Ok(Spot {
+        form: Some(found.form),
+        ..Spot::at(source.named, found.start, found.end)
+    })
+}
+
+/// Puts what is told of another fault, if anything is known of it.
+fn put_by_kind<'a>(
+    alloc: Global,
+    words: &mut Words,
+    fault: &Fault,
+    about: About<'a>,
+    root: &str,
+    sources: &[Source<'a, '_>],
+) -> Result<Spot<'a>, AllocError> {
+    let text = &mut words.hint;
+    match fault {
+        Fault::NotUtf8 { file } => put_not_utf8(text, sources.get(*file)),
+        Fault::TooHigh { file } => put_too_high(alloc, text, sources.get(*file)),
+        Fault::PackageName { file } => put_package_name(text, sources, *file),
+        Fault::Cycle { names } => put_cycle(alloc, text, sources, names),
+        Fault::ChainTooLong => put_chain(alloc, text, sources),
+        Fault::UnknownRoot => put_no_root(alloc, text, sources, root),
+        Fault::TooLarge => put_too_large(alloc, text, sources),
+        Fault::TooManyPairs => put_too_many_pairs(text, about.document),
+        Fault::SchemaNotJson => put_not_json(alloc, text, about.schema),
+        Fault::NotJson => put_not_json(alloc, text, about.document),
+        Fault::NotInteger => put_other_number(alloc, words, about),
+        Fault::Loop { names } => put_loop(alloc, words, about.schema, names),
+        Fault::Keyword { .. } | Fault::Shape { .. } | Fault::Reference { .. } => {
+            put_schema_fault(alloc, words, about.schema, fault)
+        }
+        // A fault with an offset has its token, and the others have no place in a text.
+        Fault::SourcesTooLong
+        | Fault::NoToken { .. }
+        | Fault::Syntax { .. }
+        | Fault::LeftOut { .. }
+        | Fault::IntegerRange { .. }
+        | Fault::UnknownName { .. }
+        | Fault::FieldReference { .. }
+        | Fault::NotOpened { .. }
+        | Fault::OutOfMemory
+        | Fault::InputTooLong
+        | Fault::ReadFailed
+        | Fault::WriteFailed => Ok(Spot::nowhere()),
+    }
+}
+
+/// Puts which number of the schema or the document isn't an integer.
+fn put_other_number<'a>(
+    alloc: Global,
+    words: &mut Words,
+    about: About<'a>,
+) -> Result<Spot<'a>, AllocError> {
+    let spot = put_not_integer(alloc, words, about.schema)?;
+    if words.hint.is_empty() {
+        return put_not_integer(alloc, words, about.document);
+    }
+    Ok(spot)
+}

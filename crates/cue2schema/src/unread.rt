@@ -1,0 +1,121 @@
+// Which file could not be read, and why.
+use clap::ArgMatches;
+use cs_tool::{Fault, MOST_INPUT_BYTES};
+use std::alloc::AllocError;
+use std::fs::{File, metadata};
+use std::io::ErrorKind;
+
+/// A file that wasn't read, as far as it is known.
+#[derive(Clone, Copy)]
+pub(crate) struct Unread<'a> {
+    pub(crate) path: Option<&'a str>,
+    /// Why, in words; empty where it isn't known.
+    pub(crate) cause: &'a str,
+}
+
+impl<'a> Unread<'a> {
+    /// No file.
+    pub(crate) fn nothing() -> Unread<'a> {
+        Unread {
+            path: None,
+            cause: "",
+        }
+    }
+}
+
+/// The file that a fault of reading is about: the first one, in the order in which files are read, that can't be read or is too
+/// long. Nothing for other faults, and where it isn't found again. A pipe isn't opened again, since that may wait.
+pub(crate) fn unread_file<'a>(
+    rt: &HostRuntime,
+    fault: &Fault,
+    words: &ArgMatches<'a>,
+) -> Unread<'a> {
+    let schema = words.get_str("schema");
+    if let Some(found) = schema.and_then(|path| at_fault(rt, fault, path)) {
+        return found;
+    }
+    for path in words.get_strs("FILE").unwrap_or(&[]) {
+        if let Some(found) = at_fault(rt, fault, path) {
+            return found;
+        }
+    }
+    let document = words.get_str("doc");
+    let found = document.and_then(|path| at_fault(rt, fault, path));
+    found.unwrap_or(Unread::nothing())
+}
+
+/// A file, where a fault of reading is about it.
+fn at_fault<'a>(rt: &HostRuntime, fault: &Fault, path: &'a str) -> Option<Unread<'a>> {
+    let cause = match fault {
+        Fault::ReadFailed => cause_of(rt, path)?,
+        Fault::InputTooLong if is_too_long(rt, path) => "",
+        _ => return None,
+    };
+    Some(Unread {
+        path: Some(path),
+        cause,
+    })
+}
+
+/// Why a file can't be read; none where it can.
+fn cause_of(rt: &HostRuntime, path: &str) -> Option<&'static str> {
+    match metadata(rt, path) {
+        Err(error) => Some(said_of(error.kind())),
+        Ok(found) if found.is_dir() => Some("this is a folder"),
+        Ok(found) if found.is_file() => match File::open(rt, path) {
+            Ok(_) => None,
+            Err(error) => Some(said_of(error.kind())),
+        },
+        Ok(_) => None,
+    }
+}
+
+/// What is said of an error.
+fn said_of(kind: ErrorKind) -> &'static str {
+    match kind {
+        ErrorKind::NotFound => "no such file",
+        ErrorKind::PermissionDenied => "no right to read it",
+        _ => "it can't be read: look at the path and its rights",
+    }
+}
+
+/// The sources with their bytes, where they are too long together, or the file that is too long; none that isn't a regular file.
+pub(crate) fn sizes_of<'a>(
+    rt: &HostRuntime,
+    fault: &Fault,
+    unread: Unread<'a>,
+    words: &ArgMatches<'a>,
+) -> Result<Vec<(&'a str, u64)>, AllocError> {
+    let mut sizes = Vec::new(rt.alloc());
+    match (fault, unread.path) {
+        (Fault::SourcesTooLong, _) => {
+            for path in words.get_strs("FILE").unwrap_or(&[]) {
+                add_size(rt, path, &mut sizes)?;
+            }
+        }
+        (Fault::InputTooLong, Some(path)) => add_size(rt, path, &mut sizes)?,
+        _ => {}
+    }
+    Ok(sizes)
+}
+
+/// Adds a file with its bytes, where it is a regular one.
+fn add_size<'a>(
+    rt: &HostRuntime,
+    path: &'a str,
+    sizes: &mut Vec<(&'a str, u64)>,
+) -> Result<(), AllocError> {
+    if let Ok(found) = metadata(rt, path) {
+        if found.is_file() {
+            sizes.push((path, found.len()))?;
+        }
+    }
+    Ok(())
+}
+
+fn is_too_long(rt: &HostRuntime, path: &str) -> bool {
+    match metadata(rt, path) {
+        Ok(found) => found.is_file() && found.len() > MOST_INPUT_BYTES as u64,
+        Err(_) => false,
+    }
+}
