@@ -10,7 +10,7 @@ use cs_flat::Item;
 use cs_package::{Kind, Relation, Shape};
 
 /// Whether a value is an instance of an expression that looks at no part. No value is taken for one of the others.
-pub(crate) fn holds_simply(shape: &Shape, value: &Item<'_>) -> bool
+pub fn holds_simply(shape: &Shape, value: &Item<'_>) -> bool
     ensures { result ≡ test_of (expression_of [] shape.now) (outline (item_view value.now)) }
 {
     match shape {

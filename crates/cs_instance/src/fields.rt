@@ -8,7 +8,7 @@ use std::alloc::{AllocError, Global};
 /// The declarations of a struct literal.
 #[derive(Drop)]
 pub struct Fields<'a> {
-    pub(crate) all: Vec<Field<'a>>,
+    pub all: Vec<Field<'a>>,
     /// Their labels in order, so that a key is looked up by halving.
     labels: Vec<&'a str>,
     /// Whether one of them is `[string]`.

@@ -19,10 +19,12 @@ mod numbering;
 mod rules;
 mod steps;
 
+pub use atoms::holds_simply;
 pub use cause::InstanceCause;
 pub use explaining::{Want, Wanted};
 pub use fault::InstanceFault;
 pub use judge::InstanceJudge;
 pub use judging::{instance_judge, instance_table, instance_verdict, is_instance};
 pub use laws::{one_meaning, reasons_hold};
-pub use numbered::{RootRules, root_rules};
+pub use numbered::{NumberedRoot, RootRules, numbered_root, root_rules};
+pub use rules::{Ending, Field, Rule};

@@ -15,19 +15,19 @@ use std::marker::Model;
 
 /// A root with the rules of all that it reaches, numbered.
 #[derive(Drop)]
-pub(crate) struct NumberedRoot<'a> {
+pub struct NumberedRoot<'a> {
     /// The root's number among the definitions.
-    pub(crate) definition: usize,
-    pub(crate) numbering: Numbering<rules::Rule<'a>>,
+    pub definition: usize,
+    pub numbering: Numbering<rules::Rule<'a>>,
     /// The number of the root's rule.
-    pub(crate) number: usize,
+    pub number: usize,
 }
 
 /// Numbers the rules that the root reaches, a definition of the package named with its `#`.
 ///
 /// # Errors
 /// `UnknownRoot` exactly where the package doesn't declare the root.
-pub(crate) fn numbered_root<'a>(
+pub fn numbered_root<'a>(
     alloc: Global,
     package: &'a Guarded,
     root: &str,

@@ -17,9 +17,9 @@ pub enum Rule<'a> {
 /// A declaration of a struct literal, with the place of its value's rule.
 #[derive(Drop)]
 pub struct Field<'a> {
-    pub(crate) label: &'a str,
-    pub(crate) mark: FieldMark,
-    pub(crate) value: usize,
+    pub label: &'a str,
+    pub mark: FieldMark,
+    pub value: usize,
 }
 
 /// What follows the fixed elements of a list: nothing, anything, or instances of the rule at a place.

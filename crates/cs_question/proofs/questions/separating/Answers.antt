@@ -1,0 +1,30 @@
+use Rattle.std.proofs.Common.{◌≡◌, true, map, sym, ap, ap₂, ◌∙◌, subst}
+use Rattle.cs_guard.specs.Numbered.{name_of}
+use Rattle.cs_instance.specs.Instance.{definition}
+use Rattle.cs_instance.specs.Steps.{numbered}
+use Rattle.cs_question.specs.declared.nodes.Nodes.{Nodes}
+use Rattle.cs_question.specs.Truth.{IsShut}
+use Rattle.cs_question.proofs.Rooted.{same_name, no_separating}
+use Rattle.cs_question.proofs.questions.separating.Goals as goal
+
+pub returns-then-has_none-clause-none : goal.returns-then-has_none-clause-none
+returns-then-has_none-clause-none c = λ e I J n m x i j named other d sep.
+    let E = c.args.admitting.now in
+    let F = c.args.refusing.now in
+    let one = c.in_ok-first.first in
+    let two = c.in_ok-second.second in
+    let name = name_of E one.definition in
+    let name' = name_of F two.definition in
+    let ns : Nodes = record { admitting = c.in_ok-nodes_of.field-0; refusing = c.in_ok-nodes_of-2.field-0 } in
+    let table = c.in_ok-table.table in
+    let asked = c.in_ok-asked.asked.items in
+    let first = c.in_ok-nodes_of.ensures ∙ ap₂ (λ inner rules. map (numbered inner) rules) c.deref-2.ensures.value c.deref.ensures.value in
+    let second = c.in_ok-nodes_of-2.ensures ∙ ap₂ (λ inner rules. map (numbered inner) rules) c.deref-4.ensures.value c.deref-3.ensures.value in
+    let shut = subst (IsShut table.entries.items) c.deref-6.ensures.value (c.has_none.ensures c.if-has_none.true) in
+    no_separating E name one.numbering.rules.items one.numbering.children.items one.number c.in_ok-first.ensures.rooted I i ns table c.in_ok-table.ensures.ended c.in_ok-table.ensures.rest asked shut first
+    F name' two.numbering.rules.items two.numbering.children.items two.number c.in_ok-second.ensures.rooted J j second c.in_ok-asked.ensures x d
+    (ap (λ k. I (definition k) x) (same_name E c.args.admitting_root.now name n c.in_ok-first.ensures.named named) ∙ sep.0.0)
+    (ap (λ k. J (definition k) x) (same_name F c.args.refusing_root.now name' m c.in_ok-second.ensures.named other) ∙ sep.1.0)
+
+pub returns-then-branch-2-clause-one : goal.returns-then-branch-2-clause-one
+returns-then-branch-2-clause-one c = λ I J n m i j named other. ((c.in_ok-is_judged.ensures c.if-branch.true I n i named, tt), (c.in_ok-is_judged-2.ensures c.if-branch-2.true J m j other, tt))

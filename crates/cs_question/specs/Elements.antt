@@ -1,0 +1,32 @@
+-- What a list literal asks of a place.
+use Rattle.std.specs.Prelude.{◌≡◌, ◌≤◌, ℕ, zero, suc, Bool, true, false, List, [], ◌∷◌, length}
+use Rattle.cs_document.specs.Document.{Document, Documents, list, elements, IsDocument, depth}
+use Rattle.cs_instance.specs.Constraint.{Rest, nothing, anything, each}
+use Rattle.cs_question.specs.declared.literal.Literal.{Literal}
+use Rattle.cs_question.specs.declared.nodes.Nodes.{Nodes}
+use Rattle.cs_question.specs.declared.table.Table.{Table}
+use Rattle.cs_question.specs.Asked.{meets_all}
+use Rattle.cs_question.specs.Nodes.{IsMeaning}
+use Rattle.cs_question.specs.Truth.{Truth}
+use Rattle.cs_question.specs.declared.lists.Element.{Element}
+use Rattle.cs_question.specs.declared.lists.Element.TheVariants.{Nothing, Anything, Each}
+
+abbrev pub element_behind : Rest ℕ → Element
+element_behind nothing = Nothing
+element_behind anything = Anything
+element_behind (each e) = Each e
+
+abbrev pub element_at : List ℕ → Rest ℕ → ℕ → Element
+element_at [] rest i = element_behind rest
+element_at (e ∷ es) rest zero = Each e
+element_at (e ∷ es) rest (suc i) = element_at es rest i
+
+-- whether a document is as asked there
+abbrev pub fits : (Document → ℕ → Bool) → Element → Document → Bool
+fits inside Nothing y = false
+fits inside Anything y = true
+fits inside (Each e) y = inside y e
+
+-- no list of such a length is all that is asked
+abbrev pub NoLength : Nodes → Table → List Literal → (ℕ → Type 0) → Type 0
+NoLength ns table ls P = table.is_final ≡ true → (t : Truth table.entries.items) → IsMeaning ns t.J → (ds : Documents) → IsDocument (list ds) → depth (list ds) ≤ t.n → P (length (elements ds)) → meets_all t.J (list ds) ls ≡ true → ⊥

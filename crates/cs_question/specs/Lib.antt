@@ -1,0 +1,10 @@
+-- What a question asks.
+pub mod Separates
+-- for contracts of private functions and proofs alone
+pub mod Nodes
+pub mod Asked
+pub mod Outlines
+pub mod Truth
+pub mod Cases
+pub mod Spread
+pub mod Elements

@@ -1,0 +1,207 @@
+// The cases of a question: what is asked of the same document is opened, alternative by alternative.
+ghost use Rattle.std.specs.Prelude.{◌≡◌, ◌<◌, true, IfOk, IfSome, IsNone, IsTrue, OnOk, length, slice_get, Some};
+ghost use Rattle.std.specs.List.{list_all, list_any};
+ghost use Rattle.cs_document.specs.Document.{Document};
+ghost use Rattle.cs_question.specs.Asked.{meets, meets_all};
+ghost use Rattle.cs_question.specs.Cases.{IsCovered, Continues, Covers};
+ghost use Rattle.cs_question.specs.Nodes.{Judgement, IsMeaning};
+ghost use Rattle.cs_question.specs.Truth.{NoDocument};
+
+use crate::effort::{Effort, MOST_STEPS};
+use crate::fault::QuestionFault;
+use crate::found::Found;
+use crate::leaves::document_of;
+use crate::literal::{Literal, add, are_same, part_of, without};
+use crate::nodes::{Node, Nodes};
+use crate::table::Table;
+use std::alloc::{AllocError, Global};
+
+/// A case: what is asked, and the last of it that is opened next.
+#[derive(Drop, PartialEq, Eq, PartialOrd, Ord)]
+struct Case {
+    opened: Option<Literal>,
+    asked: Vec<Literal>,
+}
+
+/// Whether a rule asks others of the same document.
+fn has_parts(nodes: &Nodes<'_>, literal: Literal) -> bool {
+    matches!(nodes.of(literal), Some(Node::All(_)) | Some(Node::Any(_)))
+}
+
+/// The place of the last rule that asks others of the same document.
+fn last_with_parts(nodes: &Nodes<'_>, asked: &[Literal]) -> Option<usize> {
+    let mut last = None;
+    for (place, literal) in asked.iter().enumerate() {
+        if has_parts(nodes, *literal) {
+            last = Some(place);
+        }
+    }
+    last
+}
+
+/// Whether a rule is to be met and not to be met.
+fn is_contrary(asked: &[Literal]) -> bool
+    ensures { IsTrue result → (J : Judgement) (x : Document) → meets_all J x asked.now ≡ true → ⊥ }
+{
+    for i in 1..asked.len() {
+        let first = asked[i - 1];
+        let second = asked[i];
+        if first.side == second.side && first.rule == second.rule && first.holds != second.holds {
+            return true;
+        }
+    }
+    false
+}
+
+/// Whether the case at a place asks the same.
+fn is_at(cases: &[Case], place: usize, asked: &[Literal]) -> bool
+    ensures { IsTrue result → Covers asked.now cases.now }
+{
+    match cases.get(place) {
+        Some(case) => are_same(&case.asked, asked),
+        None => false,
+    }
+}
+
+/// Puts a case among the others, in order, unless it is there.
+fn put(nodes: &Nodes<'_>, cases: &mut Vec<Case>, asked: Vec<Literal>) -> Result<(), AllocError>
+    ensures kept { OnOk result (Continues cases.old.items cases.new.items) }
+    ensures there { OnOk result (Covers asked.items cases.new.items) }
+{
+    let opened = match last_with_parts(nodes, &asked) {
+        Some(place) => asked.get(place).copied(),
+        None => None,
+    };
+    let case = Case { opened, asked };
+    let place = match cases.binary_search(&case) {
+        Ok(place) => {
+            if is_at(cases, place, &case.asked) {
+                return Ok(());
+            }
+            place
+        }
+        Err(place) => place,
+    };
+    cases.insert(place, case)?;
+    Ok(())
+}
+
+/// Puts the one case in which all parts of a rule are as it is.
+fn put_all(
+    nodes: &Nodes<'_>,
+    cases: &mut Vec<Case>,
+    mut asked: Vec<Literal>,
+    literal: Literal,
+    parts: &[usize],
+) -> Result<(), AllocError>
+    ensures kept { OnOk result (Continues cases.old.items cases.new.items) }
+    ensures there { OnOk result ((J : Judgement) (x : Document) → meets_all J x asked.items ≡ true
+        → list_all (λ p. meets J x (record literal { rule = p })) parts.now ≡ true
+        → IsCovered J x cases.new.items) }
+{
+    for part in parts {
+        add(&mut asked, part_of(literal, *part))?;
+    }
+    if is_contrary(&asked) {
+        return Ok(());
+    }
+    put(nodes, cases, asked)
+}
+
+/// Puts a case for each part of a rule, in which that is as the rule is.
+fn put_each(
+    alloc: Global,
+    nodes: &Nodes<'_>,
+    cases: &mut Vec<Case>,
+    asked: &[Literal],
+    literal: Literal,
+    parts: &[usize],
+) -> Result<(), AllocError>
+    ensures kept { OnOk result (Continues cases.old.items cases.new.items) }
+    ensures there { OnOk result ((J : Judgement) (x : Document) → meets_all J x asked.now ≡ true
+        → list_any (λ p. meets J x (record literal { rule = p })) parts.now ≡ true
+        → IsCovered J x cases.new.items) }
+{
+    for part in parts {
+        let mut one = Vec::from_slice(alloc, asked)?;
+        add(&mut one, part_of(literal, *part))?;
+        if !is_contrary(&one) {
+            put(nodes, cases, one)?;
+        }
+    }
+    Ok(())
+}
+
+/// Opens what is asked at a place.
+fn open(
+    alloc: Global,
+    nodes: &Nodes<'_>,
+    cases: &mut Vec<Case>,
+    asked: &[Literal],
+    place: usize,
+    literal: Literal,
+) -> Result<(), AllocError>
+    requires { slice_get asked.now place ≡ Some literal }
+    ensures kept { OnOk result (Continues cases.old.items cases.new.items) }
+    ensures there { OnOk result ((J : Judgement) (x : Document) → IsMeaning nodes.now J
+        → meets_all J x asked.now ≡ true → IsCovered J x cases.new.items) }
+{
+    let rest = without(alloc, asked, place)?;
+    match nodes.of(literal) {
+        Some(Node::All(parts)) if literal.holds => put_all(nodes, cases, rest, literal, parts),
+        Some(Node::All(parts)) => put_each(alloc, nodes, cases, &rest, literal, parts),
+        Some(Node::Any(parts)) if literal.holds => {
+            put_each(alloc, nodes, cases, &rest, literal, parts)
+        }
+        Some(Node::Any(parts)) => put_all(nodes, cases, rest, literal, parts),
+        Some(Node::Simple(_)) | Some(Node::Struct { .. }) | Some(Node::List { .. }) | None => {
+            put(nodes, cases, rest)
+        }
+    }
+}
+
+/// A document that is all that is asked.
+///
+/// # Errors
+/// `TooManyCases` where a limit is met.
+pub(crate) fn found_for<'a>(
+    alloc: Global,
+    nodes: &Nodes<'a>,
+    table: &Table<'_>,
+    asked: &[Literal],
+    effort: &mut Effort,
+) -> Result<Option<Found<'a>>, QuestionFault>
+    ensures { IfOk result (λ o. IsNone o → NoDocument nodes.now table.now asked.now) }
+{
+    let mut cases = Vec::new(alloc);
+    put(nodes, &mut cases, Vec::from_slice(alloc, asked)?)?;
+    for _ in 0..MOST_STEPS {
+        let Some(case) = cases.pop() else {
+            return Ok(None);
+        };
+        effort.step()?;
+        match opened_at(nodes, &case.asked) {
+            Some((place, literal)) => {
+                open(alloc, nodes, &mut cases, &case.asked, place, literal)?;
+            }
+            None => {
+                let found = document_of(alloc, nodes, table, &case.asked, effort)?;
+                if found.is_some() {
+                    return Ok(found);
+                }
+            }
+        }
+    }
+    Err(QuestionFault::TooManyCases)
+}
+
+/// What is opened next, and its place.
+fn opened_at(nodes: &Nodes<'_>, asked: &[Literal]) -> Option<(usize, Literal)>
+    ensures { IfSome result (λ t. slice_get asked.now t.0 ≡ Some t.1) }
+{
+    let place = last_with_parts(nodes, asked)?;
+    match asked.get(place) {
+        Some(literal) => Some((place, *literal)),
+        None => None,
+    }
+}

@@ -1,0 +1,297 @@
+// The search for ways in which a list or a map fails to meet rules.
+ghost use Rattle.std.specs.Prelude.{◌≡◌, ℕ, true, IfOk, IfSome, IsNone, IsTrue, OnOk};
+ghost use Rattle.std.specs.List.{AllByRecursion};
+ghost use Rattle.cs_question.specs.Nodes.{Judgement};
+ghost use Rattle.cs_question.specs.Spread.{Spread, SomeOf, HoldsPlaces, HoldsState, HoldsFurther, AreTaken, IsTaken, IsBehind};
+ghost use Rattle.cs_question.specs.Truth.{Truth};
+
+use crate::effort::{Effort, MOST_STEPS};
+use crate::fault::QuestionFault;
+use crate::literal::Literal;
+use crate::places::{Further, Place, Way};
+use crate::state::State;
+use crate::table::Table;
+use crate::ways::{free, is_dead, is_open, taken};
+use std::alloc::{AllocError, Global};
+
+fn copy_places<'a>(alloc: Global, places: &[Place<'a>]) -> Result<Vec<Place<'a>>, AllocError>
+    ensures { IfOk result (λ v. (J : Judgement) (n : ℕ) (s : Spread) → HoldsPlaces J n s places.now
+        → HoldsPlaces J n s v.items) }
+{
+    let mut copies = Vec::with_capacity(alloc, places.len())?;
+    for place in places {
+        copies.push(place.copy(alloc)?)?;
+    }
+    Ok(copies)
+}
+
+fn copy_questions(
+    alloc: Global,
+    questions: &[Vec<Literal>],
+) -> Result<Vec<Vec<Literal>>, AllocError> {
+    let mut copies = Vec::with_capacity(alloc, questions.len() + 1)?;
+    for question in questions {
+        copies.push(Vec::from_slice(alloc, question)?)?;
+    }
+    Ok(copies)
+}
+
+/// Whether nothing can be as some place asks.
+fn has_dead(
+    alloc: Global,
+    table: &Table<'_>,
+    places: &[Place<'_>],
+    effort: &mut Effort,
+) -> Result<bool, AllocError>
+    ensures { IfOk result (λ b. IsTrue b → table.now.is_final ≡ true
+        → (t : Truth table.now.entries.items) (s : Spread) → HoldsPlaces t.J t.n s places.now → ⊥) }
+{
+    for place in places {
+        if is_dead(alloc, table, place, effort)? {
+            return Ok(true);
+        }
+    }
+    Ok(false)
+}
+
+/// The first way that needs none of the places, as what is asked of the value.
+fn first_free(
+    alloc: Global,
+    table: &Table<'_>,
+    further: &Further,
+    ways: &[Way<'_>],
+    effort: &mut Effort,
+) -> Result<Option<Vec<Literal>>, AllocError>
+    ensures { IfOk result (λ o. IsNone o → table.now.is_final ≡ true
+        → (t : Truth table.now.entries.items) (s : Spread) → HoldsFurther t.J t.n s further.now
+        → SomeOf (λ way. IsBehind way × IsTaken t.J s way) ways.now → ⊥) }
+{
+    for way in ways {
+        let found = free(alloc, table, further, way, effort)?;
+        if found.is_some() {
+            return Ok(found);
+        }
+    }
+    Ok(None)
+}
+
+/// How many of the ways are open, counted no further than to a number.
+fn count_open(
+    alloc: Global,
+    table: &Table<'_>,
+    state: &State<'_>,
+    further: &Further,
+    ways: &[Way<'_>],
+    most: usize,
+    effort: &mut Effort,
+) -> Result<usize, AllocError> {
+    if first_free(alloc, table, further, ways, effort)?.is_some() {
+        return Ok(1);
+    }
+    let mut count = 0;
+    for way in ways {
+        if count >= most {
+            return Ok(count);
+        }
+        if is_open(alloc, table, &state.places, way, effort)? {
+            count += 1;
+        }
+    }
+    Ok(count)
+}
+
+/// The place among the rules left of the one with the fewest open ways.
+fn pick(
+    alloc: Global,
+    table: &Table<'_>,
+    state: &State<'_>,
+    further: &Further,
+    rules: &[Vec<Way<'_>>],
+    effort: &mut Effort,
+) -> Result<Option<usize>, AllocError> {
+    let mut best = None;
+    let mut least = usize::MAX;
+    for (place, rule) in state.left.iter().enumerate() {
+        let Some(ways) = rules.get(*rule) else {
+            continue;
+        };
+        let count = count_open(alloc, table, state, further, ways, least, effort)?;
+        if count < least {
+            least = count;
+            best = Some(place);
+        }
+        if count == 0 {
+            return Ok(best);
+        }
+    }
+    Ok(best)
+}
+
+fn left_without(alloc: Global, left: &[usize], place: usize) -> Result<Vec<usize>, AllocError> {
+    let mut rest = Vec::with_capacity(alloc, left.len())?;
+    for (i, rule) in left.iter().enumerate() {
+        if i != place {
+            rest.push(*rule)?;
+        }
+    }
+    Ok(rest)
+}
+
+/// Puts the state with a value more at none of the places.
+fn push_free<'a>(
+    alloc: Global,
+    state: &State<'a>,
+    left: Vec<usize>,
+    asked: Vec<Literal>,
+    states: &mut Vec<State<'a>>,
+) -> Result<(), AllocError>
+    ensures { OnOk result ((J : Judgement) (n : ℕ) (s : Spread)
+        → (SomeOf (HoldsState J n s) states.old.items → SomeOf (HoldsState J n s) states.new.items)
+        × (HoldsState J n s state.now → SomeOf (HoldsState J n s) states.new.items)) }
+{
+    let mut further = copy_questions(alloc, &state.further)?;
+    further.push(asked)?;
+    states.push(State {
+        places: copy_places(alloc, &state.places)?,
+        left,
+        further,
+    })?;
+    Ok(())
+}
+
+/// Puts a state for each open way of one rule.
+fn push_ways<'a>(
+    alloc: Global,
+    table: &Table<'_>,
+    state: &State<'a>,
+    left: &[usize],
+    ways: &[Way<'a>],
+    states: &mut Vec<State<'a>>,
+    effort: &mut Effort,
+) -> Result<(), AllocError>
+    ensures { OnOk result (table.now.is_final ≡ true
+        → (t : Truth table.now.entries.items) (s : Spread)
+        → (SomeOf (HoldsState t.J t.n s) states.old.items
+        → SomeOf (HoldsState t.J t.n s) states.new.items)
+        × (HoldsState t.J t.n s state.now
+        → SomeOf (λ way. (IsBehind way → ⊥) × IsTaken t.J s way) ways.now
+        → SomeOf (HoldsState t.J t.n s) states.new.items)) }
+{
+    for way in ways {
+        if let Way::Behind(_) = way {
+            continue;
+        }
+        match taken(alloc, table, &state.places, way, effort)? {
+            Some(places) => states.push(State {
+                places,
+                left: Vec::from_slice(alloc, left)?,
+                further: copy_questions(alloc, &state.further)?,
+            })?,
+            None => {}
+        }
+    }
+    Ok(())
+}
+
+/// Puts the states that a rule's ways make of a state.
+fn push_states<'a>(
+    alloc: Global,
+    table: &Table<'_>,
+    state: &State<'a>,
+    place: usize,
+    further: &Further,
+    ways: &[Way<'a>],
+    states: &mut Vec<State<'a>>,
+    effort: &mut Effort,
+) -> Result<(), AllocError>
+    ensures { OnOk result (table.now.is_final ≡ true
+        → (t : Truth table.now.entries.items) (s : Spread)
+        → (SomeOf (HoldsState t.J t.n s) states.old.items
+        → SomeOf (HoldsState t.J t.n s) states.new.items)
+        × (HoldsState t.J t.n s state.now → HoldsFurther t.J t.n s further.now
+        → AreTaken t.J s ways.now → SomeOf (HoldsState t.J t.n s) states.new.items)) }
+{
+    let left = left_without(alloc, &state.left, place)?;
+    match first_free(alloc, table, further, ways, effort)? {
+        Some(asked) => push_free(alloc, state, left, asked, states),
+        None => push_ways(alloc, table, state, &left, ways, states, effort),
+    }
+}
+
+fn first_state<'a>(
+    alloc: Global,
+    places: &[Place<'a>],
+    rules: usize,
+) -> Result<State<'a>, AllocError>
+    ensures { IfOk result (λ v. (J : Judgement) (n : ℕ) (s : Spread) → HoldsPlaces J n s places.now
+        → HoldsState J n s v) }
+{
+    let mut left = Vec::with_capacity(alloc, rules)?;
+    for rule in 0..rules {
+        left.push(rule)?;
+    }
+    Ok(State {
+        places: copy_places(alloc, places)?,
+        left,
+        further: Vec::new(alloc),
+    })
+}
+
+/// A choice of one way for each rule, such that there can be values as all places ask.
+///
+/// # Errors
+/// `TooManyCases` where a limit is met.
+pub(crate) fn choice<'a>(
+    alloc: Global,
+    table: &Table<'_>,
+    places: &[Place<'a>],
+    further: &Further,
+    rules: &[Vec<Way<'a>>],
+    effort: &mut Effort,
+) -> Result<Option<State<'a>>, QuestionFault>
+    ensures { IfOk result (λ o. IsNone o → table.now.is_final ≡ true
+        → (t : Truth table.now.entries.items) (s : Spread) → HoldsPlaces t.J t.n s places.now
+        → HoldsFurther t.J t.n s further.now
+        → AllByRecursion (λ w. AreTaken t.J s w.items) rules.now → ⊥) }
+{
+    if has_dead(alloc, table, places, effort)? {
+        return Ok(None);
+    }
+    let mut states = Vec::new(alloc);
+    states.push(first_state(alloc, places, rules.len())?)?;
+    for _ in 0..MOST_STEPS {
+        let Some(state) = states.pop() else {
+            return Ok(None);
+        };
+        effort.step()?;
+        let Some(place) = pick(alloc, table, &state, further, rules, effort)? else {
+            return Ok(Some(state));
+        };
+        let Some(ways) = ways_of(rules, &state.left, place) else {
+            return Ok(Some(state));
+        };
+        push_states(
+            alloc,
+            table,
+            &state,
+            place,
+            further,
+            ways,
+            &mut states,
+            effort,
+        )?;
+    }
+    Err(QuestionFault::TooManyCases)
+}
+
+/// The ways of one of the rules left.
+fn ways_of<'r, 'a>(rules: &'r [Vec<Way<'a>>], left: &[usize], place: usize) -> Option<&'r [Way<'a>]>
+    ensures { IfSome result (λ ways. (J : Judgement) (s : Spread)
+        → AllByRecursion (λ w. AreTaken J s w.items) rules.now → AreTaken J s ways.now) }
+{
+    let rule = left.get(place)?;
+    match rules.get(*rule) {
+        Some(ways) => Some(ways.as_slice()),
+        None => None,
+    }
+}

@@ -1,0 +1,455 @@
+// A list that is all that is asked.
+ghost use Rattle.std.specs.Prelude.{◌≡◌, ◌<◌, ◌≤◌, ℕ, List, true, false, length, drop, slice_get, Some, IfOk, IsNone, IsTrue, OnOk};
+ghost use Rattle.std.specs.List.{AllByRecursion};
+ghost use Rattle.cs_document.specs.Document.{Document, Documents, list, elements};
+ghost use Rattle.cs_instance.specs.Constraint.{elements_hold};
+ghost use Rattle.cs_question.specs.Asked.{meets, meets_all};
+ghost use Rattle.cs_question.specs.Elements.{element_at, element_behind, fits, NoLength};
+ghost use Rattle.cs_question.specs.Nodes.{Judgement, IsMeaning, end_of};
+ghost use Rattle.cs_question.specs.Spread.{HoldsPlace, HoldsPlaces, HoldsFurther, IsFurther, AreTaken, AddsWays, spread_list};
+ghost use Rattle.cs_question.specs.Truth.{NoList, IsInner};
+
+use crate::choice::choice;
+use crate::effort::Effort;
+use crate::fault::QuestionFault;
+use crate::found::Found;
+use crate::literal::{Literal, add, part_of};
+use crate::nodes::{Node, NodeEnd, Nodes};
+use crate::places::{Further, Key, Place, Way};
+use crate::scalars::may_meet_all;
+use crate::state::State;
+use crate::table::Table;
+use cs_flat::Item;
+use std::alloc::{AllocError, Global};
+
+/// What a list literal asks of a place: nothing can be there, anything, or an instance of a rule.
+#[derive(Clone, Copy)]
+enum Element {
+    Nothing,
+    Anything,
+    Each(usize),
+}
+
+/// What it asks of what is behind its front.
+fn behind(end: NodeEnd) -> Element
+    ensures { result ≡ element_behind (end_of end) }
+{
+    match end {
+        NodeEnd::Closed => Element::Nothing,
+        NodeEnd::Any => Element::Anything,
+        NodeEnd::Each(rule) => Element::Each(rule),
+    }
+}
+
+fn element_in(front: &[usize], end: NodeEnd, place: usize) -> Element
+    ensures { result ≡ element_at front.now (end_of end) place }
+{
+    match front.get(place) {
+        Some(rule) => Element::Each(*rule),
+        None => behind(end),
+    }
+}
+
+/// The longest front of the rules.
+fn longest_front(nodes: &Nodes<'_>, asked: &[Literal]) -> usize {
+    let mut longest = 0;
+    for literal in asked {
+        if let Some(Node::List { front, .. }) = nodes.of(*literal) {
+            if front.len() > longest {
+                longest = front.len();
+            }
+        }
+    }
+    longest
+}
+
+/// Whether one rule is met by longer lists alone.
+fn asks_for_more(nodes: &Nodes<'_>, literal: Literal, count: usize) -> bool
+    ensures { IsTrue result → (J : Judgement) (ds : Documents) → IsMeaning nodes.now J
+        → meets J (list ds) literal ≡ true → count < length (elements ds) }
+{
+    match nodes.of(literal) {
+        Some(Node::List { front, .. }) => literal.holds && front.len() > count,
+        _ => false,
+    }
+}
+
+/// Whether a rule that is met asks for more than so many elements.
+fn some_ask_for_more(nodes: &Nodes<'_>, asked: &[Literal], count: usize) -> bool
+    ensures { IsTrue result → (J : Judgement) (ds : Documents) → IsMeaning nodes.now J
+        → meets_all J (list ds) asked.now ≡ true → count < length (elements ds) }
+{
+    for literal in asked {
+        if asks_for_more(nodes, *literal, count) {
+            return true;
+        }
+    }
+    false
+}
+
+/// Adds what is asked of an element.
+fn ask_element(further: &mut Further, literal: Literal, element: Element) -> Result<(), AllocError>
+    requires { literal.holds ≡ true }
+    ensures { OnOk result ((J : Judgement) (n : ℕ) (y : Document) → fits (λ z p. J literal.side p z) element y ≡ true
+        → IsFurther J n further.old y → IsFurther J n further.new y) }
+{
+    match element {
+        Element::Nothing => {
+            further.is_barred = true;
+            Ok(())
+        }
+        Element::Anything => Ok(()),
+        Element::Each(rule) => add(&mut further.asked, part_of(literal, rule)),
+    }
+}
+
+/// Adds what one rule asks of a place.
+fn ask_place(
+    further: &mut Further,
+    nodes: &Nodes<'_>,
+    literal: Literal,
+    place: usize,
+) -> Result<(), AllocError>
+    ensures { OnOk result ((J : Judgement) (n : ℕ) (ds : Documents) (y : Document) → IsMeaning nodes.now J
+        → meets J (list ds) literal ≡ true → slice_get (elements ds) place ≡ Some y
+        → IsFurther J n further.old y → IsFurther J n further.new y) }
+{
+    if !literal.holds {
+        return Ok(());
+    }
+    match nodes.of(literal) {
+        Some(Node::List { front, end }) => {
+            ask_element(further, literal, element_in(front, *end, place))
+        }
+        _ => Ok(()),
+    }
+}
+
+/// What the rules that are met ask of a place.
+fn asked_at(
+    alloc: Global,
+    nodes: &Nodes<'_>,
+    asked: &[Literal],
+    place: usize,
+) -> Result<Further, AllocError>
+    ensures { IfOk result (λ f. (J : Judgement) (n : ℕ) (ds : Documents) (y : Document) → IsMeaning nodes.now J
+        → meets_all J (list ds) asked.now ≡ true → slice_get (elements ds) place ≡ Some y
+        → IsInner n y → IsFurther J n f y) }
+{
+    let mut further = Further {
+        is_barred: false,
+        asked: Vec::new(alloc),
+    };
+    for literal in asked {
+        ask_place(&mut further, nodes, *literal, place)?;
+    }
+    Ok(further)
+}
+
+/// Adds what one rule asks of the elements from a place on, where its front ends before it.
+fn ask_behind(
+    further: &mut Further,
+    nodes: &Nodes<'_>,
+    literal: Literal,
+    place: usize,
+) -> Result<(), AllocError>
+    ensures { OnOk result ((J : Judgement) (n : ℕ) (ds : Documents) → IsMeaning nodes.now J
+        → meets J (list ds) literal ≡ true
+        → AllByRecursion (IsFurther J n further.old) (drop place (elements ds))
+        → AllByRecursion (IsFurther J n further.new) (drop place (elements ds))) }
+{
+    if !literal.holds {
+        return Ok(());
+    }
+    match nodes.of(literal) {
+        Some(Node::List { front, end }) if front.len() <= place => {
+            ask_element(further, literal, behind(*end))
+        }
+        _ => Ok(()),
+    }
+}
+
+/// What the rules that are met ask of the elements from a place on.
+fn asked_behind(
+    alloc: Global,
+    nodes: &Nodes<'_>,
+    asked: &[Literal],
+    place: usize,
+) -> Result<Further, AllocError>
+    ensures { IfOk result (λ f. (J : Judgement) (n : ℕ) (ds : Documents) → IsMeaning nodes.now J
+        → meets_all J (list ds) asked.now ≡ true
+        → AllByRecursion (IsInner n) (elements ds)
+        → HoldsFurther J n (spread_list place (elements ds)) f) }
+{
+    let mut further = Further {
+        is_barred: false,
+        asked: Vec::new(alloc),
+    };
+    for literal in asked {
+        ask_behind(&mut further, nodes, *literal, place)?;
+    }
+    Ok(further)
+}
+
+fn place_of<'a>(
+    alloc: Global,
+    nodes: &Nodes<'_>,
+    asked: &[Literal],
+    place: usize,
+) -> Result<Place<'a>, AllocError>
+    ensures { IfOk result (λ p. (J : Judgement) (n : ℕ) (ds : Documents) (count : ℕ) → IsMeaning nodes.now J
+        → meets_all J (list ds) asked.now ≡ true → AllByRecursion (IsInner n) (elements ds)
+        → place < count → count ≤ length (elements ds)
+        → HoldsPlace J n (spread_list count (elements ds)) p) }
+{
+    let Further { is_barred, asked } = asked_at(alloc, nodes, asked, place)?;
+    Ok(Place {
+        key: Key::Index(place),
+        is_needed: true,
+        is_barred,
+        asked,
+    })
+}
+
+fn places_of<'a>(
+    alloc: Global,
+    nodes: &Nodes<'_>,
+    asked: &[Literal],
+    count: usize,
+) -> Result<Vec<Place<'a>>, AllocError>
+    ensures { IfOk result (λ v. (J : Judgement) (n : ℕ) (ds : Documents) → IsMeaning nodes.now J
+        → meets_all J (list ds) asked.now ≡ true → AllByRecursion (IsInner n) (elements ds)
+        → count ≤ length (elements ds) → HoldsPlaces J n (spread_list count (elements ds)) v.items) }
+{
+    let mut places = Vec::with_capacity(alloc, count)?;
+    for place in 0..count {
+        places.push(place_of(alloc, nodes, asked, place)?)?;
+    }
+    Ok(places)
+}
+
+/// Adds the way to fail at a place.
+fn add_way<'a>(
+    ways: &mut Vec<Way<'a>>,
+    literal: Literal,
+    element: Element,
+    place: usize,
+) -> Result<(), AllocError>
+    requires { literal.holds ≡ false }
+    ensures kept { OnOk result (AddsWays ways.old.items ways.new.items) }
+    ensures all { OnOk result ((J : Judgement) (ys : List Document) (count : ℕ) (y : Document)
+        → place < count → slice_get ys place ≡ Some y
+        → fits (λ z p. J literal.side p z) element y ≡ false
+        → AreTaken J (spread_list count ys) ways.new.items) }
+{
+    let more = match element {
+        Element::Nothing => None,
+        Element::Anything => return Ok(()),
+        Element::Each(rule) => Some(part_of(literal, rule)),
+    };
+    ways.push(Way::Present(Key::Index(place), more))?;
+    Ok(())
+}
+
+/// Adds the way to fail behind all places.
+fn add_way_behind<'a>(
+    ways: &mut Vec<Way<'a>>,
+    literal: Literal,
+    element: Element,
+) -> Result<(), AllocError>
+    requires { literal.holds ≡ false }
+    ensures kept { OnOk result (AddsWays ways.old.items ways.new.items) }
+    ensures all { OnOk result ((J : Judgement) (ys : List Document) (count place : ℕ) (y : Document)
+        → count ≤ place → slice_get ys place ≡ Some y
+        → fits (λ z p. J literal.side p z) element y ≡ false
+        → AreTaken J (spread_list count ys) ways.new.items) }
+{
+    let more = match element {
+        Element::Nothing => None,
+        Element::Anything => return Ok(()),
+        Element::Each(rule) => Some(part_of(literal, rule)),
+    };
+    ways.push(Way::Behind(more))?;
+    Ok(())
+}
+
+/// The ways in which a list of at least so many elements, which a literal's front doesn't have more of, fails to meet it.
+fn list_ways<'a>(
+    alloc: Global,
+    literal: Literal,
+    front: &[usize],
+    end: NodeEnd,
+    count: usize,
+) -> Result<Vec<Way<'a>>, AllocError>
+    requires holds { literal.holds ≡ false }
+    requires front { length front.now ≤ count }
+    ensures { IfOk result (λ v. (J : Judgement) (ys : List Document) → count ≤ length ys
+        → elements_hold (λ y p. J literal.side p y) front.now (end_of end) ys ≡ false
+        → AreTaken J (spread_list count ys) v.items) }
+{
+    let mut ways = Vec::new(alloc);
+    for place in 0..count {
+        add_way(&mut ways, literal, element_in(front, end, place), place)?;
+    }
+    add_way_behind(&mut ways, literal, behind(end))?;
+    Ok(ways)
+}
+
+/// Adds the ways to fail of one rule that isn't met, unless it asks for more elements.
+fn add_rule<'a>(
+    alloc: Global,
+    rules: &mut Vec<Vec<Way<'a>>>,
+    nodes: &Nodes<'_>,
+    literal: Literal,
+    count: usize,
+) -> Result<(), AllocError>
+    ensures { OnOk result ((J : Judgement) (ds : Documents) → IsMeaning nodes.now J
+        → meets J (list ds) literal ≡ true → count ≤ length (elements ds)
+        → AllByRecursion (λ w. AreTaken J (spread_list count (elements ds)) w.items) rules.old.items
+        → AllByRecursion (λ w. AreTaken J (spread_list count (elements ds)) w.items) rules.new.items) }
+{
+    if literal.holds {
+        return Ok(());
+    }
+    let Some(Node::List { front, end }) = nodes.of(literal) else {
+        return Ok(());
+    };
+    if front.len() > count {
+        return Ok(());
+    }
+    rules.push(list_ways(alloc, literal, front, *end, count)?)?;
+    Ok(())
+}
+
+/// The ways to fail of each rule that isn't met, but for those that ask for more elements.
+fn rules_of<'a>(
+    alloc: Global,
+    nodes: &Nodes<'_>,
+    asked: &[Literal],
+    count: usize,
+) -> Result<Vec<Vec<Way<'a>>>, AllocError>
+    ensures { IfOk result (λ v. (J : Judgement) (ds : Documents) → IsMeaning nodes.now J
+        → meets_all J (list ds) asked.now ≡ true → count ≤ length (elements ds)
+        → AllByRecursion (λ w. AreTaken J (spread_list count (elements ds)) w.items) v.items) }
+{
+    let mut rules = Vec::new(alloc);
+    for literal in asked {
+        add_rule(alloc, &mut rules, nodes, *literal, count)?;
+    }
+    Ok(rules)
+}
+
+fn found_of<'a>(alloc: Global, state: State<'_>) -> Result<Found<'a>, AllocError> {
+    let State {
+        places,
+        further,
+        ..
+    } = state;
+    let mut elements = Vec::with_capacity(alloc, places.len())?;
+    for place in places {
+        let Place { asked, .. } = place;
+        elements.push(asked)?;
+    }
+    for asked in further {
+        elements.push(asked)?;
+    }
+    Ok(Found::List(elements))
+}
+
+/// A list of that length that is all that is asked.
+fn list_of_length<'a>(
+    alloc: Global,
+    nodes: &Nodes<'a>,
+    table: &Table<'_>,
+    asked: &[Literal],
+    count: usize,
+    effort: &mut Effort,
+) -> Result<Option<Found<'a>>, QuestionFault>
+    ensures { IfOk result (λ o. IsNone o → NoLength nodes.now table.now asked.now (λ m. m ≡ count)) }
+{
+    if some_ask_for_more(nodes, asked, count) {
+        return Ok(None);
+    }
+    let places = places_of(alloc, nodes, asked, count)?;
+    let further = Further {
+        is_barred: true,
+        asked: Vec::new(alloc),
+    };
+    let rules = rules_of(alloc, nodes, asked, count)?;
+    match choice(alloc, table, &places, &further, &rules, effort)? {
+        None => Ok(None),
+        Some(state) => Ok(Some(found_of(alloc, state)?)),
+    }
+}
+
+/// A list that is longer than so many elements, as many as the longest front has, that is all that is asked.
+fn longer_list<'a>(
+    alloc: Global,
+    nodes: &Nodes<'a>,
+    table: &Table<'_>,
+    asked: &[Literal],
+    count: usize,
+    effort: &mut Effort,
+) -> Result<Option<Found<'a>>, QuestionFault>
+    ensures { IfOk result (λ o. IsNone o → NoLength nodes.now table.now asked.now (λ m. count < m)) }
+{
+    let places = places_of(alloc, nodes, asked, count)?;
+    let further = asked_behind(alloc, nodes, asked, count)?;
+    let mut rules = rules_of(alloc, nodes, asked, count)?;
+    rules.push(any_behind(alloc)?)?;
+    match choice(alloc, table, &places, &further, &rules, effort)? {
+        None => Ok(None),
+        Some(state) => Ok(Some(found_of(alloc, state)?)),
+    }
+}
+
+/// The way of a list that has an element behind all places.
+fn any_behind<'a>(alloc: Global) -> Result<Vec<Way<'a>>, AllocError>
+    ensures { IfOk result (λ v. (J : Judgement) (ys : List Document) (count : ℕ) → count < length ys
+        → AreTaken J (spread_list count ys) v.items) }
+{
+    let mut ways = Vec::with_capacity(alloc, 1)?;
+    ways.push(Way::Behind(None))?;
+    Ok(ways)
+}
+
+/// A list of that length or a shorter one that is all that is asked.
+fn shorter_list<'a>(
+    alloc: Global,
+    nodes: &Nodes<'a>,
+    table: &Table<'_>,
+    asked: &[Literal],
+    count: usize,
+    effort: &mut Effort,
+) -> Result<Option<Found<'a>>, QuestionFault>
+    ensures { IfOk result (λ o. IsNone o → NoLength nodes.now table.now asked.now (λ m. m ≤ count)) }
+{
+    for length in 0..count {
+        let found = list_of_length(alloc, nodes, table, asked, length, effort)?;
+        if found.is_some() {
+            return Ok(found);
+        }
+    }
+    list_of_length(alloc, nodes, table, asked, count, effort)
+}
+
+/// A list that is all that is asked.
+pub(crate) fn list_of<'a>(
+    alloc: Global,
+    nodes: &Nodes<'a>,
+    table: &Table<'_>,
+    asked: &[Literal],
+    effort: &mut Effort,
+) -> Result<Option<Found<'a>>, QuestionFault>
+    ensures { IfOk result (λ o. IsNone o → NoList nodes.now table.now asked.now) }
+{
+    if !may_meet_all(nodes, asked, &Item::List(&[])) {
+        return Ok(None);
+    }
+    let front = longest_front(nodes, asked);
+    let found = shorter_list(alloc, nodes, table, asked, front, effort)?;
+    if found.is_some() {
+        return Ok(found);
+    }
+    longer_list(alloc, nodes, table, asked, front, effort)
+}

@@ -1,0 +1,276 @@
+// A map that is all that is asked.
+ghost use Rattle.std.specs.Prelude.{◌≡◌, ◌≤◌, ℕ, [], List, true, false, map, Contains, IfOk, IsNone, OnOk};
+ghost use Rattle.std.specs.List.{AllByRecursion};
+ghost use Rattle.cs_document.specs.Document.{Document, Members, Entry, object, AreMembers, depth, entries, under};
+ghost use Rattle.cs_instance.specs.Constraint.{fields_hold};
+ghost use Rattle.cs_question.specs.Asked.{meets, meets_all};
+ghost use Rattle.cs_question.specs.Nodes.{Judgement, IsMeaning, field_of};
+ghost use Rattle.cs_question.specs.Spread.{HoldsAt, HoldsPlace, HoldsPlaces, HoldsFurther, IsFurther, AreTaken, is_among, spread_map};
+ghost use Rattle.cs_question.specs.Truth.{NoMap};
+
+use crate::choice::choice;
+use crate::effort::Effort;
+use crate::fault::QuestionFault;
+use crate::fields::{are_all_among, ask_fields, ask_further, extra_ways, field_ways, is_allowed};
+use crate::found::Found;
+use crate::literal::Literal;
+use crate::nodes::{Node, NodeField, Nodes};
+use crate::places::{Further, Key, Place, Way};
+use crate::scalars::may_meet_all;
+use crate::state::State;
+use crate::table::Table;
+use cs_flat::Item;
+use std::alloc::{AllocError, Global};
+
+/// The labels of declarations.
+fn add_labels<'a>(labels: &mut Vec<&'a str>, fields: &[NodeField<'a>]) -> Result<(), AllocError> {
+    for field in fields {
+        match labels.binary_search(&field.label) {
+            Ok(_) => {}
+            Err(place) => labels.insert(place, field.label)?,
+        }
+    }
+    Ok(())
+}
+
+/// The labels that the rules declare, each once.
+fn labels_of<'a>(
+    alloc: Global,
+    nodes: &Nodes<'a>,
+    asked: &[Literal],
+) -> Result<Vec<&'a str>, AllocError> {
+    let mut labels = Vec::new(alloc);
+    for literal in asked {
+        if let Some(Node::Struct { fields, .. }) = nodes.of(*literal) {
+            add_labels(&mut labels, fields)?;
+        }
+    }
+    Ok(labels)
+}
+
+/// Adds what one rule asks of a key.
+fn ask_place(
+    place: &mut Place<'_>,
+    label: &str,
+    nodes: &Nodes<'_>,
+    literal: Literal,
+) -> Result<(), AllocError>
+    ensures key { OnOk result (place.new.key ≡ place.old.key) }
+    ensures asked { OnOk result ((J : Judgement) (n : ℕ) (ms : Members) → IsMeaning nodes.now J
+        → meets J (object ms) literal ≡ true → HoldsAt J n (under label.now (entries ms)) place.old
+        → HoldsAt J n (under label.now (entries ms)) place.new) }
+{
+    if !literal.holds {
+        return Ok(());
+    }
+    let Some(Node::Struct { fields, opened }) = nodes.of(literal) else {
+        return Ok(());
+    };
+    if !opened && !is_allowed(fields, label) {
+        place.is_barred = true;
+    }
+    ask_fields(place, label, literal, fields)
+}
+
+/// What the rules that are met ask of a key.
+fn place_of<'a>(
+    alloc: Global,
+    nodes: &Nodes<'_>,
+    asked: &[Literal],
+    label: &'a str,
+) -> Result<Place<'a>, AllocError>
+    ensures { IfOk result (λ p. (J : Judgement) (n : ℕ) (ms : Members) → IsMeaning nodes.now J
+        → AreMembers ms → depth (object ms) ≤ n → meets_all J (object ms) asked.now ≡ true
+        → HoldsPlace J n (spread_map [] (entries ms)) p) }
+{
+    let mut place = Place {
+        key: Key::Label(label),
+        is_needed: false,
+        is_barred: false,
+        asked: Vec::new(alloc),
+    };
+    for literal in asked {
+        ask_place(&mut place, label, nodes, *literal)?;
+    }
+    Ok(place)
+}
+
+fn places_of<'a>(
+    alloc: Global,
+    nodes: &Nodes<'_>,
+    asked: &[Literal],
+    labels: &[&'a str],
+) -> Result<Vec<Place<'a>>, AllocError>
+    ensures { IfOk result (λ v. (J : Judgement) (n : ℕ) (ms : Members) → IsMeaning nodes.now J
+        → AreMembers ms → depth (object ms) ≤ n → meets_all J (object ms) asked.now ≡ true
+        → HoldsPlaces J n (spread_map labels.now (entries ms)) v.items) }
+{
+    let mut places = Vec::with_capacity(alloc, labels.len())?;
+    for label in labels {
+        places.push(place_of(alloc, nodes, asked, *label)?)?;
+    }
+    Ok(places)
+}
+
+/// Adds what one rule asks of further keys.
+fn ask_rest(
+    further: &mut Further,
+    nodes: &Nodes<'_>,
+    labels: &[&str],
+    literal: Literal,
+) -> Result<(), AllocError>
+    ensures { OnOk result ((J : Judgement) (n : ℕ) (ms : Members) (m : Entry Document) → IsMeaning nodes.now J
+        → meets J (object ms) literal ≡ true → Contains (entries ms) m → is_among labels.now m.0 ≡ false
+        → IsFurther J n further.old m.1 → IsFurther J n further.new m.1) }
+{
+    if !literal.holds {
+        return Ok(());
+    }
+    let Some(Node::Struct { fields, opened }) = nodes.of(literal) else {
+        return Ok(());
+    };
+    if !opened && are_all_among(labels, fields) {
+        further.is_barred = true;
+    }
+    ask_further(further, literal, fields)
+}
+
+/// What the rules that are met ask of keys that are none of their labels.
+fn further_of(
+    alloc: Global,
+    nodes: &Nodes<'_>,
+    labels: &[&str],
+    asked: &[Literal],
+) -> Result<Further, AllocError>
+    ensures { IfOk result (λ f. (J : Judgement) (n : ℕ) (ms : Members) → IsMeaning nodes.now J
+        → AreMembers ms → depth (object ms) ≤ n → meets_all J (object ms) asked.now ≡ true
+        → HoldsFurther J n (spread_map labels.now (entries ms)) f) }
+{
+    let mut further = Further {
+        is_barred: false,
+        asked: Vec::new(alloc),
+    };
+    for literal in asked {
+        ask_rest(&mut further, nodes, labels, *literal)?;
+    }
+    Ok(further)
+}
+
+/// The ways in which a map fails to meet a struct literal.
+fn struct_ways<'a>(
+    alloc: Global,
+    labels: &[&'a str],
+    literal: Literal,
+    fields: &[NodeField<'a>],
+    opened: bool,
+) -> Result<Vec<Way<'a>>, AllocError>
+    requires { literal.holds ≡ false }
+    ensures { IfOk result (λ v. (J : Judgement) (ms : Members) → AreMembers ms
+        → fields_hold (λ y p. J literal.side p y) (map field_of fields.now) opened (entries ms) ≡ false
+        → AreTaken J (spread_map labels.now (entries ms)) v.items) }
+{
+    let mut ways = Vec::new(alloc);
+    for field in fields {
+        field_ways(labels, literal, field, &mut ways)?;
+    }
+    if !opened {
+        extra_ways(labels, fields, &mut ways)?;
+    }
+    Ok(ways)
+}
+
+/// Adds the ways to fail of one rule that isn't met.
+fn add_rule<'a>(
+    alloc: Global,
+    rules: &mut Vec<Vec<Way<'a>>>,
+    nodes: &Nodes<'a>,
+    labels: &[&'a str],
+    literal: Literal,
+) -> Result<(), AllocError>
+    ensures { OnOk result ((J : Judgement) (ms : Members) → IsMeaning nodes.now J → AreMembers ms
+        → meets J (object ms) literal ≡ true
+        → AllByRecursion (λ w. AreTaken J (spread_map labels.now (entries ms)) w.items) rules.old.items
+        → AllByRecursion (λ w. AreTaken J (spread_map labels.now (entries ms)) w.items) rules.new.items) }
+{
+    if literal.holds {
+        return Ok(());
+    }
+    let Some(Node::Struct { fields, opened }) = nodes.of(literal) else {
+        return Ok(());
+    };
+    rules.push(struct_ways(alloc, labels, literal, fields, *opened)?)?;
+    Ok(())
+}
+
+/// The ways to fail of each rule that isn't met.
+fn rules_of<'a>(
+    alloc: Global,
+    nodes: &Nodes<'a>,
+    asked: &[Literal],
+    labels: &[&'a str],
+) -> Result<Vec<Vec<Way<'a>>>, AllocError>
+    ensures { IfOk result (λ v. (J : Judgement) (ms : Members) → IsMeaning nodes.now J → AreMembers ms
+        → meets_all J (object ms) asked.now ≡ true
+        → AllByRecursion (λ w. AreTaken J (spread_map labels.now (entries ms)) w.items) v.items) }
+{
+    let mut rules = Vec::new(alloc);
+    for literal in asked {
+        add_rule(alloc, &mut rules, nodes, labels, *literal)?;
+    }
+    Ok(rules)
+}
+
+/// The keys that have to be there.
+fn members_of<'a>(
+    alloc: Global,
+    places: Vec<Place<'a>>,
+) -> Result<Vec<(&'a str, Vec<Literal>)>, AllocError> {
+    let mut members = Vec::with_capacity(alloc, places.len())?;
+    for place in places {
+        let Place {
+            key,
+            is_needed,
+            asked,
+            ..
+        } = place;
+        if let Key::Label(label) = key {
+            if is_needed {
+                members.push((label, asked))?;
+            }
+        }
+    }
+    Ok(members)
+}
+
+/// A map that is all that is asked.
+pub(crate) fn map_of<'a>(
+    alloc: Global,
+    nodes: &Nodes<'a>,
+    table: &Table<'_>,
+    asked: &[Literal],
+    effort: &mut Effort,
+) -> Result<Option<Found<'a>>, QuestionFault>
+    ensures { IfOk result (λ o. IsNone o → NoMap nodes.now table.now asked.now) }
+{
+    if !may_meet_all(nodes, asked, &Item::Object(&[])) {
+        return Ok(None);
+    }
+    let labels = labels_of(alloc, nodes, asked)?;
+    let places = places_of(alloc, nodes, asked, &labels)?;
+    let further = further_of(alloc, nodes, &labels, asked)?;
+    let rules = rules_of(alloc, nodes, asked, &labels)?;
+    match choice(alloc, table, &places, &further, &rules, effort)? {
+        None => Ok(None),
+        Some(
+            State {
+                places,
+                further,
+                ..
+            },
+        ) => Ok(Some(Found::Map {
+            members: members_of(alloc, places)?,
+            further,
+            labels,
+        })),
+    }
+}

@@ -1,0 +1,144 @@
+// What the rules of both sides ask, by the numbers of their parts.
+ghost use Rattle.std.specs.Prelude.{◌≡◌, map, slice_index, slice_get, Some, None, IfOk, MatchOption};
+ghost use Rattle.cs_instance.specs.Numbering.{map_rest};
+ghost use Rattle.cs_instance.specs.Steps as steps;
+ghost use Rattle.cs_question.specs.Nodes.{asked_of, field_of, end_of, nodes_on};
+
+use crate::literal::{Literal, Side};
+use cs_instance::{Ending, Field, Rule};
+use cs_package::{FieldMark, Shape};
+use std::alloc::{AllocError, Global};
+
+/// What a rule asks of a document. Its parts are rules of the same side, by number.
+#[derive(Drop)]
+pub(crate) enum Node<'a> {
+    /// That of an expression that looks at no part.
+    Simple(&'a Shape),
+    All(Vec<usize>),
+    Any(Vec<usize>),
+    Struct {
+        fields: Vec<NodeField<'a>>,
+        opened: bool,
+    },
+    List {
+        front: Vec<usize>,
+        end: NodeEnd,
+    },
+}
+
+/// A declaration of a struct literal, with its value's rule.
+#[derive(Drop)]
+pub(crate) struct NodeField<'a> {
+    pub(crate) label: &'a str,
+    pub(crate) mark: FieldMark,
+    pub(crate) value: usize,
+}
+
+/// What follows the fixed elements of a list: nothing, anything, or instances of a rule.
+#[derive(Clone, Copy)]
+pub(crate) enum NodeEnd {
+    Closed,
+    Any,
+    Each(usize),
+}
+
+/// The rules of both sides.
+#[derive(Drop)]
+pub(crate) struct Nodes<'a> {
+    pub(crate) admitting: Vec<Node<'a>>,
+    pub(crate) refusing: Vec<Node<'a>>,
+}
+
+impl<'a> Nodes<'a> {
+    /// What a rule asks.
+    pub(crate) fn of(&self, literal: Literal) -> Option<&Node<'a>>
+        ensures { MatchOption result (slice_get (nodes_on self.now literal.side) literal.rule ≡ None)
+            (λ n. slice_get (nodes_on self.now literal.side) literal.rule ≡ Some n.now) }
+    {
+        match literal.side {
+            Side::Admitting => self.admitting.get(literal.rule),
+            Side::Refusing => self.refusing.get(literal.rule),
+        }
+    }
+}
+
+/// The number at a place.
+fn number_at(inner: &[usize], place: usize) -> usize
+    ensures { result ≡ slice_index inner.now place }
+{
+    match inner.get(place) {
+        Some(number) => *number,
+        None => 0,
+    }
+}
+
+fn numbers_at(alloc: Global, inner: &[usize], places: &[usize]) -> Result<Vec<usize>, AllocError>
+    ensures { IfOk result (λ v. v.items ≡ map (slice_index inner.now) places.now) }
+{
+    let mut numbers = Vec::with_capacity(alloc, places.len())?;
+    for place in places {
+        numbers.push(number_at(inner, *place))?;
+    }
+    Ok(numbers)
+}
+
+fn fields_at<'a>(
+    alloc: Global,
+    inner: &[usize],
+    fields: &[Field<'a>],
+) -> Result<Vec<NodeField<'a>>, AllocError>
+    ensures { IfOk result (λ v. map field_of v.items ≡ steps.numbered_fields inner.now fields.now) }
+{
+    let mut all = Vec::with_capacity(alloc, fields.len())?;
+    for field in fields {
+        all.push(NodeField {
+            label: field.label,
+            mark: field.mark,
+            value: number_at(inner, field.value),
+        })?;
+    }
+    Ok(all)
+}
+
+fn end_at(inner: &[usize], end: &Ending) -> NodeEnd
+    ensures { end_of result ≡ map_rest (slice_index inner.now) (steps.ending_of end.now) }
+{
+    match end {
+        Ending::Closed => NodeEnd::Closed,
+        Ending::Any => NodeEnd::Any,
+        Ending::Each(place) => NodeEnd::Each(number_at(inner, *place)),
+    }
+}
+
+fn node_of<'a>(alloc: Global, inner: &[usize], rule: &Rule<'a>) -> Result<Node<'a>, AllocError>
+    ensures { IfOk result (λ n. asked_of n ≡ steps.numbered inner.now rule.now) }
+{
+    Ok(match rule {
+        Rule::Simple(shape) => Node::Simple(*shape),
+        Rule::All(parts) => Node::All(Vec::from_slice(alloc, parts)?),
+        Rule::Any(parts) => Node::Any(Vec::from_slice(alloc, parts)?),
+        Rule::Struct { fields, opened } => Node::Struct {
+            fields: fields_at(alloc, inner, &fields.all)?,
+            opened: *opened,
+        },
+        Rule::List { front, end } => Node::List {
+            front: numbers_at(alloc, inner, front)?,
+            end: end_at(inner, end),
+        },
+    })
+}
+
+/// What numbered rules ask, where the parts that they ask of documents inside have these numbers.
+pub(crate) fn nodes_of<'a>(
+    alloc: Global,
+    rules: &[Rule<'a>],
+    inner: &[usize],
+) -> Result<Vec<Node<'a>>, AllocError>
+    ensures { IfOk result (λ v. map asked_of v.items ≡ map (steps.numbered inner.now) rules.now) }
+{
+    let mut nodes = Vec::with_capacity(alloc, rules.len())?;
+    for rule in rules {
+        nodes.push(node_of(alloc, inner, rule)?)?;
+    }
+    Ok(nodes)
+}

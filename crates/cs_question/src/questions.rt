@@ -1,0 +1,170 @@
+// Whether there is a document that a definition admits and another one doesn't.
+ghost use Rattle.std.specs.Prelude.{◌≡◌, ℕ, [], ◌∷◌, List, Bool, true, false, IfOk, IfSome, IsNone, IsTrue, OnOk};
+ghost use Rattle.cs_document.specs.Document.{Document, IsDocument};
+ghost use Rattle.cs_document.specs.View.{doc_view};
+ghost use Rattle.cs_package.specs.Environment.{Names};
+ghost use Rattle.cs_instance.specs.Instance.{Rule, definition, IsInstance};
+ghost use Rattle.cs_question.specs.Separates.{Separates};
+ghost use Rattle.cs_question.specs.Truth.{IsShut};
+ghost use Rattle.std.specs.List.{list_all};
+
+use crate::explore::explored;
+use crate::fault::QuestionFault;
+use crate::literal::{Literal, Side, add, are_same};
+use crate::nodes::{Nodes, nodes_of};
+use crate::table::Table;
+use crate::witness::witness;
+use cs_document::Doc;
+use cs_guard::Guarded;
+use cs_instance::{NumberedRoot, is_instance, numbered_root};
+use std::alloc::{AllocError, Global};
+
+/// Whether the first question has no answer.
+fn has_none(table: &Table<'_>, asked: &[Literal]) -> bool
+    ensures { IsTrue result → IsShut table.now.entries.items asked.now }
+{
+    match table.entries.first() {
+        Some(entry) => entry.found.is_none() && are_same(&entry.asked, asked),
+        None => false,
+    }
+}
+
+/// A document that is an instance of one root and not of another one, each a definition of its package named with its `#`; none
+/// where there is no such document, so each instance of the one is an instance of the other.
+///
+/// # Errors
+/// `UnknownRoot` where a package doesn't declare its root, `TooManyCases` where a limit is met.
+pub fn separating(
+    alloc: Global,
+    admitting: &Guarded,
+    admitting_root: &str,
+    refusing: &Guarded,
+    refusing_root: &str,
+) -> Result<Option<Doc>, QuestionFault>
+    ensures none { IfOk result (λ o. IsNone o → (I J : Rule → Document → Bool) (n m : List ℕ) (x : Document)
+        → IsInstance admitting.now I → IsInstance refusing.now J
+        → Names admitting.now admitting_root.now n → Names refusing.now refusing_root.now m
+        → IsDocument x → ¬ Separates (I (definition n) ∷ []) (J (definition m) ∷ []) x) }
+    ensures one { IfOk result (λ o. IfSome o (λ d. (I J : Rule → Document → Bool) (n m : List ℕ)
+        → IsInstance admitting.now I → IsInstance refusing.now J
+        → Names admitting.now admitting_root.now n → Names refusing.now refusing_root.now m
+        → Separates (I (definition n) ∷ []) (J (definition m) ∷ []) (doc_view d))) }
+{
+    let first = numbered_root(alloc, admitting, admitting_root)?;
+    let second = numbered_root(alloc, refusing, refusing_root)?;
+    let nodes = Nodes {
+        admitting: nodes_of(alloc, &first.numbering.rules, &first.numbering.children)?,
+        refusing: nodes_of(alloc, &second.numbering.rules, &second.numbering.children)?,
+    };
+    let asked = both(alloc, first.number, second.number)?;
+    let table = explored(alloc, &nodes, &asked)?;
+    if has_none(&table, &asked) {
+        return Ok(None);
+    }
+    let doc = witness(alloc, &table)?;
+    if is_judged(alloc, admitting, admitting_root, &doc, true)?
+        && is_judged(alloc, refusing, refusing_root, &doc, false)?
+    {
+        Ok(Some(doc))
+    } else {
+        Err(QuestionFault::TooManyCases)
+    }
+}
+
+/// Whether a document is an instance of the root, or isn't.
+fn is_judged(
+    alloc: Global,
+    package: &Guarded,
+    root: &str,
+    doc: &Doc,
+    wanted: bool,
+) -> Result<bool, QuestionFault>
+    ensures { IfOk result (λ b. IsTrue b → (I : Rule → Document → Bool) (n : List ℕ)
+        → IsInstance «package».now I → Names «package».now root.now n
+        → I (definition n) (doc_view doc.now) ≡ wanted) }
+{
+    Ok(is_instance(alloc, package, root, doc)? == wanted)
+}
+
+/// A rule that is to be met, and one that isn't.
+fn both(alloc: Global, met: usize, unmet: usize) -> Result<Vec<Literal>, AllocError>
+    ensures { IfOk result (λ v. (p : Literal → Bool)
+        → p (record { side = Side.Admitting; rule = met; holds = true }) ≡ true
+        → p (record { side = Side.Refusing; rule = unmet; holds = false }) ≡ true
+        → list_all p v.items ≡ true) }
+{
+    let mut asked = Vec::new(alloc);
+    add(
+        &mut asked,
+        Literal {
+            side: Side::Admitting,
+            rule: met,
+            holds: true,
+        },
+    )?;
+    add(
+        &mut asked,
+        Literal {
+            side: Side::Refusing,
+            rule: unmet,
+            holds: false,
+        },
+    )?;
+    Ok(asked)
+}
+
+/// A rule that is to be met.
+fn one(alloc: Global, met: usize) -> Result<Vec<Literal>, AllocError>
+    ensures { IfOk result (λ v. (p : Literal → Bool)
+        → p (record { side = Side.Admitting; rule = met; holds = true }) ≡ true
+        → list_all p v.items ≡ true) }
+{
+    let mut asked = Vec::new(alloc);
+    add(
+        &mut asked,
+        Literal {
+            side: Side::Admitting,
+            rule: met,
+            holds: true,
+        },
+    )?;
+    Ok(asked)
+}
+
+/// An instance of the root, a definition of the package named with its `#`; none where it has none.
+///
+/// # Errors
+/// `UnknownRoot` where the package doesn't declare the root, `TooManyCases` where a limit is met.
+pub fn instance_of(
+    alloc: Global,
+    package: &Guarded,
+    root: &str,
+) -> Result<Option<Doc>, QuestionFault>
+    ensures none { IfOk result (λ o. IsNone o → (I : Rule → Document → Bool) (n : List ℕ) (x : Document)
+        → IsInstance «package».now I → Names «package».now root.now n
+        → IsDocument x → ¬ Separates (I (definition n) ∷ []) [] x) }
+    ensures one { IfOk result (λ o. IfSome o (λ d. (I : Rule → Document → Bool) (n : List ℕ)
+        → IsInstance «package».now I → Names «package».now root.now n
+        → Separates (I (definition n) ∷ []) [] (doc_view d))) }
+{
+    let NumberedRoot {
+        numbering,
+        number,
+        ..
+    } = numbered_root(alloc, package, root)?;
+    let nodes = Nodes {
+        admitting: nodes_of(alloc, &numbering.rules, &numbering.children)?,
+        refusing: Vec::new(alloc),
+    };
+    let asked = one(alloc, number)?;
+    let table = explored(alloc, &nodes, &asked)?;
+    if has_none(&table, &asked) {
+        return Ok(None);
+    }
+    let doc = witness(alloc, &table)?;
+    if is_judged(alloc, package, root, &doc, true)? {
+        Ok(Some(doc))
+    } else {
+        Err(QuestionFault::TooManyCases)
+    }
+}

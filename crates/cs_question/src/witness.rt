@@ -1,0 +1,317 @@
+// The document that a table found, made of its parts.
+use crate::fault::QuestionFault;
+use crate::found::Found;
+use crate::literal::Literal;
+use crate::table::{Entry, Table};
+use cs_document::Doc;
+use std::alloc::{AllocError, Global};
+use std::collections::BTreeMap;
+
+/// The most values that a document may have, and how deep it may nest: no deeper than documents are read.
+const MOST_VALUES: usize = 100_000;
+
+const MOST_DEPTH: usize = 127;
+
+/// The questions in the order in which they were answered.
+fn in_turn(alloc: Global, entries: &[Entry<'_>]) -> Result<Vec<(usize, usize)>, AllocError> {
+    let mut order = Vec::with_capacity(alloc, entries.len())?;
+    for (place, entry) in entries.iter().enumerate() {
+        if entry.found.is_some() {
+            order.push((entry.turn, place))?;
+        }
+    }
+    order.sort_unstable();
+    Ok(order)
+}
+
+/// How many values a document has, and how deep it nests.
+#[derive(Clone, Copy)]
+struct Extent {
+    values: usize,
+    depth: usize,
+}
+
+/// That of a document that isn't found.
+const ENDLESS: Extent = Extent {
+    values: usize::MAX,
+    depth: usize::MAX,
+};
+
+fn extent_of(table: &Table<'_>, extents: &[Extent], asked: &Vec<Literal>) -> Extent {
+    match table.place(asked) {
+        None => ENDLESS,
+        Some(place) => extents.get(place).copied().unwrap_or(ENDLESS),
+    }
+}
+
+/// That of what is around both.
+fn joined(first: Extent, second: Extent) -> Extent {
+    Extent {
+        values: first.values.saturating_add(second.values),
+        depth: first.depth.max(second.depth.saturating_add(1)),
+    }
+}
+
+fn extent_found(table: &Table<'_>, extents: &[Extent], found: &Found<'_>) -> Extent {
+    let one = Extent {
+        values: 1,
+        depth: 0,
+    };
+    match found {
+        Found::Null | Found::Bool(_) | Found::Int(_) | Found::Text(_) => one,
+        Found::List(parts) => around(table, extents, one, parts),
+        Found::Map {
+            members,
+            further,
+            ..
+        } => around(
+            table,
+            extents,
+            around_members(table, extents, members),
+            further,
+        ),
+    }
+}
+
+fn around(
+    table: &Table<'_>,
+    extents: &[Extent],
+    mut all: Extent,
+    parts: &[Vec<Literal>],
+) -> Extent {
+    for part in parts {
+        all = joined(all, extent_of(table, extents, part));
+    }
+    all
+}
+
+fn around_members(
+    table: &Table<'_>,
+    extents: &[Extent],
+    members: &[(&str, Vec<Literal>)],
+) -> Extent {
+    let mut all = Extent {
+        values: 1,
+        depth: 0,
+    };
+    for (_label, part) in members {
+        all = joined(all, extent_of(table, extents, part));
+    }
+    all
+}
+
+/// The extent of the document that was found for each question.
+fn extents_of(
+    alloc: Global,
+    table: &Table<'_>,
+    order: &[(usize, usize)],
+) -> Result<Vec<Extent>, AllocError> {
+    let mut extents = Vec::with_capacity(alloc, table.entries.len())?;
+    for _ in 0..table.entries.len() {
+        extents.push(ENDLESS)?;
+    }
+    for (_turn, place) in order {
+        if let Some(
+            Entry {
+                found: Some(found),
+                ..
+            },
+        ) = table.entries.get(*place)
+        {
+            let extent = extent_found(table, &extents, found);
+            if *place < extents.len() {
+                extents[*place] = extent;
+            }
+        }
+    }
+    Ok(extents)
+}
+
+fn mark(table: &Table<'_>, is_needed: &mut Vec<bool>, asked: &Vec<Literal>) {
+    if let Some(place) = table.place(asked) {
+        if place < is_needed.len() {
+            is_needed[place] = true;
+        }
+    }
+}
+
+fn mark_parts(table: &Table<'_>, is_needed: &mut Vec<bool>, found: &Found<'_>) {
+    match found {
+        Found::Null | Found::Bool(_) | Found::Int(_) | Found::Text(_) => {}
+        Found::List(parts) => mark_all(table, is_needed, parts),
+        Found::Map {
+            members,
+            further,
+            ..
+        } => {
+            for (_label, part) in members {
+                mark(table, is_needed, part);
+            }
+            mark_all(table, is_needed, further);
+        }
+    }
+}
+
+fn mark_all(table: &Table<'_>, is_needed: &mut Vec<bool>, parts: &[Vec<Literal>]) {
+    for part in parts {
+        mark(table, is_needed, part);
+    }
+}
+
+/// The questions of whose documents the first question's one is made.
+fn needed_of(
+    alloc: Global,
+    table: &Table<'_>,
+    order: &[(usize, usize)],
+) -> Result<Vec<bool>, AllocError> {
+    let mut is_needed = vec![in alloc; false; table.entries.len()]?;
+    if !is_needed.is_empty() {
+        is_needed[0] = true;
+    }
+    for i in 0..order.len() {
+        let (_turn, place) = order[order.len() - 1 - i];
+        if is_needed.get(place) == Some(&true) {
+            if let Some(
+                Entry {
+                    found: Some(found),
+                    ..
+                },
+            ) = table.entries.get(place)
+            {
+                mark_parts(table, &mut is_needed, found);
+            }
+        }
+    }
+    Ok(is_needed)
+}
+
+/// A copy of the document that was made for a question.
+fn made(
+    alloc: Global,
+    table: &Table<'_>,
+    docs: &[Option<Doc>],
+    asked: &Vec<Literal>,
+) -> Result<Doc, QuestionFault> {
+    let Some(place) = table.place(asked) else {
+        return Err(QuestionFault::TooManyCases);
+    };
+    match docs.get(place) {
+        Some(Some(doc)) => Ok(doc.copy(alloc)?),
+        _ => Err(QuestionFault::TooManyCases),
+    }
+}
+
+fn list_made(
+    alloc: Global,
+    table: &Table<'_>,
+    docs: &[Option<Doc>],
+    parts: &[Vec<Literal>],
+) -> Result<Doc, QuestionFault> {
+    let mut elements = Vec::with_capacity(alloc, parts.len())?;
+    for part in parts {
+        elements.push(made(alloc, table, docs, part)?)?;
+    }
+    Ok(Doc::List(elements))
+}
+
+/// A key of so many `a` that it is longer than each label, and no two of them are the same.
+fn further_key(alloc: Global, labels: &[&str], number: usize) -> Result<String, AllocError> {
+    let mut longest = 0;
+    for label in labels {
+        if label.len() > longest {
+            longest = label.len();
+        }
+    }
+    let mut key = String::new(alloc);
+    key.push('a')?;
+    for _ in 0..longest {
+        key.push('a')?;
+    }
+    for _ in 0..number {
+        key.push('a')?;
+    }
+    Ok(key)
+}
+
+fn map_made(
+    alloc: Global,
+    table: &Table<'_>,
+    docs: &[Option<Doc>],
+    members: &[(&str, Vec<Literal>)],
+    further: &[Vec<Literal>],
+    labels: &[&str],
+) -> Result<Doc, QuestionFault> {
+    let mut map = BTreeMap::new(alloc);
+    for (label, part) in members {
+        let doc = made(alloc, table, docs, part)?;
+        let _ = map.insert(String::from_str(alloc, *label)?, doc)?;
+    }
+    for (number, part) in further.iter().enumerate() {
+        let doc = made(alloc, table, docs, part)?;
+        let _ = map.insert(further_key(alloc, labels, number)?, doc)?;
+    }
+    Ok(Doc::Object(map))
+}
+
+fn doc_of(
+    alloc: Global,
+    table: &Table<'_>,
+    docs: &[Option<Doc>],
+    found: &Found<'_>,
+) -> Result<Doc, QuestionFault> {
+    match found {
+        Found::Null => Ok(Doc::Null),
+        Found::Bool(value) => Ok(Doc::Bool(*value)),
+        Found::Int(integer) => Ok(Doc::Int(*integer)),
+        Found::Text(text) => Ok(Doc::Text(String::from_str(alloc, text)?)),
+        Found::List(parts) => list_made(alloc, table, docs, parts),
+        Found::Map {
+            members,
+            further,
+            labels,
+        } => map_made(alloc, table, docs, members, further, labels),
+    }
+}
+
+fn none_made(alloc: Global, count: usize) -> Result<Vec<Option<Doc>>, AllocError> {
+    let mut docs = Vec::with_capacity(alloc, count)?;
+    for _ in 0..count {
+        docs.push(None)?;
+    }
+    Ok(docs)
+}
+
+/// The document that was found for the first question.
+///
+/// # Errors
+/// `TooManyCases` where it would have more values than a limit, or nest deeper.
+pub(crate) fn witness(alloc: Global, table: &Table<'_>) -> Result<Doc, QuestionFault> {
+    let order = in_turn(alloc, &table.entries)?;
+    let extents = extents_of(alloc, table, &order)?;
+    let extent = extents.first().copied().unwrap_or(ENDLESS);
+    if extent.values > MOST_VALUES || extent.depth > MOST_DEPTH {
+        return Err(QuestionFault::TooManyCases);
+    }
+    let is_needed = needed_of(alloc, table, &order)?;
+    let mut docs = none_made(alloc, table.entries.len())?;
+    for (_turn, place) in &order {
+        if is_needed.get(*place) == Some(&true) {
+            if let Some(
+                Entry {
+                    found: Some(found),
+                    ..
+                },
+            ) = table.entries.get(*place)
+            {
+                let doc = doc_of(alloc, table, &docs, found)?;
+                if *place < docs.len() {
+                    docs[*place] = Some(doc);
+                }
+            }
+        }
+    }
+    match docs.into_iter().next() {
+        Some(Some(doc)) => Ok(doc),
+        _ => Err(QuestionFault::TooManyCases),
+    }
+}
