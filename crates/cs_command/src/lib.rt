@@ -13,11 +13,13 @@ const FORMATS: &[&str] = &["json"];
 const SCHEMA_FORMATS: &[&str] = &["json", "flag", "basic"];
 /// How many reasons may be told at most.
 const MOST_REASONS: u64 = 1_000_000;
+/// How many documents may be asked for at most.
+const MOST_SAMPLES: u64 = 10_000;
 /// The greatest number of a refusal.
 const GREATEST_REFUSAL: u64 = 31;
 
-/// The program's command: `export`, `vet`, `validate`, `agree`, `check` and `explain` with their words. Sources are the values of `FILE`, in the
-/// order of the words.
+/// The program's command: `export`, `vet`, `validate`, `agree`, `check`, `compare`, `samples` and `explain` with their words. Sources are the
+/// values of `FILE`, and for `compare` of `old` and `new`, in the order of the words.
 pub fn command<'a>(alloc: Global) -> Result<Command<'a>, AllocError> {
     let mut commands = Vec::new(alloc);
     commands.push(export(alloc)?)?;
@@ -25,6 +27,8 @@ pub fn command<'a>(alloc: Global) -> Result<Command<'a>, AllocError> {
     commands.push(validate(alloc)?)?;
     commands.push(agree(alloc)?)?;
     commands.push(check(alloc)?)?;
+    commands.push(compare(alloc)?)?;
+    commands.push(samples(alloc)?)?;
     commands.push(explain(alloc)?)?;
     Command::new(alloc, "cue2schema")
         .about("Compiles CUE definitions to JSON Schema 2020-12, and judges documents by both")
@@ -103,11 +107,91 @@ fn check<'a>(alloc: Global) -> Result<Command<'a>, AllocError> {
         .arg(files(alloc))
 }
 
+fn compare<'a>(alloc: Global) -> Result<Command<'a>, AllocError> {
+    Command::new(alloc, "compare")
+        .about(
+            "Says whether each document of an old definition is one of the new definition, and shows one that isn't",
+        )
+        .after_help("Example: cue2schema compare --root '#Port' --old v1/port.cue --new port.cue")
+        .arg(root(alloc))?
+        .arg(new_root(alloc))?
+        .arg(version(alloc, "old", "The files of CUE before the change"))?
+        .arg(version(alloc, "new", "The files of CUE after the change"))?
+        .arg(both(alloc))?
+        .arg(why_broken(alloc))?
+        .arg(most(alloc)?)?
+        .arg(format(alloc, FORMATS))?
+        .group(reasons(alloc)?)
+}
+
+fn samples<'a>(alloc: Global) -> Result<Command<'a>, AllocError> {
+    Command::new(alloc, "samples")
+        .about("Writes documents of a definition, a line of JSON for each")
+        .after_help("Example: cue2schema samples --root '#Port' port.cue")
+        .arg(root(alloc))?
+        .arg(invalid(alloc))?
+        .arg(most_samples(alloc))?
+        .arg(why_refused(alloc))?
+        .arg(files(alloc))
+}
+
 fn explain<'a>(alloc: Global) -> Result<Command<'a>, AllocError> {
     Command::new(alloc, "explain")
         .about("Says what the number of a refusal means, and what to do")
         .after_help("Example: cue2schema explain 11")
         .arg(number(alloc))
+}
+
+fn new_root<'a>(alloc: Global) -> Arg<'a> {
+    Arg::new(alloc, "new_root")
+        .long("new-root")
+        .value_name("'#NAME'")
+        .help("The root definition of the new files, where it has another name there")
+        .allow_hyphen_values(true)
+        .action(ArgAction::Set)
+}
+
+/// The files of one side of a comparison: the words after it, up to the next word of the command.
+fn version<'a>(alloc: Global, name: &'a str, help: &'a str) -> Arg<'a> {
+    Arg::new(alloc, name)
+        .long(name)
+        .value_name("FILE")
+        .help(help)
+        .required(true)
+        .num_args(1..)
+        .action(ArgAction::Append)
+}
+
+fn both<'a>(alloc: Global) -> Arg<'a> {
+    Arg::new(alloc, "both")
+        .long("both")
+        .help("Says too whether each document of the new definition is one of the old definition")
+        .action(ArgAction::SetTrue)
+}
+
+/// Why the other definition refuses the document that is shown.
+fn why_broken<'a>(alloc: Global) -> Arg<'a> {
+    why(alloc).help(
+        "Says why the document that is shown is refused, a line for each reason: of alternatives the closest, or all; and why a call is refused",
+    )
+}
+
+fn invalid<'a>(alloc: Global) -> Arg<'a> {
+    Arg::new(alloc, "invalid")
+        .long("invalid")
+        .help(
+            "Writes documents that aren't instances of the definition, each for one rule that it breaks",
+        )
+        .action(ArgAction::SetTrue)
+}
+
+fn most_samples<'a>(alloc: Global) -> Arg<'a> {
+    Arg::new(alloc, "most")
+        .long("most")
+        .value_name("NUMBER")
+        .help("How many documents are written at most; 100 where it isn't given")
+        .value_parser(ValueParser::unsigned(1, MOST_SAMPLES))
+        .action(ArgAction::Set)
 }
 
 /// Warnings change the status.
