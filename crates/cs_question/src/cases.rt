@@ -8,7 +8,7 @@ ghost use Rattle.cs_question.specs.Nodes.{Judgement, IsMeaning};
 ghost use Rattle.cs_question.specs.Truth.{NoDocument};
 
 use crate::effort::{Effort, MOST_STEPS};
-use crate::fault::QuestionFault;
+use crate::fault::SearchFault;
 use crate::found::Found;
 use crate::leaves::document_of;
 use crate::literal::{Literal, add, are_same, part_of, without};
@@ -170,7 +170,7 @@ pub(crate) fn found_for<'a>(
     table: &Table<'_>,
     asked: &[Literal],
     effort: &mut Effort,
-) -> Result<Option<Found<'a>>, QuestionFault>
+) -> Result<Option<Found<'a>>, SearchFault>
     ensures { IfOk result (λ o. IsNone o → NoDocument nodes.now table.now asked.now) }
 {
     let mut cases = Vec::new(alloc);
@@ -192,7 +192,7 @@ pub(crate) fn found_for<'a>(
             }
         }
     }
-    Err(QuestionFault::TooManyCases)
+    Err(SearchFault::TooManyCases)
 }
 
 /// What is opened next, and its place.

@@ -6,7 +6,7 @@ ghost use Rattle.cs_question.specs.Spread.{Spread, SomeOf, HoldsPlaces, HoldsSta
 ghost use Rattle.cs_question.specs.Truth.{Truth};
 
 use crate::effort::{Effort, MOST_STEPS};
-use crate::fault::QuestionFault;
+use crate::fault::SearchFault;
 use crate::literal::Literal;
 use crate::places::{Further, Place, Way};
 use crate::state::State;
@@ -248,7 +248,7 @@ pub(crate) fn choice<'a>(
     further: &Further,
     rules: &[Vec<Way<'a>>],
     effort: &mut Effort,
-) -> Result<Option<State<'a>>, QuestionFault>
+) -> Result<Option<State<'a>>, SearchFault>
     ensures { IfOk result (λ o. IsNone o → table.now.is_final ≡ true
         → (t : Truth table.now.entries.items) (s : Spread) → HoldsPlaces t.J t.n s places.now
         → HoldsFurther t.J t.n s further.now
@@ -281,7 +281,7 @@ pub(crate) fn choice<'a>(
             effort,
         )?;
     }
-    Err(QuestionFault::TooManyCases)
+    Err(SearchFault::TooManyCases)
 }
 
 /// The ways of one of the rules left.

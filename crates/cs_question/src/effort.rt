@@ -1,5 +1,5 @@
 // How much was done for a question, and what it needs to know.
-use crate::fault::QuestionFault;
+use crate::fault::SearchFault;
 use crate::literal::Literal;
 use std::alloc::Global;
 
@@ -30,9 +30,9 @@ impl Effort {
     ///
     /// # Errors
     /// `TooManyCases` where the limit is met.
-    pub(crate) fn step(&mut self) -> Result<(), QuestionFault> {
+    pub(crate) fn step(&mut self) -> Result<(), SearchFault> {
         if self.steps >= MOST_STEPS {
-            return Err(QuestionFault::TooManyCases);
+            return Err(SearchFault::TooManyCases);
         }
         self.steps += 1;
         Ok(())

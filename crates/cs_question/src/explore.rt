@@ -4,7 +4,7 @@ ghost use Rattle.cs_question.specs.Truth.{IsAtRest};
 
 use crate::cases::found_for;
 use crate::effort::{Effort, MOST_STEPS};
-use crate::fault::QuestionFault;
+use crate::fault::SearchFault;
 use crate::literal::Literal;
 use crate::nodes::Nodes;
 use crate::table::Table;
@@ -17,7 +17,7 @@ fn look_at<'a>(
     table: &mut Table<'a>,
     place: usize,
     effort: &mut Effort,
-) -> Result<bool, QuestionFault> {
+) -> Result<bool, SearchFault> {
     let before = table.entries.len();
     let asked = match table.entries.get(place) {
         None => return Ok(false),
@@ -38,7 +38,7 @@ fn take_wanted(
     alloc: Global,
     table: &mut Table<'_>,
     effort: &mut Effort,
-) -> Result<(), QuestionFault> {
+) -> Result<(), SearchFault> {
     for _ in 0..effort.wanted.len() {
         let Some(asked) = effort.wanted.pop() else {
             return Ok(());
@@ -55,7 +55,7 @@ fn look_forward<'a>(
     table: &mut Table<'a>,
     from: usize,
     effort: &mut Effort,
-) -> Result<bool, QuestionFault> {
+) -> Result<bool, SearchFault> {
     let mut is_changed = false;
     for place in from..MOST_STEPS {
         if place >= table.entries.len() {
@@ -73,7 +73,7 @@ fn look_back<'a>(
     nodes: &Nodes<'a>,
     table: &mut Table<'a>,
     effort: &mut Effort,
-) -> Result<bool, QuestionFault> {
+) -> Result<bool, SearchFault> {
     let mut is_changed = false;
     let count = table.entries.len();
     for i in 0..count {
@@ -89,7 +89,7 @@ pub(crate) fn explore<'a>(
     nodes: &Nodes<'a>,
     table: &mut Table<'a>,
     effort: &mut Effort,
-) -> Result<(), QuestionFault> {
+) -> Result<(), SearchFault> {
     let mut from = 0;
     for _ in 0..MOST_STEPS {
         let count = table.entries.len();
@@ -100,7 +100,7 @@ pub(crate) fn explore<'a>(
             return Ok(());
         }
     }
-    Err(QuestionFault::TooManyCases)
+    Err(SearchFault::TooManyCases)
 }
 
 /// Whether no question without an answer has one, where all others without one have none of less depth.
@@ -109,7 +109,7 @@ pub(crate) fn is_settled(
     nodes: &Nodes<'_>,
     table: &Table<'_>,
     effort: &mut Effort,
-) -> Result<bool, QuestionFault>
+) -> Result<bool, SearchFault>
     ensures { IfOk result (λ b. IsTrue b → IsAtRest nodes.now table.now) }
 {
     for entry in &table.entries {
@@ -130,7 +130,7 @@ pub(crate) fn explored<'a>(
     alloc: Global,
     nodes: &Nodes<'a>,
     asked: &[Literal],
-) -> Result<Table<'a>, QuestionFault>
+) -> Result<Table<'a>, SearchFault>
     ensures rest { IfOk result (λ t. IsAtRest nodes.now t) }
     ensures ended { IfOk result (λ t. t.is_final ≡ true) }
 {
@@ -142,6 +142,6 @@ pub(crate) fn explored<'a>(
     if is_settled(alloc, nodes, &table, &mut effort)? {
         Ok(table)
     } else {
-        Err(QuestionFault::TooManyCases)
+        Err(SearchFault::TooManyCases)
     }
 }

@@ -18,25 +18,62 @@ pub enum QuestionFault {
     TooManyCases,
 }
 
+/// Why a search ends without an answer.
+#[derive(Debug, Drop)]
+pub(crate) enum SearchFault {
+    OutOfMemory,
+    TooManyCases,
+}
+
+impl From<AllocError> for SearchFault {
+    fn from(_refused: AllocError) -> SearchFault {
+        SearchFault::OutOfMemory
+    }
+}
+
+impl<T: Drop> From<AllocFailed<T>> for SearchFault {
+    fn from(_refused: AllocFailed<T>) -> SearchFault {
+        SearchFault::OutOfMemory
+    }
+}
+
+impl From<DocFault> for SearchFault {
+    fn from(_refused: DocFault) -> SearchFault {
+        SearchFault::OutOfMemory
+    }
+}
+
 impl From<AllocError> for QuestionFault {
+    ghost use Rattle.std.specs.Prelude.{◌≡◌};
+    ghost use Rattle.cs_question.specs.declared.fault.QuestionFault.TheVariants.{OutOfMemory};
+
+    ghost from_gives = { λ _ e. e ≡ OutOfMemory };
+
     fn from(_refused: AllocError) -> QuestionFault {
         QuestionFault::OutOfMemory
     }
 }
 
-impl<T: Drop> From<AllocFailed<T>> for QuestionFault {
-    fn from(_refused: AllocFailed<T>) -> QuestionFault {
-        QuestionFault::OutOfMemory
-    }
-}
+impl From<SearchFault> for QuestionFault {
+    ghost use Rattle.std.specs.Prelude.{◌≡◌};
+    ghost use Rattle.cs_question.specs.Faults.{fault_of_search};
 
-impl From<DocFault> for QuestionFault {
-    fn from(_refused: DocFault) -> QuestionFault {
-        QuestionFault::OutOfMemory
+    ghost from_gives = { λ e f. f ≡ fault_of_search e };
+
+    fn from(fault: SearchFault) -> QuestionFault {
+        match fault {
+            SearchFault::OutOfMemory => QuestionFault::OutOfMemory,
+            SearchFault::TooManyCases => QuestionFault::TooManyCases,
+        }
     }
 }
 
 impl From<InstanceFault> for QuestionFault {
+    ghost use Rattle.std.specs.Prelude.{◌≡◌};
+    ghost use Rattle.cs_question.specs.Faults.{fault_of_judging};
+
+    ghost from_gives = { λ e f. f ≡ fault_of_judging e };
+
     fn from(fault: InstanceFault) -> QuestionFault {
         match fault {
             InstanceFault::OutOfMemory => QuestionFault::OutOfMemory,

@@ -4,7 +4,7 @@ ghost use Rattle.cs_question.specs.Outlines.{NoScalar};
 ghost use Rattle.cs_question.specs.Truth.{NoDocument};
 
 use crate::effort::Effort;
-use crate::fault::QuestionFault;
+use crate::fault::SearchFault;
 use crate::found::Found;
 use crate::integers::integer_of;
 use crate::lists::list_of;
@@ -50,7 +50,7 @@ pub(crate) fn document_of<'a>(
     table: &Table<'_>,
     asked: &[Literal],
     effort: &mut Effort,
-) -> Result<Option<Found<'a>>, QuestionFault>
+) -> Result<Option<Found<'a>>, SearchFault>
     ensures { IfOk result (λ o. IsNone o → NoDocument nodes.now table.now asked.now) }
 {
     let scalar = scalar_of(alloc, nodes, asked)?;

@@ -11,7 +11,7 @@ ghost use Rattle.cs_question.specs.Truth.{NoList, IsInner};
 
 use crate::choice::choice;
 use crate::effort::Effort;
-use crate::fault::QuestionFault;
+use crate::fault::SearchFault;
 use crate::found::Found;
 use crate::literal::{Literal, add, part_of};
 use crate::nodes::{Node, NodeEnd, Nodes};
@@ -364,7 +364,7 @@ fn list_of_length<'a>(
     asked: &[Literal],
     count: usize,
     effort: &mut Effort,
-) -> Result<Option<Found<'a>>, QuestionFault>
+) -> Result<Option<Found<'a>>, SearchFault>
     ensures { IfOk result (λ o. IsNone o → NoLength nodes.now table.now asked.now (λ m. m ≡ count)) }
 {
     if some_ask_for_more(nodes, asked, count) {
@@ -390,7 +390,7 @@ fn longer_list<'a>(
     asked: &[Literal],
     count: usize,
     effort: &mut Effort,
-) -> Result<Option<Found<'a>>, QuestionFault>
+) -> Result<Option<Found<'a>>, SearchFault>
     ensures { IfOk result (λ o. IsNone o → NoLength nodes.now table.now asked.now (λ m. count < m)) }
 {
     let places = places_of(alloc, nodes, asked, count)?;
@@ -421,7 +421,7 @@ fn shorter_list<'a>(
     asked: &[Literal],
     count: usize,
     effort: &mut Effort,
-) -> Result<Option<Found<'a>>, QuestionFault>
+) -> Result<Option<Found<'a>>, SearchFault>
     ensures { IfOk result (λ o. IsNone o → NoLength nodes.now table.now asked.now (λ m. m ≤ count)) }
 {
     for length in 0..count {
@@ -440,7 +440,7 @@ pub(crate) fn list_of<'a>(
     table: &Table<'_>,
     asked: &[Literal],
     effort: &mut Effort,
-) -> Result<Option<Found<'a>>, QuestionFault>
+) -> Result<Option<Found<'a>>, SearchFault>
     ensures { IfOk result (λ o. IsNone o → NoList nodes.now table.now asked.now) }
 {
     if !may_meet_all(nodes, asked, &Item::List(&[])) {

@@ -10,7 +10,7 @@ ghost use Rattle.cs_question.specs.Truth.{NoMap};
 
 use crate::choice::choice;
 use crate::effort::Effort;
-use crate::fault::QuestionFault;
+use crate::fault::SearchFault;
 use crate::fields::{are_all_among, ask_fields, ask_further, extra_ways, field_ways, is_allowed};
 use crate::found::Found;
 use crate::literal::Literal;
@@ -249,7 +249,7 @@ pub(crate) fn map_of<'a>(
     table: &Table<'_>,
     asked: &[Literal],
     effort: &mut Effort,
-) -> Result<Option<Found<'a>>, QuestionFault>
+) -> Result<Option<Found<'a>>, SearchFault>
     ensures { IfOk result (λ o. IsNone o → NoMap nodes.now table.now asked.now) }
 {
     if !may_meet_all(nodes, asked, &Item::Object(&[])) {

@@ -1,10 +1,11 @@
 // Whether there is a document that a definition admits and another one doesn't.
-ghost use Rattle.std.specs.Prelude.{◌≡◌, ℕ, [], ◌∷◌, List, Bool, true, false, IfOk, IfSome, IsNone, IsTrue, OnOk};
+ghost use Rattle.std.specs.Prelude.{◌≡◌, ◌⊎◌, ℕ, [], ◌∷◌, List, Bool, true, false, IfOk, IfErr, IfSome, IsNone, IsTrue, OnOk};
 ghost use Rattle.cs_document.specs.Document.{Document, IsDocument};
 ghost use Rattle.cs_document.specs.View.{doc_view};
 ghost use Rattle.cs_package.specs.Environment.{Names};
 ghost use Rattle.cs_instance.specs.Instance.{Rule, definition, IsInstance};
 ghost use Rattle.cs_question.specs.Separates.{Separates};
+ghost use Rattle.cs_question.specs.Faults.{IsRefusal};
 ghost use Rattle.cs_question.specs.Truth.{IsShut};
 ghost use Rattle.std.specs.List.{list_all};
 
@@ -33,7 +34,7 @@ fn has_none(table: &Table<'_>, asked: &[Literal]) -> bool
 /// where there is no such document, so each instance of the one is an instance of the other.
 ///
 /// # Errors
-/// `UnknownRoot` where a package doesn't declare its root, `TooManyCases` where a limit is met.
+/// `UnknownRoot` exactly where a package doesn't declare its root, `TooManyCases` where a limit is met.
 pub fn separating(
     alloc: Global,
     admitting: &Guarded,
@@ -49,6 +50,10 @@ pub fn separating(
         → IsInstance admitting.now I → IsInstance refusing.now J
         → Names admitting.now admitting_root.now n → Names refusing.now refusing_root.now m
         → Separates (I (definition n) ∷ []) (J (definition m) ∷ []) (doc_view d))) }
+    ensures declared { OnOk result (((n : List ℕ) × Names admitting.now admitting_root.now n)
+        × ((m : List ℕ) × Names refusing.now refusing_root.now m)) }
+    ensures refused { IfErr result (λ e. IsRefusal e admitting.now admitting_root.now
+        ⊎ IsRefusal e refusing.now refusing_root.now) }
 {
     let first = numbered_root(alloc, admitting, admitting_root)?;
     let second = numbered_root(alloc, refusing, refusing_root)?;
@@ -82,6 +87,7 @@ fn is_judged(
     ensures { IfOk result (λ b. IsTrue b → (I : Rule → Document → Bool) (n : List ℕ)
         → IsInstance «package».now I → Names «package».now root.now n
         → I (definition n) (doc_view doc.now) ≡ wanted) }
+    ensures refused { IfErr result (λ e. IsRefusal e «package».now root.now) }
 {
     Ok(is_instance(alloc, package, root, doc)? == wanted)
 }
@@ -134,7 +140,7 @@ fn one(alloc: Global, met: usize) -> Result<Vec<Literal>, AllocError>
 /// An instance of the root, a definition of the package named with its `#`; none where it has none.
 ///
 /// # Errors
-/// `UnknownRoot` where the package doesn't declare the root, `TooManyCases` where a limit is met.
+/// `UnknownRoot` exactly where the package doesn't declare the root, `TooManyCases` where a limit is met.
 pub fn instance_of(
     alloc: Global,
     package: &Guarded,
@@ -146,6 +152,8 @@ pub fn instance_of(
     ensures one { IfOk result (λ o. IfSome o (λ d. (I : Rule → Document → Bool) (n : List ℕ)
         → IsInstance «package».now I → Names «package».now root.now n
         → Separates (I (definition n) ∷ []) [] (doc_view d))) }
+    ensures declared { OnOk result ((n : List ℕ) × Names «package».now root.now n) }
+    ensures refused { IfErr result (λ e. IsRefusal e «package».now root.now) }
 {
     let NumberedRoot {
         numbering,

@@ -3,7 +3,7 @@ ghost use Rattle.std.specs.Prelude.{◌≡◌, true, IfOk, IsTrue};
 ghost use Rattle.cs_question.specs.Truth.{IsShut};
 
 use crate::effort::Effort;
-use crate::fault::QuestionFault;
+use crate::fault::SearchFault;
 use crate::found::Found;
 use crate::literal::{Literal, are_same};
 use std::alloc::{AllocError, Global};
@@ -47,12 +47,12 @@ impl<'a> Table<'a> {
     }
 
     /// Adds a question, unless it is there.
-    pub(crate) fn ask(&mut self, alloc: Global, asked: Vec<Literal>) -> Result<(), QuestionFault> {
+    pub(crate) fn ask(&mut self, alloc: Global, asked: Vec<Literal>) -> Result<(), SearchFault> {
         if self.place(&asked).is_some() {
             return Ok(());
         }
         if self.entries.len() >= MOST_QUESTIONS {
-            return Err(QuestionFault::TooManyCases);
+            return Err(SearchFault::TooManyCases);
         }
         let key = Vec::from_slice(alloc, &asked)?;
         let place = self.entries.len();

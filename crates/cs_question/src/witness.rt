@@ -1,5 +1,5 @@
 // The document that a table found, made of its parts.
-use crate::fault::QuestionFault;
+use crate::fault::SearchFault;
 use crate::found::Found;
 use crate::literal::Literal;
 use crate::table::{Entry, Table};
@@ -191,13 +191,13 @@ fn made(
     table: &Table<'_>,
     docs: &[Option<Doc>],
     asked: &Vec<Literal>,
-) -> Result<Doc, QuestionFault> {
+) -> Result<Doc, SearchFault> {
     let Some(place) = table.place(asked) else {
-        return Err(QuestionFault::TooManyCases);
+        return Err(SearchFault::TooManyCases);
     };
     match docs.get(place) {
         Some(Some(doc)) => Ok(doc.copy(alloc)?),
-        _ => Err(QuestionFault::TooManyCases),
+        _ => Err(SearchFault::TooManyCases),
     }
 }
 
@@ -206,7 +206,7 @@ fn list_made(
     table: &Table<'_>,
     docs: &[Option<Doc>],
     parts: &[Vec<Literal>],
-) -> Result<Doc, QuestionFault> {
+) -> Result<Doc, SearchFault> {
     let mut elements = Vec::with_capacity(alloc, parts.len())?;
     for part in parts {
         elements.push(made(alloc, table, docs, part)?)?;
@@ -240,7 +240,7 @@ fn map_made(
     members: &[(&str, Vec<Literal>)],
     further: &[Vec<Literal>],
     labels: &[&str],
-) -> Result<Doc, QuestionFault> {
+) -> Result<Doc, SearchFault> {
     let mut map = BTreeMap::new(alloc);
     for (label, part) in members {
         let doc = made(alloc, table, docs, part)?;
@@ -258,7 +258,7 @@ fn doc_of(
     table: &Table<'_>,
     docs: &[Option<Doc>],
     found: &Found<'_>,
-) -> Result<Doc, QuestionFault> {
+) -> Result<Doc, SearchFault> {
     match found {
         Found::Null => Ok(Doc::Null),
         Found::Bool(value) => Ok(Doc::Bool(*value)),
@@ -285,12 +285,12 @@ fn none_made(alloc: Global, count: usize) -> Result<Vec<Option<Doc>>, AllocError
 ///
 /// # Errors
 /// `TooManyCases` where it would have more values than a limit, or nest deeper.
-pub(crate) fn witness(alloc: Global, table: &Table<'_>) -> Result<Doc, QuestionFault> {
+pub(crate) fn witness(alloc: Global, table: &Table<'_>) -> Result<Doc, SearchFault> {
     let order = in_turn(alloc, &table.entries)?;
     let extents = extents_of(alloc, table, &order)?;
     let extent = extents.first().copied().unwrap_or(ENDLESS);
     if extent.values > MOST_VALUES || extent.depth > MOST_DEPTH {
-        return Err(QuestionFault::TooManyCases);
+        return Err(SearchFault::TooManyCases);
     }
     let is_needed = needed_of(alloc, table, &order)?;
     let mut docs = none_made(alloc, table.entries.len())?;
@@ -312,6 +312,6 @@ pub(crate) fn witness(alloc: Global, table: &Table<'_>) -> Result<Doc, QuestionF
     }
     match docs.into_iter().next() {
         Some(Some(doc)) => Ok(doc),
-        _ => Err(QuestionFault::TooManyCases),
+        _ => Err(SearchFault::TooManyCases),
     }
 }
