@@ -84,7 +84,7 @@ fn is_judged(
     doc: &Doc,
     wanted: bool,
 ) -> Result<bool, QuestionFault>
-    ensures { IfOk result (λ b. IsTrue b → (I : Rule → Document → Bool) (n : List ℕ)
+    ensures judged { IfOk result (λ b. IsTrue b → (I : Rule → Document → Bool) (n : List ℕ)
         → IsInstance «package».now I → Names «package».now root.now n
         → I (definition n) (doc_view doc.now) ≡ wanted) }
     ensures refused { IfErr result (λ e. IsRefusal e «package».now root.now) }

@@ -21,4 +21,4 @@ returns-then-has_none-clause-none c = λ e I n x i named d sep.
     (ap (λ k. I (definition k) x) (same_name E c.args.root.now name n c.in_ok-numbering.ensures.named named) ∙ sep.0.0)
 
 pub returns-then-branch-clause-one : goal.returns-then-branch-clause-one
-returns-then-branch-clause-one c = λ I n i named. ((c.in_ok-is_judged.ensures c.if-branch.true I n i named, tt), tt)
+returns-then-branch-clause-one c = λ I n i named. ((c.in_ok-is_judged.ensures.judged c.if-branch.true I n i named, tt), tt)

@@ -1,0 +1,36 @@
+-- What a comparison of two editions answers: the documents of the old root, and those of the new one.
+use Rattle.std.specs.Prelude.{◌≡◌, ℕ, List, Bool, true, false}
+use Rattle.cs_document.specs.Document.{Document, IsDocument}
+use Rattle.cs_document.specs.View.{doc_view}
+use Rattle.cs_package.specs.Environment.{Environment}
+use Rattle.cs_instance.specs.Instance.{Rule, definition, IsInstance, OneMeaning}
+use Rattle.cs_tool.specs.Accepted.{DeclaresRoot}
+use Rattle.cs_compare.specs.declared.comparison.Comparison.{Comparison}
+use Rattle.cs_compare.specs.declared.comparison.Comparison.TheVariants.{Compatible, Breaking}
+
+-- what the sources of an edition declare as its root, with one meaning
+pub record Edition (sources : List (List ℕ)) (root : List ℕ) : Type 0 where
+  pub environment : Environment
+  pub name : List ℕ
+  pub declares : DeclaresRoot sources root environment name
+  pub one_meaning : OneMeaning environment
+
+-- each document of the old edition is one of the new edition
+abbrev pub Keeps : {old : List (List ℕ)} → {old_root : List ℕ} → {new : List (List ℕ)} → {new_root : List ℕ} → Edition old old_root → Edition new new_root → Type 0
+Keeps before after = (I J : Rule → Document → Bool) → IsInstance before.environment I → IsInstance after.environment J
+    → (x : Document) → IsDocument x → I (definition before.name) x ≡ true → J (definition after.name) x ≡ true
+
+-- the document is one of the old edition, and none of the new edition
+abbrev pub Breaks : {old : List (List ℕ)} → {old_root : List ℕ} → {new : List (List ℕ)} → {new_root : List ℕ} → Edition old old_root → Edition new new_root → Document → Type 0
+Breaks before after x = (I J : Rule → Document → Bool) → IsInstance before.environment I → IsInstance after.environment J
+    → (I (definition before.name) x ≡ true) × (J (definition after.name) x ≡ false)
+
+abbrev pub IsAnswer : {old : List (List ℕ)} → {old_root : List ℕ} → {new : List (List ℕ)} → {new_root : List ℕ} → Edition old old_root → Edition new new_root → Comparison → Type 0
+IsAnswer before after Compatible = Keeps before after
+IsAnswer before after (Breaking d) = Breaks before after (doc_view d)
+
+-- both editions are accepted, and that is what the comparison says of them
+pub record IsComparison (old : List (List ℕ)) (old_root : List ℕ) (new : List (List ℕ)) (new_root : List ℕ) (answer : Comparison) : Type 0 where
+  pub before : Edition old old_root
+  pub after : Edition new new_root
+  pub answers : IsAnswer before after answer

@@ -1,0 +1,3 @@
+-- What a comparison answers and refuses.
+pub mod Compared
+pub mod Refused

@@ -1,0 +1,26 @@
+-- When two editions aren't compared: the old one's refusals come first, and the question's last.
+use Rattle.std.specs.Prelude.{ℕ, List, Option, Some, None}
+use Rattle.cs_question.specs.declared.fault.QuestionFault.{QuestionFault}
+use Rattle.cs_question.specs.declared.fault.QuestionFault.TheVariants as question
+use Rattle.cs_tool.specs.CallRefusals.{ExportRefusal}
+use Rattle.cs_tool.specs.Ready.{IsReady}
+use Rattle.cs_tool.specs.declared.fault.Fault.{Fault}
+use Rattle.cs_tool.specs.declared.fault.Fault.TheVariants.{OutOfMemory, UnknownRoot, TooManyCases}
+use Rattle.cs_compare.specs.declared.refusal.Side.{Side}
+use Rattle.cs_compare.specs.declared.refusal.Side.TheVariants.{Old, New}
+
+abbrev pub fault_of_question : QuestionFault → Fault
+fault_of_question question.OutOfMemory = OutOfMemory
+fault_of_question question.UnknownRoot = UnknownRoot
+fault_of_question question.TooManyCases = TooManyCases
+
+-- memory may run out at any time
+abbrev pub OfQuestion : Fault → Type 0
+OfQuestion OutOfMemory = Unit {0}
+OfQuestion TooManyCases = Unit {0}
+OfQuestion _ = ⊥
+
+abbrev pub IsRefusal : List (List ℕ) → List ℕ → List (List ℕ) → List ℕ → Option Side → Fault → Type 0
+IsRefusal old old_root new new_root (Some Old) f = ExportRefusal old old_root f
+IsRefusal old old_root new new_root (Some New) f = IsReady old old_root × ExportRefusal new new_root f
+IsRefusal old old_root new new_root None f = IsReady old old_root × IsReady new new_root × OfQuestion f

@@ -1,0 +1,76 @@
+// The comparison of two editions.
+ghost use Rattle.std.specs.Prelude.{◌≡◌, ◌⊎◌, ℕ, List, Some, IfOk, IfErr};
+ghost use Rattle.cs_tool.specs.Given.{bytes_in};
+ghost use Rattle.cs_tool.specs.Accepted.{DeclaresRoot};
+ghost use Rattle.cs_tool.specs.CallRefusals.{ExportRefusal};
+ghost use Rattle.cs_tool.specs.Ready.{IsReady};
+ghost use Rattle.cs_compare.specs.Compared.{IsComparison};
+ghost use Rattle.cs_compare.specs.Refused.{IsRefusal};
+
+use crate::refusal::{CompareRefusal, Side, of_question};
+use cs_document::Doc;
+use cs_guard::Guarded;
+use cs_instance::one_meaning;
+use cs_question::separating;
+use cs_tool::{Fault, read_root};
+use std::alloc::Global;
+
+/// What a comparison answers.
+#[derive(Debug, Drop)]
+pub enum Comparison {
+    /// Each document of the old definition is one of the new definition.
+    Compatible,
+    /// A document of the old definition that isn't one of the new definition.
+    Breaking(Doc),
+}
+
+/// Whether each document of the old sources' root is one of the new sources' root, each a definition named with its `#`.
+///
+/// # Errors
+/// First what `export` refuses of the old sources and root, then of the new ones; then `TooManyCases`, where the question met a
+/// limit.
+pub fn compare(
+    alloc: Global,
+    old: &[&[u8]],
+    old_root: &str,
+    new: &[&[u8]],
+    new_root: &str,
+) -> Result<Comparison, CompareRefusal>
+    ensures answered { IfOk result (IsComparison (bytes_in old.now) old_root.now (bytes_in new.now) new_root.now) }
+    ensures refused { IfErr result (λ r. IsRefusal (bytes_in old.now) old_root.now (bytes_in new.now) new_root.now r.side r.fault) }
+    ensures only { IsReady (bytes_in old.now) old_root.now → IsReady (bytes_in new.now) new_root.now
+        → IfErr result (λ r. (r.fault ≡ Fault.OutOfMemory) ⊎ (r.fault ≡ Fault.TooManyCases)) }
+{
+    let before = read_side(alloc, Side::Old, old, old_root)?;
+    let after = read_side(alloc, Side::New, new, new_root)?;
+    one_meaning(&before);
+    one_meaning(&after);
+    match separating(alloc, &before, old_root, &after, new_root) {
+        Ok(None) => Ok(Comparison::Compatible),
+        Ok(Some(doc)) => Ok(Comparison::Breaking(doc)),
+        Err(fault) => Err(CompareRefusal {
+            side: None,
+            fault: of_question(fault),
+        }),
+    }
+}
+
+/// The package of a side, where it declares the root.
+fn read_side(
+    alloc: Global,
+    side: Side,
+    sources: &[&[u8]],
+    root: &str,
+) -> Result<Guarded, CompareRefusal>
+    ensures found { IfOk result (λ g. (n : List ℕ) × DeclaresRoot (bytes_in sources.now) root.now g n) }
+    ensures refused { IfErr result (λ r. (r.side ≡ Some side) × ExportRefusal (bytes_in sources.now) root.now r.fault) }
+    ensures only { IsReady (bytes_in sources.now) root.now → IfErr result (λ r. r.fault ≡ Fault.OutOfMemory) }
+{
+    match read_root(alloc, sources, root) {
+        Ok(package) => Ok(package),
+        Err(fault) => Err(CompareRefusal {
+            side: Some(side),
+            fault,
+        }),
+    }
+}
