@@ -2,7 +2,7 @@
 use crate::keys::{Inner, pointer_of};
 use crate::spot::{Spot, Words};
 use crate::text::{put_code, put_grouped};
-use cs_tool::Named;
+use cs_report::Named;
 use serde_json::Value;
 use std::alloc::{AllocError, Global};
 use std::str;

@@ -5,7 +5,8 @@ use crate::spot::{Span, Spot, Words};
 use crate::text::{put_line, put_number, put_place};
 use crate::told::{About, put_told};
 use cs_place::position_of;
-use cs_tool::{Fault, Named};
+use cs_report::Named;
+use cs_tool::Fault;
 use itoa::Buffer;
 use std::alloc::{AllocError, Global};
 

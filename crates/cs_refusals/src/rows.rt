@@ -147,6 +147,11 @@ pub(crate) const EXPLANATIONS: &[Explanation] = &[
         remedy: "Nest less deeply, or write one of the references as an alternative to `_|_`.",
     },
     Explanation {
+        number: 17,
+        meaning: "`compare` or `samples` met its limits, and says nothing: 100,000 questions, 5,000,000 steps of search, or 100,000 values in a document.",
+        remedy: "Ask of a smaller definition, or split unions that meet in a conjunction.",
+    },
+    Explanation {
         number: 20,
         meaning: "The schema's text isn't JSON that `serde_json` reads: also where it nests more than 127 levels deep, or begins with a byte order mark.",
         remedy: "Correct the JSON.",

@@ -3,7 +3,8 @@ use crate::cycles::put_names_of_loop;
 use crate::spot::{Spot, Words};
 use crate::text::put_code;
 use cs_place::{Step, ValuePath, places};
-use cs_tool::{Fault, Named};
+use cs_report::Named;
+use cs_tool::Fault;
 use std::alloc::{AllocError, Global};
 
 /// What a step of a pointer into a schema leads to.

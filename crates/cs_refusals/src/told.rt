@@ -10,7 +10,8 @@ use crate::sources::Source;
 use crate::spot::{Spot, Words};
 use crate::text::put_line;
 use cs_forms::form_among;
-use cs_tool::{Fault, Named};
+use cs_report::Named;
+use cs_tool::Fault;
 use std::alloc::{AllocError, Global};
 use std::str;
 
@@ -126,6 +127,7 @@ fn put_by_kind<'a>(
         | Fault::FieldReference { .. }
         | Fault::NotOpened { .. }
         | Fault::OutOfMemory
+        | Fault::TooManyCases
         | Fault::InputTooLong
         | Fault::ReadFailed
         | Fault::WriteFailed => Ok(Spot::nowhere()),

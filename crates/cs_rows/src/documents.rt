@@ -1,7 +1,8 @@
 // Documents judged one after another by the same rules, each answered with its name.
 use crate::hostile::rules_of;
 use crate::tables::{Row, cell, check};
-use cs_tool::{Fault, Rules, prepare, write_answer, write_unread};
+use cs_judge::{prepare, write_answer, write_unread};
+use cs_tool::{Fault, Rules};
 use std::alloc::{AllocError, Global};
 use std::test::Fail;
 

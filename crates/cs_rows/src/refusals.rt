@@ -21,6 +21,7 @@ const MESSAGES: &str = r##"1 => more than 1,048,576 bytes
 14 => more than 1,000 definitions or 50,000 nodes
 15 => out of memory
 16 => longer than 64
+17 => too many cases
 20 => the schema is not JSON
 21 => a keyword of the schema is not supported
 22 => a value of the wrong form

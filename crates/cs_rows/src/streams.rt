@@ -172,6 +172,7 @@ fn runs_are_whole_or_cut(rt: HostRuntime) -> Result<(), Fail> {
 const LINES: &str = r##"10 => error 10 at 21
 13 => error 13
 16 => error 16
+17 => error 17
 15 => error 15
 7 => error 7
 28 => error 28
@@ -188,6 +189,7 @@ fn fault_of(number: &str) -> Fault {
         },
         "13" => Fault::UnknownRoot,
         "16" => Fault::ChainTooLong,
+        "17" => Fault::TooManyCases,
         "28" => Fault::InputTooLong,
         "30" => Fault::ReadFailed,
         "31" => Fault::WriteFailed,

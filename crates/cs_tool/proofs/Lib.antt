@@ -12,19 +12,8 @@ pub mod Judging
 pub mod BothSides
 pub mod ByExport
 pub mod Numbered
-pub mod ByRules
--- lines of bytes, and the answers to them
-pub mod LineLists
-pub mod LineRuns
-pub mod Newlines
-pub mod OneSplit
-pub mod CallFaults
-pub mod RulesRefused
--- documents with what is told of them
-pub mod ExplainedRuns
 -- what the first edition accepted
 pub mod EarlierSources
 -- samples
 pub mod Samples
 mod EarlierSamples
-mod LineSamples

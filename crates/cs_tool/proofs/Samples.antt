@@ -16,7 +16,7 @@ use Rattle.cs_tool.specs.Refusals.{number_of, offset_of, file_of, status_of, fau
 use Rattle.cs_tool.specs.Runs.{line_of}
 use Rattle.cs_tool.specs.Streams.{IsLonger, LosesAtMost, chunk_bytes}
 use Rattle.cs_tool.specs.declared.fault.Fault.{Fault}
-use Rattle.cs_tool.specs.declared.fault.Fault.TheVariants.{SourcesTooLong, NotUtf8, NoToken, Syntax, LeftOut, IntegerRange, TooHigh, PackageName, UnknownName, FieldReference, NotOpened, Cycle, UnknownRoot, TooLarge, OutOfMemory, ChainTooLong, SchemaNotJson, Keyword, Shape, Reference, Loop, NotJson, NotInteger, TooManyPairs, InputTooLong, ReadFailed, WriteFailed}
+use Rattle.cs_tool.specs.declared.fault.Fault.TheVariants.{SourcesTooLong, NotUtf8, NoToken, Syntax, LeftOut, IntegerRange, TooHigh, PackageName, UnknownName, FieldReference, NotOpened, Cycle, UnknownRoot, TooLarge, OutOfMemory, ChainTooLong, TooManyCases, SchemaNotJson, Keyword, Shape, Reference, Loop, NotJson, NotInteger, TooManyPairs, InputTooLong, ReadFailed, WriteFailed}
 
 -- ---- refusals
 
@@ -47,6 +47,7 @@ module _ (names : Vec (String Global) Global) (place name : String Global) where
       ∷ (TooLarge, (14, None, None, 2))
       ∷ (OutOfMemory, (15, None, None, 5))
       ∷ (ChainTooLong, (16, None, None, 2))
+      ∷ (TooManyCases, (17, None, None, 2))
       ∷ (SchemaNotJson, (20, None, None, 2))
       ∷ (Keyword place name, (21, None, None, 2))
       ∷ (Shape place name, (22, None, None, 2))

@@ -5,6 +5,7 @@ pub mod Headline
 pub mod Translated
 pub mod Agreement
 pub mod Refusals
+pub mod Objects
 pub mod Conversions
 pub mod First
 pub mod Ready
@@ -13,9 +14,3 @@ pub mod Sides
 pub mod Earlier
 pub mod Streams
 pub mod Runs
-pub mod Judged
-pub mod Prepared
-pub mod Lines
-pub mod Explained
-pub mod Begun
-pub mod Answering

@@ -1,7 +1,7 @@
 -- The table of refusals: the number of each, and what it carries.
 use Rattle.std.specs.Prelude.{ℕ, if◌then◌else◌, ◌==◌, ◌||◌, List, ◌++◌, ◌∷◌, [], Option, Some, None, codes, decimal}
 use Rattle.cs_tool.specs.declared.fault.Fault.{Fault}
-use Rattle.cs_tool.specs.declared.fault.Fault.TheVariants.{SourcesTooLong, NotUtf8, NoToken, Syntax, LeftOut, IntegerRange, TooHigh, PackageName, UnknownName, FieldReference, NotOpened, Cycle, UnknownRoot, TooLarge, OutOfMemory, ChainTooLong, SchemaNotJson, Keyword, Shape, Reference, Loop, NotJson, NotInteger, TooManyPairs, InputTooLong, ReadFailed, WriteFailed}
+use Rattle.cs_tool.specs.declared.fault.Fault.TheVariants.{SourcesTooLong, NotUtf8, NoToken, Syntax, LeftOut, IntegerRange, TooHigh, PackageName, UnknownName, FieldReference, NotOpened, Cycle, UnknownRoot, TooLarge, OutOfMemory, ChainTooLong, TooManyCases, SchemaNotJson, Keyword, Shape, Reference, Loop, NotJson, NotInteger, TooManyPairs, InputTooLong, ReadFailed, WriteFailed}
 
 abbrev pub number_of : Fault → ℕ
 number_of SourcesTooLong = 1
@@ -20,6 +20,7 @@ number_of UnknownRoot = 13
 number_of TooLarge = 14
 number_of OutOfMemory = 15
 number_of ChainTooLong = 16
+number_of TooManyCases = 17
 number_of SchemaNotJson = 20
 number_of (Keyword place name) = 21
 number_of (Shape place name) = 22
@@ -50,6 +51,7 @@ offset_of UnknownRoot = None
 offset_of TooLarge = None
 offset_of OutOfMemory = None
 offset_of ChainTooLong = None
+offset_of TooManyCases = None
 offset_of SchemaNotJson = None
 offset_of (Keyword place name) = None
 offset_of (Shape place name) = None
@@ -80,6 +82,7 @@ file_of UnknownRoot = None
 file_of TooLarge = None
 file_of OutOfMemory = None
 file_of ChainTooLong = None
+file_of TooManyCases = None
 file_of SchemaNotJson = None
 file_of (Keyword place name) = None
 file_of (Shape place name) = None

@@ -56,6 +56,10 @@ pub enum Fault {
     /// 16: a chain of more than 64 strong references, where there is no cycle.
     #[error("a chain of references is longer than 64; nest the definitions less deeply")]
     ChainTooLong,
+    /// 17: whether every document of one definition is one of another was not found within the limits: 100,000 questions,
+    /// 5,000,000 steps of search, and 100,000 values in a document.
+    #[error("the question has too many cases; ask it of smaller definitions")]
+    TooManyCases,
     /// 20: the schema's text isn't JSON that `serde_json` reads.
     #[error("the schema is not JSON")]
     SchemaNotJson,
@@ -139,6 +143,7 @@ impl Fault {
             Fault::TooLarge => 14,
             Fault::OutOfMemory => 15,
             Fault::ChainTooLong => 16,
+            Fault::TooManyCases => 17,
             Fault::SchemaNotJson => 20,
             Fault::Keyword { .. } => 21,
             Fault::Shape { .. } => 22,

@@ -16,7 +16,7 @@ use cs_validate::SchemaRules;
 use std::alloc::Global;
 
 /// Whether the document is an instance of the root, as `vet` answers.
-pub(crate) fn judge_root(
+pub fn judge_root(
     rules: &RootRules<'_>,
     alloc: Global,
     text: &[u8],
@@ -38,7 +38,7 @@ pub(crate) fn judge_root(
 }
 
 /// Whether the document is valid against the schema, as `validate` answers.
-pub(crate) fn judge_schema(
+pub fn judge_schema(
     rules: &SchemaRules<'_>,
     alloc: Global,
     text: &[u8],
@@ -57,7 +57,7 @@ pub(crate) fn judge_schema(
 }
 
 /// Whether the document is an instance of the root, judged on both sides, as `agree` answers.
-pub(crate) fn judge_both(
+pub fn judge_both(
     root_side: &RootRules<'_>,
     schema_side: &SchemaRules<'_>,
     alloc: Global,

@@ -11,7 +11,7 @@ use cs_validate::{SchemaRules, schema_rules};
 use std::alloc::Global;
 
 /// The rules that a declared root reaches.
-pub(crate) fn number_root<'a>(
+pub fn number_root<'a>(
     alloc: Global,
     guarded: &'a Guarded,
     root: &str,
@@ -26,10 +26,7 @@ pub(crate) fn number_root<'a>(
 }
 
 /// The rules of a schema. Only memory can run out.
-pub(crate) fn number_schema<'a>(
-    alloc: Global,
-    schema: &'a SchemaDoc,
-) -> Result<SchemaRules<'a>, Fault>
+pub fn number_schema<'a>(alloc: Global, schema: &'a SchemaDoc) -> Result<SchemaRules<'a>, Fault>
     ensures found { IfOk result (λ r. r ≡ document_of schema.now) }
     ensures memory { IsOkUnless result Fault.OutOfMemory }
 {

@@ -1,7 +1,7 @@
-// The objects of JSON that tell refusals, and the members that name a document before what is told of it.
+// The objects of JSON that tell refusals.
 ghost use Rattle.std.specs.Prelude.{◌≡◌, ◌+◌, ◌≤◌, ◌++◌, ℕ, List, OnOk, OnErr, Err, codes, length, take};
 ghost use Rattle.std.specs.Io.KnownBytes.{Appends};
-ghost use Rattle.cs_tool.specs.Explained.{error_member, input_member, IsFaultObject};
+ghost use Rattle.cs_tool.specs.Objects.{error_member, IsFaultObject};
 
 use crate::Fault;
 use crate::writes::{put, write_part, write_text};
@@ -11,7 +11,7 @@ use std::alloc::{AllocError, Global};
 use std::io::Write;
 
 /// A member with a number of at most 20 digits, and what stands round it.
-pub(crate) const MEMBER_ROOM: usize = 40;
+pub const MEMBER_ROOM: usize = 40;
 
 /// Writes the object that tells the fault, and a newline: `error`, its number; then where the fault has them `file`, the name
 /// that `names` has at the file's place; `offset`; `names`; `place` and `name`. Where memory runs out it has the number alone.
@@ -47,35 +47,13 @@ fn write_object<W: Write>(fault: &Fault, details: &[u8], output: &mut W) -> Resu
 }
 
 /// Puts the member with the fault's number at a place, and returns where it ends.
-pub(crate) fn put_error(line: &mut [u8], at: usize, fault: &Fault) -> usize
+pub fn put_error(line: &mut [u8], at: usize, fault: &Fault) -> usize
     requires { at + 30 ≤ length line.old }
     ensures within { result ≤ at + 30 }
     ensures text { take result line.new ≡ take at line.old ++ error_member fault.now }
 {
     let end = put(line, at, b"\"error\":");
     put(line, end, Buffer::new().format(fault.number()).as_bytes())
-}
-
-/// Puts the beginning of the object of a line of that number, with its first member.
-pub(crate) fn put_input(line: &mut [u8], number: usize) -> usize
-    requires { 35 ≤ length line.old }
-    ensures within { result ≤ 35 }
-    ensures text { take result line.new ≡ input_member number }
-{
-    let start = put(line, 0, b"{\"input\":");
-    let end = put(line, start, Buffer::new().format(number).as_bytes());
-    put(line, end, b",")
-}
-
-/// The beginning of the object of a document of that name, with its first member.
-pub(crate) fn document_front(alloc: Global, name: &str) -> Result<Vec<u8>, AllocError> {
-    let mut out = Writer::new(Vec::new(alloc));
-    out.begin_object()?;
-    out.key("document")?;
-    out.string(name)?;
-    let mut front = out.into_inner();
-    front.push(b',')?;
-    Ok(front)
 }
 
 /// What the fault carries beside its number: further members, each after a comma.

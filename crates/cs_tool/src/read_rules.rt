@@ -16,7 +16,7 @@ use cs_schema::{SchemaDoc, read_schema};
 use std::alloc::Global;
 
 /// The package of the sources, where it declares the root.
-pub(crate) fn read_root(alloc: Global, sources: &[&[u8]], root: &str) -> Result<Guarded, Fault>
+pub fn read_root(alloc: Global, sources: &[&[u8]], root: &str) -> Result<Guarded, Fault>
     ensures found { IfOk result (λ g. (n : List ℕ)
         × DeclaresRoot (bytes_in sources.now) root.now g n) }
     ensures refused { IfErr result (λ e. ExportRefusal (bytes_in sources.now) root.now e) }
@@ -30,7 +30,7 @@ pub(crate) fn read_root(alloc: Global, sources: &[&[u8]], root: &str) -> Result<
 }
 
 /// The schema of a schema's text, trimmed. Its refusals hold whatever the document is.
-pub(crate) fn read_schema_text(alloc: Global, text: &[u8]) -> Result<SchemaDoc, Fault>
+pub fn read_schema_text(alloc: Global, text: &[u8]) -> Result<SchemaDoc, Fault>
     ensures found { IfOk result (λ s. IsSchemaOf text.now (document_of s)) }
     ensures refused { (doc : List ℕ) → IfErr result (λ e. ValidateRefusal text.now doc e) }
     ensures only { IsSchemaText text.now → IsOkUnless result Fault.OutOfMemory }
@@ -43,7 +43,7 @@ pub(crate) fn read_schema_text(alloc: Global, text: &[u8]) -> Result<SchemaDoc, 
 }
 
 /// The package of the sources, and the exported schema of the root, which is read again from its text.
-pub(crate) fn read_both(
+pub fn read_both(
     alloc: Global,
     sources: &[&[u8]],
     root: &str,

@@ -5,10 +5,7 @@ ghost use Rattle.cs_tool.specs.Given.{bytes_in};
 use std::alloc::{AllocError, Global};
 
 /// The bytes of each file.
-pub(crate) fn slices_of<'a>(
-    alloc: Global,
-    files: &'a [Vec<u8>],
-) -> Result<Vec<&'a [u8]>, AllocError>
+pub fn slices_of<'a>(alloc: Global, files: &'a [Vec<u8>]) -> Result<Vec<&'a [u8]>, AllocError>
     ensures { IfOk result (λ v. bytes_in v.items ≡ map (λ f. f.items) files.now) }
 {
     let mut slices: Vec<&'a [u8]> = Vec::with_capacity(alloc, files.len())?;

@@ -17,7 +17,7 @@ use cs_validate::{SchemaRules, ValidateFault};
 use std::alloc::Global;
 
 /// Whether the document is an instance of the root. The table's memory is used again.
-pub(crate) fn is_instance(
+pub fn is_instance(
     rules: &RootRules<'_>,
     alloc: Global,
     document: &Document<'_>,
@@ -42,7 +42,7 @@ pub(crate) fn is_instance(
 }
 
 /// Whether the document is valid against the schema. The table's memory is used again.
-pub(crate) fn is_valid(
+pub fn is_valid(
     rules: &SchemaRules<'_>,
     alloc: Global,
     document: &Document<'_>,

@@ -12,7 +12,7 @@ use std::io::Write;
 const LINE_ROOM: usize = 64;
 
 /// Writes the text and flushes. After an error the writer has a front of the text.
-pub(crate) fn write_text<W: Write>(output: &mut W, text: &[u8]) -> Result<(), Fault>
+pub fn write_text<W: Write>(output: &mut W, text: &[u8]) -> Result<(), Fault>
     ensures all { OnOk result (Appends (W.contents output.old) (W.contents output.new) text.now) }
     ensures front { OnErr result
         (AppendsFront (W.contents output.old) (W.contents output.new) text.now) }
@@ -51,7 +51,7 @@ fn fill_line(fault: &Fault, line: &mut [u8; LINE_ROOM]) -> usize
 }
 
 /// Puts a part at a place, and returns where it ends.
-pub(crate) fn put(line: &mut [u8], at: usize, part: &[u8]) -> usize
+pub fn put(line: &mut [u8], at: usize, part: &[u8]) -> usize
     requires { at + length part.now ≤ length line.old }
     ensures end { result ≡ at + length part.now }
     ensures text { take result line.new ≡ take at line.old ++ part.now }
@@ -62,7 +62,7 @@ pub(crate) fn put(line: &mut [u8], at: usize, part: &[u8]) -> usize
 }
 
 /// Every error counts, an interruption too.
-pub(crate) fn write_part<W: Write>(output: &mut W, text: &[u8]) -> Result<(), Fault>
+pub fn write_part<W: Write>(output: &mut W, text: &[u8]) -> Result<(), Fault>
     ensures all { OnOk result (Appends (W.contents output.old) (W.contents output.new) text.now) }
     ensures front { OnErr result
         (AppendsFront (W.contents output.old) (W.contents output.new) text.now) }

@@ -6,8 +6,9 @@ use crate::refused::print;
 use crate::requests::sources_of;
 use clap::ArgMatches;
 use cs_findings::{Checked, write_findings, write_schema_findings};
+use cs_judge::Named;
 use cs_refusals::explained;
-use cs_tool::{Fault, Named};
+use cs_tool::Fault;
 use std::alloc::{AllocError, Global};
 
 /// The status of warnings alone, where they count.

@@ -6,11 +6,12 @@ use crate::reasons::Reasons;
 use crate::refused::{about_rules, or_told, tell_unread};
 use crate::requests::{Documents, documents_of, root_of, sources_of, word_of};
 use clap::ArgMatches;
-use cs_refusals::About;
-use cs_tool::{
-    Fault, Form, LinesOutcome, Named, Rules, TextJudge, Why, explain_lines, named_sources, prepare,
+use cs_judge::{
+    Form, LinesOutcome, Named, TextJudge, Why, explain_lines, named_sources, prepare,
     run_explained, write_explained, write_unexplained,
 };
+use cs_refusals::About;
+use cs_tool::{Fault, Rules};
 use std::alloc::{AllocError, Global};
 use std::fs::File;
 use std::io::{Read, sink};

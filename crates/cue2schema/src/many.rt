@@ -2,9 +2,8 @@
 use crate::INVALID;
 use crate::files::read_input;
 use crate::requests::Documents;
-use cs_tool::{
-    Fault, LinesOutcome, Rules, TextJudge, prepare, run_lines, write_answer, write_unread,
-};
+use cs_judge::{LinesOutcome, TextJudge, prepare, run_lines, write_answer, write_unread};
+use cs_tool::{Fault, Rules};
 use std::fs::File;
 
 /// The status where a document was refused.

@@ -1,6 +1,6 @@
 // What the words say of reasons.
 use clap::ArgMatches;
-use cs_tool::{Form, Named, Telling, Why};
+use cs_judge::{Form, Named, Telling, Why};
 
 /// How many reasons are told at most where the words don't say.
 const MOST_REASONS: usize = 20;

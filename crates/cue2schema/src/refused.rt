@@ -3,8 +3,9 @@ use crate::explained::{STANDARD_INPUT, names_of, sources_by_name};
 use crate::requests::{root_of, sources_of, word_of};
 use crate::unread::{Unread, sizes_of, unread_file};
 use clap::ArgMatches;
+use cs_judge::{Form, Named};
 use cs_refusals::{About, why_refused, write_refusal_json};
-use cs_tool::{Fault, Form, Named, Rules, export, write_fault, write_fault_json};
+use cs_tool::{Fault, Rules, export, write_fault, write_fault_json};
 use std::io::Write;
 
 /// The names of the sources where none is given.

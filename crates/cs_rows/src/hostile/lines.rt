@@ -2,7 +2,8 @@
 use crate::hostile::fakes::{Input, Output};
 use crate::hostile::tables::{Row, check};
 use crate::tables::cell;
-use cs_tool::{Fault, LinesOutcome, Rules, run_lines};
+use cs_judge::{LinesOutcome, run_lines};
+use cs_tool::{Fault, Rules};
 use std::alloc::{AllocError, Global};
 use std::io::ErrorKind;
 use std::test::Fail;

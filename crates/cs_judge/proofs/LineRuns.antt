@@ -1,0 +1,247 @@
+-- The steps of a run over lines, and how it ends: at the input's end, where a read fails, and where a write fails.
+use Rattle.std.proofs.Common.{◌≡◌, ◌≢◌, ℕ, ◌+◌, ◌≤◌, List, [], ◌∷◌, ◌++◌, length, take, drop, Option, None, Some, Result, Err, IfErr, refl, sym, ap, subst, ◌∙◌, arith, append-nil, append_assoc, length-append}
+use Rattle.std.specs.Option.{IfSome}
+use Rattle.std.specs.Io.KnownBytes.{Appends, Consumes, IsAtEnd}
+use Rattle.std.proofs.KnownBytes.{Appends-nil, Appends-trans, Consumes-trans}
+use Rattle.std.proofs.Math.Seq.{take-append-add}
+use Rattle.std.proofs.lemmas.List.{take-append-drop}
+use Rattle.cs_judge.specs.declared.answers.LinesOutcome.TheVariants.{AllValid}
+use Rattle.cs_tool.specs.declared.fault.Fault.{Fault}
+use Rattle.cs_tool.specs.declared.fault.Fault.TheVariants.{WriteFailed}
+use Rattle.cs_judge.specs.declared.lines.LineRun.{LineRun}
+use Rattle.cs_tool.specs.declared.rules.Rules.{Rules}
+use Rattle.cs_judge.specs.Answering.{AreAnswered, IsAnswered, AreCutOff, IsCutOffIn, BeginsWith}
+use Rattle.cs_judge.specs.Begun.{HoldsFront}
+use Rattle.cs_judge.specs.Lines.{Answer, IsLine, last_line, AreLines, AreFirstLines, IsLineAnswer, AreAnswers, answer_line, answers_text, worse, outcome_of_answer, IsDone, IsCutOff, LeavesLines, Hands}
+use Rattle.cs_tool.specs.Streams.{AppendsFront}
+use Rattle.cs_judge.proofs.LineLists.{answers_push, outcome_push, text_push, hands_more, no_bytes, piece_more, line_more, split_begins, begins_more, first_lines}
+
+-- ---- what was written
+
+module _ (start mid now : Option (List ℕ)) (text held : List ℕ) (h : Hands start mid text held) where
+  -- what was held is written
+  pub held_written : Appends mid now held → Appends start now text
+  held_written w = subst (Appends start now) (sym h.2) (Appends-trans start mid now h.0 held h.1 w)
+
+  -- a front of it is written
+  pub front_written : AppendsFront mid now held → AppendsFront start now text
+  front_written w =
+      let n = length h.0 + w.0 in
+      let short : n ≤ length text = omega (arith, w.1, ap length h.2, length-append h.0 held) in
+      let same : h.0 ++ take w.0 held ≡ take n text = sym (take-append-add h.0 held w.0) ∙ ap (take n) (sym h.2) in
+      (n, short, subst (Appends start now) same (Appends-trans start mid now h.0 (take w.0 held) h.1 w.2))
+
+module _ (start mid now : Option (List ℕ)) (lines : List (List ℕ)) (run : LineRun) (a : AreAnswered start mid lines run) where
+  pub lines_cut_off : AppendsFront mid now run.held → AreCutOff run.judge lines start now
+  lines_cut_off w = record { answers = a.answers; answered = a.answered; written = front_written start mid now (answers_text a.answers) run.held a.handed w }
+
+-- nothing more is written
+pub lines_unwritten : (start now : Option (List ℕ)) (lines : List (List ℕ)) (run : LineRun) → AreAnswered start now lines run → AreCutOff run.judge lines start now
+lines_unwritten start now lines run a = lines_cut_off start now now lines run a (0, omega arith, Appends-nil now)
+
+-- ---- what was read
+
+pub lines_of_whole : (remaining left : Option (List ℕ)) (bytes : List ℕ) (lines : List (List ℕ)) → Consumes remaining left bytes → IsAtEnd left → AreLines bytes lines → IfSome remaining (λ xs. AreLines xs lines)
+lines_of_whole None left bytes lines given end h = tt
+lines_of_whole (Some xs) None bytes lines given end h = absurd given
+lines_of_whole (Some xs) (Some ys) bytes lines given end h =
+    let same : xs ≡ bytes = given ∙ ap (λ t. bytes ++ t) end ∙ append-nil bytes in
+    subst (λ b. AreLines b lines) (sym same) h
+
+pub first_of_whole : (remaining left : Option (List ℕ)) (bytes : List ℕ) (lines : List (List ℕ)) → Consumes remaining left bytes → IsAtEnd left → AreFirstLines bytes lines → IfSome remaining (λ xs. AreFirstLines xs lines)
+first_of_whole None left bytes lines given end h = tt
+first_of_whole (Some xs) None bytes lines given end h = absurd given
+first_of_whole (Some xs) (Some ys) bytes lines given end h =
+    let same : xs ≡ bytes = given ∙ ap (λ t. bytes ++ t) end ∙ append-nil bytes in
+    subst (λ b. AreFirstLines b lines) (sym same) h
+
+pub first_of_input : (remaining left : Option (List ℕ)) (bytes : List ℕ) (lines : List (List ℕ)) → Consumes remaining left bytes → BeginsWith bytes lines → IfSome remaining (λ xs. AreFirstLines xs lines)
+first_of_input None left bytes lines given h = tt
+first_of_input (Some xs) None bytes lines given h = absurd given
+first_of_input (Some xs) (Some ys) bytes lines given h = subst (λ b. AreFirstLines b lines) (sym given) (first_lines (bytes ++ ys) lines (begins_more bytes ys lines h))
+
+-- ---- how a run ends
+
+module _ (rules : Rules) (remaining left start now : Option (List ℕ)) (bytes : List ℕ) (given : Consumes remaining left bytes) where
+  pub cut_off : IsCutOffIn rules bytes start now → IsCutOff rules remaining start now
+  cut_off h = record {
+    lines = h.0;
+    answers = h.2.answers;
+    read = first_of_input remaining left bytes h.0 given h.1;
+    answered = h.2.answered;
+    written = h.2.written;
+  }
+
+  pub cut_off_at_end : IsAtEnd left → IsCutOff rules (Some bytes) start now → IsCutOff rules remaining start now
+  cut_off_at_end end h = record {
+    lines = h.lines;
+    answers = h.answers;
+    read = first_of_whole remaining left bytes h.lines given end h.read;
+    answered = h.answered;
+    written = h.written;
+  }
+
+  pub done : IsAtEnd left → {outcome : _} → IsDone rules (Some bytes) start now outcome → IsDone rules remaining start now outcome
+  done end h = record {
+    lines = h.lines;
+    answers = h.answers;
+    read = lines_of_whole remaining left bytes h.lines given end h.read;
+    answered = h.answered;
+    written = h.written;
+    outcome_is = h.outcome_is;
+  }
+
+-- ---- the steps of a run
+
+-- before the first read
+pub nothing_read : (now : Option (List ℕ)) (run : LineRun) → HoldsFront run.begun [] → run.held ≡ [] → run.outcome ≡ AllValid → IsAnswered now now [] run
+nothing_read now run begun none outcome = record {
+  lines = [];
+  rest = [];
+  split = no_bytes;
+  begun = begun;
+  answered = record { answers = []; answered = tt; handed = ([], Appends-nil now, sym none); outcome_is = outcome };
+}
+
+-- nothing of the answers changes
+pub same_answers : (start now : Option (List ℕ)) (lines : List (List ℕ)) (run after : LineRun) → AreAnswered start now lines run → after.judge ≡ run.judge → after.held ≡ run.held → after.outcome ≡ run.outcome → AreAnswered start now lines after
+same_answers start now lines run after a judge held outcome = record {
+  answers = a.answers;
+  answered = subst (λ r. AreAnswers r lines a.answers) (sym judge) a.answered;
+  handed = subst (Hands start now (answers_text a.answers)) (sym held) a.handed;
+  outcome_is = outcome ∙ a.outcome_is;
+}
+
+-- what was held is written
+pub written_out : (start mid now : Option (List ℕ)) (bytes : List ℕ) (run after : LineRun) → IsAnswered start mid bytes run → Appends mid now run.held
+    → after.judge ≡ run.judge → after.begun ≡ run.begun → after.held ≡ [] → after.outcome ≡ run.outcome → IsAnswered start now bytes after
+written_out start mid now bytes run after a w judge begun none outcome =
+    let b = a.answered in
+    let text = answers_text b.answers in
+    record {
+      lines = a.lines;
+      rest = a.rest;
+      split = a.split;
+      begun = subst (λ l. HoldsFront l a.rest) (sym begun) a.begun;
+      answered = record {
+        answers = b.answers;
+        answered = subst (λ r. AreAnswers r a.lines b.answers) (sym judge) b.answered;
+        handed = subst (Hands start now text) (sym none) (text, held_written start mid now text run.held b.handed w, sym (append-nil text));
+        outcome_is = outcome ∙ b.outcome_is;
+      };
+    }
+
+module _ (start mid now : Option (List ℕ)) (bytes piece : List ℕ) (run after : LineRun) (a : IsAnswered start mid bytes run) (clean : IsLine piece) where
+  -- the piece ends a line, which is answered
+  pub line_answered : AreAnswered start now (a.lines ++ (a.rest ++ piece) ∷ []) after → HoldsFront after.begun [] → IsAnswered start now (bytes ++ piece ++ 10 ∷ []) after
+  line_answered answered begun = record {
+    lines = a.lines ++ (a.rest ++ piece) ∷ [];
+    rest = [];
+    split = line_more bytes a.lines a.rest a.split piece clean;
+    begun = begun;
+    answered = answered;
+  }
+
+  -- the piece is kept
+  pub piece_kept : AreAnswered start now a.lines after → HoldsFront after.begun (a.rest ++ piece) → IsAnswered start now (bytes ++ piece) after
+  piece_kept answered begun = record {
+    lines = a.lines;
+    rest = a.rest ++ piece;
+    split = piece_more bytes a.lines a.rest a.split piece clean;
+    begun = begun;
+    answered = answered;
+  }
+
+module _ (start mid now : Option (List ℕ)) (bytes : List ℕ) (run : LineRun) (a : IsAnswered start mid bytes run) where
+  -- a write fails while lines of these bytes are answered
+  pub answers_cut_off : AreCutOff run.judge a.lines start now → IsCutOffIn run.judge bytes start now
+  answers_cut_off cut = (a.lines, split_begins bytes a.lines a.rest a.split, cut)
+
+-- the lines of the whole input are answered
+abbrev pub AreAllAnswered : Rules → Option (List ℕ) → Option (List ℕ) → List ℕ → LineRun → Type 0
+AreAllAnswered rules start now bytes run = (lines : List (List ℕ)) × AreLines bytes lines × AreAnswered start now lines run × (run.judge ≡ rules)
+
+module _ (start now : Option (List ℕ)) (bytes : List ℕ) (run : LineRun) (a : IsAnswered start now bytes run) where
+  -- no line is begun
+  pub none_begun : a.rest ≡ [] → AreAllAnswered run.judge start now bytes run
+  none_begun none = (a.lines, (a.lines, a.rest, a.split, sym (ap (λ r. a.lines ++ last_line r) none ∙ append-nil a.lines)), a.answered, refl)
+
+  last_is_one : (rest : List ℕ) → rest ≢ [] → last_line rest ≡ (rest ++ []) ∷ []
+  last_is_one [] some = absurd (some refl)
+  last_is_one (b ∷ bytes) some = ap (λ r. r ∷ []) (sym (append-nil (b ∷ bytes)))
+
+  -- the line that is begun is answered
+  pub last_answered : (later : Option (List ℕ)) (after : LineRun) → a.rest ≢ [] → after.judge ≡ run.judge → AreAnswered start later (a.lines ++ (a.rest ++ []) ∷ []) after → AreAllAnswered run.judge start later bytes after
+  last_answered later after some same answered = (a.lines ++ (a.rest ++ []) ∷ [], (a.lines, a.rest, a.split, ap (λ l. a.lines ++ l) (sym (last_is_one a.rest some))), answered, same)
+
+  -- a write fails while the last line is answered
+  pub last_cut_off : (later : Option (List ℕ)) → AreCutOff run.judge a.lines start later → IsCutOff run.judge (Some bytes) start later
+  last_cut_off later cut = record {
+    lines = a.lines;
+    answers = cut.answers;
+    read = first_lines bytes a.lines (split_begins bytes a.lines a.rest a.split);
+    answered = cut.answered;
+    written = cut.written;
+  }
+
+module _ (rules : Rules) (start mid now : Option (List ℕ)) (bytes : List ℕ) (run : LineRun) (a : AreAllAnswered rules start mid bytes run) where
+  pub all_done : Appends mid now run.held → IsDone rules (Some bytes) start now run.outcome
+  all_done w = record {
+    lines = a.0;
+    answers = a.2.answers;
+    read = a.1;
+    answered = subst (λ r. AreAnswers r a.0 a.2.answers) a.3 a.2.answered;
+    written = held_written start mid now (answers_text a.2.answers) run.held a.2.handed w;
+    outcome_is = a.2.outcome_is;
+  }
+
+  pub all_cut_off : AppendsFront mid now run.held → IsCutOff rules (Some bytes) start now
+  all_cut_off w = record {
+    lines = a.0;
+    answers = a.2.answers;
+    read = ([], subst (AreLines bytes) (sym (append-nil a.0)) a.1);
+    answered = subst (λ r. AreAnswers r a.0 a.2.answers) a.3 a.2.answered;
+    written = front_written start mid now (answers_text a.2.answers) run.held a.2.handed w;
+  }
+
+pub all_unwritten : (rules : Rules) (start now : Option (List ℕ)) (bytes : List ℕ) (run : LineRun) → AreAllAnswered rules start now bytes run → IsCutOff rules (Some bytes) start now
+all_unwritten rules start now bytes run a = all_cut_off rules start now now bytes run a (0, omega arith, Appends-nil now)
+
+pub cut_off_more : (rules : Rules) (bytes more : List ℕ) (start now : Option (List ℕ)) → IsCutOffIn rules bytes start now → IsCutOffIn rules (bytes ++ more) start now
+cut_off_more rules bytes more start now h = (h.0, begins_more bytes more h.0 h.1, h.2)
+
+-- one more line is answered
+pub one_more : (start mid now : Option (List ℕ)) (lines : List (List ℕ)) (line : List ℕ) (answer : Answer) (run after : LineRun) → AreAnswered start mid lines run → IsLineAnswer run.judge line answer
+    → Hands mid now (run.held ++ answer_line answer) after.held → after.judge ≡ run.judge → after.outcome ≡ worse run.outcome (outcome_of_answer answer) → AreAnswered start now (lines ++ line ∷ []) after
+one_more start mid now lines line answer run after a is handed same outcome =
+    record {
+      answers = a.answers ++ answer ∷ [];
+      answered = subst (λ r. AreAnswers r (lines ++ line ∷ []) (a.answers ++ answer ∷ [])) (sym same) (answers_push run.judge lines a.answers line answer a.answered is);
+      handed = subst (λ t. Hands start now t after.held) (sym (text_push a.answers answer)) (hands_more start mid now (answers_text a.answers) run.held (answer_line answer) after.held a.handed handed);
+      outcome_is = outcome ∙ ap (λ o. worse o (outcome_of_answer answer)) a.outcome_is ∙ sym (outcome_push a.answers answer);
+    }
+
+pub regrouped : (bytes front piece more : List ℕ) → bytes ++ front ++ piece ++ more ≡ bytes ++ (front ++ piece ++ more)
+regrouped bytes front piece more = ap (λ t. t ++ more) (append_assoc bytes front piece) ∙ append_assoc bytes (front ++ piece) more
+
+-- a write fails within a chunk
+pub chunk_cut_off : (rules : Rules) (bytes chunk : List ℕ) (at : ℕ) (start now : Option (List ℕ)) → IsCutOffIn rules (bytes ++ take at chunk) start now → IsCutOffIn rules (bytes ++ chunk) start now
+chunk_cut_off rules bytes chunk at start now h =
+    let whole = append_assoc bytes (take at chunk) (drop at chunk) ∙ ap (λ t. bytes ++ t) (take-append-drop at chunk) in
+    subst (λ b. IsCutOffIn rules b start now) whole (cut_off_more rules (bytes ++ take at chunk) (drop at chunk) start now h)
+
+-- a read that gave nothing
+pub read_nothing : (a b c : Option (List ℕ)) (bytes chunk : List ℕ) (count : ℕ) → Consumes a b bytes → Consumes b c (take count chunk) → count ≡ 0 → Consumes a c bytes
+read_nothing a b c bytes chunk count before now none =
+    let same : bytes ++ take count chunk ≡ bytes = ap (λ n. bytes ++ take n chunk) none ∙ append-nil bytes in
+    subst (Consumes a c) same (Consumes-trans a b c bytes (take count chunk) before now)
+
+-- a write failed
+pub write_failed : {T : Type 0} (r : Result T Fault) (e : Fault) (rules : Rules) (remaining left old new : Option (List ℕ)) → r ≡ Err e → e ≡ WriteFailed → IsCutOff rules remaining old new → IfErr r (λ f. LeavesLines rules f remaining left old new)
+write_failed r e rules remaining left old new is kind cut =
+    subst (λ q. IfErr q (λ f. LeavesLines rules f remaining left old new)) (sym is) (subst (λ f. LeavesLines rules f remaining left old new) (sym kind) cut)
+
+-- ---- two writes, one after the other
+
+pub front_of_both : (old mid new : Option (List ℕ)) (first second : List ℕ) → Appends old mid first → AppendsFront mid new second → AppendsFront old new (first ++ second)
+front_of_both old mid new first second a w = front_written old mid new (first ++ second) second (first, a, refl) w

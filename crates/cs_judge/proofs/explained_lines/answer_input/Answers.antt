@@ -1,0 +1,10 @@
+use Rattle.std.proofs.Common.{inr}
+use Rattle.cs_judge.proofs.LineLists.{if_err}
+use Rattle.cs_judge.proofs.RulesRefused.{not_of_rules}
+use Rattle.cs_judge.proofs.explained_lines.answer_input.Goals as goal
+
+pub returns-clause-unread : goal.returns-clause-unread
+returns-clause-unread g c = not_of_rules _ c.answer_chunks.result c.answer_chunks.ensures.kind
+
+pub returns-clause-kind : goal.returns-clause-kind
+returns-clause-kind g c = if_err c.answer_chunks.result (λ e h. inr h) c.answer_chunks.ensures.kind

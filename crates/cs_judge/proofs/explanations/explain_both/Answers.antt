@@ -1,0 +1,100 @@
+use Rattle.std.proofs.Common.{◌≡◌, ◌⊎◌, ℕ, Bool, List, refl, inl, inr, sym, subst, ◌∙◌}
+use Rattle.std.proofs.lemmas.Result.{err_from_is_err_and}
+use Rattle.cs_doc.specs.ReadAs.{read_as}
+use Rattle.cs_document.specs.Document.{Document}
+use Rattle.cs_package.specs.Environment.{Environment}
+use Rattle.cs_tool.specs.Headline.{IsExport, IsVerdict, IsValidated}
+use Rattle.cs_tool.specs.Agreement.{IsAgreement}
+use Rattle.cs_tool.specs.Ready.{IsReady, RootHasManyPairs, ExportHasManyPairs, SchemaHasManyPairs, IsReadyToAgree}
+use Rattle.cs_tool.specs.CallRefusals.{AgreeRefusal}
+use Rattle.cs_tool.specs.Sides.{AreSidesOf}
+use Rattle.cs_tool.specs.declared.fault.Fault.{Fault}
+use Rattle.cs_tool.specs.declared.fault.Fault.TheVariants.{OutOfMemory, NotJson, NotInteger, TooManyPairs}
+use Rattle.cs_tool.proofs.Judging.{Refuses, memory_alone, by_text, by_root, by_schema, few_of_root, verdict, validated}
+use Rattle.cs_tool.proofs.BothSides.{vet-and-validate-agree}
+use Rattle.cs_judge.proofs.explanations.explain_both.Goals.{then-is_instance, else-is_instance}
+use Rattle.cs_judge.proofs.explanations.explain_both.Goals as goal
+
+module _ (sources : List (List ℕ)) (root text : List ℕ) where
+  abbrev Many : Type 0
+  Many = RootHasManyPairs sources root text ⊎ ExportHasManyPairs sources root text
+
+  refused : IsReady sources root → (e : Fault) → Refuses text Many e → AgreeRefusal sources root text e
+  refused ready OutOfMemory h = tt
+  refused ready NotJson h = (ready, h)
+  refused ready NotInteger h = (ready, h)
+  refused ready TooManyPairs h = (ready, h)
+  refused ready _ h = absurd h
+
+  few : IsReadyToAgree sources root text → ¬ Many
+  few ready (inl h) = few_of_root sources root text ready.vetted h
+  few ready (inr h) = ready.within h
+
+  only : IsReadyToAgree sources root text → (e : Fault) → Refuses text Many e → e ≡ OutOfMemory
+  only ready = memory_alone text Many ready.vetted.input.document ready.vetted.input.read (few ready)
+
+  by_export : {E : Environment} {n : List ℕ} {S : Document} (is : AreSidesOf sources root E n S) → SchemaHasManyPairs is.schema_text text → Many
+  by_export is many = inr (record { schema_text = is.schema_text; exported = is.exported; translated = is.translated; many = many })
+
+pub returns-in_err-doc : goal.returns-in_err-doc
+returns-in_err-doc c =
+    let t = c.args.document.text.now in
+    let p = err_from_is_err_and c.from_residual.result c.from_residual.ensures.1 in
+    let told = λ (ss : List (List ℕ)) (r : List ℕ). by_text t (Many ss r t) c.in_err-doc.field-0.0 c.in_err-doc.ensures.not_json c.in_err-doc.ensures.not_integer in
+    rw (p.1, p.2) (record {
+      found = λ ss r is. tt;
+      refused = λ ss r is. refused ss r t (_, _, is.declares) _ (told ss r);
+      only = λ ss r is ready. only ss r t ready _ (told ss r);
+      told = tt;
+      kept = refl;
+    })
+
+pub returns-in_err-is_instance : goal.returns-in_err-is_instance
+returns-in_err-is_instance c =
+    let t = c.args.document.text.now in
+    let judged = c.in_err-is_instance.ensures in
+    let p = err_from_is_err_and c.from_residual-in_err-is_instance.result c.from_residual-in_err-is_instance.ensures.1 in
+    let told = λ (ss : List (List ℕ)) (r : List ℕ) (is : AreSidesOf ss r c.args.root_side.now.0 c.args.root_side.now.1 c.args.schema_side.now).
+    by_root t (Many ss r t) ss r _ _ is.declares _ c.in_ok-doc.ensures.found inl c.in_err-is_instance.field-0.0 judged.known judged.many in
+    rw (p.1, p.2) (record {
+      found = λ ss r is. tt;
+      refused = λ ss r is. refused ss r t (_, _, is.declares) _ (told ss r is);
+      only = λ ss r is ready. only ss r t ready _ (told ss r is);
+      told = tt;
+      kept = refl;
+    })
+
+pub returns-in_err-is_valid : goal.returns-in_err-is_valid
+returns-in_err-is_valid c =
+    let t = c.args.document.text.now in
+    let p = err_from_is_err_and c.from_residual-in_err-is_valid.result c.from_residual-in_err-is_valid.ensures.1 in
+    let told = λ (ss : List (List ℕ)) (r : List ℕ) (is : AreSidesOf ss r c.args.root_side.now.0 c.args.root_side.now.1 c.args.schema_side.now).
+    by_schema t (Many ss r t) is.schema_text _ is.read _ c.in_ok-doc.ensures.found (by_export ss r t is) c.in_err-is_valid.field-0.0 c.in_err-is_valid.ensures.refused in
+    rw (p.1, p.2) (record {
+      found = λ ss r is. tt;
+      refused = λ ss r is. refused ss r t (_, _, is.declares) _ (told ss r is);
+      only = λ ss r is ready. only ss r t ready _ (told ss r is);
+      told = tt;
+      kept = refl;
+    })
+
+-- both sides answer, and so the same
+agreement : (sources : List (List ℕ)) (root schema_text text : List ℕ) (a b : Bool) → IsExport sources root schema_text → IsVerdict sources root text a → IsValidated schema_text text b → IsAgreement sources root text a
+agreement sources root schema_text text a b exported verdict validated =
+    let same = vet-and-validate-agree sources root schema_text text a b exported verdict validated in
+    record { verdict = verdict; schema_text = schema_text; exported = exported; validated = subst (IsValidated schema_text text) (sym same) validated }
+
+pub returns-clause-found : goal.returns-clause-found
+returns-clause-found c = λ ss r is.
+    let t = c.args.document.text.now in
+    let doc = c.in_ok-doc.ensures in
+    let root_side = c.in_ok-is_instance.ensures in
+    let schema_side = c.in_ok-is_valid.ensures in
+    let vetted = verdict ss r t _ _ (read_as c.in_ok-doc.doc) _ is.declares doc.found doc.document root_side.one_meaning root_side.answer root_side.within in
+    let valid = validated is.schema_text t _ (read_as c.in_ok-doc.doc) _ is.read doc.found doc.document schema_side.one_meaning schema_side.within schema_side.answer in
+    let same = vet-and-validate-agree ss r is.schema_text t _ _ is.exported vetted valid in
+    let both = agreement ss r is.schema_text t _ _ is.exported vetted valid in
+    elim c.if-is_instance.branch [
+      | then-is_instance w ↦ subst (IsAgreement ss r t) (same ∙ sym w.truth-is) both
+      | else-is_instance w ↦ subst (IsAgreement ss r t) (sym w.truth-is) both
+    ]

@@ -1,0 +1,38 @@
+-- Where a run over lines stands between two steps.
+use Rattle.std.specs.Prelude.{◌≡◌, ℕ, List, ◌++◌, Option}
+use Rattle.std.specs.List.{All, flat_map}
+use Rattle.cs_judge.specs.declared.lines.LineRun.{LineRun}
+use Rattle.cs_tool.specs.declared.rules.Rules.{Rules}
+use Rattle.cs_judge.specs.Begun.{HoldsFront}
+use Rattle.cs_judge.specs.Lines.{Answer, IsLine, Splits, AreAnswers, answers_text, outcome_of, Hands}
+use Rattle.cs_tool.specs.Runs.{line_of}
+use Rattle.cs_tool.specs.Streams.{AppendsFront}
+
+-- the lines are answered, and what is written of the answers was taken by the writer or is held
+pub record AreAnswered (start now : Option (List ℕ)) (lines : List (List ℕ)) (run : LineRun) : Type 0 where
+  pub answers : List Answer
+  pub answered : AreAnswers run.judge lines answers
+  pub handed : Hands start now (answers_text answers) run.held
+  pub outcome_is : run.outcome ≡ outcome_of answers
+
+-- the lines that end among the bytes are answered, and the line after them is begun
+pub record IsAnswered (start now : Option (List ℕ)) (bytes : List ℕ) (run : LineRun) : Type 0 where
+  pub lines : List (List ℕ)
+  pub rest : List ℕ
+  pub split : Splits bytes lines rest
+  pub begun : HoldsFront run.begun rest
+  pub answered : AreAnswered start now lines run
+
+-- the writer took a front of what is written of the lines
+pub record AreCutOff (rules : Rules) (lines : List (List ℕ)) (start now : Option (List ℕ)) : Type 0 where
+  pub answers : List Answer
+  pub answered : AreAnswers rules lines answers
+  pub written : AppendsFront start now (answers_text answers)
+
+-- the bytes begin with these lines and their newlines
+abbrev pub BeginsWith : List ℕ → List (List ℕ) → Type 0
+BeginsWith bytes lines = (more : List ℕ) × (bytes ≡ flat_map line_of lines ++ more) × All IsLine lines
+
+-- the writer took a front of what is written of the first lines
+abbrev pub IsCutOffIn : Rules → List ℕ → Option (List ℕ) → Option (List ℕ) → Type 0
+IsCutOffIn rules bytes start now = (lines : List (List ℕ)) × BeginsWith bytes lines × AreCutOff rules lines start now

@@ -1,0 +1,25 @@
+// Judging documents one after another by the same rules, over readers and writers, and telling why they are invalid.
+#![tactic(auto)]
+
+mod answers;
+mod begun_explained;
+mod begun_line;
+mod explained_lines;
+mod explained_runs;
+mod explanations;
+mod fronts;
+mod held_answers;
+mod lines;
+mod reports;
+mod telling;
+mod text_judge;
+mod why;
+
+pub use answers::{LinesOutcome, write_answer, write_unread};
+pub use cs_reasons::Telling;
+pub use cs_report::{Form, Named};
+pub use explained_lines::explain_lines;
+pub use explained_runs::{named_sources, run_explained, write_explained, write_unexplained};
+pub use lines::run_lines;
+pub use text_judge::{Prepared, TextJudge, prepare};
+pub use why::Why;

@@ -1,7 +1,0 @@
-use Rattle.cs_tool.proofs.reports.instance_report.Goals as goal
-
-pub returns-in-Listed-clause-answer : goal.returns-in-Listed-clause-answer
-returns-in-Listed-clause-answer c = rw c.in-Listed.is c.listed_instance.ensures.answer
-
-pub returns-in-Ok-clause-answer : goal.returns-in-Ok-clause-answer
-returns-in-Ok-clause-answer c = rw (c.in-Tree.is, ← c.in-Ok.ensures.found) c.listed_instance-in-Ok.ensures.answer
