@@ -16,7 +16,7 @@ use cs_tool::{Fault, read_root};
 use std::alloc::Global;
 
 /// What a comparison answers.
-#[derive(Debug, Drop)]
+#[derive(Drop)]
 pub enum Comparison {
     /// Each document of the old definition is one of the new definition.
     Compatible,

@@ -1,6 +1,10 @@
 // Why two editions aren't compared.
+ghost use Rattle.std.specs.Prelude.{◌≡◌};
+ghost use Rattle.cs_compare.specs.Refused.{fault_of_question};
+
 use cs_question::QuestionFault;
 use cs_tool::Fault;
+use std::alloc::AllocError;
 
 /// An edition of a definition.
 #[derive(Debug, Clone, Copy, PartialEq, Eq)]
@@ -17,10 +21,23 @@ pub struct CompareRefusal {
     pub fault: Fault,
 }
 
+impl From<Fault> for CompareRefusal {
+    fn from(fault: Fault) -> CompareRefusal {
+        CompareRefusal { side: None, fault }
+    }
+}
+
+impl From<AllocError> for CompareRefusal {
+    fn from(_refused: AllocError) -> CompareRefusal {
+        CompareRefusal {
+            side: None,
+            fault: Fault::OutOfMemory,
+        }
+    }
+}
+
 /// A refusal of the question, as one of the tool.
 pub(crate) fn of_question(fault: QuestionFault) -> Fault
-    ghost use Rattle.std.specs.Prelude.{◌≡◌};
-    ghost use Rattle.cs_compare.specs.Refused.{fault_of_question};
     ensures { result ≡ fault_of_question fault }
 {
     match fault {

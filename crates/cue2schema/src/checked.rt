@@ -1,5 +1,6 @@
-// The commands that speak of sources and refusals alone: `check` and `explain`.
+// The commands that judge no given document. `check` and `explain` speak of sources and refusals alone.
 use crate::COMMAND_LINE;
+use crate::compared::compare;
 use crate::explained::{STANDARD_INPUT, names_of};
 use crate::files::read_input;
 use crate::refused::print;
@@ -16,7 +17,7 @@ const WARNED: u8 = 1;
 /// The status of faults.
 const FAULTY: u8 = 2;
 
-/// The status of a command that judges no document; `None` for every other one.
+/// The status of a command that judges no given document; `None` for every other one.
 pub(crate) fn answer_of_sources(
     rt: &HostRuntime,
     command: &str,
@@ -24,6 +25,7 @@ pub(crate) fn answer_of_sources(
 ) -> Result<Option<u8>, Fault> {
     match command {
         "check" => check(rt, words).map(Some),
+        "compare" => compare(rt, words).map(Some),
         "explain" => explain(rt, words).map(Some),
         _ => Ok(None),
     }

@@ -2,12 +2,14 @@
 #![tactic(auto)]
 
 mod checked;
+mod compared;
 mod explained;
 mod files;
 mod many;
 mod reasons;
 mod refused;
 mod requests;
+mod sides;
 mod unread;
 
 use checked::answer_of_sources;
@@ -57,17 +59,17 @@ fn answer(rt: &HostRuntime) -> Result<u8, Fault> {
 /// The status of what the words ask for.
 fn answered(rt: &HostRuntime, matches: &ArgMatches<'_>) -> Result<u8, Fault> {
     if let Some((command, words)) = matches.subcommand() {
-        if let Some(status) = answer_of_sources(rt, command, words)? {
-            return Ok(status);
-        }
-        if command == "export" && words.get_flag("why_refused") {
-            return export_or_tell(rt, words);
-        }
         if are_at_odds(words) {
             let _ = eprintln!(rt;
                 "error: '--format' tells reasons by itself; beside it only '--why=all' can be given"
             );
             return Ok(COMMAND_LINE);
+        }
+        if let Some(status) = answer_of_sources(rt, command, words)? {
+            return Ok(status);
+        }
+        if command == "export" && words.get_flag("why_refused") {
+            return export_or_tell(rt, words);
         }
         if let Some(reasons) = reasons_of(words) {
             return Ok(answer_with_reasons(rt, command, words, reasons)?.unwrap_or(COMMAND_LINE));

@@ -34,14 +34,27 @@ pub(crate) fn unread_file<'a>(
     if let Some(found) = schema.and_then(|path| at_fault(rt, fault, path)) {
         return found;
     }
-    for path in words.get_strs("FILE").unwrap_or(&[]) {
-        if let Some(found) = at_fault(rt, fault, path) {
-            return found;
-        }
+    if let Some(found) = first_at_fault(rt, fault, words.get_strs("FILE").unwrap_or(&[])) {
+        return found;
     }
     let document = words.get_str("doc");
     let found = document.and_then(|path| at_fault(rt, fault, path));
     found.unwrap_or(Unread::nothing())
+}
+
+/// The same, where these are all files.
+pub(crate) fn unread_among<'a>(rt: &HostRuntime, fault: &Fault, paths: &[&'a str]) -> Unread<'a> {
+    first_at_fault(rt, fault, paths).unwrap_or(Unread::nothing())
+}
+
+/// The first of the files that a fault of reading is about.
+fn first_at_fault<'a>(rt: &HostRuntime, fault: &Fault, paths: &[&'a str]) -> Option<Unread<'a>> {
+    for path in paths {
+        if let Some(found) = at_fault(rt, fault, path) {
+            return Some(found);
+        }
+    }
+    None
 }
 
 /// A file, where a fault of reading is about it.
@@ -86,10 +99,20 @@ pub(crate) fn sizes_of<'a>(
     unread: Unread<'a>,
     words: &ArgMatches<'a>,
 ) -> Result<Vec<(&'a str, u64)>, AllocError> {
+    sizes_among(rt, fault, unread, words.get_strs("FILE").unwrap_or(&[]))
+}
+
+/// The same, where these are the sources.
+pub(crate) fn sizes_among<'a>(
+    rt: &HostRuntime,
+    fault: &Fault,
+    unread: Unread<'a>,
+    paths: &[&'a str],
+) -> Result<Vec<(&'a str, u64)>, AllocError> {
     let mut sizes = Vec::new(rt.alloc());
     match (fault, unread.path) {
         (Fault::SourcesTooLong, _) => {
-            for path in words.get_strs("FILE").unwrap_or(&[]) {
+            for path in paths {
                 add_size(rt, path, &mut sizes)?;
             }
         }

@@ -1,0 +1,226 @@
+// The command that compares two editions of a definition.
+use crate::INVALID;
+use crate::files::read_sources;
+use crate::reasons::{Reasons, reasons_of};
+use crate::refused::print;
+use crate::requests::word_of;
+use crate::sides::{Edition, paths_of, tell_refused, tell_unread_side};
+use clap::ArgMatches;
+use cs_compare::{CompareRefusal, Comparison, Side, compare as compare_sources};
+use cs_doc::write_doc;
+use cs_document::Doc;
+use cs_judge::{Form, Named, named_sources, prepare};
+use cs_tool::{Fault, Rules};
+use std::alloc::{AllocError, Global};
+
+/// The name of the document that is shown, in what is told of it.
+const SHOWN: &str = "document";
+/// The names of both directions: whether old documents are new ones, and whether new documents are old ones.
+const BACKWARD: &str = "backward";
+
+const FORWARD: &str = "forward";
+
+/// The status of `compare`: 0, or 1 where an answer is `breaking`.
+pub(crate) fn compare(rt: &HostRuntime, words: &ArgMatches<'_>) -> Result<u8, Fault> {
+    let reasons = reasons_of(words);
+    let old = match rules_of(rt, words, Side::Old) {
+        Ok(rules) => rules,
+        Err(fault) => return tell_unread_side(rt, reasons, fault, Side::Old, words),
+    };
+    let new = match rules_of(rt, words, Side::New) {
+        Ok(rules) => rules,
+        Err(fault) => return tell_unread_side(rt, reasons, fault, Side::New, words),
+    };
+    let old_sources = named_sources(rt.alloc(), &old, paths_of(words, Side::Old))?;
+    let new_sources = named_sources(rt.alloc(), &new, paths_of(words, Side::New))?;
+    let before = Edition::of(&old, &old_sources, root_of(words, Side::Old));
+    let after = Edition::of(&new, &new_sources, root_of(words, Side::New));
+    match answers(rt.alloc(), before, after, reasons, words.get_flag("both")) {
+        Ok((text, is_compatible)) => {
+            print(rt, &text)?;
+            Ok(if is_compatible { 0 } else { INVALID })
+        }
+        Err(refusal) => tell_refused(rt, reasons, refusal, before, after, words),
+    }
+}
+
+/// The root of a side: the new one may have a name of its own.
+fn root_of<'a>(words: &ArgMatches<'a>, side: Side) -> &'a str {
+    match side {
+        Side::Old => word_of(words, "root"),
+        Side::New => match words.get_str("new_root") {
+            Some(root) => root,
+            None => word_of(words, "root"),
+        },
+    }
+}
+
+/// The rules of a side, read from its files.
+fn rules_of(rt: &HostRuntime, words: &ArgMatches<'_>, side: Side) -> Result<Rules, Fault> {
+    let root = String::from_str(rt.alloc(), root_of(words, side))?;
+    let sources = read_sources(rt, paths_of(words, side))?;
+    Ok(Rules::Root { sources, root })
+}
+
+/// The answer to one direction or to both, and whether nothing breaks.
+fn answers(
+    alloc: Global,
+    before: Edition<'_>,
+    after: Edition<'_>,
+    reasons: Option<Reasons>,
+    is_both: bool,
+) -> Result<(Vec<u8>, bool), CompareRefusal> {
+    let mut text = Vec::new(alloc);
+    if !is_both {
+        let is_compatible = put_answer(alloc, &mut text, before, after, reasons)?;
+        put_newline(&mut text, reasons)?;
+        return Ok((text, is_compatible));
+    }
+    put_front(&mut text, BACKWARD, "{", reasons)?;
+    let backward = put_answer(alloc, &mut text, before, after, reasons)?;
+    put_front(&mut text, FORWARD, ",", reasons)?;
+    let forward = put_answer(alloc, &mut text, after, before, reasons)?;
+    if is_json(reasons) {
+        text.extend_from_slice(b"}")?;
+    }
+    put_newline(&mut text, reasons)?;
+    Ok((text, backward && forward))
+}
+
+fn is_json(reasons: Option<Reasons>) -> bool {
+    match reasons {
+        Some(reasons) => matches!(reasons.form, Form::Json),
+        None => false,
+    }
+}
+
+/// Ends an object; lines have their ends.
+fn put_newline(text: &mut Vec<u8>, reasons: Option<Reasons>) -> Result<(), AllocError> {
+    if is_json(reasons) {
+        text.extend_from_slice(b"\n")?;
+    }
+    Ok(())
+}
+
+/// Puts the name of a direction before its answer; in an object behind this punctuation.
+fn put_front(
+    text: &mut Vec<u8>,
+    name: &str,
+    punctuation: &str,
+    reasons: Option<Reasons>,
+) -> Result<(), AllocError> {
+    if is_json(reasons) {
+        text.extend_from_slice(punctuation.as_bytes())?;
+        text.extend_from_slice(b"\"")?;
+        text.extend_from_slice(name.as_bytes())?;
+        text.extend_from_slice(b"\":")
+    } else {
+        text.extend_from_slice(name.as_bytes())?;
+        text.extend_from_slice(b": ")
+    }
+}
+
+/// Puts the answer whether each document of an edition is one of the other edition, and gives it.
+fn put_answer(
+    alloc: Global,
+    text: &mut Vec<u8>,
+    from: Edition<'_>,
+    to: Edition<'_>,
+    reasons: Option<Reasons>,
+) -> Result<bool, CompareRefusal> {
+    let admitting = texts_of(alloc, from)?;
+    let refusing = texts_of(alloc, to)?;
+    match compare_sources(alloc, &admitting, from.root, &refusing, to.root)? {
+        Comparison::Compatible if is_json(reasons) => {
+            text.extend_from_slice(b"{\"compatible\":true}")?;
+            Ok(true)
+        }
+        Comparison::Compatible => {
+            text.extend_from_slice(b"compatible\n")?;
+            Ok(true)
+        }
+        Comparison::Breaking(doc) => {
+            put_breaking(alloc, text, &doc, to, reasons)?;
+            Ok(false)
+        }
+    }
+}
+
+/// The texts of an edition's sources.
+fn texts_of<'a>(alloc: Global, edition: Edition<'a>) -> Result<Vec<&'a [u8]>, AllocError> {
+    let mut texts: Vec<&'a [u8]> = Vec::with_capacity(alloc, edition.sources.len())?;
+    for source in edition.sources {
+        texts.push(source.text)?;
+    }
+    Ok(texts)
+}
+
+/// Puts the document that an edition refuses, and as it is asked for why.
+fn put_breaking(
+    alloc: Global,
+    text: &mut Vec<u8>,
+    doc: &Doc,
+    to: Edition<'_>,
+    reasons: Option<Reasons>,
+) -> Result<(), CompareRefusal> {
+    let shown = shown_text(alloc, doc)?;
+    let Some(reasons) = reasons else {
+        put_lines(text, &shown, b"")?;
+        return Ok(());
+    };
+    let mut told = Vec::new(alloc);
+    explain(alloc, &shown, to, reasons, &mut told)?;
+    if is_json(Some(reasons)) {
+        put_object(text, &shown, &told)?;
+    } else {
+        put_lines(
+            text,
+            &shown,
+            told.strip_prefix(b"invalid\n").unwrap_or(&told),
+        )?;
+    }
+    Ok(())
+}
+
+fn shown_text(alloc: Global, doc: &Doc) -> Result<Vec<u8>, CompareRefusal> {
+    match write_doc(alloc, doc) {
+        Ok(text) => Ok(text),
+        Err(fault) => Err(CompareRefusal::from(Fault::from(fault))),
+    }
+}
+
+/// Adds what an edition tells of the document that it refuses.
+fn explain(
+    alloc: Global,
+    shown: &[u8],
+    to: Edition<'_>,
+    reasons: Reasons,
+    told: &mut Vec<u8>,
+) -> Result<(), Fault> {
+    let document = Named {
+        name: SHOWN,
+        text: shown,
+        line: 1,
+    };
+    let prepared = prepare(alloc, to.rules)?;
+    let mut judge = prepared.judge(alloc)?;
+    judge.explain(document, reasons.by(to.sources), told)?;
+    Ok(())
+}
+
+/// Puts the answer in lines: the word, the document and the reasons.
+fn put_lines(text: &mut Vec<u8>, shown: &[u8], told: &[u8]) -> Result<(), AllocError> {
+    text.extend_from_slice(b"breaking\n")?;
+    text.extend_from_slice(shown)?;
+    text.extend_from_slice(b"\n")?;
+    text.extend_from_slice(told)
+}
+
+/// Puts the answer as an object: the document, and the object that tells of it.
+fn put_object(text: &mut Vec<u8>, shown: &[u8], told: &[u8]) -> Result<(), AllocError> {
+    text.extend_from_slice(b"{\"compatible\":false,\"document\":")?;
+    text.extend_from_slice(shown)?;
+    text.extend_from_slice(b",\"report\":")?;
+    text.extend_from_slice(told.trim_ascii_end())?;
+    text.extend_from_slice(b"}")
+}
