@@ -5,11 +5,12 @@ use crate::explained::{STANDARD_INPUT, names_of};
 use crate::files::read_input;
 use crate::refused::print;
 use crate::requests::sources_of;
+use crate::sampled::write_samples;
 use clap::ArgMatches;
 use cs_findings::{Checked, write_findings, write_schema_findings};
 use cs_judge::Named;
 use cs_refusals::explained;
-use cs_tool::Fault;
+use cs_tool::{Fault, slices_of};
 use std::alloc::{AllocError, Global};
 
 /// The status of warnings alone, where they count.
@@ -27,6 +28,7 @@ pub(crate) fn answer_of_sources(
         "check" => check(rt, words).map(Some),
         "compare" => compare(rt, words).map(Some),
         "explain" => explain(rt, words).map(Some),
+        "samples" => write_samples(rt, words).map(Some),
         _ => Ok(None),
     }
 }
@@ -53,15 +55,6 @@ fn named<'a>(
     Ok(named)
 }
 
-/// The texts of sources.
-fn texts<'a>(alloc: Global, sources: &'a [Vec<u8>]) -> Result<Vec<&'a [u8]>, AllocError> {
-    let mut texts: Vec<&'a [u8]> = Vec::with_capacity(alloc, sources.len())?;
-    for source in sources {
-        texts.push(source.as_slice())?;
-    }
-    Ok(texts)
-}
-
 /// The status of what was found, where warnings count and where they don't.
 fn status(checked: Checked, is_strict: bool) -> u8 {
     match checked {
@@ -80,7 +73,7 @@ fn check(rt: &HostRuntime, words: &ArgMatches<'_>) -> Result<u8, Fault> {
     let sources = sources_of(rt, words)?;
     let names = names_of(rt.alloc(), words)?;
     let named = named(rt.alloc(), &names, &sources)?;
-    let texts = texts(rt.alloc(), &sources)?;
+    let texts = slices_of(rt.alloc(), &sources)?;
     let root = words.get_str("root");
     let checked = write_findings(rt.alloc(), &texts, &named, root, &mut rt.stdout())?;
     Ok(status(checked, words.get_flag("strict")))

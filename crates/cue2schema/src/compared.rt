@@ -2,7 +2,7 @@
 use crate::INVALID;
 use crate::files::read_sources;
 use crate::reasons::{Reasons, reasons_of};
-use crate::refused::print;
+use crate::refused::{print, texts_of};
 use crate::requests::word_of;
 use crate::sides::{Edition, paths_of, tell_refused, tell_unread_side};
 use clap::ArgMatches;
@@ -128,8 +128,8 @@ fn put_answer(
     to: Edition<'_>,
     reasons: Option<Reasons>,
 ) -> Result<bool, CompareRefusal> {
-    let admitting = texts_of(alloc, from)?;
-    let refusing = texts_of(alloc, to)?;
+    let admitting = texts_of(alloc, from.sources)?;
+    let refusing = texts_of(alloc, to.sources)?;
     match compare_sources(alloc, &admitting, from.root, &refusing, to.root)? {
         Comparison::Compatible if is_json(reasons) => {
             text.extend_from_slice(b"{\"compatible\":true}")?;
@@ -144,15 +144,6 @@ fn put_answer(
             Ok(false)
         }
     }
-}
-
-/// The texts of an edition's sources.
-fn texts_of<'a>(alloc: Global, edition: Edition<'a>) -> Result<Vec<&'a [u8]>, AllocError> {
-    let mut texts: Vec<&'a [u8]> = Vec::with_capacity(alloc, edition.sources.len())?;
-    for source in edition.sources {
-        texts.push(source.text)?;
-    }
-    Ok(texts)
 }
 
 /// Puts the document that an edition refuses, and as it is asked for why.

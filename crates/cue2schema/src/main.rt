@@ -9,6 +9,7 @@ mod many;
 mod reasons;
 mod refused;
 mod requests;
+mod sampled;
 mod sides;
 mod unread;
 

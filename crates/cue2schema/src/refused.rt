@@ -6,6 +6,7 @@ use clap::ArgMatches;
 use cs_judge::{Form, Named};
 use cs_refusals::{About, why_refused, write_refusal_json};
 use cs_tool::{Fault, Rules, export, write_fault, write_fault_json};
+use std::alloc::{AllocError, Global};
 use std::io::Write;
 
 /// The names of the sources where none is given.
@@ -162,14 +163,23 @@ fn exported(rt: &HostRuntime, words: &ArgMatches<'_>) -> Result<u8, Fault> {
 
 /// Writes the schema of the root of these sources.
 fn export_named(rt: &HostRuntime, about: About<'_>) -> Result<u8, Fault> {
-    let mut texts = Vec::with_capacity(rt.alloc(), about.sources.len())?;
-    for source in about.sources {
-        texts.push(source.text)?;
-    }
+    let texts = texts_of(rt.alloc(), about.sources)?;
     let mut schema = export(rt.alloc(), &texts, about.root)?;
     schema.push(b'\n')?;
     print(rt, &schema)?;
     Ok(0)
+}
+
+/// The texts of sources.
+pub(crate) fn texts_of<'a>(
+    alloc: Global,
+    sources: &[Named<'a>],
+) -> Result<Vec<&'a [u8]>, AllocError> {
+    let mut texts: Vec<&'a [u8]> = Vec::with_capacity(alloc, sources.len())?;
+    for source in sources {
+        texts.push(source.text)?;
+    }
+    Ok(texts)
 }
 
 /// Writes a text on standard output.

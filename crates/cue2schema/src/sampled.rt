@@ -1,0 +1,72 @@
+// The command that writes documents of a definition.
+use crate::INVALID;
+use crate::explained::{names_of, sources_by_name};
+use crate::refused::{about_rules, or_told, print, tell_unread, texts_of};
+use crate::requests::{root_of, sources_of, word_of};
+use clap::ArgMatches;
+use cs_doc::write_doc;
+use cs_document::Doc;
+use cs_judge::Form;
+use cs_samples::{QuestionFault, Sampled, samples};
+use cs_tool::{Fault, Rules, read_root, slices_of};
+use std::alloc::Global;
+
+/// How many documents are written at most where the words don't say.
+const MOST_SAMPLES: usize = 100;
+
+/// The status of `samples`: 0, or 1 where there is no document.
+pub(crate) fn write_samples(rt: &HostRuntime, words: &ArgMatches<'_>) -> Result<u8, Fault> {
+    if !words.get_flag("why_refused") {
+        let sources = sources_of(rt, words)?;
+        return written(rt, words, &slices_of(rt.alloc(), &sources)?);
+    }
+    match written_or_told(rt, words) {
+        Err(fault) => tell_unread(rt, Form::Lines, &fault, words),
+        status => status,
+    }
+}
+
+/// The status of documents whose refusals are told, those of reading the files aside.
+fn written_or_told(rt: &HostRuntime, words: &ArgMatches<'_>) -> Result<u8, Fault> {
+    let root = root_of(rt.alloc(), words)?;
+    let sources = sources_of(rt, words)?;
+    let rules = Rules::Root { sources, root };
+    let names = names_of(rt.alloc(), words)?;
+    let named = sources_by_name(rt.alloc(), &rules, &names)?;
+    let about = about_rules(&rules, &named, word_of(words, "root"), "");
+    let texts = texts_of(rt.alloc(), &named)?;
+    let answer = written(rt, words, &texts);
+    or_told(rt, Form::Lines, about, words, answer)
+}
+
+/// Writes the documents of the root of these sources.
+fn written(rt: &HostRuntime, words: &ArgMatches<'_>, sources: &[&[u8]]) -> Result<u8, Fault> {
+    let root = word_of(words, "root");
+    let which = if words.get_flag("invalid") {
+        Sampled::Invalid
+    } else {
+        Sampled::Valid
+    };
+    let most = words.get_one("most").unwrap_or(MOST_SAMPLES);
+    let package = read_root(rt.alloc(), sources, root)?;
+    match samples(rt.alloc(), &package, root, which, most) {
+        Ok(docs) => {
+            print(rt, &lines_of(rt.alloc(), &docs)?)?;
+            Ok(if docs.is_empty() { INVALID } else { 0 })
+        }
+        Err(QuestionFault::OutOfMemory) => Err(Fault::OutOfMemory),
+        Err(QuestionFault::UnknownRoot) => Err(Fault::UnknownRoot),
+        Err(QuestionFault::TooManyCases) => Err(Fault::TooManyCases),
+    }
+}
+
+/// A line of JSON for each document.
+fn lines_of(alloc: Global, docs: &[Doc]) -> Result<Vec<u8>, Fault> {
+    let mut text = Vec::new(alloc);
+    for doc in docs {
+        let line = write_doc(alloc, doc)?;
+        text.extend_from_slice(&line)?;
+        text.extend_from_slice(b"\n")?;
+    }
+    Ok(text)
+}
