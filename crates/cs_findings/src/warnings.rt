@@ -78,6 +78,7 @@ fn put_reason(package: &Guarded, reason: &Reason, text: &mut String) -> Result<(
             text.push_str(name_of(package, *definition))?;
             text.push_str(", which has none")
         }
+        Reason::Unmet => text.push_str("nothing meets all that it asks"),
     }
 }
 

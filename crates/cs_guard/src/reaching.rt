@@ -4,7 +4,7 @@ ghost use Rattle.std.specs.Prelude.{◌≡◌, ◌<◌, All, IfOk, OnOk, Some, [
 ghost use Rattle.cs_graph.specs.Chains.{Distinct};
 ghost use Rattle.cs_guard.specs.Found.{Marked, Added};
 ghost use Rattle.cs_guard.specs.Numbered.{name_of};
-ghost use Rattle.cs_guard.specs.Reachable.{AreReachable};
+ghost use Rattle.cs_guard.specs.Reachable.{AreReachable, referred_of};
 
 use crate::references::{Followed, references_of};
 use cs_package::Package;
@@ -34,6 +34,20 @@ fn add_all(seen: &mut [bool], order: &mut Vec<usize>, numbers: &[usize]) -> Resu
         add(seen, order, *number)?;
     }
     Ok(())
+}
+
+/// The numbers of the definitions that the bodies of one refer to, at any depth and in order: one that is referred to again
+/// comes again.
+///
+/// # Errors
+/// `AllocError`, where memory runs out.
+pub fn references(alloc: Global, package: &Package, number: usize) -> Result<Vec<usize>, AllocError>
+    requires { number < length «package».now }
+    ensures names { IfOk result (λ v. map (name_of «package».now) v.items
+        ≡ referred_of «package».now (name_of «package».now number)) }
+    ensures within { IfOk result (λ v. All (λ i. i < length «package».now) v.items) }
+{
+    references_of(alloc, Followed::Every, package.bodies(number))
 }
 
 /// The numbers of the definitions that are reachable from one by any reference, each once, that one first

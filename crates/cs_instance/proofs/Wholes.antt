@@ -1,6 +1,6 @@
 -- The rules of all that a root reaches, with their numbers.
-use Rattle.std.proofs.Common.{◌≡◌, ℕ, ◌<◌, inl, inr, List, [], ◌∷◌, ◌++◌, map, length, slice_index, refl, sym, ap, ap₂, ◌∙◌, subst, append-nil, arith}
-use Rattle.std.specs.Prelude.{Contains}
+use Rattle.std.proofs.Common.{◌≡◌, ℕ, zero, suc, ◌<◌, inl, inr, List, [], ◌∷◌, ◌++◌, map, length, slice_index, refl, sym, ap, ap₂, ◌∙◌, subst, append-nil, arith}
+use Rattle.std.specs.Prelude.{Contains, get_or, slice_get, Some}
 use Rattle.std.specs.List.{flat_map, AllByRecursion as Each}
 use Rattle.std.specs.List.Sorted.{IsPermutation}
 use Rattle.std.specs.Option.{unwrap_or}
@@ -30,7 +30,7 @@ use Rattle.cs_instance.specs.Steps.{asked_of, numbered}
 use Rattle.cs_instance.specs.declared.numbering.definitions.Placement.{Placement}
 use Rattle.cs_instance.specs.Placing.{waiting, expression_at, AreNumbered, AreAt, IsKnown, AreKnownIn, PlacesWaiting, placed_with, left_with, bodies_of, rules_in}
 use Rattle.cs_instance.specs.Ranked.{ArePlacedBy, names_in}
-use Rattle.cs_instance.specs.Rooted.{IsRooted}
+use Rattle.cs_instance.specs.Rooted.{IsRooted, IsNumberedWhole}
 use Rattle.cs_rules.proofs.Lists.{got_front}
 use Rattle.cs_instance.proofs.Placed.{names_same}
 use Rattle.cs_rules.proofs.Permutations.{equal, joined, flat_map-IsPermutation}
@@ -151,11 +151,34 @@ module _ (E : Environment) (all : List Rule) (W : List Expression) (rules : List
 
 -- ---- the whole
 
+-- the name of a number is declared
+pub declared_at : (E : Environment) (i : ℕ) → i < length E → Contains (declared_names E) (name_of E i)
+declared_at E i l = (i, subst (λ n. i < n) (sym (length-map E _)) l, place E i l (name_of E i))
+  where
+    place : (E : Environment) (i : ℕ) → i < length E → (d : List ℕ) → get_or (declared_names E) i d ≡ name_of E i
+    place [] i l d = absurd (omega (arith, l))
+    place (x ∷ E) zero l d = refl
+    place (x ∷ E) (suc i) l d = place E i (omega (arith, l)) d
+
+-- a declared name has a number
+pub number_of : (E : Environment) (n : List ℕ) → On n (declared_names E) → (i : ℕ) × (i < length E) × (name_of E i ≡ n)
+number_of [] n o = absurd o
+number_of (x ∷ E) n (inl e) = (0, omega arith, sym e)
+number_of (x ∷ E) n (inr o) = let k = number_of E n o in let l = k.1 in (suc k.0, omega (arith, l), k.2)
+
+-- what definitions in any order refer to is among them, where they are all
+pub closed_whole : (E : Environment) (ns : List (List ℕ)) → IsPermutation (declared_names E) ns → ((i : ℕ) (m : List ℕ) → i < length E → Contains (referred_of E (name_of E i)) m → On m (declared_names E))
+    → (n m : List ℕ) → On n ns → Contains (referred_of E n) m → On m ns
+closed_whole E ns p known n m o c =
+    let names = declared_names E in
+    let k = number_of E n (contains_on n names (Contains-permutation ns names n (IsPermutation-sym names ns p) (on_contains n ns o))) in
+    contains_on m ns (Contains-permutation names ns m p (on_contains m names (known k.0 m k.1 (subst (λ x. Contains (referred_of E x) m) (sym k.2) c))))
+
 pub names_perm : (E : Environment) (order : List ℕ) (ds : List (ℕ × ℕ)) → IsPermutation order (map (λ (d : ℕ × ℕ). d.1) ds) → IsPermutation (map (name_of E) order) (names_in E ds)
 names_perm E order ds p = subst (IsPermutation (map (name_of E) order)) (map-map (name_of E) (λ (d : ℕ × ℕ). d.1) ds) (IsPermutation-map (name_of E) order (map (λ (d : ℕ × ℕ). d.1) ds) p)
 
-module _ (E : Environment) (i : ℕ) (names : List (List ℕ)) (ns : List (List ℕ)) (first : Placement) (last : Numberer Shape Coded) (inner : List ℕ)
-    (reach : AreReachable E (name_of E i) names) (perm : IsPermutation names ns) (p : ArePlacedBy E ns first) (long : length inner ≡ length last.pending.items)
+module _ (E : Environment) (names ns : List (List ℕ)) (first : Placement) (last : Numberer Shape Coded) (inner : List ℕ)
+    (perm : IsPermutation names ns) (p : ArePlacedBy E ns first) (long : length inner ≡ length last.pending.items)
     (w : PlacesWaiting E (declared_names E) first.numbers.items (flat_map (placed_with E) ns) first.numberer last inner) where
   abbrev placed : List Rule
   placed = flat_map (placed_with E) ns
@@ -179,16 +202,28 @@ module _ (E : Environment) (i : ℕ) (names : List (List ℕ)) (ns : List (List 
       (joined (equal _ _ (ap (λ es. placed ++ rules_in es) (sym p.waits))) (joined w.same
       (equal _ _ (ap (λ es. (placed ++ w.more) ++ rules_in es) (drop_all (length inner) W (omega (arith, wide))) ∙ append-nil (placed ++ w.more))))))
 
-  itself : Reaches E (name_of E i) (name_of E i)
-  itself = record { steps = []; chain = tt; last = refl }
-
-  pub rooted : IsRooted E (name_of E i) last.rules.items inner (slice_index first.numbers.items i)
-  rooted =
-      let here : On (name_of E i) ns = contains_on (name_of E i) ns (Contains-permutation names ns (name_of E i) perm ((reach.each (name_of E i)).1 itself)) in
+  -- a definition has its number
+  number_is : (i : ℕ) → Contains names (name_of E i) → slice_get (placed ++ w.more) (slice_index first.numbers.items i) ≡ Some (definition (name_of E i))
+  number_is i on =
+      let here : On (name_of E i) ns = contains_on (name_of E i) ns (Contains-permutation names ns (name_of E i) perm on) in
       let known = each_found (IsKnown (declared_names E) first.numbers.items placed) ns (name_of E i) p.known here in
+      got_front placed w.more (slice_index first.numbers.items i) (definition (name_of E i)) (known i (names_at E i)).1
+
+  pub rooted : (i : ℕ) → AreReachable E (name_of E i) names → IsRooted E (name_of E i) last.rules.items inner (slice_index first.numbers.items i)
+  rooted i reach =
+      let itself : Reaches E (name_of E i) (name_of E i) = record { steps = []; chain = tt; last = refl } in
       record {
         all = placed ++ w.more;
         are = record { names = names; reachable = reach; same = counted };
         numbering = is_numbering E (placed ++ w.more) W last.rules.items inner w.numbered at_all;
-        root = got_front placed w.more (slice_index first.numbers.items i) (definition (name_of E i)) (known i (names_at E i)).1;
+        root = number_is i ((reach.each (name_of E i)).1 itself);
       }
+
+  pub numbered_whole : names ≡ declared_names E → IsNumberedWhole E last.rules.items inner first.numbers.items
+  numbered_whole is = record {
+    all = placed ++ w.more;
+    are = subst (λ ms. IsPermutation (rules_of E ms) (placed ++ w.more)) is counted;
+    numbering = is_numbering E (placed ++ w.more) W last.rules.items inner w.numbered at_all;
+    long = p.long;
+    each = λ i l. number_is i (subst (λ ms. Contains ms (name_of E i)) (sym is) (declared_at E i l));
+  }

@@ -26,5 +26,7 @@ pub use fault::InstanceFault;
 pub use judge::InstanceJudge;
 pub use judging::{instance_judge, instance_table, instance_verdict, is_instance};
 pub use laws::{one_meaning, reasons_hold};
-pub use numbered::{NumberedRoot, RootRules, numbered_root, root_rules};
+pub use numbered::{
+    NumberedPackage, NumberedRoot, RootRules, numbered_package, numbered_root, root_rules,
+};
 pub use rules::{Ending, Field, Rule};

@@ -1,16 +1,16 @@
-// The rules that a root reaches, numbered for any number of documents.
+// The rules that a root reaches, numbered for any number of documents, and those of a whole package.
 ghost use Rattle.std.specs.Prelude.{◌≡◌, ℕ, List, IfOk, IsErrOf};
 ghost use Rattle.cs_package.specs.Environment.{Names};
 ghost use Rattle.cs_guard.specs.Numbered.{name_of};
-ghost use Rattle.cs_instance.specs.Rooted.{IsRooted};
+ghost use Rattle.cs_instance.specs.Rooted.{IsRooted, IsNumberedWhole};
 
-use crate::numbering::numbering_of;
+use crate::numbering::{numbering_of, numbering_of_all};
 use crate::{InstanceFault, rules};
 use cs_flat::Flat;
 use cs_guard::Guarded;
 use cs_rules::{Numbering, Rulebook};
 use cs_table::{Verdicts, refill};
-use std::alloc::Global;
+use std::alloc::{AllocError, Global};
 use std::marker::Model;
 
 /// A root with the rules of all that it reaches, numbered.
@@ -50,6 +50,29 @@ pub fn numbered_root<'a>(
         numbering,
         number,
     })
+}
+
+/// All definitions of a package with the rules of their bodies, numbered.
+#[derive(Drop)]
+pub struct NumberedPackage<'a> {
+    pub numbering: Numbering<rules::Rule<'a>>,
+    /// The number of each definition's rule, by the definition's own.
+    pub numbers: Vec<usize>,
+}
+
+/// Numbers the rules of all definitions of a package.
+///
+/// # Errors
+/// `AllocError`, where memory runs out.
+pub fn numbered_package<'a>(
+    alloc: Global,
+    package: &'a Guarded,
+) -> Result<NumberedPackage<'a>, AllocError>
+    ensures { IfOk result (λ r. IsNumberedWhole «package».now
+        r.numbering.rules.items r.numbering.children.items r.numbers.items) }
+{
+    let (numbering, numbers) = numbering_of_all(alloc, package)?;
+    Ok(NumberedPackage { numbering, numbers })
 }
 
 /// The rules that a root reaches, numbered once for any number of documents: the definitions and the expressions in

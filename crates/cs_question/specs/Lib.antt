@@ -1,6 +1,7 @@
 -- What a question asks.
 pub mod Separates
 pub mod Faults
+pub mod NoInstance
 -- for contracts of private functions and proofs alone
 pub mod Nodes
 pub mod Asked

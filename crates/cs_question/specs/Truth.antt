@@ -1,7 +1,9 @@
 -- What a table says of documents.
-use Rattle.std.specs.Prelude.{◌≡◌, ℕ, ◌<◌, ◌≤◌, true, List, [], ◌∷◌, Some, IsNone, slice_get}
+use Rattle.std.specs.Prelude.{◌≡◌, ℕ, ◌<◌, ◌≤◌, Bool, true, List, [], ◌∷◌, Some, IsNone, slice_get}
+use Rattle.std.specs.List.{list_all}
 use Rattle.cs_document.specs.Document.{Document, Documents, Members, list, object, IsDocument, depth}
 use Rattle.cs_question.specs.declared.literal.Literal.{Literal}
+use Rattle.cs_question.specs.declared.literal.Side.TheVariants.{Admitting}
 use Rattle.cs_question.specs.declared.nodes.Nodes.{Nodes}
 use Rattle.cs_question.specs.declared.table.Entry.{Entry}
 use Rattle.cs_question.specs.declared.table.Table.{Table}
@@ -19,6 +21,12 @@ pub record IsShut (entries : List Entry) (asked : List Literal) : Type 0 where
   pub at : slice_get entries place ≡ Some entry
   pub same : entry.asked.items ≡ asked
   pub none : IsNone entry.found
+
+-- the question for a document that meets a rule has no answer by the table
+pub record IsMetByNone (entries : List Entry) (rule : ℕ) : Type 0 where
+  pub asked : List Literal
+  pub shut : IsShut entries asked
+  pub only : (p : Literal → Bool) → p (record { side = Admitting; rule = rule; holds = true }) ≡ true → list_all p asked ≡ true
 
 -- a judgement of which the table says the truth: no document of less depth than n is all that is asked by a question
 -- without an answer

@@ -160,6 +160,41 @@ fn open(
     }
 }
 
+/// How many parts a rule asks of the same document.
+fn count_parts(nodes: &Nodes<'_>, literal: Literal) -> usize {
+    match nodes.of(literal) {
+        Some(Node::All(parts)) | Some(Node::Any(parts)) => parts.len(),
+        Some(Node::Simple(_)) | Some(Node::Struct { .. }) | Some(Node::List { .. }) | None => 0,
+    }
+}
+
+/// How many declarations a rule has.
+fn count_fields(nodes: &Nodes<'_>, literal: Literal) -> usize {
+    match nodes.of(literal) {
+        Some(Node::Struct { fields, .. }) => fields.len(),
+        Some(Node::Simple(_))
+        | Some(Node::All(_))
+        | Some(Node::Any(_))
+        | Some(Node::List { .. })
+        | None => 0,
+    }
+}
+
+/// The steps for a document that is all that is asked: each literal is compared with each rule, and each label with each
+/// declaration. So many comparisons take as long as a step.
+fn cost_of(nodes: &Nodes<'_>, asked: &[Literal]) -> usize {
+    const COMPARISONS: usize = 64;
+    let mut fields: usize = 0;
+    for literal in asked {
+        fields = fields.saturating_add(count_fields(nodes, *literal));
+    }
+    let rules = asked.len();
+    fields
+        .saturating_mul(fields)
+        .saturating_add(rules.saturating_mul(rules))
+        / COMPARISONS
+}
+
 /// A document that is all that is asked.
 ///
 /// # Errors
@@ -182,9 +217,11 @@ pub(crate) fn found_for<'a>(
         effort.step()?;
         match opened_at(nodes, &case.asked) {
             Some((place, literal)) => {
+                effort.take(count_parts(nodes, literal))?;
                 open(alloc, nodes, &mut cases, &case.asked, place, literal)?;
             }
             None => {
+                effort.take(cost_of(nodes, &case.asked))?;
                 let found = document_of(alloc, nodes, table, &case.asked, effort)?;
                 if found.is_some() {
                     return Ok(found);

@@ -54,6 +54,20 @@ fn has_dead(
     Ok(false)
 }
 
+/// Asks about every place, so that all of them are known the next time.
+fn ask_about(
+    alloc: Global,
+    table: &Table<'_>,
+    places: &[Place<'_>],
+    effort: &mut Effort,
+) -> Result<(), SearchFault> {
+    effort.take(places.len())?;
+    for place in places {
+        let _is_dead = is_dead(alloc, table, place, effort)?;
+    }
+    Ok(())
+}
+
 /// The first way that needs none of the places, as what is asked of the value.
 fn first_free(
     alloc: Global,
@@ -254,6 +268,9 @@ pub(crate) fn choice<'a>(
         → HoldsFurther t.J t.n s further.now
         → AllByRecursion (λ w. AreTaken t.J s w.items) rules.now → ⊥) }
 {
+    if effort.asks_all && !table.is_final {
+        ask_about(alloc, table, places, effort)?;
+    }
     if has_dead(alloc, table, places, effort)? {
         return Ok(None);
     }

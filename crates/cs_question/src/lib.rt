@@ -1,10 +1,12 @@
-// Whether there is a document that one definition admits and another one doesn't.
+// Whether there is a document that one definition admits and another one doesn't, and which definitions have no instance.
 #![tactic(auto)]
 
 mod cases;
 mod choice;
+mod definitions;
 mod effort;
 mod explore;
+mod explore_all;
 mod fault;
 mod fields;
 mod found;
@@ -16,6 +18,7 @@ mod maps;
 mod nodes;
 mod places;
 mod questions;
+mod queue;
 mod scalars;
 mod state;
 mod table;
@@ -23,5 +26,6 @@ mod texts;
 mod ways;
 mod witness;
 
+pub use definitions::without_instance;
 pub use fault::QuestionFault;
 pub use questions::{instance_of, separating};

@@ -32,6 +32,24 @@ pub(crate) fn part_of(literal: Literal, rule: usize) -> Literal
     }
 }
 
+/// A rule that is to be met.
+pub(crate) fn met(alloc: Global, rule: usize) -> Result<Vec<Literal>, AllocError>
+    ensures { IfOk result (λ v. (p : Literal → Bool)
+        → p (record { side = Side.Admitting; rule = rule; holds = true }) ≡ true
+        → list_all p v.items ≡ true) }
+{
+    let mut asked = Vec::new(alloc);
+    add(
+        &mut asked,
+        Literal {
+            side: Side::Admitting,
+            rule,
+            holds: true,
+        },
+    )?;
+    Ok(asked)
+}
+
 /// Adds what is asked, where it isn't asked yet: in order, each once.
 pub(crate) fn add(asked: &mut Vec<Literal>, literal: Literal) -> Result<(), AllocError>
     ensures { OnOk result ((p : Literal → Bool) → list_all p asked.old.items ≡ true → p literal ≡ true

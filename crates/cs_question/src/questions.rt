@@ -11,7 +11,7 @@ ghost use Rattle.std.specs.List.{list_all};
 
 use crate::explore::explored;
 use crate::fault::QuestionFault;
-use crate::literal::{Literal, Side, add, are_same};
+use crate::literal::{Literal, Side, add, are_same, met};
 use crate::nodes::{Nodes, nodes_of};
 use crate::table::Table;
 use crate::witness::witness;
@@ -119,24 +119,6 @@ fn both(alloc: Global, met: usize, unmet: usize) -> Result<Vec<Literal>, AllocEr
     Ok(asked)
 }
 
-/// A rule that is to be met.
-fn one(alloc: Global, met: usize) -> Result<Vec<Literal>, AllocError>
-    ensures { IfOk result (λ v. (p : Literal → Bool)
-        → p (record { side = Side.Admitting; rule = met; holds = true }) ≡ true
-        → list_all p v.items ≡ true) }
-{
-    let mut asked = Vec::new(alloc);
-    add(
-        &mut asked,
-        Literal {
-            side: Side::Admitting,
-            rule: met,
-            holds: true,
-        },
-    )?;
-    Ok(asked)
-}
-
 /// An instance of the root, a definition of the package named with its `#`; none where it has none.
 ///
 /// # Errors
@@ -164,7 +146,7 @@ pub fn instance_of(
         admitting: nodes_of(alloc, &numbering.rules, &numbering.children)?,
         refusing: Vec::new(alloc),
     };
-    let asked = one(alloc, number)?;
+    let asked = met(alloc, number)?;
     let table = explored(alloc, &nodes, &asked)?;
     if has_none(&table, &asked) {
         return Ok(None);

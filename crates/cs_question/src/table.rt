@@ -46,12 +46,17 @@ impl<'a> Table<'a> {
         self.places.get(asked).copied()
     }
 
+    /// Whether no question can be added.
+    pub(crate) fn is_full(&self) -> bool {
+        self.entries.len() >= MOST_QUESTIONS
+    }
+
     /// Adds a question, unless it is there.
     pub(crate) fn ask(&mut self, alloc: Global, asked: Vec<Literal>) -> Result<(), SearchFault> {
         if self.place(&asked).is_some() {
             return Ok(());
         }
-        if self.entries.len() >= MOST_QUESTIONS {
+        if self.is_full() {
             return Err(SearchFault::TooManyCases);
         }
         let key = Vec::from_slice(alloc, &asked)?;
@@ -86,7 +91,13 @@ impl<'a> Table<'a> {
             → IsShut self.now.entries.items asked.items) }
     {
         match self.places.get(&asked) {
-            Some(place) => Ok(self.is_shut_at(*place, &asked)),
+            Some(place) => {
+                let is_shut = self.is_shut_at(*place, &asked);
+                if is_shut && effort.asks_all {
+                    effort.unanswered.push(*place)?;
+                }
+                Ok(is_shut)
+            }
             None => {
                 effort.wanted.push(asked)?;
                 Ok(!self.is_final)
@@ -94,7 +105,8 @@ impl<'a> Table<'a> {
         }
     }
 
-    fn is_shut_at(&self, place: usize, asked: &[Literal]) -> bool
+    /// Whether the question at a place has no answer, and is this one.
+    pub(crate) fn is_shut_at(&self, place: usize, asked: &[Literal]) -> bool
         ensures { IsTrue result → IsShut self.now.entries.items asked.now }
     {
         match self.entries.get(place) {

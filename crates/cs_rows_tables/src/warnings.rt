@@ -88,7 +88,7 @@ pub(crate) fn are_told(alloc: Global, row: &str) -> Result<bool, Fail> {
     let (source, wanted) = cell(row);
     let source = source.replace(alloc, ';', "\n")?;
     let package = guarded_of(alloc, &source)?;
-    let told = warnings(alloc, &package)?;
+    let told = warnings(alloc, &package, &[])?;
     Ok(in_words(alloc, &package, &told)?.as_str() == wanted.trim())
 }
 

@@ -1,4 +1,4 @@
-// Which definitions have no instance, as far as simple rules find them.
+// Which definitions have no instance, as far as simple rules find them, and why.
 #![tactic(auto)]
 
 mod copies;

@@ -87,6 +87,8 @@ pub(crate) enum Cause<'a> {
     Itself,
     /// The definition of that number has no instance.
     Through(usize),
+    /// It is known to be so, and no simple rule says why.
+    Unmet,
 }
 
 /// What is known of a definition: whether it may have instances, and those of its documents that are looked at.

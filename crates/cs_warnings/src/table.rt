@@ -1,5 +1,5 @@
 // The table of what is known of the definitions.
-ghost use Rattle.std.specs.Prelude.{◌≡◌, ◌<◌, Some, false, All, IfOk, OnOk, IsTrue, length, slice_get, slice_set};
+ghost use Rattle.std.specs.Prelude.{◌≡◌, ◌<◌, Some, true, false, All, IfOk, OnOk, IsTrue, length, slice_get, slice_set};
 ghost use Rattle.std.specs.List.{AllByRecursion};
 ghost use Rattle.cs_document.specs.Document.{Document};
 ghost use Rattle.cs_warnings.specs.Admits.{Admits};
@@ -8,7 +8,7 @@ ghost use Rattle.cs_warnings.specs.Covers.{CoversDefinition, IsSettled, IsSound}
 use crate::fields::is_nothing;
 use crate::simple::anything;
 use crate::summaries::all_of;
-use crate::summary::{Known, Place, Summary};
+use crate::summary::{Cause, Known, Place, Summary};
 use cs_guard::Guarded;
 use cs_package::Package;
 use std::alloc::{AllocError, Global};
@@ -179,4 +179,57 @@ fn alive_of(alloc: Global, table: &[Known<'_>]) -> Result<Vec<bool>, AllocError>
         alive.push(known.alive || !is_nothing(&known.summary))?;
     }
     Ok(alive)
+}
+
+/// Which definitions are alive by a table and aren't given as having no instance.
+fn alive_but(alloc: Global, table: &[Known<'_>], empty: &[bool]) -> Result<Vec<bool>, AllocError>
+    ensures { IfOk result (λ v. length v.items ≡ length table.now) }
+{
+    let mut alive = Vec::with_capacity(alloc, table.len())?;
+    for (number, known) in table.iter().enumerate() {
+        alive.push(known.alive && !is_given(empty, number))?;
+    }
+    Ok(alive)
+}
+
+/// Whether a definition is given as having no instance.
+pub(crate) fn is_given(empty: &[bool], number: usize) -> bool
+    ensures { IsTrue result → slice_get empty.now number ≡ Some true }
+{
+    match empty.get(number) {
+        Some(is_empty) => *is_empty,
+        None => false,
+    }
+}
+
+/// What a definition that isn't alive admits: nothing.
+fn nothing_of<'a>(summary: Summary<'a>) -> Summary<'a> {
+    match summary {
+        Summary::Nothing(cause) => Summary::Nothing(cause),
+        Summary::Within(_) => Summary::Nothing(Cause::Unmet),
+    }
+}
+
+/// The table of why definitions have no instance, where those that are given have none: told in words and not proved.
+pub(crate) fn with_given<'a>(
+    alloc: Global,
+    package: &'a Guarded,
+    order: &[(usize, usize)],
+    table: &[Known<'a>],
+    empty: &[bool],
+) -> Result<Vec<Known<'a>>, AllocError>
+    requires order { All (λ d. d.1 < length «package».now) order.now }
+{
+    let mut table = unknown(alloc, &alive_but(alloc, table, empty)?)?;
+    for definition in order {
+        let (_rank, number) = *definition;
+        let mut summary = definition_summary(alloc, package.package(), &table, number)?;
+        if number < table.len() {
+            if !table[number].alive {
+                summary = nothing_of(summary);
+            }
+            put(&mut table, number, summary);
+        }
+    }
+    Ok(table)
 }

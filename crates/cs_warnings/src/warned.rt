@@ -1,20 +1,25 @@
 // The definitions that nothing is an instance of.
-ghost use Rattle.std.specs.Prelude.{IfOk};
+ghost use Rattle.std.specs.Prelude.{◌≡◌, ◌⊎◌, true, Some, IfOk, slice_get};
 ghost use Rattle.std.specs.List.{AllByRecursion};
 ghost use Rattle.cs_warnings.specs.Covers.{IsDeadAt};
 ghost use Rattle.cs_warnings.specs.NoInstance.{HasNoInstance};
 
 use crate::summary::{Cause, Known, Summary};
-use crate::table::{by_rank, is_settled, revived, round};
+use crate::table::{by_rank, is_given, is_settled, revived, round, with_given};
 use crate::warning::{Reason, Warning};
 use cs_guard::Guarded;
 use std::alloc::{AllocError, Global};
 
-/// The definitions that nothing is an instance of, as far as simple rules find them, each with the first reason that was
-/// found. Each document that is no instance of them is looked at by kinds, ends of intervals, single literals, lengths of
-/// lists and keys; so a definition that isn't among them may have no instance too.
-pub fn warnings(alloc: Global, package: &Guarded) -> Result<Vec<Warning>, AllocError>
-    ensures { IfOk result (λ v. AllByRecursion (λ w. HasNoInstance «package».now w.definition) v.items) }
+/// The definitions that nothing is an instance of, each with the first reason that was found: those that simple rules find, and
+/// those that are given by their numbers. The rules look at kinds, ends of intervals, single literals, lengths of lists and keys;
+/// where they find no reason for one that is given, it is told that nothing meets all that it asks.
+pub fn warnings(
+    alloc: Global,
+    package: &Guarded,
+    empty: &[bool],
+) -> Result<Vec<Warning>, AllocError>
+    ensures { IfOk result (λ v. AllByRecursion (λ w. HasNoInstance «package».now w.definition
+        ⊎ (slice_get empty.now w.definition ≡ Some true)) v.items) }
 {
     let order = by_rank(alloc, package)?;
     let count = order.len();
@@ -23,32 +28,50 @@ pub fn warnings(alloc: Global, package: &Guarded) -> Result<Vec<Warning>, AllocE
     for _ in 0..=count {
         let table = round(alloc, package, &order, &alive)?;
         if is_settled(&table) {
-            return told(alloc, &table);
+            let later = with_given(alloc, package, &order, &table, empty)?;
+            return told(alloc, &table, &later, empty);
         }
         alive = revived(alloc, package, &order, table)?;
     }
     Ok(Vec::new(alloc))
 }
 
-/// The definitions that aren't alive.
-fn told(alloc: Global, table: &[Known<'_>]) -> Result<Vec<Warning>, AllocError>
-    ensures { IfOk result (λ v. AllByRecursion (λ w. IsDeadAt table.now w.definition) v.items) }
+/// The definitions that aren't alive, and those that are given, which have their reasons in a later table.
+fn told(
+    alloc: Global,
+    table: &[Known<'_>],
+    later: &[Known<'_>],
+    empty: &[bool],
+) -> Result<Vec<Warning>, AllocError>
+    ensures { IfOk result (λ v. AllByRecursion (λ w. IsDeadAt table.now w.definition
+        ⊎ (slice_get empty.now w.definition ≡ Some true)) v.items) }
 {
     let mut warnings = Vec::new(alloc);
     for (definition, known) in table.iter().enumerate() {
         if !known.alive {
             let reason = reason_of(alloc, &known.summary)?;
             warnings.push(Warning { definition, reason })?;
+        } else if is_given(empty, definition) {
+            let reason = reason_at(alloc, later, definition)?;
+            warnings.push(Warning { definition, reason })?;
         }
     }
     Ok(warnings)
+}
+
+/// Why a definition has no instance, by a table.
+fn reason_at(alloc: Global, table: &[Known<'_>], definition: usize) -> Result<Reason, AllocError> {
+    match table.get(definition) {
+        Some(known) => reason_of(alloc, &known.summary),
+        None => Ok(Reason::Unmet),
+    }
 }
 
 fn reason_of(alloc: Global, summary: &Summary<'_>) -> Result<Reason, AllocError> {
     match summary {
         Summary::Nothing(cause) => told_cause(alloc, *cause),
         // It isn't told: what is admitted makes a definition alive.
-        Summary::Within(_) => Ok(Reason::Alternatives),
+        Summary::Within(_) => Ok(Reason::Unmet),
     }
 }
 
@@ -70,5 +93,6 @@ fn told_cause(alloc: Global, cause: Cause<'_>) -> Result<Reason, AllocError> {
         Cause::Alternatives => Reason::Alternatives,
         Cause::Itself => Reason::Itself,
         Cause::Through(number) => Reason::Through(number),
+        Cause::Unmet => Reason::Unmet,
     })
 }

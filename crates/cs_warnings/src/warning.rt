@@ -39,4 +39,6 @@ pub enum Reason {
     Itself,
     /// The definition of that number, which it refers to, has no instance.
     Through(usize),
+    /// Nothing meets all that it asks; no simple rule says more.
+    Unmet,
 }

@@ -39,7 +39,7 @@ invariant_of-result c =
     let w = subst (λ xs. PlacesWaiting E (declared_names E) xs all p.numberer last inner) c.deref-3.ensures.value
     (c.in_ok-children.ensures.placed E (declared_names E) all placed.numbered
     (subst (λ xs. AreKnownIn (declared_names E) xs all (waiting (declared_names E) p.numberer)) (sym c.deref-3.ensures.value) (first_known E ns p closed placed))) in
-    record { placed = placed_all E c.args.root names ns p last inner reach perm placed c.in_ok-children.ensures.all w }
+    record { placed = placed_all E names ns p last inner perm placed c.in_ok-children.ensures.all w }
 
 pub returns : goal.returns
 returns c =
@@ -61,4 +61,4 @@ returns c =
     (subst (λ xs. AreKnownIn (declared_names E) xs all (waiting (declared_names E) p.numberer)) (sym c.deref-3.ensures.value) (first_known E ns p closed placed))) in
     let within : c.args.root < length p.numbers.items = omega (arith, c.requires, placed.long) in
     let at = get_or_from_slice_get p.numbers.items c.args.root c.index-number.result.now 0 (slice_get_read p.numbers.items (length p.numbers.items) c.args.root c.index-number.result.now refl within c.index-number.ensures) in
-    subst (IsRooted E (name_of E c.args.root) last.rules.items inner) at (rooted E c.args.root names ns p last inner reach perm placed c.in_ok-children.ensures.all w)
+    subst (IsRooted E (name_of E c.args.root) last.rules.items inner) at (rooted E names ns p last inner perm placed c.in_ok-children.ensures.all w c.args.root reach)
