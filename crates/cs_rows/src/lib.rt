@@ -1,4 +1,4 @@
-// Worked examples, and hostile input: the calls of `cs_tool` and `cs_check`.
+// Worked examples, and hostile input: the calls of `cs_tool`, `cs_judge` and `cs_check`.
 #![tactic(auto)]
 
 #[cfg(test)]
