@@ -8,4 +8,4 @@ mod references;
 
 pub use fault::GuardFault;
 pub use guarded::{Guarded, guard};
-pub use reaching::{reachable, references};
+pub use reaching::{reachable, referred};

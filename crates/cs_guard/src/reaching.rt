@@ -41,7 +41,7 @@ fn add_all(seen: &mut [bool], order: &mut Vec<usize>, numbers: &[usize]) -> Resu
 ///
 /// # Errors
 /// `AllocError`, where memory runs out.
-pub fn references(alloc: Global, package: &Package, number: usize) -> Result<Vec<usize>, AllocError>
+pub fn referred(alloc: Global, package: &Package, number: usize) -> Result<Vec<usize>, AllocError>
     requires { number < length «package».now }
     ensures names { IfOk result (λ v. map (name_of «package».now) v.items
         ≡ referred_of «package».now (name_of «package».now number)) }

@@ -9,7 +9,7 @@ ghost use Rattle.cs_instance.specs.Rooted.{IsNumberedWhole};
 use crate::numbering::definitions::{Placement, by_rank, place_definitions};
 use crate::numbering::inner::place_waiting;
 use crate::rules::Rule;
-use cs_guard::{Guarded, references};
+use cs_guard::{Guarded, referred};
 use cs_package::Package;
 use cs_rules::Numbering;
 use std::alloc::{AllocError, Global};
@@ -26,7 +26,7 @@ fn every(alloc: Global, package: &Package) -> Result<Vec<usize>, AllocError>
     let count = package.count();
     let mut numbers = Vec::with_capacity(alloc, count)?;
     for i in 0..count {
-        let _references = references(alloc, package, i)?; // for the proof: each is declared
+        let _referred = referred(alloc, package, i)?; // for the proof: each is declared
         numbers.push(i)?;
     }
     Ok(numbers)

@@ -6,7 +6,7 @@ use Rattle.cs_guard.specs.Numbered.{name_of}
 use Rattle.cs_guard.specs.declared.references.Followed.TheVariants.{Every}
 use Rattle.cs_guard.proofs.GraphRows.{row_of}
 use Rattle.cs_guard.proofs.Takes.{taken_every}
-use Rattle.cs_guard.proofs.reaching.references.Goals as goal
+use Rattle.cs_guard.proofs.reaching.referred.Goals as goal
 
 pub returns-clause-names : goal.returns-clause-names
 returns-clause-names c =
