@@ -1,6 +1,6 @@
 -- The rules of all that a root reaches, with their numbers.
 use Rattle.std.proofs.Common.{◌≡◌, ℕ, zero, suc, ◌<◌, inl, inr, List, [], ◌∷◌, ◌++◌, map, length, slice_index, refl, sym, ap, ap₂, ◌∙◌, subst, append-nil, arith}
-use Rattle.std.specs.Prelude.{Contains, get_or, slice_get, Some}
+use Rattle.std.specs.Prelude.{Contains, All, get_or, slice_get, Some}
 use Rattle.std.specs.List.{flat_map, AllByRecursion as Each}
 use Rattle.std.specs.List.Sorted.{IsPermutation}
 use Rattle.std.specs.Option.{unwrap_or}
@@ -165,6 +165,12 @@ pub number_of : (E : Environment) (n : List ℕ) → On n (declared_names E) →
 number_of [] n o = absurd o
 number_of (x ∷ E) n (inl e) = (0, omega arith, sym e)
 number_of (x ∷ E) n (inr o) = let k = number_of E n o in let l = k.1 in (suc k.0, omega (arith, l), k.2)
+
+-- the names of numbers are declared
+pub all_declared : (E : Environment) (ks : List ℕ) (m : List ℕ) → All (λ k. k < length E) ks → On m (map (name_of E) ks) → On m (declared_names E)
+all_declared E [] m a o = absurd o
+all_declared E (k ∷ ks) m a (inl e) = subst (λ n. On n (declared_names E)) (sym e) (contains_on (name_of E k) (declared_names E) (declared_at E k (a 0 0 (omega arith))))
+all_declared E (k ∷ ks) m a (inr o) = all_declared E ks m (λ i d l. a (suc i) d (omega (arith, l))) o
 
 -- what definitions in any order refer to is among them, where they are all
 pub closed_whole : (E : Environment) (ns : List (List ℕ)) → IsPermutation (declared_names E) ns → ((i : ℕ) (m : List ℕ) → i < length E → Contains (referred_of E (name_of E i)) m → On m (declared_names E))

@@ -9,8 +9,7 @@ use Rattle.cs_document.specs.Opened.{opened}
 use Rattle.cs_package.specs.Environment.{Environment, Names, written}
 use Rattle.cs_instance.specs.Constraint.{Constraint, is_satisfied}
 use Rattle.cs_instance.specs.Instance.{Rule, definition, node, constraint_of, IsInstance}
-use Rattle.cs_instance.specs.Numbering.{map_constraint, rule_at}
-use Rattle.cs_instance.specs.Rooted.{IsRooted}
+use Rattle.cs_instance.specs.Numbering.{map_constraint, rule_at, IsNumbering}
 use Rattle.cs_instance.specs.Steps.{numbered}
 use Rattle.cs_instance.specs.declared.rules.Rule.{Rule as Coded}
 use Rattle.cs_instance.proofs.Satisfied.{named}
@@ -40,22 +39,22 @@ got_is (y ∷ xs) (suc i) x d e = got_is xs i x d e
 pub same_name : (E : Environment) (t n m : List ℕ) → Names E t n → Names E t m → n ≡ m
 same_name E t n m a b = append_cancel_left (codes "#") n m (sym a.text ∙ b.text)
 
-module _ (E : Environment) (n : List ℕ) (rules : List Coded) (inner : List ℕ) (number : ℕ) (r : IsRooted E n rules inner number) (nodes : List Node) (same : map asked_of nodes ≡ map (numbered inner) rules) (I : Rule → Document → Bool) (i : IsInstance E I) where
+module _ (E : Environment) (all : List Rule) (rules : List Coded) (inner : List ℕ) (numbering : IsNumbering E all (map (numbered inner) rules)) (nodes : List Node) (same : map asked_of nodes ≡ map (numbered inner) rules) (I : Rule → Document → Bool) (i : IsInstance E I) where
   pub judged : ℕ → Document → Bool
-  judged p x = I (rule_at r.all p) x
+  judged p x = I (rule_at all p) x
 
-  pub is_root : (x : Document) → judged number x ≡ I (definition n) x
+  pub is_root : (n : List ℕ) (number : ℕ) → slice_get all number ≡ Some (definition n) → (x : Document) → judged number x ≡ I (definition n) x
   unfolding judged
-  is_root x = ap (λ (s : Rule). I s x) (got_is r.all number (definition n) _ r.root)
+  is_root n number root x = ap (λ (s : Rule). I s x) (got_is all number (definition n) _ root)
 
   pub judged_is : (k : ℕ) (nd : Node) (x : Document) → slice_get nodes k ≡ Some nd → judged k x ≡ is_satisfied (λ p. judged p x) (λ y p. judged p y) (asked_of nd) (opened x)
   unfolding judged
   judged_is k nd x at =
       let asked : slice_get (map (numbered inner) rules) k ≡ Some (asked_of nd) = ap (λ cs. slice_get cs k) (sym same) ∙ got_mapped asked_of nodes k nd at in
-      i (rule_at r.all k) x
-      ∙ sym (named (λ (part : Rule). part) node (λ part. I part x) (λ y part. I part y) (constraint_of E (rule_at r.all k)) (opened x))
-      ∙ ap (λ c. is_satisfied (λ part. I part x) (λ y part. I part y) c (opened x)) (r.numbering.asks k (asked_of nd) asked)
-      ∙ named (rule_at r.all) (rule_at r.all) (λ part. I part x) (λ y part. I part y) (asked_of nd) (opened x)
+      i (rule_at all k) x
+      ∙ sym (named (λ (part : Rule). part) node (λ part. I part x) (λ y part. I part y) (constraint_of E (rule_at all k)) (opened x))
+      ∙ ap (λ c. is_satisfied (λ part. I part x) (λ y part. I part y) c (opened x)) (numbering.asks k (asked_of nd) asked)
+      ∙ named (rule_at all) (rule_at all) (λ part. I part x) (λ y part. I part y) (asked_of nd) (opened x)
 
 -- the judgements of both sides together
 abbrev pub both_judged : (ℕ → Document → Bool) → (ℕ → Document → Bool) → Judgement
@@ -71,29 +70,35 @@ both_meaning ns f g a b Refusing k nd x at = b k nd x at
 
 -- ---- what a table at rest says of roots
 
-module _ (E : Environment) (n : List ℕ) (rules : List Coded) (inner : List ℕ) (number : ℕ) (r : IsRooted E n rules inner number) (I : Rule → Document → Bool) (i : IsInstance E I) (ns : Nodes) (table : Table) (ended : table.is_final ≡ true) (rest : IsAtRest ns table) (asked : List Literal) (shut : IsShut table.entries.items asked) (first : map asked_of ns.admitting.items ≡ map (numbered inner) rules) where
-  met : (J : Judgement) (x : Document) → ((k : ℕ) (y : Document) → J Admitting k y ≡ judged E n rules inner number r ns.admitting.items first I i k y) → I (definition n) x ≡ true → meets J x (record { side = Admitting; rule = number; holds = true }) ≡ true
-  met J x same h = beq_same (J Admitting number x) true (same number x ∙ is_root E n rules inner number r ns.admitting.items first I i x ∙ h)
+module _ (E : Environment) (all : List Rule) (rules : List Coded) (inner : List ℕ) (numbering : IsNumbering E all (map (numbered inner) rules)) (I : Rule → Document → Bool) (i : IsInstance E I) (ns : Nodes) (table : Table) (ended : table.is_final ≡ true) (rest : IsAtRest ns table) (asked : List Literal) (shut : IsShut table.entries.items asked) (first : map asked_of ns.admitting.items ≡ map (numbered inner) rules)
+    (n : List ℕ) (number : ℕ) (root : slice_get all number ≡ Some (definition n)) where
+  met : (J : Judgement) (x : Document) → ((k : ℕ) (y : Document) → J Admitting k y ≡ judged E all rules inner numbering ns.admitting.items first I i k y) → I (definition n) x ≡ true → meets J x (record { side = Admitting; rule = number; holds = true }) ≡ true
+  met J x same h = beq_same (J Admitting number x) true (same number x ∙ is_root E all rules inner numbering ns.admitting.items first I i n number root x ∙ h)
 
   pub no_instance : ns.refusing.items ≡ [] → ((p : Literal → Bool) → p (record { side = Admitting; rule = number; holds = true }) ≡ true → list_all p asked ≡ true) → (x : Document) → IsDocument x → I (definition n) x ≡ true → ⊥
   no_instance empty covers x d h =
-      let f = judged E n rules inner number r ns.admitting.items first I i in
+      let f = judged E all rules inner numbering ns.admitting.items first I i in
       let J = both_judged f (λ k y. false) in
-      let m = both_meaning ns f (λ k y. false) (judged_is E n rules inner number r ns.admitting.items first I i) (λ k nd y at. none_got (sym (ap (λ xs. slice_get xs k) empty) ∙ at)) in
+      let m = both_meaning ns f (λ k y. false) (judged_is E all rules inner numbering ns.admitting.items first I i) (λ k nd y at. none_got (sym (ap (λ xs. slice_get xs k) empty) ∙ at)) in
       no_document ns table ended rest J m asked shut x d (covers (meets J x) (met J x (λ k y. refl) h))
     where
       none_got : {X Y : Type 0} {x : X} {a b : Y} → None ≡ Some x → a ≡ b
       none_got e = cc
 
-  pub no_separating : (F : Environment) (m : List ℕ) (rules' : List Coded) (inner' : List ℕ) (number' : ℕ) (q : IsRooted F m rules' inner' number') (K : Rule → Document → Bool) (k : IsInstance F K) (second : map asked_of ns.refusing.items ≡ map (numbered inner') rules')
+  pub no_separating : (F : Environment) (others : List Rule) (rules' : List Coded) (inner' : List ℕ) (numbering' : IsNumbering F others (map (numbered inner') rules')) (m : List ℕ) (number' : ℕ) (root' : slice_get others number' ≡ Some (definition m)) (K : Rule → Document → Bool) (k : IsInstance F K) (second : map asked_of ns.refusing.items ≡ map (numbered inner') rules')
       → ((p : Literal → Bool) → p (record { side = Admitting; rule = number; holds = true }) ≡ true → p (record { side = Refusing; rule = number'; holds = false }) ≡ true → list_all p asked ≡ true) → (x : Document) → IsDocument x → I (definition n) x ≡ true → K (definition m) x ≡ false → ⊥
-  no_separating F m rules' inner' number' q K k second covers x d h g =
-      let f = judged E n rules inner number r ns.admitting.items first I i in
-      let f' = judged F m rules' inner' number' q ns.refusing.items second K k in
+  no_separating F others rules' inner' numbering' m number' root' K k second covers x d h g =
+      let f = judged E all rules inner numbering ns.admitting.items first I i in
+      let f' = judged F others rules' inner' numbering' ns.refusing.items second K k in
       let J = both_judged f f' in
-      no_document ns table ended rest J (both_meaning ns f f' (judged_is E n rules inner number r ns.admitting.items first I i) (judged_is F m rules' inner' number' q ns.refusing.items second K k)) asked shut x d
-      (covers (meets J x) (met J x (λ k y. refl) h) (beq_same (f' number' x) false (is_root F m rules' inner' number' q ns.refusing.items second K k x ∙ g)))
+      no_document ns table ended rest J (both_meaning ns f f' (judged_is E all rules inner numbering ns.admitting.items first I i) (judged_is F others rules' inner' numbering' ns.refusing.items second K k)) asked shut x d
+      (covers (meets J x) (met J x (λ k y. refl) h) (beq_same (f' number' x) false (is_root F others rules' inner' numbering' ns.refusing.items second K k m number' root' x ∙ g)))
 
 -- what a judge told of the root of that text
 pub told_root : (E : Environment) (t : List ℕ) (b : Bool) (x : Document) (n : List ℕ) → Names E t n → ((I : Rule → Document → Bool) → IsInstance E I → b ≡ I (definition n) x) → (I : Rule → Document → Bool) (m : List ℕ) → IsInstance E I → Names E t m → I (definition m) x ≡ b
 told_root E t b x n named f I m i other = ap (λ k. I (definition k) x) (same_name E t m n other named) ∙ sym (f I i)
+
+-- what isn't true is false
+pub is_false : (b : Bool) → (b ≡ true → ⊥) → b ≡ false
+is_false true no = absurd (no refl)
+is_false false no = refl

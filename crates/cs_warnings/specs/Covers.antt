@@ -1,5 +1,5 @@
 -- What summaries say of instances.
-use Rattle.std.specs.Prelude.{◌≡◌, ℕ, ◌<◌, ◌≤◌, Bool, true, false, List, [], ◌∷◌, Some, IfSome, is_some, get_or, slice_get}
+use Rattle.std.specs.Prelude.{◌≡◌, ◌⊎◌, ℕ, ◌<◌, ◌≤◌, Bool, true, false, List, [], ◌∷◌, Some, IfSome, is_some, get_or, slice_get}
 use Rattle.std.specs.List.{list_all, list_any, AllByRecursion}
 use Rattle.cs_document.specs.Document.{Document, list, object, Documents, Members, Entry, elements, entries, under, depth}
 use Rattle.cs_package.specs.Environment.{Environment, declared_names}
@@ -10,6 +10,7 @@ use Rattle.cs_warnings.specs.Admits.{Admits}
 use Rattle.cs_warnings.specs.declared.summary.Field.{Field}
 use Rattle.cs_warnings.specs.declared.summary.Known.{Known}
 use Rattle.cs_warnings.specs.declared.summary.Summary.{Summary}
+use Rattle.cs_warnings.specs.declared.warning.Warning.{Warning}
 
 -- the definition of a number
 abbrev pub numbered : Environment → ℕ → Rule
@@ -42,6 +43,10 @@ IsSettled k = k.alive ≡ false → (x : Document) → Admits k.summary x → �
 -- the definition of a number isn't alive
 abbrev pub IsDeadAt : List Known → ℕ → Type 0
 IsDeadAt table m = (k : Known) × (slice_get table m ≡ Some k) × (k.alive ≡ false)
+
+-- the definition of a warning isn't alive, or is given
+abbrev pub IsTold : List Known → List Bool → Warning → Type 0
+IsTold table empty w = IsDeadAt table w.definition ⊎ (slice_get empty w.definition ≡ Some true)
 
 -- a document that is asked for, or one inside
 abbrev pub IsDeep : Bool → ℕ → Document → Type 0

@@ -202,11 +202,11 @@ pub(crate) fn is_given(empty: &[bool], number: usize) -> bool
     }
 }
 
-/// What a definition that isn't alive admits: nothing.
-fn nothing_of<'a>(summary: Summary<'a>) -> Summary<'a> {
+/// What a definition admits, where one that isn't alive admits nothing.
+fn nothing_unless<'a>(is_alive: bool, summary: Summary<'a>) -> Summary<'a> {
     match summary {
-        Summary::Nothing(cause) => Summary::Nothing(cause),
-        Summary::Within(_) => Summary::Nothing(Cause::Unmet),
+        Summary::Within(_) if !is_alive => Summary::Nothing(Cause::Unmet),
+        Summary::Within(_) | Summary::Nothing(_) => summary,
     }
 }
 
@@ -220,16 +220,15 @@ pub(crate) fn with_given<'a>(
 ) -> Result<Vec<Known<'a>>, AllocError>
     requires order { All (λ d. d.1 < length «package».now) order.now }
 {
-    let mut table = unknown(alloc, &alive_but(alloc, table, empty)?)?;
+    let alive = alive_but(alloc, table, empty)?;
+    let mut given = unknown(alloc, &alive)?;
     for definition in order {
         let (_rank, number) = *definition;
-        let mut summary = definition_summary(alloc, package.package(), &table, number)?;
-        if number < table.len() {
-            if !table[number].alive {
-                summary = nothing_of(summary);
-            }
-            put(&mut table, number, summary);
+        let summary = definition_summary(alloc, package.package(), &given, number)?;
+        if number < given.len() {
+            let is_alive = given[number].alive;
+            put(&mut given, number, nothing_unless(is_alive, summary));
         }
     }
-    Ok(table)
+    Ok(given)
 }

@@ -1,8 +1,10 @@
 // The definitions that nothing is an instance of.
-ghost use Rattle.std.specs.Prelude.{◌≡◌, ◌⊎◌, true, Some, IfOk, slice_get};
+ghost use Rattle.std.specs.Prelude.{◌≡◌, ◌⊎◌, List, true, Some, IfOk, OnOk, slice_get};
 ghost use Rattle.std.specs.List.{AllByRecursion};
-ghost use Rattle.cs_warnings.specs.Covers.{IsDeadAt};
+ghost use Rattle.cs_warnings.specs.Covers.{IsTold};
 ghost use Rattle.cs_warnings.specs.NoInstance.{HasNoInstance};
+ghost use Rattle.cs_warnings.specs.declared.summary.Known.{Known};
+ghost use Rattle.cs_warnings.specs.declared.warning.Warning.{Warning};
 
 use crate::summary::{Cause, Known, Summary};
 use crate::table::{by_rank, is_given, is_settled, revived, round, with_given};
@@ -43,20 +45,47 @@ fn told(
     later: &[Known<'_>],
     empty: &[bool],
 ) -> Result<Vec<Warning>, AllocError>
-    ensures { IfOk result (λ v. AllByRecursion (λ w. IsDeadAt table.now w.definition
-        ⊎ (slice_get empty.now w.definition ≡ Some true)) v.items) }
+    ensures { IfOk result (λ v. AllByRecursion (IsTold table.now empty.now) v.items) }
 {
     let mut warnings = Vec::new(alloc);
     for (definition, known) in table.iter().enumerate() {
-        if !known.alive {
-            let reason = reason_of(alloc, &known.summary)?;
-            warnings.push(Warning { definition, reason })?;
-        } else if is_given(empty, definition) {
-            let reason = reason_at(alloc, later, definition)?;
-            warnings.push(Warning { definition, reason })?;
-        }
+        tell(alloc, &mut warnings, definition, known, later, empty)?;
     }
     Ok(warnings)
+}
+
+/// Adds a definition that isn't alive, or is given.
+fn tell(
+    alloc: Global,
+    warnings: &mut Vec<Warning>,
+    definition: usize,
+    known: &Known<'_>,
+    later: &[Known<'_>],
+    empty: &[bool],
+) -> Result<(), AllocError>
+    ensures { OnOk result ((T : List Known) → slice_get T definition ≡ Some known.now
+        → AllByRecursion (IsTold T empty.now) warnings.old.items
+        → AllByRecursion (IsTold T empty.now) warnings.new.items) }
+{
+    if !known.alive {
+        let reason = reason_of(alloc, &known.summary)?;
+        add(warnings, Warning { definition, reason })?;
+        return Ok(());
+    }
+    if is_given(empty, definition) {
+        let reason = reason_at(alloc, later, definition)?;
+        add(warnings, Warning { definition, reason })?;
+        return Ok(());
+    }
+    Ok(())
+}
+
+fn add(warnings: &mut Vec<Warning>, warning: Warning) -> Result<(), AllocError>
+    ensures { OnOk result ((P : Warning → Type 0) → AllByRecursion P warnings.old.items
+        → P warning.entry → AllByRecursion P warnings.new.items) }
+{
+    warnings.push(warning)?;
+    Ok(())
 }
 
 /// Why a definition has no instance, by a table.

@@ -17,7 +17,8 @@ returns-then-has_none-clause-none c = λ e I n x i named d sep.
     let asked = c.in_ok-asked.asked.items in
     let first = c.in_ok-nodes_of.ensures ∙ ap₂ (λ inner rules. map (numbered inner) rules) c.deref-2.ensures.value c.deref.ensures.value in
     let shut = subst (IsShut table.entries.items) c.deref-4.ensures.value (c.has_none.ensures c.if-has_none.true) in
-    no_instance E name root.numbering.rules.items root.numbering.children.items root.number c.in_ok-numbering.ensures.rooted I i ns table c.in_ok-table.ensures.ended c.in_ok-table.ensures.rest asked shut first c.new.ensures.items c.in_ok-asked.ensures x d
+    let r = c.in_ok-numbering.ensures.rooted in
+    no_instance E r.all root.numbering.rules.items root.numbering.children.items r.numbering I i ns table c.in_ok-table.ensures.ended c.in_ok-table.ensures.rest asked shut first name root.number r.root c.new.ensures.items c.in_ok-asked.ensures x d
     (ap (λ k. I (definition k) x) (same_name E c.args.root.now name n c.in_ok-numbering.ensures.named named) ∙ sep.0.0)
 
 pub returns-then-branch-clause-one : goal.returns-then-branch-clause-one

@@ -21,8 +21,10 @@ returns-then-has_none-clause-none c = λ e I J n m x i j named other d sep.
     let first = c.in_ok-nodes_of.ensures ∙ ap₂ (λ inner rules. map (numbered inner) rules) c.deref-2.ensures.value c.deref.ensures.value in
     let second = c.in_ok-nodes_of-2.ensures ∙ ap₂ (λ inner rules. map (numbered inner) rules) c.deref-4.ensures.value c.deref-3.ensures.value in
     let shut = subst (IsShut table.entries.items) c.deref-6.ensures.value (c.has_none.ensures c.if-has_none.true) in
-    no_separating E name one.numbering.rules.items one.numbering.children.items one.number c.in_ok-first.ensures.rooted I i ns table c.in_ok-table.ensures.ended c.in_ok-table.ensures.rest asked shut first
-    F name' two.numbering.rules.items two.numbering.children.items two.number c.in_ok-second.ensures.rooted J j second c.in_ok-asked.ensures x d
+    let r = c.in_ok-first.ensures.rooted in
+    let q = c.in_ok-second.ensures.rooted in
+    no_separating E r.all one.numbering.rules.items one.numbering.children.items r.numbering I i ns table c.in_ok-table.ensures.ended c.in_ok-table.ensures.rest asked shut first name one.number r.root
+    F q.all two.numbering.rules.items two.numbering.children.items q.numbering name' two.number q.root J j second c.in_ok-asked.ensures x d
     (ap (λ k. I (definition k) x) (same_name E c.args.admitting_root.now name n c.in_ok-first.ensures.named named) ∙ sep.0.0)
     (ap (λ k. J (definition k) x) (same_name F c.args.refusing_root.now name' m c.in_ok-second.ensures.named other) ∙ sep.1.0)
 

@@ -1,4 +1,4 @@
-use Rattle.std.proofs.Common.{subst}
+use Rattle.std.proofs.Common.{inl, inr, subst}
 use Rattle.std.specs.List.{AllByRecursion as Each}
 use Rattle.std.proofs.lemmas.Result.{IfOk-weaker}
 use Rattle.cs_document.proofs.Each.{each_map}
@@ -12,5 +12,8 @@ returns-then-is_settled c =
     let sound = c.in_ok-table.ensures.sound in
     let settled : Each IsSettled T = subst (Each IsSettled) c.deref-in-loop-2.ensures.value (c.is_settled.ensures c.if-is_settled.true) in
     IfOk-weaker c.told.result _ _
-    (λ v h. each_map _ _ (λ w d. no_instance c.args.«package».now T sound settled c.in_ok-table.ensures.length w.definition (subst (λ U. IsDeadAt U w.definition) c.deref-then-is_settled.ensures.value d)) v.items h)
+    (λ v h. each_map _ _ (λ w d. elim d [
+      | inl k ↦ inl (no_instance c.args.«package».now T sound settled c.in_ok-table.ensures.length w.definition (subst (λ U. IsDeadAt U w.definition) c.deref-then-is_settled-2.ensures.value k))
+      | inr k ↦ inr k
+    ]) v.items h)
     c.told.ensures
