@@ -54,6 +54,17 @@ impl From<AllocError> for QuestionFault {
     }
 }
 
+impl<T: Drop> From<AllocFailed<T>> for QuestionFault {
+    ghost use Rattle.std.specs.Prelude.{◌≡◌};
+    ghost use Rattle.cs_question.specs.declared.fault.QuestionFault.TheVariants.{OutOfMemory};
+
+    ghost from_gives = { λ _ e. e ≡ OutOfMemory };
+
+    fn from(_refused: AllocFailed<T>) -> QuestionFault {
+        QuestionFault::OutOfMemory
+    }
+}
+
 impl From<SearchFault> for QuestionFault {
     ghost use Rattle.std.specs.Prelude.{◌≡◌};
     ghost use Rattle.cs_question.specs.Faults.{fault_of_search};
