@@ -1,0 +1,3 @@
+-- Lemmas of samples.
+pub mod Kept
+pub mod Sounds

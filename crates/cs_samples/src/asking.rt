@@ -1,0 +1,81 @@
+// The question that a place asks.
+ghost use Rattle.std.specs.Prelude.{IfOk, IsTrue};
+ghost use Rattle.cs_document.specs.View.{doc_view};
+ghost use Rattle.cs_samples.specs.Sample.{IsSample};
+
+use crate::sampled::Sampled;
+use cs_document::Doc;
+use cs_guard::Guarded;
+use cs_instance::{InstanceFault, is_instance};
+use cs_question::{QuestionFault, instance_of, separating};
+use std::alloc::Global;
+
+/// What is asked for: samples of the root of a package.
+#[derive(Clone, Copy)]
+pub(crate) struct Asking<'a> {
+    pub(crate) alloc: Global,
+    pub(crate) package: &'a Guarded,
+    pub(crate) root: &'a str,
+    pub(crate) which: Sampled,
+}
+
+/// What a question answers.
+#[derive(Drop)]
+pub(crate) enum Answer {
+    Document(Doc),
+    Nothing,
+    /// A limit was met.
+    TooManyCases,
+}
+
+impl Asking<'_> {
+    ghost use Rattle.cs_samples.specs.Answers.{IsAnswer};
+
+    /// A document of the last definition of a variant: an instance of it that is one of the root too, or one that isn't.
+    ///
+    /// # Errors
+    /// `OutOfMemory`.
+    pub(crate) fn answer(&self, variant: &Guarded) -> Result<Answer, QuestionFault>
+        ensures { IfOk result (IsAnswer self.now.package.now self.now.root.now self.now.which) }
+    {
+        match self.found(variant) {
+            Ok(Some(doc)) => self.judged(doc),
+            Ok(None) | Err(QuestionFault::UnknownRoot) => Ok(Answer::Nothing),
+            Err(QuestionFault::TooManyCases) => Ok(Answer::TooManyCases),
+            Err(QuestionFault::OutOfMemory) => Err(QuestionFault::OutOfMemory),
+        }
+    }
+
+    /// What the last definition of the variant admits, and the root refuses where no instance is asked for.
+    fn found(&self, variant: &Guarded) -> Result<Option<Doc>, QuestionFault> {
+        let package = variant.package();
+        let Some(last) = package.count().checked_sub(1) else {
+            return Ok(None);
+        };
+        let name = package.name(last);
+        match self.which {
+            Sampled::Valid => instance_of(self.alloc, variant, name),
+            Sampled::Invalid => separating(self.alloc, variant, name, self.package, self.root),
+        }
+    }
+
+    /// The document, where it is a sample.
+    fn judged(&self, doc: Doc) -> Result<Answer, QuestionFault>
+        ensures { IfOk result (IsAnswer self.now.package.now self.now.root.now self.now.which) }
+    {
+        match self.is_sample(&doc) {
+            Ok(true) => Ok(Answer::Document(doc)),
+            Ok(false) | Err(InstanceFault::UnknownRoot) => Ok(Answer::Nothing),
+            Err(InstanceFault::TooManyPairs) => Ok(Answer::TooManyCases),
+            Err(InstanceFault::OutOfMemory) => Err(QuestionFault::OutOfMemory),
+        }
+    }
+
+    fn is_sample(&self, doc: &Doc) -> Result<bool, InstanceFault>
+        ensures { IfOk result (λ b. IsTrue b → IsSample self.now.package.now self.now.root.now
+            self.now.which (doc_view doc.now)) }
+    {
+        let is_valid = is_instance(self.alloc, self.package, self.root, doc)?;
+        Ok(is_valid == self.which.is_valid())
+    }
+}

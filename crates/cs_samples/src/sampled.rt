@@ -1,0 +1,23 @@
+// Which documents are sampled.
+ghost use Rattle.std.specs.Prelude.{◌≡◌};
+
+/// Which documents are sampled: instances of a definition, or documents that aren't.
+#[derive(Clone, Copy, Debug, PartialEq, Eq)]
+pub enum Sampled {
+    Valid,
+    Invalid,
+}
+
+impl Sampled {
+    ghost use Rattle.cs_samples.specs.Sample.{is_valid};
+
+    /// Whether a sample is an instance.
+    pub(crate) fn is_valid(self) -> bool
+        ensures { result ≡ is_valid self }
+    {
+        match self {
+            Sampled::Valid => true,
+            Sampled::Invalid => false,
+        }
+    }
+}

@@ -1,0 +1,197 @@
+// Samples of a definition.
+ghost use Rattle.std.specs.Prelude.{◌≡◌, ◌≤◌, ◌<◌, ◌+◌, ℕ, List, [], false, IfOk, OnOk, IsErrOf, length, map};
+ghost use Rattle.std.specs.List.{IsDistinct};
+ghost use Rattle.cs_document.specs.Document.{document_eq};
+ghost use Rattle.cs_document.specs.View.{doc_view};
+ghost use Rattle.cs_package.specs.Environment.{Names};
+ghost use Rattle.cs_samples.specs.Answers.{IsAnswer, IsPut, AreKept};
+ghost use Rattle.cs_samples.specs.Sample.{AreSamples};
+
+use crate::asking::{Answer, Asking};
+use crate::places::Place;
+use crate::sampled::Sampled;
+use crate::variants::Making;
+use crate::walks::walk_of;
+use cs_document::Doc;
+use cs_guard::{Guarded, reachable};
+use cs_package::Package;
+use cs_question::QuestionFault;
+use std::alloc::{AllocError, Global};
+use std::collections::BTreeSet;
+
+/// How many questions may answer nothing, beside as many as documents are asked for.
+const SPARE_QUESTIONS: usize = 100;
+
+/// How many questions may meet a limit.
+const MOST_LIMITED: usize = 8;
+
+/// Documents of the root, a definition of the package named with its `#`, or documents that just fail, no two alike, and at most
+/// as many as are asked for. They come in the order of the text.
+///
+/// Valid ones: an instance first, and then one for each alternative, each optional key with and without, each end of a range, the
+/// least length of a list and the next one, and a further key where one is allowed. Invalid ones: for each kind, literal and bound, each required key, each
+/// length of a list, and each struct that allows no further key, one that is no instance for this alone, where there is one. Each
+/// definition is sampled at the first place that refers to it.
+///
+/// At most `most` questions give a document, `most + 100` give none, and 8 meet a limit.
+///
+/// # Errors
+/// `UnknownRoot` exactly where the package doesn't declare the root, `TooManyCases` where no document was found and a limit
+/// was met.
+pub fn samples(
+    alloc: Global,
+    package: &Guarded,
+    root: &str,
+    which: Sampled,
+    most: usize,
+) -> Result<Vec<Doc>, QuestionFault>
+    ensures samples { IfOk result (λ v. AreSamples «package».now root.now which v.items) }
+    ensures within { IfOk result (λ v. length v.items ≤ most) }
+    ensures distinct { IfOk result (λ v. IsDistinct document_eq (map doc_view v.items)) }
+    ensures known { OnOk result ((n : List ℕ) × Names «package».now root.now n) }
+    ensures unknown { IsErrOf result QuestionFault.UnknownRoot
+        → (n : List ℕ) → ¬ Names «package».now root.now n }
+{
+    let Some(number) = package.package().find(root) else {
+        return Err(QuestionFault::UnknownRoot);
+    };
+    let asking = Asking {
+        alloc,
+        package,
+        root,
+        which,
+    };
+    let Ok(found) = gathered(&asking, number, most) else {
+        return Err(QuestionFault::OutOfMemory);
+    };
+    if found.docs.is_empty() && found.limited > 0 {
+        return Err(QuestionFault::TooManyCases);
+    }
+    Ok(found.docs)
+}
+
+/// What the questions answered: documents in their order, how many answered nothing new, and how many met a limit.
+#[derive(Drop)]
+struct Found {
+    docs: Vec<Doc>,
+    seen: BTreeSet<Doc>,
+    missed: usize,
+    limited: usize,
+}
+
+impl Found {
+    fn new(alloc: Global) -> Found
+        ensures none { result.docs.items ≡ [] }
+        ensures kept { AreKept result.seen result.docs.items }
+    {
+        Found {
+            docs: Vec::new(alloc),
+            seen: BTreeSet::new(alloc),
+            missed: 0,
+            limited: 0,
+        }
+    }
+
+    /// Whether no more is to be asked.
+    fn is_full(&self, most: usize) -> bool
+        ensures { result ≡ false → length self.now.docs.items < most }
+    {
+        self.docs.len() >= most
+            || self.missed >= most.saturating_add(SPARE_QUESTIONS)
+            || self.limited >= MOST_LIMITED
+    }
+
+    /// Asks the question of a place.
+    fn ask<'b, 'a>(
+        &mut self,
+        asking: &Asking<'_>,
+        making: &Making<'b, 'a>,
+        place: &'b Place<'a>,
+    ) -> Result<(), QuestionFault>
+        requires { AreSamples asking.now.package.now asking.now.root.now asking.now.which
+            self.old.docs.items }
+        ensures samples { OnOk result (AreSamples asking.now.package.now asking.now.root.now
+            asking.now.which self.new.docs.items) }
+        ensures one { OnOk result (length self.new.docs.items ≤ length self.old.docs.items + 1) }
+        ensures kept { OnOk result (AreKept self.old.seen self.old.docs.items
+            → AreKept self.new.seen self.new.docs.items) }
+    {
+        match asked(asking, making, place)? {
+            Answer::Document(doc) => self.put(asking.alloc, doc)?,
+            Answer::Nothing => self.missed = self.missed.saturating_add(1),
+            Answer::TooManyCases => self.limited = self.limited.saturating_add(1),
+        }
+        Ok(())
+    }
+
+    /// Puts a document behind the others, unless it is one of them.
+    fn put(&mut self, alloc: Global, doc: Doc) -> Result<(), QuestionFault>
+        ensures put { OnOk result (IsPut doc self.old.docs.items self.new.docs.items) }
+        ensures kept { OnOk result (AreKept self.old.seen self.old.docs.items
+            → AreKept self.new.seen self.new.docs.items) }
+    {
+        let copy = doc.copy(alloc)?;
+        if self.seen.insert(copy)? {
+            self.docs.push(doc)?;
+        } else {
+            self.missed = self.missed.saturating_add(1);
+        }
+        Ok(())
+    }
+}
+
+/// What the question of a place answers.
+fn asked<'b, 'a>(
+    asking: &Asking<'_>,
+    making: &Making<'b, 'a>,
+    place: &'b Place<'a>,
+) -> Result<Answer, QuestionFault>
+    ensures { IfOk result (IsAnswer asking.now.package.now asking.now.root.now asking.now.which) }
+{
+    match making.variant(place)? {
+        Some(variant) => asking.answer(&variant),
+        None => Ok(Answer::Nothing),
+    }
+}
+
+/// Asks the questions of all places, in their order, until there are enough documents.
+fn gathered(asking: &Asking<'_>, number: usize, most: usize) -> Result<Found, QuestionFault>
+    requires { number < length asking.now.package.now }
+    ensures samples { IfOk result (λ f. AreSamples asking.now.package.now asking.now.root.now
+        asking.now.which f.docs.items) }
+    ensures within { IfOk result (λ f. length f.docs.items ≤ most) }
+    ensures kept { IfOk result (λ f. AreKept f.seen f.docs.items) }
+{
+    let package = asking.package.package();
+    let questions = most.saturating_mul(2).saturating_add(SPARE_QUESTIONS);
+    let walk = walk_of(asking.alloc, package, number, asking.which, questions)?;
+    let is_reached = reached_marks(asking.alloc, package, number)?;
+    let making = Making {
+        alloc: asking.alloc,
+        package,
+        is_reached: &is_reached,
+        reached: &walk.reached,
+        which: asking.which,
+    };
+    let mut found = Found::new(asking.alloc);
+    for place in &walk.places {
+        if found.is_full(most) {
+            break;
+        }
+        found.ask(asking, &making, place)?;
+    }
+    Ok(found)
+}
+
+/// Whether the root reaches each definition.
+fn reached_marks(alloc: Global, package: &Package, root: usize) -> Result<Vec<bool>, AllocError>
+    requires { root < length «package».now }
+{
+    let mut marks = vec![in alloc; false; package.count()]?;
+    for number in reachable(alloc, package, root)? {
+        if let Some(mark) = marks.get_mut(number) {
+            *mark = true;
+        }
+    }
+    Ok(marks)
+}

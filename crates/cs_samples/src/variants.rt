@@ -1,0 +1,136 @@
+// Packages in which something is put at a place.
+ghost use Rattle.std.specs.Prelude.{◌<◌, IfOk, OnOk, length};
+ghost use Rattle.cs_package.specs.View.{IsTable};
+
+use crate::copies::{copy_shape, copy_shapes};
+use crate::forced::Forcing;
+use crate::names::{copy_names, put_copy};
+use crate::places::{Change, Place, Reached};
+use crate::sampled::Sampled;
+use crate::whole::whole;
+use cs_guard::{GuardFault, Guarded, guard};
+use cs_package::{NameTable, Package, Shape};
+use cs_question::QuestionFault;
+use std::alloc::{AllocError, Global};
+
+/// What variants are made of: a package, which of its definitions the root reaches by any way, and those that a walk reached.
+#[derive(Clone, Copy)]
+pub(crate) struct Making<'b, 'a> {
+    pub(crate) alloc: Global,
+    pub(crate) package: &'a Package,
+    pub(crate) is_reached: &'b [bool],
+    pub(crate) reached: &'b [Reached<'a>],
+    pub(crate) which: Sampled,
+}
+
+/// The names of a package's definitions, and their bodies.
+#[derive(Drop)]
+struct Draft {
+    names: NameTable,
+    bodies: Vec<Vec<Shape>>,
+}
+
+impl<'b, 'a> Making<'b, 'a> {
+    /// The package with copies of the definitions on the way to a place, the root's last, where each step of the way is forced and
+    /// the change is made at the place; none where such a package isn't guarded. What the root doesn't reach has no bodies there.
+    ///
+    /// # Errors
+    /// `OutOfMemory`.
+    pub(crate) fn variant(&self, place: &'b Place<'a>) -> Result<Option<Guarded>, QuestionFault> {
+        let mut draft = self.unchanged()?;
+        self.put_copies(&mut draft, place)?;
+        let Some(package) = whole(draft.names, draft.bodies) else {
+            return Ok(None);
+        };
+        match guard(self.alloc, package) {
+            Ok(guarded) => Ok(Some(guarded)),
+            Err(GuardFault::OutOfMemory) => Err(QuestionFault::OutOfMemory),
+            Err(GuardFault::Cycle { .. } | GuardFault::ChainTooLong) => Ok(None),
+        }
+    }
+
+    /// The names, and the bodies of what is reached.
+    fn unchanged(&self) -> Result<Draft, AllocError>
+        ensures { IfOk result (λ d. IsTable d.names.entries) }
+    {
+        let names = copy_names(self.alloc, self.package)?;
+        let mut bodies = Vec::with_capacity(self.alloc, self.package.count())?;
+        for definition in 0..self.package.count() {
+            if self.is_reached.get(definition) == Some(&true) {
+                bodies.push(copy_shapes(self.alloc, self.package.bodies(definition))?)?;
+            } else {
+                bodies.push(Vec::new(self.alloc))?;
+            }
+        }
+        Ok(Draft { names, bodies })
+    }
+
+    /// Puts the copies of the definitions on the way to a place behind the others, from the place back to the root. Each refers
+    /// to the copy before it.
+    fn put_copies(&self, draft: &mut Draft, place: &'b Place<'a>) -> Result<(), AllocError>
+        requires { IsTable draft.old.names.entries }
+        ensures { OnOk result (IsTable draft.new.names.entries) }
+    {
+        let mut change = place.change;
+        let mut at = place;
+        for _ in 0..self.reached.len() {
+            let Some(reached) = self.reached.get(at.entry) else {
+                return Ok(());
+            };
+            if reached.definition >= self.package.count() {
+                return Ok(());
+            }
+            let number = draft.bodies.len();
+            self.put_copy(draft, reached.definition, at, change)?;
+            let Some(from) = &reached.from else {
+                return Ok(());
+            };
+            change = Change::Definition(number);
+            at = from;
+        }
+        Ok(())
+    }
+
+    /// Puts a copy of a definition behind the others.
+    fn put_copy(
+        &self,
+        draft: &mut Draft,
+        definition: usize,
+        place: &Place<'_>,
+        change: Change<'_>,
+    ) -> Result<(), AllocError>
+        requires table { IsTable draft.old.names.entries }
+        requires inside { definition < length self.now.package.now }
+        ensures { OnOk result (IsTable draft.new.names.entries) }
+    {
+        let copies = self.copied(definition, place, change)?;
+        draft.bodies.push(copies)?;
+        put_copy(self.alloc, &mut draft.names, self.package, definition)
+    }
+
+    /// The bodies of a definition, of which the one of a place is forced.
+    fn copied(
+        &self,
+        definition: usize,
+        place: &Place<'_>,
+        change: Change<'_>,
+    ) -> Result<Vec<Shape>, AllocError>
+        requires { definition < length self.now.package.now }
+    {
+        let bodies = self.package.bodies(definition);
+        let forcing = Forcing {
+            alloc: self.alloc,
+            which: self.which,
+            change,
+        };
+        let mut copies = Vec::with_capacity(self.alloc, bodies.len())?;
+        for (body, shape) in bodies.iter().enumerate() {
+            if body == place.body {
+                copies.push(forcing.forced(shape, &place.steps)?)?;
+            } else {
+                copies.push(copy_shape(self.alloc, shape)?)?;
+            }
+        }
+        Ok(copies)
+    }
+}
