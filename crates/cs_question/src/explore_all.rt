@@ -24,7 +24,7 @@ enum Look<'a> {
 }
 
 /// Looks for an answer to a question, within limits.
-fn look<'a>(
+fn looked<'a>(
     alloc: Global,
     nodes: &Nodes<'a>,
     table: &Table<'a>,
@@ -122,7 +122,7 @@ fn look_at<'a>(
     let mut effort = Effort::new(alloc);
     effort.begin(most);
     effort.asks_all = true;
-    match look(alloc, nodes, table, &asked, &mut effort)? {
+    match looked(alloc, nodes, table, &asked, &mut effort)? {
         Look::Found(found) => answer(alloc, table, queue, place, found)?,
         Look::Ended => answer(alloc, table, queue, place, Found::Null)?,
         Look::Nothing => {
