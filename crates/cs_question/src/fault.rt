@@ -65,6 +65,17 @@ impl<T: Drop> From<AllocFailed<T>> for QuestionFault {
     }
 }
 
+impl From<DocFault> for QuestionFault {
+    ghost use Rattle.std.specs.Prelude.{◌≡◌};
+    ghost use Rattle.cs_question.specs.declared.fault.QuestionFault.TheVariants.{OutOfMemory};
+
+    ghost from_gives = { λ _ e. e ≡ OutOfMemory };
+
+    fn from(_refused: DocFault) -> QuestionFault {
+        QuestionFault::OutOfMemory
+    }
+}
+
 impl From<SearchFault> for QuestionFault {
     ghost use Rattle.std.specs.Prelude.{◌≡◌};
     ghost use Rattle.cs_question.specs.Faults.{fault_of_search};
