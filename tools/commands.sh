@@ -66,6 +66,8 @@ printf '#P: int' > "$(printf 'f\374r.cue')"
 # 5,000 operands, which are 5,002 rules and 10,002 schemas, and 8,001 values.
 { printf '#A: !=1'; yes '&!=1' | head -n 4999 | tr -d '\n'; } > twice.cue
 { printf '[0'; yes ',0' | head -n 7999 | tr -d '\n'; printf ']'; } > zeros.json
+# 13,417 values.
+{ printf '[0'; yes ',0' | head -n 13415 | tr -d '\n'; printf ']'; } > more-zeros.json
 # 49,999 literals; 49,998 fields, whose schema has more than 5 MiB, and that schema.
 { printf '#P: 0'; seq 49998 | sed 's/^/|/' | tr -d '\n'; } > literals.cue
 { printf '#P: {'; listed 'field%08d:int64'; printf '}'; } > fields.cue
@@ -187,6 +189,8 @@ try 'says 4 error 31⏎A write failed. What was written is the beginning of the 
     'run export --why --root "#P" port.cue > /dev/full'
 try 'says 4 error 31⏎A write failed. What was written is the beginning of the text. Write elsewhere.' \
     'run vet --why --root "#P" --doc one port.cue > /dev/full'
+try 'error 31' 'run vet --format json --root "#P" --doc one port.cue > /dev/full'
+try 'error 31' 'run vet --format json --root "#P" --doc one syntax.cue > /dev/full'
 try 'error 31' 'run explain 31 > /dev/full'
 
 # Limits: the greatest input that is read, and one byte more.
@@ -231,8 +235,13 @@ try_run 0 'all of it' '' 'run export --root "#P" fields.cue | cmp - fields.json 
 try invalid 'run vet --root "#A" --doc zeros.json twice.cue'
 try 'error 27' 'run export --root "#A" twice.cue > twice.json; run validate --schema twice.json --doc zeros.json'
 try 'error 27' 'run agree --root "#A" --doc zeros.json twice.cue'
-try 'says 2 error 27⏎zeros.json: 8,001 values, so that 8,387 rules may be, and there are more: judge the parts of the document one by one, or split the package by roots' \
-    'run agree --why --root "#A" --doc zeros.json twice.cue'
+pairs='8,001 values and 10,002 schemas make 80,026,002 pairs, and 67,108,864 may be: judge the parts of the document one by one, or'
+try "says 2 error 27⏎zeros.json: $pairs split the package by roots" 'run agree --why --root "#A" --doc zeros.json twice.cue'
+try "says 2 error 27⏎zeros.json: $pairs leave out definitions that nothing refers to" 'run validate --why --schema twice.json --doc zeros.json'
+try "prints 2 {\"error\":27,\"file\":\"zeros.json\",\"hint\":\"$pairs split the package by roots\"}" \
+    'run agree --format json --root "#A" --doc zeros.json twice.cue'
+try 'says 2 error 27⏎more-zeros.json: 13,417 values and 5,002 rules make 67,111,834 pairs, and 67,108,864 may be: judge the parts of the document one by one, or split the package by roots' \
+    'run vet --why --root "#A" --doc more-zeros.json twice.cue'
 
 # Inputs without an end, in 400 MB of memory: reading stops at the limit.
 try 'error 1' 'ulimit -v 400000; yes | run export --root "#P"'

@@ -30,25 +30,51 @@ pub(crate) fn mended_declaration(pieces: &Pieces<'_>, place: usize) -> Mend {
     Mend::over(pieces, declaration.first, end, " ")
 }
 
-/// Whether a line that begins at an offset declares a definition.
-fn begins_definition(text: &[u8], at: usize) -> bool {
-    let behind_line = match at.checked_sub(1) {
+/// Whether a line begins with the piece, and with it a definition of the file, also where a bracket before it isn't closed.
+pub(crate) fn begins_definition(text: &[u8], pieces: &Pieces<'_>, place: usize) -> bool {
+    let piece = pieces.at(place);
+    let is_outside = match piece.outer.checked_sub(1) {
+        Some(bracket) => !pieces.at(bracket).is_closed,
+        None => true,
+    };
+    let is_first = match piece.start.checked_sub(1) {
         Some(before) => matches!(text.get(before), Some(b'\n')),
         None => true,
     };
-    behind_line && matches!(text.get(at), Some(b'#'))
+    let is_name = piece.sort == PieceSort::Word && matches!(piece.text, [b'#', ..]);
+    is_outside && is_first && is_name && pieces.ends_label(place.saturating_add(1))
 }
 
-/// The lines of the definition that an offset is in go, up to those of the next one.
-pub(crate) fn mended_lines(text: &[u8], offset: usize) -> Mend {
-    let mut from = 0;
-    for at in 0..text.len() {
-        if begins_definition(text, at) {
-            if at > offset {
-                return Mend::blank(from, at);
+/// The lines of the definition that a piece is in, up to those of the next one: the places of the first piece, and of the one behind
+/// the last.
+fn lines_of(text: &[u8], pieces: &Pieces<'_>, place: usize) -> (usize, usize) {
+    let mut first = 0;
+    for at in 0..pieces.items.len() {
+        if begins_definition(text, pieces, at) {
+            if at > place {
+                return (first, at);
             }
-            from = at;
+            first = at;
         }
     }
-    Mend::blank(from, text.len())
+    (first, pieces.items.len())
+}
+
+/// The lines of the definition that a piece is in go.
+pub(crate) fn mended_lines(text: &[u8], pieces: &Pieces<'_>, place: usize) -> Mend {
+    let (first, end) = lines_of(text, pieces, place);
+    Mend::over(pieces, first, end, " ")
+}
+
+/// Whether each bracket in the lines of the definition that a piece is in has another one that closes it, or that it closes.
+pub(crate) fn are_matched(text: &[u8], pieces: &Pieces<'_>, place: usize) -> bool {
+    let (first, end) = lines_of(text, pieces, place);
+    for at in first..end {
+        let piece = pieces.at(at);
+        let is_open = piece.sort == PieceSort::Open && !piece.is_closed;
+        if is_open || pieces.is_stray(at) {
+            return false;
+        }
+    }
+    true
 }

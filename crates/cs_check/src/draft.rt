@@ -22,6 +22,16 @@ impl Mend {
         Mend { from, to, put }
     }
 
+    /// A text comes behind the piece before a place.
+    pub(crate) fn behind(pieces: &Pieces<'_>, place: usize, put: &'static str) -> Mend {
+        let from = pieces.before(place).end();
+        Mend {
+            from,
+            to: from,
+            put,
+        }
+    }
+
     /// A text comes before the piece at a place.
     pub(crate) fn before(pieces: &Pieces<'_>, place: usize, put: &'static str) -> Mend {
         Mend::over(pieces, place, place, put)
@@ -37,11 +47,6 @@ impl Mend {
         let from = pieces.at(place).start;
         let to = from.saturating_add(count);
         Mend { from, to, put: "" }
-    }
-
-    /// The bytes from one offset to another one become a blank.
-    pub(crate) fn blank(from: usize, to: usize) -> Mend {
-        Mend { from, to, put: " " }
     }
 }
 

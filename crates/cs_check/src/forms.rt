@@ -1,5 +1,7 @@
 // Mends of forms that the profile leaves out, and of tokens that are out of place.
-use crate::coarse::{mended_declaration, mended_lines, mended_value};
+use crate::coarse::{
+    are_matched, begins_definition, mended_declaration, mended_lines, mended_value,
+};
 use crate::draft::Mend;
 use crate::labels::mended_label;
 use crate::lexemes::mended_lexeme;
@@ -31,13 +33,19 @@ impl Coarseness {
     }
 }
 
-fn mended_form(pieces: &Pieces<'_>, place: usize, is_cut: bool) -> Mend {
-    if !is_cut {
-        return mended_lexeme(pieces, place);
+/// The mend of a form of a text with tokens. Where it isn't clear what was meant, as where brackets don't match, the lines of the
+/// definition go.
+fn mended_form(text: &[u8], pieces: &Pieces<'_>, place: usize) -> Mend {
+    if pieces.at(place).outer > 0 && begins_definition(text, pieces, place) {
+        // A bracket before it isn't closed.
+        return mended_lines(text, pieces, place.saturating_sub(1));
     }
-    match mended_label(pieces, place) {
+    if !are_matched(text, pieces, place) {
+        return mended_lines(text, pieces, place);
+    }
+    match mended_label(pieces, place).or(mended_operand(pieces, place)) {
         Some(mend) => mend,
-        None => mended_operand(pieces, place),
+        None => mended_lines(text, pieces, place),
     }
 }
 
@@ -52,9 +60,10 @@ pub(crate) fn mend_at(
     let pieces = pieces_of(alloc, text)?;
     let place = pieces.found(offset);
     Ok(match coarseness {
-        Coarseness::Form => mended_form(&pieces, place, is_cut),
+        Coarseness::Form if is_cut => mended_form(text, &pieces, place),
+        Coarseness::Form => mended_lexeme(&pieces, place),
         Coarseness::Value => mended_value(&pieces, place),
         Coarseness::Declaration => mended_declaration(&pieces, place),
-        Coarseness::Lines => mended_lines(text, offset),
+        Coarseness::Lines => mended_lines(text, &pieces, place),
     })
 }

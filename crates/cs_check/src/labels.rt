@@ -79,10 +79,10 @@ fn hidden_len(text: &[u8]) -> Option<usize> {
 fn mended_top(pieces: &Pieces<'_>, declaration: Declaration) -> Mend {
     let first = declaration.first;
     let piece = pieces.at(first);
-    if piece.is("import") {
+    if piece.is("import") || piece.is("package") {
         return mended_declaration(pieces, first);
     }
-    if piece.closes() {
+    if piece.closes() || piece.is(":") && pieces.ends_label(first.saturating_add(2)) {
         return Mend::at(pieces, first, " ");
     }
     if let Some(count) = hidden_len(piece.text) {
@@ -98,11 +98,15 @@ fn mended_top(pieces: &Pieces<'_>, declaration: Declaration) -> Mend {
 fn mended_second(pieces: &Pieces<'_>, declaration: Declaration) -> Option<Mend> {
     let first = declaration.first;
     let second = pieces.at(declaration.place);
+    let next = declaration.place.saturating_add(1);
+    if second.separates() && pieces.at(next).is(":") {
+        return Some(Mend::over(pieces, declaration.place, next.saturating_add(1), ":"));
+    }
     match (pieces.at(first).text, second.text) {
         (_, b"=") => Some(Mend::over(pieces, first, first.saturating_add(2), " ")),
         ([b'#', ..], b"?" | b"!") => Some(Mend::at(pieces, declaration.place, " ")),
         (b"close", b"(") => Some(Mend::at(pieces, first, new_label(declaration))),
-        (b"...", _) => Some(Mend::over(pieces, declaration.place, declaration.end, " ")),
+        (b"...", _) => Some(Mend::at(pieces, first, "k: ")),
         _ => match pieces.first_colon(declaration) {
             Some(_) => None,
             None => Some(Mend::before(pieces, first, new_label(declaration))),
@@ -124,7 +128,7 @@ fn mended_dots(pieces: &Pieces<'_>, first: usize) -> Option<Mend> {
 fn mended_first(pieces: &Pieces<'_>, first: usize) -> Option<Mend> {
     let piece = pieces.at(first);
     if piece.closes() {
-        return Some(Mend::at(pieces, first, " "));
+        return None;
     }
     let behind = match piece.sort {
         PieceSort::Open => pieces.behind_bracket(first),
@@ -136,6 +140,30 @@ fn mended_first(pieces: &Pieces<'_>, first: usize) -> Option<Mend> {
     match piece.text {
         [b'A'..=b'Z' | b'a'..=b'z' | b'"', ..] => mended_dots(pieces, first),
         _ => Some(Mend::over(pieces, first, behind, "k")),
+    }
+}
+
+/// An operator at the beginning of a line: it goes on with the line before.
+fn mended_line(pieces: &Pieces<'_>, place: usize) -> Option<Mend> {
+    let put = match pieces.at(place).text {
+        b"&" => " &",
+        b"|" => " |",
+        _ => return None,
+    };
+    if pieces.before(place).sort != PieceSort::LineEnd {
+        return None;
+    }
+    let (line_end, next) = (place.saturating_sub(1), place.saturating_add(1));
+    Some(Mend::over(pieces, line_end, next, put))
+}
+
+/// What is behind a label in brackets that has no colon.
+fn mended_colon(pieces: &Pieces<'_>, declaration: Declaration) -> Option<Mend> {
+    let first = declaration.first;
+    if pieces.at(first).is("[") && pieces.behind_bracket(first) == declaration.place {
+        Some(Mend::before(pieces, declaration.place, ": "))
+    } else {
+        None
     }
 }
 
@@ -156,6 +184,9 @@ pub(crate) fn mended_label(pieces: &Pieces<'_>, place: usize) -> Option<Mend> {
         let end = pieces.behind_bracket(bracket);
         return Some(Mend::over(pieces, bracket, end, "k"));
     }
+    if let Some(mend) = mended_line(pieces, place) {
+        return Some(mend);
+    }
     let declaration = pieces.declaration(place);
     if let Some(mend) = mended_clause(pieces, declaration) {
         return Some(mend);
@@ -175,5 +206,8 @@ pub(crate) fn mended_label(pieces: &Pieces<'_>, place: usize) -> Option<Mend> {
             return Some(mend);
         }
     }
-    mended_comma(pieces, place)
+    match mended_colon(pieces, declaration) {
+        Some(mend) => Some(mend),
+        None => mended_comma(pieces, place),
+    }
 }

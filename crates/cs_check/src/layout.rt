@@ -45,7 +45,7 @@ impl Pieces<'_> {
     fn end_of(&self, place: usize, outer: usize) -> usize {
         for end in place..self.items.len() {
             let piece = self.at(end);
-            if piece.outer == outer && piece.closes() {
+            if piece.outer < outer || piece.outer == outer && piece.closes() {
                 return end;
             }
         }
@@ -97,21 +97,17 @@ impl Pieces<'_> {
 
     /// The place behind what a bracket holds, with the bracket that closes.
     pub(crate) fn behind_bracket(&self, place: usize) -> usize {
-        let inside = place.saturating_add(1);
         let end = self.closing(place);
-        if end < inside {
-            inside
-        } else {
-            end.saturating_add(1)
-        }
+        end.saturating_add(usize::from(self.at(place).is_closed))
     }
 
-    /// The place of the bracket that closes one.
+    /// The place of the bracket that closes one; of what ends the bracket around it, where it isn't closed.
     pub(crate) fn closing(&self, place: usize) -> usize {
         let inside = place.saturating_add(1);
         for end in inside..self.items.len() {
             let piece = self.at(end);
-            if piece.outer == inside && piece.sort == PieceSort::Close {
+            let closes = piece.sort == PieceSort::Close && !self.is_stray(end);
+            if piece.outer < inside || piece.outer == inside && closes {
                 return end;
             }
         }
@@ -133,8 +129,9 @@ impl Pieces<'_> {
     pub(crate) fn operand_end(&self, first: usize) -> usize {
         let outer = self.at(first).outer;
         for end in first.saturating_add(1)..self.items.len() {
-            let inside = self.at(end).outer != outer;
-            if !inside && (self.at(end).closes() || !self.goes_on(end)) {
+            let piece = self.at(end);
+            let ends = piece.closes() || !self.goes_on(end);
+            if piece.outer < outer || piece.outer == outer && ends {
                 return end;
             }
         }
@@ -145,7 +142,7 @@ impl Pieces<'_> {
     pub(crate) fn operand_first(&self, end: usize) -> usize {
         let before = self.before(end);
         let mut first = end.saturating_sub(1);
-        if before.sort == PieceSort::Close {
+        if before.sort == PieceSort::Close && !self.is_stray(first) {
             first = before.outer.saturating_sub(1);
             let named = self.before(first);
             if named.sort == PieceSort::Word && named.end() == self.at(first).start {
@@ -160,7 +157,8 @@ impl Pieces<'_> {
         let outer = self.at(first).outer;
         for end in first..self.items.len() {
             let piece = self.at(end);
-            if piece.outer == outer && (piece.closes() || matches!(piece.text, b"&" | b"|")) {
+            let ends = piece.closes() || matches!(piece.text, b"&" | b"|");
+            if piece.outer < outer || piece.outer == outer && ends {
                 return end;
             }
         }

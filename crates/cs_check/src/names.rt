@@ -20,18 +20,22 @@ fn mended_name(pieces: &Pieces<'_>, place: usize) -> Mend {
     }
 }
 
-/// The mend of a struct literal that has to be opened: `...` at its end; one without brackets becomes `_`.
-fn mended_literal(pieces: &Pieces<'_>, place: usize) -> Mend {
+/// The mends of a struct literal that has to be opened, the last one first: `...` at its end, and brackets around one that is
+/// written without them, as `b: T` in `a: b: T`.
+fn mended_literal(pieces: &Pieces<'_>, place: usize) -> (Mend, Option<Mend>) {
     if !pieces.at(place).is("{") {
-        return Mend::over(pieces, place, pieces.declaration(place).end, "_");
+        let end = pieces.declaration(place).end;
+        let closing = Mend::behind(pieces, end, ", ...}");
+        return (closing, Some(Mend::before(pieces, place, "{")));
     }
     let end = pieces.closing(place);
     let before = pieces.before(end);
-    if before.separates() || before.sort == PieceSort::Open {
-        Mend::before(pieces, end, " ...")
+    let dots = if before.separates() || before.sort == PieceSort::Open {
+        " ..."
     } else {
-        Mend::before(pieces, end, ", ...")
-    }
+        ", ..."
+    };
+    (Mend::before(pieces, end, dots), None)
 }
 
 /// Mends the name or the struct literal at an offset of a file.
@@ -44,18 +48,26 @@ fn mend_in(
     let Some(draft) = drafts.get_mut(file) else {
         return Ok(false);
     };
-    let mend = mend_of(draft, offset, is_literal)?;
-    draft.apply(mend)?;
+    let (last, first) = mends_of(draft, offset, is_literal)?;
+    draft.apply(last)?;
+    if let Some(first) = first {
+        draft.apply(first)?;
+    }
     Ok(true)
 }
 
-fn mend_of(draft: &Draft, offset: usize, is_literal: bool) -> Result<Mend, AllocError> {
+/// The mend at an offset, and another one before it, if it takes two.
+fn mends_of(
+    draft: &Draft,
+    offset: usize,
+    is_literal: bool,
+) -> Result<(Mend, Option<Mend>), AllocError> {
     let pieces = pieces_of(draft.alloc, draft.text())?;
     let place = pieces.found(offset);
     Ok(if is_literal {
         mended_literal(&pieces, place)
     } else {
-        mended_name(&pieces, place)
+        (mended_name(&pieces, place), None)
     })
 }
 

@@ -23,10 +23,21 @@ fn mended_call(pieces: &Pieces<'_>, place: usize) -> Mend {
     }
 }
 
+/// Whether a piece is between operands or behind them, so that one is missing before it.
+fn ends_before(piece: Piece<'_>) -> bool {
+    piece.closes() || matches!(piece.text, b"&" | b"|")
+}
+
 /// What stands where an integer is wanted.
 fn mended_limit(pieces: &Pieces<'_>, place: usize) -> Mend {
-    if pieces.at(place).closes() {
+    let piece = pieces.at(place);
+    if pieces.ends_label(place.saturating_add(1)) {
+        // The next field.
+        Mend::before(pieces, place, "0, ")
+    } else if ends_before(piece) {
         Mend::before(pieces, place, "0")
+    } else if piece.sort == PieceSort::Mark {
+        Mend::at(pieces, place, " ")
     } else {
         mended_whole(pieces, place, "0")
     }
@@ -69,20 +80,43 @@ fn mended_beginning(pieces: &Pieces<'_>, place: usize) -> Mend {
         b"for" | b"if" | b"let" => mended_comprehension(pieces, place),
         [b'_', _, ..] => mended_whole(pieces, place, "_"),
         _ if piece.sort == PieceSort::Number => Mend::at(pieces, place, "0"),
-        _ if piece.closes() => Mend::before(pieces, place, "_"),
+        _ if ends_before(piece) => Mend::before(pieces, place, "_"),
         _ => mended_value(pieces, place),
     }
 }
 
-/// The mend of the piece that is out of place in a value.
-pub(crate) fn mended_operand(pieces: &Pieces<'_>, place: usize) -> Mend {
+/// Whether it isn't clear what was meant by a piece that is out of place: the end of a bracket that doesn't match, of a parenthesis
+/// that isn't closed, or what a label has behind it.
+fn is_unclear(pieces: &Pieces<'_>, place: usize) -> bool {
     let piece = pieces.at(place);
-    if !pieces.before(place).ends_operand() {
-        return mended_beginning(pieces, place);
-    }
+    let before = pieces.before(place);
     match piece.text {
+        b":" => !matches!(before.text, [b'#', ..]),
+        b"?" | b"!" | b"..." => true,
+        _ if before.ends_operand() => piece.closes(),
+        _ => pieces.is_stray(place) || is_in_parentheses(pieces, place) && before.separates(),
+    }
+}
+
+/// Whether the bracket around a piece is a parenthesis.
+fn is_in_parentheses(pieces: &Pieces<'_>, place: usize) -> bool {
+    match pieces.at(place).outer.checked_sub(1) {
+        Some(bracket) => pieces.at(bracket).is("("),
+        None => false,
+    }
+}
+
+/// The mend of the piece that is out of place in a value; none where it isn't clear what was meant.
+pub(crate) fn mended_operand(pieces: &Pieces<'_>, place: usize) -> Option<Mend> {
+    if is_unclear(pieces, place) {
+        return None;
+    }
+    if !pieces.before(place).ends_operand() {
+        return Some(mended_beginning(pieces, place));
+    }
+    Some(match pieces.at(place).text {
         b"." => mended_selection(pieces, place),
         b"(" | b"[" => mended_call(pieces, place),
         _ => mended_behind(pieces, place),
-    }
+    })
 }

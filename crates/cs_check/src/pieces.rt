@@ -3,13 +3,15 @@ use crate::front::{PieceSort, front_of};
 use std::alloc::{AllocError, Global};
 
 /// A piece of a text. `outer` says in which bracket it is: one more than the bracket's place, and 0 outside of all. The
-/// bracket that closes is inside, too.
+/// bracket that closes is inside, too; one of another sort closes none, and what isn't closed ends where a bracket around it does.
 #[derive(Clone, Copy)]
 pub(crate) struct Piece<'a> {
     pub(crate) sort: PieceSort,
     pub(crate) text: &'a [u8],
     pub(crate) start: usize,
     pub(crate) outer: usize,
+    /// Whether it is a bracket that another one closes.
+    pub(crate) is_closed: bool,
 }
 
 impl Piece<'_> {
@@ -47,6 +49,15 @@ impl Piece<'_> {
     }
 }
 
+/// The bracket that opens what another one closes.
+fn opening_of(closing: &[u8]) -> &'static [u8] {
+    match closing {
+        b"}" => b"{",
+        b"]" => b"[",
+        _ => b"(",
+    }
+}
+
 /// The pieces of a text, and its end.
 #[derive(Drop)]
 pub(crate) struct Pieces<'a> {
@@ -71,6 +82,18 @@ impl<'a> Pieces<'a> {
         }
     }
 
+    /// Whether a piece is a bracket that closes none.
+    pub(crate) fn is_stray(&self, place: usize) -> bool {
+        let piece = self.at(place);
+        if piece.sort != PieceSort::Close {
+            return false;
+        }
+        match piece.outer.checked_sub(1) {
+            Some(bracket) => self.at(bracket).text != opening_of(piece.text),
+            None => true,
+        }
+    }
+
     /// The place of the first piece that begins no earlier than at that offset.
     pub(crate) fn found(&self, offset: usize) -> usize {
         for (place, piece) in self.items.iter().enumerate() {
@@ -81,6 +104,10 @@ impl<'a> Pieces<'a> {
         self.items.len()
     }
 }
+
+/// How many of the open brackets are looked at for the one that another one closes. In a text that is mended no more than 28 are
+/// open, unless it isn't cut.
+const MOST_SEARCHED: usize = 32;
 
 /// The cutting of a text: the pieces so far, and the brackets that are open.
 #[derive(Drop)]
@@ -101,9 +128,38 @@ impl<'a> Cutting<'a> {
         }
     }
 
+    /// Which of the open brackets one that closes belongs to: the last one of its sort.
+    fn closed_by(&self, closing: &[u8]) -> Option<usize> {
+        let opening = opening_of(closing);
+        let first = self.open.len().saturating_sub(MOST_SEARCHED);
+        for at in (first..self.open.len()).rev() {
+            let place = self.open.get(at)?.checked_sub(1)?;
+            if self.items.get(place)?.text == opening {
+                return Some(at);
+            }
+        }
+        None
+    }
+
+    /// Forgets the brackets inside of one that is closed: these aren't.
+    fn leave_open(&mut self, closed: usize) {
+        self.open.truncate(closed.saturating_add(1));
+        let place = self.outer().saturating_sub(1);
+        if let Some(bracket) = self.items.get_mut(place) {
+            bracket.is_closed = true;
+        }
+    }
+
     fn put(&mut self, sort: PieceSort, text: &'a [u8], start: usize) -> Result<(), AllocError> {
         if sort == PieceSort::LineEnd && !self.wants_comma() {
             return Ok(());
+        }
+        let closed = match sort {
+            PieceSort::Close => self.closed_by(text),
+            _ => None,
+        };
+        if let Some(at) = closed {
+            self.leave_open(at);
         }
         let outer = self.outer();
         self.items.push(Piece {
@@ -111,13 +167,12 @@ impl<'a> Cutting<'a> {
             text,
             start,
             outer,
+            is_closed: false,
         })?;
-        match sort {
-            PieceSort::Open => self.open.push(self.items.len())?,
-            PieceSort::Close => {
-                let _ = self.open.pop();
-            }
-            _ => {}
+        if sort == PieceSort::Open {
+            self.open.push(self.items.len())?;
+        } else if closed.is_some() {
+            let _ = self.open.pop();
         }
         Ok(())
     }
@@ -148,6 +203,7 @@ pub(crate) fn pieces_of(alloc: Global, text: &[u8]) -> Result<Pieces<'_>, AllocE
         text: b"",
         start: text.len(),
         outer: cutting.outer(),
+        is_closed: false,
     };
     Ok(Pieces {
         items: cutting.items,

@@ -69,7 +69,7 @@ fn put_advice_near(
     match form {
         Form::DefaultMark => put_default(text, source.named.text, near),
         Form::Let => put_let(text, near),
-        Form::HiddenName => put_hidden(text, near.here()),
+        Form::HiddenName => put_hidden(text, near),
         Form::EmbeddedDefinition => put_embedded_definition(text, source.named.text, near),
         Form::EmbeddedStruct => put_embedded_struct(alloc, text, near),
         Form::Limit => put_limit(text, near, "a literal"),
@@ -128,13 +128,36 @@ fn put_let(text: &mut String, near: Near<'_, '_>) -> Result<(), AllocError> {
     put_all(text, &[name, "` for `", name, "`"])
 }
 
-fn put_hidden(text: &mut String, name: Token<'_>) -> Result<(), AllocError> {
-    if name.text.starts_with("_#") {
+/// Puts what to write for a hidden name.
+fn put_hidden(text: &mut String, near: Near<'_, '_>) -> Result<(), AllocError> {
+    let name = near.here().text;
+    if name.starts_with("_#") {
         return text.push_str(
             "hidden definitions are left out: drop the `_`; only what the root reaches is exported anyway",
         );
     }
-    text.push_str("hidden fields are left out: documents don't have them, so take it out")
+    let is_label = matches!(near.behind(1).text, ":" | "?" | "!");
+    if is_label && near.bracket().is_some() {
+        return text.push_str(
+            "hidden fields are left out: documents don't have them, so take it out",
+        );
+    }
+    text.push_str(if is_label {
+        "a hidden field at the top of a file: a root is a definition, so write `#"
+    } else {
+        "hidden fields are left out: give the value a definition and name it: `#"
+    })?;
+    put_line(text, shown_name(name))?;
+    text.push_str(if is_label { ": ..`" } else { "`" })
+}
+
+/// A hidden name without the `_` before it, unless no letter follows, as it has to behind a `#`.
+fn shown_name(name: &str) -> &str {
+    let bare = name.trim_start_matches('_');
+    match bare.chars().next() {
+        Some(first) if first.is_ascii_alphabetic() => bare,
+        _ => name,
+    }
 }
 
 /// What the limit of a relation may be.

@@ -1,14 +1,11 @@
 // What is told of texts of JSON that are refused.
 use crate::keys::{Inner, pointer_of};
 use crate::spot::{Spot, Words};
-use crate::text::{put_code, put_grouped};
+use crate::text::put_code;
 use cs_report::Named;
 use serde_json::Value;
 use std::alloc::{AllocError, Global};
 use std::str;
-
-/// How many pairs of a value and a rule are judged at most.
-const MOST_PAIRS: usize = 67_108_864;
 
 /// Where a text isn't JSON (20, 25).
 pub(crate) fn put_not_json<'a>(
@@ -107,47 +104,4 @@ fn is_integer(number: &[u8]) -> bool {
         Ok("-0") | Err(_) => false,
         Ok(number) => number.parse::<i64>().is_ok(),
     }
-}
-
-/// How many values the document has, where there are too many pairs of one and a rule (27).
-pub(crate) fn put_too_many_pairs<'a>(
-    text: &mut String,
-    document: Option<Named<'a>>,
-) -> Result<Spot<'a>, AllocError> {
-    let Some(named) = document else {
-        return Ok(Spot::nowhere());
-    };
-    let count = values_of(named.text);
-    put_grouped(text, count)?;
-    text.push_str(" values, so that ")?;
-    put_grouped(text, MOST_PAIRS.checked_div(count).unwrap_or(MOST_PAIRS))?;
-    text.push_str(
-        " rules may be, and there are more: judge the parts of the document one by one, or split the package by roots",
-    )?;
-    Ok(Spot::in_file(named))
-}
-
-/// How many values a text of JSON has, without its keys.
-fn values_of(text: &[u8]) -> usize {
-    let mut count = 0usize;
-    let mut is_in_text = false;
-    let mut is_escaped = false;
-    let mut is_in_word = false;
-    for byte in text {
-        if is_in_text {
-            is_in_text = is_escaped || *byte != b'"';
-            is_escaped = *byte == b'\\' && !is_escaped;
-            continue;
-        }
-        let is_word = byte.is_ascii_alphanumeric() || matches!(*byte, b'-' | b'+' | b'.');
-        let begins = matches!(*byte, b'"' | b'{' | b'[') || is_word && !is_in_word;
-        if begins {
-            count = count.saturating_add(1);
-        } else if *byte == b':' {
-            count = count.saturating_sub(1);
-        }
-        is_in_text = *byte == b'"';
-        is_in_word = is_word;
-    }
-    count
 }

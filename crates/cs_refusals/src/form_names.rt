@@ -3,17 +3,7 @@ use cs_forms::Form;
 
 /// The name of a form.
 pub(crate) fn form_name(form: Form) -> &'static str {
-    let found = name_stuck(form)
-        .or(name_left_out(form))
-        .or(name_begun(form))
-        .or(name_of_mistake(form))
-        .or(name_of_meaning(form));
-    found.unwrap_or("other")
-}
-
-/// Where no token begins.
-fn name_stuck(form: Form) -> Option<&'static str> {
-    Some(match form {
+    match form {
         Form::ByteOrderMark => "byte-order-mark",
         Form::Float => "float",
         Form::NumberSpelling => "number-spelling",
@@ -25,13 +15,6 @@ fn name_stuck(form: Form) -> Option<&'static str> {
         Form::Escape => "escape",
         Form::UnclosedText => "unclosed-text",
         Form::StrayCharacter => "stray-character",
-        _ => return None,
-    })
-}
-
-/// Of forms that the profile leaves out.
-fn name_left_out(form: Form) -> Option<&'static str> {
-    Some(match form {
         Form::DefaultMark => "default-mark",
         Form::Import => "import",
         Form::PackageValue => "package-value",
@@ -53,13 +36,6 @@ fn name_left_out(form: Form) -> Option<&'static str> {
         Form::EmbeddedDefinition => "embedded-definition",
         Form::EmbeddedStruct => "embedded-struct",
         Form::EmbeddedValue => "embedded-value",
-        _ => return None,
-    })
-}
-
-/// Of forms that begin like one of the profile.
-fn name_begun(form: Form) -> Option<&'static str> {
-    Some(match form {
         Form::NestedDefinition => "nested-definition",
         Form::HiddenName => "hidden-name",
         Form::Arithmetic => "arithmetic",
@@ -71,13 +47,6 @@ fn name_begun(form: Form) -> Option<&'static str> {
         Form::LatePackage => "late-package",
         Form::DigitLabel => "digit-label",
         Form::Negation => "negation",
-        _ => return None,
-    })
-}
-
-/// Of mistakes of plain syntax.
-fn name_of_mistake(form: Form) -> Option<&'static str> {
-    Some(match form {
         Form::MissingColon => "missing-colon",
         Form::MissingComma => "missing-comma",
         Form::NewLineInList => "new-line-in-list",
@@ -86,19 +55,11 @@ fn name_of_mistake(form: Form) -> Option<&'static str> {
         Form::Unclosed => "unclosed",
         Form::StrayBracket => "stray-bracket",
         Form::Misplaced => "misplaced",
-        _ => return None,
-    })
-}
-
-/// Of what tokens mean.
-fn name_of_meaning(form: Form) -> Option<&'static str> {
-    Some(match form {
         Form::LargeInteger => "large-integer",
         Form::UnknownKind => "unknown-kind",
         Form::UnknownName => "unknown-name",
         Form::UnknownDefinition => "unknown-definition",
         Form::FieldReference => "field-reference",
         Form::NotOpened => "not-opened",
-        _ => return None,
-    })
+    }
 }

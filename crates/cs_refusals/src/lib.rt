@@ -17,6 +17,7 @@ mod nearest;
 mod numbers;
 mod objects;
 mod packages;
+mod pairs;
 mod parts;
 mod rows;
 mod schemas;

@@ -2,9 +2,10 @@
 use crate::advice::put_advice;
 use crate::chains::put_chain;
 use crate::cycles::put_cycle;
-use crate::documents::{put_not_integer, put_not_json, put_too_many_pairs};
+use crate::documents::{put_not_integer, put_not_json};
 use crate::numbers::put_meaning;
 use crate::packages::{put_no_root, put_not_utf8, put_package_name, put_too_high, put_too_large};
+use crate::pairs::put_too_many_pairs;
 use crate::schemas::{put_loop, put_schema_fault};
 use crate::sources::Source;
 use crate::spot::{Spot, Words};
@@ -109,7 +110,7 @@ fn put_by_kind<'a>(
         Fault::ChainTooLong => put_chain(alloc, text, sources),
         Fault::UnknownRoot => put_no_root(alloc, text, sources, root),
         Fault::TooLarge => put_too_large(alloc, text, sources),
-        Fault::TooManyPairs => put_too_many_pairs(text, about.document),
+        Fault::TooManyPairs => put_too_many_pairs(alloc, text, about),
         Fault::SchemaNotJson => put_not_json(alloc, text, about.schema),
         Fault::NotJson => put_not_json(alloc, text, about.document),
         Fault::NotInteger => put_other_number(alloc, words, about),
