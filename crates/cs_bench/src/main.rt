@@ -10,11 +10,14 @@
 // The word `again` makes a call of the tool twice, and prints a line for each answer: behind it stand the call, the root and the
 // document, and standard input is the source, or the schema. The call is `export`, `vet`, `validate`, `agree`, or `run` for
 // `agree` over a reader and a writer.
+// The word `separating` asks about the pairs of definitions in standard input, a line each, and prints their answers: `questions.rt`
+// says how they are written.
 // Where memory runs out, it ends as `cue2schema` does: by `error 15` and status 5.
 #![tactic(auto)]
 
 mod again;
 mod documents;
+mod questions;
 mod sources;
 mod stop;
 mod tables;
@@ -48,14 +51,24 @@ fn printed(rt: &HostRuntime) -> Result<(), Stop> {
     for word in std::env::args(rt)? {
         words.push(word)?;
     }
-    if word_at(words.as_slice(), 1, "lex") == "again" {
-        let lines = answered_twice(rt.alloc(), input.as_slice(), words.as_slice())?;
-        rt.stdout().write_all(&lines)?;
-        return Ok(());
-    }
-    let count = counted(rt.alloc(), input.as_slice(), words.as_slice())?;
-    println!(rt; "{count}")?;
+    let lines = lines_of(rt.alloc(), input.as_slice(), words.as_slice())?;
+    rt.stdout().write_all(&lines)?;
     Ok(())
+}
+
+/// What the words ask for, as lines.
+fn lines_of(alloc: Global, input: &[u8], words: &[String]) -> Result<Vec<u8>, Stop> {
+    match word_at(words, 1, "lex") {
+        "again" => answered_twice(alloc, input, words),
+        "separating" => questions::answered(alloc, str::from_utf8(input)?),
+        _ => line_of(alloc, counted(alloc, input, words)?),
+    }
+}
+
+/// A count as a line.
+fn line_of(alloc: Global, count: usize) -> Result<Vec<u8>, Stop> {
+    let line = format!(in alloc; "{count}\n")?;
+    Ok(line.into_bytes())
 }
 
 /// A word of the process.

@@ -69,7 +69,7 @@ fn exported(alloc: Global, source: &str, step: &str) -> Result<usize, Stop> {
 }
 
 /// The package of one source.
-fn package_of(alloc: Global, source: &str) -> Result<Package, Stop> {
+pub fn package_of(alloc: Global, source: &str) -> Result<Package, Stop> {
     let mut files = Vec::new(alloc);
     let file = parse_file(alloc, source)?;
     files.push(file)?;
