@@ -1,7 +1,7 @@
 // The names of forms for programs. They stay as they are, whatever the words for people become.
 use cs_forms::Form;
 
-/// The name of a form.
+/// The name of a form. Each has a row, so that a new one gets its own.
 pub(crate) fn form_name(form: Form) -> &'static str {
     match form {
         Form::ByteOrderMark => "byte-order-mark",

@@ -1,7 +1,7 @@
 // What is said of a form, in a sentence.
 use cs_forms::Form;
 
-/// What is said of a form, where the names at its place say no more.
+/// What is said of a form, where the names at its place say no more. Each has a row, so that a new one gets its own.
 pub(crate) fn sentence_of(form: Form) -> &'static str {
     match form {
         Form::ByteOrderMark => "a byte order mark: save the file as UTF-8 without it",
