@@ -47,7 +47,8 @@ pub fn referred(alloc: Global, package: &Package, number: usize) -> Result<Vec<u
         ≡ referred_of «package».now (name_of «package».now number)) }
     ensures within { IfOk result (λ v. All (λ i. i < length «package».now) v.items) }
 {
-    references_of(alloc, Followed::Every, package.bodies(number))
+    let numbers = references_of(alloc, Followed::Every, package.bodies(number))?;
+    Ok(numbers)
 }
 
 /// The numbers of the definitions that are reachable from one by any reference, each once, that one first

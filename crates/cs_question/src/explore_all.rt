@@ -24,7 +24,7 @@ enum Look<'a> {
 }
 
 /// Looks for an answer to a question, within limits.
-fn look<'a>(
+fn looked<'a>(
     alloc: Global,
     nodes: &Nodes<'a>,
     table: &Table<'a>,
@@ -102,8 +102,7 @@ fn want<'a>(
         return Ok(false);
     }
     let awaited = table.entries.len();
-    table.ask(alloc, asked)?;
-    queue.add(alloc)?;
+    ask(alloc, table, queue, asked)?;
     queue.wait(place, awaited)?;
     Ok(true)
 }
@@ -123,7 +122,7 @@ fn look_at<'a>(
     let mut effort = Effort::new(alloc);
     effort.begin(most);
     effort.asks_all = true;
-    match look(alloc, nodes, table, &asked, &mut effort)? {
+    match looked(alloc, nodes, table, &asked, &mut effort)? {
         Look::Found(found) => answer(alloc, table, queue, place, found)?,
         Look::Ended => answer(alloc, table, queue, place, Found::Null)?,
         Look::Nothing => {
@@ -154,6 +153,20 @@ fn explore_all<'a>(
     Err(QuestionFault::TooManyCases)
 }
 
+/// Adds a question, unless it is there, and looks at it later.
+fn ask<'a>(
+    alloc: Global,
+    table: &mut Table<'a>,
+    queue: &mut Queue,
+    asked: Vec<Literal>,
+) -> Result<(), QuestionFault> {
+    table.ask(alloc, asked)?;
+    if table.entries.len() > queue.count() {
+        queue.add(alloc)?;
+    }
+    Ok(())
+}
+
 /// Asks for a document that meets a rule, for each of them.
 fn ask_each<'a>(
     alloc: Global,
@@ -163,8 +176,7 @@ fn ask_each<'a>(
 ) -> Result<(), QuestionFault> {
     for rule in rules {
         if !table.is_full() {
-            table.ask(alloc, met(alloc, *rule)?)?;
-            queue.add(alloc)?;
+            ask(alloc, table, queue, met(alloc, *rule)?)?;
         }
     }
     Ok(())

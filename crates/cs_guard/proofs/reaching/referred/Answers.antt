@@ -11,11 +11,11 @@ use Rattle.cs_guard.proofs.reaching.referred.Goals as goal
 pub returns-clause-names : goal.returns-clause-names
 returns-clause-names c =
     let E = c.args.package.now in
-    let row = row_of Every E c.args.number c.in_ok-references_of.field-0.items c.bodies.result.now c.requires c.bodies.ensures.at c.bodies.ensures.named c.bodies.ensures.known c.in_ok-references_of.ensures in
+    let row = row_of Every E c.args.number c.in_ok-numbers.numbers.items c.bodies.result.now c.requires c.bodies.ensures.at c.bodies.ensures.named c.bodies.ensures.known c.in_ok-numbers.ensures in
     row.names ∙ taken_every E (name_of E c.args.number)
 
 pub returns-clause-within : goal.returns-clause-within
 returns-clause-within c = λ k d small.
     let E = c.args.package.now in
-    let row = row_of Every E c.args.number c.in_ok-references_of.field-0.items c.bodies.result.now c.requires c.bodies.ensures.at c.bodies.ensures.named c.bodies.ensures.known c.in_ok-references_of.ensures in
-    row.within (get_or c.in_ok-references_of.field-0.items k d) (on_get c.in_ok-references_of.field-0.items k d small)
+    let row = row_of Every E c.args.number c.in_ok-numbers.numbers.items c.bodies.result.now c.requires c.bodies.ensures.at c.bodies.ensures.named c.bodies.ensures.known c.in_ok-numbers.ensures in
+    row.within (get_or c.in_ok-numbers.numbers.items k d) (on_get c.in_ok-numbers.numbers.items k d small)
