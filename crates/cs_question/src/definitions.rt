@@ -32,8 +32,9 @@ fn unmet(alloc: Global, table: &Table<'_>, rules: &[usize]) -> Result<Vec<bool>,
         → IsMetByNone table.now.entries.items (slice_index rules.now i)) }
 {
     let mut all = Vec::with_capacity(alloc, rules.len())?;
-    for place in 0..rules.len() {
-        all.push(is_met_by_none(alloc, table, place, rules[place])?)?;
+    for (place, rule) in rules.iter().enumerate() {
+        let is_unmet = is_met_by_none(alloc, table, place, *rule)?;
+        all.push(is_unmet)?;
     }
     Ok(all)
 }
