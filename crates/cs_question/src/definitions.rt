@@ -40,7 +40,7 @@ fn unmet(alloc: Global, table: &Table<'_>, rules: &[usize]) -> Result<Vec<bool>,
 }
 
 /// For each definition, by its number, whether no document is an instance of it. One that has no instance may not be told where
-/// a limit is met: 100,000 questions, 500,000 steps at a time for one of them, and 5,000,000 in all.
+/// a limit is met: 100,000 questions, 500,000 steps at a time for one of them, and 3,000,000 in all.
 ///
 /// # Errors
 /// `OutOfMemory`. `TooManyCases` where the limits leave nothing that is sure.

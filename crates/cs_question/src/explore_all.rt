@@ -16,6 +16,9 @@ use std::alloc::{AllocError, Global};
 /// The most steps for one look at a question.
 const MOST_OF_ONE: usize = 500_000;
 
+/// The most steps for all questions together.
+const MOST_OF_ALL: usize = 3_000_000;
+
 /// What was found at a look, or that a limit was met.
 enum Look<'a> {
     Found(Found<'a>),
@@ -141,7 +144,7 @@ fn explore_all<'a>(
     table: &mut Table<'a>,
     queue: &mut Queue,
 ) -> Result<(), QuestionFault> {
-    let mut left = MOST_STEPS;
+    let mut left = MOST_OF_ALL;
     // Each look takes a step, or leaves an answer.
     for _ in 0..2 * MOST_STEPS {
         let Some(place) = queue.next() else {
