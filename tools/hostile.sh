@@ -431,6 +431,17 @@ awk 'BEGIN {
 }' > wide.cue
 try 'a chain of 1,000 definitions: check' 0 \
     'lines 0 wide.cue:1000:1: warning: no document is an instance of #A999: its operands are of different kinds' 'check wide.cue'
+# Questions for instances: definitions out of their order, and cases past the limit, of which nothing is told. What they take goes by
+# their steps, which are counted as pairs here.
+awk 'BEGIN {
+    for (i = 0; i < 1000; i++) { j = i * 377 % 1000; print "#A" j ": {x: #A" j + 1 "} | {y: #A" j + 1 "}" }
+    print "#A1000: int"
+}' > wide.cue
+try '1,000 definitions out of order: check' 10000000 'lines 0' 'check wide.cue'
+{ printf '#A: '; listed 20 '({a%d: 1, ...} | {b: 1, ...})' ' & '; printf ' & {z: 1, ...} & {z: 2, ...}'; } > wide.cue
+try '1,048,576 cases without a document: check' 20000000 'lines 0' 'check wide.cue'
+{ printf '#A: {'; listed 40000 'a%d: int' ', '; printf '}'; } > wide.cue
+try '40,000 fields: check' 10000000 'lines 0' 'check wide.cue'
 doubling 65 '&' > wide.cue
 try 'doubling 65 times: vet' 0 'error 16' 'vet --root #A0 --doc seven wide.cue'
 closing

@@ -32,14 +32,15 @@ fn unmet(alloc: Global, table: &Table<'_>, rules: &[usize]) -> Result<Vec<bool>,
         → IsMetByNone table.now.entries.items (slice_index rules.now i)) }
 {
     let mut all = Vec::with_capacity(alloc, rules.len())?;
-    for place in 0..rules.len() {
-        all.push(is_met_by_none(alloc, table, place, rules[place])?)?;
+    for (place, rule) in rules.iter().enumerate() {
+        let is_unmet = is_met_by_none(alloc, table, place, *rule)?;
+        all.push(is_unmet)?;
     }
     Ok(all)
 }
 
 /// For each definition, by its number, whether no document is an instance of it. One that has no instance may not be told where
-/// a limit is met: 100,000 questions, 500,000 steps at a time for one of them, and 5,000,000 in all.
+/// a limit is met: 100,000 questions, 500,000 steps at a time for one of them, and 3,000,000 in all.
 ///
 /// # Errors
 /// `OutOfMemory`. `TooManyCases` where the limits leave nothing that is sure.

@@ -16,6 +16,9 @@ use std::alloc::{AllocError, Global};
 /// The most steps for one look at a question.
 const MOST_OF_ONE: usize = 500_000;
 
+/// The most steps for all questions together.
+const MOST_OF_ALL: usize = 3_000_000;
+
 /// What was found at a look, or that a limit was met.
 enum Look<'a> {
     Found(Found<'a>),
@@ -101,8 +104,7 @@ fn want<'a>(
         return Ok(false);
     }
     let awaited = table.entries.len();
-    table.ask(alloc, asked)?;
-    queue.add(alloc)?;
+    ask(alloc, table, queue, asked)?;
     queue.wait(place, awaited)?;
     Ok(true)
 }
@@ -141,7 +143,7 @@ fn explore_all<'a>(
     table: &mut Table<'a>,
     queue: &mut Queue,
 ) -> Result<(), SearchFault> {
-    let mut left = MOST_STEPS;
+    let mut left = MOST_OF_ALL;
     // Each look takes a step, or leaves an answer.
     for _ in 0..2 * MOST_STEPS {
         let Some(place) = queue.next() else {
@@ -153,6 +155,20 @@ fn explore_all<'a>(
     Err(SearchFault::TooManyCases)
 }
 
+/// Adds a question, unless it is there, and looks at it later.
+fn ask<'a>(
+    alloc: Global,
+    table: &mut Table<'a>,
+    queue: &mut Queue,
+    asked: Vec<Literal>,
+) -> Result<(), SearchFault> {
+    table.ask(alloc, asked)?;
+    if table.entries.len() > queue.count() {
+        queue.add(alloc)?;
+    }
+    Ok(())
+}
+
 /// Asks for a document that meets a rule, for each of them.
 fn ask_each<'a>(
     alloc: Global,
@@ -162,8 +178,7 @@ fn ask_each<'a>(
 ) -> Result<(), SearchFault> {
     for rule in rules {
         if !table.is_full() {
-            table.ask(alloc, met(alloc, *rule)?)?;
-            queue.add(alloc)?;
+            ask(alloc, table, queue, met(alloc, *rule)?)?;
         }
     }
     Ok(())

@@ -10,13 +10,13 @@ loop-place-preserved c =
     let l = c.loop-place in
     let rules = c.args.rules.now in
     let entries = c.args.table.now.entries.items in
-    let b = c.in_ok-is_met_by_none.field-0 in
+    let b = c.in_ok-is_unmet.is_unmet in
     let put = c.in_ok-push.ensures.items in
-    let read : c.index-rules-place.result ≡ slice_index rules l.place = get_or_read rules l.place c.index-rules-place.result c.loop-place-test.true c.index-rules-place.ensures 0 in
+    let read : c.index-rules-place.result ≡ slice_index rules l.place = get_or_read rules l.place c.index-rules-place.result c.loop-place-test.true c.index-rules-place.is 0 in
     record {
       long = ap length put ∙ length-append l.all.items (b ∷ []) ∙ ap (λ n. n + 1) l.invariant.long;
       none = λ i e. elim (got_push l.all.items b true i (ap (λ bs. slice_get bs i) (sym put) ∙ e)) [
         | inl h ↦ l.invariant.none i h.1
-        | inr h ↦ subst (λ n. IsMetByNone entries (slice_index rules n)) (sym (h.0 ∙ l.invariant.long)) (subst (IsMetByNone entries) read (c.in_ok-is_met_by_none.ensures h.1))
+        | inr h ↦ subst (λ n. IsMetByNone entries (slice_index rules n)) (sym (h.0 ∙ l.invariant.long)) (subst (IsMetByNone entries) read (c.in_ok-is_unmet.ensures h.1))
       ];
     }

@@ -13,7 +13,7 @@ returns-then-is_settled c =
     let settled : Each IsSettled T = subst (Each IsSettled) c.deref-in-loop-2.ensures.value (c.is_settled.ensures c.if-is_settled.true) in
     IfOk-weaker c.told.result _ _
     (λ v h. each_map _ _ (λ w d. elim d [
-      | inl k ↦ inl (no_instance c.args.«package».now T sound settled c.in_ok-table.ensures.length w.definition (subst (λ U. IsDeadAt U w.definition) c.deref-then-is_settled-2.ensures.value k))
+      | inl k ↦ inl (no_instance c.args.«package».now T sound settled c.in_ok-table.ensures.length w.definition (subst (λ U. IsDeadAt U w.definition) c.deref-then-is_settled-3.ensures.value k))
       | inr k ↦ inr k
     ]) v.items h)
     c.told.ensures
