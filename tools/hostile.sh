@@ -434,8 +434,8 @@ try 'a chain of 1,000 definitions: check' 0 \
 # Questions for instances: definitions out of their order, and cases past the limit, of which nothing is told. What they take goes by
 # their steps, which are counted as pairs here.
 awk 'BEGIN {
-    for (i = 0; i < 1000; i++) { j = i * 377 % 1000; print "#A" j ": {x: #A" j + 1 "} | {y: #A" j + 1 "}" }
-    print "#A1000: int"
+    for (i = 0; i < 999; i++) { j = i * 377 % 999; print "#A" j ": {x: #A" j + 1 "} | {y: #A" j + 1 "}" }
+    print "#A999: int"
 }' > wide.cue
 try '1,000 definitions out of order: check' 10000000 'lines 0' 'check wide.cue'
 { printf '#A: '; listed 20 '({a%d: 1, ...} | {b: 1, ...})' ' & '; printf ' & {z: 1, ...} & {z: 2, ...}'; } > wide.cue
