@@ -25,10 +25,7 @@ fn root_of(package: &Guarded) -> &str {
 
 /// Whether a document is an instance of the one root and not of the other.
 fn is_separating(alloc: Global, old: &Guarded, new: &Guarded, doc: &Doc) -> Result<bool, Fail> {
-    Ok(
-        is_instance(alloc, old, root_of(old), doc)?
-            && !is_instance(alloc, new, root_of(new), doc)?,
-    )
+    Ok(is_instance(alloc, old, root_of(old), doc)? && !is_instance(alloc, new, root_of(new), doc)?)
 }
 
 /// Whether a text is a document that is an instance of the one root and not of the other.
