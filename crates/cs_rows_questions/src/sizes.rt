@@ -23,8 +23,8 @@ const SIZES: &str = r##"64 times `#AN: #AM & #AM;` after `` and before `#A64: in
   … => 12 times `{vN?: int, ...} | ` after `#A: ` and before `_|_` => compatible => compatible
 12 times `{vN?: int, ...} | ` after `#A: ` and before `_|_`
   … => 11 times `{vN?: int, ...} | ` after `#A: ` and before `_|_` => breaking => compatible
-400 times `fN: int, ` after `#A: {` and before `}` => 400 times `fN: int, ` after `#A: {` and before `}` => compatible => compatible
-400 times `fN: int, ` after `#A: {` and before `}` => 399 times `fN: int, ` after `#A: {` and before `f399?: int}` => compatible => breaking
+400 times `fN: int, ` after `#A: {` and before `}`
+  … => 399 times `fN: int, ` after `#A: {` and before `f399?: int}` => compatible => breaking
 400 times `"N" | ` after `#A: ` and before `"x"` => 300 times `"N" | ` after `#A: ` and before `"x"` => "399" => compatible
 300 times `"N" | ` after `#A: ` and before `"x"` => 300 times `"N" | ` after `#A: ` and before `"x"` => compatible => compatible
 30 times `#AN: {l: #AM} | {r: #AM};` after `` and before `#A30: int`
@@ -36,8 +36,8 @@ const SIZES: &str = r##"64 times `#AN: #AM & #AM;` after `` and before `#A64: in
 1 times `{a: 1 | 2, b: 1 | 2, c: 1 | 2}` after `#A: ` and before ``
   … => 2 times `({a: M, b: 1, c: 1} | {a: M, b: 2, c: 1} | {a: M, b: 1, c: 2}) | ` after `#A: ` and before `{a: 1, b: 2, c: 2}`
   … => {"a":2,"b":2,"c":2} => compatible
-16 times `({aN: 1, ...} | {bN: 1, ...}) & ` after `#A: ` and before `_`
-  … => 16 times `({aN: 1, ...} | {bN: 1, ...}) & ` after `#A: ` and before `_` => compatible => compatible"##;
+6 times `({aN: 1, ...} | {bN: 1, ...}) & ` after `#A: ` and before `_`
+  … => 6 times `({aN: 1, ...} | {bN: 1, ...}) & ` after `#A: ` and before `_` => compatible => compatible"##;
 
 /// A text so many times after the first text, in which `N` stands for its number and `M` for the next one, and a last text.
 fn repeated(
