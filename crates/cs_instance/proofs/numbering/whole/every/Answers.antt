@@ -24,7 +24,7 @@ loop-i-preserved c =
     let put = c.in_ok-push.ensures.items in
     let more : take (i + 1) names ≡ take i names ++ name_of E i ∷ [] = take_more names i [] (omega (arith, within, long)) ∙ ap (λ n. take i names ++ n ∷ []) (names_at E i) in
     let here : (m : List ℕ) → Contains (referred_of E (name_of E i)) m → On m names = λ m k.
-    all_declared E c.in_ok-referred.referred.items m c.in_ok-referred.ensures.within (subst (On m) (sym c.in_ok-referred.ensures.names) (contains_on m (referred_of E (name_of E i)) k)) in
+    all_declared E c.in_ok-_referred._referred.items m c.in_ok-_referred.ensures.within (subst (On m) (sym c.in_ok-_referred.ensures.names) (contains_on m (referred_of E (name_of E i)) k)) in
     record {
       within = subst (Each (λ k. k < length E)) (sym put) (each_push (λ k. k < length E) l.numbers.items i l.invariant.within within);
       names = ap (map (name_of E)) put ∙ map-append (name_of E) l.numbers.items (i ∷ []) ∙ ap (λ ns. ns ++ name_of E i ∷ []) l.invariant.names ∙ sym more;
