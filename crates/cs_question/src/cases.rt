@@ -180,6 +180,19 @@ fn count_fields(nodes: &Nodes<'_>, literal: Literal) -> usize {
     }
 }
 
+/// The steps for a case that is put among so many others, which are moved for it.
+fn cost_of_putting(cases: usize) -> usize {
+    const MOVES: usize = 64;
+    (cases / MOVES).saturating_add(1)
+}
+
+/// The steps for a rule of so many parts that is opened beside so many others, which are copied for each part.
+fn cost_of_opening(parts: usize, others: usize) -> usize {
+    const COPIES: usize = 4;
+    let copies = parts.saturating_mul(others);
+    (copies / COPIES).saturating_add(parts)
+}
+
 /// The steps for a document that is all that is asked: each literal is compared with each rule, and each label with each
 /// declaration. So many comparisons take as long as a step.
 fn cost_of(nodes: &Nodes<'_>, asked: &[Literal]) -> usize {
@@ -214,10 +227,10 @@ pub(crate) fn found_for<'a>(
         let Some(case) = cases.pop() else {
             return Ok(None);
         };
-        effort.step()?;
+        effort.take(cost_of_putting(cases.len()))?;
         match opened_at(nodes, &case.asked) {
             Some((place, literal)) => {
-                effort.take(count_parts(nodes, literal))?;
+                effort.take(cost_of_opening(count_parts(nodes, literal), case.asked.len()))?;
                 open(alloc, nodes, &mut cases, &case.asked, place, literal)?;
             }
             None => {

@@ -54,6 +54,16 @@ fn has_dead(
     Ok(false)
 }
 
+/// The steps for a look at all ways of all rules.
+fn cost_of_picking(rules: &[Vec<Way<'_>>]) -> usize {
+    const LOOKS: usize = 8;
+    let mut ways: usize = 0;
+    for rule in rules {
+        ways = ways.saturating_add(rule.len());
+    }
+    (ways / LOOKS).saturating_add(1)
+}
+
 /// Asks about every place, so that all of them are known the next time.
 fn ask_about(
     alloc: Global,
@@ -274,13 +284,14 @@ pub(crate) fn choice<'a>(
     if has_dead(alloc, table, places, effort)? {
         return Ok(None);
     }
+    let cost = cost_of_picking(rules);
     let mut states = Vec::new(alloc);
     states.push(first_state(alloc, places, rules.len())?)?;
     for _ in 0..MOST_STEPS {
         let Some(state) = states.pop() else {
             return Ok(None);
         };
-        effort.step()?;
+        effort.take(cost)?;
         let Some(place) = pick(alloc, table, &state, further, rules, effort)? else {
             return Ok(Some(state));
         };

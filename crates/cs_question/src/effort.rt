@@ -41,14 +41,6 @@ impl Effort {
         self.most = most;
     }
 
-    /// One step more.
-    ///
-    /// # Errors
-    /// `TooManyCases` where the limit is met.
-    pub(crate) fn step(&mut self) -> Result<(), SearchFault> {
-        self.take(1)
-    }
-
     /// So many steps more.
     ///
     /// # Errors

@@ -29,6 +29,8 @@ fn look_at<'a>(
     if is_found {
         table.answer(place, found);
     }
+    // Each round looks at all questions again, so nothing waits.
+    effort.unanswered.clear();
     take_wanted(alloc, table, effort)?;
     Ok(is_found || table.entries.len() > before)
 }
@@ -136,6 +138,7 @@ pub(crate) fn explored<'a>(
 {
     let mut table = Table::new(alloc);
     let mut effort = Effort::new(alloc);
+    effort.asks_all = true;
     table.ask(alloc, Vec::from_slice(alloc, asked)?)?;
     explore(alloc, nodes, &mut table, &mut effort)?;
     table.is_final = true;
