@@ -14,6 +14,7 @@ use crate::leaves::document_of;
 use crate::literal::{Literal, add, are_same, part_of, without};
 use crate::nodes::{Node, Nodes};
 use crate::table::Table;
+use cs_package::Shape;
 use std::alloc::{AllocError, Global};
 
 /// A case: what is asked, and the last of it that is opened next.
@@ -182,7 +183,7 @@ fn count_fields(nodes: &Nodes<'_>, literal: Literal) -> usize {
 
 /// The steps for a case that is put among so many others, which are moved for it.
 fn cost_of_putting(cases: usize) -> usize {
-    const MOVES: usize = 64;
+    const MOVES: usize = 256;
     (cases / MOVES).saturating_add(1)
 }
 
@@ -193,19 +194,29 @@ fn cost_of_opening(parts: usize, others: usize) -> usize {
     (copies / COPIES).saturating_add(parts)
 }
 
-/// The steps for a document that is all that is asked: each literal is compared with each rule, and each label with each
-/// declaration. So many comparisons take as long as a step.
+/// Whether a rule is met by one value alone.
+fn is_value(nodes: &Nodes<'_>, literal: Literal) -> bool {
+    literal.holds
+        && matches!(
+            nodes.of(literal),
+            Some(Node::Simple(Shape::Null | Shape::Bool(_) | Shape::Int(_) | Shape::Text(_)))
+        )
+}
+
+/// The steps for a document that is all that is asked: each label is compared with each declaration, and each value with each
+/// rule, or with the first ones alone where one of them is met by one value. So many comparisons take as long as a step.
 fn cost_of(nodes: &Nodes<'_>, asked: &[Literal]) -> usize {
-    const COMPARISONS: usize = 64;
+    const COMPARISONS: usize = 256;
     let mut fields: usize = 0;
+    let mut compared = asked.len();
     for literal in asked {
         fields = fields.saturating_add(count_fields(nodes, *literal));
+        if is_value(nodes, *literal) {
+            compared = 1;
+        }
     }
-    let rules = asked.len();
-    fields
-        .saturating_mul(fields)
-        .saturating_add(rules.saturating_mul(rules))
-        / COMPARISONS
+    let values = asked.len().saturating_mul(compared);
+    fields.saturating_mul(fields).saturating_add(values) / COMPARISONS
 }
 
 /// A document that is all that is asked.
