@@ -82,7 +82,7 @@ fn tell(
 
 fn add(warnings: &mut Vec<Warning>, warning: Warning) -> Result<(), AllocError>
     ensures { OnOk result ((P : Warning → Type 0) → AllByRecursion P warnings.old.items
-        → P warning.entry → AllByRecursion P warnings.new.items) }
+        → P warning → AllByRecursion P warnings.new.items) }
 {
     warnings.push(warning)?;
     Ok(())
