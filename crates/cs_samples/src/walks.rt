@@ -178,9 +178,14 @@ impl<'a> Walk<'a> {
 
     #[cycle(visit)]
     fn visit_alternatives(&mut self, shapes: &'a [Shape]) -> Result<(), AllocError> {
+        let mut has_text = false;
         for (i, shape) in shapes.iter().enumerate() {
             self.put_behind(i)?;
-            self.step(i, shape)?;
+            // What isn't admitted beside one text is the same as beside another one.
+            if !(has_text && is_text(shape)) {
+                self.step(i, shape)?;
+            }
+            has_text = has_text || is_text(shape);
         }
         Ok(())
     }
@@ -273,6 +278,10 @@ impl<'a> Walk<'a> {
         }
         self.put(Change::Anything)
     }
+}
+
+fn is_text(shape: &Shape) -> bool {
+    matches!(shape, Shape::Text(_))
 }
 
 /// Whether one of these is `[string]: T`.
