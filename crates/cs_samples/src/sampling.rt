@@ -110,11 +110,11 @@ impl Found {
     }
 
     /// Asks the question of a place.
-    fn ask<'b, 'a>(
+    fn ask(
         &mut self,
         asking: &Asking<'_>,
-        making: &Making<'b, 'a>,
-        place: &'b Place<'a>,
+        making: &Making<'_, '_>,
+        place: &Place<'_>,
     ) -> Result<(), QuestionFault>
         requires { AreSamples asking.now.package.now asking.now.root.now asking.now.which
             self.old.docs.items }
@@ -154,10 +154,10 @@ impl Found {
 }
 
 /// What the question of a place answers.
-fn asked<'b, 'a>(
+fn asked(
     asking: &Asking<'_>,
-    making: &Making<'b, 'a>,
-    place: &'b Place<'a>,
+    making: &Making<'_, '_>,
+    place: &Place<'_>,
 ) -> Result<Answer, QuestionFault>
     ensures { IfOk result (IsAnswer asking.now.package.now asking.now.root.now asking.now.which) }
 {
