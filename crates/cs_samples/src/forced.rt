@@ -32,7 +32,9 @@ impl Forcing<'_> {
             Shape::List { front, end } => {
                 let mut copied = self.forced_among(front, *step, further)?;
                 if *step >= front.len() {
-                    self.put_element(&mut copied, end, further)?;
+                    if let Some(element) = self.forced_element(end, further)? {
+                        copied.push(element)?;
+                    }
                 }
                 let end = copy_end(self.alloc, end)?;
                 Ok(Shape::List { front: copied, end })
@@ -77,18 +79,17 @@ impl Forcing<'_> {
         Ok(copies)
     }
 
-    /// Puts an element that repeats behind these, where one does.
+    /// The element that repeats, where one does.
     #[cycle(forced)]
-    fn put_element(
+    fn forced_element(
         &self,
-        copied: &mut Vec<Shape>,
         end: &ShapeEnd,
         further: &[usize],
-    ) -> Result<(), AllocError> {
-        if let ShapeEnd::Each(shape) = end {
-            copied.push(self.forced(shape, further)?)?;
+    ) -> Result<Option<Shape>, AllocError> {
+        match end {
+            ShapeEnd::Closed | ShapeEnd::Any => Ok(None),
+            ShapeEnd::Each(shape) => Ok(Some(self.forced(shape, further)?)),
         }
-        Ok(())
     }
 
     #[cycle(forced)]

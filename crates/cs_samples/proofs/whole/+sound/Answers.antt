@@ -40,7 +40,7 @@ is_sound-returns-then-are_sound t c = λ e.
     sound_List c.args.count c.args.shape.now c.in-List.front c.in-List.end c.in-List.is (subst (AllByRecursion (IsSound c.args.count)) c.deref-in-List.ensures.value (c.are_sound.ensures c.if-are_sound.true)) (c.is_sound_end.ensures e)
 
 pub is_sound_end-returns-in-Each : goal.is_sound_end-returns-in-Each
-is_sound_end-returns-in-Each t c = λ e. sound_Each c.args.count c.args.end.now c.in-Each.shape c.in-Each.is (c.is_sound.ensures e)
+is_sound_end-returns-in-Each t c = λ e. sound_Each c.args.count c.args.end.now c.in-Each.shape c.in-Each.is (subst (IsSound c.args.count) c.deref.ensures (c.is_sound.ensures e))
 
 pub is_sound_part-returns : goal.is_sound_part-returns
 is_sound_part-returns t c = λ e. sound_Part c.args.count c.args.part.now (c.is_sound.ensures e)
