@@ -1,13 +1,13 @@
 -- Each form of expression is as a package wants it where its parts are.
-use Rattle.std.proofs.Common.{◌≡◌, ℕ, ◌+◌, ◌<◌, ◌≤◌, Bool, true, ◌&&◌, List, [], ◌∷◌, ◌++◌, map, length, take, get_or, Vec, Box, Global, refl, sym, ap, ◌∙◌, subst, arith}
+use Rattle.std.proofs.Common.{◌≡◌, ℕ, ◌+◌, ◌<◌, ◌≤◌, Bool, true, ◌&&◌, List, [], ◌∷◌, ◌++◌, map, length, take, get_or, Vec, Box, Global, rules, refl, sym, ap, ◌∙◌, subst, arith}
 use Rattle.std.specs.List.{list_all, AllByRecursion as Each}
-use Rattle.std.proofs.lemmas.Bool.{and_from, lt-ltb}
+use Rattle.std.proofs.lemmas.Bool.{and_from}
 use Rattle.std.proofs.lemmas.List.{take_more}
 use Rattle.cs_document.proofs.Each.{each_append}
 use Rattle.cs_package.specs.Expression as cue
 use Rattle.cs_package.specs.Joined.{HasTwo, IsJoined, AreJoined, AreJoinedFields, IsJoinedRest}
 use Rattle.cs_package.specs.View.{expression_of, part_of, rest_of, expressions_of, declarations_of, is_known, is_known_end, is_known_part}
-use Rattle.cs_package.proofs.Views.{of-Definition, of-And, of-Or, of-Struct, of-List, of-Each, known-Definition, known-And, known-Or, known-Struct, known-List, known-Each}
+use Rattle.cs_package.proofs.Views.{of-And, of-Or, of-Struct, of-List, of-Each, known-And, known-Or, known-Struct, known-List, known-Each}
 use Rattle.cs_package.specs.declared.shape.Shape as Shapes
 use Rattle.cs_package.specs.declared.shape.Shape.{Shape}
 use Rattle.cs_package.specs.declared.shape.ShapeEnd as Ends
@@ -43,10 +43,16 @@ module _ (n : ℕ) where
     have_two (x ∷ []) l = absurd (omega (arith, l))
     have_two (x ∷ y ∷ xs) l = tt
 
-  pub sound_Definition : (s : Shape) (i : ℕ) → s ≡ Shapes.Definition i → i < n → IsSound n s
-  sound_Definition s i is l = record {
-    known = ap (is_known n) is ∙ known-Definition n i ∙ lt-ltb i n l;
-    joined = λ ns. subst IsJoined (sym (ap (expression_of ns) is ∙ of-Definition ns i)) tt;
+  part_known : (p : Part) → is_known_part n p ≡ is_known n p.value
+  part_known p = search (rules, Shapes.the_lemmas)
+
+  part_value : (ns : List (List ℕ)) (p : Part) → (part_of ns p).value ≡ expression_of ns p.value
+  part_value ns p = search (rules, Shapes.the_lemmas)
+
+  pub sound_Part : (p : Part) → IsSound n p.value → IsSoundPart n p
+  sound_Part p h = record {
+    known = part_known p ∙ h.known;
+    joined = λ ns. subst IsJoined (sym (part_value ns p)) (h.joined ns);
   }
 
   pub sound_And : (s : Shape) (v : Vec Shape Global) → s ≡ Shapes.And v → 2 ≤ length v.items → Each (IsSound n) v.items → IsSound n s

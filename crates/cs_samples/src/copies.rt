@@ -28,7 +28,11 @@ pub(crate) fn copy_shape(alloc: Global, shape: &Shape) -> Result<Shape, AllocErr
         Shape::And(operands) => Ok(Shape::And(copy_shapes(alloc, operands)?)),
         Shape::Or(operands) => Ok(Shape::Or(copy_shapes(alloc, operands)?)),
         Shape::Struct { parts, opened } => copy_struct(alloc, parts, *opened),
-        Shape::List { front, end } => copy_list(alloc, front, end),
+        Shape::List { front, end } => {
+            let copied = copy_shapes(alloc, front)?;
+            let end = copy_end(alloc, end)?;
+            Ok(Shape::List { front: copied, end })
+        }
     }
 }
 
@@ -39,13 +43,6 @@ fn copy_struct(alloc: Global, parts: &[Part], opened: bool) -> Result<Shape, All
         parts: copied,
         opened,
     })
-}
-
-#[cycle(copies)]
-fn copy_list(alloc: Global, front: &[Shape], end: &ShapeEnd) -> Result<Shape, AllocError> {
-    let copied = copy_shapes(alloc, front)?;
-    let end = copy_end(alloc, end)?;
-    Ok(Shape::List { front: copied, end })
 }
 
 /// The same expressions, in order.

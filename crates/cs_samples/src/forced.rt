@@ -29,7 +29,16 @@ impl Forcing<'_> {
             }
             Shape::Or(operands) => self.forced_alternative(operands, *step, further),
             Shape::Struct { parts, opened } => self.forced_struct(parts, *opened, *step, further),
-            Shape::List { front, end } => self.forced_list(front, end, *step, further),
+            Shape::List { front, end } => {
+                let mut copied = self.forced_among(front, *step, further)?;
+                if *step >= front.len() {
+                    if let Some(element) = self.forced_element(end, further)? {
+                        copied.push(element)?;
+                    }
+                }
+                let end = copy_end(self.alloc, end)?;
+                Ok(Shape::List { front: copied, end })
+            }
             // The others have no parts.
             _ => copy_shape(self.alloc, shape),
         }
@@ -70,22 +79,17 @@ impl Forcing<'_> {
         Ok(copies)
     }
 
+    /// The element that repeats, where one does.
     #[cycle(forced)]
-    fn forced_list(
+    fn forced_element(
         &self,
-        front: &[Shape],
         end: &ShapeEnd,
-        step: usize,
         further: &[usize],
-    ) -> Result<Shape, AllocError> {
-        let mut copied = self.forced_among(front, step, further)?;
-        if let ShapeEnd::Each(shape) = end
-            && step >= front.len()
-        {
-            copied.push(self.forced(shape, further)?)?;
+    ) -> Result<Option<Shape>, AllocError> {
+        match end {
+            ShapeEnd::Closed | ShapeEnd::Any => Ok(None),
+            ShapeEnd::Each(shape) => Ok(Some(self.forced(shape, further)?)),
         }
-        let end = copy_end(self.alloc, end)?;
-        Ok(Shape::List { front: copied, end })
     }
 
     #[cycle(forced)]
@@ -97,66 +101,72 @@ impl Forcing<'_> {
         further: &[usize],
     ) -> Result<Shape, AllocError> {
         let mut copied = Vec::with_capacity(self.alloc, parts.len())?;
+        let mut every = None;
         for (i, part) in parts.iter().enumerate() {
             if i == step {
                 let value = self.forced(&part.value, further)?;
-                self.put_forced(&mut copied, parts, part, value)?;
+                every = self.put_forced(&mut copied, parts, part, value)?;
             } else {
                 copied.push(copy_part(self.alloc, part)?)?;
             }
         }
-        Ok(Shape::Struct {
-            parts: copied,
-            opened,
-        })
+        self.joined(copied, opened, every)
     }
 
-    /// Puts a declaration with that value behind these, by which its key is there.
+    /// Puts a declaration with that value behind these, by which its key is there. What is valid under a further key has to meet
+    /// `[string]` as it stands too. What is invalid there couldn't, so `[string]` itself is changed, and answered.
     fn put_forced(
         &self,
         copied: &mut Vec<Part>,
         parts: &[Part],
         part: &Part,
         value: Shape,
-    ) -> Result<(), AllocError> {
-        match part.mark {
-            FieldMark::Regular | FieldMark::Optional | FieldMark::Required => {
-                let label = part.label.clone()?;
-                copied.push(Part {
-                    label,
-                    mark: FieldMark::Regular,
-                    value,
-                })?;
-                Ok(())
+    ) -> Result<Option<Part>, AllocError> {
+        match (part.mark, self.which) {
+            (FieldMark::Regular | FieldMark::Optional | FieldMark::Required, _) => {
+                copied.push(with_value(part, FieldMark::Regular, value)?)?;
+                Ok(None)
             }
-            FieldMark::Every { .. } => self.put_every(copied, parts, part, value),
+            (FieldMark::Every { .. }, Sampled::Valid) => {
+                copied.push(further_part(self.alloc, parts, value)?)?;
+                copied.push(copy_part(self.alloc, part)?)?;
+                Ok(None)
+            }
+            (FieldMark::Every { .. }, Sampled::Invalid) => {
+                let every = with_value(part, part.mark, value)?;
+                copied.push(further_part(self.alloc, parts, Shape::Top)?)?;
+                Ok(Some(every))
+            }
         }
     }
 
-    /// The same of `[string]`, for one key. What is valid there has to meet `[string]` as it stands too; what is invalid there
-    /// couldn't, so `[string]` itself is changed.
-    fn put_every(
+    /// The struct of these, with no further key where `[string]` stands beside them.
+    fn joined(
         &self,
-        copied: &mut Vec<Part>,
-        parts: &[Part],
-        part: &Part,
-        value: Shape,
-    ) -> Result<(), AllocError> {
-        match self.which {
-            Sampled::Valid => {
-                copied.push(copy_part(self.alloc, part)?)?;
-                copied.push(further_part(self.alloc, parts, value)?)?;
-            }
-            Sampled::Invalid => {
-                let label = part.label.clone()?;
-                copied.push(Part {
-                    label,
-                    mark: part.mark,
-                    value,
-                })?;
-                copied.push(further_part(self.alloc, parts, Shape::Top)?)?;
-            }
-        }
-        Ok(())
+        parts: Vec<Part>,
+        opened: bool,
+        every: Option<Part>,
+    ) -> Result<Shape, AllocError> {
+        let Some(part) = every else {
+            return Ok(Shape::Struct { parts, opened });
+        };
+        let mut alone = Vec::new(self.alloc);
+        alone.push(part)?;
+        let mut operands = Vec::new(self.alloc);
+        operands.push(Shape::Struct {
+            parts,
+            opened: false,
+        })?;
+        operands.push(Shape::Struct {
+            parts: alone,
+            opened: true,
+        })?;
+        Ok(Shape::And(operands))
     }
+}
+
+/// The declaration with another mark and value.
+fn with_value(part: &Part, mark: FieldMark, value: Shape) -> Result<Part, AllocError> {
+    let label = part.label.clone()?;
+    Ok(Part { label, mark, value })
 }

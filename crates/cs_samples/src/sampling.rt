@@ -101,12 +101,20 @@ impl Found {
             || self.limited >= MOST_LIMITED
     }
 
+    /// Whether nothing is an instance of the root: the first question for instances is about the root as it stands.
+    fn has_no_instance(&self, which: Sampled) -> bool {
+        match which {
+            Sampled::Valid => self.docs.is_empty() && self.missed == 1 && self.limited == 0,
+            Sampled::Invalid => false,
+        }
+    }
+
     /// Asks the question of a place.
-    fn ask<'b, 'a>(
+    fn ask(
         &mut self,
         asking: &Asking<'_>,
-        making: &Making<'b, 'a>,
-        place: &'b Place<'a>,
+        making: &Making<'_, '_>,
+        place: &Place<'_>,
     ) -> Result<(), QuestionFault>
         requires { AreSamples asking.now.package.now asking.now.root.now asking.now.which
             self.old.docs.items }
@@ -117,11 +125,16 @@ impl Found {
             → AreKept self.new.seen self.new.docs.items) }
     {
         match asked(asking, making, place)? {
-            Answer::Document(doc) => self.put(asking.alloc, doc)?,
-            Answer::Nothing => self.missed = self.missed.saturating_add(1),
-            Answer::TooManyCases => self.limited = self.limited.saturating_add(1),
+            Answer::Document(doc) => self.put(asking.alloc, doc),
+            Answer::Nothing => {
+                self.missed = self.missed.saturating_add(1);
+                Ok(())
+            }
+            Answer::TooManyCases => {
+                self.limited = self.limited.saturating_add(1);
+                Ok(())
+            }
         }
-        Ok(())
     }
 
     /// Puts a document behind the others, unless it is one of them.
@@ -131,20 +144,20 @@ impl Found {
             → AreKept self.new.seen self.new.docs.items) }
     {
         let copy = doc.copy(alloc)?;
-        if self.seen.insert(copy)? {
-            self.docs.push(doc)?;
-        } else {
+        if !self.seen.insert(copy)? {
             self.missed = self.missed.saturating_add(1);
+            return Ok(());
         }
+        self.docs.push(doc)?;
         Ok(())
     }
 }
 
 /// What the question of a place answers.
-fn asked<'b, 'a>(
+fn asked(
     asking: &Asking<'_>,
-    making: &Making<'b, 'a>,
-    place: &'b Place<'a>,
+    making: &Making<'_, '_>,
+    place: &Place<'_>,
 ) -> Result<Answer, QuestionFault>
     ensures { IfOk result (IsAnswer asking.now.package.now asking.now.root.now asking.now.which) }
 {
@@ -175,7 +188,7 @@ fn gathered(asking: &Asking<'_>, number: usize, most: usize) -> Result<Found, Qu
     };
     let mut found = Found::new(asking.alloc);
     for place in &walk.places {
-        if found.is_full(most) {
+        if found.is_full(most) || found.has_no_instance(asking.which) {
             break;
         }
         found.ask(asking, &making, place)?;

@@ -30,13 +30,13 @@ struct Draft {
     bodies: Vec<Vec<Shape>>,
 }
 
-impl<'b, 'a> Making<'b, 'a> {
+impl Making<'_, '_> {
     /// The package with copies of the definitions on the way to a place, the root's last, where each step of the way is forced and
     /// the change is made at the place; none where such a package isn't guarded. What the root doesn't reach has no bodies there.
     ///
     /// # Errors
     /// `OutOfMemory`.
-    pub(crate) fn variant(&self, place: &'b Place<'a>) -> Result<Option<Guarded>, QuestionFault> {
+    pub(crate) fn variant(&self, place: &Place<'_>) -> Result<Option<Guarded>, QuestionFault> {
         let mut draft = self.unchanged()?;
         self.put_copies(&mut draft, place)?;
         let Some(package) = whole(draft.names, draft.bodies) else {
@@ -67,42 +67,43 @@ impl<'b, 'a> Making<'b, 'a> {
 
     /// Puts the copies of the definitions on the way to a place behind the others, from the place back to the root. Each refers
     /// to the copy before it.
-    fn put_copies(&self, draft: &mut Draft, place: &'b Place<'a>) -> Result<(), AllocError>
+    fn put_copies(&self, draft: &mut Draft, place: &Place<'_>) -> Result<(), AllocError>
         requires { IsTable draft.old.names.entries }
         ensures { OnOk result (IsTable draft.new.names.entries) }
     {
-        let mut change = place.change;
-        let mut at = place;
+        self.put_copy(draft, place, place.change)?;
+        let mut entry = place.entry;
         for _ in 0..self.reached.len() {
-            let Some(reached) = self.reached.get(at.entry) else {
+            let Some(reached) = self.reached.get(entry) else {
                 return Ok(());
             };
-            if reached.definition >= self.package.count() {
-                return Ok(());
-            }
-            let number = draft.bodies.len();
-            self.put_copy(draft, reached.definition, at, change)?;
             let Some(from) = &reached.from else {
                 return Ok(());
             };
-            change = Change::Definition(number);
-            at = from;
+            let last = draft.bodies.len().saturating_sub(1);
+            self.put_copy(draft, from, Change::Definition(last))?;
+            entry = from.entry;
         }
         Ok(())
     }
 
-    /// Puts a copy of a definition behind the others.
+    /// Puts a copy of the definition of a place behind the others.
     fn put_copy(
         &self,
         draft: &mut Draft,
-        definition: usize,
         place: &Place<'_>,
         change: Change<'_>,
     ) -> Result<(), AllocError>
-        requires table { IsTable draft.old.names.entries }
-        requires inside { definition < length self.now.package.now }
+        requires { IsTable draft.old.names.entries }
         ensures { OnOk result (IsTable draft.new.names.entries) }
     {
+        let Some(reached) = self.reached.get(place.entry) else {
+            return Ok(());
+        };
+        let definition = reached.definition;
+        if definition >= self.package.count() {
+            return Ok(());
+        }
         let copies = self.copied(definition, place, change)?;
         draft.bodies.push(copies)?;
         put_copy(self.alloc, &mut draft.names, self.package, definition)

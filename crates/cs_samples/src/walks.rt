@@ -142,7 +142,10 @@ impl<'a> Walk<'a> {
             Shape::And(operands) => self.visit_each(operands),
             Shape::Or(operands) => self.visit_alternatives(operands),
             Shape::Struct { parts, opened } => self.visit_struct(parts, *opened),
-            Shape::List { front, end } => self.visit_list(front, end),
+            Shape::List { front, end } => {
+                self.visit_front(front)?;
+                self.visit_end(front.len(), end)
+            }
             // The others have no parts.
             _ => match self.which {
                 Sampled::Valid => self.put_ends(shape),
@@ -178,9 +181,14 @@ impl<'a> Walk<'a> {
 
     #[cycle(visit)]
     fn visit_alternatives(&mut self, shapes: &'a [Shape]) -> Result<(), AllocError> {
+        let mut has_text = false;
         for (i, shape) in shapes.iter().enumerate() {
             self.put_behind(i)?;
-            self.step(i, shape)?;
+            // What isn't admitted beside one text is the same as beside another one.
+            if !(has_text && is_text(shape)) {
+                self.step(i, shape)?;
+            }
+            has_text = has_text || is_text(shape);
         }
         Ok(())
     }
@@ -212,18 +220,22 @@ impl<'a> Walk<'a> {
     }
 
     #[cycle(visit)]
-    fn visit_list(&mut self, front: &'a [Shape], end: &'a ShapeEnd) -> Result<(), AllocError> {
+    fn visit_front(&mut self, front: &'a [Shape]) -> Result<(), AllocError> {
         self.put_invalid(Change::Anything)?;
         if !front.is_empty() {
             self.put_invalid(Change::Shorter)?;
         }
-        self.visit_each(front)?;
+        self.visit_each(front)
+    }
+
+    #[cycle(visit)]
+    fn visit_end(&mut self, step: usize, end: &'a ShapeEnd) -> Result<(), AllocError> {
         match end {
             ShapeEnd::Closed => self.put_invalid(Change::Longer),
             ShapeEnd::Any => self.put_lengths(),
             ShapeEnd::Each(shape) => {
                 self.put_lengths()?;
-                self.step(front.len(), shape)
+                self.step(step, shape)
             }
         }
     }
@@ -273,6 +285,10 @@ impl<'a> Walk<'a> {
         }
         self.put(Change::Anything)
     }
+}
+
+fn is_text(shape: &Shape) -> bool {
+    matches!(shape, Shape::Text(_))
 }
 
 /// Whether one of these is `[string]: T`.
