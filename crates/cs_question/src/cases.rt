@@ -183,7 +183,7 @@ fn count_fields(nodes: &Nodes<'_>, literal: Literal) -> usize {
 
 /// The steps for a case that is put among so many others, which are moved for it.
 fn cost_of_putting(cases: usize) -> usize {
-    const MOVES: usize = 256;
+    const MOVES: usize = 128;
     (cases / MOVES).saturating_add(1)
 }
 
@@ -206,7 +206,7 @@ fn is_value(nodes: &Nodes<'_>, literal: Literal) -> bool {
 /// The steps for a document that is all that is asked: each label is compared with each declaration, and each value with each
 /// rule, or with the first ones alone where one of them is met by one value. So many comparisons take as long as a step.
 fn cost_of(nodes: &Nodes<'_>, asked: &[Literal]) -> usize {
-    const COMPARISONS: usize = 256;
+    const COMPARISONS: usize = 128;
     let mut fields: usize = 0;
     let mut compared = asked.len();
     for literal in asked {

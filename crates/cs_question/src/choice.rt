@@ -56,7 +56,7 @@ fn has_dead(
 
 /// The steps for a look at all ways of all rules.
 fn cost_of_picking(rules: &[Vec<Way<'_>>]) -> usize {
-    const LOOKS: usize = 32;
+    const LOOKS: usize = 16;
     let mut ways: usize = 0;
     for rule in rules {
         ways = ways.saturating_add(rule.len());
