@@ -29,9 +29,9 @@ const MOST_LIMITED: usize = 8;
 /// as many as are asked for. They come in the order of the text.
 ///
 /// Valid ones: an instance first, and then one for each alternative, each optional key with and without, each end of a range, the
-/// least length of a list and the next one, and a further key where one is allowed. Invalid ones: for each kind, literal and bound, each required key, each
-/// length of a list, and each struct that allows no further key, one that is no instance for this alone, where there is one. Each
-/// definition is sampled at the first place that refers to it.
+/// least length of a list and the next one, and a further key where one is allowed. Invalid ones: for each kind, literal and bound,
+/// each required key, each length of a list, and each struct that allows no further key, one that is no instance for this alone,
+/// where there is one. Each definition is sampled at the first place that refers to it. A further key is called `key`.
 ///
 /// At most `most` questions give a document, `most + 100` give none, and 8 meet a limit.
 ///
