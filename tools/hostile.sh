@@ -442,6 +442,16 @@ try '1,000 definitions out of order: check' 10000000 'lines 0' 'check wide.cue'
 try '1,048,576 cases without a document: check' 20000000 'lines 0' 'check wide.cue'
 { printf '#A: {'; listed 40000 'a%d: int' ', '; printf '}'; } > wide.cue
 try '40,000 fields: check' 10000000 'lines 0' 'check wide.cue'
+# Comparisons: an answer, or 17 where a limit is met.
+awk 'BEGIN { printf "#A: "; for (i = 0; i < 16; i++) printf "%s({a%d: 1, ...} | {b%d: 1, ...})", i ? " & " : "", i, i; print "" }' > wide.cue
+try '65,536 cases against themselves: compare' 100000000 'error 17' 'compare --root #A --old wide.cue --new wide.cue'
+{ printf '#A: '; listed 10000 '"v%d"' ' | '; printf '\n'; } > wide.cue
+try '10,000 texts against themselves: compare' 100000000 'error 17' 'compare --root #A --old wide.cue --new wide.cue'
+{ printf '#A: {'; listed 1000 'a%d: int' ', '; printf '}\n'; } > wide.cue
+try '1,000 fields against themselves: compare' 100000000 'lines 0 compatible' 'compare --root #A --old wide.cue --new wide.cue'
+awk 'BEGIN { for (i = 0; i < 64; i++) printf "#A%d: #A%d & #A%d\n", i, i + 1, i + 1; print "#A64: int" }' > wide.cue
+awk 'BEGIN { for (i = 0; i < 64; i++) printf "#A%d: #A%d | #A%d\n", i, i + 1, i + 1; print "#A64: int" }' > other.cue
+try '64 doublings by both: compare' 0 'lines 0 backward: compatible;forward: compatible' 'compare --both --root #A0 --old wide.cue --new other.cue'
 doubling 65 '&' > wide.cue
 try 'doubling 65 times: vet' 0 'error 16' 'vet --root #A0 --doc seven wide.cue'
 closing
