@@ -4,7 +4,7 @@ use crate::files::read_sources;
 use crate::reasons::{Reasons, reasons_of};
 use crate::refused::{print, texts_of};
 use crate::requests::word_of;
-use crate::sides::{Edition, paths_of, tell_refused, tell_unread_side};
+use crate::sides::{Edition, paths_of, tell_alone, tell_refused, tell_unread_side};
 use clap::ArgMatches;
 use cs_compare::{CompareRefusal, Comparison, Side, compare as compare_sources};
 use cs_doc::write_doc;
@@ -20,8 +20,16 @@ const BACKWARD: &str = "backward";
 
 const FORWARD: &str = "forward";
 
-/// The status of `compare`: 0, or 1 where an answer is `breaking`.
+/// The status of `compare`: 0, or 1 where an answer is `breaking`. A refusal is told as the answer would be.
 pub(crate) fn compare(rt: &HostRuntime, words: &ArgMatches<'_>) -> Result<u8, Fault> {
+    match compared(rt, words) {
+        Err(fault) => tell_alone(rt, reasons_of(words), fault),
+        status => status,
+    }
+}
+
+/// The status of `compare`, where the refusals of both sides are told.
+fn compared(rt: &HostRuntime, words: &ArgMatches<'_>) -> Result<u8, Fault> {
     let reasons = reasons_of(words);
     let old = match rules_of(rt, words, Side::Old) {
         Ok(rules) => rules,

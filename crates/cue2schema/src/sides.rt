@@ -6,7 +6,7 @@ use clap::ArgMatches;
 use cs_compare::{CompareRefusal, Side};
 use cs_judge::{Form, Named};
 use cs_refusals::{About, why_refused, write_refusal_json};
-use cs_tool::{Fault, Rules, write_fault};
+use cs_tool::{Fault, Rules, write_fault, write_fault_json};
 use std::alloc::Global;
 use std::io::Write;
 
@@ -48,6 +48,22 @@ fn word_of_side(side: Side) -> &'static str {
 /// The files of a side.
 pub(crate) fn paths_of<'m, 'w>(words: &'m ArgMatches<'w>, side: Side) -> &'m [&'w str] {
     words.get_strs(word_of_side(side)).unwrap_or(&[])
+}
+
+/// Tells a refusal of neither side, as it is asked for, and gives its status.
+pub(crate) fn tell_alone(
+    rt: &HostRuntime,
+    reasons: Option<Reasons>,
+    fault: Fault,
+) -> Result<u8, Fault> {
+    tell(
+        rt,
+        reasons,
+        fault,
+        None,
+        &[],
+        about_input(Unread::nothing(), &[]),
+    )
 }
 
 /// Tells a refusal of files that weren't read, as it is asked for, and gives its status.
@@ -98,18 +114,12 @@ pub(crate) fn tell_refused(
             paths_of(words, Side::New),
             after.about(),
         ),
-        None => tell(
-            rt,
-            reasons,
-            fault,
-            None,
-            &[],
-            about_input(Unread::nothing(), &[]),
-        ),
+        None => tell_alone(rt, reasons, fault),
     }
 }
 
-/// Tells a refusal of a side, or of none. Want of memory is told by its number alone.
+/// Tells a refusal of a side, or of none. Want of memory is told by its number alone; no object is written where nothing can be
+/// written.
 fn tell(
     rt: &HostRuntime,
     reasons: Option<Reasons>,
@@ -122,8 +132,13 @@ fn tell(
         return Err(fault);
     };
     match (reasons.form, &fault) {
-        (_, Fault::OutOfMemory | Fault::WriteFailed) => Err(fault),
+        (Form::Lines, Fault::OutOfMemory) => Err(fault),
         (Form::Lines, _) => tell_lines(rt, &fault, side, about),
+        (Form::Json | Form::Flag | Form::Basic, Fault::WriteFailed) => Err(fault),
+        (Form::Json | Form::Flag | Form::Basic, Fault::OutOfMemory) => {
+            write_fault_json(rt.alloc(), &fault, &[], &mut rt.stdout())?;
+            Ok(fault.status())
+        }
         (Form::Json | Form::Flag | Form::Basic, _) => tell_object(rt, &fault, side, names, about),
     }
 }
@@ -156,7 +171,10 @@ fn tell_object(
     about: About<'_>,
 ) -> Result<u8, Fault> {
     let mut object = Vec::new(rt.alloc());
-    write_refusal_json(rt.alloc(), fault, names, about, &mut object)?;
+    // Only memory stops a write to a list.
+    if write_refusal_json(rt.alloc(), fault, names, about, &mut object).is_err() {
+        return Err(Fault::OutOfMemory);
+    }
     let text = match side {
         Some(side) => member_of(rt.alloc(), word_of_side(side), &object)?,
         None => object,
