@@ -69,22 +69,14 @@ fn tell(
 {
     if !known.alive {
         let reason = reason_of(alloc, &known.summary)?;
-        add(warnings, Warning { definition, reason })?;
+        warnings.push(Warning { definition, reason })?;
         return Ok(());
     }
     if is_given(empty, definition) {
         let reason = reason_at(alloc, later, definition)?;
-        add(warnings, Warning { definition, reason })?;
+        warnings.push(Warning { definition, reason })?;
         return Ok(());
     }
-    Ok(())
-}
-
-fn add(warnings: &mut Vec<Warning>, warning: Warning) -> Result<(), AllocError>
-    ensures { OnOk result ((P : Warning → Type 0) → AllByRecursion P warnings.old.items
-        → P warning → AllByRecursion P warnings.new.items) }
-{
-    warnings.push(warning)?;
     Ok(())
 }
 
