@@ -1,6 +1,6 @@
 use Rattle.std.proofs.Common.{◌≡◌, ℕ, ◌+◌, ◌<◌, ◌⊎◌, inl, inr, ◌++◌, [], ◌∷◌, true, Some, length, refl, sym, ap, ◌∙◌, subst, arith}
 use Rattle.std.specs.Prelude.{slice_get, slice_index}
-use Rattle.std.proofs.lemmas.List.{length-append, get_or_read}
+use Rattle.std.proofs.lemmas.List.{length-append}
 use Rattle.cs_rules.proofs.Lists.{got_push}
 use Rattle.cs_question.specs.Truth.{IsMetByNone}
 use Rattle.cs_question.proofs.definitions.unmet.Goals as goal
@@ -12,11 +12,10 @@ loop-place-preserved c =
     let entries = c.args.table.now.entries.items in
     let b = c.in_ok-is_unmet.is_unmet in
     let put = c.in_ok-push.ensures.items in
-    let read : c.index-rules-place.result ≡ slice_index rules l.place = get_or_read rules l.place c.index-rules-place.result c.loop-place-test.true c.index-rules-place.is 0 in
     record {
       long = ap length put ∙ length-append l.all.items (b ∷ []) ∙ ap (λ n. n + 1) l.invariant.long;
       none = λ i e. elim (got_push l.all.items b true i (ap (λ bs. slice_get bs i) (sym put) ∙ e)) [
         | inl h ↦ l.invariant.none i h.1
-        | inr h ↦ subst (λ n. IsMetByNone entries (slice_index rules n)) (sym (h.0 ∙ l.invariant.long)) (subst (IsMetByNone entries) read (c.in_ok-is_unmet.ensures h.1))
+        | inr h ↦ subst (λ n. IsMetByNone entries (slice_index rules n)) (sym (h.0 ∙ l.invariant.long)) (c.in_ok-is_unmet.ensures h.1)
       ];
     }
