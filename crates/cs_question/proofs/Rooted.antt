@@ -100,5 +100,5 @@ told_root E t b x n named f I m i other = ap (λ k. I (definition k) x) (same_na
 
 -- what isn't true is false
 pub is_false : (b : Bool) → (b ≡ true → ⊥) → b ≡ false
-is_false true no = absurd (no refl)
-is_false false no = refl
+is_false true f = absurd (f refl)
+is_false false _ = refl

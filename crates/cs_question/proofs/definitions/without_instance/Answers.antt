@@ -13,7 +13,7 @@ use Rattle.cs_question.proofs.Rooted.{no_instance, is_false}
 use Rattle.cs_question.proofs.definitions.without_instance.Goals as goal
 
 pub returns-clause-long : goal.returns-clause-long
-returns-clause-long c = c.in_ok-all.ensures.long ∙ ap length c.deref-3.ensures.value ∙ c.in_ok-numbering.ensures.long
+returns-clause-long c = c.in_ok-all.ensures.long ∙ ap length c.deref-4.ensures.value ∙ c.in_ok-numbering.ensures.long
 
 pub returns-clause-none : goal.returns-clause-none
 returns-clause-none c = λ i e.
@@ -23,8 +23,8 @@ returns-clause-none c = λ i e.
     let ns : Nodes = record { admitting = c.in_ok-nodes_of.field-0; refusing = c.new.result } in
     let table = c.in_ok-table.table in
     let first = c.in_ok-nodes_of.ensures ∙ ap₂ (λ inner rules. map (numbered inner) rules) c.deref-2.ensures.value c.deref.ensures.value in
-    let within : i < length E = let l = slice_get_within c.in_ok-all.all.items i true e in omega (arith, l, c.in_ok-all.ensures.long, ap length c.deref-3.ensures.value, w.long) in
-    let none : IsMetByNone table.entries.items (slice_index all.numbers.items i) = subst (λ xs. IsMetByNone table.entries.items (slice_index xs i)) c.deref-3.ensures.value (c.in_ok-all.ensures.none i e) in
+    let within : i < length E = let l = slice_get_within c.in_ok-all.all.items i true e in omega (arith, l, c.in_ok-all.ensures.long, ap length c.deref-4.ensures.value, w.long) in
+    let none : IsMetByNone table.entries.items (slice_index all.numbers.items i) = subst (λ xs. IsMetByNone table.entries.items (slice_index xs i)) c.deref-4.ensures.value (c.in_ok-all.ensures.none i e) in
     record {
       name = name_of E i;
       at = name_within E i within;
