@@ -1,7 +1,11 @@
-use Rattle.std.proofs.Common.{◌≡◌, ◌⊎◌, ℕ, List, Bool, true, false, inl, inr, refl, sym, subst}
+use Rattle.std.proofs.Common.{◌≡◌, ◌⊎◌, ℕ, List, [], ◌∷◌, Bool, true, false, inl, inr, refl, sym, ap, subst}
+use Rattle.std.specs.Option.{is_some}
+use Rattle.cs_document.specs.Document.{Document}
+use Rattle.cs_document.specs.View.{doc_view}
 use Rattle.cs_package.specs.Environment.{Environment, Names}
-use Rattle.cs_instance.specs.Instance.{definition}
+use Rattle.cs_instance.specs.Instance.{Rule, definition, IsInstance}
 use Rattle.cs_question.specs.Faults.{IsRefusal}
+use Rattle.cs_question.specs.Separates.{Separates}
 use Rattle.cs_question.specs.declared.fault.QuestionFault.{QuestionFault}
 use Rattle.cs_question.specs.declared.fault.QuestionFault.TheVariants as question
 use Rattle.cs_tool.specs.declared.fault.Fault.TheVariants.{OutOfMemory, TooManyCases}
@@ -34,17 +38,21 @@ returns-in-Ok-None-clause-answered c =
       before = record { environment = c.in_ok-before.before; name = old.0; declares = old.1; one_meaning = c.one_meaning.ensures };
       after = record { environment = c.in_ok-after.after; name = new.0; declares = new.1; one_meaning = c.one_meaning-2.ensures };
       answers = λ I J i j x d holds. is_true (J (definition new.0) x)
-          (λ fails. c.in-Ok-None.ensures.none tt I J old.0 new.0 x i j old.1.named new.1.named d ((holds, tt), (fails, tt)));
+          (λ fails. c.in-Ok-None.ensures.none (ap is_some c.in-Ok-None.field-0-is) I J old.0 new.0 x i j old.1.named new.1.named d ((holds, tt), (fails, tt)));
     }
 
 pub returns-in-Ok-Some-clause-answered : goal.returns-in-Ok-Some-clause-answered
 returns-in-Ok-Some-clause-answered c =
     let old = c.in_ok-before.ensures.found in
     let new = c.in_ok-after.ensures.found in
+    let E = c.in_ok-before.before in
+    let F = c.in_ok-after.after in
+    let one : (I J : Rule → Document → Bool) (n m : List ℕ) → IsInstance E I → IsInstance F J → Names E c.args.old_root.now n → Names F c.args.new_root.now m
+    → Separates (I (definition n) ∷ []) (J (definition m) ∷ []) (doc_view c.in-Ok-Some.doc) = rw c.in-Ok-Some.field-0-is at c.in-Ok-Some.ensures.one in
     record {
-      before = record { environment = c.in_ok-before.before; name = old.0; declares = old.1; one_meaning = c.one_meaning.ensures };
-      after = record { environment = c.in_ok-after.after; name = new.0; declares = new.1; one_meaning = c.one_meaning-2.ensures };
-      answers = λ I J i j. let s = c.in-Ok-Some.ensures.one I J old.0 new.0 i j old.1.named new.1.named in (s.0.0, s.1.0);
+      before = record { environment = E; name = old.0; declares = old.1; one_meaning = c.one_meaning.ensures };
+      after = record { environment = F; name = new.0; declares = new.1; one_meaning = c.one_meaning-2.ensures };
+      answers = λ I J i j. let s = one I J old.0 new.0 i j old.1.named new.1.named in (s.0.0, s.1.0);
     }
 
 pub returns-clause-refused : goal.returns-clause-refused
