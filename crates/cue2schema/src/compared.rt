@@ -39,8 +39,8 @@ fn compared(rt: &HostRuntime, words: &ArgMatches<'_>) -> Result<u8, Fault> {
         Ok(rules) => rules,
         Err(fault) => return tell_unread_side(rt, reasons, fault, Side::New, words),
     };
-    let old_sources = named_sources(rt.alloc(), &old, paths_of(words, Side::Old))?;
-    let new_sources = named_sources(rt.alloc(), &new, paths_of(words, Side::New))?;
+    let old_sources = named_sources(rt.alloc(), &old, paths_of(words, Side::Old).unwrap_or(&[]))?;
+    let new_sources = named_sources(rt.alloc(), &new, paths_of(words, Side::New).unwrap_or(&[]))?;
     let before = Edition::of(&old, &old_sources, root_of(words, Side::Old));
     let after = Edition::of(&new, &new_sources, root_of(words, Side::New));
     match answers(rt.alloc(), before, after, reasons, words.get_flag("both")) {
@@ -66,7 +66,7 @@ fn root_of<'a>(words: &ArgMatches<'a>, side: Side) -> &'a str {
 /// The rules of a side, read from its files.
 fn rules_of(rt: &HostRuntime, words: &ArgMatches<'_>, side: Side) -> Result<Rules, Fault> {
     let root = String::from_str(rt.alloc(), root_of(words, side))?;
-    let sources = read_sources(rt, paths_of(words, side))?;
+    let sources = read_sources(rt, paths_of(words, side).unwrap_or(&[]))?;
     Ok(Rules::Root { sources, root })
 }
 

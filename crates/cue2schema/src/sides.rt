@@ -46,8 +46,8 @@ fn word_of_side(side: Side) -> &'static str {
 }
 
 /// The files of a side.
-pub(crate) fn paths_of<'m, 'w>(words: &'m ArgMatches<'w>, side: Side) -> &'m [&'w str] {
-    words.get_strs(word_of_side(side)).unwrap_or(&[])
+pub(crate) fn paths_of<'m, 'w>(words: &'m ArgMatches<'w>, side: Side) -> Option<&'m [&'w str]> {
+    words.get_strs(word_of_side(side))
 }
 
 /// Tells a refusal of neither side, as it is asked for, and gives its status.
@@ -74,7 +74,7 @@ pub(crate) fn tell_unread_side(
     side: Side,
     words: &ArgMatches<'_>,
 ) -> Result<u8, Fault> {
-    let paths = paths_of(words, side);
+    let paths = paths_of(words, side).unwrap_or(&[]);
     let found = unread_among(rt, &fault, paths);
     let sizes = sizes_among(rt, &fault, found, paths)?;
     tell(
@@ -103,7 +103,7 @@ pub(crate) fn tell_refused(
             reasons,
             fault,
             side,
-            paths_of(words, Side::Old),
+            paths_of(words, Side::Old).unwrap_or(&[]),
             before.about(),
         ),
         Some(Side::New) => tell(
@@ -111,7 +111,7 @@ pub(crate) fn tell_refused(
             reasons,
             fault,
             side,
-            paths_of(words, Side::New),
+            paths_of(words, Side::New).unwrap_or(&[]),
             after.about(),
         ),
         None => tell_alone(rt, reasons, fault),
