@@ -18,11 +18,12 @@ const MOST_SAMPLES: u64 = 10_000;
 /// The greatest number of a refusal.
 const GREATEST_REFUSAL: u64 = 31;
 
-/// The program's command: `export`, `vet`, `validate`, `agree`, `check`, `compare`, `samples` and `explain` with their words. Sources are the
-/// values of `FILE`, and for `compare` of `old` and `new`, in the order of the words.
+/// The program's command: `export`, `list`, `vet`, `validate`, `agree`, `check`, `compare`, `samples` and `explain` with their
+/// words. Sources are the values of `FILE`, and for `compare` of `old` and `new`, in the order of the words.
 pub fn command<'a>(alloc: Global) -> Result<Command<'a>, AllocError> {
     let mut commands = Vec::new(alloc);
     commands.push(export(alloc)?)?;
+    commands.push(list(alloc)?)?;
     commands.push(vet(alloc)?)?;
     commands.push(validate(alloc)?)?;
     commands.push(agree(alloc)?)?;
@@ -42,7 +43,21 @@ fn export<'a>(alloc: Global) -> Result<Command<'a>, AllocError> {
     Command::new(alloc, "export")
         .about("Writes the JSON Schema of a definition")
         .after_help("Example: cue2schema export --root '#Port' port.cue > port.schema.json")
-        .arg(root(alloc))?
+        .arg(root_of_export(alloc)?)?
+        .arg(all(alloc)?)?
+        .arg(openapi(alloc))?
+        .arg(describe(alloc))?
+        .arg(pretty(alloc))?
+        .arg(output(alloc))?
+        .arg(why_refused(alloc))?
+        .arg(files(alloc))
+}
+
+fn list<'a>(alloc: Global) -> Result<Command<'a>, AllocError> {
+    Command::new(alloc, "list")
+        .about("Lists the definitions of CUE files, a line for each")
+        .after_help("Example: cue2schema list port.cue")
+        .arg(format(alloc, FORMATS).help("Prints an object of JSON in place of the lines"))?
         .arg(why_refused(alloc))?
         .arg(files(alloc))
 }
@@ -140,6 +155,54 @@ fn explain<'a>(alloc: Global) -> Result<Command<'a>, AllocError> {
         .about("Says what the number of a refusal means, and what to do")
         .after_help("Example: cue2schema explain 11")
         .arg(number(alloc))
+}
+
+/// The root of a schema; the words for every definition can take its place.
+fn root_of_export<'a>(alloc: Global) -> Result<Arg<'a>, AllocError> {
+    root(alloc)
+        .required(false)
+        .required_unless_present_any(&["all", "openapi"])
+}
+
+fn all<'a>(alloc: Global) -> Result<Arg<'a>, AllocError> {
+    Arg::new(alloc, "all")
+        .long("all")
+        .help("Writes every definition, and none as the root")
+        .action(ArgAction::SetTrue)
+        .conflicts_with("root")
+}
+
+fn openapi<'a>(alloc: Global) -> Arg<'a> {
+    Arg::new(alloc, "openapi")
+        .long("openapi")
+        .help(
+            "Writes the schemas as components of OpenAPI: every definition, or with a root those that it needs",
+        )
+        .action(ArgAction::SetTrue)
+}
+
+fn describe<'a>(alloc: Global) -> Arg<'a> {
+    Arg::new(alloc, "describe")
+        .long("describe")
+        .help("Writes the comments of definitions and fields as their descriptions")
+        .action(ArgAction::SetTrue)
+}
+
+fn pretty<'a>(alloc: Global) -> Arg<'a> {
+    Arg::new(alloc, "pretty")
+        .long("pretty")
+        .help("Writes a line for each member and element, indented by two blanks")
+        .action(ArgAction::SetTrue)
+}
+
+/// A run that is refused leaves the file as it was.
+fn output<'a>(alloc: Global) -> Arg<'a> {
+    Arg::new(alloc, "output")
+        .short('o')
+        .long("output")
+        .value_name("FILE")
+        .help("The file that the schema is written to; standard output where it isn't given")
+        .action(ArgAction::Set)
 }
 
 fn new_root<'a>(alloc: Global) -> Arg<'a> {
