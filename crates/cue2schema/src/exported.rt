@@ -48,11 +48,7 @@ pub(crate) fn write_schema(
 }
 
 /// The text of the schema of the root, or of those of all definitions where none is given.
-fn schema_of(
-    alloc: Global,
-    words: &ArgMatches<'_>,
-    sources: &[&[u8]],
-) -> Result<Vec<u8>, Fault> {
+fn schema_of(alloc: Global, words: &ArgMatches<'_>, sources: &[&[u8]]) -> Result<Vec<u8>, Fault> {
     let layout = layout_of(words);
     match words.get_str("root") {
         Some(root) => export_root(alloc, sources, root, layout),

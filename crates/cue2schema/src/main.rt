@@ -6,6 +6,7 @@ mod compared;
 mod explained;
 mod exported;
 mod files;
+mod listed;
 mod many;
 mod reasons;
 mod refused;

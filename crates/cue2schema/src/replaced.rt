@@ -21,7 +21,11 @@ pub(crate) fn replace_file(rt: &HostRuntime, path: &str, text: &[u8]) -> Result<
 
 /// Writes a text into what is there.
 fn written(rt: &HostRuntime, path: &str, text: &[u8]) -> Result<(), Fault> {
-    let Ok(mut file) = fs::OpenOptions::new().write(true).truncate(true).open(rt, path) else {
+    let Ok(mut file) = fs::OpenOptions::new()
+        .write(true)
+        .truncate(true)
+        .open(rt, path)
+    else {
         return Err(Fault::WriteFailed);
     };
     if file.write_all(text).is_err() {
