@@ -1,9 +1,10 @@
 // From a schema to the text that is asked for.
 ghost use Rattle.std.specs.Prelude.{◌≡◌, false, IfOk, IsOkUnless};
 ghost use Rattle.cs_document.specs.View.{doc_view};
+ghost use Rattle.cs_schema.specs.Profile.{IsSchema};
 ghost use Rattle.cs_schema.specs.SchemaDocument.{document_of};
-ghost use Rattle.cs_describe.specs.Plain.{plain};
-ghost use Rattle.cs_export.specs.Shaped.{IsShaped, IsTextOf};
+ghost use Rattle.cs_schema.specs.Validity.{OneMeaning};
+ghost use Rattle.cs_export.specs.Shaped.{IsShaped, IsSameSchema, IsTextOf};
 
 use crate::components::components;
 use crate::layout::Layout;
@@ -26,10 +27,11 @@ pub(crate) fn shaped_text(
     ensures shaped { IfOk result (λ text. IsShaped layout (document_of schema.now) text.items) }
     ensures memory { IsOkUnless result Fault.OutOfMemory }
 {
-    let doc = to_doc(alloc, schema)?;
-    let doc = described_if(alloc, doc, sources, layout.is_described)?;
-    let doc = components_if(alloc, doc, layout.is_openapi)?;
-    text_of(alloc, &doc, layout.is_pretty)
+    cs_schema::one_meaning(schema); // for the proof: there is one validity
+    let plain = to_doc(alloc, schema)?;
+    let described = described_if(alloc, plain, sources, layout.is_described)?;
+    let shaped = components_if(alloc, described, layout.is_openapi)?;
+    text_of(alloc, &shaped, layout.is_pretty)
 }
 
 /// A schema with the comments of the sources, if they are asked for.
@@ -39,7 +41,8 @@ fn described_if(
     sources: &[&[u8]],
     is_described: bool,
 ) -> Result<Doc, Fault>
-    ensures plain { IfOk result (λ d. plain (doc_view d) ≡ plain (doc_view doc)) }
+    ensures schema { IfOk result (λ d. IsSchema (doc_view doc) → OneMeaning (doc_view doc)
+        → IsSameSchema (doc_view doc) (doc_view d)) }
     ensures same { is_described ≡ false → IfOk result (λ d. d ≡ doc) }
     ensures memory { IsOkUnless result Fault.OutOfMemory }
 {
