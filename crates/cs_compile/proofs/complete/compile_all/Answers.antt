@@ -15,8 +15,8 @@ new-requires c =
     bare : schema_view c.in_ok-root.root ≡ object no_members
     bare = c.in_ok-root.ensures ∙ ap (λ ss. object (present ss)) c.untyped.ensures
 
-pub returns-in-Ok : goal.returns-in-Ok
-returns-in-Ok c =
+pub returns-in-Ok-clause-found : goal.returns-in-Ok-clause-found
+returns-in-Ok-clause-found c =
     let E = c.package.result.now in
     let kept = c.package.ensures.kept in
     let made = compiles_all E c.in_ok-definitions.ensures.resolved (subst IsGuarded (sym kept) c.package.ensures.guarded) (record { root = c.in_ok-root.root; definitions = c.in_ok-definitions.definitions.entries }) (c.in_ok-root.ensures ∙ ap (λ ss. object (present ss)) c.untyped.ensures)
