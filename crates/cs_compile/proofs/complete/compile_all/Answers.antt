@@ -15,10 +15,10 @@ new-requires c =
     bare : schema_view c.in_ok-root.root ≡ object no_members
     bare = c.in_ok-root.ensures ∙ ap (λ ss. object (present ss)) c.untyped.ensures
 
-pub returns-in-Ok-clause-found : goal.returns-in-Ok-clause-found
-returns-in-Ok-clause-found c =
+pub returns-in-Ok : goal.returns-in-Ok
+returns-in-Ok c =
     let E = c.package.result.now in
     let kept = c.package.ensures.kept in
     let made = compiles_all E c.in_ok-definitions.ensures.resolved (subst IsGuarded (sym kept) c.package.ensures.guarded) (record { root = c.in_ok-root.root; definitions = c.in_ok-definitions.definitions.entries }) (c.in_ok-root.ensures ∙ ap (λ ss. object (present ss)) c.untyped.ensures)
     c.in_ok-definitions.ensures.each c.in_ok-definitions.ensures.nothing_else in
-    subst (λ F. CompilesAll F c.in-Ok.schema) kept (subst (CompilesAll E) (sym c.in-Ok.ensures.found) made)
+    record { found = subst (λ F. CompilesAll F c.in-Ok.schema) kept (subst (CompilesAll E) (sym c.in-Ok.ensures.found) made) }
