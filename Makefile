@@ -93,8 +93,8 @@ install: bin/cue2schema
 dist: bin/cue2schema | toolchain
 	tools/dist.sh bin/cue2schema "$$(rt version)"
 
-deb: bin/cue2schema
-	tools/deb.sh bin/cue2schema
+deb: bin/cue2schema | toolchain
+	tools/deb.sh bin/cue2schema "$$(rt version)"
 
 clean:
 	rm -rf bin dist proved.log crates/*/out

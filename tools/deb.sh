@@ -1,15 +1,15 @@
 #!/bin/sh
-# Packs the program as a Debian package, dist/cue2schema_VERSION_amd64.deb: the program in /usr/bin, its manual pages, and the pages and
-# examples in /usr/share/doc/cue2schema. The same program at the same commit makes the same bytes. Needs dpkg-deb.
+# Packs the program as a Debian package, dist/cue2schema_VERSION_amd64.deb: the program in /usr/bin, its manual pages, and README.md,
+# docs/, examples/ and PROVED-WITH in /usr/share/doc/cue2schema. The same program at the same commit makes the same bytes. The maintainer
+# is the author of the last commit, or what MAINTAINER="NAME <ADDRESS>" says. Needs dpkg-deb.
 #
-#     tools/deb.sh PROGRAM        MAINTAINER="NAME <ADDRESS>" where it isn't the author of the last commit
+#     tools/deb.sh PROGRAM [PROVED]        what `rt version` prints; without it PROVED-WITH says that nothing is proved of the program
 set -eu
 . "$(dirname "$0")/release.sh"
 package=$room/package
-pages=$package/usr/share/doc/cue2schema
 
 tools/install.sh "$program" "$package/usr"
-put_pages "$pages"
+put_pages "$package/usr/share/doc/cue2schema"
 mkdir "$package/DEBIAN"
 (cd "$package" && find usr -type f -print0 | sort -z | xargs -0 md5sum > DEBIAN/md5sums)
 cat > "$package/DEBIAN/control" << END
@@ -17,7 +17,7 @@ Package: cue2schema
 Version: $version
 Architecture: amd64
 Maintainer: ${MAINTAINER:-$(git log -1 --format='%an <%ae>')}
-Installed-Size: $(du -sk --apparent-size "$package/usr" | cut -f 1)
+Installed-Size: $(find "$package/usr" -type f -printf '%s\n' | awk '{ size += int(($1 + 1023) / 1024) } END { print size }')
 Depends: libc6 (>= 2.34)
 Section: utils
 Priority: optional
