@@ -17,14 +17,18 @@
 #                 and `validate` against few and many rules, with what a judgement takes beyond reading on small, medium
 #                 and large ones, of `export` near the limits of packages, of `vet --lines` over 1,000,000 lines, and of `--why`
 #                 beside the verdict alone
-# make install    copies the program to $(PREFIX)/bin
+# make man        writes the manual pages, cue2schema(1) and cue2schema-refusals(7), from docs/ into bin/man, and prints what groff has
+#                 against them, where there is one: man -M bin/man cue2schema shows them
+# make install    copies the program to $(PREFIX)/bin and its manual pages to $(PREFIX)/share/man
+# make dist       packs the program with its pages and examples as dist/cue2schema-VERSION-linux-x86_64.tar.gz
+# make deb        packs it as a package of Debian, dist/cue2schema_VERSION_amd64.deb
 # JOBS=4 works on four crates or runs at once; there are as many as processors where it isn't given
 PREFIX ?= /usr/local
 JOBS ?= $(shell nproc)
 SOURCES := crates.txt $(shell find crates -name out -prune -o \( -name '*.rt' -o -name '*.antt' \) -print)
 BUILT := crates/cue2schema/out/cue2schema
 
-.PHONY: all run try test cases examples edits memory hostile bench install clean toolchain
+.PHONY: all run try test cases examples edits memory hostile bench man install dist deb clean toolchain
 
 all: bin/cue2schema
 
@@ -84,11 +88,21 @@ bench: bin/cue2schema | toolchain
 	sh bench/lines.sh bin/cue2schema
 	sh bench/why.sh bin/cue2schema
 
+man:
+	tools/manual.py bin/man
+	@if command -v groff > /dev/null; then groff -man -Tutf8 -ww -z bin/man/man1/cue2schema.1 bin/man/man7/cue2schema-refusals.7; fi
+
 install: bin/cue2schema
-	install -D -m 755 bin/cue2schema $(DESTDIR)$(PREFIX)/bin/cue2schema
+	tools/install.sh bin/cue2schema $(DESTDIR)$(PREFIX)
+
+dist: bin/cue2schema | toolchain
+	tools/dist.sh bin/cue2schema "$$(rt version)"
+
+deb: bin/cue2schema | toolchain
+	tools/deb.sh bin/cue2schema "$$(rt version)"
 
 clean:
-	rm -rf bin proved.log crates/*/out
+	rm -rf bin dist proved.log crates/*/out
 
 toolchain:
 	@command -v rt > /dev/null || { echo "cue2schema is built with Rattle: put its command 'rt' on the PATH (its kit has it as bin/rt)" >&2; exit 1; }
