@@ -59,13 +59,13 @@ fn write_listing(
     form: Form,
 ) -> Result<u8, Fault> {
     let package = accepted_package(rt.alloc(), &slices_of(rt.alloc(), sources)?)?;
-    let mut text = String::new(rt.alloc());
+    let mut text = Vec::new(rt.alloc());
     match form {
         Form::Json => put_listing_json(rt.alloc(), named, &package, &mut text)?,
         Form::Lines | Form::Flag | Form::Basic => {
             put_listing(rt.alloc(), named, &package, &mut text)?;
         },
     }
-    print(rt, text.as_bytes())?;
+    print(rt, &text)?;
     Ok(0)
 }
