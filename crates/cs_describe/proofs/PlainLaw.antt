@@ -16,7 +16,7 @@ use Rattle.cs_profile.specs.Loops.{NoLoop}
 use Rattle.cs_profile.specs.Shapes.{form_in}
 use Rattle.cs_profile.proofs.Meanings.{one_meaning}
 use Rattle.cs_describe.specs.Plain.{as_schema, plain_by, plain_schema, plain_members, plain_values, plain_value, plain}
-use Rattle.cs_describe.specs.Meaning.{KeepsMeaning, SameValidity}
+use Rattle.cs_describe.specs.Meaning.{SameValidity}
 use Rattle.cs_describe.proofs.PlainDefined.{elements_plain, below, entries_plain, property_keys, properties_plain, places_plain, defined_plain}
 use Rattle.cs_describe.proofs.PlainLoops.{no_loop_plain, no_loop_full}
 
@@ -125,7 +125,7 @@ at_root (object ms) V W v w e x =
     ∙ sym (members_alike (object ms) (plain (object ms)) (defined_plain (object ms)) (λ p. W p x) (λ y p. W p y) x true ms) ∙ sym (w (plain (object ms)) x)
 at_root d V W v w e x = e d x
 
-pub keeps_meaning : (d : Document) → NoLoop d → KeepsMeaning d
+keeps_meaning : (d : Document) → NoLoop d → SameValidity d (plain d)
 keeps_meaning d none V W v w = at_root d V W v w ((one_meaning d none).only V (λ s x. W (plain_schema s) x) v (plain_validity d W w))
 
 -- two schema documents that are the same without descriptions validate the same

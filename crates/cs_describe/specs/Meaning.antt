@@ -2,12 +2,7 @@
 use Rattle.std.specs.Prelude.{◌≡◌, Bool}
 use Rattle.cs_document.specs.Document.{Document}
 use Rattle.cs_profile.specs.Validity.{IsValidity}
-use Rattle.cs_describe.specs.Plain.{plain}
 
 -- two schema documents validate the same documents
 abbrev pub SameValidity : Document → Document → Type 0
 SameValidity d e = (V W : Document → Document → Bool) → IsValidity d V → IsValidity e W → (x : Document) → V d x ≡ W e x
-
--- a schema document validates what it does without its descriptions
-abbrev pub KeepsMeaning : Document → Type 0
-KeepsMeaning d = SameValidity d (plain d)

@@ -2,8 +2,8 @@
 ghost use Rattle.std.specs.Prelude.{◌≡◌, IfOk, OnOk, option_map, codes, if◌then◌else◌};
 ghost use Rattle.std.specs.Str.{bytes_eq};
 ghost use Rattle.cs_document.specs.View.{doc_view, list_view, object_view};
-ghost use Rattle.cs_describe.specs.Described.{described as described_schema, described_members, described_value, described_list, described_elements, described_map, described_named, described_root, described_document, with_text, truth_with_text};
 ghost use Rattle.cs_profile.specs.Profile.{IsSchema};
+ghost use Rattle.cs_describe.specs.Described.{described as described_schema, described_members, described_value, described_list, described_elements, described_map, described_named, described_root, described_document, with_text, truth_with_text};
 ghost use Rattle.cs_describe.specs.Plain.{plain};
 ghost use Rattle.cs_describe.specs.Meaning.{SameValidity};
 
@@ -32,14 +32,10 @@ pub fn described(
     ensures meaning { IfOk result
         (λ d. IsSchema (doc_view doc) → SameValidity (doc_view doc) (doc_view d)) }
 {
-    match doc {
-        Doc::Object(members) => Ok(Doc::Object(describe_root(alloc, members, notes)?)),
-        Doc::Null => Ok(Doc::Null),
-        Doc::Bool(b) => Ok(Doc::Bool(b)),
-        Doc::Int(n) => Ok(Doc::Int(n)),
-        Doc::Text(text) => Ok(Doc::Text(text)),
-        Doc::List(items) => Ok(Doc::List(items)),
-    }
+    let Doc::Object(members) = doc else {
+        return Ok(doc);
+    };
+    Ok(Doc::Object(describe_root(alloc, members, notes)?))
 }
 
 /// The members of the root, with texts for the definitions.
@@ -162,16 +158,13 @@ fn describe_list(alloc: Global, value: Doc, notes: &Vec<Notes>) -> Result<Doc, A
     ensures { IfOk result
         (λ d. doc_view d ≡ described_list notes.now.items (doc_view value)) }
 {
-    match value {
-        Doc::List(items) => Ok(Doc::List(describe_items(alloc, items, notes)?)),
-        Doc::Null => Ok(Doc::Null),
-        Doc::Bool(b) => Ok(Doc::Bool(b)),
-        Doc::Int(n) => Ok(Doc::Int(n)),
-        Doc::Text(text) => Ok(Doc::Text(text)),
-        Doc::Object(members) => Ok(Doc::Object(members)),
-    }
+    let Doc::List(items) = value else {
+        return Ok(value);
+    };
+    Ok(Doc::List(describe_items(alloc, items, notes)?))
 }
 
+/// The schemas, each with the texts at its place.
 #[cycle(describe)]
 fn describe_items(
     alloc: Global,
@@ -200,16 +193,13 @@ fn describe_map(
     ensures { IfOk result
         (λ d. doc_view d ≡ described_map notes.now.entries (doc_view value)) }
 {
-    match value {
-        Doc::Object(members) => Ok(Doc::Object(describe_named(alloc, members, notes)?)),
-        Doc::Null => Ok(Doc::Null),
-        Doc::Bool(b) => Ok(Doc::Bool(b)),
-        Doc::Int(n) => Ok(Doc::Int(n)),
-        Doc::Text(text) => Ok(Doc::Text(text)),
-        Doc::List(items) => Ok(Doc::List(items)),
-    }
+    let Doc::Object(members) = value else {
+        return Ok(value);
+    };
+    Ok(Doc::Object(describe_named(alloc, members, notes)?))
 }
 
+/// The schemas by their labels, each with the texts under its label.
 #[cycle(describe)]
 fn describe_named(
     alloc: Global,

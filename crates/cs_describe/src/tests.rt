@@ -28,13 +28,11 @@ fn object(alloc: Global, key: &str, value: Doc) -> Result<Doc, AllocError> {
 }
 
 fn with(alloc: Global, doc: Doc, key: &str, value: Doc) -> Result<Doc, AllocError> {
-    match doc {
-        Doc::Object(mut members) => {
-            drop(members.insert(String::from_str(alloc, key)?, value)?);
-            Ok(Doc::Object(members))
-        },
-        doc => Ok(doc),
-    }
+    let Doc::Object(mut members) = doc else {
+        return Ok(doc);
+    };
+    drop(members.insert(String::from_str(alloc, key)?, value)?);
+    Ok(Doc::Object(members))
 }
 
 fn text(alloc: Global, text: &str) -> Result<Doc, AllocError> {
@@ -64,9 +62,10 @@ fn becomes(alloc: Global, schema: Doc, notes: Notes, wanted: Doc) -> Result<bool
 }
 
 #[test]
-fn text_stands_beside_a_reference(rt: HostRuntime) -> Result<(), Fail> {
+fn text_stands_beside_a_reference_in_place_of_another(rt: HostRuntime) -> Result<(), Fail> {
     let alloc = rt.alloc();
     let schema = object(alloc, "$ref", text(alloc, "#/$defs/Q")?)?;
+    let schema = with(alloc, schema, "description", text(alloc, "before")?)?;
     let wanted = object(alloc, "$ref", text(alloc, "#/$defs/Q")?)?;
     let wanted = with(alloc, wanted, "description", text(alloc, "one")?)?;
     assert!(rt; becomes(alloc, schema, notes(alloc, Some("one"))?, wanted)?);
