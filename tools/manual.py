@@ -22,6 +22,7 @@ PLACES = {
     "The schema in an editor": "EXAMPLES",
     "The schema in a gateway": "EXAMPLES",
     "agree as a check in a pipeline": "EXAMPLES",
+    "Recipes": "EXAMPLES",
     "Statuses": "EXIT STATUS",
 }
 # What stands in the manual in place of the name of a page that became one.
@@ -203,7 +204,7 @@ def usage_page(page):
 def refusals_page(page):
     """cue2schema-refusals(7)."""
     found = sections(page)
-    roff = title("cue2schema-refusals", 7, "Refusals of cue2schema", "what the numbers of its refusals mean")
+    roff = title("cue2schema-refusals", 7, "Refusals of cue2schema", "what the numbers of refusals mean")
     roff += [".SH DESCRIPTION", *body(found.pop(""))]
     for name, lines in found.items():
         roff += [heading(".SH", name.upper()), *body(lines)]
