@@ -1,5 +1,5 @@
 use Rattle.std.proofs.Common.{ℕ, List, Vec}
-use Rattle.std.proofs.lemmas.Result.{IfOk-weaker}
+use Rattle.std.proofs.lemmas.Result.{IfOk-weaker, err_from_is_err_and}
 use Rattle.std.specs.declared.alloc.Global.{Global}
 use Rattle.cs_schema.specs.SchemaDocument.{document_of}
 use Rattle.cs_export.specs.Shaped.{IsShaped, ArePackageSchemas}
@@ -18,3 +18,8 @@ returns-clause-found c =
       one_validity = c.one_meaning-2.ensures;
       shaped = shaped;
     }) c.shaped_text.ensures.shaped
+
+pub returns-in_err-package-clause-only : goal.returns-in_err-package-clause-only
+returns-in_err-package-clause-only c = λ E accepted.
+    let p = err_from_is_err_and c.from_residual.result c.from_residual.ensures.1 in
+    rw (p.1, p.2) (c.in_err-package.ensures.only E accepted)
