@@ -2,7 +2,7 @@ use Rattle.std.proofs.Common.{refl}
 use Rattle.cs_export.proofs.shaped.described_if.Goals as goal
 
 pub returns-then-not-is_described-clause-schema : goal.returns-then-not-is_described-clause-schema
-returns-then-not-is_described-clause-schema c = λ is one. record { plain = refl; profile = is; validity = one.only }
+returns-then-not-is_described-clause-schema c = λ is one. record { plain = refl; profile = is; validity = λ V W g h x. one.only V W g h _ x }
 
 pub returns-clause-schema : goal.returns-clause-schema
 returns-clause-schema c = λ is one. record {
