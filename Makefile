@@ -3,8 +3,9 @@
 # make try        runs the program from its sources without the proofs, in about a minute: on examples/port.cue, or as
 #                 make try ARGS="vet --root '#P' --doc d.json port.cue"
 # make test       the gate: every proof from nothing, the must-fail edits, the tests, the program's stored run and its cases
-# make cases      the cases of the program alone, what the pages for users show, what needs pipes, rights or special files, and
-#                 how many faults of ordinary CUE `check` tells
+# make cases      the cases of the program alone, the packages of examples/, what the pages for users show, what needs pipes, rights
+#                 or special files, and how many faults of ordinary CUE `check` tells
+# make examples   the packages of examples/ alone: their schemas, verdicts and reasons, and what their pages show
 # make edits      the edits that the gate doesn't try, of the crates that differ from what landed last: from the commit where this
 #                 branch left the one that it tracks, or from SINCE=REV; CRATES="cs_x cs_y" for those of some crates, ALL=1 for all
 # make memory     runs each command, and each step from bytes to a file or a document, with each of its growths of memory refused
@@ -27,7 +28,7 @@ JOBS ?= $(shell nproc)
 SOURCES := crates.txt $(shell find crates -name out -prune -o \( -name '*.rt' -o -name '*.antt' \) -print)
 BUILT := crates/cue2schema/out/cue2schema
 
-.PHONY: all run try test cases edits memory hostile bench man install dist deb clean toolchain
+.PHONY: all run try test cases examples edits memory hostile bench man install dist deb clean toolchain
 
 all: bin/cue2schema
 
@@ -46,9 +47,10 @@ try: | toolchain
 run: bin/cue2schema
 	bin/cue2schema export --root '#P' < examples/port.cue
 
-# All five run, also where one fails.
-answers = tools/cases.sh $(1); cases=$$?; tools/pages.sh $(1); pages=$$?; tools/explained.py $(1); rows=$$?; \
-	tools/natural.py $(1); natural=$$?; tools/commands.sh $(1) && [ $$cases$$pages$$rows$$natural = 0000 ]
+# All six run, also where one fails.
+answers = tools/cases.sh $(1); cases=$$?; tools/examples.sh $(1); examples=$$?; tools/pages.sh $(1); pages=$$?; \
+	tools/explained.py $(1); rows=$$?; tools/natural.py $(1); natural=$$?; \
+	tools/commands.sh $(1) && [ $$cases$$examples$$pages$$rows$$natural = 00000 ]
 
 # The gate leaves the program that it built; the cases never run on one that is older than a source.
 test: | toolchain
@@ -61,6 +63,9 @@ test: | toolchain
 
 cases: bin/cue2schema
 	@$(call answers,bin/cue2schema)
+
+examples: bin/cue2schema
+	@tools/examples.sh bin/cue2schema; examples=$$?; tools/pages.sh bin/cue2schema examples/*/README.md && [ $$examples = 0 ]
 
 edits: | toolchain
 	tools/edits.py --fit

@@ -371,6 +371,39 @@ try valid '"$program" validate --format json --schema keyword.json --doc one > o
 try valid '"$program" validate --format json --schema names.json --doc many.json > out.json || true; run vet --root "#Output" --doc out.json output.cue'
 try valid '"$program" validate --format basic --schema names.json --doc many.json > out.json || true; run validate --schema output.schema.json --doc out.json'
 
+# A schema in a file: written beside it and renamed, so that a refused run leaves the old file. Nothing is left beside it.
+try_run 0 "$port_text" '' 'run export --root "#P" -o new.json port.cue; cat new.json; ls new.json.*.new'
+try_run 0 "$port_text" '' 'run export --root "#P" --output=new.json port.cue; cat new.json'
+echo old > kept.json
+try_run 2 'old' 'error 13' 'run export --root "#Q" -o kept.json port.cue; cat kept.json'
+try_run 2 'old' 'error 4 at 9' 'run export --describe --all -o kept.json syntax.cue; cat kept.json'
+try_run 4 'old' 'error 30' 'run export --root "#P" -o kept.json missing.cue; cat kept.json'
+try_run 3 'old' "error: the following required arguments were not provided:
+  --root <'#NAME'>
+
+Usage: cue2schema export --root <'#NAME'> -o kept.json <FILE>...
+
+For more information, try '--help'." 'run export -o kept.json port.cue; cat kept.json'
+chmod 640 kept.json
+try_run 0 "640
+$port_text" '' 'run export --root "#P" -o kept.json port.cue; stat -c %a kept.json; cat kept.json'
+printf 'mine\n' > taken.json.0.new
+try_run 0 "mine
+$port_text" '' 'run export --root "#P" -o taken.json port.cue; cat taken.json.0.new taken.json'
+ln -s linked.json link.json
+echo old > linked.json
+try_run 0 "link.json
+$port_text" '' 'run export --root "#P" -o link.json port.cue; find . -name "link.json" -type l | cut -c 3-; cat linked.json'
+try "$port" 'run export --root "#P" -o /dev/stdout port.cue'
+try 'error 31' 'run export --root "#P" -o /dev/full port.cue'
+try 'error 31' 'run export --root "#P" -o folder port.cue'
+try 'error 31' 'run export --root "#P" -o missing/new.json port.cue'
+
+# A comment of 64 KiB becomes one description.
+{ printf '// '; head -c 65536 /dev/zero | tr '\0' 'x'; printf '\n#P: int'; } > long.cue
+{ printf '{"$defs":{"P":{"description":"'; head -c 65536 /dev/zero | tr '\0' 'x'; printf '","type":"integer"}},"$ref":"#/$defs/P",%s}\n' "$dialect"; } > long.json
+try_run 0 '' '' 'run export --describe --root "#P" long.cue | cmp - long.json'
+
 # Rights, which the administrator always has: there the program runs as nobody.
 as=
 if [ "$(id -u)" -eq 0 ]; then as='setpriv --reuid=65534 --regid=65534 --clear-groups'; fi
@@ -394,6 +427,12 @@ if $as "$room/program" --version > "$room/out" 2> "$room/said"; then
     try 'error 30' 'run validate --schema no-rights --doc one'
     try 'error 30' 'run validate --schema true.json --doc no-rights'
     try 'error 30' 'run agree --root "#P" --doc one no-rights'
+    mkdir closed
+    echo old > closed/old.json
+    chmod 755 closed
+    chmod 644 closed/old.json
+    try_run 4 old 'error 31' 'run export --root "#P" -o closed/old.json port.cue; cat closed/old.json'
+    try 'error 31' 'run export --root "#P" -o closed/new.json port.cue'
     chmod 755 folder
 else
     echo 'commands: rights are not tried, since nobody cannot run the program here'

@@ -157,6 +157,23 @@ try '1,000 long names, another root: export --why' 0 'told error 13' \
     'export --why --root #abcdefghijklmnopqrstuvwxyzabcdefghijklmnopqrstuvwxyzabce9 wide.cue'
 awk 'BEGIN { for (i = 0; i < 1000; i++) printf "#a%d: {x: #a%d}\n", i, (i + 1) % 1000 }' > wide.cue
 try 'cycle of 1,000 definitions: export --why' 0 'told error 12' 'export --why --root #a0 wide.cue'
+# Comments, and many definitions and fields, in schemas that people read.
+{ many 300000 '//\n' | sed 's/\\n/\n/g'; printf '\n#A: int\n'; } > wide.cue
+try '300,000 lines of comments: export --describe' 0 '{"A":{"type":"integer"}}' 'export --describe --root #A wide.cue'
+{ printf '#A: {\n'; listed 40000 'a%d: int // x' '\n'; printf '\n}\n'; } > wide.cue
+try '40,000 fields with comments: export --describe' 0 'shows "a39999":{"description":"x","type":"integer"}' \
+    'export --describe --pretty --root #A wide.cue'
+{ printf '#A: int'; many 500 ' // a comment that is not the last one\n#A: int' | sed 's/\\n/\n/g'; } > wide.cue
+try 'a definition declared 501 times: export --describe' 0 'shows a comment that is not the last one' 'export --describe --all wide.cue'
+listed 8000 '#a%d: {x: #a0}' '\n' > wide.cue
+try '8,000 definitions: export --openapi' 0 'shows "a7999":{' 'export --openapi --describe --pretty wide.cue'
+try '8,000 definitions: list' 0 'shows #a7999: struct' 'list wide.cue'
+awk 'BEGIN { for (i = 0; i < 1000; i++) printf "#a%d: #a%d & #a%d\n", i, i + 1, i + 1; print "#a1000: int" }' > wide.cue
+try 'chain of 1,000 definitions, twice each: list' 0 'error 16' 'list wide.cue'
+awk 'BEGIN { for (i = 0; i < 60; i++) printf "#a%d: #a%d & #a%d\n", i, i + 1, i + 1; print "#a60: int" }' > wide.cue
+try 'chain of 60 definitions, twice each: list' 0 'shows #a0: int' 'list wide.cue'
+nested 28 '[' '' ']' | sed 's/^/#A: /' > wide.cue
+try '28 nested lists: export --pretty' 0 'shows "items": false' 'export --pretty --describe --root #A wide.cue'
 { printf '['; many 10000000 '1,'; printf '1.5]'; } > numbers
 try '10,000,000 numbers, the last with a fraction' 0 'told error 26' 'vet --why --root #A --doc numbers any.cue'
 { printf '{"allOf":['; many 1000000 'true,'; printf '{"pattern":""}]}'; } > wide

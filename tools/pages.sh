@@ -4,8 +4,8 @@
 #
 #     tools/pages.sh PROGRAM [PAGE..]        pages of the repository; those for users where none is named
 #
-# - The blocks `sh` and `console` of a page are run in their order by one shell, in an empty folder, with the program on the
-#   PATH as `cue2schema`. A block `sh` has to end with status 0. A line of a `console` block that begins with `$ ` is a
+# - The blocks `sh` and `console` of a page are run in their order by one shell, in an empty folder, or for a page of a folder of
+#   examples/ in a copy of that folder, with the program on the PATH as `cue2schema`. A block `sh` has to end with status 0. A line of a `console` block that begins with `$ ` is a
 #   command, and the lines up to the next one are all that it prints.
 # - In a table with a column `answer`, the column before it has the input: a `source`, a `schema` or a `document`. A cell that
 #   begins with code is run, and its answer has to be the one in the row. What stands in a column `write instead` has to be
@@ -132,7 +132,10 @@ row() {
 
 # page NAME: its commands in one shell, which may end early, then what each of them printed, and each row
 page() {
-    mkdir "$room/here"
+    case $1 in
+        examples/*/*) cp -r "$top/${1%/*}" "$room/here" ;;
+        *) mkdir "$room/here" ;;
+    esac
     parts "$top/$1"
     (cd "$room/here" && room=$room PATH=$room/path:$PATH sh "$room/session") > "$room/stray" 2>&1 || true
     number=0
@@ -157,6 +160,6 @@ mkdir "$room/path"
 : > "$room/out"
 : > "$room/said"
 ln -s "$program" "$room/path/cue2schema"
-[ $# -gt 0 ] || set -- README.md docs/USAGE.md docs/PROFILE.md docs/REFUSALS.md
+[ $# -gt 0 ] || set -- README.md docs/USAGE.md docs/PROFILE.md docs/REFUSALS.md $(cd "$top" && echo examples/*/README.md)
 for name in "$@"; do page "$name"; done
 closing

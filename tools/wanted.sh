@@ -1,4 +1,4 @@
-# What cases.sh, commands.sh, memory.sh and hostile.sh share: whether a run did what is wanted of it. They set `program`, and
+# What cases.sh, examples.sh, commands.sh, memory.sh and hostile.sh share: whether a run did what is wanted of it. They set `program`, and
 # their `run` sets `status`; what it printed stands in $room/out and what it said on standard error in $room/said.
 room=$(mktemp -d)
 trap 'rm -rf "$room"' EXIT

@@ -161,7 +161,8 @@ fn explain<'a>(alloc: Global) -> Result<Command<'a>, AllocError> {
 fn root_of_export<'a>(alloc: Global) -> Result<Arg<'a>, AllocError> {
     root(alloc)
         .required(false)
-        .required_unless_present_any(&["all", "openapi"])
+        .required_unless_present("all")?
+        .required_unless_present("openapi")
 }
 
 fn all<'a>(alloc: Global) -> Result<Arg<'a>, AllocError> {

@@ -16,6 +16,7 @@ use Rattle.cs_compile.specs.Depth.{most_schema_depth}
 use Rattle.cs_compile.specs.Whole.{Compiles}
 use Rattle.cs_guard.specs.Guarded.{IsGuarded}
 use Rattle.cs_guard.specs.Reachable.{Reaches}
+use Rattle.cs_guard.proofs.Walks.{reaches_more}
 use Rattle.std.specs.Option.{option_map_or}
 use Rattle.cs_compile.proofs.Covered.{agreement}
 use Rattle.cs_compile.proofs.Declared.{definition_under}
@@ -30,21 +31,21 @@ module _ (E : Environment) (n : List ℕ) (ms : Members) (are : AreDefinitions E
   -- each definition that n reaches is the schema of its bodies, and no other name is defined
   written : (m : List ℕ) → Reaches E n m → defined (root_of ms n) m ≡ option_map definition_schema (bodies E m)
   written m r =
-      let own = definition_of E n ms are each m r in
+      let own = definition_of E (Reaches E n) (reaches_more E n) ms are each (root_of ms n) (defined-root_of ms n) m r in
       defined-root_of ms n m ∙ own.1 ∙ ap Some own.2.schema ∙ sym (ap (option_map definition_schema) own.2.declared)
 
   nothing_else : (m : List ℕ) → IsSome (defined (root_of ms n) m) → Reaches E n m
   nothing_else m h =
       let found = some_value (under m (entries ms)) (subst (λ (o : Option Document). IsSome o) (defined-root_of ms n m) h) in
-      let own = definition_under E n m ms found.0 are found.1 in
-      own.reached
+      let own = definition_under E (Reaches E n) m ms found.0 are found.1 in
+      own.asked
 
   there : (m : List ℕ) → Reaches E n m → IsSome (defined (root_of ms n) m)
   there m r = subst (λ (o : Option Document). IsSome o) (sym (defined-root_of ms n m)) (each m r)
 
   valid : IsGuarded E → (V : Document → Document → Bool) (I : Rule → Document → Bool) → IsValidity (root_of ms n) V → IsInstance E I → (x : Document) → IsDocument x → V (root_of ms n) x ≡ I (definition n) x
   valid guarded V I g h x is =
-      let own = definition_of E n ms are each n itself in
+      let own = definition_of E (Reaches E n) (reaches_more E n) ms are each (root_of ms n) (defined-root_of ms n) n itself in
       valid-root_of ms n own.0 V g own.1 x
       ∙ ap (λ d. V d x) (own.2.schema ∙ sym (ap (λ o. option_map_or definition_schema o (boolean false)) own.2.declared))
       ∙ agreement E n guarded (root_of ms n) written V g I h (definition n) x is itself

@@ -15,13 +15,14 @@ use Rattle.cs_package.specs.Expression.{Expression, Expressions, operands, Decla
 use Rattle.cs_package.specs.Environment.{Environment}
 use Rattle.cs_compile.proofs.Enumerations.{by_literals, enumeration-depth}
 use Rattle.cs_compile.specs.Translation.{schema_of, schemas_of, declared_schemas, rest_schema, definition_schema, any_of, one_or_all, members_at, labels_of, values_of, properties_of, required_of, unless_empty, closing, struct_schema, fixed, list_schema, of_type, labelled, under_every_key}
-use Rattle.cs_compile.specs.Definitions.{AreDefinitions}
+use Rattle.cs_compile.specs.Definitions.{AreDefinitionsOf, AreDefinitions}
 use Rattle.cs_compile.specs.Grouped.{for_every_key}
 use Rattle.cs_grammar.specs.Limits.{most_height}
 use Rattle.cs_compile.specs.Depth.{most_schema_depth}
 use Rattle.cs_package.specs.Height.{height, height_all, height_fields, height_rest, heights, IsLow}
 use Rattle.cs_compile.proofs.Interval.{by_conjunction, interval-depth}
-use Rattle.cs_compile.proofs.Root.{root_of}
+use Rattle.cs_compile.proofs.Root.{root_of, bare_root}
+use Rattle.cs_guard.specs.Reachable.{Reaches}
 
 max-times : (a b c d : ℕ) → a ≤ 4 * c → b ≤ 4 * d → max a b ≤ 4 * max c d
 max-times a b c d h k = max-le (omega (arith, le-max_left c d)) (omega (arith, le-max_right c d))
@@ -223,12 +224,18 @@ body_schemas-depth (e ∷ es) low =
 definition_schema-depth : (es : List Expression) → heights es ≤ most_height → depth (definition_schema es) ≤ 112
 definition_schema-depth es low = one_or_all-depth (map schema_of es) 110 (body_schemas-depth es low)
 
-definitions-depth : (E : Environment) (root : List ℕ) (ms : Members) → IsLow E → AreDefinitions E root ms → members_depth ms ≤ 112
-definitions-depth E root no_members low h = omega arith
-definitions-depth E root (member n d ms) low h =
+definitions-depth : (E : Environment) (Asked : List ℕ → Type 0) (ms : Members) → IsLow E → AreDefinitionsOf E Asked ms → members_depth ms ≤ 112
+definitions-depth E Asked no_members low h = omega arith
+definitions-depth E Asked (member n d ms) low h =
     let one : depth d ≤ 112 = subst (λ s. depth s ≤ 112) (sym h.0.schema) (definition_schema-depth h.0.operands (low n h.0.operands h.0.declared)) in
-    max-le one (definitions-depth E root ms low h.1)
+    max-le one (definitions-depth E Asked ms low h.1)
 
 -- the root adds two levels
 pub root_of-depth : (E : Environment) (n : List ℕ) (ms : Members) → IsLow E → AreDefinitions E n ms → depth (root_of ms n) ≤ most_schema_depth
-root_of-depth E n ms low h = let within = definitions-depth E n ms low h in two-levels (members_depth ms) most_schema_depth (omega arith)
+root_of-depth E n ms low h = let within = definitions-depth E (Reaches E n) ms low h in two-levels (members_depth ms) most_schema_depth (omega arith)
+
+-- so does the one that asks nothing
+pub bare_root-depth : (E : Environment) (Asked : List ℕ → Type 0) (ms : Members) → IsLow E → AreDefinitionsOf E Asked ms → depth (bare_root ms) ≤ most_schema_depth
+bare_root-depth E Asked no_members low h = omega arith
+bare_root-depth E Asked (member n d ms) low h =
+    let within = definitions-depth E Asked (member n d ms) low h in two-levels (members_depth (member n d ms)) most_schema_depth (omega arith)

@@ -112,7 +112,7 @@ bodies-strong (e ∷ es) m c =
       | inr h ↦ Contains-append_right (strong e) (flat_map strong es) m (bodies-strong es m h)
     ]
 
-module _ (E : Environment) (root : List ℕ) (R : Document) (made : (m : List ℕ) (d : Document) → defined R m ≡ Some d → IsDefinition E root m d) where
+module _ (E : Environment) (Asked : List ℕ → Type 0) (R : Document) (made : (m : List ℕ) (d : Document) → defined R m ≡ Some d → IsDefinition E Asked m d) where
   -- a direct reference of a definition is a strong one of its bodies
   refers_strongly : (m k : List ℕ) → RefersDirectly R m k → RefersStrongly E m k
   refers_strongly m k h = go (defined R m) refl h

@@ -15,6 +15,8 @@ pub mod Enumerations
 pub mod Covered
 pub mod Root
 pub mod Compiled
+pub mod Bare
+pub mod Resolved
 -- the profile, loops and depth
 pub mod InProfile
 pub mod Visited

@@ -1,4 +1,4 @@
--- The root of a compiled schema: a `$ref` beside the definitions.
+-- The root of a compiled schema: a `$ref` beside the definitions, or the definitions alone.
 use Rattle.std.proofs.Common.{◌≡◌, ℕ, List, [], ◌∷◌, ◌++◌, Bool, Some, IsSome, codes, String, Global, refl, ap, ap₂, ◌∙◌}
 use Rattle.std.proofs.Math.Bool.{and-true}
 use Rattle.std.proofs.lemmas.List.{append-nil}
@@ -34,3 +34,30 @@ defined-root_of ms n m = ap (under m) (append-nil (entries ms))
 pub valid-root_of : (ms : Members) (n : List ℕ) (d : Document) (V : Document → Document → Bool) → IsValidity (root_of ms n) V → under n (entries ms) ≡ Some d
     → (x : Document) → V (root_of ms n) x ≡ V d x
 valid-root_of ms n d V g is x = g (root_of ms n) x ∙ rw (defined-root_of ms n n ∙ is) (and-true _)
+
+-- ---- the root that asks nothing
+
+abbrev dialect_alone : Members
+dialect_alone = member (codes "$schema") (text dialect) no_members
+
+-- the root with these definitions alone
+abbrev pub bare_root : Members → Document
+bare_root no_members = object dialect_alone
+bare_root (member n d ms) = object (member (codes "$defs") (object (member n d ms)) dialect_alone)
+
+definitions-beside : (ds : List (String Global × Document)) → with_dialect (with_definitions (unless_no_map ds) (object no_members)) ≡ bare_root (members_of ds)
+definitions-beside [] = refl
+definitions-beside (d ∷ ds) = refl
+
+-- an object without a keyword, put together with definitions
+pub document_of-bare : (s : SchemaValue) → schema_view s.root ≡ object no_members → document_of s ≡ bare_root (members_of (definitions_view s.definitions))
+document_of-bare s root = ap (λ d. with_dialect (with_definitions (unless_no_map (definitions_view s.definitions)) d)) root ∙ definitions-beside (definitions_view s.definitions)
+
+pub defined-bare_root : (ms : Members) (m : List ℕ) → defined (bare_root ms) m ≡ under m (entries ms)
+defined-bare_root no_members m = refl
+defined-bare_root (member n d ms) m = ap (under m) (append-nil (entries (member n d ms)))
+
+-- a reference validates what the definition of its name validates
+pub valid-reference : (R : Document) (n : List ℕ) (d : Document) (V : Document → Document → Bool) → IsValidity R V → defined R n ≡ Some d
+    → (x : Document) → V (reference_to n) x ≡ V d x
+valid-reference R n d V g is x = g (reference_to n) x ∙ rw is (and-true _)

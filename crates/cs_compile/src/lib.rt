@@ -2,6 +2,7 @@
 #![tactic(auto)]
 
 mod atoms;
+mod complete;
 mod elements;
 mod fault;
 mod fields;
@@ -12,5 +13,6 @@ mod operands;
 mod translate;
 mod whole;
 
+pub use complete::compile_all;
 pub use fault::CompileFault;
 pub use whole::compile;

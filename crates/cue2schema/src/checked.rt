@@ -3,6 +3,7 @@ use crate::COMMAND_LINE;
 use crate::compared::compare;
 use crate::explained::{STANDARD_INPUT, names_of};
 use crate::files::read_input;
+use crate::listed::list;
 use crate::refused::print;
 use crate::requests::sources_of;
 use crate::sampled::write_samples;
@@ -28,13 +29,14 @@ pub(crate) fn answer_of_sources(
         "check" => check(rt, words).map(Some),
         "compare" => compare(rt, words).map(Some),
         "explain" => explain(rt, words).map(Some),
+        "list" => list(rt, words).map(Some),
         "samples" => write_samples(rt, words).map(Some),
         _ => Ok(None),
     }
 }
 
 /// The sources with their names.
-fn named<'a>(
+pub(crate) fn named<'a>(
     alloc: Global,
     names: &'a [String],
     sources: &'a [Vec<u8>],

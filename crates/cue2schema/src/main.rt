@@ -4,10 +4,13 @@
 mod checked;
 mod compared;
 mod explained;
+mod exported;
 mod files;
+mod listed;
 mod many;
 mod reasons;
 mod refused;
+mod replaced;
 mod requests;
 mod sampled;
 mod sides;
@@ -18,6 +21,7 @@ use clap::ArgMatches;
 use clap::error::ErrorKind;
 use cs_tool::{Fault, Request, command, run, write_fault};
 use explained::answer_with_reasons;
+use exported::{export_shaped, is_shaped};
 use many::answer_many;
 use reasons::{are_at_odds, reasons_of};
 use refused::export_or_tell;
@@ -71,6 +75,9 @@ fn answered(rt: &HostRuntime, matches: &ArgMatches<'_>) -> Result<u8, Fault> {
         }
         if command == "export" && words.get_flag("why_refused") {
             return export_or_tell(rt, words);
+        }
+        if command == "export" && is_shaped(words) {
+            return export_shaped(rt, words);
         }
         if let Some(reasons) = reasons_of(words) {
             return Ok(answer_with_reasons(rt, command, words, reasons)?.unwrap_or(COMMAND_LINE));

@@ -1,11 +1,12 @@
 // Refusals with what they mean.
 use crate::explained::{STANDARD_INPUT, names_of, sources_by_name};
+use crate::exported::write_schema;
 use crate::requests::{root_of, sources_of, word_of};
 use crate::unread::{Unread, sizes_of, unread_file};
 use clap::ArgMatches;
 use cs_judge::{Form, Named};
 use cs_refusals::{About, why_refused, write_refusal_json};
-use cs_tool::{Fault, Rules, export, write_fault, write_fault_json};
+use cs_tool::{Fault, Rules, write_fault, write_fault_json};
 use std::alloc::{AllocError, Global};
 use std::io::Write;
 
@@ -157,17 +158,8 @@ fn exported(rt: &HostRuntime, words: &ArgMatches<'_>) -> Result<u8, Fault> {
     let names = names_of(rt.alloc(), words)?;
     let named = sources_by_name(rt.alloc(), &rules, &names)?;
     let about = about_rules(&rules, &named, word_of(words, "root"), "");
-    let answer = export_named(rt, about);
+    let answer = write_schema(rt, words, &texts_of(rt.alloc(), about.sources)?);
     or_told(rt, Form::Lines, about, words, answer)
-}
-
-/// Writes the schema of the root of these sources.
-fn export_named(rt: &HostRuntime, about: About<'_>) -> Result<u8, Fault> {
-    let texts = texts_of(rt.alloc(), about.sources)?;
-    let mut schema = export(rt.alloc(), &texts, about.root)?;
-    schema.push(b'\n')?;
-    print(rt, &schema)?;
-    Ok(0)
 }
 
 /// The texts of sources.

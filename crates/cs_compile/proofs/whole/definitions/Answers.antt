@@ -8,6 +8,7 @@ use Rattle.cs_graph.specs.Chains.{On}
 use Rattle.cs_graph.proofs.Named.{on_map}
 use Rattle.cs_graph.proofs.Places.{on_get}
 use Rattle.cs_guard.specs.Numbered.{name_of}
+use Rattle.cs_guard.specs.Reachable.{Reaches}
 use Rattle.cs_guard.proofs.Numbers.{on_contains, contains_on}
 use Rattle.cs_profile.specs.SchemaDocument.{definitions_view}
 use Rattle.cs_compile.specs.Translation.{definition_schema}
@@ -28,7 +29,7 @@ loop-number-preserved c =
     let bs = map (expression_of (declared_names E)) c.bodies.result.now in
     let here : On (name_of E i) (map (name_of E) c.in_ok-order.order.items) = subst (λ ys. On (name_of E i) (map (name_of E) ys)) c.deref-number-items.ensures.value (on_map (name_of E) i xs (on_get xs k 0 l)) in
     let reached = (c.in_ok-order.ensures.found.each (name_of E i)).0 (on_contains (name_of E i) (map (name_of E) c.in_ok-order.order.items) here) in
-    let own = definition_at E root n i bs reached c.bare_name.ensures.at c.bare_name.ensures.spelled c.bodies.ensures.named c.bodies.ensures.at in
+    let own = definition_at E (Reaches E root) n i bs reached c.bare_name.ensures.at c.bare_name.ensures.spelled c.bodies.ensures.named c.bodies.ensures.at in
     let named : name_of E i ≡ n = ap (λ (o : Option (List ℕ)). unwrap_or o []) c.bare_name.ensures.at in
     let bare : string_bytes c.in_ok-name.name ≡ n = c.in_ok-name.ensures.ok in
     let old = members_of (definitions_view c.loop-number.schemas.entries) in
@@ -37,7 +38,7 @@ loop-number-preserved c =
     ∙ made-insert_entry c.loop-number.schemas.entries c.in_ok-name.name c.in_ok-schema.schema ∙ ap₂ (λ t d. put t d old) bare c.in_ok-schema.ensures in
     record {
       each = λ m o. subst (λ ms. IsSome (under m (entries ms))) (sym grown) (there-more E xs k i n (definition_schema bs) old (take_more xs k 0 l) named c.loop-number.invariant.each m o);
-      alone = subst (AreDefinitions E root) (sym grown) (are_definitions-put E root n (definition_schema bs) own old c.loop-number.invariant.alone);
+      alone = subst (AreDefinitions E root) (sym grown) (are_definitions-put E (Reaches E root) n (definition_schema bs) own old c.loop-number.invariant.alone);
     }
 
 pub returns-clause-each : goal.returns-clause-each

@@ -1,0 +1,3 @@
+-- Which comments are the texts of definitions and fields.
+pub mod Comments
+pub mod Views

@@ -1,0 +1,97 @@
+// The texts of definitions and fields.
+ghost use Rattle.std.specs.Prelude.{◌≡◌, IfOk, reverse, string_bytes};
+ghost use Rattle.std.specs.Option.{option_copied, option_map};
+ghost use Rattle.cs_comments.specs.Comments.{above, comment_on, comments_at, some_text, text_at};
+ghost use Rattle.cs_comments.specs.Views.{each_text, texts_of};
+
+use crate::labels::labels_of;
+use crate::lines::{Line, lines_of};
+use cs_grammar::Token;
+use std::alloc::{AllocError, Global};
+
+/// The comments of the lines that are alone right above a place, which are the last ones.
+fn above<'a>(alloc: Global, lines: &[Line<'a>]) -> Result<Vec<&'a str>, AllocError>
+    ensures { IfOk result (λ v. texts_of v.items ≡ above (reverse lines.now)) }
+{
+    let mut comments = Vec::new(alloc);
+    for place in (0..lines.len()).rev() {
+        match lines[place] {
+            Line::Alone(comment) => comments.push(comment)?,
+            Line::Behind(_) | Line::Plain => break,
+        }
+    }
+    comments.reverse();
+    Ok(comments)
+}
+
+/// The comment on a line.
+fn comment_on<'a>(line: Option<&Line<'a>>) -> Option<&'a str>
+    ensures { each_text result ≡ comment_on (option_copied line.entry) }
+{
+    match line {
+        Some(Line::Alone(comment) | Line::Behind(comment)) => Some(*comment),
+        Some(Line::Plain) | None => None,
+    }
+}
+
+/// The comments that are the text of what is declared first on a line.
+fn comments_at<'a>(
+    alloc: Global,
+    lines: &[Line<'a>],
+    line: usize,
+) -> Result<Vec<&'a str>, AllocError>
+    ensures { IfOk result (λ v. texts_of v.items ≡ comments_at lines.now line) }
+{
+    let mut comments = above(alloc, &lines[..line.min(lines.len())])?;
+    if !comments.is_empty() {
+        return Ok(comments);
+    }
+    match comment_on(lines.get(line)) {
+        Some(comment) => {
+            comments.push(comment)?;
+            Ok(comments)
+        },
+        None => Ok(comments),
+    }
+}
+
+/// A text, where it has a character.
+fn some_text(text: String) -> Option<String>
+    ensures { option_map string_bytes result ≡ some_text (string_bytes text) }
+{
+    if text.is_empty() { None } else { Some(text) }
+}
+
+/// The text of what is declared first on a line: the comments of the run of lines that are alone right above it, each a line
+/// of the text, or else the comment on the line itself. None where that has no character.
+///
+/// # Errors
+/// Memory ran out.
+pub fn text_at(alloc: Global, lines: &[Line<'_>], line: usize) -> Result<Option<String>, AllocError>
+    ensures { IfOk result (λ t. option_map string_bytes t ≡ text_at lines.now line) }
+{
+    let comments = comments_at(alloc, lines, line)?;
+    Ok(some_text(comments.join(alloc, "\n")?))
+}
+
+/// The text of each definition and each field, where it has one, in the order of their colons: a definition, then the fields in
+/// it, depth first. Of those whose labels begin on one line only the first has a text. It reads the source once.
+///
+/// # Errors
+/// Memory ran out.
+pub fn texts_of(
+    alloc: Global,
+    source: &str,
+    tokens: &[Token<'_>],
+) -> Result<Vec<Option<String>>, AllocError> {
+    let lines = lines_of(alloc, source, tokens)?;
+    let mut texts = Vec::new(alloc);
+    for label in labels_of(alloc, source, tokens)? {
+        if label.is_first {
+            texts.push(text_at(alloc, &lines, label.line)?)?;
+        } else {
+            texts.push(None)?;
+        }
+    }
+    Ok(texts)
+}

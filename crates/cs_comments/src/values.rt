@@ -1,0 +1,129 @@
+// The notes of values, as their translation to schemas has places for them.
+use crate::declared::Declarations;
+use crate::notes::no_notes;
+use cs_describe::Notes;
+use cs_grammar::{Expr, Field, FieldMark, ListEnd};
+use std::alloc::{AllocError, Global};
+use std::vec::IntoIter;
+
+/// The texts of the definitions and fields of a source that are still to come, in its order.
+#[derive(Drop)]
+pub(crate) struct Texts {
+    left: IntoIter<Option<String>>,
+}
+
+impl Texts {
+    pub(crate) fn new(texts: Vec<Option<String>>) -> Texts {
+        Texts {
+            left: texts.into_iter(),
+        }
+    }
+
+    /// The text of the next definition or field.
+    pub(crate) fn take(&mut self) -> Option<String> {
+        self.left.next()?
+    }
+}
+
+/// The notes of a value; the texts to come are those of the fields in it.
+#[cycle(values)]
+pub(crate) fn notes_of_value(
+    alloc: Global,
+    value: &Expr,
+    texts: &mut Texts,
+) -> Result<Notes, AllocError> {
+    let mut notes = no_notes(alloc);
+    match value {
+        Expr::And(operands) => notes.all_of = notes_of_each(alloc, operands, texts)?,
+        Expr::Or(operands) => notes.any_of = notes_of_each(alloc, operands, texts)?,
+        Expr::Paren(inside) => return notes_of_value(alloc, inside, texts),
+        Expr::Struct { fields, .. } => return notes_of_fields(alloc, fields, texts),
+        Expr::List { front, end } => {
+            notes.prefix = notes_of_each(alloc, front, texts)?;
+            notes.rest = notes_of_rest(alloc, end, texts)?;
+        },
+        Expr::Top
+        | Expr::Bottom
+        | Expr::Null
+        | Expr::Bool(_)
+        | Expr::Int(_)
+        | Expr::Text(_)
+        | Expr::Name { .. }
+        | Expr::Reference { .. }
+        | Expr::Bound { .. }
+        | Expr::NotInt(_)
+        | Expr::NotText(_)
+        | Expr::NotNull => {},
+    }
+    Ok(notes)
+}
+
+/// The notes of some values, in order.
+#[cycle(values)]
+fn notes_of_each(
+    alloc: Global,
+    values: &[Expr],
+    texts: &mut Texts,
+) -> Result<Vec<Notes>, AllocError> {
+    let mut each = Vec::with_capacity(alloc, values.len())?;
+    for value in values {
+        each.push(notes_of_value(alloc, value, texts)?)?;
+    }
+    Ok(each)
+}
+
+/// The notes of what is behind the fixed elements of a list.
+#[cycle(values)]
+fn notes_of_rest(
+    alloc: Global,
+    end: &ListEnd,
+    texts: &mut Texts,
+) -> Result<Option<Box<Notes>>, AllocError> {
+    match end {
+        ListEnd::Each(value) => {
+            let notes = notes_of_value(alloc, value, texts)?;
+            Ok(Some(Box::new(alloc, notes)?))
+        },
+        ListEnd::Closed | ListEnd::Any => Ok(None),
+    }
+}
+
+/// The notes of a struct: under `properties` those of its labels, and for each `[string]: T` one under `allOf`.
+#[cycle(values)]
+fn notes_of_fields(
+    alloc: Global,
+    fields: &[Field],
+    texts: &mut Texts,
+) -> Result<Notes, AllocError> {
+    let mut notes = no_notes(alloc);
+    let mut labels = Declarations::new(alloc);
+    for field in fields {
+        let text = texts.take();
+        let value = notes_of_value(alloc, &field.value, texts)?;
+        match field.mark {
+            FieldMark::Every { .. } => {
+                notes
+                    .all_of
+                    .push(notes_under_every_key(alloc, text, value)?)?;
+            },
+            FieldMark::Regular | FieldMark::Optional | FieldMark::Required => {
+                labels.add(alloc, field.label.clone()?, text, value)?;
+            },
+        }
+    }
+    notes.properties = labels.into_notes(alloc)?;
+    Ok(notes)
+}
+
+/// The notes of `[string]: T`, by its text and the notes of T.
+fn notes_under_every_key(
+    alloc: Global,
+    text: Option<String>,
+    value: Notes,
+) -> Result<Notes, AllocError> {
+    let mut value = value;
+    value.text = text;
+    let mut notes = no_notes(alloc);
+    notes.additional = Some(Box::new(alloc, value)?);
+    Ok(notes)
+}

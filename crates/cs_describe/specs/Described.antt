@@ -1,0 +1,115 @@
+-- The descriptions that are put into a schema's document (JSON Schema Validation 2020-12, section 9.1; which schema gets which
+-- text is an own rule).
+use Rattle.std.specs.Prelude.{ℕ, List, [], ◌∷◌, map, true, false, Option, Some, None, option_map, codes, String, string_bytes, if◌then◌else◌}
+use Rattle.std.specs.Str.{bytes_eq}
+use Rattle.std.specs.declared.alloc.Global.{Global}
+use Rattle.cs_document.specs.Document.{Document, null, boolean, integer, text, list, object, Documents, no_documents, document, Members, no_members, member, under, put}
+use Rattle.cs_profile.specs.Keywords.{keywords}
+use Rattle.cs_profile.specs.declared.keyword.Keyword.{Keyword}
+use Rattle.cs_profile.specs.declared.keyword.Keyword.TheVariants as keyword
+use Rattle.cs_describe.specs.declared.notes.Notes.{Notes, out-Notes}
+
+-- an object as schema, and the schema `true`, with a text
+abbrev pub with_text : Option (String Global) → Members → Members
+with_text None ms = ms
+with_text (Some t) ms = put (codes "description") (text (string_bytes t)) ms
+
+abbrev pub truth_with_text : Option (String Global) → Document
+truth_with_text None = boolean true
+truth_with_text (Some t) = object (member (codes "description") (text (string_bytes t)) no_members)
+
+-- the texts for the schemas of a list, in their order: for the first, and for the others
+abbrev pub front_notes : List Notes → Option Notes
+front_notes [] = None
+front_notes (n ∷ ns) = Some n
+
+abbrev pub further_notes : List Notes → List Notes
+further_notes [] = []
+further_notes (n ∷ ns) = ns
+
+-- the texts for the schema under a label
+abbrev pub labelled_notes : List ℕ → List (String Global × Notes) → Option Notes
+labelled_notes k ns = under k (map (λ m. (string_bytes m.0, m.1)) ns)
+
+-- an answer for each keyword in whose schemas texts are put
+pub record ByKeyword : Type 0 where
+  pub properties : Document
+  pub all_of : Document
+  pub any_of : Document
+  pub prefix : Document
+  pub rest : Document
+  pub additional : Document
+  pub other : Document
+
+abbrev pub by_keyword : Option Keyword → ByKeyword → Document
+by_keyword (Some keyword.Properties) answers = answers.properties
+by_keyword (Some keyword.AllOf) answers = answers.all_of
+by_keyword (Some keyword.AnyOf) answers = answers.any_of
+by_keyword (Some keyword.PrefixItems) answers = answers.prefix
+by_keyword (Some keyword.Items) answers = answers.rest
+by_keyword (Some keyword.AdditionalProperties) answers = answers.additional
+by_keyword _ answers = answers.other
+
+abbrev mutual
+  -- a schema with its texts; `false` stays, and so does what is no schema
+  pub described : Option Notes → Document → Document
+  described None d = d
+  described (Some n) (object ms) = object (with_text (out-Notes n).text (described_members n ms))
+  described (Some n) (boolean true) = truth_with_text (out-Notes n).text
+  described (Some n) (boolean false) = boolean false
+  described (Some n) null = null
+  described (Some n) (integer z) = integer z
+  described (Some n) (text s) = text s
+  described (Some n) (list ds) = list ds
+
+  pub described_members : Notes → Members → Members
+  described_members n no_members = no_members
+  described_members n (member k v ms) =
+      member k (by_keyword (under k keywords) (record {
+        properties = described_map (out-Notes n).properties.entries v;
+        all_of = described_list (out-Notes n).all_of.items v;
+        any_of = described_list (out-Notes n).any_of.items v;
+        prefix = described_list (out-Notes n).prefix.items v;
+        rest = described (option_map (λ b. b.value) (out-Notes n).rest) v;
+        additional = described (option_map (λ b. b.value) (out-Notes n).additional) v;
+        other = v;
+      }))
+      (described_members n ms)
+
+  pub described_list : List Notes → Document → Document
+  described_list ns (list ds) = list (described_elements ns ds)
+  described_list ns d = d
+
+  pub described_elements : List Notes → Documents → Documents
+  described_elements ns no_documents = no_documents
+  described_elements ns (document d ds) = document (described (front_notes ns) d) (described_elements (further_notes ns) ds)
+
+  pub described_map : List (String Global × Notes) → Document → Document
+  described_map ns (object ms) = object (described_named ns ms)
+  described_map ns d = d
+
+  pub described_named : List (String Global × Notes) → Members → Members
+  described_named ns no_members = no_members
+  described_named ns (member k v ms) = member k (described (labelled_notes k ns) v) (described_named ns ms)
+
+-- the value of a keyword; for private contracts alone
+abbrev pub described_value : Option Keyword → Notes → Document → Document
+described_value o n v = by_keyword o (record {
+  properties = described_map (out-Notes n).properties.entries v;
+  all_of = described_list (out-Notes n).all_of.items v;
+  any_of = described_list (out-Notes n).any_of.items v;
+  prefix = described_list (out-Notes n).prefix.items v;
+  rest = described (option_map (λ b. b.value) (out-Notes n).rest) v;
+  additional = described (option_map (λ b. b.value) (out-Notes n).additional) v;
+  other = v;
+})
+
+-- the members of the root, with texts for the definitions by their names
+abbrev pub described_root : List (String Global × Notes) → Members → Members
+described_root ns no_members = no_members
+described_root ns (member k v ms) = member k (if bytes_eq k (codes "$defs") then described_map ns v else v) (described_root ns ms)
+
+-- a schema document with texts for its definitions by their names
+abbrev pub described_document : List (String Global × Notes) → Document → Document
+described_document ns (object ms) = object (described_root ns ms)
+described_document ns d = d

@@ -1,0 +1,8 @@
+-- What descriptions say of validity: nothing (JSON Schema Validation 2020-12, section 9.1).
+use Rattle.std.specs.Prelude.{◌≡◌, Bool}
+use Rattle.cs_document.specs.Document.{Document}
+use Rattle.cs_profile.specs.Validity.{IsValidity}
+
+-- two schema documents validate the same documents
+abbrev pub SameValidity : Document → Document → Type 0
+SameValidity d e = (V W : Document → Document → Bool) → IsValidity d V → IsValidity e W → (x : Document) → V d x ≡ W e x

@@ -1,0 +1,55 @@
+// The export of a schema from sources, as it is asked for.
+ghost use Rattle.std.specs.Prelude.{◌≡◌, IfOk, IfErr, IsOkUnless};
+ghost use Rattle.cs_package.specs.Environment.{Environment};
+ghost use Rattle.cs_tool.specs.Accepted.{IsAccepted};
+ghost use Rattle.cs_tool.specs.CallRefusals.{ExportRefusal};
+ghost use Rattle.cs_tool.specs.First.{SourcesRefusal};
+ghost use Rattle.cs_tool.specs.Given.{bytes_in};
+ghost use Rattle.cs_tool.specs.Ready.{IsReady};
+ghost use Rattle.cs_export.specs.Shaped.{IsRootSchema, ArePackageSchemas};
+
+use crate::layout::Layout;
+use crate::shaped::shaped_text;
+use cs_compile::{compile, compile_all};
+use cs_guard::Guarded;
+use cs_tool::{Fault, accepted_package, read_root};
+use std::alloc::Global;
+
+/// The text of the schema of the root definition, as it is asked for, without a newline. The root is named with its `#`.
+///
+/// # Errors
+/// What `cs_tool::export` refuses.
+pub fn export_root(
+    alloc: Global,
+    sources: &[&[u8]],
+    root: &str,
+    layout: Layout,
+) -> Result<Vec<u8>, Fault>
+    ensures found { IfOk result (λ text. IsRootSchema (bytes_in sources.now) root.now layout text.items) }
+    ensures refused { IfErr result (λ e. ExportRefusal (bytes_in sources.now) root.now e) }
+    ensures only { IsReady (bytes_in sources.now) root.now → IsOkUnless result Fault.OutOfMemory }
+{
+    let package = read_root(alloc, sources, root)?;
+    let schema = compile(alloc, &package, root)?;
+    cs_instance::one_meaning(&package); // for the proof: there is one instance relation
+    cs_schema::one_meaning(&schema); // for the proof: there is one validity
+    shaped_text(alloc, &schema, sources, layout)
+}
+
+/// The text of the schemas of all definitions, as it is asked for, without a newline: a schema that asks nothing itself, with
+/// every definition of the sources in `$defs`.
+///
+/// # Errors
+/// What `cs_tool::accepted_package` refuses.
+pub fn export_all(alloc: Global, sources: &[&[u8]], layout: Layout) -> Result<Vec<u8>, Fault>
+    ensures found { IfOk result (λ text. ArePackageSchemas (bytes_in sources.now) layout text.items) }
+    ensures refused { IfErr result (λ e. SourcesRefusal (bytes_in sources.now) e) }
+    ensures only { (E : Environment)
+        → IsAccepted (bytes_in sources.now) E → IsOkUnless result Fault.OutOfMemory }
+{
+    let package = accepted_package(alloc, sources)?;
+    let schema = compile_all(alloc, &package)?;
+    cs_instance::one_meaning(&package); // for the proof: there is one instance relation
+    cs_schema::one_meaning(&schema); // for the proof: there is one validity
+    shaped_text(alloc, &schema, sources, layout)
+}

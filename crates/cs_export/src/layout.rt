@@ -1,0 +1,12 @@
+// How a schema is written.
+
+/// How a schema is written. With nothing asked for, it is written as `cs_tool::export` writes it.
+#[derive(Clone, Copy, Debug)]
+pub struct Layout {
+    /// With the comments of definitions and fields as their `description` (JSON Schema Validation 2020-12, section 9.1).
+    pub is_described: bool,
+    /// As components of an OpenAPI document (OpenAPI 3.1, components object), without a root.
+    pub is_openapi: bool,
+    /// With a line for each member and element, indented by two blanks.
+    pub is_pretty: bool,
+}

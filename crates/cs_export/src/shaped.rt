@@ -1,0 +1,78 @@
+// From a schema to the text that is asked for.
+ghost use Rattle.std.specs.Prelude.{◌≡◌, false, IfOk, IsOkUnless};
+ghost use Rattle.cs_document.specs.View.{doc_view};
+ghost use Rattle.cs_schema.specs.Profile.{IsSchema};
+ghost use Rattle.cs_schema.specs.SchemaDocument.{document_of};
+ghost use Rattle.cs_schema.specs.Validity.{OneMeaning};
+ghost use Rattle.cs_export.specs.Shaped.{IsShaped, IsSameSchema, IsTextOf};
+
+use crate::components::components;
+use crate::layout::Layout;
+use cs_comments::notes_of;
+use cs_describe::described;
+use cs_doc::write_doc;
+use cs_document::Doc;
+use cs_pretty::write_pretty;
+use cs_schema::{SchemaDoc, to_doc};
+use cs_tool::Fault;
+use std::alloc::Global;
+
+/// The text of a schema of these sources, without a newline.
+pub(crate) fn shaped_text(
+    alloc: Global,
+    schema: &SchemaDoc,
+    sources: &[&[u8]],
+    layout: Layout,
+) -> Result<Vec<u8>, Fault>
+    ensures shaped { IfOk result (λ text. IsShaped layout (document_of schema.now) text.items) }
+    ensures memory { IsOkUnless result Fault.OutOfMemory }
+{
+    cs_schema::one_meaning(schema); // for the proof: there is one validity
+    let plain = to_doc(alloc, schema)?;
+    let described = described_if(alloc, plain, sources, layout.is_described)?;
+    let shaped = components_if(alloc, described, layout.is_openapi)?;
+    text_of(alloc, &shaped, layout.is_pretty)
+}
+
+/// A schema with the comments of the sources, if they are asked for.
+fn described_if(
+    alloc: Global,
+    doc: Doc,
+    sources: &[&[u8]],
+    is_described: bool,
+) -> Result<Doc, Fault>
+    ensures schema { IfOk result (λ d. IsSchema (doc_view doc) → OneMeaning (doc_view doc)
+        → IsSameSchema (doc_view doc) (doc_view d)) }
+    ensures same { is_described ≡ false → IfOk result (λ d. d ≡ doc) }
+    ensures memory { IsOkUnless result Fault.OutOfMemory }
+{
+    if !is_described {
+        return Ok(doc);
+    }
+    let notes = notes_of(alloc, sources)?;
+    Ok(described(alloc, doc, &notes)?)
+}
+
+/// A schema's definitions as components, if they are asked for.
+fn components_if(alloc: Global, doc: Doc, is_openapi: bool) -> Result<Doc, Fault>
+    ensures same { is_openapi ≡ false → IfOk result (λ d. d ≡ doc) }
+    ensures memory { IsOkUnless result Fault.OutOfMemory }
+{
+    if is_openapi {
+        Ok(components(alloc, doc)?)
+    } else {
+        Ok(doc)
+    }
+}
+
+/// The text of a document, compact or indented.
+fn text_of(alloc: Global, doc: &Doc, is_pretty: bool) -> Result<Vec<u8>, Fault>
+    ensures written { IfOk result (λ text. IsTextOf (doc_view doc.now) text.items) }
+    ensures memory { IsOkUnless result Fault.OutOfMemory }
+{
+    if is_pretty {
+        Ok(write_pretty(alloc, doc)?)
+    } else {
+        Ok(write_doc(alloc, doc)?)
+    }
+}

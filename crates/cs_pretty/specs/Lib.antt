@@ -1,0 +1,2 @@
+-- The words of the clauses are those of `cs_doc`, `json` and `serde_json`.
+pub use Rattle.cs_doc.specs.Texts
