@@ -16,7 +16,7 @@
 #                 of 50 MB and the largest table, and says how much memory the last two take; then whole runs of `vet`
 #                 and `validate` against few and many rules, with what a judgement takes beyond reading on small, medium
 #                 and large ones, of `export` near the limits of packages, of `vet --lines` over 1,000,000 lines, and of `--why`
-#                 beside the verdict alone
+#                 beside the verdict alone; and at its end the table of docs/PERFORMANCE.md
 # make man        writes the manual pages, cue2schema(1) and cue2schema-refusals(7), from docs/ into bin/man, and prints what groff has
 #                 against them, where there is one: man -M bin/man cue2schema shows them
 # make install    copies the program to $(PREFIX)/bin and its manual pages to $(PREFIX)/share/man
@@ -80,13 +80,7 @@ hostile: bin/cue2schema
 
 bench: bin/cue2schema | toolchain
 	cd crates/cs_bench && rt run < stdin > /dev/null
-	sh bench/front.sh crates/cs_bench/out/cs_bench
-	sh bench/packages.sh crates/cs_bench/out/cs_bench
-	sh bench/documents.sh crates/cs_bench/out/cs_bench
-	sh bench/judges.sh crates/cs_bench/out/cs_bench bin/cue2schema
-	sh bench/exports.sh bin/cue2schema crates/cs_bench/out/cs_bench
-	sh bench/lines.sh bin/cue2schema
-	sh bench/why.sh bin/cue2schema
+	sh bench/table.sh crates/cs_bench/out/cs_bench bin/cue2schema
 
 man:
 	tools/manual.py bin/man

@@ -179,7 +179,7 @@ def usage_line(code):
 
 def synopsis(lines):
     """The command lines of the table of commands."""
-    commands = [re.match(r"\| `(cue2schema [^`]+)` \|", line) for line in lines]
+    commands = [re.match(r"\| `(cue2schema [^`]+)`", line) for line in lines]
     return [line for command in commands if command for line in usage_line(command.group(1))]
 
 

@@ -1,6 +1,6 @@
 #!/bin/sh
-# Tries the recipes of docs/USAGE.md, each where its tools are installed: what is tried are the blocks of that page. A line for each recipe
-# that isn't tried, one for each check that fails, and a closing count. Debian has pre-commit, python3-yaml, python3-jsonschema, nodejs and
+# Tries the recipes of docs/USAGE.md, each where its tools are installed: what is tried are the blocks of that page. A line for each check
+# that fails, one for each recipe, and a closing count. Debian has pre-commit, python3-yaml, python3-jsonschema, nodejs and
 # parallel; ajv 8 is looked for in the folder of modules that NODE_MODULES names too, and an archive of `make dist` in dist/.
 #
 #     tools/recipes.sh PROGRAM
@@ -26,11 +26,11 @@ block() {
     ' "$top/docs/USAGE.md"
 }
 
-# is_there TOOL COMMAND..: whether the command succeeds; where it doesn't, the recipe isn't tried
+# is_there TOOL COMMAND..: whether the command succeeds; where it doesn't, what is left of the recipe isn't tried
 is_there() {
     tool=$1
     shift
-    "$@" > "$room/out" 2>&1 || { echo "$recipe: not tried, there is no $tool here"; return 1; }
+    "$@" > "$room/out" 2>&1 || { missing=$tool; return 1; }
 }
 
 # runs STATUS COMMANDS: whether a shell ends so with these commands
@@ -122,7 +122,7 @@ END2
     if [ -f "${archive#file://}" ] && is_there curl curl --version; then
         check 'the archive is installed' prints 0 'GITHUB_PATH=$PWD/added bash -e install.sh && "$(cat added)/cue2schema" --version' 'cue2schema '
     else
-        echo "$recipe: the archive isn't tried: make dist packs it"
+        missing='archive of make dist'
     fi
 }
 
@@ -206,8 +206,8 @@ try_parallel() {
 }
 
 for recipe in pre_commit workflow yaml ajv draft7 parallel; do
-    before=$passed
+    missing=
     try_$recipe
-    [ "$passed" -eq "$before" ] || echo "$recipe: tried"
+    if [ -z "$missing" ]; then echo "$recipe: tried"; else echo "$recipe: not all of it is tried, since there is no $missing here"; fi
 done
 closing
