@@ -162,7 +162,7 @@ try 'cycle of 1,000 definitions: export --why' 0 'told error 12' 'export --why -
 try '300,000 lines of comments: export --describe' 0 '{"A":{"type":"integer"}}' 'export --describe --root #A wide.cue'
 { printf '#A: {\n'; listed 40000 'a%d: int // x' '\n'; printf '\n}\n'; } > wide.cue
 try '40,000 fields with comments: export --describe' 0 'shows "a39999":{"description":"x","type":"integer"}' \
-    'export --describe --pretty --root #A wide.cue'
+    'export --describe --root #A wide.cue'
 { printf '#A: int'; many 500 ' // a comment that is not the last one\n#A: int' | sed 's/\\n/\n/g'; } > wide.cue
 try 'a definition declared 501 times: export --describe' 0 'shows a comment that is not the last one' 'export --describe --all wide.cue'
 listed 1000 '#a%d: {x: #a0}' '\n' > wide.cue
