@@ -372,7 +372,7 @@ try valid '"$program" validate --format json --schema names.json --doc many.json
 try valid '"$program" validate --format basic --schema names.json --doc many.json > out.json || true; run validate --schema output.schema.json --doc out.json'
 
 # A schema in a file: written beside it and renamed, so that a refused run leaves the old file. Nothing is left beside it.
-try_run 0 "$port_text" '' 'run export --root "#P" -o new.json port.cue; cat new.json; ls new.json.*.new'
+try_run 0 "$port_text" '' 'run export --root "#P" -o new.json port.cue; cat new.json; find . -name "new.json.*"'
 try_run 0 "$port_text" '' 'run export --root "#P" --output=new.json port.cue; cat new.json'
 echo old > kept.json
 try_run 2 'old' 'error 13' 'run export --root "#Q" -o kept.json port.cue; cat kept.json'
@@ -381,7 +381,7 @@ try_run 4 'old' 'error 30' 'run export --root "#P" -o kept.json missing.cue; cat
 try_run 3 'old' "error: the following required arguments were not provided:
   --root <'#NAME'>
 
-Usage: cue2schema export --root <'#NAME'> -o kept.json <FILE>...
+Usage: cue2schema export --output <FILE> --root <'#NAME'> <FILE>...
 
 For more information, try '--help'." 'run export -o kept.json port.cue; cat kept.json'
 chmod 640 kept.json
