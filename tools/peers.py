@@ -1,0 +1,198 @@
+#!/usr/bin/env python3
+"""Has other validators of JSON Schema judge the documents that `samples` writes. A line for each validator that was found, one for
+each wrong verdict, and a closing count of verdicts.
+
+    tools/peers.py PROGRAM [PACKAGE..]        a file is a package, and so are the files of a folder together; where none is named,
+                                              each file of examples/ and of the folders in cases/
+
+Of each definition that `export` takes, up to 1,000 documents of `samples` have to be valid, and up to 1,000 of `samples --invalid`
+invalid: by the definition (`vet`), by the exported schema (`validate`), and by that schema, as it is printed plainly, with
+`--describe --pretty`, with `--all` and with `--openapi`, in each validator of draft 2020-12 that the
+Python has which runs this: `jsonschema`, Debian's package python3-jsonschema, and `openapi_schema_validator`, which reads schemas as
+OpenAPI 3.1 does. Python's integers have no limit and its maps take any key, so what docs/USAGE.md says of other validators excuses no
+verdict here. Other packages of Debian don't read this draft: node-ajv 6, python3-fastjsonschema and libjson-validator-perl 5.
+
+Not part of the gate: it needs what may not be installed, and takes minutes.
+"""
+from __future__ import annotations
+
+import importlib
+import importlib.metadata
+import json
+import re
+import subprocess
+import sys
+import tempfile
+from collections.abc import Callable
+from pathlib import Path
+
+TOP = Path(__file__).resolve().parent.parent
+MOST = 1000
+# The library, the class of its validators, and its package.
+VALIDATORS = [
+    ("jsonschema", "Draft202012Validator", "jsonschema"),
+    ("openapi_schema_validator", "OAS31Validator", "openapi-schema-validator"),
+]
+# A document goes deeper than Python's own limit, by several calls for each level.
+DEEPEST = 20_000
+
+
+def found_validators() -> dict[str, Callable]:
+    """The validators that are installed, by name and version."""
+    found = {}
+    for library, kind, package in VALIDATORS:
+        try:
+            module = importlib.import_module(library)
+        except ImportError:
+            print(f"not installed: {library}")
+            continue
+        if not hasattr(module, kind):
+            print(f"too old: {library} has no {kind}")
+            continue
+        name = f"{library} {importlib.metadata.version(package)}"
+        print(f"found: {name}, {kind}")
+        found[name] = getattr(module, kind)
+    return found
+
+
+class Refused(Exception):
+    """What the program refuses, by its line."""
+
+
+class Package:
+    """The files of a package, and what the program says of them."""
+
+    def __init__(self, program: str, path: Path) -> None:
+        self.program, self.path = program, path
+        self.files = [path] if path.is_file() else sorted(path.glob("*.cue"))
+
+    def run(self, *words: str, text: str = "") -> list[str]:
+        """The lines that a command prints."""
+        run = subprocess.run([self.program, *words], input=text, capture_output=True, encoding="utf-8")
+        if run.returncode not in (0, 1) or run.stderr:
+            raise Refused(run.stderr.strip() or f"status {run.returncode}")
+        return run.stdout.splitlines()
+
+    def on_files(self, command: str, root: str, *words: str, text: str = "") -> list[str]:
+        return self.run(command, "--root", root, *words, "--", *map(str, self.files), text=text)
+
+    def schemas(self) -> dict[str, str]:
+        """The schema of each definition."""
+        schemas = {}
+        sources = "\n".join(file.read_text(encoding="utf-8", errors="replace") for file in self.files)
+        for root in dict.fromkeys(re.findall(r"#\w+", sources)):
+            try:
+                schemas[root] = self.on_files("export", root)[0]
+            except Refused as refusal:
+                # A name in a comment or a text.
+                if str(refusal) != "error 13":
+                    raise
+        return schemas
+
+    def forms(self, root: str, schema: str) -> dict[str, str]:
+        """The schema of a definition as `export` writes it in its other ways; where it has no root, with a reference to the
+        definition beside it."""
+        name = root.removeprefix("#")
+        described = self.on_files("export", root, "--describe", "--pretty")
+        every = self.run("export", "--all", "--describe", "--", *map(str, self.files))
+        components = self.on_files("export", root, "--openapi", "--describe")
+        return {
+            "plainly": schema,
+            "--describe --pretty": "\n".join(described),
+            "--all": json.dumps({**json.loads(every[0]), "$ref": f"#/$defs/{name}"}),
+            "--openapi": json.dumps({**json.loads(components[0]), "$ref": f"#/components/schemas/{name}"}),
+        }
+
+    def samples(self, root: str, *words: str) -> list[str]:
+        return self.on_files("samples", root, "--most", str(MOST), *words)
+
+    def verdicts(self, root: str, schema: str, docs: list[str]) -> dict[str, list[str]]:
+        """The verdicts of `vet` and `validate`."""
+        text = "".join(f"{doc}\n" for doc in docs)
+        with tempfile.NamedTemporaryFile("w", encoding="utf-8") as file:
+            file.write(schema)
+            file.flush()
+            by_schema = self.run("validate", "--schema", file.name, "--lines", text=text)
+        return {"vet": self.on_files("vet", root, "--lines", text=text), "validate": by_schema}
+
+
+def said(is_valid: bool) -> str:
+    return "valid" if is_valid else "invalid"
+
+
+def judged(make: Callable, schema: str, docs: list[str]) -> list[str]:
+    """The verdicts of another validator."""
+    validator = make(json.loads(schema))
+    return [said(validator.is_valid(json.loads(doc))) for doc in docs]
+
+
+class Report:
+    def __init__(self, validators: dict[str, Callable]) -> None:
+        self.validators = validators
+        self.documents = self.passed = self.failed = self.definitions = self.refused = self.limited = 0
+
+    def fail(self, what: str) -> None:
+        self.failed += 1
+        print(what)
+
+    def add(self, package: Package, root: str, schema: str, is_valid: bool) -> None:
+        """The verdicts of the samples of a definition."""
+        where, wanted = f"{package.path} {root}", said(is_valid)
+        try:
+            docs = package.samples(root, *[] if is_valid else ["--invalid"])
+            verdicts = package.verdicts(root, schema, docs)
+            forms = package.forms(root, schema)
+        except Refused as refusal:
+            # Where the search for documents meets its limits, nothing can be judged.
+            self.limited += str(refusal) == "error 17"
+            if str(refusal) != "error 17":
+                self.fail(f"{where}: {wanted} samples: {refusal}")
+            return
+        self.documents += len(docs)
+        for name, make in self.validators.items():
+            for form, text in forms.items():
+                verdicts[f"{name}, {form},"] = judged(make, text, docs)
+        for name, given in verdicts.items():
+            if len(given) != len(docs):
+                self.fail(f"{where}: {name} gives {len(given)} verdicts on {len(docs)} documents")
+            for doc, verdict in zip(docs, given):
+                if verdict == wanted:
+                    self.passed += 1
+                else:
+                    self.fail(f"{where}: {name} says {verdict} of {doc}, a sample that is {wanted}")
+
+    def add_package(self, package: Package) -> None:
+        try:
+            schemas = package.schemas()
+        except Refused:
+            self.refused += 1
+            return
+        for root, schema in schemas.items():
+            self.definitions += 1
+            self.add(package, root, schema, True)
+            self.add(package, root, schema, False)
+
+
+def main(program: str, paths: list[Path]) -> int:
+    sys.setrecursionlimit(DEEPEST)
+    validators = found_validators()
+    if not validators:
+        print("no other validator of draft 2020-12 is installed: nothing was tried")
+        return 1
+    report = Report(validators)
+    for path in paths:
+        report.add_package(Package(program, path))
+    print(f"{report.documents} documents of {report.definitions} definitions; {report.refused} packages are refused by `export`")
+    if report.limited:
+        print(f"{report.limited} times the search for documents met its limits")
+    print(f"{report.passed} passed, {report.failed} failed")
+    return 1 if report.failed or not report.passed else 0
+
+
+if __name__ == "__main__":
+    if len(sys.argv) < 2:
+        sys.exit(__doc__)
+    named = [Path(it) for it in sys.argv[2:]]
+    folders = sorted({file.parent for file in (TOP / "examples").glob("*/*.cue")})
+    stored = [*sorted((TOP / "examples").glob("*.cue")), *folders, *sorted((TOP / "cases").glob("*/*.cue"))]
+    sys.exit(main(str(Path(sys.argv[1]).resolve()), named or stored))
