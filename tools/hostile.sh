@@ -165,7 +165,7 @@ try '40,000 fields with comments: export --describe' 0 'shows "a39999":{"descrip
     'export --describe --root #A wide.cue'
 { printf '#A: int'; many 500 ' // a comment that is not the last one\n#A: int' | sed 's/\\n/\n/g'; } > wide.cue
 try 'a definition declared 501 times: export --describe' 0 'shows a comment that is not the last one' 'export --describe --all wide.cue'
-listed 1000 '#a%d: {x: #a0}' '\n' > wide.cue
+listed 1000 '#a%d: {x?: #a0}' '\n' > wide.cue
 try '1,000 definitions: export --openapi' 0 'shows "a999": {' 'export --openapi --describe --pretty wide.cue'
 try '1,000 definitions: list' 0 'shows #a999: struct' 'list wide.cue'
 awk 'BEGIN { for (i = 0; i < 900; i++) printf "#a%d: #a%d & #a%d\n", i, i + 1, i + 1; print "#a900: int" }' > wide.cue
