@@ -404,6 +404,19 @@ try 'error 31' 'run export --root "#P" -o missing/new.json port.cue'
 { printf '{"$defs":{"P":{"description":"'; head -c 65536 /dev/zero | tr '\0' 'x'; printf '","type":"integer"}},"$ref":"#/$defs/P",%s}\n' "$dialect"; } > long.json
 try_run 0 '' '' 'run export --describe --root "#P" long.cue | cmp - long.json'
 
+# Comments change no schema and no verdict, and without any there is no description. In a text `//` begins none.
+cp "$cases"/describe/one.json .
+for source in "$cases"/describe/*.cue; do
+    case $source in */in-a-text.cue) continue ;; esac
+    cp "$source" with.cue
+    sed 's|//.*||' with.cue > without.cue
+    "$program" export --root '#P' with.cue > with.json
+    "$program" agree --root '#P' --doc one.json with.cue > verdict || true
+    try_run 0 '' '' "run export --root '#P' without.cue | cmp - with.json # $(basename "$source")"
+    try_run 0 '' '' "run export --describe --root '#P' without.cue | cmp - with.json # $(basename "$source")"
+    try "$(cat verdict)" "run agree --root '#P' --doc one.json without.cue # $(basename "$source")"
+done
+
 # Rights, which the administrator always has: there the program runs as nobody.
 as=
 if [ "$(id -u)" -eq 0 ]; then as='setpriv --reuid=65534 --regid=65534 --clear-groups'; fi
