@@ -378,12 +378,7 @@ echo old > kept.json
 try_run 2 'old' 'error 13' 'run export --root "#Q" -o kept.json port.cue; cat kept.json'
 try_run 2 'old' 'error 4 at 9' 'run export --describe --all -o kept.json syntax.cue; cat kept.json'
 try_run 4 'old' 'error 30' 'run export --root "#P" -o kept.json missing.cue; cat kept.json'
-try_run 3 'old' "error: the following required arguments were not provided:
-  --root <'#NAME'>
-
-Usage: cue2schema export --output <FILE> --root <'#NAME'> <FILE>...
-
-For more information, try '--help'." 'run export -o kept.json port.cue; cat kept.json'
+try_run 3 'old' '' 'run export -o kept.json port.cue 2> words; cat kept.json'
 chmod 640 kept.json
 try_run 0 "640
 $port_text" '' 'run export --root "#P" -o kept.json port.cue; stat -c %a kept.json; cat kept.json'
