@@ -131,6 +131,19 @@ nested 28 '[' '' ']' > lists
 deepest="$(nested 27 '{"items":false,"minItems":1,"prefixItems":[' '{"items":false,"type":"array"}' '],"type":"array"}')"
 try 'source of 28 nested lists: export' 0 "{\"A\":$deepest}" 'export --root #A deep.cue'
 try 'source of 28 nested lists: agree' 2408 valid 'agree --root #A --doc lists deep.cue'
+try 'source of 28 nested lists: samples' 0 "lines 0 $(cat lists)" 'samples --root #A deep.cue'
+try 'source of 28 nested lists: samples --invalid' 0 "shows $(nested 27 '[' null ']')" 'samples --invalid --root #A deep.cue'
+try 'source of 28 nested lists against itself: compare' 0 'lines 0 compatible' 'compare --root #A --old deep.cue --new deep.cue'
+{ printf '#A: '; nested 27 '[' int ']'; } > other.cue
+try 'source of 28 nested lists against int: compare --why' 0 \
+    "lines 1 breaking;$(cat lists);document:1:28: $(many 27 /0): found a list, want int [other.cue:1:32 #A$(many 27 '[0]')]" \
+    'compare --why --root #A --old deep.cue --new other.cue'
+printf '#A: [...#A]' > other.cue
+nested 126 '[' 0 ']' > lists
+try '126 nested lists, a number inside: vet --why' 254 "lines 1 invalid;lists:1:127: $(many 126 /0): found 0, want a list [other.cue:1:5 #A]" \
+    'vet --why --root #A --doc lists other.cue'
+try '126 nested lists, a number inside: vet --why=all' 254 \
+    "lines 1 invalid;lists:1:127: $(many 126 /0): found 0, want a list [other.cue:1:5 #A]" 'vet --why=all --root #A --doc lists other.cue'
 { printf '#A: ['; many 1499 "$(nested 26 '[' '' ']'),"; nested 26 '[' '' ']'; printf ']'; } > deep.cue
 { printf '['; many 99 'null,'; printf 'null]'; } > nulls
 try '1,500 times 26 nested lists, 101 values: vet' 3939202 invalid 'vet --root #A --doc nulls deep.cue'
@@ -196,6 +209,9 @@ try 'source of 1,048,572 open parentheses' 0 'error 7' 'export --root #A open.cu
 try 'source of 1,048,572 open lists' 0 'error 7' 'export --root #A open.cue'
 try 'source of 1,048,572 open lists: check' 0 \
     'prints 2 open.cue:1:33: error 7: this is the 29th bracket that is open; 28 may be: give an inner part a definition' 'check open.cue'
+try 'source of 1,048,572 open lists: samples --why' 0 'told error 7' 'samples --why --root #A open.cue'
+try 'source of 1,048,572 open lists: compare' 0 'error 7' 'compare --root #A --old any.cue --new open.cue'
+try 'source of 1,048,572 open lists: compare --why' 0 'told error 7' 'compare --why --root #A --old any.cue --new open.cue'
 { printf '#A: '; many 262143 '"a":'; } > open.cue
 try 'source of 262,143 labels' 0 'error 7' 'export --root #A open.cue'
 
@@ -203,6 +219,9 @@ try 'source of 262,143 labels' 0 'error 7' 'export --root #A open.cue'
 { printf '"'; fill 62914560 a; printf '"'; } > text
 try 'text of 60 MiB: vet _' 1 valid 'vet --root #A --doc text any.cue'
 try 'text of 60 MiB: vet string' 1 valid 'vet --root #A --doc text string.cue'
+printf '#A: int' > int.cue
+try 'text of 60 MiB: vet --why int' 1 "lines 1 invalid;text:1:1: (root): found \"$(fill 59 a).., want int [int.cue:1:5 #A]" \
+    'vet --why --root #A --doc text int.cue'
 try 'text of 60 MiB: validate true' 1 valid 'validate --schema true < text'
 try 'text of 60 MiB: schema' 0 'error 22' 'validate --schema text --doc null'
 { printf '{"const":'; cat text; printf '}'; } > const
@@ -223,6 +242,10 @@ rm text
 { printf '#A: "'; fill 1048570 a; printf '"'; } > long.cue
 try 'source of a text of 1 MiB' 0 \
     "{\"A\":{\"const\":\"$(fill 1048570 a)\"}}" 'export --root #A long.cue'
+try 'source of a text of 1 MiB: samples' 0 "lines 0 \"$(fill 1048570 a)\"" 'samples --root #A long.cue'
+try 'source of a text of 1 MiB against itself: compare' 0 'lines 0 compatible' 'compare --root #A --old long.cue --new long.cue'
+{ printf '#A: "'; fill 1048569 a; printf 'b"'; } > other.cue
+try 'texts of 1 MiB, but for the last byte: compare' 0 "lines 1 breaking;\"$(fill 1048570 a)\"" 'compare --root #A --old long.cue --new other.cue'
 { printf '#A: "'; many 262142 '\t'; printf '"'; } > long.cue
 try 'source of 262,142 escapes' 1 invalid 'vet --root #A --doc null long.cue'
 { printf '#A: 1'; fill 1048571 0; } > long.cue
@@ -246,6 +269,10 @@ rm blanks
 printf '{"additionalProperties":{"type":"integer"}}' > integers
 try '1,000,000 keys: vet {...}' 1000001 valid 'vet --root #A --doc keys map.cue'
 try '1,000,000 keys: validate true' 1000001 valid 'validate --schema true --doc keys'
+printf '#A: {}' > none.cue
+try '1,000,000 keys, none allowed: vet --why' 1000001 \
+    'prints 1 invalid⏎keys:1:2: /k0000000: this key is not allowed [none.cue:1:5 #A]⏎999999 more; --most N tells more' \
+    'vet --why --most 1 --root #A --doc keys none.cue'
 try '1,000,000 keys: validate additionalProperties' 2000002 valid 'validate --schema integers --doc keys'
 try '1,000,000 keys: schema' 0 'error 21' 'validate --schema keys --doc null'
 { printf '{'; many 999999 '"k":0,'; printf '"k":0}'; } > keys
@@ -393,6 +420,15 @@ try 'a tree of 9,999 values: vet' 59994 valid 'vet --root #E --doc tree wide.cue
 try 'a tree of 9,999 values: validate' 59994 valid 'validate --schema schema --doc tree'
 try 'a tree of 9,999 values: agree' 119988 valid 'agree --root #E --doc tree wide.cue'
 
+# Alternatives that are told apart by a key.
+{ printf '#A: '; listed 3000 '{t: %d, x: int}' ' | '; } > wide.cue
+printf '{"t":5,"x":null}' > five
+try '3,000 alternatives: vet --why' 27006 \
+    'lines 1 invalid;five:1:12: /x: found null, want int [wide.cue:1:100 #A.x, alternative 6 of 3000]' 'vet --why --root #A --doc five wide.cue'
+try '3,000 alternatives: vet --why=all' 27006 \
+    'prints 1 invalid⏎  five:1:6: /t: found 5, want 0 [wide.cue:1:9 #A.t, alternative 1 of 3000]⏎5998 more; --most N tells more' \
+    'vet --why=all --most 1 --root #A --doc five wide.cue'
+
 # What narrows closed definitions: each the next one, and many labels at once.
 awk 'BEGIN {
     for (i = 0; i < 999; i++) print "#A" i ": #A" i + 1 " & {k: _}"
@@ -430,6 +466,7 @@ try 'doubling 64 times by |: vet --why' 258 'lines 1 invalid;null:1:1: (root): f
 try 'doubling 64 times by |: vet --why=all' 258 \
     'lines 1 {"valid":false,"errors":[{"valid":false,"instanceLocation":"","line":1,"column":1,"reason":"kind","error":"found null, want int","definition":"#A64","path":"","alternative":"alternative 1 of 2","file":"wide.cue","sourceLine":65,"sourceColumn":7}],"more":0}' \
     'vet --why=all --format json --root #A0 --doc null wide.cue'
+try 'doubling 64 times by |: samples --invalid' 0 'lines 0 null' 'samples --invalid --root #A0 wide.cue'
 doubling 64 '&' > wide.cue
 awk 'BEGIN {
     printf "{\"$defs\":{"
@@ -437,6 +474,7 @@ awk 'BEGIN {
     printf "\"A64\":{\"type\":\"integer\"}},\"$ref\":\"#/$defs/A0\"}\n"
 }' > schema
 try 'doubling 64 times: check' 0 'lines 0' 'check wide.cue'
+try 'doubling 64 times: samples' 0 'lines 0 0' 'samples --root #A0 wide.cue'
 try 'doubling 64 times: vet' 258 valid 'vet --root #A0 --doc seven wide.cue'
 try 'doubling 64 times: validate' 194 valid 'validate --schema schema --doc seven'
 try 'doubling 64 times: agree' 452 valid 'agree --root #A0 --doc seven wide.cue'
@@ -461,13 +499,22 @@ try '1,000 definitions out of order: check' 10000000 'lines 0' 'check wide.cue'
 try '1,048,576 cases without a document: check' 20000000 'lines 0' 'check wide.cue'
 { printf '#A: {'; listed 40000 'a%d: int' ', '; printf '}'; } > wide.cue
 try '40,000 fields: check' 10000000 'lines 0' 'check wide.cue'
-# Comparisons: an answer, or 17 where a limit is met.
+# Comparisons and documents: an answer, or 17 where a limit is met.
+awk 'BEGIN {
+    for (i = 0; i < 999; i++) print "#A" i ": {x: null | #A" i + 1 "}"
+    print "#A999: int"
+}' > wide.cue
+try 'a chain of 1,000 definitions against itself: compare' 100000000 'error 17' 'compare --root #A0 --old wide.cue --new wide.cue'
+try 'a chain of 1,000 definitions: samples' 100000000 'shows {"x":{"x":{"x":null}}}' 'samples --root #A0 wide.cue'
 awk 'BEGIN { printf "#A: "; for (i = 0; i < 16; i++) printf "%s({a%d: 1, ...} | {b%d: 1, ...})", i ? " & " : "", i, i; print "" }' > wide.cue
 try '65,536 cases against themselves: compare' 100000000 'error 17' 'compare --root #A --old wide.cue --new wide.cue'
 { printf '#A: '; listed 10000 '"v%d"' ' | '; printf '\n'; } > wide.cue
 try '10,000 texts against themselves: compare' 100000000 'error 17' 'compare --root #A --old wide.cue --new wide.cue'
+try '10,000 texts: samples' 100000000 'shows "v9999"' 'samples --root #A wide.cue'
+try '10,000 texts: samples --invalid' 100000000 'lines 0 "aaaaaa";null' 'samples --invalid --root #A wide.cue'
 { printf '#A: {'; listed 1000 'a%d: int' ', '; printf '}\n'; } > wide.cue
 try '1,000 fields against themselves: compare' 100000000 'lines 0 compatible' 'compare --root #A --old wide.cue --new wide.cue'
+try '1,000 fields: samples' 100000000 'shows {"a0":0,"a1":0,"a10":0,' 'samples --root #A wide.cue'
 awk 'BEGIN { for (i = 0; i < 64; i++) printf "#A%d: #A%d & #A%d\n", i, i + 1, i + 1; print "#A64: int" }' > wide.cue
 awk 'BEGIN { for (i = 0; i < 64; i++) printf "#A%d: #A%d | #A%d\n", i, i + 1, i + 1; print "#A64: int" }' > other.cue
 try '64 doublings by both: compare' 0 'lines 0 backward: compatible;forward: compatible' 'compare --both --root #A0 --old wide.cue --new other.cue'

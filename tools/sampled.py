@@ -110,13 +110,21 @@ def broken_alone(program: str, package: Package, lacking: Package, root: str) ->
         return run(program, "compare", "--root", root, "--old", str(old), "--new", str(new))
 
 
+def samples(program: str, files: list[Path], root: str) -> list:
+    """The documents that just fail."""
+    lines = run(program, "samples", "--invalid", "--most", str(MOST), "--root", root, "--", *map(str, files))
+    if lines and lines[0].startswith("error "):
+        raise SystemExit(f"{files[0]} {root}: {lines[0]}")
+    return [json.loads(line) for line in lines]
+
+
 def measure(program: str, path: Path) -> tuple[int, int]:
     """How many rules samples break alone, and how many they don't though a document does."""
     files = [path] if path.is_file() else sorted(path.glob("*.cue"))
     package = parsed("\n".join(file.read_text(encoding="utf-8") for file in files))
     hit_in_all = missed_in_all = 0
     for root in package:
-        docs = [json.loads(line) for line in run(program, "samples", "--invalid", "--most", str(MOST), "--root", root, "--", *map(str, files))]
+        docs = samples(program, files, root)
         hit = missed = 0
         never = []
         for rule, lacking in rules(package, root):
