@@ -132,7 +132,7 @@ deepest="$(nested 27 '{"items":false,"minItems":1,"prefixItems":[' '{"items":fal
 try 'source of 28 nested lists: export' 0 "{\"A\":$deepest}" 'export --root #A deep.cue'
 try 'source of 28 nested lists: agree' 2408 valid 'agree --root #A --doc lists deep.cue'
 try 'source of 28 nested lists: samples' 0 "lines 0 $(cat lists)" 'samples --root #A deep.cue'
-try 'source of 28 nested lists: samples --invalid' 0 "shows $(nested 27 '[' null ']')" 'samples --invalid --root #A deep.cue'
+try 'source of 28 nested lists: samples --invalid' 1000000 "shows $(nested 27 '[' null ']')" 'samples --invalid --root #A deep.cue'
 try 'source of 28 nested lists against itself: compare' 0 'lines 0 compatible' 'compare --root #A --old deep.cue --new deep.cue'
 { printf '#A: '; nested 27 '[' int ']'; } > other.cue
 try 'source of 28 nested lists against int: compare --why' 0 \
