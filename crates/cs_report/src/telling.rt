@@ -7,7 +7,7 @@ use crate::finding::{Finding, Findings, Once, missing_of, source_offset};
 use crate::pointer::put_steps;
 use crate::sources::Sources;
 use crate::targets::{Targets, step_of};
-use crate::walk::{Walk, definition_name};
+use crate::walk::{Followed, Walk, definition_name};
 use cs_flat::Flat;
 use cs_instance::{InstanceCause, RootRules};
 use cs_package::Package;
@@ -16,12 +16,23 @@ use cs_reasons::{Link, Reason, Reasons};
 use std::alloc::{AllocError, Global};
 use std::collections::{HashMap, HashSet};
 
+/// The disjunction that was followed last, by its place among the links from 1 on, and the place of the alternative; both are 0
+/// where none was.
+type Branch = (usize, usize);
+
+fn branch_of(followed: Option<Followed>) -> Branch {
+    match followed {
+        None => (0, 0),
+        Some(followed) => (followed.link.saturating_add(1), followed.place),
+    }
+}
+
 /// What is told of a value already: by the alternatives, that it is no number, and which keys it lacks.
 #[derive(Drop)]
 struct Told<'t> {
     item: usize,
-    numbers: HashSet<usize>,
-    missing: HashSet<(usize, &'t str)>,
+    numbers: HashSet<Branch>,
+    missing: HashSet<(Branch, &'t str)>,
 }
 
 impl<'t> Told<'t> {
@@ -38,7 +49,7 @@ impl<'t> Told<'t> {
         &mut self,
         alloc: Global,
         item: usize,
-        branch: usize,
+        branch: Branch,
         once: Once<'t>,
     ) -> Result<bool, AllocError> {
         if self.item != item {
@@ -188,10 +199,7 @@ impl<'t, 'a> Teller<'t, 'a> {
         let finding = self
             .findings
             .finding(&reason.cause, link.item, link.rule, &mut walk)?;
-        let branch = match walk.followed {
-            None => 0,
-            Some(followed) => followed.link.saturating_add(1),
-        };
+        let branch = branch_of(walk.followed);
         if !self
             .told
             .is_new(self.alloc, link.item, branch, finding.once)?
