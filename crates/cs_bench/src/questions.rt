@@ -3,7 +3,7 @@ use crate::sources::package_of;
 use crate::stop::Stop;
 use cs_doc::write_doc;
 use cs_guard::{Guarded, guard};
-use cs_question::{QuestionFault, separating};
+use cs_question::{Budget, QuestionFault, separating};
 use std::alloc::Global;
 
 /// The answers, a line each. A line of the text has an old source and its root, a new source and its root, with `=>` between; a `;`
@@ -43,7 +43,7 @@ fn answer_of(
     new: &Guarded,
     new_root: &str,
 ) -> Result<Vec<u8>, Stop> {
-    match separating(alloc, old, old_root, new, new_root) {
+    match separating(alloc, old, old_root, new, new_root, &mut Budget::new()) {
         Ok(None) => Ok(b"compatible".to_vec(alloc)?),
         Ok(Some(doc)) => Ok(write_doc(alloc, &doc)?),
         Err(QuestionFault::TooManyCases) => Ok(b"error 17".to_vec(alloc)?),

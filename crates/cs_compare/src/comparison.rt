@@ -11,7 +11,7 @@ use crate::refusal::{CompareRefusal, Side, of_question};
 use cs_document::Doc;
 use cs_guard::Guarded;
 use cs_instance::one_meaning;
-use cs_question::separating;
+use cs_question::{Budget, separating};
 use cs_tool::{Fault, read_root};
 use std::alloc::Global;
 
@@ -45,7 +45,8 @@ pub fn compare(
     let after = read_side(alloc, Side::New, new, new_root)?;
     one_meaning(&before);
     one_meaning(&after);
-    match separating(alloc, &before, old_root, &after, new_root) {
+    let mut budget = Budget::new();
+    match separating(alloc, &before, old_root, &after, new_root, &mut budget) {
         Ok(None) => Ok(Comparison::Compatible),
         Ok(Some(doc)) => Ok(Comparison::Breaking(doc)),
         Err(fault) => Err(CompareRefusal {

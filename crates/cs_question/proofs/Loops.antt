@@ -126,3 +126,6 @@ module _ {X Y : Type 0} (v : X → Y) (xs : List X) (i : ℕ) where
 -- the same of the elements themselves
 pub some_or : {X : Type 0} (P : X → Type 0) (xs : List X) (i : ℕ) (d : X) → i < length xs → (C : Type 0) → (SomeOf P (take i xs) → C) → (P (get_or xs i d) → C) → SomeOf P (take (i + 1) xs) → C
 some_or P xs i d l C a b h = elim (some_more xs i (get_or xs i d) l (get_or_default xs i d (get_or xs i d) l) P h) [ inl k ↦ a k | inr k ↦ b k ]
+
+pub each_then : {X : Type 0} (P : X → Type 0) (xs : List X) (i : ℕ) (d : X) → i < length xs → (C : Type 0) → (Each P (take i xs) → P (get_or xs i d) → C) → Each P (take (i + 1) xs) → C
+each_then P xs i d l C f h = let p = each_more xs i (get_or xs i d) l (get_or_default xs i d (get_or xs i d) l) P h in f p.0 p.1

@@ -46,9 +46,6 @@ HoldsPlace J n s p = HoldsAt J n (s.at (name_of p.key)) p
 abbrev pub HoldsPlaces : Judgement → ℕ → Spread → List Place → Type 0
 HoldsPlaces J n s ps = AllByRecursion (HoldsPlace J n s) ps
 
-abbrev pub HoldsState : Judgement → ℕ → Spread → State → Type 0
-HoldsState J n s state = HoldsPlaces J n s state.places.items
-
 -- a part that is at no place is as asked
 abbrev pub IsFurther : Judgement → ℕ → further.Further → Document → Type 0
 IsFurther J n f y = (f.is_barred ≡ false) × IsInner n y × (meets_all J y f.asked.items ≡ true)
@@ -64,6 +61,10 @@ abbrev pub IsTaken : Judgement → Spread → Way → Type 0
 IsTaken J s (Absent k) = IsNone (s.at (name_of k))
 IsTaken J s (Present k o) = IsSomeAnd (s.at (name_of k)) (IsSuch J o)
 IsTaken J s (Behind o) = SomeOf (IsSuch J o) s.further
+
+-- all ways that were chosen are taken
+abbrev pub HoldsState : Judgement → Spread → State → Type 0
+HoldsState J s state = AllByRecursion (IsTaken J s) state.chosen.items
 
 abbrev pub IsBehind : Way → Type 0
 IsBehind (Absent k) = ⊥

@@ -7,7 +7,8 @@ ghost use Rattle.cs_question.specs.Cases.{IsCovered, Continues, Covers};
 ghost use Rattle.cs_question.specs.Nodes.{Judgement, IsMeaning};
 ghost use Rattle.cs_question.specs.Truth.{NoDocument};
 
-use crate::effort::{Effort, MOST_STEPS};
+use crate::budget::MOST_STEPS;
+use crate::effort::Effort;
 use crate::fault::SearchFault;
 use crate::found::Found;
 use crate::leaves::document_of;

@@ -1,17 +1,18 @@
 // The search for ways in which a list or a map fails to meet rules.
-ghost use Rattle.std.specs.Prelude.{◌≡◌, ℕ, true, IfOk, IfSome, IsNone, IsTrue, OnOk};
+ghost use Rattle.std.specs.Prelude.{◌≡◌, ℕ, [], true, IfOk, IfSome, IsNone, IsTrue, OnOk};
 ghost use Rattle.std.specs.List.{AllByRecursion};
 ghost use Rattle.cs_question.specs.Nodes.{Judgement};
 ghost use Rattle.cs_question.specs.Spread.{Spread, SomeOf, HoldsPlaces, HoldsState, HoldsFurther, AreTaken, IsTaken, IsBehind};
 ghost use Rattle.cs_question.specs.Truth.{Truth};
 
-use crate::effort::{Effort, MOST_STEPS};
+use crate::budget::MOST_STEPS;
+use crate::effort::Effort;
 use crate::fault::SearchFault;
 use crate::literal::Literal;
 use crate::places::{Further, Place, Way};
-use crate::state::State;
+use crate::state::{Chosen, State};
 use crate::table::Table;
-use crate::ways::{free, is_dead, is_open, taken};
+use crate::ways::{free, is_dead, is_shut, take};
 use std::alloc::{AllocError, Global};
 
 fn copy_places<'a>(alloc: Global, places: &[Place<'a>]) -> Result<Vec<Place<'a>>, AllocError>
@@ -54,16 +55,6 @@ fn has_dead(
     Ok(false)
 }
 
-/// The steps for a look at all ways of all rules.
-fn cost_of_picking(rules: &[Vec<Way<'_>>]) -> usize {
-    const LOOKS: usize = 16;
-    let mut ways: usize = 0;
-    for rule in rules {
-        ways = ways.saturating_add(rule.len());
-    }
-    (ways / LOOKS).saturating_add(1)
-}
-
 /// Asks about every place, so that all of them are known the next time.
 fn ask_about(
     alloc: Global,
@@ -76,6 +67,10 @@ fn ask_about(
         let _is_dead = is_dead(alloc, table, place, effort)?;
     }
     Ok(())
+}
+
+fn is_behind(way: &Way<'_>) -> bool {
+    matches!(way, Way::Behind(_))
 }
 
 /// The first way that needs none of the places, as what is asked of the value.
@@ -103,7 +98,7 @@ fn first_free(
 fn count_open(
     alloc: Global,
     table: &Table<'_>,
-    state: &State<'_>,
+    places: &[Place<'_>],
     further: &Further,
     ways: &[Way<'_>],
     most: usize,
@@ -117,7 +112,7 @@ fn count_open(
         if count >= most {
             return Ok(count);
         }
-        if is_open(alloc, table, &state.places, way, effort)? {
+        if !is_behind(way) && !is_shut(alloc, table, places, way, effort)? {
             count += 1;
         }
     }
@@ -128,18 +123,19 @@ fn count_open(
 fn pick(
     alloc: Global,
     table: &Table<'_>,
-    state: &State<'_>,
+    places: &[Place<'_>],
+    left: &[usize],
     further: &Further,
     rules: &[Vec<Way<'_>>],
     effort: &mut Effort,
 ) -> Result<Option<usize>, AllocError> {
     let mut best = None;
     let mut least = usize::MAX;
-    for (place, rule) in state.left.iter().enumerate() {
+    for (place, rule) in left.iter().enumerate() {
         let Some(ways) = rules.get(*rule) else {
             continue;
         };
-        let count = count_open(alloc, table, state, further, ways, least, effort)?;
+        let count = count_open(alloc, table, places, further, ways, least, effort)?;
         if count < least {
             least = count;
             best = Some(place);
@@ -169,16 +165,38 @@ fn push_free<'a>(
     asked: Vec<Literal>,
     states: &mut Vec<State<'a>>,
 ) -> Result<(), AllocError>
-    ensures { OnOk result ((J : Judgement) (n : ℕ) (s : Spread)
-        → (SomeOf (HoldsState J n s) states.old.items → SomeOf (HoldsState J n s) states.new.items)
-        × (HoldsState J n s state.now → SomeOf (HoldsState J n s) states.new.items)) }
+    ensures { OnOk result ((J : Judgement) (s : Spread)
+        → (SomeOf (HoldsState J s) states.old.items → SomeOf (HoldsState J s) states.new.items)
+        × (HoldsState J s state.now → SomeOf (HoldsState J s) states.new.items)) }
 {
     let mut further = copy_questions(alloc, &state.further)?;
     further.push(asked)?;
     states.push(State {
-        places: copy_places(alloc, &state.places)?,
+        chosen: Vec::from_slice(alloc, &state.chosen)?,
         left,
         further,
+    })?;
+    Ok(())
+}
+
+/// Puts the state with a way more.
+fn push_way<'a>(
+    alloc: Global,
+    state: &State<'a>,
+    left: &[usize],
+    way: Way<'a>,
+    states: &mut Vec<State<'a>>,
+) -> Result<(), AllocError>
+    ensures { OnOk result ((J : Judgement) (s : Spread)
+        → (SomeOf (HoldsState J s) states.old.items → SomeOf (HoldsState J s) states.new.items)
+        × (HoldsState J s state.now → IsTaken J s way.entry → SomeOf (HoldsState J s) states.new.items)) }
+{
+    let mut chosen = Vec::from_slice(alloc, &state.chosen)?;
+    chosen.push(way)?;
+    states.push(State {
+        chosen,
+        left: Vec::from_slice(alloc, left)?,
+        further: copy_questions(alloc, &state.further)?,
     })?;
     Ok(())
 }
@@ -187,6 +205,7 @@ fn push_free<'a>(
 fn push_ways<'a>(
     alloc: Global,
     table: &Table<'_>,
+    places: &[Place<'a>],
     state: &State<'a>,
     left: &[usize],
     ways: &[Way<'a>],
@@ -195,32 +214,28 @@ fn push_ways<'a>(
 ) -> Result<(), AllocError>
     ensures { OnOk result (table.now.is_final ≡ true
         → (t : Truth table.now.entries.items) (s : Spread)
-        → (SomeOf (HoldsState t.J t.n s) states.old.items
-        → SomeOf (HoldsState t.J t.n s) states.new.items)
-        × (HoldsState t.J t.n s state.now
+        → (SomeOf (HoldsState t.J s) states.old.items
+        → SomeOf (HoldsState t.J s) states.new.items)
+        × (HoldsPlaces t.J t.n s places.now → HoldsState t.J s state.now
         → SomeOf (λ way. (IsBehind way → ⊥) × IsTaken t.J s way) ways.now
-        → SomeOf (HoldsState t.J t.n s) states.new.items)) }
+        → SomeOf (HoldsState t.J s) states.new.items)) }
 {
     for way in ways {
         if let Way::Behind(_) = way {
             continue;
         }
-        match taken(alloc, table, &state.places, way, effort)? {
-            Some(places) => states.push(State {
-                places,
-                left: Vec::from_slice(alloc, left)?,
-                further: copy_questions(alloc, &state.further)?,
-            })?,
-            None => {}
+        if !is_shut(alloc, table, places, way, effort)? {
+            push_way(alloc, state, left, *way, states)?;
         }
     }
     Ok(())
 }
 
-/// Puts the states that a rule's ways make of a state.
+/// Puts the states that a rule's ways make of a state, which has left the places so.
 fn push_states<'a>(
     alloc: Global,
     table: &Table<'_>,
+    places: &[Place<'a>],
     state: &State<'a>,
     place: usize,
     further: &Further,
@@ -230,35 +245,57 @@ fn push_states<'a>(
 ) -> Result<(), AllocError>
     ensures { OnOk result (table.now.is_final ≡ true
         → (t : Truth table.now.entries.items) (s : Spread)
-        → (SomeOf (HoldsState t.J t.n s) states.old.items
-        → SomeOf (HoldsState t.J t.n s) states.new.items)
-        × (HoldsState t.J t.n s state.now → HoldsFurther t.J t.n s further.now
-        → AreTaken t.J s ways.now → SomeOf (HoldsState t.J t.n s) states.new.items)) }
+        → (SomeOf (HoldsState t.J s) states.old.items
+        → SomeOf (HoldsState t.J s) states.new.items)
+        × (HoldsPlaces t.J t.n s places.now → HoldsState t.J s state.now
+        → HoldsFurther t.J t.n s further.now
+        → AreTaken t.J s ways.now → SomeOf (HoldsState t.J s) states.new.items)) }
 {
     let left = left_without(alloc, &state.left, place)?;
     match first_free(alloc, table, further, ways, effort)? {
         Some(asked) => push_free(alloc, state, left, asked, states),
-        None => push_ways(alloc, table, state, &left, ways, states, effort),
+        None => push_ways(alloc, table, places, state, &left, ways, states, effort),
     }
 }
 
-fn first_state<'a>(
-    alloc: Global,
-    places: &[Place<'a>],
-    rules: usize,
-) -> Result<State<'a>, AllocError>
-    ensures { IfOk result (λ v. (J : Judgement) (n : ℕ) (s : Spread) → HoldsPlaces J n s places.now
-        → HoldsState J n s v) }
+fn first_state<'a>(alloc: Global, rules: usize) -> Result<State<'a>, AllocError>
+    ensures { IfOk result (λ v. v.chosen.items ≡ []) }
 {
     let mut left = Vec::with_capacity(alloc, rules)?;
     for rule in 0..rules {
         left.push(rule)?;
     }
     Ok(State {
-        places: copy_places(alloc, places)?,
+        chosen: Vec::new(alloc),
         left,
         further: Vec::new(alloc),
     })
+}
+
+/// The places where ways were taken.
+fn places_after<'a>(
+    alloc: Global,
+    places: &[Place<'a>],
+    chosen: &[Way<'a>],
+) -> Result<Vec<Place<'a>>, AllocError>
+    ensures { IfOk result (λ v. (J : Judgement) (n : ℕ) (s : Spread) → HoldsPlaces J n s places.now
+        → AllByRecursion (IsTaken J s) chosen.now → HoldsPlaces J n s v.items) }
+{
+    let mut all = copy_places(alloc, places)?;
+    for way in chosen {
+        take(alloc, &mut all, way)?;
+    }
+    Ok(all)
+}
+
+/// The steps for a state: a look at all ways of all rules, and a copy of the places where ways were taken.
+fn cost_of(rules: &[Vec<Way<'_>>], places: usize, chosen: usize) -> usize {
+    const LOOKS: usize = 16;
+    let mut looks = places.saturating_add(chosen);
+    for rule in rules {
+        looks = looks.saturating_add(rule.len());
+    }
+    (looks / LOOKS).saturating_add(1)
 }
 
 /// A choice of one way for each rule, such that there can be values as all places ask.
@@ -272,7 +309,7 @@ pub(crate) fn choice<'a>(
     further: &Further,
     rules: &[Vec<Way<'a>>],
     effort: &mut Effort,
-) -> Result<Option<State<'a>>, SearchFault>
+) -> Result<Option<Chosen<'a>>, SearchFault>
     ensures { IfOk result (λ o. IsNone o → table.now.is_final ≡ true
         → (t : Truth table.now.entries.items) (s : Spread) → HoldsPlaces t.J t.n s places.now
         → HoldsFurther t.J t.n s further.now
@@ -284,23 +321,24 @@ pub(crate) fn choice<'a>(
     if has_dead(alloc, table, places, effort)? {
         return Ok(None);
     }
-    let cost = cost_of_picking(rules);
     let mut states = Vec::new(alloc);
-    states.push(first_state(alloc, places, rules.len())?)?;
+    states.push(first_state(alloc, rules.len())?)?;
     for _ in 0..MOST_STEPS {
         let Some(state) = states.pop() else {
             return Ok(None);
         };
-        effort.take(cost)?;
-        let Some(place) = pick(alloc, table, &state, further, rules, effort)? else {
-            return Ok(Some(state));
+        effort.take(cost_of(rules, places.len(), state.chosen.len()))?;
+        let left = places_after(alloc, places, &state.chosen)?;
+        let Some(place) = pick(alloc, table, &left, &state.left, further, rules, effort)? else {
+            return Ok(Some(chosen_of(state, left)));
         };
         let Some(ways) = ways_of(rules, &state.left, place) else {
-            return Ok(Some(state));
+            return Ok(Some(chosen_of(state, left)));
         };
         push_states(
             alloc,
             table,
+            &left,
             &state,
             place,
             further,
@@ -310,6 +348,12 @@ pub(crate) fn choice<'a>(
         )?;
     }
     Err(SearchFault::TooManyCases)
+}
+
+/// What a choice ends with, where its ways have left the places so.
+fn chosen_of<'a>(state: State<'a>, places: Vec<Place<'a>>) -> Chosen<'a> {
+    let State { further, .. } = state;
+    Chosen { places, further }
 }
 
 /// The ways of one of the rules left.

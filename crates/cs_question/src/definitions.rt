@@ -3,7 +3,7 @@ ghost use Rattle.std.specs.Prelude.{◌≡◌, ℕ, true, Some, IfOk, IsErrOf, I
 ghost use Rattle.cs_question.specs.NoInstance.{HasNoDocument};
 ghost use Rattle.cs_question.specs.Truth.{IsMetByNone};
 
-use crate::explore_all::explored_all;
+use crate::explore::explored_all;
 use crate::fault::QuestionFault;
 use crate::literal::met;
 use crate::nodes::{Nodes, nodes_of};

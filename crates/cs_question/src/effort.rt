@@ -3,9 +3,6 @@ use crate::fault::SearchFault;
 use crate::literal::Literal;
 use std::alloc::Global;
 
-/// The most steps of unfolding and search.
-pub(crate) const MOST_STEPS: usize = 5_000_000;
-
 /// The steps that were done and may be, and the questions that were met.
 #[derive(Drop)]
 pub(crate) struct Effort {
@@ -20,10 +17,11 @@ pub(crate) struct Effort {
 }
 
 impl Effort {
-    pub(crate) fn new(alloc: Global) -> Effort {
+    /// No step of so many at most.
+    pub(crate) fn new(alloc: Global, most: usize) -> Effort {
         Effort {
             steps: 0,
-            most: MOST_STEPS,
+            most,
             wanted: Vec::new(alloc),
             unanswered: Vec::new(alloc),
             asks_all: false,
@@ -35,19 +33,14 @@ impl Effort {
         self.steps
     }
 
-    /// Begins anew, with so many steps at most.
-    pub(crate) fn begin(&mut self, most: usize) {
-        self.steps = 0;
-        self.most = most;
-    }
-
-    /// So many steps more.
+    /// So many steps more, and no more than there may be.
     ///
     /// # Errors
     /// `TooManyCases` where the limit is met.
     pub(crate) fn take(&mut self, count: usize) -> Result<(), SearchFault> {
         let steps = self.steps.saturating_add(count);
         if steps > self.most {
+            self.steps = self.most;
             return Err(SearchFault::TooManyCases);
         }
         self.steps = steps;

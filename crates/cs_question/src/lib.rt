@@ -1,12 +1,12 @@
 // Whether there is a document that one definition admits and another one doesn't, and which definitions have no instance.
 #![tactic(auto)]
 
+mod budget;
 mod cases;
 mod choice;
 mod definitions;
 mod effort;
 mod explore;
-mod explore_all;
 mod fault;
 mod fields;
 mod found;
@@ -26,6 +26,7 @@ mod texts;
 mod ways;
 mod witness;
 
+pub use budget::{Budget, MOST_STEPS};
 pub use definitions::without_instance;
 pub use fault::QuestionFault;
 pub use questions::{instance_of, separating};

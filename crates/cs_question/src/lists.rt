@@ -17,7 +17,7 @@ use crate::literal::{Literal, add, part_of};
 use crate::nodes::{Node, NodeEnd, Nodes};
 use crate::places::{Further, Key, Place, Way};
 use crate::scalars::may_meet_all;
-use crate::state::State;
+use crate::state::Chosen;
 use crate::table::Table;
 use cs_flat::Item;
 use std::alloc::{AllocError, Global};
@@ -339,12 +339,8 @@ fn rules_of<'a>(
     Ok(rules)
 }
 
-fn found_of<'a>(alloc: Global, state: State<'_>) -> Result<Found<'a>, AllocError> {
-    let State {
-        places,
-        further,
-        ..
-    } = state;
+fn found_of<'a>(alloc: Global, chosen: Chosen<'_>) -> Result<Found<'a>, AllocError> {
+    let Chosen { places, further } = chosen;
     let mut elements = Vec::with_capacity(alloc, places.len())?;
     for place in places {
         let Place { asked, .. } = place;
@@ -354,6 +350,12 @@ fn found_of<'a>(alloc: Global, state: State<'_>) -> Result<Found<'a>, AllocError
         elements.push(asked)?;
     }
     Ok(Found::List(elements))
+}
+
+/// The steps for what so many rules ask of so many places.
+fn cost_of_places(asked: &[Literal], count: usize) -> usize {
+    const LOOKS: usize = 16;
+    asked.len().saturating_mul(count) / LOOKS
 }
 
 /// A list of that length that is all that is asked.
@@ -370,6 +372,7 @@ fn list_of_length<'a>(
     if some_ask_for_more(nodes, asked, count) {
         return Ok(None);
     }
+    effort.take(cost_of_places(asked, count))?;
     let places = places_of(alloc, nodes, asked, count)?;
     let further = Further {
         is_barred: true,
@@ -378,7 +381,7 @@ fn list_of_length<'a>(
     let rules = rules_of(alloc, nodes, asked, count)?;
     match choice(alloc, table, &places, &further, &rules, effort)? {
         None => Ok(None),
-        Some(state) => Ok(Some(found_of(alloc, state)?)),
+        Some(chosen) => Ok(Some(found_of(alloc, chosen)?)),
     }
 }
 
@@ -393,13 +396,14 @@ fn longer_list<'a>(
 ) -> Result<Option<Found<'a>>, SearchFault>
     ensures { IfOk result (λ o. IsNone o → NoLength nodes.now table.now asked.now (λ m. count < m)) }
 {
+    effort.take(cost_of_places(asked, count))?;
     let places = places_of(alloc, nodes, asked, count)?;
     let further = asked_behind(alloc, nodes, asked, count)?;
     let mut rules = rules_of(alloc, nodes, asked, count)?;
     rules.push(any_behind(alloc)?)?;
     match choice(alloc, table, &places, &further, &rules, effort)? {
         None => Ok(None),
-        Some(state) => Ok(Some(found_of(alloc, state)?)),
+        Some(chosen) => Ok(Some(found_of(alloc, chosen)?)),
     }
 }
 

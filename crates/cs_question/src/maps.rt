@@ -17,7 +17,7 @@ use crate::literal::Literal;
 use crate::nodes::{Node, NodeField, Nodes};
 use crate::places::{Further, Key, Place, Way};
 use crate::scalars::may_meet_all;
-use crate::state::State;
+use crate::state::Chosen;
 use crate::table::Table;
 use cs_flat::Item;
 use std::alloc::{AllocError, Global};
@@ -261,13 +261,7 @@ pub(crate) fn map_of<'a>(
     let rules = rules_of(alloc, nodes, asked, &labels)?;
     match choice(alloc, table, &places, &further, &rules, effort)? {
         None => Ok(None),
-        Some(
-            State {
-                places,
-                further,
-                ..
-            },
-        ) => Ok(Some(Found::Map {
+        Some(Chosen { places, further }) => Ok(Some(Found::Map {
             members: members_of(alloc, places)?,
             further,
             labels,

@@ -62,6 +62,13 @@ impl<'a> Nodes<'a> {
     }
 }
 
+impl Nodes<'_> {
+    /// How many rules there are on both sides.
+    pub(crate) fn count(&self) -> usize {
+        self.admitting.len().saturating_add(self.refusing.len())
+    }
+}
+
 /// The number at a place.
 fn number_at(inner: &[usize], place: usize) -> usize
     ensures { result ≡ slice_index inner.now place }

@@ -60,7 +60,7 @@ pub(crate) struct Further {
 
 /// A way in which a list or a map fails to meet a rule: there is nothing at a place, there is a value there which is what
 /// is asked, or there is such a value at none of the places.
-#[derive(Drop)]
+#[derive(Clone, Copy)]
 pub(crate) enum Way<'a> {
     Absent(Key<'a>),
     Present(Key<'a>, Option<Literal>),

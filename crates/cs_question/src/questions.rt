@@ -9,12 +9,13 @@ ghost use Rattle.cs_question.specs.Faults.{IsRefusal};
 ghost use Rattle.cs_question.specs.Truth.{IsShut};
 ghost use Rattle.std.specs.List.{list_all};
 
+use crate::budget::Budget;
 use crate::explore::explored;
 use crate::fault::QuestionFault;
 use crate::literal::{Literal, Side, add, are_same, met};
 use crate::nodes::{Nodes, nodes_of};
 use crate::table::Table;
-use crate::witness::witness;
+use crate::witness::{Witness, witness_of};
 use cs_document::Doc;
 use cs_guard::Guarded;
 use cs_instance::{NumberedRoot, is_instance, numbered_root};
@@ -34,13 +35,15 @@ fn has_none(table: &Table<'_>, asked: &[Literal]) -> bool
 /// where there is no such document, so each instance of the one is an instance of the other.
 ///
 /// # Errors
-/// `UnknownRoot` exactly where a package doesn't declare its root, `TooManyCases` where a limit is met.
+/// `UnknownRoot` exactly where a package doesn't declare its root, `TooManyCases` where a limit is met, or the budget has too few
+/// steps left. What the question takes is taken from the budget.
 pub fn separating(
     alloc: Global,
     admitting: &Guarded,
     admitting_root: &str,
     refusing: &Guarded,
     refusing_root: &str,
+    budget: &mut Budget,
 ) -> Result<Option<Doc>, QuestionFault>
     ensures none { IfOk result (λ o. IsNone o → (I J : Rule → Document → Bool) (n m : List ℕ) (x : Document)
         → IsInstance admitting.now I → IsInstance refusing.now J
@@ -61,12 +64,14 @@ pub fn separating(
         admitting: nodes_of(alloc, &first.numbering.rules, &first.numbering.children)?,
         refusing: nodes_of(alloc, &second.numbering.rules, &second.numbering.children)?,
     };
+    budget.spend(nodes.count());
     let asked = both(alloc, first.number, second.number)?;
-    let table = explored(alloc, &nodes, &asked)?;
+    let table = explored(alloc, &nodes, &asked, budget)?;
     if has_none(&table, &asked) {
         return Ok(None);
     }
-    let doc = witness(alloc, &table)?;
+    let Witness { doc, values } = witness_of(alloc, &table)?;
+    budget.spend(cost_of_judging(&nodes, values));
     if is_judged(alloc, admitting, admitting_root, &doc, true)?
         && is_judged(alloc, refusing, refusing_root, &doc, false)?
     {
@@ -74,6 +79,12 @@ pub fn separating(
     } else {
         Err(QuestionFault::TooManyCases)
     }
+}
+
+/// The steps for a document of so many values that the rules judge.
+fn cost_of_judging(nodes: &Nodes<'_>, values: usize) -> usize {
+    const PAIRS: usize = 128;
+    nodes.count().saturating_mul(values) / PAIRS
 }
 
 /// Whether a document is an instance of the root, or isn't.
@@ -122,11 +133,13 @@ fn both(alloc: Global, met: usize, unmet: usize) -> Result<Vec<Literal>, AllocEr
 /// An instance of the root, a definition of the package named with its `#`; none where it has none.
 ///
 /// # Errors
-/// `UnknownRoot` exactly where the package doesn't declare the root, `TooManyCases` where a limit is met.
+/// `UnknownRoot` exactly where the package doesn't declare the root, `TooManyCases` where a limit is met, or the budget has too
+/// few steps left. What the question takes is taken from the budget.
 pub fn instance_of(
     alloc: Global,
     package: &Guarded,
     root: &str,
+    budget: &mut Budget,
 ) -> Result<Option<Doc>, QuestionFault>
     ensures none { IfOk result (λ o. IsNone o → (I : Rule → Document → Bool) (n : List ℕ) (x : Document)
         → IsInstance «package».now I → Names «package».now root.now n
@@ -146,12 +159,14 @@ pub fn instance_of(
         admitting: nodes_of(alloc, &numbering.rules, &numbering.children)?,
         refusing: Vec::new(alloc),
     };
+    budget.spend(nodes.count());
     let asked = met(alloc, number)?;
-    let table = explored(alloc, &nodes, &asked)?;
+    let table = explored(alloc, &nodes, &asked, budget)?;
     if has_none(&table, &asked) {
         return Ok(None);
     }
-    let doc = witness(alloc, &table)?;
+    let Witness { doc, values } = witness_of(alloc, &table)?;
+    budget.spend(cost_of_judging(&nodes, values));
     if is_judged(alloc, package, root, &doc, true)? {
         Ok(Some(doc))
     } else {

@@ -1,12 +1,12 @@
 // What a way changes.
-ghost use Rattle.std.specs.Prelude.{◌≡◌, ℕ, true, IfOk, IsTrue, IsNone, IsSomeAnd};
+ghost use Rattle.std.specs.Prelude.{◌≡◌, ℕ, true, IfOk, IsTrue, IsNone, OnOk};
 ghost use Rattle.cs_question.specs.Nodes.{Judgement};
 ghost use Rattle.cs_question.specs.Spread.{Spread, HoldsPlace, HoldsPlaces, HoldsFurther, IsTaken, IsBehind};
 ghost use Rattle.cs_question.specs.Truth.{Truth};
 
 use crate::effort::Effort;
 use crate::literal::{Literal, with};
-use crate::places::{Further, Place, Way, is_same};
+use crate::places::{Further, Key, Place, Way, is_same};
 use crate::table::Table;
 use std::alloc::{AllocError, Global};
 
@@ -51,52 +51,66 @@ fn changed<'a>(alloc: Global, place: &Place<'a>, way: &Way<'a>) -> Result<Place<
     }
 }
 
-/// Whether a way is about a place.
-fn is_about(way: &Way<'_>, place: &Place<'_>) -> bool {
-    match way {
-        Way::Absent(key) | Way::Present(key, _) => is_same(*key, place.key),
-        Way::Behind(_) => false,
+/// The label of a place in a map.
+fn label_of<'a>(place: &Place<'a>) -> &'a str {
+    match place.key {
+        Key::Label(label) => label,
+        Key::Index(_) => "",
     }
 }
 
-/// Whether a way is open, where it is about one of the places.
-pub(crate) fn is_open(
+/// Where the place that a way is about is among these, which are those of a list in their order, or those of a map by their labels.
+fn place_of(places: &[Place<'_>], way: &Way<'_>) -> Option<usize> {
+    match way {
+        Way::Absent(Key::Index(index)) | Way::Present(Key::Index(index), _) => Some(*index),
+        Way::Absent(Key::Label(label)) | Way::Present(Key::Label(label), _) => {
+            places
+                .binary_search_by_key(label, |place| label_of(place))
+                .ok()
+        }
+        Way::Behind(_) => None,
+    }
+}
+
+/// Whether nothing can be as a place asks where a way is taken.
+pub(crate) fn is_shut(
     alloc: Global,
     table: &Table<'_>,
     places: &[Place<'_>],
     way: &Way<'_>,
     effort: &mut Effort,
-) -> Result<bool, AllocError> {
-    for place in places {
-        if is_about(way, place) {
-            let place = changed(alloc, place, way)?;
-            return Ok(!is_dead(alloc, table, &place, effort)?);
-        }
-    }
-    Ok(false)
+) -> Result<bool, AllocError>
+    ensures { IfOk result (λ b. IsTrue b → table.now.is_final ≡ true
+        → (t : Truth table.now.entries.items) (s : Spread) → HoldsPlaces t.J t.n s places.now
+        → IsTaken t.J s way.now → ⊥) }
+{
+    let Some(number) = place_of(places, way) else {
+        return Ok(false);
+    };
+    let Some(place) = places.get(number) else {
+        return Ok(false);
+    };
+    let place = changed(alloc, place, way)?;
+    is_dead(alloc, table, &place, effort)
 }
 
-/// The places where a way was taken, unless nothing can be as one of them asks.
-pub(crate) fn taken<'a>(
+/// Takes a way.
+pub(crate) fn take<'a>(
     alloc: Global,
-    table: &Table<'_>,
-    places: &[Place<'a>],
+    places: &mut Vec<Place<'a>>,
     way: &Way<'a>,
-    effort: &mut Effort,
-) -> Result<Option<Vec<Place<'a>>>, AllocError>
-    ensures { IfOk result (λ o. table.now.is_final ≡ true
-        → (t : Truth table.now.entries.items) (s : Spread) → HoldsPlaces t.J t.n s places.now
-        → IsTaken t.J s way.now → IsSomeAnd o (λ v. HoldsPlaces t.J t.n s v.items)) }
+) -> Result<(), AllocError>
+    ensures { OnOk result ((J : Judgement) (n : ℕ) (s : Spread) → HoldsPlaces J n s places.old.items
+        → IsTaken J s way.now → HoldsPlaces J n s places.new.items) }
 {
-    let mut all = Vec::with_capacity(alloc, places.len())?;
-    for place in places {
-        let place = changed(alloc, place, way)?;
-        if is_about(way, &place) && is_dead(alloc, table, &place, effort)? {
-            return Ok(None);
-        }
-        all.push(place)?;
+    let Some(number) = place_of(places, way) else {
+        return Ok(());
+    };
+    if number < places.len() {
+        let place = changed(alloc, &places[number], way)?;
+        places[number] = place;
     }
-    Ok(Some(all))
+    Ok(())
 }
 
 /// What is asked of a value at none of the places, where there may be one as the way asks.

@@ -24,6 +24,13 @@ fn in_turn(alloc: Global, entries: &[Entry<'_>]) -> Result<Vec<(usize, usize)>, 
     Ok(order)
 }
 
+/// A document, and how many values it has.
+#[derive(Drop)]
+pub(crate) struct Witness {
+    pub(crate) doc: Doc,
+    pub(crate) values: usize,
+}
+
 /// How many values a document has, and how deep it nests.
 #[derive(Clone, Copy)]
 struct Extent {
@@ -281,11 +288,11 @@ fn none_made(alloc: Global, count: usize) -> Result<Vec<Option<Doc>>, AllocError
     Ok(docs)
 }
 
-/// The document that was found for the first question.
+/// The document that was found for the first question, with how many values it has.
 ///
 /// # Errors
 /// `TooManyCases` where it would have more values than a limit, or nest deeper.
-pub(crate) fn witness(alloc: Global, table: &Table<'_>) -> Result<Doc, SearchFault> {
+pub(crate) fn witness_of(alloc: Global, table: &Table<'_>) -> Result<Witness, SearchFault> {
     let order = in_turn(alloc, &table.entries)?;
     let extents = extents_of(alloc, table, &order)?;
     let extent = extents.first().copied().unwrap_or(ENDLESS);
@@ -311,7 +318,10 @@ pub(crate) fn witness(alloc: Global, table: &Table<'_>) -> Result<Doc, SearchFau
         }
     }
     match docs.into_iter().next() {
-        Some(Some(doc)) => Ok(doc),
+        Some(Some(doc)) => Ok(Witness {
+            doc,
+            values: extent.values,
+        }),
         _ => Err(SearchFault::TooManyCases),
     }
 }

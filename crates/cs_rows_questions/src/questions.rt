@@ -2,7 +2,7 @@
 use cs_doc::{Doc, read_doc};
 use cs_guard::{Guarded, guard};
 use cs_instance::is_instance;
-use cs_question::{QuestionFault, instance_of, separating};
+use cs_question::{Budget, QuestionFault, instance_of, separating};
 use cs_resolve::resolve;
 use cs_syntax::parse_file;
 use std::alloc::Global;
@@ -47,7 +47,14 @@ pub(crate) fn is_answered(
     new: &Guarded,
     wanted: &str,
 ) -> Result<bool, Fail> {
-    match separating(alloc, old, root_of(old), new, root_of(new)) {
+    match separating(
+        alloc,
+        old,
+        root_of(old),
+        new,
+        root_of(new),
+        &mut Budget::new(),
+    ) {
         Ok(None) => Ok(wanted == "compatible"),
         Ok(Some(doc)) => Ok(
             is_breaking(alloc, old, new, wanted)? && is_separating(alloc, old, new, &doc)?,
@@ -68,7 +75,7 @@ fn is_breaking(alloc: Global, old: &Guarded, new: &Guarded, wanted: &str) -> Res
 
 /// Whether the root has an instance as is wanted: `none`, `too many cases`, or a document that is one. Each document is judged.
 pub(crate) fn has_instance(alloc: Global, package: &Guarded, wanted: &str) -> Result<bool, Fail> {
-    match instance_of(alloc, package, root_of(package)) {
+    match instance_of(alloc, package, root_of(package), &mut Budget::new()) {
         Ok(None) => Ok(wanted == "none"),
         Ok(Some(doc)) => Ok(
             is_instance(alloc, package, root_of(package), &doc)?
@@ -91,9 +98,9 @@ fn is_wanted(alloc: Global, package: &Guarded, wanted: &str) -> Result<bool, Fai
 /// Whether a root that isn't declared is told on each side.
 pub(crate) fn is_unknown(alloc: Global, package: &Guarded, root: &str) -> bool {
     let known = root_of(package);
-    let first = separating(alloc, package, root, package, known);
-    let second = separating(alloc, package, known, package, root);
-    let third = instance_of(alloc, package, root);
+    let first = separating(alloc, package, root, package, known, &mut Budget::new());
+    let second = separating(alloc, package, known, package, root, &mut Budget::new());
+    let third = instance_of(alloc, package, root, &mut Budget::new());
     matches!(first, Err(QuestionFault::UnknownRoot))
         && matches!(second, Err(QuestionFault::UnknownRoot))
         && matches!(third, Err(QuestionFault::UnknownRoot))

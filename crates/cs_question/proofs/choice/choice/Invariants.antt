@@ -5,4 +5,4 @@ use Rattle.cs_question.specs.Truth.{Truth}
 use Rattle.cs_question.proofs.choice.choice.Given as goal
 
 abbrev pub invariant-loop : goal.invariant-loop
-invariant-loop l = l.table.is_final ≡ true → (t : Truth l.table.entries.items) (s : Spread) → HoldsPlaces t.J t.n s l.places → HoldsFurther t.J t.n s l.further → Each (λ w. AreTaken t.J s w.items) l.rules → SomeOf (HoldsState t.J t.n s) l.states.items
+invariant-loop l = l.table.is_final ≡ true → (t : Truth l.table.entries.items) (s : Spread) → HoldsPlaces t.J t.n s l.places → HoldsFurther t.J t.n s l.further → Each (λ w. AreTaken t.J s w.items) l.rules → SomeOf (HoldsState t.J s) l.states.items
