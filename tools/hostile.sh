@@ -506,8 +506,10 @@ awk 'BEGIN {
 }' > wide.cue
 try 'a chain of 1,000 definitions against itself: compare' 100000000 'error 17' 'compare --root #A0 --old wide.cue --new wide.cue'
 try 'a chain of 1,000 definitions: samples' 100000000 'shows {"x":{"x":{"x":null}}}' 'samples --root #A0 wide.cue'
+try 'a chain of 1,000 definitions: samples --invalid' 100000000 'shows {"x":{"x":{}}}' 'samples --invalid --root #A0 wide.cue'
 awk 'BEGIN { printf "#A: "; for (i = 0; i < 16; i++) printf "%s({a%d: 1, ...} | {b%d: 1, ...})", i ? " & " : "", i, i; print "" }' > wide.cue
 try '65,536 cases against themselves: compare' 100000000 'error 17' 'compare --root #A --old wide.cue --new wide.cue'
+try '65,536 cases: samples --invalid' 100000000 'lines 0 null' 'samples --invalid --root #A wide.cue'
 { printf '#A: '; listed 10000 '"v%d"' ' | '; printf '\n'; } > wide.cue
 try '10,000 texts against themselves: compare' 100000000 'error 17' 'compare --root #A --old wide.cue --new wide.cue'
 try '10,000 texts: samples' 100000000 'shows "v9999"' 'samples --root #A wide.cue'
@@ -515,6 +517,19 @@ try '10,000 texts: samples --invalid' 100000000 'lines 0 "aaaaaa";null' 'samples
 { printf '#A: {'; listed 1000 'a%d: int' ', '; printf '}\n'; } > wide.cue
 try '1,000 fields against themselves: compare' 100000000 'lines 0 compatible' 'compare --root #A --old wide.cue --new wide.cue'
 try '1,000 fields: samples' 100000000 'shows {"a0":0,"a1":0,"a10":0,' 'samples --root #A wide.cue'
+try '1,000 fields: samples --invalid' 100000000 'shows {"a1":0,"a10":0,' 'samples --invalid --root #A wide.cue'
+{ printf '#A: ['; listed 2000 'int' ', '; printf ']\n'; } > wide.cue
+try '2,000 elements: samples --invalid' 100000000 'shows [null,0,0,' 'samples --invalid --root #A wide.cue'
+awk 'BEGIN {
+    for (i = 0; i < 1000; i++) {
+        printf "#A%d: {", i
+        for (j = 0; j < 32; j++) printf "field_%d_%d_abcdefghij: int, ", i, j
+        if (i < 999) printf "next?: #A%d", i + 1
+        print "}"
+    }
+}' > wide.cue
+try '1,000 definitions of 1 MiB: samples' 100000000 'shows "next":{"field_1_' 'samples --root #A0 wide.cue'
+try '1,000 definitions of 1 MiB: samples --invalid' 100000000 'shows null' 'samples --invalid --root #A0 wide.cue'
 awk 'BEGIN { for (i = 0; i < 64; i++) printf "#A%d: #A%d & #A%d\n", i, i + 1, i + 1; print "#A64: int" }' > wide.cue
 awk 'BEGIN { for (i = 0; i < 64; i++) printf "#A%d: #A%d | #A%d\n", i, i + 1, i + 1; print "#A64: int" }' > other.cue
 try '64 doublings by both: compare' 0 'lines 0 backward: compatible;forward: compatible' 'compare --both --root #A0 --old wide.cue --new other.cue'

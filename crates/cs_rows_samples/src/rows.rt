@@ -1,6 +1,6 @@
 // A row a line, its cells parted by ` => `: a source whose `;` are newlines, a root, how many samples there are in all, or `-`
 // where that isn't said, and documents that are among them, parted by blanks.
-use cs_doc::read_doc;
+use cs_doc::{read_doc, write_doc};
 use cs_document::Doc;
 use cs_guard::{Guarded, guard};
 use cs_resolve::resolve;
@@ -73,6 +73,24 @@ const INVALID: &str = r##"#P: _ => #P => 0 =>
 #T: {v: 1, kids?: [...#T]} => #T => - => {} {"v":0}
 #P: int & "a" => #P => - => "a""##;
 
+/// Documents that fail only where a definition is changed for every reference to it.
+const SHARED: &str = r##"#P: #B & #B;#B: 3 => #P => - => 2 4
+#P: #B & #B;#B: {k: 1} => #P => - => {} {"k":0} {"k":2}
+#P: (#C | #D) & #D;#C: {c: 1};#D: {d: 1} => #P => - => {} {"d":0} {"d":2}
+#P: {[string]: #S, a: #S};#S: {k: 1} => #P => - => {} {"a":{},"key":{}} {"a":{"k":2},"key":{"k":2}}
+#P: #M & #M;#M: {s: #S};#S: {k: 1} => #P => - => {} {"s":{}} {"s":{"k":0}} {"s":{"k":2}}
+#T: {v: #S & #S, kids?: [...#T]};#S: 5 => #T => - => {} {"v":4} {"v":6}"##;
+
+/// A package whose root has the same definition for `d` and for every key, and what the texts of its samples hold. Which further key
+/// a sample has beside is left open.
+const EVERY: &str = r##"#P: {d: #S, [string]: #S};#S: {k: 1} => "d":{} "d":{"k":0} "d":{"k":2}"##;
+
+/// Documents that fail for no single place, and packages of which nothing fails.
+const ANY: &str = r##"#P: int & number => #P => 1 => null
+#P: #A & #A;#A: int & number => #P => 1 => null
+#P: _ | 1 => #P => 0 =>
+#P: [...] | {...} | int | string | bool | null => #P => 0 =>"##;
+
 /// The packages of these rows, and a root that each doesn't declare.
 const UNKNOWN: &str = r##"#P: 1 => P
 #P: 1 => #Q
@@ -144,6 +162,40 @@ fn instances_are_sampled(rt: HostRuntime) -> Result<(), Fail> {
 #[test]
 fn documents_that_just_fail_are_sampled(rt: HostRuntime) -> Result<(), Fail> {
     check(rt.alloc(), INVALID, Sampled::Invalid)
+}
+
+#[test]
+fn what_fails_at_every_reference_alone_is_sampled(rt: HostRuntime) -> Result<(), Fail> {
+    check(rt.alloc(), SHARED, Sampled::Invalid)
+}
+
+/// Whether the text of one of the documents holds this one.
+fn is_held(alloc: Global, docs: &[Doc], part: &str) -> Result<bool, Fail> {
+    for doc in docs {
+        let written = write_doc(alloc, doc)?;
+        if std::str::from_utf8(&written).unwrap_or("?").contains(part) {
+            return Ok(true);
+        }
+    }
+    Ok(false)
+}
+
+#[test]
+fn what_fails_under_every_key_is_sampled(rt: HostRuntime) -> Result<(), Fail> {
+    let (source, parts) = cell(EVERY);
+    let package = guarded_of(rt.alloc(), source)?;
+    let docs = samples(rt.alloc(), &package, "#P", Sampled::Invalid, 100)?;
+    for part in parts.split_whitespace() {
+        if !is_held(rt.alloc(), &docs, part)? {
+            return Err(Fail::new(part));
+        }
+    }
+    Ok(())
+}
+
+#[test]
+fn any_document_that_fails_is_sampled_at_last(rt: HostRuntime) -> Result<(), Fail> {
+    check(rt.alloc(), ANY, Sampled::Invalid)
 }
 
 /// Whether the row's root is unknown.

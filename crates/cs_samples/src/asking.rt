@@ -3,11 +3,12 @@ ghost use Rattle.std.specs.Prelude.{IfOk, IsTrue};
 ghost use Rattle.cs_document.specs.View.{doc_view};
 ghost use Rattle.cs_samples.specs.Sample.{IsSample};
 
+use crate::costs::cost_of;
 use crate::sampled::Sampled;
 use cs_document::Doc;
 use cs_guard::Guarded;
 use cs_instance::{InstanceFault, is_instance};
-use cs_question::{QuestionFault, instance_of, separating};
+use cs_question::{Budget, QuestionFault, instance_of, separating};
 use std::alloc::Global;
 
 /// What is asked for: samples of the root of a package.
@@ -31,14 +32,23 @@ pub(crate) enum Answer {
 impl Asking<'_> {
     ghost use Rattle.cs_samples.specs.Answers.{IsAnswer};
 
-    /// A document of the last definition of a variant: an instance of it that is one of the root too, or one that isn't.
+    /// A document of the last definition of a variant: an instance of it that is one of the root too, or one that isn't. What this
+    /// takes is taken from the budget.
     ///
     /// # Errors
     /// `OutOfMemory`.
-    pub(crate) fn answer(&self, variant: &Guarded) -> Result<Answer, QuestionFault>
+    pub(crate) fn answer(
+        &self,
+        variant: &Guarded,
+        budget: &mut Budget,
+    ) -> Result<Answer, QuestionFault>
         ensures { IfOk result (IsAnswer self.now.package.now self.now.root.now self.now.which) }
     {
-        match self.found(variant) {
+        budget.spend(cost_of(variant.package()));
+        if budget.steps == 0 {
+            return Ok(Answer::TooManyCases);
+        }
+        match self.found(variant, budget) {
             Ok(Some(doc)) => self.judged(doc),
             Ok(None) | Err(QuestionFault::UnknownRoot) => Ok(Answer::Nothing),
             Err(QuestionFault::TooManyCases) => Ok(Answer::TooManyCases),
@@ -47,15 +57,17 @@ impl Asking<'_> {
     }
 
     /// What the last definition of the variant admits, and the root refuses where no instance is asked for.
-    fn found(&self, variant: &Guarded) -> Result<Option<Doc>, QuestionFault> {
+    fn found(&self, variant: &Guarded, budget: &mut Budget) -> Result<Option<Doc>, QuestionFault> {
         let package = variant.package();
         let Some(last) = package.count().checked_sub(1) else {
             return Ok(None);
         };
         let name = package.name(last);
         match self.which {
-            Sampled::Valid => instance_of(self.alloc, variant, name),
-            Sampled::Invalid => separating(self.alloc, variant, name, self.package, self.root),
+            Sampled::Valid => instance_of(self.alloc, variant, name, budget),
+            Sampled::Invalid => {
+                separating(self.alloc, variant, name, self.package, self.root, budget)
+            }
         }
     }
 

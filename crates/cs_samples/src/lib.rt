@@ -4,6 +4,7 @@
 mod asking;
 mod changes;
 mod copies;
+mod costs;
 mod ends;
 mod forced;
 mod names;

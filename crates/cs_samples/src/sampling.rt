@@ -1,5 +1,5 @@
 // Samples of a definition.
-ghost use Rattle.std.specs.Prelude.{◌≡◌, ◌≤◌, ◌<◌, ◌+◌, ℕ, List, [], false, IfOk, OnOk, IsErrOf, length, map};
+ghost use Rattle.std.specs.Prelude.{◌≡◌, ◌≤◌, ◌<◌, ◌+◌, ℕ, List, [], false, IfOk, OnOk, IsErrOf, IsTrue, length, map};
 ghost use Rattle.std.specs.List.{IsDistinct};
 ghost use Rattle.cs_document.specs.Document.{document_eq};
 ghost use Rattle.cs_document.specs.View.{doc_view};
@@ -15,14 +15,14 @@ use crate::walks::walk_of;
 use cs_document::Doc;
 use cs_guard::{Guarded, reachable};
 use cs_package::Package;
-use cs_question::QuestionFault;
+use cs_question::{Budget, QuestionFault};
 use std::alloc::{AllocError, Global};
 use std::collections::BTreeSet;
 
-/// How many questions may answer nothing, beside as many as documents are asked for.
+/// How many places may have no document, beside as many as documents are asked for.
 const SPARE_QUESTIONS: usize = 100;
 
-/// How many questions may meet a limit.
+/// At how many places a limit may be met.
 const MOST_LIMITED: usize = 8;
 
 /// Documents of the root, a definition of the package named with its `#`, or documents that just fail, no two alike, and at most
@@ -31,9 +31,12 @@ const MOST_LIMITED: usize = 8;
 /// Valid ones: an instance first, and then one for each alternative, each optional key with and without, each end of a range, the
 /// least length of a list and the next one, and a further key where one is allowed. Invalid ones: for each kind, literal and bound,
 /// each required key, each length of a list, and each struct that allows no further key, one that is no instance for this alone,
-/// where there is one. Each definition is sampled at the first place that refers to it. A further key is called `key`.
+/// where there is one; any that is no instance where there is none of these. Each definition is sampled at the first place that
+/// refers to it. Where that gives no document that just fails, the definition is changed for all places that refer to it. A further
+/// key is called `key`.
 ///
-/// At most `most` questions give a document, `most + 100` give none, and 8 meet a limit.
+/// At most `most` places give a document, `most + 100` give none, and 8 meet a limit. All questions together take 5,000,000 steps
+/// at most, and each at most half of those that are left. Where no more may be asked, there are the documents so far.
 ///
 /// # Errors
 /// `UnknownRoot` exactly where the package doesn't declare the root, `TooManyCases` where no document was found and a limit
@@ -61,7 +64,8 @@ pub fn samples(
         root,
         which,
     };
-    let Ok(found) = gathered(&asking, number, most) else {
+    let mut budget = Budget::new();
+    let Ok(found) = gathered(&asking, number, most, &mut budget) else {
         return Err(QuestionFault::OutOfMemory);
     };
     if found.docs.is_empty() && found.limited > 0 {
@@ -109,12 +113,23 @@ impl Found {
         }
     }
 
+    /// Whether no document was found yet that isn't an instance, and one is asked for.
+    fn lacks_invalid(&self, which: Sampled, most: usize) -> bool
+        ensures { IsTrue result → length self.now.docs.items < most }
+    {
+        match which {
+            Sampled::Valid => false,
+            Sampled::Invalid => self.docs.len() < most && self.docs.is_empty(),
+        }
+    }
+
     /// Asks the question of a place.
     fn ask(
         &mut self,
         asking: &Asking<'_>,
         making: &Making<'_, '_>,
         place: &Place<'_>,
+        budget: &mut Budget,
     ) -> Result<(), QuestionFault>
         requires { AreSamples asking.now.package.now asking.now.root.now asking.now.which
             self.old.docs.items }
@@ -124,10 +139,40 @@ impl Found {
         ensures kept { OnOk result (AreKept self.old.seen self.old.docs.items
             → AreKept self.new.seen self.new.docs.items) }
     {
-        match asked(asking, making, place)? {
+        match asked(asking, making, place, budget)? {
             Answer::Document(doc) => self.put(asking.alloc, doc),
             Answer::Nothing => {
                 self.missed = self.missed.saturating_add(1);
+                Ok(())
+            }
+            Answer::TooManyCases => {
+                self.limited = self.limited.saturating_add(1);
+                Ok(())
+            }
+        }
+    }
+
+    /// Asks for any document that is no instance of the root. Where there is none, no limit kept one from being found.
+    fn ask_any(
+        &mut self,
+        asking: &Asking<'_>,
+        making: &Making<'_, '_>,
+        root: usize,
+        budget: &mut Budget,
+    ) -> Result<(), QuestionFault>
+        requires samples { AreSamples asking.now.package.now asking.now.root.now asking.now.which
+            self.old.docs.items }
+        requires root { root < length making.now.package.now }
+        ensures samples { OnOk result (AreSamples asking.now.package.now asking.now.root.now
+            asking.now.which self.new.docs.items) }
+        ensures one { OnOk result (length self.new.docs.items ≤ length self.old.docs.items + 1) }
+        ensures kept { OnOk result (AreKept self.old.seen self.old.docs.items
+            → AreKept self.new.seen self.new.docs.items) }
+    {
+        match answered(asking, making.of_everything(root)?, budget)? {
+            Answer::Document(doc) => self.put(asking.alloc, doc),
+            Answer::Nothing => {
+                self.limited = 0;
                 Ok(())
             }
             Answer::TooManyCases => {
@@ -153,22 +198,48 @@ impl Found {
     }
 }
 
-/// What the question of a place answers.
+/// What the question of a place answers. Where the change breaks nothing at one reference, it is made at all of them.
 fn asked(
     asking: &Asking<'_>,
     making: &Making<'_, '_>,
     place: &Place<'_>,
+    budget: &mut Budget,
 ) -> Result<Answer, QuestionFault>
     ensures { IfOk result (IsAnswer asking.now.package.now asking.now.root.now asking.now.which) }
 {
-    match making.variant(place)? {
-        Some(variant) => asking.answer(&variant),
-        None => Ok(Answer::Nothing),
+    match answered(asking, making.variant(place)?, budget)? {
+        Answer::Nothing if making.is_asked_again(place) => {
+            answered(asking, making.changed_everywhere(place)?, budget)
+        }
+        answer => Ok(answer),
     }
 }
 
+/// What a variant answers, where there is one, by half of the steps that are left.
+fn answered(
+    asking: &Asking<'_>,
+    variant: Option<Guarded>,
+    budget: &mut Budget,
+) -> Result<Answer, QuestionFault>
+    ensures { IfOk result (IsAnswer asking.now.package.now asking.now.root.now asking.now.which) }
+{
+    let Some(variant) = variant else {
+        return Ok(Answer::Nothing);
+    };
+    let steps = budget.steps / 2;
+    let mut share = Budget { steps };
+    let answer = asking.answer(&variant, &mut share)?;
+    budget.spend(steps.saturating_sub(share.steps));
+    Ok(answer)
+}
+
 /// Asks the questions of all places, in their order, until there are enough documents.
-fn gathered(asking: &Asking<'_>, number: usize, most: usize) -> Result<Found, QuestionFault>
+fn gathered(
+    asking: &Asking<'_>,
+    number: usize,
+    most: usize,
+    budget: &mut Budget,
+) -> Result<Found, QuestionFault>
     requires { number < length asking.now.package.now }
     ensures samples { IfOk result (λ f. AreSamples asking.now.package.now asking.now.root.now
         asking.now.which f.docs.items) }
@@ -183,6 +254,7 @@ fn gathered(asking: &Asking<'_>, number: usize, most: usize) -> Result<Found, Qu
         alloc: asking.alloc,
         package,
         is_reached: &is_reached,
+        is_shared: &walk.is_shared,
         reached: &walk.reached,
         which: asking.which,
     };
@@ -191,7 +263,10 @@ fn gathered(asking: &Asking<'_>, number: usize, most: usize) -> Result<Found, Qu
         if found.is_full(most) || found.has_no_instance(asking.which) {
             break;
         }
-        found.ask(asking, &making, place)?;
+        found.ask(asking, &making, place, budget)?;
+    }
+    if found.lacks_invalid(asking.which, most) {
+        found.ask_any(asking, &making, number, budget)?;
     }
     Ok(found)
 }

@@ -11,14 +11,17 @@ use crate::whole::whole;
 use cs_guard::{GuardFault, Guarded, guard};
 use cs_package::{NameTable, Package, Shape};
 use cs_question::QuestionFault;
+use indexmap::IndexMap;
 use std::alloc::{AllocError, Global};
 
-/// What variants are made of: a package, which of its definitions the root reaches by any way, and those that a walk reached.
+/// What variants are made of: a package, which of its definitions the root reaches by any way, which are referred to more than
+/// once, and those that a walk reached.
 #[derive(Clone, Copy)]
 pub(crate) struct Making<'b, 'a> {
     pub(crate) alloc: Global,
     pub(crate) package: &'a Package,
     pub(crate) is_reached: &'b [bool],
+    pub(crate) is_shared: &'b [bool],
     pub(crate) reached: &'b [Reached<'a>],
     pub(crate) which: Sampled,
 }
@@ -39,6 +42,69 @@ impl Making<'_, '_> {
     pub(crate) fn variant(&self, place: &Place<'_>) -> Result<Option<Guarded>, QuestionFault> {
         let mut draft = self.unchanged()?;
         self.put_copies(&mut draft, place)?;
+        self.guarded(draft)
+    }
+
+    /// The same, with the definition of the place changed itself, so that the change is made for every reference to it.
+    ///
+    /// # Errors
+    /// `OutOfMemory`.
+    pub(crate) fn changed_everywhere(
+        &self,
+        place: &Place<'_>,
+    ) -> Result<Option<Guarded>, QuestionFault> {
+        let mut draft = self.unchanged()?;
+        self.put_changed(&mut draft, place)?;
+        self.guarded(draft)
+    }
+
+    /// The package of one definition, `_`.
+    ///
+    /// # Errors
+    /// `OutOfMemory`.
+    pub(crate) fn of_everything(&self, root: usize) -> Result<Option<Guarded>, QuestionFault>
+        requires { root < length self.now.package.now }
+    {
+        let mut names = IndexMap::new(self.alloc);
+        put_copy(self.alloc, &mut names, self.package, root)?;
+        let mut alone = Vec::new(self.alloc);
+        alone.push(Shape::Top)?;
+        let mut bodies = Vec::new(self.alloc);
+        bodies.push(alone)?;
+        self.guarded(Draft { names, bodies })
+    }
+
+    /// Whether a place without a document is asked about again, for every reference: where no instances are asked for, and its
+    /// definition or one on the way to it is referred to more than once.
+    pub(crate) fn is_asked_again(&self, place: &Place<'_>) -> bool {
+        match self.which {
+            Sampled::Valid => false,
+            Sampled::Invalid => self.is_shared_at(place.entry),
+        }
+    }
+
+    /// Whether the definition of an entry, or one on the way to it, is referred to more than once.
+    fn is_shared_at(&self, entry: usize) -> bool {
+        let mut entry = entry;
+        for _ in 0..self.reached.len() {
+            let Some(reached) = self.reached.get(entry) else {
+                return false;
+            };
+            if self.is_shared.get(reached.definition) == Some(&true) {
+                return true;
+            }
+            let Some(from) = &reached.from else {
+                return false;
+            };
+            entry = from.entry;
+        }
+        false
+    }
+
+    /// The package of a draft, where it is guarded.
+    fn guarded(&self, draft: Draft) -> Result<Option<Guarded>, QuestionFault>
+        requires { IsTable draft.names.entries }
+    {
         let Some(package) = whole(draft.names, draft.bodies) else {
             return Ok(None);
         };
@@ -65,14 +131,24 @@ impl Making<'_, '_> {
         Ok(Draft { names, bodies })
     }
 
-    /// Puts the copies of the definitions on the way to a place behind the others, from the place back to the root. Each refers
-    /// to the copy before it.
+    /// Puts the copies of the definitions on the way to a place behind the others, from the place back to the root.
     fn put_copies(&self, draft: &mut Draft, place: &Place<'_>) -> Result<(), AllocError>
         requires { IsTable draft.old.names.entries }
         ensures { OnOk result (IsTable draft.new.names.entries) }
     {
         self.put_copy(draft, place, place.change)?;
-        let mut entry = place.entry;
+        let last = draft.bodies.len().saturating_sub(1);
+        self.put_way(draft, place.entry, last)
+    }
+
+    /// Puts copies of the definitions that refer to the one of an entry behind the others, on the way back to the root. The first
+    /// copy refers to the definition of that number instead, and each further one to the copy before it.
+    fn put_way(&self, draft: &mut Draft, entry: usize, definition: usize) -> Result<(), AllocError>
+        requires { IsTable draft.old.names.entries }
+        ensures { OnOk result (IsTable draft.new.names.entries) }
+    {
+        let mut entry = entry;
+        let mut last = definition;
         for _ in 0..self.reached.len() {
             let Some(reached) = self.reached.get(entry) else {
                 return Ok(());
@@ -80,11 +156,34 @@ impl Making<'_, '_> {
             let Some(from) = &reached.from else {
                 return Ok(());
             };
-            let last = draft.bodies.len().saturating_sub(1);
             self.put_copy(draft, from, Change::Definition(last))?;
+            last = draft.bodies.len().saturating_sub(1);
             entry = from.entry;
         }
         Ok(())
+    }
+
+    /// Changes the definition of a place in its stead, and puts copies of those on the way to it behind the others. The root has a
+    /// copy even where the place is in it, since the last definition counts as the root.
+    fn put_changed(&self, draft: &mut Draft, place: &Place<'_>) -> Result<(), AllocError>
+        requires { IsTable draft.old.names.entries }
+        ensures { OnOk result (IsTable draft.new.names.entries) }
+    {
+        let Some(reached) = self.reached.get(place.entry) else {
+            return Ok(());
+        };
+        let definition = reached.definition;
+        if definition >= self.package.count() {
+            return Ok(());
+        }
+        let copies = self.copied(definition, place, place.change)?;
+        if let Some(bodies) = draft.bodies.get_mut(definition) {
+            *bodies = copies;
+        }
+        if reached.from.is_none() {
+            self.put_copy(draft, place, place.change)?;
+        }
+        self.put_way(draft, place.entry, definition)
     }
 
     /// Puts a copy of the definition of a place behind the others.

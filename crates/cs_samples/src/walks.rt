@@ -15,6 +15,8 @@ pub(crate) struct Walk<'a> {
     most: usize,
     pub(crate) reached: Vec<Reached<'a>>,
     pub(crate) places: Vec<Place<'a>>,
+    /// Whether each definition of the package is referred to more than once, the root once at least.
+    pub(crate) is_shared: Vec<bool>,
     seen: Vec<bool>,
     entry: usize,
     body: usize,
@@ -35,6 +37,7 @@ pub(crate) fn walk_of(
         most,
         reached: Vec::new(alloc),
         places: Vec::new(alloc),
+        is_shared: vec![in alloc; false; package.count()]?,
         seen: vec![in alloc; false; package.count()]?,
         entry: 0,
         body: 0,
@@ -55,11 +58,8 @@ pub(crate) fn walk_of(
 }
 
 impl<'a> Walk<'a> {
-    /// Visits the definition that comes next, if there is one and places are asked for still.
+    /// Visits the definition that comes next, if there is one: also where no place is asked for any more, for its references.
     fn visit_entry(&mut self, package: &'a Package) -> Result<(), AllocError> {
-        if self.places.len() >= self.most {
-            return Ok(());
-        }
         let Some(reached) = self.reached.get(self.entry) else {
             return Ok(());
         };
@@ -118,6 +118,9 @@ impl<'a> Walk<'a> {
             return Ok(());
         };
         if *seen {
+            if let Some(is_shared) = self.is_shared.get_mut(definition) {
+                *is_shared = true;
+            }
             return Ok(());
         }
         *seen = true;
