@@ -4,6 +4,7 @@ use crate::fields::{put_embedded_definition, put_embedded_struct};
 use crate::labels::{field_of, value_without};
 use crate::sentences::{
     sentence_of, sentence_of_character, sentence_of_comparison, sentence_of_number,
+    sentence_of_package,
 };
 use crate::sources::Source;
 use crate::text::{put_all, put_code, put_line};
@@ -31,22 +32,13 @@ pub(crate) fn put_advice(
 ) -> Result<(), AllocError> {
     let shown = text_of(source.named.text.get(found.start..found.end));
     match found.form {
-        Form::PackageValue | Form::PackageCall | Form::Selector | Form::Call | Form::LargeInteger =>
-            {
-                put_code(text, shown)?;
-                text.push_str(": ")?;
-                text.push_str(sentence_of(found.form))
-            }
-        Form::NumberSpelling => {
-            put_code(text, shown)?;
-            text.push_str(": ")?;
-            text.push_str(sentence_of_number(shown))
-        }
-        Form::Comparison => {
-            put_code(text, shown)?;
-            text.push_str(": ")?;
-            text.push_str(sentence_of_comparison(shown))
-        }
+        Form::PackageValue
+        | Form::PackageCall
+        | Form::Selector
+        | Form::Call
+        | Form::LargeInteger
+        | Form::NumberSpelling
+        | Form::Comparison => put_spelled(text, shown, found.form),
         Form::StrayCharacter => text.push_str(sentence_of_character(shown)),
         Form::UnknownKind => put_kind(text, shown),
         Form::UnknownName | Form::UnknownDefinition => put_unknown(alloc, text, shown, sources),
@@ -54,6 +46,21 @@ pub(crate) fn put_advice(
             Some(near) => put_advice_near(alloc, text, source, sources, near, found.form),
             None => text.push_str(sentence_of(found.form)),
         },
+    }
+}
+
+/// Puts how a form is spelled, and what is said of it.
+fn put_spelled(text: &mut String, shown: &str, form: Form) -> Result<(), AllocError> {
+    put_code(text, shown)?;
+    text.push_str(": ")?;
+    match form {
+        Form::NumberSpelling => text.push_str(sentence_of_number(shown)),
+        Form::Comparison => text.push_str(sentence_of_comparison(shown)),
+        Form::PackageValue | Form::PackageCall => put_all(
+            text,
+            &[sentence_of(form), "; ", sentence_of_package(shown)],
+        ),
+        _ => text.push_str(sentence_of(form)),
     }
 }
 
@@ -87,7 +94,8 @@ fn put_default(text: &mut String, source: &[u8], near: Near<'_, '_>) -> Result<(
     let Some(field) = field_of(near) else {
         return text.push_str("take it out");
     };
-    if field.label.sort == Sort::Definition {
+    // Behind a `!` a default is never filled in: documents have to have the field.
+    if field.label.sort == Sort::Definition || field.is_required {
         return text.push_str("take it out");
     }
     text.push_str("a document may leave the field out, so write `")?;

@@ -10,6 +10,8 @@ const MOST_SHOWN: usize = 80;
 #[derive(Clone, Copy)]
 pub(crate) struct Labelled<'a> {
     pub(crate) label: Token<'a>,
+    /// Whether a `!` is behind the label.
+    pub(crate) is_required: bool,
     /// Where the value begins and ends.
     pub(crate) start: usize,
     pub(crate) end: usize,
@@ -76,13 +78,15 @@ fn value_end(near: Near<'_, '_>) -> usize {
 pub(crate) fn field_of<'a>(near: Near<'_, 'a>) -> Option<Labelled<'a>> {
     let colon = colon_before(near)?;
     let marked = colon.checked_add(1)?;
-    let is_marked = matches!(near.before(marked).text, "?" | "!");
+    let mark = near.before(marked).text;
+    let is_marked = matches!(mark, "?" | "!");
     let label = near.before(marked.checked_add(usize::from(is_marked))?);
     if !ends_value(label) || label.sort == Sort::Mark {
         return None;
     }
     Some(Labelled {
         label,
+        is_required: mark == "!",
         start: end_of(near.before(colon)),
         end: value_end(near),
     })

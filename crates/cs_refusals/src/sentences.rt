@@ -22,9 +22,8 @@ pub(crate) fn sentence_of(form: Form) -> &'static str {
         Form::DefaultMark => "default marks are left out",
         Form::Import =>
             "imports are left out; remove it and write what it gives by hand (`net.FQDN`, `time.Time`: `string`)",
-        Form::PackageValue => "packages are left out; `string` is what remains of their formats",
-        Form::PackageCall =>
-            "calls are left out; `[T, ...T]` says a list that isn't empty; lengths of texts can't be said",
+        Form::PackageValue => "packages are left out",
+        Form::PackageCall => "calls of packages are left out",
         Form::Selector =>
             "what `.` selects is left out; give the field's value a definition and name it in both places",
         Form::Index =>
@@ -77,6 +76,21 @@ pub(crate) fn sentence_of(form: Form) -> &'static str {
         Form::FieldReference => "this is a field: give its value a definition and name it in both",
         Form::NotOpened =>
             "this struct is joined with others: end each of them with `...`, or write all fields into one",
+    }
+}
+
+/// What to write instead of what a package gives, by its name before a dot.
+pub(crate) fn sentence_of_package(name: &str) -> &'static str {
+    if name.starts_with("list.") {
+        "`[T, T, ...T]` has at least two elements, `[] | [T] | [T, T]` at most two; that they differ can't be said"
+    } else if name.starts_with("strings.") {
+        "`!=\"\"` is a text that isn't empty; other lengths can't be said, but each text can: `\"a\" | \"b\"`"
+    } else if name.starts_with("math.") {
+        "what can be said of a number is bounds, as `>=0 & <=100`, or each number: `0 | 2 | 4`"
+    } else if name.starts_with("struct.") {
+        "fields without `?` have to be there; how many there are can't be said"
+    } else {
+        "`string` is what remains of their formats"
     }
 }
 

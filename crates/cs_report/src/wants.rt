@@ -100,15 +100,37 @@ fn put_alternative(text: &mut String, wants: &Vec<Want<'_>>) -> Result<(), Alloc
     Ok(())
 }
 
-/// Puts what alternatives ask for: the first ones, and how many more there are.
-fn put_alternatives(text: &mut String, wanted: &Wanted<'_>) -> Result<(), AllocError> {
-    for (place, wants) in wanted.alternatives.iter().take(MOST_WANTED).enumerate() {
-        if place > 0 {
-            text.push_str(" | ")?;
+/// Whether an alternative takes no value: it asks for `_|_`.
+fn is_never(wants: &Vec<Want<'_>>) -> bool {
+    wants
+        .iter()
+        .any(|want| matches!(want, Want::Expression(Shape::Bottom)))
+}
+
+/// How many alternatives take some value.
+fn count_told(wanted: &Wanted<'_>) -> usize {
+    let mut count = 0usize;
+    for wants in &wanted.alternatives {
+        if !is_never(wants) {
+            count = count.saturating_add(1);
         }
-        put_alternative(text, wants)?;
     }
-    let left = wanted.alternatives.len().saturating_sub(MOST_WANTED);
+    count
+}
+
+/// Puts what alternatives ask for that take some value: the first ones, and how many more there are.
+fn put_alternatives(text: &mut String, wanted: &Wanted<'_>) -> Result<(), AllocError> {
+    let mut told = 0usize;
+    for wants in &wanted.alternatives {
+        if told < MOST_WANTED && !is_never(wants) {
+            if told > 0 {
+                text.push_str(" | ")?;
+            }
+            put_alternative(text, wants)?;
+            told = told.saturating_add(1);
+        }
+    }
+    let left = count_told(wanted).saturating_sub(told);
     if left > 0 {
         text.push_str(" and ")?;
         put_number(text, left)?;
@@ -138,7 +160,7 @@ pub(crate) fn put_none_taken(
     item: Item<'_>,
     wanted: &Wanted<'_>,
 ) -> Result<(), AllocError> {
-    if wanted.alternatives.is_empty() {
+    if count_told(wanted) == 0 {
         return text.push_str("nothing is allowed here");
     }
     text.push_str("found ")?;
@@ -205,9 +227,15 @@ fn is_literal(wants: &Vec<Want<'_>>) -> bool {
     })
 }
 
-/// Which kind of reason it is that no alternative takes a value, in a word.
+/// Which kind of reason it is that no alternative takes a value, in a word: by those that take some value.
 pub(crate) fn none_taken_word(wanted: &Wanted<'_>) -> &'static str {
-    if wanted.alternatives.iter().all(|wants| is_literal(wants)) {
+    if count_told(wanted) == 0 {
+        "never"
+    } else if wanted
+        .alternatives
+        .iter()
+        .all(|wants| is_never(wants) || is_literal(wants))
+    {
         "value"
     } else {
         "alternatives"
