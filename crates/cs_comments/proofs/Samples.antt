@@ -33,6 +33,10 @@ no_comment = refl
 empty_above : text_at lines 10 ≡ None
 empty_above = refl
 
+-- and so it is where there are two
+two_empty_above : text_at (Alone (text []) ∷ Alone (text []) ∷ Plain ∷ []) 2 ≡ None
+two_empty_above = refl
+
 behind_blank_line : text_at (Alone (text (codes "a")) ∷ Plain ∷ Plain ∷ []) 2 ≡ None
 behind_blank_line = refl
 

@@ -1,6 +1,6 @@
 -- Which comments are the text of what is declared first on a line (own rule; CUE leaves open what comments belong to).
-use Rattle.std.specs.Prelude.{ℕ, List, [], ◌∷◌, ◌++◌, Option, Some, None, reverse, take, slice_get}
-use Rattle.std.specs.List.{join_by}
+use Rattle.std.specs.Prelude.{ℕ, List, [], ◌∷◌, ◌++◌, Bool, ◌==◌, if◌then◌else◌, Option, Some, None, reverse, take, slice_get}
+use Rattle.std.specs.List.{join_by, list_all}
 use Rattle.cs_comments.specs.declared.lines.Line.{Line}
 use Rattle.cs_comments.specs.declared.lines.Line.TheVariants.{Alone, Behind, Plain}
 
@@ -24,10 +24,12 @@ or_else (c ∷ cs) ds = c ∷ cs
 abbrev pub comments_at : List Line → ℕ → List (List ℕ)
 comments_at ls i = or_else (above (reverse (take i ls))) (comment_on (slice_get ls i))
 
--- a text with a character at least
+abbrev pub is_newline : ℕ → Bool
+is_newline x = x == 10
+
+-- a text with a character at least that is no newline
 abbrev pub some_text : List ℕ → Option (List ℕ)
-some_text [] = None
-some_text (x ∷ xs) = Some (x ∷ xs)
+some_text xs = if list_all is_newline xs then None else Some xs
 
 -- the comments in one text, parted by newlines (10)
 abbrev pub text_at : List Line → ℕ → Option (List ℕ)

@@ -19,7 +19,7 @@ fn told(alloc: Global, source: &str) -> Result<String, Fail> {
 }
 
 /// A run above, with empty lines in it, and the comment behind.
-const PLACES: [(&str, &str); 13] = [
+const PLACES: [(&str, &str); 15] = [
     ("#P: int", "-"),
     ("// one\n#P: int\n", "one"),
     ("// one\n// two\n#P: int\n", "one\ntwo"),
@@ -28,6 +28,8 @@ const PLACES: [(&str, &str); 13] = [
     ("// one\n \t\n#P: int\n", "-"),
     ("// one\n//\n// two\n#P: int\n", "one\n\ntwo"),
     ("//\n#P: int // behind\n", "-"),
+    ("//\n//\n#P: int // behind\n", "-"),
+    ("//\n// \n//\n// a\n#P: int\n", "\n\n\na"),
     ("// above\n#P: int // behind\n", "above"),
     ("// above\n\n#P: int // behind\n", "behind"),
     ("#P: int // behind", "behind"),

@@ -1,5 +1,4 @@
 // What is declared under each name, and its notes.
-use crate::notes::no_notes;
 use cs_describe::Notes;
 use std::alloc::{AllocError, Global};
 use std::collections::BTreeMap;
@@ -20,7 +19,7 @@ pub(crate) struct Declarations {
 /// The notes of what is declared under one name: those of its one value, or `allOf` of several. Its text is all texts.
 fn notes_under(alloc: Global, declared: Declared) -> Result<Notes, AllocError> {
     let Declared { texts, mut values } = declared;
-    let mut notes = no_notes(alloc);
+    let mut notes = Notes::new(alloc);
     if values.len() > 1 {
         notes.all_of = values;
     } else if let Some(only) = values.pop() {

@@ -6,7 +6,6 @@ mod comments_tests;
 mod declared;
 mod labels;
 mod lines;
-mod notes;
 #[cfg(test)]
 mod notes_tests;
 mod packages;

@@ -1,7 +1,8 @@
 // The texts of definitions and fields.
 ghost use Rattle.std.specs.Prelude.{◌≡◌, IfOk, reverse, string_bytes};
+ghost use Rattle.std.specs.List.{list_all};
 ghost use Rattle.std.specs.Option.{option_copied, option_map};
-ghost use Rattle.cs_comments.specs.Comments.{above, comment_on, comments_at, some_text, text_at};
+ghost use Rattle.cs_comments.specs.Comments.{above, comment_on, comments_at, is_newline, some_text, text_at};
 ghost use Rattle.cs_comments.specs.Views.{each_text, texts_of};
 
 use crate::labels::labels_of;
@@ -55,15 +56,27 @@ fn comments_at<'a>(
     }
 }
 
-/// A text, where it has a character.
+/// Whether a text has no character but newlines.
+fn is_newlines(text: &[u8]) -> bool
+    ensures { result ≡ list_all is_newline text.now }
+{
+    text.iter().all(|byte| *byte == b'\n')
+}
+
+/// A text, where it has a character that is no newline: lines that are all empty say nothing.
 fn some_text(text: String) -> Option<String>
     ensures { option_map string_bytes result ≡ some_text (string_bytes text) }
 {
-    if text.is_empty() { None } else { Some(text) }
+    if is_newlines(text.as_bytes()) {
+        None
+    } else {
+        Some(text)
+    }
 }
 
 /// The text of what is declared first on a line: the comments of the run of lines that are alone right above it, each a line
-/// of the text, or else the comment on the line itself. None where that has no character.
+/// of the text, or else the comment on the line itself. None where that has no character
+/// but the newlines between them.
 ///
 /// # Errors
 /// Memory ran out.

@@ -1,6 +1,5 @@
 // The notes of values, as their translation to schemas has places for them.
 use crate::declared::Declarations;
-use crate::notes::no_notes;
 use cs_describe::Notes;
 use cs_grammar::{Expr, Field, FieldMark, ListEnd};
 use std::alloc::{AllocError, Global};
@@ -32,7 +31,7 @@ pub(crate) fn notes_of_value(
     value: &Expr,
     texts: &mut Texts,
 ) -> Result<Notes, AllocError> {
-    let mut notes = no_notes(alloc);
+    let mut notes = Notes::new(alloc);
     match value {
         Expr::And(operands) => notes.all_of = notes_of_each(alloc, operands, texts)?,
         Expr::Or(operands) => notes.any_of = notes_of_each(alloc, operands, texts)?,
@@ -95,7 +94,7 @@ fn notes_of_fields(
     fields: &[Field],
     texts: &mut Texts,
 ) -> Result<Notes, AllocError> {
-    let mut notes = no_notes(alloc);
+    let mut notes = Notes::new(alloc);
     let mut labels = Declarations::new(alloc);
     for field in fields {
         let text = texts.take();
@@ -123,7 +122,7 @@ fn notes_under_every_key(
 ) -> Result<Notes, AllocError> {
     let mut value = value;
     value.text = text;
-    let mut notes = no_notes(alloc);
+    let mut notes = Notes::new(alloc);
     notes.additional = Some(Box::new(alloc, value)?);
     Ok(notes)
 }

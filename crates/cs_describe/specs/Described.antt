@@ -1,6 +1,6 @@
 -- The descriptions that are put into a schema's document (JSON Schema Validation 2020-12, section 9.1; which schema gets which
 -- text is an own rule).
-use Rattle.std.specs.Prelude.{ℕ, List, [], ◌∷◌, map, true, false, Option, Some, None, option_map, codes, String, string_bytes, if◌then◌else◌}
+use Rattle.std.specs.Prelude.{◌≡◌, ℕ, List, [], ◌∷◌, map, true, false, Option, Some, None, option_map, codes, String, string_bytes, if◌then◌else◌}
 use Rattle.std.specs.Str.{bytes_eq}
 use Rattle.std.specs.declared.alloc.Global.{Global}
 use Rattle.cs_document.specs.Document.{Document, null, boolean, integer, text, list, object, Documents, no_documents, document, Members, no_members, member, under, put}
@@ -17,6 +17,16 @@ with_text (Some t) ms = put (codes "description") (text (string_bytes t)) ms
 abbrev pub truth_with_text : Option (String Global) → Document
 truth_with_text None = boolean true
 truth_with_text (Some t) = object (member (codes "description") (text (string_bytes t)) no_members)
+
+-- no text, neither for the schema nor for those in it
+pub record HasNoTexts (n : Notes) : Type 0 where
+  pub text : (out-Notes n).text ≡ None
+  pub properties : (out-Notes n).properties.entries ≡ []
+  pub all_of : (out-Notes n).all_of.items ≡ []
+  pub any_of : (out-Notes n).any_of.items ≡ []
+  pub prefix : (out-Notes n).prefix.items ≡ []
+  pub rest : (out-Notes n).rest ≡ None
+  pub additional : (out-Notes n).additional ≡ None
 
 -- the texts for the schemas of a list, in their order: for the first, and for the others
 abbrev pub front_notes : List Notes → Option Notes
@@ -50,6 +60,18 @@ by_keyword (Some keyword.Items) answers = answers.rest
 by_keyword (Some keyword.AdditionalProperties) answers = answers.additional
 by_keyword _ answers = answers.other
 
+-- the value of a keyword, by what it is as the schemas of an object, as those of a list and as a schema, each with texts
+abbrev pub value_by : (List (String Global × Notes) → Document) → (List Notes → Document) → (Option Notes → Document) → Option Keyword → Notes → Document → Document
+value_by as_map as_list as_schema o n v = by_keyword o (record {
+  properties = as_map (out-Notes n).properties.entries;
+  all_of = as_list (out-Notes n).all_of.items;
+  any_of = as_list (out-Notes n).any_of.items;
+  prefix = as_list (out-Notes n).prefix.items;
+  rest = as_schema (option_map (λ b. b.value) (out-Notes n).rest);
+  additional = as_schema (option_map (λ b. b.value) (out-Notes n).additional);
+  other = v;
+})
+
 abbrev mutual
   -- a schema with its texts; `false` stays, and so does what is no schema
   pub described : Option Notes → Document → Document
@@ -65,15 +87,7 @@ abbrev mutual
   pub described_members : Notes → Members → Members
   described_members n no_members = no_members
   described_members n (member k v ms) =
-      member k (by_keyword (under k keywords) (record {
-        properties = described_map (out-Notes n).properties.entries v;
-        all_of = described_list (out-Notes n).all_of.items v;
-        any_of = described_list (out-Notes n).any_of.items v;
-        prefix = described_list (out-Notes n).prefix.items v;
-        rest = described (option_map (λ b. b.value) (out-Notes n).rest) v;
-        additional = described (option_map (λ b. b.value) (out-Notes n).additional) v;
-        other = v;
-      }))
+      member k (value_by (λ ns. described_map ns v) (λ ns. described_list ns v) (λ o. described o v) (under k keywords) n v)
       (described_members n ms)
 
   pub described_list : List Notes → Document → Document
@@ -94,15 +108,7 @@ abbrev mutual
 
 -- the value of a keyword; for private contracts alone
 abbrev pub described_value : Option Keyword → Notes → Document → Document
-described_value o n v = by_keyword o (record {
-  properties = described_map (out-Notes n).properties.entries v;
-  all_of = described_list (out-Notes n).all_of.items v;
-  any_of = described_list (out-Notes n).any_of.items v;
-  prefix = described_list (out-Notes n).prefix.items v;
-  rest = described (option_map (λ b. b.value) (out-Notes n).rest) v;
-  additional = described (option_map (λ b. b.value) (out-Notes n).additional) v;
-  other = v;
-})
+described_value o n v = value_by (λ ns. described_map ns v) (λ ns. described_list ns v) (λ p. described p v) o n v
 
 -- the members of the root, with texts for the definitions by their names
 abbrev pub described_root : List (String Global × Notes) → Members → Members

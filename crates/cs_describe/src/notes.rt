@@ -1,4 +1,7 @@
 // The texts for schemas.
+ghost use Rattle.cs_describe.specs.Described.{HasNoTexts};
+
+use std::alloc::Global;
 use std::collections::BTreeMap;
 
 /// The texts for a schema: its own, and those for the schemas in it, by keyword.
@@ -19,4 +22,21 @@ pub struct Notes {
     pub rest: Option<Box<Notes>>,
     /// `additionalProperties`
     pub additional: Option<Box<Notes>>,
+}
+
+impl Notes {
+    /// No text, neither for the schema nor for those in it.
+    pub fn new(alloc: Global) -> Notes
+        ensures { HasNoTexts result }
+    {
+        Notes {
+            text: None,
+            properties: BTreeMap::new(alloc),
+            all_of: Vec::new(alloc),
+            any_of: Vec::new(alloc),
+            prefix: Vec::new(alloc),
+            rest: None,
+            additional: None,
+        }
+    }
 }

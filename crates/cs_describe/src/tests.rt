@@ -6,19 +6,11 @@ use std::collections::BTreeMap;
 use std::test::Fail;
 
 fn notes(alloc: Global, text: Option<&str>) -> Result<Notes, AllocError> {
-    let text = match text {
-        Some(text) => Some(String::from_str(alloc, text)?),
-        None => None,
-    };
-    Ok(Notes {
-        text,
-        properties: BTreeMap::new(alloc),
-        all_of: Vec::new(alloc),
-        any_of: Vec::new(alloc),
-        prefix: Vec::new(alloc),
-        rest: None,
-        additional: None,
-    })
+    let mut notes = Notes::new(alloc);
+    if let Some(text) = text {
+        notes.text = Some(String::from_str(alloc, text)?);
+    }
+    Ok(notes)
 }
 
 fn object(alloc: Global, key: &str, value: Doc) -> Result<Doc, AllocError> {
