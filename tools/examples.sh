@@ -6,13 +6,17 @@
 #     tools/examples.sh PROGRAM [FOLDER..]        folders of examples/; all of them where none is named
 #
 # - `export` prints schema.json, whose root is the root of all runs, and `check --strict` prints nothing.
-# - `vet`, `agree`, and `validate` by schema.json find the documents of good/ valid, and those of bad/ invalid.
+# - `export` with `--describe`, `--pretty`, `--openapi` and `--all` prints what tools/exported.py makes of schema.json and of the comments in
+#   the sources; with the first two that is described.json. `-o` writes what is printed without it.
+# - `list` prints what `listed` has: the definitions that the sources have at the beginning of a line, each with its place.
+# - `vet`, `agree`, and `validate` by schema.json and by described.json find the documents of good/ valid, and those of bad/ invalid.
 # - `vet --why` prints for each document of bad/ the lines that `expected` has for it, and that file has no others.
 # - What else is shown of a package is a row of `runs`, as cases/README.md says.
 set -eu
 program=$(realpath "$1")
 shift
-examples=$(cd "$(dirname "$0")/../examples" && pwd)
+tools=$(cd "$(dirname "$0")" && pwd)
+examples=$(cd "$tools/../examples" && pwd)
 . "$(dirname "$0")/wanted.sh"
 # `expected` has the documents in this order.
 LC_ALL=C
@@ -35,6 +39,8 @@ verdicts() {
     judge "$1/$2: vet" "$3"
     run validate --schema schema.json --doc "$2"
     judge "$1/$2: validate" "$3"
+    run validate --schema described.json --doc "$2"
+    judge "$1/$2: validate by described.json" "$3"
     run agree --root "$definition" --doc "$2" *.cue
     judge "$1/$2: agree" "$3"
 }
@@ -56,6 +62,52 @@ all_reasons() {
     count "$1: vet --why .. --docs bad/*.json: wanted the lines of expected" "$well"
 }
 
+# same LABEL FILE FILE: counts whether the two are the same
+same() {
+    if cmp -s "$2" "$3"; then count "$1" yes; else count "$1" no; fi
+}
+
+# exported FOLDER WORDS [SCHEMA..]: what the run that was just made printed, an `export` with these words
+exported() {
+    label="$1: export $2" words=$2
+    shift 2
+    "$tools/exported.py" . $words "$@" > "$room/made"
+    told "$label: wanted what tools/exported.py prints" 0 "$(cat "$room/made")"
+}
+
+# forms FOLDER: the schema in its other forms
+forms() {
+    for words in --describe --pretty --openapi '--openapi --describe --pretty' '--describe --pretty'; do
+        run export $words --root "$definition" *.cue
+        exported "$1" "$words"
+    done
+    same "$1: described.json: wanted what the last of these printed" described.json "$room/out"
+
+    # Definitions that the root doesn't reach have the schemas of their own exports.
+    rm -f "$room"/own-*
+    for name in $(sed 's/.*: #\([^:]*\): .*/\1/' listed); do
+        if ! grep -qF "\"$name\":{" schema.json; then
+            "$program" export --root "#$name" *.cue > "$room/own-$name"
+        fi
+    done
+    run export --all *.cue
+    exported "$1" --all $(find "$room" -name 'own-*')
+
+    rm -f "$room/written"
+    run export -o "$room/written" --root "$definition" *.cue
+    told "$1: export -o: wanted nothing" 0 ''
+    same "$1: export -o: wanted schema.json in the file" schema.json "$room/written"
+}
+
+# listing FOLDER: the definitions and their places
+listing() {
+    run list *.cue
+    told "$1: list: wanted what listed has" 0 "$(cat listed)"
+    grep -n '^#' *.cue /dev/null | sed 's/^\([^:]*:[0-9]*\):\(#[^:]*\):.*/\1:1: \2/' > "$room/places"
+    sed 's/: [^:]*$//' listed > "$room/listed"
+    same "$1: listed: wanted the places of the definitions in the sources" "$room/listed" "$room/places"
+}
+
 # The rows of `runs`: a command line, and what is wanted of it.
 runs() { # folder
     while IFS= read -r line || [ -n "$line" ]; do
@@ -69,6 +121,8 @@ package() { # folder
     definition="#$(sed 's/.*"\$ref":"#\/\$defs\/\([^"]*\)",[^{}]*}$/\1/' schema.json)"
     run export --root "$definition" *.cue
     told "$1: export: wanted what schema.json has" 0 "$(cat schema.json)"
+    forms "$1"
+    listing "$1"
     run check --strict *.cue
     told "$1: check: wanted nothing" 0 ''
     for document in good/*.json; do verdicts "$1" "$document" valid; done
