@@ -32,7 +32,8 @@ pass_time() { # source step runs
     flatten) before=$(time_of "$1" read 1 "$3") ;;
     *) before=$(time_of "$folder/least" "$2" 1 "$3") ;;
     esac
-    echo $(($(time_of "$1" "$2" 1 "$3") - before))
+    whole=$(time_of "$1" "$2" 1 "$3")
+    echo $((whole - before))
 }
 
 # How the most memory that a run takes is found: by GNU's time, or by what the system says of a run that goes on.

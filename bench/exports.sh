@@ -13,15 +13,7 @@ bench=$2
 
 # The nanoseconds of one run on a source: the least of some.
 run_time() { # source
-    best=
-    for _ in $(seq 9); do
-        begin=$(date +%s%N)
-        "$program" export --root '#A0' "$1" > /dev/null
-        end=$(date +%s%N)
-        taken=$((end - begin))
-        if [ -z "$best" ] || [ "$taken" -lt "$best" ]; then best=$taken; fi
-    done
-    echo "$best"
+    "$taken" 9 0 /dev/null /dev/null "$program" export --root '#A0' "$1"
 }
 
 # The most memory of a run in KiB, by GNU's time, where it is there.
@@ -92,11 +84,13 @@ measure() { # name count
     "$1" "$2" > "$folder/source"
     cp "$folder/source" "$folder/$1"
     "$1" "$(($2 / 10))" > "$folder/tenth"
-    taken=$(($(run_time "$folder/source") - start))
-    tenth=$(($(run_time "$folder/tenth") - start))
+    whole=$(run_time "$folder/source")
+    tenth=$(run_time "$folder/tenth")
+    whole=$((whole - start))
+    tenth=$((tenth - start))
     [ "$tenth" -gt 0 ] || tenth=1
     bytes=$(wc -c < "$folder/source")
-    awk -v name="$1" -v bytes="$bytes" -v taken="$taken" -v tenth="$tenth" -v peak="$(peak_of "$folder/source")" -v base="$base" 'BEGIN {
+    awk -v name="$1" -v bytes="$bytes" -v taken="$whole" -v tenth="$tenth" -v peak="$(peak_of "$folder/source")" -v base="$base" 'BEGIN {
         slow = taken > 16 * tenth
         printf "%-12s %8d %9.2f %7.1f %7.1f %8d %7.0f%s\n", name, bytes, taken / 1e6, bytes / taken * 1e3, taken / tenth, peak,
             (peak - base) * 1024 / bytes, (slow ? "  grows faster than the source" : "")

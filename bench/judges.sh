@@ -19,15 +19,7 @@ part=${3-all}
 run_time() { # runs words
     runs=$1
     shift
-    best=
-    for _ in $(seq "$runs"); do
-        begin=$(date +%s%N)
-        "$command" "$@" > /dev/null 2>&1 || true
-        end=$(date +%s%N)
-        taken=$((end - begin))
-        if [ -z "$best" ] || [ "$taken" -lt "$best" ]; then best=$taken; fi
-    done
-    echo "$best"
+    "$taken" "$runs" any /dev/null /dev/null "$command" "$@"
 }
 
 # A document of so many bytes or a little more: records in a list, ten values and a list each.
@@ -144,16 +136,19 @@ beyond=
 measure() { # name pairs times|ms|ns/judgement|any most texts words
     name=$1 pairs=$2 unit=$3 most=$4 texts=$5
     shift 5
-    taken=$(($(run_time 7 "$@") - start))
+    whole=$(run_time 7 "$@")
+    whole=$((whole - start))
     reading=0
     bytes=0
     for text in $texts; do
-        reading=$((reading + $(time_of "$folder/$text" read 1) - $(time_of "$folder/null" read 1)))
+        once=$(time_of "$folder/$text" read 1)
+        least=$(time_of "$folder/null" read 1)
+        reading=$((reading + once - least))
         bytes=$((bytes + $(wc -c < "$folder/$text")))
     done
     peak=$(peak_of "$@")
     awk -v name="$name" -v pairs="$pairs" -v unit="$unit" -v most="$most" -v bytes="$bytes" \
-        -v taken="$taken" -v reading="$reading" -v peak="$peak" -v beyond="$beyond" 'BEGIN {
+        -v taken="$whole" -v reading="$reading" -v peak="$peak" -v beyond="$beyond" 'BEGIN {
         share = reading > 0 ? taken / reading : 0
         speed = taken > 0 ? bytes * 1e3 / taken : 0
         slow = (unit == "times" && share > most) || (unit == "ms" && taken > most * 1e6)
@@ -194,13 +189,13 @@ beyond_reading() { # words
     whole=
     reading=
     for _ in $(seq 15); do
-        taken=$(run_time 1 "$@")
-        if [ -z "$whole" ] || [ "$taken" -lt "$whole" ]; then whole=$taken; fi
+        once=$(run_time 1 "$@")
+        if [ -z "$whole" ] || [ "$once" -lt "$whole" ]; then whole=$once; fi
         case $1 in
-        vet) taken=$(run_time 1 vet --root '#P' --doc "$folder/document" "$folder/everything") ;;
-        validate) taken=$(run_time 1 validate --schema "$folder/true" --doc "$folder/document") ;;
+        vet) once=$(run_time 1 vet --root '#P' --doc "$folder/document" "$folder/everything") ;;
+        validate) once=$(run_time 1 validate --schema "$folder/true" --doc "$folder/document") ;;
         esac
-        if [ -z "$reading" ] || [ "$taken" -lt "$reading" ]; then reading=$taken; fi
+        if [ -z "$reading" ] || [ "$once" -lt "$reading" ]; then reading=$once; fi
     done
     echo $((whole - reading))
 }

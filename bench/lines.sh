@@ -26,15 +26,7 @@ events() { # count
 
 # The nanoseconds of one run: the least of three.
 run_time() { # root file
-    best=
-    for _ in 1 2 3; do
-        begin=$(date +%s%N)
-        "$program" vet --root "$1" --lines "$folder/event.cue" < "$2" > "$folder/verdicts"
-        end=$(date +%s%N)
-        taken=$((end - begin))
-        if [ -z "$best" ] || [ "$taken" -lt "$best" ]; then best=$taken; fi
-    done
-    echo "$best"
+    "$taken" 3 0 "$2" "$folder/verdicts" "$program" vet --root "$1" --lines "$folder/event.cue"
 }
 
 # The most memory of a run in KiB, by GNU's time, where it is there.

@@ -2,7 +2,7 @@
 # Times `--why` by whole runs of the program, beside the same runs without it: a fleet of 5.79 MB with one fault, by `vet` and
 # `validate`, and by `vet` where each of its apps is refused for a misspelt key; the largest table in which each pair is refused
 # and reached; and the most missing names that are told. A line for each: the milliseconds of the processor for both runs, how many
-# times as long the one with `--why` takes, and its most memory in MB. Fails where one fault takes more than 1.5 times as long as
+# times as long the one with `--why` takes, its most memory in MB, and the bytes of its document. Fails where one fault takes more than 1.5 times as long as
 # the verdict, where another run takes more than 300 MB, or where the answer isn't the one that is wanted. Other work on the machine
 # makes it fail too.
 # usage: why.sh PROGRAM
@@ -12,15 +12,9 @@ set -eu
 . "$(dirname "$0")/fleets.sh"
 failed=0
 
-# The milliseconds of the processor for one run: the least of nine, by GNU's time, which counts in hundredths of a second.
+# The milliseconds of one run: the least of five.
 run_time() { # words
-    best=
-    for _ in 1 2 3 4 5 6 7 8 9; do
-        /usr/bin/time -f '%U %S' -o "$folder/taken" "$program" "$@" > "$folder/said" || true
-        taken=$(tail -n 1 "$folder/taken" | awk '{ printf "%.0f", ($1 + $2) * 1e3 }')
-        if [ -z "$best" ] || [ "$taken" -lt "$best" ]; then best=$taken; fi
-    done
-    echo "$best"
+    "$taken" 5 1 /dev/null "$folder/said" "$program" "$@" | awk '{ printf "%.1f", $1 / 1e6 }'
 }
 
 # The most memory of a run in KiB.
@@ -33,6 +27,11 @@ peak_of() { # words
 measure() {
     name=$1 times=$2 megabytes=$3 last=$4
     shift 4
+    before= bytes=
+    for word in "$@"; do
+        if [ "$before" = --doc ]; then bytes=$(wc -c < "$word"); fi
+        before=$word
+    done
     plain=$(run_time "$@")
     why=$(run_time "$@" --why)
     if ! tail -n 1 "$folder/said" | grep -qF -- "$last"; then
@@ -40,16 +39,16 @@ measure() {
         failed=1
     fi
     peak=$(peak_of "$@" --why)
-    awk -v name="$name" -v plain="$plain" -v why="$why" -v peak="$peak" -v times="$times" -v megabytes="$megabytes" 'BEGIN {
-        share = why / (plain > 0 ? plain : 10)
+    awk -v name="$name" -v plain="$plain" -v why="$why" -v peak="$peak" -v bytes="$bytes" -v times="$times" -v megabytes="$megabytes" 'BEGIN {
+        share = why / plain
         fault = share > times ? "  more than " times " times" : (peak > megabytes * 1024 ? "  more than " megabytes " MB" : "")
-        printf "%-28s %9.0f %9.0f %8.2f %8.0f%s\n", name, plain, why, share, peak / 1024, fault
+        printf "%-28s %9.0f %9.0f %8.2f %8.0f %9d%s\n", name, plain, why, share, peak / 1024, bytes, fault
         exit (fault != "")
     }' || failed=1
 }
 
 [ -x /usr/bin/time ] || { echo "there is no GNU time at /usr/bin/time" >&2; exit 1; }
-printf '%-28s %9s %9s %8s %8s\n' why 'ms' 'ms --why' times MB
+printf '%-28s %9s %9s %8s %8s %9s\n' why 'ms' 'ms --why' times MB bytes
 fleet_package > "$folder/fleet.cue"
 fleet 12624 > "$folder/good"
 sed '6000s/"cpu":[0-9]*/"cpu":"much"/' "$folder/good" > "$folder/one"
