@@ -30,6 +30,7 @@ MESSAGE = re.compile(r"(?:note: )?(?:\./)?([^ :]+):(\d+):\d+: (.*)")
 UNREADABLE = re.compile(r"is not in scope|has no field|is no name|operand is missing|expected the end|cannot continue")
 TAKEN_AWAY = re.compile(r"has no field|is not in scope|has no `|was not admitted")
 FUNCTION = re.compile(r"\s*(?:pub(?:\(crate\))? )?fn (\w+)")
+METHODS = re.compile(r"impl(?:<[^>]*>)? (\w+)(?:<[^>]*>)? \{")
 
 
 class Misfit(Exception):
@@ -84,6 +85,22 @@ class Edit:
             found.add((file, function_at(texts[file], text[: text.index(old)].count("\n"))))
         one = found.pop() if len(found) == 1 else None
         return one if one and one[0].startswith("src/") and one[1] else None
+
+
+    def path(self, folder: Path) -> str | None:
+        """The path below the crate of the one function that this edit changes, or of its module where it is a trait's method."""
+        one = self.function(folder)
+        if not one:
+            return None
+        file, name = one
+        module = [it for it in Path(file).with_suffix("").parts[1:] if it != "lib"]
+        lines = (folder / file).read_text().split("\n")
+        changed = next(place for place, line in enumerate(lines) if self.pairs[0][1] in line)
+        block = next((it for it in reversed(lines[: changed + 1]) if re.match(r"(impl\b.*\{|\})\Z", it)), "}")
+        if block == "}":
+            return "::".join([*module, name])
+        methods = METHODS.match(block)
+        return "::".join([*module, methods[1], name] if methods else module) or None
 
 
 def function_at(text: str, line: int) -> str | None:
@@ -155,26 +172,36 @@ class Lane:
                 shutil.copytree(self.proved / "crates" / name, self.tree / "crates" / name, copy_function=copy)
         self.own = crate
 
-    def check(self, crate: str, made: dict[str, str]) -> tuple[int, str]:
-        """Checks the crate with these texts in place of its own, which come back afterwards."""
+    def check(self, crate: str, made: dict[str, str], paths: list[str]) -> tuple[int, str]:
+        """Checks the functions at these paths, or where there are none the crate, with these texts in place of its own, which come back afterwards."""
         self.take(crate)
         folder = self.tree / "crates" / crate
         for file, text in made.items():
             (folder / file).write_text(text)
-        ran = run(["rt", "check", "--jobs", "1"], folder)
+        ran = run(["rt", "check", "--jobs", "1", *(word for path in paths for word in ("--only", path))], folder)
         for file in made:
             shutil.copy2(self.proved / "crates" / crate / file, folder / file)
         return ran.returncode, ran.stdout
 
     def alone(self, edit: Edit) -> tuple[bool, str]:
+        """The answer of the edit's own function, or else of the whole crate: what the function may do, one that calls it may not."""
+        folder = self.proved / "crates" / edit.crate
+        path = edit.path(folder)
+        if path:
+            well, text = self.answer(edit, [path])
+            if well:
+                return well, text
+        return self.answer(edit, [])
+
+    def answer(self, edit: Edit, paths: list[str]) -> tuple[bool, str]:
         made = edit.apply(self.proved / "crates" / edit.crate, {})
-        status, said = self.check(edit.crate, made)
+        status, said = self.check(edit.crate, made, paths)
         bad = unread(said, edit.files())
         if bad:
             return False, f"BAD EDIT: the prover cannot read the edited text: {bad[:200]}"
         if status == 0:
             return False, "NOT REFUSED: the crate is still proved with this edit"
-        if status != 1 or "\nlogic=not-proved" not in said:
+        if status != 1 or not re.search(r"^(logic=not-proved|only=)", said, re.M):
             return False, f"BAD EDIT: it did not reach the prover: {' '.join(said.split())[:200]}"
         told = reasons(said)
         first = next((it for it in told if not is_by_name(it)), None)
@@ -185,12 +212,13 @@ class Lane:
     def together(self, edits: list[Edit]) -> dict[Edit, str]:
         """Of edits of different functions those that are refused by their own function, each with the reason; none where that isn't certain."""
         made: dict[str, str] = {}
-        functions = {}
+        functions, paths = {}, []
         for edit in edits:
             folder = self.proved / "crates" / edit.crate
             made = edit.apply(folder, made)
             functions[edit] = edit.function(folder)
-        _, said = self.check(edits[0].crate, made)
+            paths.append(edit.path(folder))
+        _, said = self.check(edits[0].crate, made, [] if None in paths else paths)
         if unread(said, set(made)):
             return {}
         told = [it for it in reasons(said) if not is_by_name(it)]

@@ -85,7 +85,7 @@ def row(header, texts):
     lines = [".TP", inline(f"**{texts[0]}**"), *filled(inline(texts[1]))]
     for name, text in zip(header[2:], texts[2:]):
         if text:
-            lines += [".br", *filled(f"{name[:1].upper()}{name[1:]}: " + inline(text.replace("<br>", ", then ")))]
+            lines += [".br", *filled(inline(f"{name[:1].upper()}{name[1:]}: " + text.replace("<br>", ", then ")))]
     return lines
 
 

@@ -1,7 +1,8 @@
 #!/bin/sh
 # Tries the recipes of docs/USAGE.md, each where its tools are installed: what is tried are the blocks of that page. A line for each check
 # that fails, one for each recipe, and a closing count. Debian has pre-commit, python3-yaml, python3-jsonschema, nodejs and
-# parallel; ajv 8 is looked for in the folder of modules that NODE_MODULES names too, and an archive of `make dist` in dist/.
+# parallel, and from Debian 13 on ajv 8 as node-ajv; ajv is looked for in the folder of modules that NODE_MODULES names too, and an archive
+# of `make dist` in dist/.
 #
 #     tools/recipes.sh PROGRAM
 set -eu
