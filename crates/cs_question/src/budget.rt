@@ -2,7 +2,7 @@
 ghost use Rattle.std.specs.Prelude.{◌≡◌, ◌-◌};
 
 /// The most steps of unfolding and search that one question may take.
-pub const MOST_STEPS: usize = 5_000_000;
+pub(crate) const MOST_STEPS: usize = 5_000_000;
 
 /// The steps that questions may take still, all together. A step is about a microsecond's work.
 #[derive(Clone, Copy, Debug, PartialEq, Eq)]

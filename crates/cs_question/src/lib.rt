@@ -26,7 +26,7 @@ mod texts;
 mod ways;
 mod witness;
 
-pub use budget::{Budget, MOST_STEPS};
+pub use budget::Budget;
 pub use definitions::without_instance;
 pub use fault::QuestionFault;
 pub use questions::{instance_of, separating};

@@ -32,13 +32,16 @@ pub(crate) fn put_advice(
 ) -> Result<(), AllocError> {
     let shown = text_of(source.named.text.get(found.start..found.end));
     match found.form {
-        Form::PackageValue
-        | Form::PackageCall
-        | Form::Selector
-        | Form::Call
-        | Form::LargeInteger
-        | Form::NumberSpelling
-        | Form::Comparison => put_spelled(text, shown, found.form),
+        Form::PackageValue | Form::PackageCall => put_spelled(
+            text,
+            shown,
+            &[sentence_of(found.form), "; ", sentence_of_package(shown)],
+        ),
+        Form::Selector | Form::Call | Form::LargeInteger => {
+            put_spelled(text, shown, &[sentence_of(found.form)])
+        }
+        Form::NumberSpelling => put_spelled(text, shown, &[sentence_of_number(shown)]),
+        Form::Comparison => put_spelled(text, shown, &[sentence_of_comparison(shown)]),
         Form::StrayCharacter => text.push_str(sentence_of_character(shown)),
         Form::UnknownKind => put_kind(text, shown),
         Form::UnknownName | Form::UnknownDefinition => put_unknown(alloc, text, shown, sources),
@@ -50,18 +53,10 @@ pub(crate) fn put_advice(
 }
 
 /// Puts how a form is spelled, and what is said of it.
-fn put_spelled(text: &mut String, shown: &str, form: Form) -> Result<(), AllocError> {
+fn put_spelled(text: &mut String, shown: &str, said: &[&str]) -> Result<(), AllocError> {
     put_code(text, shown)?;
     text.push_str(": ")?;
-    match form {
-        Form::NumberSpelling => text.push_str(sentence_of_number(shown)),
-        Form::Comparison => text.push_str(sentence_of_comparison(shown)),
-        Form::PackageValue | Form::PackageCall => put_all(
-            text,
-            &[sentence_of(form), "; ", sentence_of_package(shown)],
-        ),
-        _ => text.push_str(sentence_of(form)),
-    }
+    put_all(text, said)
 }
 
 /// Puts what is said of a form that a token shows.

@@ -33,8 +33,19 @@ fn cost_of_shape(shape: &Shape) -> usize {
             cost_of_parts(parts).saturating_add(pairs / PAIRS_OF_STEP)
         }
         Shape::List { front, end } => cost_of_shapes(front).saturating_add(cost_of_end(end)),
-        // The others have no parts.
-        _ => 0,
+        Shape::Top
+        | Shape::Bottom
+        | Shape::Null
+        | Shape::Bool(_)
+        | Shape::Int(_)
+        | Shape::Text(_)
+        | Shape::Kind(_)
+        | Shape::Range { .. }
+        | Shape::Definition(_)
+        | Shape::Bound { .. }
+        | Shape::NotInt(_)
+        | Shape::NotText(_)
+        | Shape::NotNull => 0,
     };
     parts.saturating_add(1)
 }
