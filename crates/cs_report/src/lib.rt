@@ -7,6 +7,7 @@ mod finding;
 mod json;
 mod lines;
 mod named;
+mod outline;
 mod pointer;
 mod reports;
 mod sources;

@@ -1,18 +1,19 @@
 // Sources, cut into tokens, and where they declare definitions.
 use crate::Named;
 use crate::entry::SourcePlace;
-use crate::expression::{Located, Separator, Tokens, begins_definition, declared_value, part_at};
-use cs_grammar::{SyntaxFault, Token};
+use crate::expression::{Cut, Located};
+use crate::outline::{Outline, is_mark};
+use cs_grammar::{Sort, SyntaxFault, Token};
 use cs_lexer::lex;
 use cs_place::position_of;
 use std::alloc::{AllocError, Global};
 use std::str;
 
-/// A source with its tokens; without any where it isn't cut.
+/// A source with its tokens.
 #[derive(Drop)]
 struct Source<'a> {
     named: Named<'a>,
-    tokens: Vec<Token<'a>>,
+    cut: Cut<'a>,
     /// The offsets at which lines begin.
     lines: Vec<usize>,
 }
@@ -61,18 +62,27 @@ fn lines_of(alloc: Global, text: &[u8]) -> Result<Vec<usize>, AllocError> {
 
 fn source_of<'a>(alloc: Global, named: Named<'a>) -> Result<Source<'a>, AllocError> {
     let tokens = tokens_of(alloc, named.text)?;
+    let outline = Outline::new(alloc, &tokens)?;
     let lines = lines_of(alloc, named.text)?;
     Ok(Source {
         named,
-        tokens,
+        cut: Cut { tokens, outline },
         lines,
     })
+}
+
+/// Whether a definition is declared here: its name and a colon.
+fn begins_definition(tokens: &[Token<'_>]) -> bool {
+    match tokens {
+        [first, second, ..] => first.sort == Sort::Definition && is_mark(second, ":"),
+        _ => false,
+    }
 }
 
 /// Adds the definitions that a file declares.
 fn add_declarations<'a>(
     file: usize,
-    tokens: Tokens<'_, 'a>,
+    tokens: &[Token<'a>],
     declarations: &mut Vec<Declaration<'a>>,
 ) -> Result<(), AllocError> {
     for (token, named) in tokens.iter().enumerate() {
@@ -94,7 +104,7 @@ pub(crate) fn sources_of<'a>(
     let mut declarations = Vec::new(alloc);
     for (file, named) in sources.iter().enumerate() {
         let source = source_of(alloc, *named)?;
-        add_declarations(file, &source.tokens, &mut declarations)?;
+        add_declarations(file, &source.cut.tokens, &mut declarations)?;
         files.push(source)?;
     }
     declarations.sort_by_key(|declaration| declaration.name)?;
@@ -115,12 +125,13 @@ impl<'a> Sources<'a> {
             return None;
         }
         let source = self.files.get(found.file)?;
-        let declaration = source.tokens.get(found.token..)?;
-        let value = part_at(declared_value(declaration)?, Separator::Comma, 0)?;
-        Some(Located {
+        let declaration = Located {
             file: found.file,
-            tokens: value,
-        })
+            cut: &source.cut,
+            from: found.token,
+            to: source.cut.tokens.len(),
+        };
+        declaration.declared()
     }
 
     /// The place of an offset of a file.

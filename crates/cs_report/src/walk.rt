@@ -1,5 +1,6 @@
 // From a root to a rule along a chain of causes: the rule's expression in the package and in the sources, and its path.
-use crate::expression::{Located, Separator};
+use crate::expression::Located;
+use crate::outline::Separator;
 use crate::sources::Sources;
 use crate::text::{put_number, put_quoted};
 use cs_instance::InstanceCause;
