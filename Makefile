@@ -15,8 +15,9 @@
 # make bench      times the lexer and the parser on 1 MiB of source in four shapes each, packages at their limits, documents
 #                 of 50 MB and the largest table, and says how much memory the last two take; then whole runs of `vet`
 #                 and `validate` against few and many rules, with what a judgement takes beyond reading on small, medium
-#                 and large ones, of `export` near the limits of packages, of `vet --lines` over 1,000,000 lines, and of `--why`
-#                 beside the verdict alone; and at its end the table of docs/PERFORMANCE.md
+#                 and large ones, of `export` near the limits of packages, of `vet --lines` over 1,000,000 lines, of `--why`
+#                 beside the verdict alone, and of `compare` and `samples` on large packages; and at its end the table of
+#                 docs/PERFORMANCE.md
 # make man        writes the manual pages, cue2schema(1) and cue2schema-refusals(7), from docs/ into bin/man, and prints what groff has
 #                 against them, where there is one: man -M bin/man cue2schema shows them
 # make install    copies the program to $(PREFIX)/bin and its manual pages to $(PREFIX)/share/man

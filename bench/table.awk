@@ -55,6 +55,13 @@ BEGIN {
     told["one fault: vet"] = "vet --why: one fault"
     told["one fault: validate"] = "validate --why: one fault"
     told["all pairs refused: vet"] = "vet --why: all pairs of the largest table"
+    told["compare definitions"] = "compare: 1,000 structs of 23 fields"
+    told["compare chain"] = "compare: a chain of 1,000 definitions"
+    told["compare labels"] = "compare: a struct of 4,000 fields"
+    told["compare elements"] = "compare: a list of 20,000 fixed elements"
+    told["compare tagged"] = "compare: 320 tagged alternatives"
+    told["samples definitions"] = "samples: 100 structs of 23 fields"
+    told["samples --invalid definitions"] = "samples --invalid: 100 structs of 23 fields"
 }
 
 FNR == 1 { script = FILENAME; sub(/.*\//, "", script) }
@@ -85,6 +92,11 @@ script == "lines" && ($1 in told) && $3 == "lines" { row(told[$1], size($2 * $5)
 script == "why" && (name in told) {
     split(substr($0, 29), number)
     row(told[name], size(number[5]), time(number[2]), sprintf(number[3] < 10 ? "%.2f" : "%.0f", number[3]) " times the verdict", "", memory(number[4] * 1048576), script)
+}
+
+script == "questions" && (name in told) {
+    split(substr($0, 29), number)
+    row(told[name], size(number[1]), time(number[2]), "", growth(number[3], 10), memory(number[4] * 1024), script)
 }
 
 END {

@@ -28,7 +28,8 @@ measure judges "$bench" "$command"
 measure exports "$command" "$bench"
 measure lines "$command"
 measure why "$command"
+measure questions "$command"
 
 echo
-awk -f "$scripts/table.awk" "$lines/front" "$lines/packages" "$lines/documents" "$lines/exports" "$lines/judges" "$lines/lines" "$lines/why"
+awk -f "$scripts/table.awk" "$lines/front" "$lines/packages" "$lines/documents" "$lines/exports" "$lines/judges" "$lines/lines" "$lines/why" "$lines/questions"
 [ -z "$failed" ] || { echo "not within their limits:$failed"; exit 1; }
