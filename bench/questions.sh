@@ -22,7 +22,7 @@ peak_of() { # words
 }
 
 # So many definitions, each with a struct of 23 labels that refers to the next definition.
-definitions() { # count
+structs() { # count
     awk -v count="$1" 'BEGIN {
         for (i = 0; i < count; i++) {
             printf "#A%d: {", i
@@ -102,11 +102,11 @@ measure() {
 }
 
 printf '%-28s %8s %9s %7s %8s\n' question bytes ms times KiB
-measure compare definitions 1000 1 compatible
+measure compare structs 1000 1 compatible
 measure compare chain 1000 1 compatible
 measure compare labels 4000 1 compatible
 measure compare elements 20000 1 compatible
-measure compare tagged 320 1 compatible
-measure samples definitions 100 100 field_
-measure 'samples --invalid' definitions 100 100 field_
+measure compare tagged 100 1 compatible
+measure samples structs 100 100 field_
+measure 'samples --invalid' structs 100 100 field_
 exit $failed

@@ -55,13 +55,13 @@ BEGIN {
     told["one fault: vet"] = "vet --why: one fault"
     told["one fault: validate"] = "validate --why: one fault"
     told["all pairs refused: vet"] = "vet --why: all pairs of the largest table"
-    told["compare definitions"] = "compare: 1,000 structs of 23 fields"
+    told["compare structs"] = "compare: 1,000 structs of 23 fields"
     told["compare chain"] = "compare: a chain of 1,000 definitions"
     told["compare labels"] = "compare: a struct of 4,000 fields"
     told["compare elements"] = "compare: a list of 20,000 fixed elements"
-    told["compare tagged"] = "compare: 320 tagged alternatives"
-    told["samples definitions"] = "samples: 100 structs of 23 fields"
-    told["samples --invalid definitions"] = "samples --invalid: 100 structs of 23 fields"
+    told["compare tagged"] = "compare: 100 tagged alternatives"
+    told["samples structs"] = "samples: 100 structs of 23 fields"
+    told["samples --invalid structs"] = "samples --invalid: 100 structs of 23 fields"
 }
 
 FNR == 1 { script = FILENAME; sub(/.*\//, "", script) }

@@ -429,6 +429,13 @@ try '3,000 alternatives: vet --why=all' 27006 \
     'prints 1 invalid⏎  five:1:6: /t: found 5, want 0 [wide.cue:1:9 #A.t, alternative 1 of 3000]⏎5998 more; --most N tells more' \
     'vet --why=all --most 1 --root #A --doc five wide.cue'
 
+{ printf '#A: '; listed 3000 '{t: %d, x: int}' ' |\n'; } > wide.cue
+reasons=$(awk 'BEGIN {
+    for (i = 0; i < 3000; i++) if (i != 5) printf "⏎  five:1:6: /t: found 5, want %d [wide.cue:%d:%d #A.t, alternative %d of 3000]", i, i + 1, (i ? 5 : 9), i + 1
+    for (i = 0; i < 3000; i++) printf "⏎  five:1:12: /x: found null, want int [wide.cue:%d:%d #A.x, alternative %d of 3000]", i + 1, length(i) + (i ? 10 : 14), i + 1
+}')
+try '3,000 alternatives on lines: vet --why=all, told' 27006 "prints 1 invalid$reasons" 'vet --why=all --most 10000 --root #A --doc five wide.cue'
+
 # What narrows closed definitions: each the next one, and many labels at once.
 awk 'BEGIN {
     for (i = 0; i < 999; i++) print "#A" i ": #A" i + 1 " & {k: _}"
