@@ -220,7 +220,10 @@ class Lane:
             made = edit.apply(folder, made)
             functions[edit] = edit.function(folder)
             paths.append(edit.path(folder))
-        _, said = self.check(edits[0].crate, made, [] if None in paths else paths)
+        status, said = self.check(edits[0].crate, made, [] if None in paths else paths)
+        if status == 2:
+            # One of the paths fits no function.
+            _, said = self.check(edits[0].crate, made, [])
         if unread(said, set(made)):
             return {}
         told = [it for it in reasons(said) if not is_by_name(it)]
