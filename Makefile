@@ -1,13 +1,15 @@
 # make            builds the proved program as bin/cue2schema
 # make run        builds it and runs it on examples/port.cue
-# make try        runs the program from its sources without the proofs, in about a minute: on examples/port.cue, or as
-#                 make try ARGS="vet --root '#P' --doc d.json port.cue"
-# make test       the gate: every proof from nothing, the must-fail edits, the tests, the program's stored run and its cases
-# make cases      the cases of the program alone, the packages of examples/, what the pages for users show, what needs pipes, rights
-#                 or special files, and how many faults of ordinary CUE `check` tells
+# make try        runs the program as it is built from its sources without the proofs, in a minute or two the first time: on
+#                 examples/port.cue, or as make try ARGS="vet --root '#P' --doc d.json port.cue"
+# make test       all tests without a proof, in six minutes: that program on all cases, the tests of calls, and whether the pages of
+#                 docs/ say what is in the code
+# make prove      every proof from nothing, the mistakes of edits/GATE, which the prover must refuse, and the proved program on all cases
+# make cases      the proved program on all cases: those of cases/, the packages of examples/, what the pages for users show, what needs
+#                 pipes, rights or special files, and how many faults of ordinary CUE `check` tells
 # make examples   the packages of examples/ alone: their schemas, verdicts and reasons, and what their pages show
-# make edits      the edits that the gate doesn't try, of the crates that differ from what landed last: from the commit where this
-#                 branch left the one that it tracks, or from SINCE=REV; CRATES="cs_x cs_y" for those of some crates, ALL=1 for all
+# make edits      the mistakes of edits/ in the crates that differ from what landed last: from the commit where this branch left the one
+#                 that it tracks, or from SINCE=REV; CRATES="cs_x cs_y" for those of some crates, ALL=1 for all
 # make memory     runs each command, and each step from bytes to a file or a document, with each of its growths of memory refused
 #                 in turn; a minute, once the programs are built
 # make hostile    runs the program on deep, long, wide and doubling inputs within a stack of 8 MiB and 1 GiB of memory, and says the
@@ -23,21 +25,21 @@
 # make install    copies the program to $(PREFIX)/bin and its manual pages to $(PREFIX)/share/man
 # make dist       packs the program with its pages and examples as dist/cue2schema-VERSION-linux-x86_64.tar.gz
 # make deb        packs it as a package of Debian, dist/cue2schema_VERSION_amd64.deb
-# JOBS=4 works on four crates or runs at once; there are as many as processors where it isn't given
+# JOBS=4 works on four crates or runs at once, with a processor each. Where it isn't given there are as many as processors, and a proof
+# that nothing runs beside gets more of them
 PREFIX ?= /usr/local
-JOBS ?= $(shell nproc)
+jobs = $(or $(JOBS),$(shell nproc))
 SOURCES := crates.txt $(shell find crates -name out -prune -o \( -name '*.rt' -o -name '*.antt' \) -print)
 BUILT := crates/cue2schema/out/cue2schema
 
-.PHONY: all run try test cases examples edits memory hostile bench man install dist deb clean toolchain
+.PHONY: all run try test prove cases examples edits memory hostile bench man install dist deb clean toolchain
 
 all: bin/cue2schema
 
-# The libraries side by side first: `rt run` proves them in turn. A crate that waits for another holds a place, so there
-# are twice as many places as processors.
+# The libraries side by side first: `rt run` proves them in turn.
 bin/cue2schema: $(SOURCES)
 	@$(MAKE) -s toolchain
-	cd crates/cue2schema && { rt all check --jobs $$((2 * $(JOBS))) > ../../proved.log 2>&1 || { tail -n 40 ../../proved.log; exit 1; }; }
+	JOBS=$(JOBS) tools/build.py cue2schema > proved.log 2>&1 || { tail -n 40 proved.log; exit 1; }
 	cd crates/cue2schema && rt run -- export --root '#P' < ../../examples/port.cue > /dev/null
 	mkdir -p bin
 	cp $(BUILT) $@
@@ -48,33 +50,25 @@ try: | toolchain
 run: bin/cue2schema
 	bin/cue2schema export --root '#P' < examples/port.cue
 
-# All six run, also where one fails.
-answers = tools/cases.sh $(1); cases=$$?; tools/examples.sh $(1); examples=$$?; tools/pages.sh $(1); pages=$$?; \
-	tools/explained.py $(1); rows=$$?; tools/natural.py $(1); natural=$$?; \
-	tools/commands.sh $(1) && [ $$cases$$examples$$pages$$rows$$natural = 00000 ]
-
-# The gate leaves the program that it built; the cases never run on one that is older than a source.
 test: | toolchain
-	tools/edits.py --fit
-	tools/recursions.sh
-	tools/definitions.sh
-	tools/contracts.sh
-	RT_JOBS=$(JOBS) rt ci
-	@if [ -x $(BUILT) ] && [ -z "$$(find $(SOURCES) -newer $(BUILT))" ]; then $(call answers,$(BUILT)); else $(MAKE) -s cases; fi
+	@JOBS=$(JOBS) tools/checks.py test bin/unproved
+
+prove: | toolchain
+	@JOBS=$(JOBS) tools/checks.py prove $(BUILT)
 
 cases: bin/cue2schema
-	@$(call answers,bin/cue2schema)
+	@JOBS=$(JOBS) tools/checks.py program bin/cue2schema
 
 examples: bin/cue2schema
 	@tools/examples.sh bin/cue2schema; examples=$$?; tools/pages.sh bin/cue2schema examples/*/README.md && [ $$examples = 0 ]
 
 edits: | toolchain
 	tools/edits.py --fit
-	JOBS=$(JOBS) tools/edits.py $(or $(and $(ALL),--all),$(CRATES),--since $(SINCE))
+	JOBS=$(jobs) tools/edits.py $(or $(and $(ALL),--all),$(CRATES),--since $(SINCE))
 
 memory: bin/cue2schema | toolchain
 	cd crates/cs_bench && rt run < stdin > /dev/null
-	JOBS=$(JOBS) tools/memory.sh bin/cue2schema crates/cs_bench/out/cs_bench
+	JOBS=$(jobs) tools/memory.sh bin/cue2schema crates/cs_bench/out/cs_bench
 
 hostile: bin/cue2schema
 	tools/hostile.sh bin/cue2schema

@@ -12,11 +12,11 @@ cases=$(cd "$(dirname "$0")/../cases" && pwd)
 # The stack that a process has by default, so that deep sources are tried with no more.
 ulimit -s 8192
 
-# run WORD..: the program on $room/in, twenty seconds at most: each run takes milliseconds, and what takes time that doubles with
-# each level of a source takes minutes
+# run WORD..: the program on $room/in, $patience seconds at most: each run takes milliseconds, and what takes time that doubles
+# with each level of a source takes minutes
 run() {
     status=0
-    timeout 20 "$program" "$@" < "$room/in" > "$room/out" 2> "$room/said" || status=$?
+    timeout "$patience" "$program" "$@" < "$room/in" > "$room/out" 2> "$room/said" || status=$?
 }
 
 # run_args: the program on $room/in with the words of `args`, one a line

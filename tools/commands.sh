@@ -13,7 +13,7 @@ status=-
 # run WORD..: the program, a minute at most; its status is kept
 run() {
     code=0
-    timeout 60 "$program" "$@" || code=$?
+    timeout "$((3 * patience))" "$program" "$@" || code=$?
     echo "$code" > "$room/status"
 }
 
@@ -421,7 +421,7 @@ if $as "$room/program" --version > "$room/out" 2> "$room/said"; then
     program=$room/program
     run() {
         code=0
-        timeout 60 $as "$program" "$@" || code=$?
+        timeout "$((3 * patience))" $as "$program" "$@" || code=$?
         echo "$code" > "$room/status"
     }
     cp port.cue no-rights

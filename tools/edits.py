@@ -5,11 +5,15 @@
     tools/edits.py --all            those of all crates
     tools/edits.py --since [REV]    those of the crates whose code, specs, proofs or edits differ from the commit REV. Without
                                     REV it is where this branch left the one that it tracks
-    tools/edits.py --fit            tries none: says which edits of edits/ and crates/*/must-fail don't fit the code any more
+    tools/edits.py --gate           those that edits/GATE names, over the libraries that `rt ci` left
+    tools/edits.py --fit            tries none: says which edits don't fit the code any more
 
 The crates are proved in a scratch copy of this tree, over what earlier checks here kept, and edits over what that proved.
 Edits of different functions are tried in one check: where each of these functions itself is not proved, each is because of its
 own edit, since the prover doesn't judge a function that calls one that isn't proved. Else they are tried apart.
+
+The gate proves no crate a second time: `rt ci` has just proved all of them, so of each crate the functions with edits alone are
+checked, over the libraries that it left in crates/*/out/rlib.
 """
 from __future__ import annotations
 
@@ -24,7 +28,9 @@ from collections import deque
 from dataclasses import dataclass
 from pathlib import Path
 
-TOP = Path(__file__).resolve().parent.parent
+import kit
+from kit import TOP
+
 MOST_AT_ONCE = 12
 MESSAGE = re.compile(r"(?:note: )?(?:\./)?([^ :]+):(\d+):\d+: (.*)")
 UNREADABLE = re.compile(r"is not in scope|has no field|is no name|operand is missing|expected the end|cannot continue")
@@ -159,31 +165,16 @@ def run(words: list[str], folder: Path) -> subprocess.CompletedProcess[str]:
 
 
 class Lane:
-    """A tree of its own, in which one crate at a time is edited and checked; the others are the same files as in the proved tree."""
+    """What tries edits one check at a time."""
 
-    def __init__(self, proved: Path, tree: Path):
-        self.proved, self.tree, self.own = proved, tree, None
-        shutil.copytree(proved, tree, copy_function=os.link)
-
-    def take(self, crate: str) -> None:
-        if crate == self.own:
-            return
-        for name, copy in ((self.own, os.link), (crate, shutil.copy2)):
-            if name:
-                shutil.rmtree(self.tree / "crates" / name)
-                shutil.copytree(self.proved / "crates" / name, self.tree / "crates" / name, copy_function=copy)
-        self.own = crate
+    # The tree whose crates are edited.
+    proved: Path
+    # Whether an edit counts too where it is refused only because a proof names what it took away, which says little of the contract.
+    takes_names = True
 
     def check(self, crate: str, made: dict[str, str], paths: list[str]) -> tuple[int, str]:
-        """Checks the functions at these paths, or where there are none the crate, with these texts in place of its own, which come back afterwards."""
-        self.take(crate)
-        folder = self.tree / "crates" / crate
-        for file, text in made.items():
-            (folder / file).write_text(text)
-        ran = run(["rt", "check", "--jobs", "1", *(word for path in paths for word in ("--only", path))], folder)
-        for file in made:
-            shutil.copy2(self.proved / "crates" / crate / file, folder / file)
-        return ran.returncode, ran.stdout
+        """Checks the functions at these paths, or where there are none the crate, with these texts in place of its own: the status, and what is said."""
+        raise NotImplementedError
 
     def alone(self, edit: Edit) -> tuple[bool, str]:
         """The answer of the edit's own function, or else of the whole crate: what the function may do, one that calls it may not."""
@@ -208,7 +199,7 @@ class Lane:
         told = reasons(said)
         first = next((it for it in told if not is_by_name(it)), None)
         if told and not first:
-            return True, f"refused, but only because a proof names what the edit took away: {told[0][0][:160]}"
+            return self.takes_names, f"refused, but only because a proof names what the edit took away: {told[0][0][:160]}"
         return True, f"refused: {first[0][:160] if first else ''}"
 
     def together(self, edits: list[Edit]) -> dict[Edit, str]:
@@ -237,11 +228,53 @@ class Lane:
         return refused
 
 
+class TreeLane(Lane):
+    """A tree of its own, in which one crate at a time is edited and checked; the others are the same files as in the proved tree."""
+
+    def __init__(self, proved: Path, tree: Path):
+        self.proved, self.tree, self.own = proved, tree, None
+        shutil.copytree(proved, tree, copy_function=os.link)
+
+    def take(self, crate: str) -> None:
+        if crate == self.own:
+            return
+        for name, copy in ((self.own, os.link), (crate, shutil.copy2)):
+            if name:
+                shutil.rmtree(self.tree / "crates" / name)
+                shutil.copytree(self.proved / "crates" / name, self.tree / "crates" / name, copy_function=copy)
+        self.own = crate
+
+    def check(self, crate: str, made: dict[str, str], paths: list[str]) -> tuple[int, str]:
+        """Checks the functions at these paths, or where there are none the crate, with these texts in place of its own, which come back afterwards."""
+        self.take(crate)
+        folder = self.tree / "crates" / crate
+        for file, text in made.items():
+            (folder / file).write_text(text)
+        ran = run(["rt", "check", "--jobs", "1", *(word for path in paths for word in ("--only", path))], folder)
+        for file in made:
+            shutil.copy2(self.proved / "crates" / crate / file, folder / file)
+        return ran.returncode, ran.stdout
+
+
+class GateLane(Lane):
+    """Checks copies of single crates, over the libraries that `rt ci` left."""
+
+    takes_names = False
+
+    def __init__(self, proved: Path, crates: dict):
+        self.proved, self.crates = proved, crates
+
+    def check(self, crate: str, made: dict[str, str], paths: list[str]) -> tuple[int, str]:
+        words = ["--jobs", "1", *(word for path in paths for word in ("--only", path))]
+        ran = kit.rt().checked(self.crates[crate], made, words, None)
+        return ran.returncode, ran.stdout
+
+
 class Trial:
     """The edits that are still to be tried, and the lanes' answers."""
 
     def __init__(self, edits: list[Edit]):
-        self.tasks, self.lock, self.passed = deque(self.batches(edits)), threading.Lock(), 0
+        self.tasks, self.lock, self.passed, self.count = deque(self.batches(edits)), threading.Lock(), 0, len(edits)
 
     @staticmethod
     def batches(edits: list[Edit]) -> list[list[Edit]]:
@@ -311,15 +344,19 @@ def edits_of(crate: str, folder: str) -> list[Edit]:
 
 
 def misfits() -> int:
-    """How many edits don't fit; each is said."""
+    """How many edits don't fit, or are named by edits/GATE and not there; each is said."""
     count = 0
-    for crate in sorted(it.name for it in (TOP / "crates").iterdir()):
-        for edit in edits_of(crate, f"crates/{crate}/must-fail") + edits_of(crate, f"edits/{crate}"):
+    for crate in sorted(it.name for it in (TOP / "edits").iterdir() if it.is_dir()):
+        for edit in edits_of(crate, f"edits/{crate}"):
             try:
                 edit.apply(TOP / "crates" / crate, {})
             except Misfit as why:
                 print(f"{edit.label}: {why}")
                 count += 1
+    for path in gate_paths():
+        if not path.is_file():
+            print(f"edits/GATE: there is no {path}")
+            count += 1
     return count
 
 
@@ -368,28 +405,66 @@ def jobs() -> str:
     return os.environ.get("JOBS", "1")
 
 
+def gate_paths() -> list[Path]:
+    """The edits that edits/GATE names: CRATE/NAME, a line for each."""
+    lines = (TOP / "edits/GATE").read_text().split("\n")
+    return [TOP / "edits" / f"{it}.edit" for it in lines if it and not it.startswith("#")]
+
+
+def is_left(crate) -> bool:
+    """Whether the crate's library is there and is of the files as they are. What `rt ci` builds has no stamp, unlike what `rt check` keeps."""
+    library = Path(crate.rlib)
+    if not library.is_dir() or (library.parent / "stamp").exists():
+        return crate.is_built()
+    files = [it for part in ("src", "specs", "proofs") for it in Path(crate.folder, part).rglob("*") if it.is_file()]
+    return max(it.stat().st_mtime for it in files) < library.stat().st_mtime
+
+
+def gate_lanes(edits: list[Edit]) -> list[Lane]:
+    crates = kit.crates()
+    needed = {below.name: below for edit in edits for below in crates[edit.crate].below()}
+    lacking = [name for name, crate in needed.items() if not is_left(crate)]
+    if lacking:
+        sys.exit(f"{lacking[0]} isn't built as its files are: run rt ci first")
+    return [GateLane(TOP, crates) for _ in range(int(jobs()))]
+
+
+def tried(trial: "Trial", lanes: list[Lane]) -> int:
+    """Tries the edits on these lanes side by side; the status."""
+    threads = [threading.Thread(target=trial.work, args=(it,)) for it in lanes]
+    for it in threads:
+        it.start()
+    for it in threads:
+        it.join()
+    failed = trial.count - trial.passed
+    print(f"{trial.passed} passed, {failed} failed")
+    return 1 if failed or not trial.count else 0
+
+
+def gate() -> int:
+    if misfits():
+        return 1
+    edits = [Edit.read(it, it.parent.name) for it in gate_paths()]
+    return tried(Trial(edits), gate_lanes(edits))
+
+
 def main(words: list[str]) -> int:
     if words == ["--fit"]:
         return 1 if misfits() else 0
-    crates = sorted(it.name for it in (TOP / "edits").iterdir()) if words == ["--all"] else changed_since(words[1:]) if words[:1] == ["--since"] else words
+    if words == ["--gate"]:
+        return gate()
+    crates = sorted(it.name for it in (TOP / "edits").iterdir() if it.is_dir()) if words == ["--all"] else changed_since(words[1:]) if words[:1] == ["--since"] else words
     if not crates:
         return 0 if words else 2
     unknown = [it for it in crates if not (TOP / "edits" / it).is_dir()]
     if unknown:
         sys.exit(f"there is no folder edits/{unknown[0]}")
     edits = [edit for crate in crates for edit in edits_of(crate, f"edits/{crate}")]
-    trial = Trial(edits)
     with tempfile.TemporaryDirectory() as room:
         if not proved_tree(crates, Path(room, "tree")):
             print("0 passed, 1 failed")
             return 1
-        lanes = [threading.Thread(target=lambda at=at: trial.work(Lane(Path(room, "tree"), Path(room, f"lane{at}")))) for at in range(int(jobs()))]
-        for it in lanes:
-            it.start()
-        for it in lanes:
-            it.join()
-    print(f"{trial.passed} passed, {len(edits) - trial.passed} failed")
-    return 0 if trial.passed == len(edits) else 1
+        return tried(Trial(edits), [TreeLane(Path(room, "tree"), Path(room, f"lane{at}")) for at in range(int(jobs()))])
 
 
 if __name__ == "__main__":

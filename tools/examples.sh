@@ -22,10 +22,10 @@ examples=$(cd "$tools/../examples" && pwd)
 LC_ALL=C
 export LC_ALL
 
-# run WORD..: the program on $room/in, twenty seconds at most
+# run WORD..: the program on $room/in, $patience seconds at most
 run() {
     status=0
-    timeout 20 "$program" "$@" < "$room/in" > "$room/out" 2> "$room/said" || status=$?
+    timeout "$patience" "$program" "$@" < "$room/in" > "$room/out" 2> "$room/said" || status=$?
 }
 
 # told LABEL STATUS PRINTED: counts the run that was just made

@@ -15,6 +15,7 @@ A fault is a number and a place in the package as it is. Two runs have to tell 8
 """
 from __future__ import annotations
 
+import os
 import re
 import subprocess
 import sys
@@ -123,7 +124,7 @@ class Package:
         for name, draft in self.drafts.items():
             Path(self.room, name).write_text(draft.text, encoding="utf-8")
         run = [self.program, *words, *self.drafts]
-        return subprocess.run(run, cwd=self.room, stdin=subprocess.DEVNULL, capture_output=True, encoding="utf-8", timeout=20)
+        return subprocess.run(run, cwd=self.room, stdin=subprocess.DEVNULL, capture_output=True, encoding="utf-8", timeout=int(os.environ.get("PATIENCE", 20)))
 
     def export(self) -> tuple[int, int | None] | None:
         """The number and the offset that `export` refuses with; none where it accepts the package."""

@@ -1,5 +1,7 @@
 # What cases.sh, examples.sh, commands.sh, memory.sh and hostile.sh share: whether a run did what is wanted of it. They set `program`, and
 # their `run` sets `status`; what it printed stands in $room/out and what it said on standard error in $room/said.
+# How many seconds a run may take; a program that is built for a look takes several times as long as one that is proved.
+patience=${PATIENCE-20}
 room=$(mktemp -d)
 trap 'rm -rf "$room"' EXIT
 passed=0

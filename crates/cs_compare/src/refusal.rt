@@ -7,7 +7,7 @@ use cs_tool::Fault;
 use std::alloc::AllocError;
 
 /// An edition of a definition.
-#[derive(Debug, Clone, Copy, PartialEq, Eq)]
+#[derive(Clone, Copy)]
 pub enum Side {
     Old,
     New,
@@ -15,7 +15,7 @@ pub enum Side {
 
 /// Why two editions aren't compared: the refusal of one side's sources or root, or with no side one of the question,
 /// `TooManyCases` or `OutOfMemory`.
-#[derive(Debug, Drop)]
+#[derive(Drop)]
 pub struct CompareRefusal {
     pub side: Option<Side>,
     pub fault: Fault,

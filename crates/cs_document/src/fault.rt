@@ -1,22 +1,33 @@
 // The refusals of documents. No function here reads a text: `NotJson` and `NotInteger` are those of `cs_doc`, of which
 // `Doc::copy` answers the same type.
+use cs_meanings::meaning;
 use std::alloc::{AllocError, AllocFailed};
-use thiserror::Error;
+use std::error::Error;
+use std::fmt;
 
 /// Why a document was not read or made.
-#[derive(Debug, Drop, Error)]
+#[derive(Debug, Drop)]
 pub enum DocFault {
     /// Memory ran out.
-    #[error("out of memory")]
     OutOfMemory,
     /// `serde_json` reads no value from the text: it isn't JSON or isn't UTF-8, nests deeper than 127, or has
     /// a number that is too large.
-    #[error("the text is not JSON")]
     NotJson,
     /// The text has a number that isn't an integer, or doesn't fit in 64 signed bits.
-    #[error("a number is not an integer that fits in 64 signed bits")]
     NotInteger,
 }
+
+impl fmt::Display for DocFault {
+    fn fmt<W: fmt::Write>(&self, f: &mut fmt::Formatter<W>) -> fmt::Result {
+        f.write_str(meaning(match self {
+            DocFault::OutOfMemory => 15,
+            DocFault::NotJson => 25,
+            DocFault::NotInteger => 26,
+        }))
+    }
+}
+
+impl Error for DocFault {}
 
 impl From<AllocError> for DocFault {
     ghost use Rattle.std.specs.Prelude.{◌≡◌};

@@ -1,7 +1,7 @@
 // How a schema is written.
 
 /// How a schema is written. With nothing asked for, it is written as `cs_tool::export` writes it.
-#[derive(Clone, Copy, Debug)]
+#[derive(Clone, Copy)]
 pub struct Layout {
     /// With the comments of definitions and fields as their `description` (JSON Schema Validation 2020-12, section 9.1).
     pub is_described: bool,

@@ -1,7 +1,7 @@
 // What is wrong with the text of a schema.
 
 /// Why a text isn't a schema of the profile. A place is the JSON pointer of the schema object at fault.
-#[derive(Debug, Drop, PartialEq, Eq)]
+#[derive(Drop, PartialEq, Eq)]
 pub enum Flaw {
     /// `serde_json` reads no value from the text.
     NotJson,

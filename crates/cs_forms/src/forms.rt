@@ -9,7 +9,7 @@ use cs_tool::Fault;
 use std::alloc::{AllocError, Global};
 
 /// A form that is refused: one of CUE that the profile leaves out, or a mistake.
-#[derive(Clone, Copy, Debug, PartialEq, Eq)]
+#[derive(Clone, Copy)]
 pub enum Form {
     // No token begins (3).
     /// A byte order mark.
@@ -135,7 +135,7 @@ pub enum Form {
 }
 
 /// A form, and the bytes of the source that show it: from `start` up to `end`, which is behind the last one.
-#[derive(Clone, Copy, Debug, PartialEq, Eq)]
+#[derive(Clone, Copy)]
 pub struct Found {
     pub form: Form,
     pub start: usize,

@@ -3,7 +3,7 @@ use crate::forms::{Form, Found};
 use cs_grammar::{Sort, Token};
 
 /// What tokens are inside of.
-#[derive(Clone, Copy, Debug, PartialEq, Eq)]
+#[derive(Clone, Copy, PartialEq, Eq)]
 pub(crate) enum Around {
     Top,
     Struct,

@@ -1,14 +1,14 @@
 // The tree that a file spells.
 
 /// A file: its package clause, if it has one, and its definitions in order.
-#[derive(Debug, Drop)]
+#[derive(Drop)]
 pub struct File {
     pub package: Option<String>,
     pub definitions: Vec<Definition>,
 }
 
 /// A definition: its name without `#`, the offset of the name, and its body.
-#[derive(Debug, Drop)]
+#[derive(Drop)]
 pub struct Definition {
     pub name: String,
     pub at: usize,

@@ -2,7 +2,7 @@
 
 /// What a token is for the grammar: its `Sort`, with the marks told apart. The definitions speak of a `Word`, which is
 /// a token by its kind, its value and its offset.
-#[derive(Clone, Copy, PartialEq, Eq)]
+#[derive(Clone, Copy)]
 pub enum Kind {
     Name,
     Definition,

@@ -2,7 +2,7 @@
 // computes with it, since the definition of a cut speaks of it.
 
 /// What the token before a place means for what follows it.
-#[derive(Clone, Copy, PartialEq, Eq)]
+#[derive(Clone, Copy)]
 pub enum LineState {
     /// Nothing.
     Plain,

@@ -29,7 +29,7 @@ pub enum Sort {
 
 /// A token: its sort, the slice of the source that it is, and the byte at which it starts.
 /// An inserted comma and the end have empty texts.
-#[derive(Clone, Copy, Debug)]
+#[derive(Clone, Copy)]
 pub struct Token<'a> {
     pub sort: Sort,
     pub text: &'a str,

@@ -1,17 +1,27 @@
 // The refusals of `heights`.
 use std::alloc::{AllocError, AllocFailed};
-use thiserror::Error;
+use std::error::Error;
+use std::fmt;
 
 /// Why a graph has no heights.
-#[derive(Debug, Drop, Error)]
+#[derive(Debug, Drop)]
 pub enum GraphFault {
     /// Memory ran out.
-    #[error("out of memory")]
     OutOfMemory,
     /// A cycle of references: each number refers to the next, and the last to the first, which is the lowest.
-    #[error("numbers refer to one another in a cycle")]
     Cycle { numbers: Vec<usize> },
 }
+
+impl fmt::Display for GraphFault {
+    fn fmt<W: fmt::Write>(&self, f: &mut fmt::Formatter<W>) -> fmt::Result {
+        f.write_str(match self {
+            GraphFault::OutOfMemory => "memory ran out",
+            GraphFault::Cycle { .. } => "numbers refer to one another in a cycle",
+        })
+    }
+}
+
+impl Error for GraphFault {}
 
 impl From<AllocError> for GraphFault {
     ghost use Rattle.std.specs.Prelude.{◌≡◌};

@@ -11,7 +11,7 @@ use crate::cycle::cycle_from;
 use std::alloc::{AllocError, Global};
 
 /// What the walk knows of a number: its height once it is done.
-#[derive(Clone, Copy, Debug)]
+#[derive(Clone, Copy)]
 pub(crate) enum VisitState {
     New,
     Open,
@@ -19,7 +19,7 @@ pub(crate) enum VisitState {
 }
 
 /// A number that is open, how many of its references are passed, and how high it is by these.
-#[derive(Clone, Copy, Debug)]
+#[derive(Clone, Copy)]
 pub(crate) struct Frame {
     pub(crate) number: usize,
     passed: usize,

@@ -1,20 +1,31 @@
 // The refusals of `guard`.
+use cs_meanings::meaning;
 use std::alloc::AllocError;
-use thiserror::Error;
+use std::error::Error;
+use std::fmt;
 
 /// Why the recursion of a package is refused.
-#[derive(Debug, Drop, Error)]
+#[derive(Debug, Drop)]
 pub enum GuardFault {
     /// Memory ran out.
-    #[error("out of memory")]
     OutOfMemory,
     /// A cycle of strong references: each name refers strongly to the next, and the last to the first.
-    #[error("definitions refer to one another in a cycle")]
     Cycle { names: Vec<String> },
     /// A chain of more than 64 strong references.
-    #[error("a chain of references is longer than 64")]
     ChainTooLong,
 }
+
+impl fmt::Display for GuardFault {
+    fn fmt<W: fmt::Write>(&self, f: &mut fmt::Formatter<W>) -> fmt::Result {
+        f.write_str(meaning(match self {
+            GuardFault::OutOfMemory => 15,
+            GuardFault::Cycle { .. } => 12,
+            GuardFault::ChainTooLong => 16,
+        }))
+    }
+}
+
+impl Error for GuardFault {}
 
 impl From<AllocError> for GuardFault {
     ghost use Rattle.std.specs.Prelude.{◌≡◌};

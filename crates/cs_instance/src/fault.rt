@@ -1,20 +1,31 @@
+use cs_meanings::meaning;
 use cs_table::TableFault;
 use std::alloc::AllocError;
-use thiserror::Error;
+use std::error::Error;
+use std::fmt;
 
 /// Why a document can't be judged.
-#[derive(Debug, Drop, Error)]
+#[derive(Debug, Drop)]
 pub enum InstanceFault {
     /// Memory ran out.
-    #[error("out of memory")]
     OutOfMemory,
     /// The package doesn't declare the root.
-    #[error("the package does not declare the root")]
     UnknownRoot,
     /// The values of the document and the rules that the root reaches make more than 67,108,864 pairs.
-    #[error("there are more than 67,108,864 pairs of a value and a rule")]
     TooManyPairs,
 }
+
+impl fmt::Display for InstanceFault {
+    fn fmt<W: fmt::Write>(&self, f: &mut fmt::Formatter<W>) -> fmt::Result {
+        f.write_str(meaning(match self {
+            InstanceFault::OutOfMemory => 15,
+            InstanceFault::UnknownRoot => 13,
+            InstanceFault::TooManyPairs => 27,
+        }))
+    }
+}
+
+impl Error for InstanceFault {}
 
 impl From<AllocError> for InstanceFault {
     ghost use Rattle.std.specs.Prelude.{◌≡◌};

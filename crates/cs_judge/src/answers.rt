@@ -13,7 +13,7 @@ use std::io::Write;
 pub(crate) const ANSWER_ROOM: usize = 32;
 
 /// What came of texts that were judged one after another.
-#[derive(Debug, Clone, Copy, PartialEq, Eq)]
+#[derive(Clone, Copy)]
 pub enum LinesOutcome {
     /// Each is valid.
     AllValid,

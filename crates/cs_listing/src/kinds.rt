@@ -12,7 +12,7 @@ use cs_rules::ByKind;
 use std::alloc::{AllocError, Global};
 
 /// Kinds of documents: for each whether it is among them. Every number of a document is an integer.
-#[derive(Clone, Copy, Debug, Drop, PartialEq, Eq)]
+#[derive(Clone, Copy, Drop)]
 pub struct Kinds {
     pub null: bool,
     pub boolean: bool,

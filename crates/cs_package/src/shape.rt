@@ -54,7 +54,7 @@ pub enum ShapeEnd {
 }
 
 /// The predeclared kinds: `int`, `number`, `string`, `bool`.
-#[derive(Clone, Copy, Debug, PartialEq, Eq)]
+#[derive(Clone, Copy, PartialEq, Eq)]
 pub enum Kind {
     Int,
     Number,

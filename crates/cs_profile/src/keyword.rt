@@ -6,7 +6,7 @@ ghost use Rattle.cs_profile.specs.Shapes.{form_of, stands};
 
 /// The keywords of the profile, by the standard's own words (JSON Schema Core 2020-12, sections 8 and 10;
 /// Validation 2020-12, sections 6 and 9).
-#[derive(Clone, Copy, Debug)]
+#[derive(Clone, Copy)]
 pub enum Keyword {
     /// `$comment`
     Comment,
@@ -55,7 +55,7 @@ pub enum Keyword {
 }
 
 /// The form of a keyword's value.
-#[derive(Clone, Copy, Debug)]
+#[derive(Clone, Copy)]
 pub enum Form {
     /// The text that names the dialect.
     Dialect,

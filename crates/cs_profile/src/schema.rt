@@ -5,7 +5,7 @@ use std::alloc::Global;
 use std::collections::BTreeMap;
 
 /// The kinds that `type` names (JSON Schema Validation 2020-12, section 6.1.1).
-#[derive(Clone, Copy, Debug, PartialEq, Eq)]
+#[derive(Clone, Copy, PartialEq, Eq)]
 pub enum JsonKind {
     Null,
     Boolean,

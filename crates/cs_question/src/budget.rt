@@ -5,7 +5,7 @@ ghost use Rattle.std.specs.Prelude.{◌≡◌, ◌-◌};
 pub(crate) const MOST_STEPS: usize = 5_000_000;
 
 /// The steps that questions may take still, all together. A step is about a microsecond's work.
-#[derive(Clone, Copy, Debug, PartialEq, Eq)]
+#[derive(Clone, Copy)]
 pub struct Budget {
     pub steps: usize,
 }

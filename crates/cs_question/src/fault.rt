@@ -1,25 +1,36 @@
 // Why a question isn't answered.
 use cs_document::DocFault;
 use cs_instance::InstanceFault;
+use cs_meanings::meaning;
 use std::alloc::{AllocError, AllocFailed};
-use thiserror::Error;
+use std::error::Error;
+use std::fmt;
 
 /// Why a question isn't answered.
-#[derive(Debug, Drop, Error)]
+#[derive(Debug, Drop)]
 pub enum QuestionFault {
     /// Memory ran out.
-    #[error("out of memory")]
     OutOfMemory,
     /// A package doesn't declare its root.
-    #[error("the package does not declare the root")]
     UnknownRoot,
     /// No answer was found within the limits: 100,000 questions, 5,000,000 steps, and 100,000 values in a document.
-    #[error("there are too many cases")]
     TooManyCases,
 }
 
+impl fmt::Display for QuestionFault {
+    fn fmt<W: fmt::Write>(&self, f: &mut fmt::Formatter<W>) -> fmt::Result {
+        f.write_str(meaning(match self {
+            QuestionFault::OutOfMemory => 15,
+            QuestionFault::UnknownRoot => 13,
+            QuestionFault::TooManyCases => 17,
+        }))
+    }
+}
+
+impl Error for QuestionFault {}
+
 /// Why a search ends without an answer.
-#[derive(Debug, Drop)]
+#[derive(Drop)]
 pub(crate) enum SearchFault {
     OutOfMemory,
     TooManyCases,

@@ -7,14 +7,14 @@ ghost use Rattle.cs_question.specs.declared.literal.Literal.{Literal};
 use std::alloc::{AllocError, Global};
 
 /// Whose rule it is: the package's whose documents are looked for, or the one's that is to refuse them.
-#[derive(Clone, Copy, Debug, PartialEq, Eq, PartialOrd, Ord)]
+#[derive(Clone, Copy, PartialEq, Eq, PartialOrd, Ord)]
 pub(crate) enum Side {
     Admitting,
     Refusing,
 }
 
 /// A rule, by its number on its side, that a document meets, or doesn't.
-#[derive(Clone, Copy, Debug, PartialEq, Eq, PartialOrd, Ord)]
+#[derive(Clone, Copy, PartialEq, Eq, PartialOrd, Ord)]
 pub(crate) struct Literal {
     pub(crate) side: Side,
     pub(crate) rule: usize,

@@ -3,7 +3,7 @@ use cs_grammar::{Sort, Token};
 use std::alloc::{AllocError, Global};
 
 /// What a part is directly inside of.
-#[derive(Clone, Copy, Debug, PartialEq, Eq)]
+#[derive(Clone, Copy, PartialEq, Eq)]
 pub(crate) enum Inside {
     Top,
     Struct,

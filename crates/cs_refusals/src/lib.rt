@@ -19,7 +19,6 @@ mod objects;
 mod packages;
 mod pairs;
 mod parts;
-mod rows;
 mod schemas;
 mod sentences;
 mod sources;
@@ -31,8 +30,7 @@ mod unknown;
 
 pub use cs_forms::{Form, Found, form_among, form_of};
 pub use lines::{put_finding, why_refused};
-pub use numbers::{explained, explanation};
+pub use numbers::explained;
 pub use objects::write_refusal_json;
-pub use rows::Explanation;
 pub use sources::{Source, cut_sources};
 pub use told::About;

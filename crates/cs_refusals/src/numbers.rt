@@ -1,16 +1,7 @@
 // From a number to what docs/REFUSALS.md says of it.
-ghost use Rattle.std.specs.Prelude.{◌≡◌, IfSome};
-
-use crate::rows::{EXPLANATIONS, Explanation};
 use crate::text::put_number;
+use cs_meanings::{EXPLANATIONS, Explanation, explanation};
 use std::alloc::{AllocError, Global};
-
-/// What a number means, and what to do about it; none for a number that no refusal has.
-pub fn explanation(number: u32) -> Option<Explanation>
-    ensures { IfSome result (λ e. e.number ≡ number) }
-{
-    EXPLANATIONS.iter().copied().find(|e| e.number == number)
-}
 
 /// What docs/REFUSALS.md says of a number: for each of its rows a line with the number and the meaning, and one with what to
 /// do. `None` for a number that no refusal has. Only memory can run out.

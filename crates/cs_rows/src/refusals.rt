@@ -6,33 +6,33 @@ use std::test::Fail;
 
 /// The number of each refusal, and words of what it means that its message has and no other one.
 const MESSAGES: &str = r##"1 => more than 1,048,576 bytes
-2 => a source is not UTF-8
-3 => no token begins
-4 => a token is out of place
-5 => this form of CUE
-6 => an integer does not fit
-7 => deeper than 28
-8 => another package
-9 => a name is not declared
-10 => refers to a field
-11 => a struct literal in a conjunction
-12 => in a cycle
-13 => not declare the root
-14 => more than 1,000 definitions or 50,000 nodes
-15 => out of memory
-16 => longer than 64
-17 => too many cases
-20 => the schema is not JSON
-21 => a keyword of the schema is not supported
-22 => a value of the wrong form
-23 => `$ref`
+2 => isn't UTF-8
+3 => No token of the profile
+4 => out of place
+5 => form of CUE that is left out
+6 => An integer doesn't fit
+7 => is higher than 28
+8 => names another package
+9 => that isn't declared
+10 => names a field
+11 => struct literal has to end with `...`
+12 => to one another in a cycle
+13 => doesn't declare the root
+14 => More than 1,000 definitions, or more than 50,000 nodes
+15 => Memory ran out
+16 => A chain of more than 64 references
+17 => met its limits
+20 => The schema's text isn't JSON
+21 => A keyword outside the profile
+22 => A keyword's value has the wrong form
+23 => A `$ref` to a name
 24 => in a loop
-25 => the document is not JSON
-26 => a number is not an integer
-27 => the document is too large
+25 => The document's text isn't JSON
+26 => A number isn't an integer
+27 => More than 67,108,864 pairs
 28 => more than 67,108,864 bytes
-30 => could not be read
-31 => could not be written"##;
+30 => A read failed
+31 => A write failed"##;
 
 /// Whether the message of a refusal has the words of its number.
 pub(crate) fn is_said(alloc: Global, fault: &Fault) -> Result<bool, AllocError> {

@@ -1,16 +1,27 @@
+use cs_meanings::meaning;
 use std::alloc::AllocError;
-use thiserror::Error;
+use std::error::Error;
+use std::fmt;
 
 /// Why there is no table.
-#[derive(Debug, Drop, Error)]
+#[derive(Debug, Drop)]
 pub enum TableFault {
     /// Memory ran out.
-    #[error("out of memory")]
     OutOfMemory,
     /// There are more than 67,108,864 pairs of an item and a rule.
-    #[error("there are more than 67,108,864 pairs of an item and a rule")]
     TooManyPairs,
 }
+
+impl fmt::Display for TableFault {
+    fn fmt<W: fmt::Write>(&self, f: &mut fmt::Formatter<W>) -> fmt::Result {
+        f.write_str(meaning(match self {
+            TableFault::OutOfMemory => 15,
+            TableFault::TooManyPairs => 27,
+        }))
+    }
+}
+
+impl Error for TableFault {}
 
 impl From<AllocError> for TableFault {
     ghost use Rattle.std.specs.Prelude.{◌≡◌};

@@ -1,100 +1,82 @@
 // The refusals and their numbers.
+use cs_meanings::meaning;
 use std::alloc::{AllocError, AllocFailed};
-use thiserror::Error;
+use std::error::Error;
+use std::fmt;
 
 /// A refusal of the tool. `file` is the index of a source in the list of sources, `offset` counts its bytes
 /// from 0, `place` is the JSON pointer of a schema object in a schema's text.
-#[derive(Debug, Drop, Error)]
+#[derive(Debug, Drop)]
 pub enum Fault {
     /// 1: the sources have more than 1,048,576 bytes together.
-    #[error("the sources have more than 1,048,576 bytes together; give fewer files")]
     SourcesTooLong,
     /// 2: the source is the first that isn't UTF-8.
-    #[error("a source is not UTF-8; save it as UTF-8 without a byte order mark")]
     NotUtf8 { file: usize },
     /// 3: no token of the profile begins at the offset.
-    #[error("no token begins here; write numbers as integers and text in double quotes")]
     NoToken { file: usize, offset: usize },
     /// 4: the tokens of the source don't spell a file of the grammar. They nest at most 28 deep, and the offset is that of
     /// one of them; that it is the first one out of place is tested.
-    #[error("a token is out of place; correct the syntax there")]
     Syntax { file: usize, offset: usize },
     /// 5: the same, where that token begins a form of CUE that the profile leaves out.
-    #[error("this form of CUE is not supported; say it by other forms")]
     LeftOut { file: usize, offset: usize },
     /// 6: the integer at the offset doesn't fit in 64 signed bits.
-    #[error("an integer does not fit in 64 signed bits; use a smaller one")]
     IntegerRange { file: usize, offset: usize },
     /// 7: the tokens of the source nest deeper than 28, or a body in it is higher than that.
-    #[error("an expression nests deeper than 28 levels; give an inner part its own definition")]
     TooHigh { file: usize },
     /// 8: the source is the first whose package name differs from the first one named.
-    #[error("a file names another package than the files before it")]
     PackageName { file: usize },
     /// 9: the name at the offset isn't declared, and is the first at fault.
-    #[error("a name is not declared; declare the definition or correct the name")]
     UnknownName { file: usize, offset: usize },
     /// 10: the name at the offset names a field, and is the first at fault.
-    #[error("a name refers to a field, which JSON Schema cannot express; write out its type")]
     FieldReference { file: usize, offset: usize },
     /// 11: the struct literal at the offset has to end with `...`, and is the first that doesn't.
-    #[error("a struct literal in a conjunction must end with `...`")]
     NotOpened { file: usize, offset: usize },
     /// 12: a cycle of definitions, by their names with `#`: each refers strongly to the next, and the last to the
     /// first. The one that is declared first comes first, and no name comes twice.
-    #[error("definitions refer to one another in a cycle; make a field on the way optional, or put an alternative there")]
     Cycle { names: Vec<String> },
     /// 13: the package doesn't declare the root.
-    #[error("the package does not declare the root; write its name with `#`")]
     UnknownRoot,
     /// 14: more than 1,000 names of definitions, or more than 50,000 nodes of expressions, in all sources together.
-    #[error("the package has more than 1,000 definitions or 50,000 nodes; split it by roots")]
     TooLarge,
     /// 15: memory ran out, at any time.
-    #[error("out of memory")]
     OutOfMemory,
     /// 16: a chain of more than 64 strong references, where there is no cycle.
-    #[error("a chain of references is longer than 64; nest the definitions less deeply")]
     ChainTooLong,
     /// 17: whether every document of one definition is one of another was not found within the limits: 100,000 questions,
     /// 5,000,000 steps of search, and 100,000 values in a document.
-    #[error("the question has too many cases; ask it of smaller definitions")]
     TooManyCases,
     /// 20: the schema's text isn't JSON that `serde_json` reads.
-    #[error("the schema is not JSON")]
     SchemaNotJson,
     /// 21: the profile doesn't have the keyword of that name.
-    #[error("a keyword of the schema is not supported; say it by other keywords")]
     Keyword { place: String, name: String },
     /// 22: the value of the keyword of that name doesn't have its shape; with the empty name, the value at the place
     /// isn't a schema.
-    #[error("a keyword of the schema has a value of the wrong form")]
     Shape { place: String, name: String },
     /// 23: a `$ref` to a definition of that name, which the schema doesn't have.
-    #[error("a `$ref` names a definition that `$defs` does not have")]
     Reference { place: String, name: String },
     /// 24: definitions of a schema that reach themselves: each refers directly to the next, and the last to the first.
-    #[error("definitions of the schema refer to one another in a loop")]
     Loop { names: Vec<String> },
     /// 25: the document's text isn't JSON that `serde_json` reads.
-    #[error("the document is not JSON")]
     NotJson,
     /// 26: a number in a document's or a schema's text isn't an integer, or doesn't fit in 64 signed bits.
-    #[error("a number is not an integer that fits in 64 signed bits")]
     NotInteger,
     /// 27: more than 67,108,864 pairs of a value of the document and a rule.
-    #[error("the document is too large to be judged by these rules")]
     TooManyPairs,
     /// 28: an input other than sources of more than 67,108,864 bytes.
-    #[error("the input has more than 67,108,864 bytes")]
     InputTooLong,
     /// 30: a read of the input failed, where the input is read.
-    #[error("the input could not be read")]
     ReadFailed,
     /// 31: a write or a flush failed, or a write took no byte.
-    #[error("the output could not be written")]
     WriteFailed,
 }
+
+impl fmt::Display for Fault {
+    fn fmt<W: fmt::Write>(&self, f: &mut fmt::Formatter<W>) -> fmt::Result {
+        f.write_str(meaning(self.number()))
+    }
+}
+
+impl Error for Fault {}
 
 impl From<AllocError> for Fault {
     ghost use Rattle.std.specs.Prelude.{◌≡◌};

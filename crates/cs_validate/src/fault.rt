@@ -1,18 +1,29 @@
 // The refusals of the judge of validity.
+use cs_meanings::meaning;
 use cs_table::TableFault;
 use std::alloc::AllocError;
-use thiserror::Error;
+use std::error::Error;
+use std::fmt;
 
 /// Why a document can't be judged.
-#[derive(Debug, Drop, Error)]
+#[derive(Debug, Drop)]
 pub enum ValidateFault {
     /// Memory ran out.
-    #[error("out of memory")]
     OutOfMemory,
     /// The values of the document and the schemas make more than 67,108,864 pairs.
-    #[error("there are more than 67,108,864 pairs of a value and a schema")]
     TooManyPairs,
 }
+
+impl fmt::Display for ValidateFault {
+    fn fmt<W: fmt::Write>(&self, f: &mut fmt::Formatter<W>) -> fmt::Result {
+        f.write_str(meaning(match self {
+            ValidateFault::OutOfMemory => 15,
+            ValidateFault::TooManyPairs => 27,
+        }))
+    }
+}
+
+impl Error for ValidateFault {}
 
 impl From<AllocError> for ValidateFault {
     ghost use Rattle.std.specs.Prelude.{◌≡◌};

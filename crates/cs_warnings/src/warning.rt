@@ -1,7 +1,7 @@
 // What is told of definitions without instances.
 
 /// A definition that nothing is an instance of, by its number, and why.
-#[derive(Debug, Drop)]
+#[derive(Drop)]
 pub struct Warning {
     pub definition: usize,
     pub reason: Reason,

@@ -1,7 +1,7 @@
 // What each number means, and what to do.
 
 /// What a number of refusals means, and what to do about it.
-#[derive(Clone, Copy, Debug)]
+#[derive(Clone, Copy)]
 pub struct Explanation {
     pub number: u32,
     pub meaning: &'static str,
@@ -10,7 +10,7 @@ pub struct Explanation {
 
 /// All of them, in the order of their numbers: for each number first what it means, then its forms. They are the rows of
 /// docs/REFUSALS.md, with which `tools/explained.py` compares them.
-pub(crate) const EXPLANATIONS: &[Explanation] = &[
+pub const EXPLANATIONS: &[Explanation] = &[
     Explanation {
         number: 1,
         meaning: "The sources have more than 1,048,576 bytes together.",

@@ -1,0 +1,117 @@
+#!/usr/bin/env python3
+"""Runs all checks of one kind side by side, and prints what each prints when it has ended. The last line sums up those of all: `N
+passed, M failed`.
+
+    tools/checks.py test PROGRAM            those that need no proof: what can be seen from the files, the tests of the crates `cs_rows*`
+                                            unproved, and PROGRAM, which is built from its sources without the proofs first
+    tools/checks.py prove PROGRAM           every proof from nothing by `rt ci`, then the edits that edits/GATE names, and the program
+                                            that `rt ci` built, PROGRAM, by the same checks
+    tools/checks.py program PROGRAM         the checks of a program alone
+
+JOBS=N: at most so many at once; without it as many as there are processors.
+"""
+from __future__ import annotations
+
+import os
+import re
+import subprocess
+import sys
+import threading
+import time
+from concurrent.futures import Future, ThreadPoolExecutor
+from dataclasses import dataclass, field
+from pathlib import Path
+
+TOP = Path(__file__).resolve().parent.parent
+COUNTED = re.compile(r"(\d+) passed[,;] (\d+) failed")
+TEST = re.compile(r"^#\[test\]", re.M)
+# What can be seen from the files in a second.
+OF_FILES = [["tools/edits.py", "--fit"], ["tools/recursions.sh"], ["tools/definitions.sh"], ["tools/contracts.sh"], ["tools/places.py"]]
+# What is asked of a program, the longest first.
+OF_PROGRAMS = ["tools/cases.sh", "tools/commands.sh", "tools/examples.sh", "tools/natural.py", "tools/pages.sh", "tools/explained.py"]
+
+
+def lanes() -> int:
+    return int(os.environ.get("JOBS") or len(os.sched_getaffinity(0)))
+
+
+@dataclass
+class Checks:
+    """What has been counted so far, by commands that run side by side."""
+
+    passed: int = 0
+    failed: int = 0
+    lock: threading.Lock = field(default_factory=threading.Lock)
+
+    def count(self, words: list[str], said: str, status: int, began: float) -> bool:
+        """Counts what a command says in its last line that counts, or else the command itself. Prints what it said; whether all is well."""
+        found = COUNTED.findall(said)
+        passed, failed = map(int, found[-1]) if found else (int(not status), 0)
+        failed += bool(status and not failed)
+        with self.lock:
+            self.passed, self.failed = self.passed + passed, self.failed + failed
+            print(f"== {' '.join(words)} ({time.monotonic() - began:.0f} s)\n{said}", end="", flush=True)
+        return not failed
+
+    def run(self, words: list[str], folder: str = ".", **environment: str) -> bool:
+        """Runs a command to its end, then counts it; whether all is well."""
+        began, streams = time.monotonic(), {"stdin": subprocess.DEVNULL, "stdout": subprocess.PIPE, "stderr": subprocess.STDOUT}
+        ran = subprocess.run(words, cwd=TOP / folder, env={**os.environ, **environment}, **streams, text=True, errors="replace")
+        return self.count([*words, *([f"in {folder}"] if folder != "." else [])], ran.stdout, ran.returncode, began)
+
+    def follow(self, words: list[str], **environment: str) -> bool:
+        """The same, where each line is printed at once."""
+        began, said = time.monotonic(), ""
+        streams = {"stdin": subprocess.DEVNULL, "stdout": subprocess.PIPE, "stderr": subprocess.STDOUT}
+        with subprocess.Popen(words, cwd=TOP, env={**os.environ, **environment}, **streams, text=True, errors="replace") as running:
+            for line in running.stdout:
+                print(line, end="", flush=True)
+                said = line
+        return self.count(words, said, running.returncode, began)
+
+    def sum(self) -> int:
+        """Prints the sum of all; the status."""
+        print(f"{self.passed} passed, {self.failed} failed")
+        return 1 if self.failed or not self.passed else 0
+
+
+def of_program(checks: Checks, pool: ThreadPoolExecutor, program: str, **environment: str) -> list[Future]:
+    return [pool.submit(checks.run, [it, program], **environment) for it in OF_PROGRAMS]
+
+
+def test_crates() -> list[str]:
+    """The folders of the crates of tests, the longest text first: it takes the longest to build."""
+    folders = [it for it in (TOP / "crates").glob("cs_rows*") if any(TEST.search(file.read_text()) for file in it.rglob("src/**/*.rt"))]
+    sizes = {it: sum(file.stat().st_size for file in it.rglob("src/**/*.rt")) for it in folders}
+    return [f"crates/{it.name}" for it in sorted(folders, key=lambda it: -sizes[it])]
+
+
+def test(checks: Checks, pool: ThreadPoolExecutor, program: str) -> list[Future]:
+    built = pool.submit(checks.run, ["tools/unproved.py", program])
+    tested = [pool.submit(checks.run, ["rt", "try", "--test"], it) for it in test_crates()]
+    seen = [pool.submit(checks.run, it) for it in OF_FILES]
+    return [*tested, *seen, *(of_program(checks, pool, program, PATIENCE="120") if built.result() else [])]
+
+
+def prove(checks: Checks, pool: ThreadPoolExecutor, program: str) -> list[Future]:
+    given = os.environ.get("JOBS")
+    if not checks.follow(["rt", "ci"], **({"RT_JOBS": given} if given else {})):
+        return []
+    edits = pool.submit(checks.run, ["tools/edits.py", "--gate"], JOBS=str(max(1, lanes() - 1)))
+    return [edits, *of_program(checks, pool, program)]
+
+
+def main(words: list[str]) -> int:
+    kinds = {"test": test, "prove": prove, "program": of_program}
+    if len(words) != 2 or words[0] not in kinds:
+        print(__doc__, file=sys.stderr)
+        return 2
+    checks = Checks()
+    with ThreadPoolExecutor(lanes()) as pool:
+        for it in kinds[words[0]](checks, pool, words[1]):
+            it.result()
+    return checks.sum()
+
+
+if __name__ == "__main__":
+    sys.exit(main(sys.argv[1:]))
