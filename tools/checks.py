@@ -87,8 +87,8 @@ def test_crates() -> list[str]:
 
 
 def test(checks: Checks, pool: ThreadPoolExecutor, program: str) -> list[Future]:
-    built = pool.submit(checks.run, ["tools/unproved.py", program])
-    tested = [pool.submit(checks.run, ["rt", "try", "--test"], it) for it in test_crates()]
+    built = pool.submit(checks.run, ["tools/unproved.py", program], RT_SECONDS="600")
+    tested = [pool.submit(checks.run, ["rt", "try", "--test"], it, RT_SECONDS="600") for it in test_crates()]
     seen = [pool.submit(checks.run, it) for it in OF_FILES]
     return [*tested, *seen, *(of_program(checks, pool, program, PATIENCE="120") if built.result() else [])]
 
