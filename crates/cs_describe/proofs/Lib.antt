@@ -11,3 +11,4 @@ pub mod PlainLoops
 pub mod PlainLaw
 -- a schema of the profile with texts
 pub mod StillSchema
+mod Samples

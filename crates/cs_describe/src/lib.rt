@@ -3,8 +3,6 @@
 
 mod describe;
 mod notes;
-#[cfg(test)]
-mod tests;
 
 pub use describe::described;
 pub use notes::Notes;

@@ -1,5 +1,5 @@
 // Where sources declare definitions.
-use cs_report::Named;
+use cs_place::Named;
 use cs_syntax::{File, SyntaxFault, parse_file};
 use std::alloc::{AllocError, Global};
 use std::collections::BTreeMap;

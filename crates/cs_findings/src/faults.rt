@@ -1,7 +1,7 @@
 // The lines of faults.
 use crate::readable::readable;
+use cs_place::Named;
 use cs_refusals::{cut_sources, put_finding};
-use cs_report::Named;
 use cs_tool::Fault;
 use std::alloc::{AllocError, Global};
 

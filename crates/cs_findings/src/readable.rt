@@ -1,7 +1,7 @@
 // Sources that can be cut into tokens.
 use cs_grammar::SyntaxFault;
 use cs_lexer::lex;
-use cs_report::Named;
+use cs_place::Named;
 use std::alloc::{AllocError, Global};
 use std::str;
 

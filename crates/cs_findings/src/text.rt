@@ -1,6 +1,5 @@
 // Writing into texts, and writing texts out.
-use cs_place::position_of;
-use cs_report::Named;
+use cs_place::{Named, position_of};
 use cs_tool::Fault;
 use itoa::Buffer;
 use std::alloc::AllocError;

@@ -2,7 +2,7 @@
 use crate::declared::Place;
 use crate::text::{put_number, put_place};
 use cs_guard::Guarded;
-use cs_report::Named;
+use cs_place::Named;
 use cs_warnings::{Reason, Warning};
 use std::alloc::AllocError;
 use std::collections::BTreeMap;

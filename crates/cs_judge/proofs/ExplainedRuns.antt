@@ -2,8 +2,8 @@
 use Rattle.std.proofs.Common.{◌≡◌, ℕ, List, [], ◌++◌, Bool, true, false, Option, Ok, Err, IfOk, IfErr, sym, ap, subst, ◌∙◌, append_assoc, codes}
 use Rattle.std.specs.Io.KnownBytes.{Appends}
 use Rattle.std.proofs.KnownBytes.{Appends-trans}
-use Rattle.cs_report.specs.declared.named.Form.{Form}
-use Rattle.cs_report.specs.declared.named.Form.TheVariants.{Lines}
+use Rattle.cs_report.specs.declared.form.Form.{Form}
+use Rattle.cs_report.specs.declared.form.Form.TheVariants.{Lines}
 use Rattle.cs_tool.specs.declared.rules.Rules.{Rules}
 use Rattle.cs_judge.specs.Explained.{IsTold, Tells, IsLabelled, WritesLabelled}
 use Rattle.cs_judge.specs.Judged.{call_on}

@@ -1,8 +1,8 @@
 -- What is told of a document beside its verdict.
 use Rattle.std.specs.Prelude.{◌≡◌, ℕ, List, ◌++◌, Bool, true, false, Option, Ok, codes, decimal}
 use Rattle.std.specs.Io.KnownBytes.{Appends, Keeps}
-use Rattle.cs_report.specs.declared.named.Form.{Form}
-use Rattle.cs_report.specs.declared.named.Form.TheVariants.{Lines, Json, Flag, Basic}
+use Rattle.cs_report.specs.declared.form.Form.{Form}
+use Rattle.cs_report.specs.declared.form.Form.TheVariants.{Lines, Json, Flag, Basic}
 use Rattle.cs_judge.specs.Judged.{call_on}
 use Rattle.cs_judge.specs.Lines.{Answer, labelled}
 use Rattle.cs_tool.specs.Runs.{IsCallAnswer, IsCallRefusal, verdict_text, line_of}

@@ -6,7 +6,7 @@ ghost use Rattle.cs_judge.specs.Lines.{IsLineAnswer};
 use crate::begun_line::{BegunLine, Kept};
 use crate::text_judge::TextJudge;
 use crate::why::Why;
-use cs_report::Named;
+use cs_place::Named;
 use cs_tool::{Fault, MOST_INPUT_BYTES};
 
 impl BegunLine {

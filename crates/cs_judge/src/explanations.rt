@@ -14,7 +14,7 @@ use crate::telling::tell;
 use crate::why::Why;
 use cs_doc::{Scratch, read_document};
 use cs_instance::RootRules;
-use cs_report::Named;
+use cs_place::Named;
 use cs_table::Verdicts;
 use cs_tool::Fault;
 use cs_validate::SchemaRules;

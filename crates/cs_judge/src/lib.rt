@@ -16,8 +16,9 @@ mod text_judge;
 mod why;
 
 pub use answers::{LinesOutcome, write_answer, write_unread};
+pub use cs_place::Named;
 pub use cs_reasons::Telling;
-pub use cs_report::{Form, Named};
+pub use cs_report::Form;
 pub use explained_lines::explain_lines;
 pub use explained_runs::{named_sources, run_explained, write_explained, write_unexplained};
 pub use lines::run_lines;

@@ -10,7 +10,7 @@ use crate::begun_line::BegunLine;
 use crate::held_answers::HeldAnswers;
 use crate::text_judge::{TextJudge, prepare};
 use crate::why::Why;
-use cs_report::Named;
+use cs_place::Named;
 use cs_tool::{Fault, Rules};
 use memchr::memchr;
 use std::alloc::Global;

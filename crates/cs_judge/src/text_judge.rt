@@ -4,7 +4,7 @@ use crate::why::Why;
 use cs_doc::Scratch;
 use cs_guard::Guarded;
 use cs_instance::RootRules;
-use cs_report::Named;
+use cs_place::Named;
 use cs_schema::SchemaDoc;
 use cs_table::Verdicts;
 use cs_tool::{

@@ -1,6 +1,7 @@
 // What is asked about the reasons of verdicts.
+use cs_place::Named;
 use cs_reasons::Telling;
-use cs_report::{Form, Named};
+use cs_report::Form;
 
 /// How documents are explained.
 #[derive(Clone, Copy)]

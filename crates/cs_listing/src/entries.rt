@@ -2,8 +2,7 @@
 use crate::kinds::{Kinds, kinds_of};
 use cs_guard::Guarded;
 use cs_package::Package;
-use cs_place::{Position, Positions};
-use cs_report::Named;
+use cs_place::{Named, Position, Positions};
 use cs_syntax::{File, SyntaxFault, parse_file};
 use std::alloc::{AllocError, Global};
 use std::str;

@@ -2,7 +2,7 @@
 use crate::Kinds;
 use crate::entries::{Entry, entries_of};
 use cs_guard::Guarded;
-use cs_report::Named;
+use cs_place::Named;
 use itoa::Buffer;
 use std::alloc::{AllocError, Global};
 

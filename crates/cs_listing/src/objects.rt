@@ -2,7 +2,7 @@
 use crate::entries::{Entry, entries_of};
 use crate::lines::words;
 use cs_guard::Guarded;
-use cs_report::Named;
+use cs_place::Named;
 use json::Writer;
 use std::alloc::{AllocError, Global};
 

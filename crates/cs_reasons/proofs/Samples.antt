@@ -1,7 +1,8 @@
--- Which causes are followed, worked on samples.
-use Rattle.std.proofs.Common.{◌≡◌, ℕ, zero, suc, ◌<◌, Bool, true, false, Option, Some, None, refl, sym, ap, ◌∙◌, arith}
+-- Which causes are followed, and which of some alternatives is the closest, worked on samples.
+use Rattle.std.proofs.Common.{◌≡◌, ℕ, zero, suc, ◌<◌, Bool, true, false, List, [], ◌∷◌, Option, Some, None, map, length, refl, sym, ap, ◌∙◌, arith}
 use Rattle.std.specs.Prelude.{◌&&◌, nat_eq}
 use Rattle.cs_table.specs.Judged.{AllVerdicts}
+use Rattle.cs_reasons.specs.Costs.{Kept, none_kept, begun, with_cost, cost_below, first_least}
 use Rattle.cs_reasons.specs.Reasons.{IsFollowed}
 use Rattle.cs_reasons.proofs.Pairs.{same_pair}
 
@@ -58,3 +59,27 @@ has_none : (c : ℕ) → IsFollowed to (λ i r d. d ≡ 2) is_alternative 9 (of_
 has_none c (IsFollowed.other cause alone) e = omega (arith, cause, e)
 has_none c (IsFollowed.alternative cause is lead chose) e = omega (arith, cause, e)
 has_none c (IsFollowed.unchosen cause is none) e = let clash : false ≡ true = ap is_alternative (sym cause) ∙ is in cc
+
+-- ---- costs of pairs of three items and four rules
+
+-- of the first and of the last item, which is begun twice
+abbrev sample : Kept
+sample = with_cost 2 1 5 (with_cost 2 0 5 (begun 2 (begun 2 (with_cost 0 3 7 (begun 0 (none_kept 3 4))))))
+
+abbrev near : List (Option (ℕ × ℕ))
+near = Some (0, 3) ∷ Some (2, 1) ∷ Some (2, 0) ∷ None ∷ []
+
+-- what leads nowhere costs most
+costs_are : map (cost_below sample) near ≡ 7 ∷ 5 ∷ 5 ∷ 65535 ∷ []
+costs_are = refl
+
+-- no more memory is taken than for two items
+begun_once : length sample.costs ≡ 8
+begun_once = refl
+
+-- of two that cost the same the first is the closest
+first_is_closest : first_least (cost_below sample) near ≡ Some (Some (2, 1), 5)
+first_is_closest = refl
+
+none_is_closest : first_least (cost_below sample) [] ≡ None
+none_is_closest = refl

@@ -9,3 +9,4 @@ pub mod Listed
 pub mod Passed
 pub mod Followed
 pub mod Closest
+pub mod Costs

@@ -1,5 +1,6 @@
 // Which of the alternatives of pairs are followed.
 ghost use Rattle.std.specs.Prelude.{◌≡◌, ℕ, [], Some, slice_get, OnOk};
+ghost use Rattle.cs_reasons.specs.Costs.{cost_below, first_least, kept};
 ghost use Rattle.cs_reasons.specs.Followed.{AreAlternatives};
 ghost use Rattle.cs_reasons.specs.Reached.{AreReached};
 
@@ -113,7 +114,9 @@ fn choose_closest<C: Cause>(causes: &[C], near: &[C], costs: &Costs, chosen: &mu
 }
 
 /// The first of the alternatives that costs least, and what it costs.
-pub(crate) fn closest<C: Cause>(near: &[C], costs: &Costs) -> Option<(C, u16)> {
+pub(crate) fn closest<C: Cause>(near: &[C], costs: &Costs) -> Option<(C, u16)>
+    ensures { result ≡ first_least (λ c. cost_below (kept costs.now) (C.leads_to c)) near.now }
+{
     let mut best: Option<(C, u16)> = None;
     for cause in near {
         let cost = cost_of(cause, costs);
@@ -126,7 +129,9 @@ pub(crate) fn closest<C: Cause>(near: &[C], costs: &Costs) -> Option<(C, u16)> {
 }
 
 /// What the pair costs that an alternative leads to.
-pub(crate) fn cost_of<C: Cause>(cause: &C, costs: &Costs) -> u16 {
+pub(crate) fn cost_of<C: Cause>(cause: &C, costs: &Costs) -> u16
+    ensures { result ≡ cost_below (kept costs.now) (C.leads_to cause.now) }
+{
     match cause.leads_to() {
         Some((item, rule)) => costs.get(item, rule),
         None => u16::MAX,

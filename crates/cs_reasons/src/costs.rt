@@ -1,4 +1,7 @@
 // What pairs cost.
+ghost use Rattle.std.specs.Prelude.{◌≡◌, IfOk, OnOk};
+ghost use Rattle.cs_reasons.specs.Costs.{begun, kept, none_kept, pair_cost, place, with_cost};
+
 use std::alloc::{AllocError, Global};
 
 /// What pairs cost: how many faults there are below each, as its alternatives were chosen. The largest cost stands for all
@@ -20,7 +23,9 @@ impl Costs {
         items: usize,
         rules: usize,
         used: usize,
-    ) -> Result<Costs, AllocError> {
+    ) -> Result<Costs, AllocError>
+        ensures { IfOk result (λ c. kept c ≡ none_kept items rules) }
+    {
         let mut costs = Vec::new(alloc);
         costs.reserve_exact(used.checked_mul(rules).ok_or(AllocError)?)?; // no more than it needs
         Ok(Costs {
@@ -32,7 +37,9 @@ impl Costs {
     }
 
     /// Begins the costs of an item, unless they were begun last.
-    pub(crate) fn begin(&mut self, item: usize) -> Result<(), AllocError> {
+    pub(crate) fn begin(&mut self, item: usize) -> Result<(), AllocError>
+        ensures { OnOk result (kept self.new ≡ begun item (kept self.old)) }
+    {
         if self.last == Some(item) {
             return Ok(());
         }
@@ -46,7 +53,9 @@ impl Costs {
     }
 
     /// Sets the cost of a pair of an item that was begun.
-    pub(crate) fn set(&mut self, item: usize, rule: usize, cost: u16) {
+    pub(crate) fn set(&mut self, item: usize, rule: usize, cost: u16)
+        ensures { kept self.new ≡ with_cost item rule cost (kept self.old) }
+    {
         if let Some(place) = self.place(item, rule)
             && let Some(at) = self.costs.get_mut(place)
         {
@@ -55,7 +64,9 @@ impl Costs {
     }
 
     /// The cost of a pair, which is the largest one where there is no such pair.
-    pub(crate) fn get(&self, item: usize, rule: usize) -> u16 {
+    pub(crate) fn get(&self, item: usize, rule: usize) -> u16
+        ensures { result ≡ pair_cost (kept self.now) item rule }
+    {
         match self.place(item, rule) {
             Some(place) => self.costs.get(place).copied().unwrap_or(u16::MAX),
             None => u16::MAX,
@@ -63,7 +74,9 @@ impl Costs {
     }
 
     // Where the cost of a pair is.
-    fn place(&self, item: usize, rule: usize) -> Option<usize> {
+    fn place(&self, item: usize, rule: usize) -> Option<usize>
+        ensures { result ≡ place (kept self.now) item rule }
+    {
         self.starts.get(item)?.checked_add(rule)
     }
 }

@@ -17,6 +17,3 @@ pub use cause::{Cause, Chooses, Explains};
 pub use explain::{explain_all, explain_closest};
 pub use reasons::{Link, Reason, Reasons, Up};
 pub use telling::Telling;
-
-#[cfg(test)]
-mod tests;

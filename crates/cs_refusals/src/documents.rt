@@ -2,7 +2,7 @@
 use crate::keys::{Inner, pointer_of};
 use crate::spot::{Spot, Words};
 use crate::text::put_code;
-use cs_report::Named;
+use cs_place::Named;
 use serde_json::Value;
 use std::alloc::{AllocError, Global};
 use std::str;

@@ -7,7 +7,7 @@ use cs_document::Doc;
 use cs_flat::{Flat, flatten};
 use cs_guard::Guarded;
 use cs_instance::{InstanceFault, numbered_root};
-use cs_report::Named;
+use cs_place::Named;
 use cs_schema::{SchemaDoc, SchemaFault, read_schema};
 use cs_table::Judge;
 use cs_tool::{Fault, accepted_package, export};

@@ -2,8 +2,7 @@
 use crate::cycles::put_names_of_loop;
 use crate::spot::{Spot, Words};
 use crate::text::put_code;
-use cs_place::{Step, ValuePath, places};
-use cs_report::Named;
+use cs_place::{Named, Step, ValuePath, places};
 use cs_tool::Fault;
 use std::alloc::{AllocError, Global};
 

@@ -1,7 +1,7 @@
 // Sources with their tokens, and what they declare.
 use cs_grammar::{Sort, SyntaxFault, Token};
 use cs_lexer::lex;
-use cs_report::Named;
+use cs_place::Named;
 use std::alloc::{AllocError, Global};
 use std::collections::HashSet;
 use std::str;

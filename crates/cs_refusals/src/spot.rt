@@ -1,6 +1,6 @@
 // Where refusals have their places.
 use cs_forms::Form;
-use cs_report::Named;
+use cs_place::Named;
 
 /// A part of a text, from `start` up to `end`, which is behind its last byte.
 #[derive(Clone, Copy)]

@@ -11,7 +11,7 @@ use crate::sources::Source;
 use crate::spot::{Spot, Words};
 use crate::text::put_line;
 use cs_forms::form_among;
-use cs_report::Named;
+use cs_place::Named;
 use cs_tool::Fault;
 use std::alloc::{AllocError, Global};
 use std::str;

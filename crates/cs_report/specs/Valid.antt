@@ -1,7 +1,7 @@
 -- What is told of a document that is valid, and by the format `flag` of any (JSON Schema Core 2020-12, section 12.4.1).
 use Rattle.std.specs.Prelude.{ℕ, Bool, true, false, List, [], codes}
-use Rattle.cs_report.specs.declared.named.Form.{Form}
-use Rattle.cs_report.specs.declared.named.Form.TheVariants.{Lines, Json, Flag, Basic}
+use Rattle.cs_report.specs.declared.form.Form.{Form}
+use Rattle.cs_report.specs.declared.form.Form.TheVariants.{Lines, Json, Flag, Basic}
 
 -- an object that says it, and a newline
 abbrev pub flag_text : Bool → List ℕ

@@ -1,7 +1,6 @@
 // Reasons in words.
-use crate::Named;
 use crate::text::put_number;
-use cs_place::position_of;
+use cs_place::{Named, position_of};
 use std::alloc::{AllocError, Global};
 use std::collections::HashSet;
 

@@ -4,9 +4,9 @@
 mod entry;
 mod expression;
 mod finding;
+mod form;
 mod json;
 mod lines;
-mod named;
 mod outline;
 mod pointer;
 mod reports;
@@ -19,6 +19,6 @@ mod walk;
 mod wants;
 mod wording;
 
-pub use named::{Form, Named};
+pub use form::Form;
 pub use reports::report_instance;
 pub use validity::report_validity;

@@ -1,7 +1,7 @@
 // Reasons as lines for people.
-use crate::Named;
 use crate::entry::Entry;
 use crate::text::{put_line, put_number};
+use cs_place::Named;
 use std::alloc::AllocError;
 
 /// Puts `NAME:LINE:COLUMN`.

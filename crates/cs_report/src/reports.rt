@@ -2,13 +2,14 @@
 ghost use Rattle.std.specs.Prelude.{◌≡◌, ◌⊎◌, ◌++◌, true, false, OnOk, OnErr, is_none, string_bytes};
 ghost use Rattle.cs_report.specs.Valid.{flag_text, valid_text};
 
+use crate::Form;
 use crate::json::{put_flag, put_object};
 use crate::lines::put_lines;
 use crate::sources::sources_of;
 use crate::telling::entries_of;
-use crate::{Form, Named};
 use cs_flat::Flat;
 use cs_instance::{InstanceCause, RootRules};
+use cs_place::Named;
 use cs_reasons::{Reasons, Telling};
 use std::alloc::{AllocError, Global};
 

@@ -1,10 +1,9 @@
 // The values of a document whose places are told.
-use crate::Named;
 use crate::entry::Entry;
 use crate::finding::key_at;
 use cs_flat::Flat;
 use cs_instance::InstanceCause;
-use cs_place::{Step, ValuePath, places};
+use cs_place::{Named, Step, ValuePath, places};
 use cs_reasons::Link;
 use std::alloc::{AllocError, Global};
 

@@ -1,5 +1,4 @@
 // From the reasons of a refused document to their entries.
-use crate::Named;
 use crate::entry::{
     Entry, SourcePlace, place_entries, put_alternative, sort_entries, without_misspelt,
 };
@@ -11,7 +10,7 @@ use crate::walk::{Followed, Walk, definition_name};
 use cs_flat::Flat;
 use cs_instance::{InstanceCause, RootRules};
 use cs_package::Package;
-use cs_place::Step;
+use cs_place::{Named, Step};
 use cs_reasons::{Link, Reason, Reasons};
 use std::alloc::{AllocError, Global};
 use std::collections::{HashMap, HashSet};

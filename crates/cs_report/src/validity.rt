@@ -11,12 +11,12 @@ mod units;
 mod walk;
 mod words;
 
+use crate::Form;
 use crate::entry::{Entry, place_entries, sort_entries, without_misspelt};
 use crate::json::put_object;
 use crate::lines::put_lines;
-use crate::{Form, Named};
 use cs_flat::Flat;
-use cs_place::Place;
+use cs_place::{Named, Place};
 use cs_reasons::{Reasons, Telling};
 use cs_validate::{Explanation, SchemaRules, ValidCause};
 use finding::Findings;

@@ -2,7 +2,7 @@
 // too. The sources are named `a.cue`, `b.cue` and `-`.
 use cs_guard::{Guarded, guard};
 use cs_listing::{put_listing, put_listing_json};
-use cs_report::Named;
+use cs_place::Named;
 use cs_resolve::resolve;
 use cs_syntax::parse_file;
 use std::alloc::Global;

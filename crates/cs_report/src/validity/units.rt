@@ -2,10 +2,9 @@
 use super::leaves::Leaf;
 use super::targets::{Target, Targets};
 use super::walk::Walk;
-use crate::Named;
 use crate::json::{put_count, put_string};
 use crate::text::put_quoted;
-use cs_place::{Place, Position, Positions};
+use cs_place::{Named, Place, Position, Positions};
 use cs_profile::{Schema, SchemaDoc};
 use cs_reasons::Link;
 use cs_validate::ValidCause;
