@@ -10,7 +10,7 @@ use crate::pieces::{Pieces, pieces_of};
 use std::alloc::{AllocError, Global};
 
 /// How much a mend takes away.
-#[derive(Clone, Copy, PartialEq, Eq)]
+#[derive(Clone, Copy)]
 pub(crate) enum Coarseness {
     /// The form alone.
     Form,

@@ -7,7 +7,7 @@ use cs_tool::Fault;
 use std::alloc::{AllocError, Global};
 
 /// What a step of a pointer into a schema leads to.
-#[derive(Clone, Copy, PartialEq, Eq)]
+#[derive(Clone, Copy)]
 enum Part {
     Schema,
     Names,

@@ -8,7 +8,7 @@ pub struct Warning {
 }
 
 /// Why nothing is an instance of a definition, as far as one reason was found.
-#[derive(Debug, Drop, PartialEq, Eq)]
+#[derive(Debug, Drop)]
 pub enum Reason {
     /// It asks for `_|_`.
     Bottom,
