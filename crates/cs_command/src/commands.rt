@@ -7,8 +7,8 @@ use crate::words::{
     ROOT, ROOT_OF_EXPORT, SCHEMA, SCHEMA_IN_PLACE, STRICT, WHY, WHY_BROKEN, WHY_REFUSED,
 };
 
-/// All of them, in the order of the program's help. An array, for a loop that takes each as a value: a reference to so many
-/// tables within tables is more than one proof takes.
+/// All of them, in the order of the program's help. An array, since the prover gives up on a slice of so many tables within
+/// tables.
 pub(crate) const COMMANDS: [Subcommand; 9] = [
     EXPORT, LIST, VET, VALIDATE, AGREE, CHECK, COMPARE, SAMPLES, EXPLAIN,
 ];

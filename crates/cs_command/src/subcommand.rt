@@ -1,4 +1,4 @@
-// What a command of the program is, and how clap has it.
+// What a command of the program is, and what clap makes of it.
 use crate::word::{Group, Word};
 use clap::{Arg, ArgGroup, Command};
 use std::alloc::{AllocError, Global};
@@ -8,14 +8,15 @@ use std::alloc::{AllocError, Global};
 pub(crate) struct Subcommand {
     pub(crate) name: &'static str,
     pub(crate) about: &'static str,
-    /// The line that its help ends with.
+    /// The line that the command's help ends with.
     pub(crate) example: &'static str,
-    /// In the order of its help.
+    /// In the order of the command's help.
     pub(crate) words: &'static [Word],
     pub(crate) groups: &'static [Group],
 }
 
 impl Subcommand {
+    /// The command as clap has it.
     pub(crate) fn command<'a>(self, alloc: Global) -> Result<Command<'a>, AllocError> {
         let args = args(alloc, self.words)?;
         let groups = groups(alloc, self.groups)?;

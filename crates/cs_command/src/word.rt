@@ -1,4 +1,4 @@
-// What a word of the command line is, and how clap has it.
+// What a word of the command line is, and what clap makes of it.
 use clap::builder::ValueParser;
 use clap::{Arg, ArgAction, ArgGroup};
 use std::alloc::{AllocError, Global};
@@ -45,6 +45,7 @@ pub(crate) struct Group {
 }
 
 impl Word {
+    /// The word as clap has it.
     pub(crate) fn arg<'a>(self, alloc: Global) -> Result<Arg<'a>, AllocError> {
         let arg = self.with_values(self.named(alloc));
         let arg = arg.required(self.is_required);
@@ -77,6 +78,7 @@ impl Word {
 }
 
 impl Group {
+    /// The group as clap has it.
     pub(crate) fn group<'a>(self, alloc: Global) -> Result<ArgGroup<'a>, AllocError> {
         let group = ArgGroup::new(alloc, self.id).args(self.words)?;
         Ok(group.multiple(true))

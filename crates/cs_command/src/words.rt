@@ -1,4 +1,4 @@
-// The words of the commands. Where words of several commands differ in little, the others are made of the first.
+// The words of the commands. One that differs little from a word of another command is made of it.
 use crate::word::{Group, Word};
 use clap::ArgAction;
 use clap::builder::ValueParser;
@@ -62,6 +62,7 @@ pub(crate) const ROOT: Word = Word {
     ..VALUE
 };
 
+/// The same word for a command that can do without it.
 pub(crate) const OPTIONAL_ROOT: Word = Word {
     is_required: false,
     ..ROOT
@@ -237,7 +238,7 @@ pub(crate) const WHY_BROKEN: Word = Word {
     ..WHY
 };
 
-/// The same word for a command that judges no document.
+/// `--why` of a command that judges no document.
 pub(crate) const WHY_REFUSED: Word = Word {
     id: "why_refused",
     long: Some("why"),
@@ -273,11 +274,13 @@ pub(crate) const FORMAT: Word = Word {
     ..VALUE
 };
 
+/// The same word for a command that judges by a schema.
 pub(crate) const FORMAT_OF_SCHEMA: Word = Word {
     value_parser: ValueParser::Names(SCHEMA_FORMATS),
     ..FORMAT
 };
 
+/// The same word for a command that judges nothing.
 pub(crate) const FORMAT_OF_LIST: Word = Word {
     help: "Prints an object of JSON in place of the lines",
     ..FORMAT
