@@ -398,6 +398,10 @@ try 'error 31' 'run export --root "#P" -o missing/new.json port.cue'
 { printf '// '; head -c 65536 /dev/zero | tr '\0' 'x'; printf '\n#P: int'; } > long.cue
 { printf '{"$defs":{"P":{"description":"'; head -c 65536 /dev/zero | tr '\0' 'x'; printf '","type":"integer"}},"$ref":"#/$defs/P",%s}\n' "$dialect"; } > long.json
 try_run 0 '' '' 'run export --describe --root "#P" long.cue | cmp - long.json'
+long=$(head -c 65536 /dev/zero | tr '\0' 'x')
+printf '// %s\n#P: int // %s\n#Q: int // %s' "$long" "$long" "$long" > long.cue
+printf '{"$defs":{"P":{"description":"%s","type":"integer"},"Q":{"description":"%s","type":"integer"}},%s}\n' "$long" "$long" "$dialect" > long.json
+try_run 0 '' '' 'run export --describe --all long.cue | cmp - long.json'
 
 # Comments change no schema and no verdict, and without any there is no description. In a text `//` begins none.
 cp "$cases"/describe/one.json .

@@ -92,7 +92,7 @@ is_wanted() {
         'error 15') is_run 5 '' "$1" ;;
         'error 30' | 'error 31') is_run 4 '' "$1" ;;
         'error '*) is_run 2 '' "$1" ;;
-        '{'*) is_run 0 "{\"\$defs\":$1,\"\$ref\":\"#/\$defs/$root\",$dialect}" '' ;;
+        '{'*) is_run 0 "{\"\$defs\":$1,${root:+\"\$ref\":\"#/\$defs/$root\",}$dialect}" '' ;;
         'lines '*) is_listed ${1#lines } ;;
         'prints '*) is_printed "${1#prints }" ;;
         'says '*) is_told "${1#says }" ;;

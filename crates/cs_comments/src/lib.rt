@@ -1,13 +1,9 @@
 // The comments of CUE sources, as texts for the places of schemas.
 #![tactic(auto)]
 
-#[cfg(test)]
-mod comments_tests;
 mod declared;
 mod labels;
 mod lines;
-#[cfg(test)]
-mod notes_tests;
 mod packages;
 mod texts;
 mod values;

@@ -3,8 +3,6 @@ ghost use Rattle.std.specs.Prelude.{◌≡◌, ◌+◌, length, vec_len, IfOk};
 
 mod keys;
 mod skip;
-#[cfg(test)]
-mod tests;
 mod tree;
 mod walk;
 
@@ -30,7 +28,7 @@ pub struct ValuePath<'a> {
 }
 
 /// Where a value is.
-#[derive(Clone, Copy, Debug, PartialEq, Eq)]
+#[derive(Clone, Copy)]
 pub struct Place {
     /// The offset of its key, where it is under one.
     pub key: Option<usize>,

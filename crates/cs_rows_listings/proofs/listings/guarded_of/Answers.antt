@@ -2,7 +2,7 @@ use Rattle.std.proofs.Common.{map, sym, subst}
 use Rattle.cs_grammar.specs.View.{file_view}
 use Rattle.cs_resolve.specs.Refusal.{AreSpelled}
 use Rattle.cs_resolve.proofs.Spellings.{spelled-push}
-use Rattle.cs_rows_listings.proofs.rows.guarded_of.Goals as goal
+use Rattle.cs_rows_listings.proofs.listings.guarded_of.Goals as goal
 
 pub loop-text-preserved : goal.loop-text-preserved
 loop-text-preserved c =

@@ -1,5 +1,6 @@
-// A row a line, its two cells parted by ` => `: sources parted by ` ++ ` whose `;` are newlines, and the listing, in which they are
-// too. The sources are named `a.cue`, `b.cue` and `-`.
+// Listings of packages, through `put_listing` and `put_listing_json`: sources parted by ` ++ `, which are named `a.cue`, `b.cue` and
+// `-`, and the listing.
+use crate::tables::{Row, check};
 use cs_guard::{Guarded, guard};
 use cs_listing::{put_listing, put_listing_json};
 use cs_place::Named;
@@ -72,7 +73,7 @@ const OBJECTS: &str = r##" => {"definitions":[]}
 
 /// How definitions are listed.
 #[derive(Clone, Copy)]
-enum Form {
+pub(crate) enum Form {
     Lines,
     Json,
 }
@@ -81,7 +82,7 @@ enum Form {
 fn texts_of(alloc: Global, sources: &str) -> Result<Vec<String>, Fail> {
     let mut texts = Vec::new(alloc);
     for source in sources.split(" ++ ") {
-        texts.push(source.replace(alloc, ';', "\n")?)?;
+        texts.push(String::from_str(alloc, source)?)?;
     }
     Ok(texts)
 }
@@ -119,38 +120,31 @@ fn listed(alloc: Global, sources: &str, form: Form) -> Result<Vec<u8>, Fail> {
     Ok(text)
 }
 
-fn holds(alloc: Global, row: &str, form: Form) -> Result<bool, Fail> {
-    let Some((sources, lines)) = row.split_once(" => ") else {
-        return Ok(false);
-    };
-    let mut wanted = lines.replace(alloc, ';', "\n")?;
+/// Whether these lines are put for the sources.
+pub(crate) fn are_listed(
+    alloc: Global,
+    sources: &str,
+    lines: &str,
+    form: Form,
+) -> Result<bool, Fail> {
+    let mut wanted = String::from_str(alloc, lines)?;
     if !wanted.is_empty() {
         wanted.push('\n')?;
     }
     Ok(listed(alloc, sources, form)?.as_slice() == wanted.as_bytes())
 }
 
-/// Fails with the first row that doesn't hold.
-fn check(alloc: Global, table: &str, form: Form) -> Result<(), Fail> {
-    for row in table.lines() {
-        if !holds(alloc, row, form)? {
-            return Err(Fail::new(row));
-        }
-    }
-    Ok(())
-}
-
 #[test]
 fn kinds_are_those_of_the_form(rt: HostRuntime) -> Result<(), Fail> {
-    check(rt.alloc(), KINDS, Form::Lines)
+    check(rt.alloc(), KINDS, Row::Lines)
 }
 
 #[test]
 fn places_are_those_of_first_declarations(rt: HostRuntime) -> Result<(), Fail> {
-    check(rt.alloc(), PLACES, Form::Lines)
+    check(rt.alloc(), PLACES, Row::Lines)
 }
 
 #[test]
 fn objects_tell_the_same(rt: HostRuntime) -> Result<(), Fail> {
-    check(rt.alloc(), OBJECTS, Form::Json)
+    check(rt.alloc(), OBJECTS, Row::Objects)
 }
