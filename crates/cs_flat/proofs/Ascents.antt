@@ -39,7 +39,7 @@ mutual
   member_items_ascend n (member k d ms) h =
       let m = suc (n + inside d) in each_append AscendsInside (items_behind n d) (member_items m ms) (items_ascend n d h.1) (member_items_ascend m ms h.2)
 
-each_got : {A : Type 0} (P : A → Type 0) (xs : List A) (i : ℕ) (x : A) → Each P xs → slice_get xs i ≡ Some x → P x
+pub each_got : {A : Type 0} (P : A → Type 0) (xs : List A) (i : ℕ) (x : A) → Each P xs → slice_get xs i ≡ Some x → P x
 each_got P [] i x h e = cc
 each_got P (y ∷ xs) zero x h e = let same : y ≡ x = cc in subst P same h.0
 each_got P (y ∷ xs) (suc i) x h e = each_got P xs i x h.1 e

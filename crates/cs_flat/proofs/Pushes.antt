@@ -2,10 +2,13 @@
 use Rattle.std.proofs.Common.{◌≡◌, ℕ, suc, ◌+◌, ◌<◌, List, [], ◌∷◌, ◌++◌, length, map, Bor, append_assoc, length-append, sym, subst, ap, ap₂, ◌∙◌, arith}
 use Rattle.std.specs.List.{AllByRecursion as Each}
 use Rattle.std.proofs.lemmas.List.{map-append}
-use Rattle.cs_document.specs.Document.{Document, list, object, Documents, document, Members, member, Entry}
+use Rattle.cs_document.specs.Document.{Document, list, object, Documents, document, Members, member, Entry, IsDocument}
+use Rattle.cs_document.specs.Inside.{KeysAscend}
 use Rattle.cs_document.specs.Opened.{Opened, a_list, an_object}
 use Rattle.cs_flat.specs.Items.{inside, inside_elements, inside_members, element_numbers, member_numbers, items_behind, element_items, member_items}
+use Rattle.cs_flat.specs.Pushed.{IsPushed, AreElementsPushed, AreMembersPushed}
 use Rattle.cs_flat.specs.View.{entry_of}
+use Rattle.cs_flat.proofs.Ascents.{numbers_ascend}
 use Rattle.cs_flat.proofs.Laws.{length-items, length-element_items, length-member_items, elements_below, entries_below}
 
 -- how many items there are, once those of a value are pushed
@@ -43,34 +46,47 @@ member_numbers-turn all numbers before after e key d ms is keyed named grown =
     ∙ ap₂ (λ (m : Entry ℕ) (k : ℕ). (map entry_of numbers ++ m ∷ []) ++ member_numbers k ms) (ap₂ (λ (s : List ℕ) (n : ℕ). (s, n)) (sym keyed) (sym named)) (length-pushed before after d grown)
     ∙ ap (λ (es : List (Entry ℕ)). es ++ member_numbers (length after) ms) (sym (map-append entry_of numbers (e ∷ [])))
 
+-- ---- a value with nothing inside it
+
+pub scalar_pushed : (before after : List (Opened ℕ)) (n : ℕ) (d : Document) (x : Opened ℕ) → items_behind (length before) d ≡ x ∷ [] → inside d ≡ 0 → IsDocument d
+    → (n ≡ length before) × (after ≡ before ++ x ∷ []) → IsPushed before after d n
+scalar_pushed before after n d x one none fits h = record {
+  items = h.1 ∙ ap (λ xs. before ++ xs) (sym one);
+  number = omega (arith, none, h.0);
+  document = fits;
+}
+
 -- ---- a list or a map, behind the items of what is inside it
 
-module _ (before inner : List (Opened ℕ)) (numbers : List ℕ) (ds : Documents) (within : inner ≡ before ++ element_items (length before) ds) (named : numbers ≡ element_numbers (length before) ds) where
+module _ (before inner : List (Opened ℕ)) (numbers : List ℕ) (ds : Documents) (within : AreElementsPushed before inner ds [] numbers) where
   length-elements_pushed : length inner ≡ length before + inside_elements ds
-  length-elements_pushed = omega (arith, ap length within, length-append before (element_items (length before) ds), length-element_items (length before) ds)
+  length-elements_pushed = omega (arith, ap length within.items, length-append before (element_items (length before) ds), length-element_items (length before) ds)
 
   pub elements_pushed-below : Each (λ y. y < length inner) numbers
-  elements_pushed-below = subst (Each (λ y. y < length inner)) (sym named) (elements_below (length before) (length inner) ds (omega (arith, length-elements_pushed)))
+  elements_pushed-below = subst (Each (λ y. y < length inner)) (sym within.numbers) (elements_below (length before) (length inner) ds (omega (arith, length-elements_pushed)))
 
-  pub list_pushed : (after : List (Opened ℕ)) (n : ℕ) → (n ≡ length inner) × (after ≡ inner ++ a_list numbers ∷ [])
-      → (n ≡ length before + inside (list ds)) × (after ≡ before ++ items_behind (length before) (list ds))
-  list_pushed after n h = (
-    h.0 ∙ length-elements_pushed,
-    h.1 ∙ ap₂ (λ (xs : List (Opened ℕ)) (ys : List ℕ). xs ++ a_list ys ∷ []) within named
-        ∙ append_assoc before (element_items (length before) ds) (a_list (element_numbers (length before) ds) ∷ []),
-  )
+  pub list_pushed : (after : List (Opened ℕ)) (n : ℕ) → (n ≡ length inner) × (after ≡ inner ++ a_list numbers ∷ []) → IsPushed before after (list ds) n
+  list_pushed after n h = record {
+    items = h.1 ∙ ap₂ (λ (xs : List (Opened ℕ)) (ys : List ℕ). xs ++ a_list ys ∷ []) within.items within.numbers
+        ∙ append_assoc before (element_items (length before) ds) (a_list (element_numbers (length before) ds) ∷ []);
+    number = h.0 ∙ length-elements_pushed;
+    document = within.documents;
+  }
 
-module _ (before inner : List (Opened ℕ)) (numbers : List (Entry ℕ)) (ms : Members) (within : inner ≡ before ++ member_items (length before) ms) (named : numbers ≡ member_numbers (length before) ms) where
+module _ (before inner : List (Opened ℕ)) (numbers : List (Entry ℕ)) (ms : Members) (within : AreMembersPushed before inner ms [] numbers) where
   length-members_pushed : length inner ≡ length before + inside_members ms
-  length-members_pushed = omega (arith, ap length within, length-append before (member_items (length before) ms), length-member_items (length before) ms)
+  length-members_pushed = omega (arith, ap length within.items, length-append before (member_items (length before) ms), length-member_items (length before) ms)
 
   pub members_pushed-below : Each (λ (m : Entry ℕ). m.1 < length inner) numbers
-  members_pushed-below = subst (Each (λ (m : Entry ℕ). m.1 < length inner)) (sym named) (entries_below (length before) (length inner) ms (omega (arith, length-members_pushed)))
+  members_pushed-below = subst (Each (λ (m : Entry ℕ). m.1 < length inner)) (sym within.numbers) (entries_below (length before) (length inner) ms (omega (arith, length-members_pushed)))
 
-  pub object_pushed : (after : List (Opened ℕ)) (n : ℕ) → (n ≡ length inner) × (after ≡ inner ++ an_object numbers ∷ [])
-      → (n ≡ length before + inside (object ms)) × (after ≡ before ++ items_behind (length before) (object ms))
-  object_pushed after n h = (
-    h.0 ∙ length-members_pushed,
-    h.1 ∙ ap₂ (λ (xs : List (Opened ℕ)) (es : List (Entry ℕ)). xs ++ an_object es ∷ []) within named
-        ∙ append_assoc before (member_items (length before) ms) (an_object (member_numbers (length before) ms) ∷ []),
-  )
+  pub members_pushed-ascend : KeysAscend numbers
+  members_pushed-ascend = subst KeysAscend (sym within.numbers) (numbers_ascend (length before) ms within.documents)
+
+  pub object_pushed : (after : List (Opened ℕ)) (n : ℕ) → (n ≡ length inner) × (after ≡ inner ++ an_object numbers ∷ []) → IsPushed before after (object ms) n
+  object_pushed after n h = record {
+    items = h.1 ∙ ap₂ (λ (xs : List (Opened ℕ)) (es : List (Entry ℕ)). xs ++ an_object es ∷ []) within.items within.numbers
+        ∙ append_assoc before (member_items (length before) ms) (an_object (member_numbers (length before) ms) ∷ []);
+    number = h.0 ∙ length-members_pushed;
+    document = within.documents;
+  }

@@ -1,15 +1,17 @@
 -- Packed items stay what they are when what they share grows.
-use Rattle.std.proofs.Common.{◌≡◌, ℕ, ◌+◌, ◌-◌, ◌≤◌, List, [], ◌∷◌, ◌++◌, length, map, take, drop, Bor, length-drop, refl, ap, ap₂, ◌∙◌, sym, subst, arith}
-use Rattle.std.specs.Prelude.{slice_range}
+use Rattle.std.proofs.Common.{◌≡◌, ℕ, ◌+◌, ◌-◌, ◌<◌, ◌≤◌, List, [], ◌∷◌, ◌++◌, Some, option_map, length, get_or, map, take, drop, Bor, length-drop, refl, ap, ap₂, ◌∙◌, sym, subst, arith}
+use Rattle.std.specs.Prelude.{slice_get, slice_range}
 use Rattle.std.specs.List.{AllByRecursion as Each}
 use Rattle.std.proofs.Math.Seq.{drop-append_seam}
-use Rattle.std.proofs.lemmas.List.{drop-append-le, take-append-le, take_all, map-append}
+use Rattle.std.proofs.lemmas.List.{drop-append-le, take-append-le, take_all, map-append, length-map}
+use Rattle.std.proofs.lemmas.Option.{slice_get-map, slice_get_read}
 use Rattle.cs_document.specs.Opened.{Opened, a_list, an_object}
 use Rattle.cs_document.proofs.Each.{each_append, each_map}
 use Rattle.cs_flat.specs.View.{entry_of}
 use Rattle.cs_flat.specs.Packed.{unpacked, IsWithin}
 use Rattle.cs_flat.specs.declared.packed.PackedItem.{PackedItem}
 use Rattle.cs_flat.specs.declared.packed.PackedItem.TheVariants.{Null, Bool, Int, Text, List as TheList, Object}
+use Rattle.cs_flat.proofs.Ascents.{each_got}
 
 -- ---- ranges of a list with more behind it
 
@@ -76,3 +78,19 @@ module _ (es : List ℕ) (ms more : List (Bor (List ℕ) × ℕ)) where
       ap₂ (λ (ys : List (Bor (List ℕ) × ℕ)) (xs : List PackedItem). map (unpacked es ys) xs) grown is
       ∙ map-append (unpacked es (ms ++ more)) old (Object first count ∷ [])
       ∙ ap₂ (λ (xs : List (Opened ℕ)) (ys : List (Bor (List ℕ) × ℕ)). xs ++ an_object (map entry_of ys) ∷ []) (all_with_entries old within) (range-behind ms more first count at long)
+
+-- ---- the item at a place
+
+module _ (es : List ℕ) (ms : List (Bor (List ℕ) × ℕ)) (xs : List PackedItem) (all : List (Opened ℕ)) (i : ℕ) (shown : map (unpacked es ms) xs ≡ all) (below : i < length all) where
+  pub is_among : i < length xs
+  is_among = omega (arith, ap length shown, length-map xs (unpacked es ms), below)
+
+  packed_at : (x : PackedItem) → x ≡ get_or xs i x → slice_get xs i ≡ Some x
+  packed_at x at = slice_get_read xs (length xs) i x refl is_among at
+
+  pub item_at : (x : PackedItem) → x ≡ get_or xs i x → slice_get all i ≡ Some (unpacked es ms x)
+  item_at x at =
+      subst (λ ys. slice_get ys i ≡ Some (unpacked es ms x)) shown (slice_get-map (unpacked es ms) xs i ∙ ap (option_map (unpacked es ms)) (packed_at x at))
+
+  pub within_at : (x : PackedItem) → x ≡ get_or xs i x → Each (IsWithin (length es) (length ms)) xs → IsWithin (length es) (length ms) x
+  within_at x at h = each_got (IsWithin (length es) (length ms)) xs i x h (packed_at x at)

@@ -7,3 +7,4 @@ pub mod View
 pub mod Sorted
 pub mod Code
 pub mod Packed
+pub mod Pushed

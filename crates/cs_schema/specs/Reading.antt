@@ -1,12 +1,16 @@
 -- What the reader makes of a keyword's value, and of an object.
-use Rattle.std.specs.Prelude.{◌≡◌, ℕ, Bool, true, false, List, ◌∷◌, [], ◌++◌, Option, Some, None, codes, map, option_map, String, string_bytes, is_some, Result, IfOk, IfSome, if◌then◌else◌}
-use Rattle.cs_document.specs.Document.{Document, Documents, under}
+use Rattle.std.specs.Prelude.{◌≡◌, ℕ, Bool, true, false, List, ◌∷◌, [], ◌++◌, Option, Some, None, codes, map, option_map, String, string_bytes, string_cmp, is_some, Result, Ok, Err, IfOk, IfSome, if◌then◌else◌}
+use Rattle.cs_document.specs.Document.{Document, Documents, Members, under}
+use Rattle.std.specs.BTreeMap.{insert_entry}
 use Rattle.cs_document.specs.View.{documents_of}
-use Rattle.cs_profile.specs.Shapes.{has_form, keeping, is_kept, by_form}
+use Rattle.cs_profile.specs.Keywords.{name_of}
+use Rattle.cs_profile.specs.Shapes.{has_form, keeping, is_kept, by_form, form_of, stands}
 use Rattle.cs_profile.specs.Profile.{Fault, unknown, misshapen, undefined, Visit, first, fault_of, undefined_at}
-use Rattle.cs_profile.specs.Values.{value_visits, value_trims}
-use Rattle.cs_profile.specs.SchemaDocument.{Slot, slots_of, unless_no_map, text_document, schema_view, definitions_view, value_at}
+use Rattle.cs_profile.specs.Trim.{trimmed_members}
+use Rattle.cs_profile.specs.Values.{value_visits, value_trims, trimmed_value}
+use Rattle.cs_profile.specs.SchemaDocument.{Slot, present, slots_of, unless_no_map, text_document, schema_view, definitions_view, value_at}
 use Rattle.cs_profile.specs.declared.keyword.Form.{Form}
+use Rattle.cs_profile.specs.declared.keyword.Keyword.{Keyword}
 use Rattle.cs_profile.specs.declared.schema.Schema.{Schema}
 use Rattle.cs_profile.specs.declared.schema.KeywordValue.{KeywordValue}
 use Rattle.std.specs.declared.alloc.Global.{Global}
@@ -71,3 +75,29 @@ Refuses (fault.Loop ns) o = ⊥
 -- the second refusal names the fault of the first below a place
 abbrev pub IsBelow : List ℕ → SchemaFault → SchemaFault → Type 0
 IsBelow place e f = (o : Option Fault) → Refuses e o → Refuses f (option_map (below place) o)
+
+-- what is read has P where there is no fault; else the refusal names the fault
+abbrev pub Reads : {T : Type 0} → Result T SchemaFault → Option Fault → (T → Type 0) → Type 0
+Reads (Ok t) o P = (o ≡ None) × P t
+Reads (Err e) o P = Refuses e o
+
+-- the keywords of an object with its definitions are what trimming leaves of its members; only the root has definitions
+pub record AreParts (root : Bool) (ms : Members) (p : Parts) : Type 0 where
+  pub found : present (slots p) ≡ trimmed_members root ms
+  pub below : root ≡ false → p.definitions.entries ≡ []
+
+-- the keyword that a key is, and what trimming leaves of its value
+pub record IsKeyword (root : Bool) (key : List ℕ) (d : Document) (w : Keyword) (v : KeywordValue) : Type 0 where
+  pub found : value_at (form_of w) v ≡ trimmed_value root key d
+  pub name : name_of w ≡ key
+  pub stands : stands root w ≡ true
+
+-- whether a value of a form holds schemas
+abbrev pub has_schemas : Form → Bool
+has_schemas f = by_form f (record { none = false; itself = true; elements = true; members = true })
+
+-- the entries with a schema under a key
+pub record IsPut (key : List ℕ) (s : Schema) (old new : List (String Global × Schema)) : Type 0 where
+  pub name : String Global
+  pub named : string_bytes name ≡ key
+  pub entries : new ≡ insert_entry string_cmp old name s

@@ -1,24 +1,61 @@
 // Values of keywords that hold no schema.
-ghost use Rattle.std.specs.Prelude.{◌≡◌, None, false, true, IfSome, IfOk};
+ghost use Rattle.std.specs.Prelude.{◌≡◌, None, Some, false, IfSome, IfOk, if◌then◌else◌};
 ghost use Rattle.std.specs.List.{list_all};
-ghost use Rattle.cs_document.specs.Document.{text, integer, list};
+ghost use Rattle.cs_document.specs.Document.{text};
 ghost use Rattle.cs_document.specs.View.{doc_view, list_view};
 ghost use Rattle.cs_profile.specs.Shapes.{has_form, is_name as text_is_name, is_name_code as code_is_name};
 ghost use Rattle.cs_profile.specs.declared.keyword.Form.TheVariants as form;
-ghost use Rattle.cs_profile.specs.SchemaDocument.{kind_name, reference_document};
-ghost use Rattle.cs_schema.specs.Reading.{IfFound, IfNothing};
+ghost use Rattle.cs_profile.specs.declared.schema.KeywordValue.TheVariants as value;
+ghost use Rattle.cs_profile.specs.SchemaDocument.{kind_name};
+ghost use Rattle.cs_schema.specs.Reading.{IsReadAs, has_schemas};
 
+use crate::texts::texts_of;
 use cs_document::Doc;
-use cs_profile::JsonKind;
+use cs_profile::{Form, JsonKind, KeywordValue};
 use std::alloc::{AllocError, Global};
 
+/// A value of a form that holds no schema; `None` where it doesn't have that form.
+pub(crate) fn read_atom(
+    alloc: Global,
+    form: Form,
+    value: &Doc,
+) -> Result<Option<KeywordValue>, AllocError>
+    ensures { IfOk result (λ o. has_schemas form ≡ false → IsReadAs form (doc_view value.now) o) }
+{
+    match form {
+        Form::Dialect => Ok(nothing_if(is_dialect(value))),
+        Form::Reference => reference_of(alloc, value),
+        Form::Kind => Ok(kind_of(value)),
+        Form::Anything => Ok(Some(KeywordValue::Anything(copied(alloc, value)?))),
+        Form::Array => array_of(alloc, value),
+        Form::Integer => Ok(integer_of(value)),
+        Form::Count => Ok(count_of(value)),
+        Form::Texts => texts_of(alloc, value),
+        Form::Text => Ok(nothing_if(is_text(value))),
+        Form::Schema | Form::Schemas | Form::NamedSchemas => Ok(None),
+    }
+}
+
+/// The value that says nothing of validity, if it has its form.
+fn nothing_if(has_form: bool) -> Option<KeywordValue>
+    ensures { result ≡ (if has_form then Some value.Nothing else None) }
+{
+    if has_form {
+        Some(KeywordValue::Nothing)
+    } else {
+        None
+    }
+}
+
 /// The kind that a value names.
-pub(crate) fn kind_of(value: &Doc) -> Option<JsonKind>
-    ensures some { IfSome result (λ k. doc_view value.now ≡ text (kind_name k)) }
-    ensures none { result ≡ None → has_form form.Kind (doc_view value.now) ≡ false }
+fn kind_of(value: &Doc) -> Option<KeywordValue>
+    ensures { IsReadAs form.Kind (doc_view value.now) result }
 {
     match value {
-        Doc::Text(name) => kind_named(name),
+        Doc::Text(name) => match kind_named(name) {
+            Some(kind) => Some(KeywordValue::Kind(kind)),
+            None => None,
+        },
         _ => None,
     }
 }
@@ -55,24 +92,21 @@ pub(crate) fn name_of(kind: JsonKind) -> &'static str
 }
 
 /// The integer that a value is.
-pub(crate) fn integer_of(value: &Doc) -> Option<i64>
-    ensures some { IfSome result (λ z. doc_view value.now ≡ integer z) }
-    ensures none { result ≡ None → has_form form.Integer (doc_view value.now) ≡ false }
+fn integer_of(value: &Doc) -> Option<KeywordValue>
+    ensures { IsReadAs form.Integer (doc_view value.now) result }
 {
     match value {
-        Doc::Int(n) => Some(*n),
+        Doc::Int(n) => Some(KeywordValue::Integer(*n)),
         _ => None,
     }
 }
 
 /// The integer of at least 0 that a value is.
-pub(crate) fn count_of(value: &Doc) -> Option<i64>
-    ensures some { IfSome result (λ z. doc_view value.now ≡ integer z) }
-    ensures accepted { IfSome result (λ z. has_form form.Count (doc_view value.now) ≡ true) }
-    ensures none { result ≡ None → has_form form.Count (doc_view value.now) ≡ false }
+fn count_of(value: &Doc) -> Option<KeywordValue>
+    ensures { IsReadAs form.Count (doc_view value.now) result }
 {
     match value {
-        Doc::Int(n) if *n >= 0 => Some(*n),
+        Doc::Int(n) if *n >= 0 => Some(KeywordValue::Integer(*n)),
         _ => None,
     }
 }
@@ -96,12 +130,11 @@ pub(crate) fn is_text(value: &Doc) -> bool
 }
 
 /// The documents of the array that a value is.
-pub(crate) fn array_of(alloc: Global, value: &Doc) -> Result<Option<Vec<Doc>>, AllocError>
-    ensures some { IfFound result (λ v. doc_view value.now ≡ list (list_view v.items)) }
-    ensures none { IfNothing result (has_form form.Array (doc_view value.now) ≡ false) }
+fn array_of(alloc: Global, value: &Doc) -> Result<Option<KeywordValue>, AllocError>
+    ensures { IfOk result (IsReadAs form.Array (doc_view value.now)) }
 {
     match value {
-        Doc::List(items) => Ok(Some(copies_of(alloc, items)?)),
+        Doc::List(items) => Ok(Some(KeywordValue::Array(copies_of(alloc, items)?))),
         _ => Ok(None),
     }
 }
@@ -117,14 +150,14 @@ pub(crate) fn is_dialect(value: &Doc) -> bool
 }
 
 /// The name that the value of a `$ref` refers to.
-pub(crate) fn reference_of(alloc: Global, value: &Doc) -> Result<Option<String>, AllocError>
-    ensures some { IfFound result (λ n. doc_view value.now ≡ reference_document n) }
-    ensures accepted { IfFound result (λ n. has_form form.Reference (doc_view value.now) ≡ true) }
-    ensures none { IfNothing result (has_form form.Reference (doc_view value.now) ≡ false) }
+fn reference_of(alloc: Global, value: &Doc) -> Result<Option<KeywordValue>, AllocError>
+    ensures { IfOk result (IsReadAs form.Reference (doc_view value.now)) }
 {
     match value {
         Doc::Text(text) => match text.strip_prefix("#/$defs/") {
-            Some(name) if is_name(name) => Ok(Some(String::from_str(alloc, name)?)),
+            Some(name) if is_name(name) => {
+                Ok(Some(KeywordValue::Reference(String::from_str(alloc, name)?)))
+            }
             _ => Ok(None),
         },
         _ => Ok(None),

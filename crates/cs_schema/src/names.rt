@@ -59,7 +59,7 @@ fn check_keyword(
     };
     match check_form(alloc, keyword.form(), value, definitions) {
         Ok(()) => Ok(()),
-        Err(fault) => Err(below_key(alloc, key, fault)?),
+        Err(fault) => Err(below_key(alloc, key, fault)),
     }
 }
 
@@ -75,7 +75,7 @@ fn check_reference(alloc: Global, value: &Doc, definitions: &Definitions) -> Res
             Some(name) => if definitions.contains_key(name) {
                 Ok(())
             } else {
-                Err(undefined_reference(alloc, name)?)
+                Err(undefined_reference(alloc, name))
             },
             None => Ok(()),
         },
@@ -157,7 +157,7 @@ fn check_list(alloc: Global, items: &Vec<Doc>, definitions: &Definitions) -> Res
     for (i, item) in items.iter().enumerate() {
         match check_value(alloc, item, definitions) {
             Ok(()) => {},
-            Err(fault) => return Err(below_index(alloc, i, fault)?),
+            Err(fault) => return Err(below_index(alloc, i, fault)),
         }
     }
     Ok(())
@@ -178,7 +178,7 @@ fn check_map(
     for (key, value) in members {
         match check_value(alloc, value, definitions) {
             Ok(()) => {},
-            Err(fault) => return Err(below_key(alloc, key, fault)?),
+            Err(fault) => return Err(below_key(alloc, key, fault)),
         }
     }
     Ok(())

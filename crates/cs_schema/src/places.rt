@@ -1,6 +1,6 @@
 // The places of faults, as JSON pointers (RFC 6901, sections 3 and 4). A fault has the empty place where it is found,
 // and each level on the way back puts its own step in front. So a document without a fault makes no place, and one
-// with a fault copies its place once a level.
+// with a fault copies its place once a level. Where memory runs out for a place or a name, that is the fault.
 ghost use Rattle.std.specs.Prelude.{◌≡◌, [], Some, IfOk, OnOk, string_bytes};
 ghost use Rattle.cs_profile.specs.Places.{at_key, at_index};
 ghost use Rattle.cs_profile.specs.Profile.{unknown, misshapen, undefined};
@@ -10,56 +10,72 @@ use crate::SchemaFault;
 use std::alloc::{AllocError, Global};
 
 /// The fault of a keyword outside the profile.
-pub(crate) fn unknown_keyword(alloc: Global, name: &str) -> Result<SchemaFault, AllocError>
-    ensures { IfOk result (λ e. Refuses e (Some (unknown [] name.now))) }
+pub(crate) fn unknown_keyword(alloc: Global, name: &str) -> SchemaFault
+    ensures { Refuses result (Some (unknown [] name.now)) }
 {
-    let name = String::from_str(alloc, name)?;
-    let place = String::new(alloc);
-    Ok(SchemaFault::Keyword { place, name })
+    match String::from_str(alloc, name) {
+        Ok(name) => SchemaFault::Keyword {
+            place: String::new(alloc),
+            name,
+        },
+        Err(_) => SchemaFault::OutOfMemory,
+    }
 }
 
 /// The fault of a value that doesn't have its keyword's form.
-pub(crate) fn wrong_form(alloc: Global, name: &str) -> Result<SchemaFault, AllocError>
-    ensures { IfOk result (λ e. Refuses e (Some (misshapen [] name.now))) }
+pub(crate) fn wrong_form(alloc: Global, name: &str) -> SchemaFault
+    ensures { Refuses result (Some (misshapen [] name.now)) }
 {
-    let name = String::from_str(alloc, name)?;
-    let place = String::new(alloc);
-    Ok(SchemaFault::Shape { place, name })
+    match String::from_str(alloc, name) {
+        Ok(name) => SchemaFault::Shape {
+            place: String::new(alloc),
+            name,
+        },
+        Err(_) => SchemaFault::OutOfMemory,
+    }
 }
 
 /// The fault of a reference to a name that isn't defined.
-pub(crate) fn undefined_reference(alloc: Global, name: &str) -> Result<SchemaFault, AllocError>
-    ensures { IfOk result (λ e. Refuses e (Some (undefined [] name.now))) }
+pub(crate) fn undefined_reference(alloc: Global, name: &str) -> SchemaFault
+    ensures { Refuses result (Some (undefined [] name.now)) }
 {
-    let name = String::from_str(alloc, name)?;
-    let place = String::new(alloc);
-    Ok(SchemaFault::Reference { place, name })
+    match String::from_str(alloc, name) {
+        Ok(name) => SchemaFault::Reference {
+            place: String::new(alloc),
+            name,
+        },
+        Err(_) => SchemaFault::OutOfMemory,
+    }
 }
 
 /// The fault of what stands under a key.
-pub(crate) fn below_key(
-    alloc: Global,
-    key: &str,
-    mut fault: SchemaFault,
-) -> Result<SchemaFault, AllocError>
-    ensures { IfOk result (IsBelow (at_key [] key.now) fault) }
+pub(crate) fn below_key(alloc: Global, key: &str, fault: SchemaFault) -> SchemaFault
+    ensures { IsBelow (at_key [] key.now) fault result }
 {
-    let step = at_key(alloc, key)?;
-    put_in_front(&step, &mut fault)?;
-    Ok(fault)
+    match at_key(alloc, key) {
+        Ok(step) => below(&step, fault),
+        Err(_) => SchemaFault::OutOfMemory,
+    }
 }
 
 /// The fault of the element at an index.
-pub(crate) fn below_index(
-    alloc: Global,
-    i: usize,
-    mut fault: SchemaFault,
-) -> Result<SchemaFault, AllocError>
-    ensures { IfOk result (IsBelow (at_index [] i) fault) }
+pub(crate) fn below_index(alloc: Global, i: usize, fault: SchemaFault) -> SchemaFault
+    ensures { IsBelow (at_index [] i) fault result }
 {
-    let step = at_index(alloc, i)?;
-    put_in_front(&step, &mut fault)?;
-    Ok(fault)
+    match at_index(alloc, i) {
+        Ok(step) => below(&step, fault),
+        Err(_) => SchemaFault::OutOfMemory,
+    }
+}
+
+/// The fault of what stands behind a step.
+fn below(step: &str, mut fault: SchemaFault) -> SchemaFault
+    ensures { IsBelow step.now fault result }
+{
+    match put_in_front(step, &mut fault) {
+        Ok(()) => fault,
+        Err(_) => SchemaFault::OutOfMemory,
+    }
 }
 
 /// Puts a step in front of a fault's place, if it has one.

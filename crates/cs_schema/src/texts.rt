@@ -1,24 +1,25 @@
 // Arrays of distinct texts, the values of `required`.
-ghost use Rattle.std.specs.Prelude.{◌≡◌, [], false, true};
-ghost use Rattle.cs_document.specs.Document.{list};
+ghost use Rattle.std.specs.Prelude.{◌≡◌, [], false, true, IfOk};
 ghost use Rattle.cs_document.specs.View.{doc_view, list_view};
-ghost use Rattle.cs_profile.specs.Shapes.{has_form, are_distinct_texts};
+ghost use Rattle.cs_profile.specs.Shapes.{are_distinct_texts};
 ghost use Rattle.cs_profile.specs.declared.keyword.Form.TheVariants as form;
-ghost use Rattle.cs_schema.specs.Reading.{IfFound, IfNothing, texts_view};
+ghost use Rattle.cs_schema.specs.Reading.{IfFound, IfNothing, IsReadAs, texts_view};
 
 use crate::atoms::text_of;
 use cs_document::Doc;
+use cs_profile::KeywordValue;
 use std::alloc::{AllocError, Global};
 use std::collections::BTreeSet;
 
 /// The texts that a value holds, in its order, if it is an array of distinct texts.
-pub(crate) fn texts_of(alloc: Global, value: &Doc) -> Result<Option<Vec<String>>, AllocError>
-    ensures some { IfFound result (λ v. doc_view value.now ≡ list (texts_view v.items)) }
-    ensures accepted { IfFound result (λ v. has_form form.Texts (doc_view value.now) ≡ true) }
-    ensures none { IfNothing result (has_form form.Texts (doc_view value.now) ≡ false) }
+pub(crate) fn texts_of(alloc: Global, value: &Doc) -> Result<Option<KeywordValue>, AllocError>
+    ensures { IfOk result (IsReadAs form.Texts (doc_view value.now)) }
 {
     match value {
-        Doc::List(items) => distinct_texts(alloc, items),
+        Doc::List(items) => match distinct_texts(alloc, items)? {
+            Some(texts) => Ok(Some(KeywordValue::Texts(texts))),
+            None => Ok(None),
+        },
         _ => Ok(None),
     }
 }

@@ -1,85 +1,66 @@
-use Rattle.std.proofs.Common.{◌≡◌, ◌+◌, [], ◌∷◌, ◌++◌, drop, length, map, string_bytes, sym, ap, ◌∙◌, subst}
+use Rattle.std.proofs.Common.{◌≡◌, ◌+◌, [], ◌∷◌, ◌++◌, drop, length, map, string_bytes, IfOk, sym, ap, ◌∙◌, subst, rules}
 use Rattle.std.proofs.lemmas.Result.{IfOk-weaker}
-use Rattle.cs_document.specs.Document.{AreDocuments}
-use Rattle.cs_document.specs.Inside.{KeysAscend}
+use Rattle.cs_document.specs.Document.{list, object, AreDocuments}
 use Rattle.cs_document.specs.Opened.{a_list, an_object}
 use Rattle.cs_document.specs.View.{doc_view, list_view, object_view}
 use Rattle.cs_document.proofs.Entries.{ValuesFit, AreMembers-of_sorted}
 use Rattle.cs_document.proofs.Maps.{drop_at}
 use Rattle.cs_document.proofs.Views.{view-List, view-Object}
-use Rattle.cs_flat.specs.Items.{inside, element_numbers, member_numbers, items_behind, element_items, member_items}
+use Rattle.cs_flat.specs.Items.{element_numbers, member_numbers, element_items, member_items}
+use Rattle.cs_flat.specs.Pushed.{IsPushed, AreElementsPushed, AreMembersPushed}
 use Rattle.cs_flat.specs.View.{entry_of}
-use Rattle.cs_flat.proofs.Ascents.{numbers_ascend}
-use Rattle.cs_flat.proofs.Pushes.{element_items-turn, element_numbers-turn, member_items-turn, member_numbers-turn, elements_pushed-below, list_pushed, members_pushed-below, object_pushed}
+use Rattle.cs_flat.proofs.Pushes.{element_items-turn, element_numbers-turn, member_items-turn, member_numbers-turn, elements_pushed-below, list_pushed, members_pushed-below, members_pushed-ascend, object_pushed}
 use Rattle.cs_flat.proofs.flattening.+flatten.Goals as goal
 
-pub push_doc-list-requires : goal.push_doc-list-requires
-push_doc-list-requires t c =
-    let facts = c.in_ok-numbers-in-List.ensures in
-    elements_pushed-below c.args.builder.now c.push_elements.new.builder c.deref.result.now (list_view c.in-List.list.items) facts.items (c.deref.ensures.value ∙ facts.numbers)
+pub push_doc-returns-in-List : goal.push_doc-returns-in-List
+push_doc-returns-in-List t c =
+    subst (λ d. IfOk c.push_list.result (IsPushed c.args.builder.now c.push_list.new.builder d)) (sym (ap doc_view c.in-List.is ∙ view-List c.in-List.elements)) c.push_list.ensures
 
-pub push_doc-object-requires-clause-ascends : goal.push_doc-object-requires-clause-ascends
-push_doc-object-requires-clause-ascends t c =
-    let facts = c.in_ok-entries-in-Object.ensures in
-    subst KeysAscend (sym (ap (map entry_of) c.deref-in-Object.ensures.value ∙ facts.numbers)) (numbers_ascend (length c.args.builder.now) (object_view c.in-Object.members.entries) facts.document)
+pub push_doc-returns-in-Object : goal.push_doc-returns-in-Object
+push_doc-returns-in-Object t c =
+    subst (λ d. IfOk c.push_object.result (IsPushed c.args.builder.now c.push_object.new.builder d)) (sym (ap doc_view c.in-Object.is ∙ view-Object c.in-Object.members)) c.push_object.ensures
 
-pub push_doc-object-requires-clause-below : goal.push_doc-object-requires-clause-below
-push_doc-object-requires-clause-below t c =
-    let facts = c.in_ok-entries-in-Object.ensures in
-    members_pushed-below c.args.builder.now c.push_members.new.builder (map entry_of c.deref-in-Object.result.now) (object_view c.in-Object.members.entries) facts.items
-    (ap (map entry_of) c.deref-in-Object.ensures.value ∙ facts.numbers)
-
-pub push_doc-returns-in_ok-numbers-in-List-clause-items :
-    goal.push_doc-returns-in_ok-numbers-in-List-clause-items
-push_doc-returns-in_ok-numbers-in-List-clause-items t c =
+pub push_list-list-requires : goal.push_list-list-requires
+push_list-list-requires t c =
     let old = c.args.builder.now in
     let inner = c.push_elements.new.builder in
-    let ds = list_view c.in-List.list.items in
-    let viewed = ap doc_view c.in-List.is ∙ view-List c.in-List.list in
-    let facts = c.in_ok-numbers-in-List.ensures in
-    let numbers = c.deref.result.now in
-    IfOk-weaker c.list.result (λ n. (n ≡ length inner) × (c.list.new.self ≡ inner ++ a_list numbers ∷ [])) (λ n. c.list.new.self ≡ old ++ items_behind (length old) (doc_view c.args.doc.now))
-    (λ n h. (list_pushed old inner numbers ds facts.items (c.deref.ensures.value ∙ facts.numbers) c.list.new.self n h).1 ∙ ap (λ d. old ++ items_behind (length old) d) (sym viewed))
-    c.list.ensures
+    let ds = list_view c.args.elements.now.items in
+    elements_pushed-below old inner c.deref.result.now ds
+    (subst (λ ns. AreElementsPushed old inner ds ns c.deref.result.now) c.in_ok-numbers.ensures.items (subst (AreElementsPushed old inner ds c.in_ok-numbers.numbers.items) (sym c.deref.ensures.value) c.in_ok-push_elements.ensures))
 
-pub push_doc-returns-in_ok-numbers-in-List-clause-number :
-    goal.push_doc-returns-in_ok-numbers-in-List-clause-number
-push_doc-returns-in_ok-numbers-in-List-clause-number t c =
+pub push_list-returns : goal.push_list-returns
+push_list-returns t c =
     let old = c.args.builder.now in
     let inner = c.push_elements.new.builder in
-    let ds = list_view c.in-List.list.items in
-    let viewed = ap doc_view c.in-List.is ∙ view-List c.in-List.list in
-    let facts = c.in_ok-numbers-in-List.ensures in
+    let ds = list_view c.args.elements.now.items in
     let numbers = c.deref.result.now in
-    IfOk-weaker c.list.result (λ n. (n ≡ length inner) × (c.list.new.self ≡ inner ++ a_list numbers ∷ [])) (λ n. n ≡ length old + inside (doc_view c.args.doc.now))
-    (λ n h. (list_pushed old inner numbers ds facts.items (c.deref.ensures.value ∙ facts.numbers) c.list.new.self n h).0 ∙ ap (λ d. length old + inside d) (sym viewed))
-    c.list.ensures
+    let within = subst (λ ns. AreElementsPushed old inner ds ns c.deref.result.now) c.in_ok-numbers.ensures.items (subst (AreElementsPushed old inner ds c.in_ok-numbers.numbers.items) (sym c.deref.ensures.value) c.in_ok-push_elements.ensures) in
+    IfOk-weaker c.list.result (λ n. (n ≡ length inner) × (c.list.new.self ≡ inner ++ a_list numbers ∷ [])) (IsPushed old c.list.new.self (list ds)) (list_pushed old inner numbers ds within c.list.new.self) c.list.ensures
 
-pub push_doc-returns-in_ok-entries-in-Object-clause-items :
-    goal.push_doc-returns-in_ok-entries-in-Object-clause-items
-push_doc-returns-in_ok-entries-in-Object-clause-items t c =
+pub push_object-object-requires-clause-ascends : goal.push_object-object-requires-clause-ascends
+push_object-object-requires-clause-ascends t c =
     let old = c.args.builder.now in
     let inner = c.push_members.new.builder in
-    let ms = object_view c.in-Object.members.entries in
-    let viewed = ap doc_view c.in-Object.is ∙ view-Object c.in-Object.members in
-    let facts = c.in_ok-entries-in-Object.ensures in
-    let numbers = map entry_of c.deref-in-Object.result.now in
-    IfOk-weaker c.object.result (λ n. (n ≡ length inner) × (c.object.new.self ≡ inner ++ an_object numbers ∷ [])) (λ n. c.object.new.self ≡ old ++ items_behind (length old) (doc_view c.args.doc.now))
-    (λ n h. (object_pushed old inner numbers ms facts.items (ap (map entry_of) c.deref-in-Object.ensures.value ∙ facts.numbers) c.object.new.self n h).1 ∙ ap (λ d. old ++ items_behind (length old) d) (sym viewed))
-    c.object.ensures
+    let ms = object_view c.args.members.now.entries in
+    members_pushed-ascend old inner (map entry_of c.deref.result.now) ms
+    (subst (λ es. AreMembersPushed old inner ms (map entry_of es) (map entry_of c.deref.result.now)) c.in_ok-entries.ensures.items (subst (λ es. AreMembersPushed old inner ms (map entry_of c.in_ok-entries.entries.items) (map entry_of es)) (sym c.deref.ensures.value) c.in_ok-push_members.ensures))
 
-pub push_doc-returns-in_ok-entries-in-Object-clause-number :
-    goal.push_doc-returns-in_ok-entries-in-Object-clause-number
-push_doc-returns-in_ok-entries-in-Object-clause-number t c =
+pub push_object-object-requires-clause-below : goal.push_object-object-requires-clause-below
+push_object-object-requires-clause-below t c =
     let old = c.args.builder.now in
     let inner = c.push_members.new.builder in
-    let ms = object_view c.in-Object.members.entries in
-    let viewed = ap doc_view c.in-Object.is ∙ view-Object c.in-Object.members in
-    let facts = c.in_ok-entries-in-Object.ensures in
-    let numbers = map entry_of c.deref-in-Object.result.now in
-    IfOk-weaker c.object.result (λ n. (n ≡ length inner) × (c.object.new.self ≡ inner ++ an_object numbers ∷ [])) (λ n. n ≡ length old + inside (doc_view c.args.doc.now))
-    (λ n h. (object_pushed old inner numbers ms facts.items (ap (map entry_of) c.deref-in-Object.ensures.value ∙ facts.numbers) c.object.new.self n h).0 ∙ ap (λ d. length old + inside d) (sym viewed))
-    c.object.ensures
+    let ms = object_view c.args.members.now.entries in
+    members_pushed-below old inner (map entry_of c.deref.result.now) ms
+    (subst (λ es. AreMembersPushed old inner ms (map entry_of es) (map entry_of c.deref.result.now)) c.in_ok-entries.ensures.items (subst (λ es. AreMembersPushed old inner ms (map entry_of c.in_ok-entries.entries.items) (map entry_of es)) (sym c.deref.ensures.value) c.in_ok-push_members.ensures))
+
+pub push_object-returns : goal.push_object-returns
+push_object-returns t c =
+    let old = c.args.builder.now in
+    let inner = c.push_members.new.builder in
+    let ms = object_view c.args.members.now.entries in
+    let numbers = map entry_of c.deref.result.now in
+    let within = subst (λ es. AreMembersPushed old inner ms (map entry_of es) (map entry_of c.deref.result.now)) c.in_ok-entries.ensures.items (subst (λ es. AreMembersPushed old inner ms (map entry_of c.in_ok-entries.entries.items) (map entry_of es)) (sym c.deref.ensures.value) c.in_ok-push_members.ensures) in
+    IfOk-weaker c.object.result (λ n. (n ≡ length inner) × (c.object.new.self ≡ inner ++ an_object numbers ∷ [])) (IsPushed old c.object.new.self (object ms)) (object_pushed old inner numbers ms within c.object.new.self) c.object.ensures
 
 pub push_elements-loop-doc-preserved : goal.push_elements-loop-doc-preserved
 push_elements-loop-doc-preserved t c =
@@ -94,7 +75,7 @@ push_elements-loop-doc-preserved t c =
     let grown = c.in_ok-number.ensures.items in record {
       items = element_items-turn (old ++ element_items (length old) ds) before after (doc_view d) (list_view rest)
           (l.invariant.items ∙ ap (λ xs. before ++ element_items (length before) (list_view xs)) left) grown;
-      numbers = element_numbers-turn (element_numbers (length old) ds) l.numbers.items before after c.in_ok-number.number (doc_view d) (list_view rest)
+      numbers = element_numbers-turn (c.args.numbers.now.items ++ element_numbers (length old) ds) l.numbers.items before after c.in_ok-number.number (doc_view d) (list_view rest)
           (l.invariant.numbers ∙ ap (λ xs. l.numbers.items ++ element_numbers (length before) (list_view xs)) left) c.in_ok-number.ensures.number grown
           ∙ ap (λ ns. ns ++ element_numbers (length after) (list_view rest)) (sym c.in_ok-push.ensures.items);
       profile = λ more. l.invariant.profile (subst (λ xs. AreDocuments (list_view xs)) (sym left) (c.in_ok-number.ensures.document, more));
@@ -115,14 +96,17 @@ push_members-loop-key-preserved t c =
     let grown = c.in_ok-number.ensures.items in record {
       items = member_items-turn (old ++ member_items (length old) ms) before after key d rest
           (l.invariant.items ∙ ap (λ es. before ++ member_items (length before) (object_view es)) left) grown;
-      numbers = member_numbers-turn (member_numbers (length old) ms) l.entries.items before after (c.as_str.result, c.in_ok-number.number) key d rest
+      numbers = member_numbers-turn (map entry_of c.args.entries.now.items ++ member_numbers (length old) ms) l.entries.items before after (c.as_str.result, c.in_ok-number.number) key d rest
           (l.invariant.numbers ∙ ap (λ es. map entry_of l.entries.items ++ member_numbers (length before) (object_view es)) left) keyed c.in_ok-number.ensures.number grown
           ∙ ap (λ ns. map entry_of ns ++ member_numbers (length after) rest) (sym c.in_ok-push.ensures.items);
       fit = λ more. l.invariant.fit (subst ValuesFit (sym left) (c.in_ok-number.ensures.document, more));
     }
 
-pub push_members-returns-clause-document : goal.push_members-returns-clause-document
-push_members-returns-clause-document t c =
+pub push_members-returns : goal.push_members-returns
+push_members-returns t c =
     let l = c.loop-key in
-    let all = l.invariant.fit (subst ValuesFit (sym c.in-None.ensures.steps.0) tt) in
-    AreMembers-of_sorted c.args.members.now.entries c.into_iter-key-iterator.ensures.into_iter_gives.5 all
+    let all = l.invariant.fit (subst ValuesFit (sym c.in-None.ensures.steps.0) tt) in record {
+      items = search rules;
+      numbers = search rules;
+      documents = AreMembers-of_sorted c.args.members.now.entries c.into_iter-key-iterator.ensures.into_iter_gives.5 all;
+    }

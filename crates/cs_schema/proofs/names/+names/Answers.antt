@@ -42,10 +42,10 @@ check_list-returns-in-Err-clause-refused t c =
     let l = c.loop-i in
     let xs = c.deref-item-items.result.now in
     let x = c.item-item.result in
-    let e = c.in_ok-below_index-in-Err.field-0 in
+    let e = c.below_index.result in
     let left : drop l.i xs ≡ x ∷ drop (l.i + 1) xs = drop_at xs l.i x c.loop-i-test.true c.item-item.is in
     let seen = l.invariant ∙ ap (λ es. first f (element_visits [] l.i (list_view es))) left in
-    let mine = schema_refused f (names_placed known) (index_place [] l.i) (doc_view x) e (c.in_ok-below_index-in-Err.ensures _ c.in-Err.ensures.refused) in
+    let mine = schema_refused f (names_placed known) (index_place [] l.i) (doc_view x) e (c.below_index.ensures _ c.in-Err.ensures.refused) in
     refuses_at f e (visits false (index_place [] l.i) (doc_view x)) (element_visits [] (suc l.i) (list_view (drop (l.i + 1) xs))) _ seen mine
 
 pub check_list-loop-i-preserved : goal.check_list-loop-i-preserved
@@ -68,10 +68,10 @@ check_map-returns-in-Err-clause-refused t c =
     let f = undefined_at known in
     let k = string_bytes c.in-Some.key.now in
     let d = doc_view c.in-Some.value.now in
-    let e = c.in_ok-below_key-in-Err.field-0 in
+    let e = c.below_key.result in
     let seen = c.loop-key.invariant ∙ ap (λ es. first f (named_visits [] (object_view es))) c.in-Some.ensures.steps in
     let mine = schema_refused f (names_placed known) (key_place [] k) d e
-    (subst (λ n. Refuses e (option_map (below (key_place [] n)) (first f (visits false [] d)))) c.deref.ensures (c.in_ok-below_key-in-Err.ensures _ c.in-Err.ensures.refused)) in
+    (subst (λ n. Refuses e (option_map (below (key_place [] n)) (first f (visits false [] d)))) c.deref.ensures (c.below_key.ensures _ c.in-Err.ensures.refused)) in
     refuses_at f e (visits false (key_place [] k) d) (named_visits [] (object_view c.next.new.self)) _ seen mine
 
 pub check_map-loop-key-preserved : goal.check_map-loop-key-preserved
@@ -92,11 +92,11 @@ check_keyword-returns-in-Ok-clause-accepted t c =
     let at = c.in-Some.ensures.form ∙ ap Some (sym c.form.ensures) in
     keyword_named known c.args.root k v c.form.result at (sym c.eq.ensures ∙ c.if-eq.false) ∙ ap (option_map (below (key_place [] k))) c.in-Ok.ensures.accepted
 
-pub check_keyword-returns-in_ok-below_key-in-Err-clause-refused : goal.check_keyword-returns-in_ok-below_key-in-Err-clause-refused
-check_keyword-returns-in_ok-below_key-in-Err-clause-refused t c =
+pub check_keyword-returns-in-Err-clause-refused : goal.check_keyword-returns-in-Err-clause-refused
+check_keyword-returns-in-Err-clause-refused t c =
     let known = is_defined_in c.args.definitions.now.entries in
     let k = c.args.key.now in
     let v = doc_view c.args.value.now in
-    let e = c.in_ok-below_key-in-Err.field-0 in
+    let e = c.below_key.result in
     let at = c.in-Some.ensures.form ∙ ap Some (sym c.form.ensures) in
-    subst (Refuses e) (sym (keyword_named known c.args.root k v c.form.result at (sym c.eq.ensures ∙ c.if-eq.false))) (c.in_ok-below_key-in-Err.ensures _ c.in-Err.ensures.refused)
+    subst (Refuses e) (sym (keyword_named known c.args.root k v c.form.result at (sym c.eq.ensures ∙ c.if-eq.false))) (c.below_key.ensures _ c.in-Err.ensures.refused)

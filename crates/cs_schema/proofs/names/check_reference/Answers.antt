@@ -16,16 +16,16 @@ returns-then-contains_key-clause-accepted c =
     let start : t ≡ reference_start ++ n = c.in-Some.ensures.cases.1.1 ∙ ap (λ r. reference_start ++ r) (sym c.in-Some.ensures.cases.2) in
     reference_known (is_defined_in es) (doc_view c.args.value.now) t n is (after_start reference_start n t start) (sym (contained n es) ∙ sym c.contains_key.ensures ∙ c.if-contains_key.true)
 
-pub returns-in_ok-undefined_reference-in-Some-clause-refused : goal.returns-in_ok-undefined_reference-in-Some-clause-refused
-returns-in_ok-undefined_reference-in-Some-clause-refused c =
+pub returns-else-contains_key-clause-refused : goal.returns-else-contains_key-clause-refused
+returns-else-contains_key-clause-refused c =
     let es = c.args.definitions.now.entries in
     let t = c.deref.result.now in
     let n = c.in-Some.name.now in
     let is : doc_view c.args.value.now ≡ text t = ap doc_view c.in-Text.is ∙ view-Text c.in-Text.text ∙ ap text (sym c.deref.ensures) in
     let start : t ≡ reference_start ++ n = c.in-Some.ensures.cases.1.1 ∙ ap (λ r. reference_start ++ r) (sym c.in-Some.ensures.cases.2) in
-    subst (Refuses c.in_ok-undefined_reference-in-Some.field-0)
+    subst (Refuses c.undefined_reference.result)
     (sym (reference_unknown (is_defined_in es) (doc_view c.args.value.now) t n is (after_start reference_start n t start) (sym (contained n es) ∙ sym c.contains_key.ensures ∙ c.if-contains_key.false)))
-    c.in_ok-undefined_reference-in-Some.ensures
+    c.undefined_reference.ensures
 
 pub returns-in-None-clause-accepted : goal.returns-in-None-clause-accepted
 returns-in-None-clause-accepted c =

@@ -20,7 +20,7 @@ pub returns-in_err-keywords-in-Object-clause-refused : goal.returns-in_err-keywo
 returns-in_err-keywords-in-Object-clause-refused c =
     let e = c.in_err-keywords-in-Object.field-0.0 in
     let is : doc_view c.args.doc.now ≡ object (object_view c.in-Object.members.entries) = ap doc_view c.in-Object.is ∙ view-Object c.in-Object.members in
-    let whole = refused_by_walk e (doc_view c.args.doc.now) (subst (λ d. Refuses e (walk_fault d)) (sym is) c.in_err-keywords-in-Object.ensures.refused) in
+    let whole = refused_by_walk e (doc_view c.args.doc.now) (subst (λ d. Refuses e (walk_fault d)) (sym is) c.in_err-keywords-in-Object.ensures) in
     search rules
 
 pub returns-in_err-check_members-in-Object-clause-refused : goal.returns-in_err-check_members-in-Object-clause-refused
@@ -29,8 +29,8 @@ returns-in_err-check_members-in-Object-clause-refused c =
     let ms = object_view c.in-Object.members.entries in
     let p = c.in_ok-keywords-in-Object.field-0 in
     let is : doc_view c.args.doc.now ≡ object ms = ap doc_view c.in-Object.is ∙ view-Object c.in-Object.members in
-    let mine = subst (Refuses e) (names_are ms p c.in_ok-keywords-in-Object.ensures.found) c.in_err-check_members-in-Object.ensures.refused in
-    let whole : IsRefusal e (doc_view c.args.doc.now) = subst (IsRefusal e) (sym is) (refused_by_name e (object ms) c.in_ok-keywords-in-Object.ensures.accepted mine) in
+    let mine = subst (Refuses e) (names_are ms p c.in_ok-keywords-in-Object.ensures.1.found) c.in_err-check_members-in-Object.ensures.refused in
+    let whole : IsRefusal e (doc_view c.args.doc.now) = subst (IsRefusal e) (sym is) (refused_by_name e (object ms) c.in_ok-keywords-in-Object.ensures.0 mine) in
     search rules
 
 pub returns-in_err-check_members-in-Object-clause-only : goal.returns-in_err-check_members-in-Object-clause-only
@@ -39,8 +39,8 @@ returns-in_err-check_members-in-Object-clause-only c = λ s.
     let ms = object_view c.in-Object.members.entries in
     let p = c.in_ok-keywords-in-Object.field-0 in
     let is : doc_view c.args.doc.now ≡ object ms = ap doc_view c.in-Object.is ∙ view-Object c.in-Object.members in
-    let mine = subst (Refuses e) (names_are ms p c.in_ok-keywords-in-Object.ensures.found) c.in_err-check_members-in-Object.ensures.refused in
-    let whole = only_memory e (object ms) (subst IsSchema is s) (refused_by_name e (object ms) c.in_ok-keywords-in-Object.ensures.accepted mine) in
+    let mine = subst (Refuses e) (names_are ms p c.in_ok-keywords-in-Object.ensures.1.found) c.in_err-check_members-in-Object.ensures.refused in
+    let whole = only_memory e (object ms) (subst IsSchema is s) (refused_by_name e (object ms) c.in_ok-keywords-in-Object.ensures.0 mine) in
     search rules
 
 abbrev read_root : goal.After-checked-in-Object → SchemaValue
@@ -49,7 +49,7 @@ read_root c = record { root = Object c.in_ok-new-in-Object.field-0; definitions 
 read : (c : goal.After-checked-in-Object) → WasRead (doc_view c.args.doc.now) (read_root c)
 read c =
     was_read (doc_view c.args.doc.now) (object_view c.in-Object.members.entries) c.in_ok-keywords-in-Object.field-0 c.in_ok-new-in-Object.field-0 (ap doc_view c.in-Object.is ∙ view-Object c.in-Object.members)
-    c.in_ok-new-in-Object.ensures.ok c.in_ok-keywords-in-Object.ensures.accepted c.in_ok-keywords-in-Object.ensures.found c.in_ok-check_members-in-Object.ensures.accepted
+    c.in_ok-new-in-Object.ensures.ok c.in_ok-keywords-in-Object.ensures.0 c.in_ok-keywords-in-Object.ensures.1.found c.in_ok-check_members-in-Object.ensures.accepted
 
 pub checked-requires-in-Object : goal.checked-requires-in-Object
 checked-requires-in-Object c =
@@ -57,7 +57,7 @@ checked-requires-in-Object c =
     let p = c.in_ok-keywords-in-Object.field-0 in
     let k = c.in_ok-new-in-Object.field-0 in
     well_formed (object ms) (record { root = Object k; definitions = p.definitions.entries })
-    (was_read (object ms) ms p k refl c.in_ok-new-in-Object.ensures.ok c.in_ok-keywords-in-Object.ensures.accepted c.in_ok-keywords-in-Object.ensures.found c.in_ok-check_members-in-Object.ensures.accepted)
+    (was_read (object ms) ms p k refl c.in_ok-new-in-Object.ensures.ok c.in_ok-keywords-in-Object.ensures.0 c.in_ok-keywords-in-Object.ensures.1.found c.in_ok-check_members-in-Object.ensures.accepted)
     (bare_object k p.definitions.entries)
 
 pub returns-in-Bool-clause-one_meaning : goal.returns-in-Bool-clause-one_meaning
