@@ -3,7 +3,7 @@ use Rattle.std.specs.Prelude.{ℕ, ◌+◌, ◌^◌, Bool, false, cond, nat_eq, 
 use Rattle.std.specs.List.{fold}
 use Rattle.cs_reasons.specs.declared.costs.Costs.{Costs}
 
--- what costs are kept: for each item where those of its rules begin, the item that was begun last, and the costs
+-- costs as they are kept: how many rules there are, for each item where its costs begin, the item that was begun last, and all costs
 pub record Kept : Type 0 where
   pub rules : ℕ
   pub starts : List ℕ
