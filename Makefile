@@ -1,6 +1,6 @@
 # make            builds the proved program as bin/cue2schema
 # make run        builds it and runs it on examples/port.cue
-# make try        runs the program as it is built from its sources without the proofs, in a minute or two the first time: on
+# make try        runs the program from its sources without the proofs, in about a minute, or at once behind `make test`: on
 #                 examples/port.cue, or as make try ARGS="vet --root '#P' --doc d.json port.cue"
 # make test       all tests without a proof, in six minutes: that program on all cases, the tests of calls, and whether the pages of
 #                 docs/ say what is in the code

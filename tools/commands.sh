@@ -23,17 +23,6 @@ feed() {
     timeout 60 sh -c 'name=$1; shift; "$@" > "$name"' sh "$@" &
 }
 
-# within KIB: so much memory for what follows. A program that is built with checks of memory can't run in so little at all: there no
-# single growth gets more.
-(ulimit -v 400000; exec "$program" --version) > "$room/out" 2> "$room/said" && is_checked=no || is_checked=yes
-within() {
-    if [ "$is_checked" = no ]; then
-        ulimit -v "$1"
-    else
-        export ASAN_OPTIONS="allocator_may_return_null=1:log_path=/dev/null:max_allocation_size_mb=$(($1 / 1000))"
-    fi
-}
-
 # obey COMMANDS: runs them in $room/here; one of them is `run`
 obey() {
     echo none > "$room/status"
@@ -255,21 +244,21 @@ try 'says 2 error 27⏎more-zeros.json: 13,417 values and 5,002 rules make 67,11
     'run vet --why --root "#A" --doc more-zeros.json twice.cue'
 
 # Inputs without an end, in 400 MB of memory: reading stops at the limit.
-try 'error 1' 'within 400000; yes | run export --root "#P"'
-try 'error 1' 'within 400000; yes | run export --root "#P" /dev/stdin'
-try 'error 1' 'within 400000; run export --root "#P" zeros'
-try 'error 1' 'within 400000; run export --root "#P" < zeros'
-try 'error 1' 'within 400000; run export --root "#P" /dev/zero'
-try 'error 1' 'within 400000; yes | run vet --root "#P" --doc one'
-try 'error 1' 'within 400000; yes | run agree --root "#P" --doc one'
-try 'error 1' 'within 400000; feed endless yes; run export --root "#P" endless'
-try 'error 28' 'within 400000; yes | run vet --root "#P" --doc /dev/stdin port.cue'
-try 'error 28' 'within 400000; run vet --root "#P" --doc zeros port.cue'
-try 'error 28' 'within 400000; yes | run validate --schema true.json'
-try 'error 28' 'within 400000; run validate --schema true.json < zeros'
-try 'error 28' 'within 400000; run validate --schema true.json --doc zeros'
-try 'error 28' 'within 400000; run validate --schema zeros --doc one'
-try 'error 28' 'within 400000; run agree --root "#P" --doc zeros port.cue'
+try 'error 1' 'ulimit -v 400000; yes | run export --root "#P"'
+try 'error 1' 'ulimit -v 400000; yes | run export --root "#P" /dev/stdin'
+try 'error 1' 'ulimit -v 400000; run export --root "#P" zeros'
+try 'error 1' 'ulimit -v 400000; run export --root "#P" < zeros'
+try 'error 1' 'ulimit -v 400000; run export --root "#P" /dev/zero'
+try 'error 1' 'ulimit -v 400000; yes | run vet --root "#P" --doc one'
+try 'error 1' 'ulimit -v 400000; yes | run agree --root "#P" --doc one'
+try 'error 1' 'ulimit -v 400000; feed endless yes; run export --root "#P" endless'
+try 'error 28' 'ulimit -v 400000; yes | run vet --root "#P" --doc /dev/stdin port.cue'
+try 'error 28' 'ulimit -v 400000; run vet --root "#P" --doc zeros port.cue'
+try 'error 28' 'ulimit -v 400000; yes | run validate --schema true.json'
+try 'error 28' 'ulimit -v 400000; run validate --schema true.json < zeros'
+try 'error 28' 'ulimit -v 400000; run validate --schema true.json --doc zeros'
+try 'error 28' 'ulimit -v 400000; run validate --schema zeros --doc one'
+try 'error 28' 'ulimit -v 400000; run agree --root "#P" --doc zeros port.cue'
 # At most 4,096 bytes past the limit are taken.
 try_run 2 'yes' 'error 1' '{ run export --root "#P"; [ $(cat | wc -c) -ge $((67108864 - 1048576 - 4096)) ] && echo yes; } < input-limit'
 try_run 2 'yes' 'error 28' '{ run validate --schema true.json; [ $(head -c 9999999 | wc -c) -eq 9999999 ] && echo yes; } < zeros'
@@ -288,7 +277,7 @@ valid' '' 'mkfifo asks tells; run vet --root "#P" --lines port.cue < asks > tell
     for line in 80 0 443; do echo "$line" >&3; read -r answer <&4; echo "$answer"; done; exec 3>&-; wait'
 try_run 0 '200000 valid' '' 'yes 80 | head -n 200000 | run vet --root "#P" --lines port.cue | sort | uniq -c | sed "s/^ *//"'
 # As many lines as came, in little memory, in the order in which they came.
-try_run 1 'the same lines' '' 'seq 0 199999 > numbers; (within 20000; run vet --root "#P" --lines --doc numbers port.cue > verdicts)
+try_run 1 'the same lines' '' 'seq 0 199999 > numbers; (ulimit -v 20000; run vet --root "#P" --lines --doc numbers port.cue > verdicts)
     awk "{ print (\$1 >= 1 && \$1 <= 65535 ? \"valid\" : \"invalid\") }" numbers | cmp - verdicts && echo "the same lines"'
 try 'error 30' 'run vet --root "#P" --lines port.cue <&-'
 try 'error 30' 'run vet --root "#P" --lines port.cue < folder'
@@ -303,7 +292,7 @@ try_run 2 '' 'error 4 at 9' 'run vet --root "#P" --lines syntax.cue < zeros'
 try 'lines 4 folder: error 30;one: valid;missing: error 30;pipe: invalid;cut.json: error 25' \
     'feed pipe echo 0; run vet --root "#P" port.cue --docs folder one missing pipe cut.json'
 try 'lines 2 input-over: error 28;one: valid' 'run validate --schema port.json --docs input-over one'
-try 'lines 2 zeros: error 28;one: valid' 'within 400000; run agree --root "#P" port.cue --docs zeros one'
+try 'lines 2 zeros: error 28;one: valid' 'ulimit -v 400000; run agree --root "#P" port.cue --docs zeros one'
 try_run 0 '300 one: valid' '' 'yes one | head -n 300 | (ulimit -n 100; xargs "$program" vet --root "#P" port.cue --docs) | uniq -c | sed "s/^ *//"; echo 0 > "$room/status"'
 
 # The first of several faults: named files before standard input, sources or a schema before a document, in their order.
@@ -328,8 +317,11 @@ try 'error 28' 'run agree --root "#P" --doc input-over syntax.cue'
 # Little memory: each run is refused by 15, or answers all; some of these are refused, and some not.
 refused=0
 answered=0
-for room_for in 6000 8000 10000 12000 14000 16000 20000 50000 200000; do
-    obey "within $room_for; code=0; \"\$program\" export --root '#P' wide.cue || code=\$?; echo \$code > \"\$room/status\""
+least=6000
+until (ulimit -v "$least"; exec "$program" --version) > "$room/out" 2> "$room/said"; do least=$((least + 1000)); done
+for more in 0 2000 4000 6000 8000 10000 14000 44000 194000; do
+    room_for=$((least + more))
+    obey "ulimit -v $room_for; code=0; \"\$program\" export --root '#P' wide.cue || code=\$?; echo \$code > \"\$room/status\""
     if is_run 5 '' 'error 15'; then
         refused=1
     elif [ "$status" -eq 0 ] && [ "$(wc -c < "$room/out")" -gt 65536 ] && [ ! -s "$room/said" ]; then
@@ -339,10 +331,10 @@ for room_for in 6000 8000 10000 12000 14000 16000 20000 50000 200000; do
     fi
 done
 if [ "$refused$answered" = 11 ]; then count 'commands: little memory' yes; else count 'commands: little memory' no; fi
-try 'error 15' 'within 50000; run validate --schema true.json --doc input-limit'
-try 'error 15' 'within 50000; run validate --schema true.json < input-limit'
-try 'error 15' 'within 50000; run vet --root "#P" --doc input-limit port.cue'
-try 'error 15' 'within 50000; run agree --root "#P" --doc input-limit port.cue'
+try 'error 15' 'ulimit -v 50000; run validate --schema true.json --doc input-limit'
+try 'error 15' 'ulimit -v 50000; run validate --schema true.json < input-limit'
+try 'error 15' 'ulimit -v 50000; run vet --root "#P" --doc input-limit port.cue'
+try 'error 15' 'ulimit -v 50000; run agree --root "#P" --doc input-limit port.cue'
 
 # Reasons of lines are told beside the verdicts, with the line of the input.
 try_run 1 'valid
