@@ -318,7 +318,7 @@ try 'error 28' 'run agree --root "#P" --doc input-over syntax.cue'
 refused=0
 answered=0
 least=6000
-until (ulimit -v "$least"; exec "$program" --version) > "$room/out" 2> "$room/said"; do least=$((least + 1000)); done
+{ until (ulimit -v "$least"; exec "$program" --version) > "$room/out"; do least=$((least + 1000)); done; } 2> /dev/null
 for more in 0 2000 4000 6000 8000 10000 14000 44000 194000; do
     room_for=$((least + more))
     obey "ulimit -v $room_for; code=0; \"\$program\" export --root '#P' wide.cue || code=\$?; echo \$code > \"\$room/status\""
