@@ -39,6 +39,9 @@ TAKEN_AWAY = re.compile(r"has no field|is not in scope|has no `|was not admitted
 ITSELF = r"not proved|no proof: expected answers in [^;]+; `search` did not prove [^;]+"
 FUNCTION = re.compile(r"\s*(?:pub(?:\(crate\))? )?fn (\w+)")
 METHODS = re.compile(r"impl(?:<[^>]*>)? (\w+)(?:<[^>]*>)? \{")
+# A line of antt at the edge that begins a definition or one of its cases.
+DEFINES = re.compile(r"(?:  )?(?:(?:abbrev|record|data|unfoldable|pub|mutual) )*([^\s:=]+) ")
+MOST_CITING = 3
 
 
 class Misfit(Exception):
@@ -94,27 +97,82 @@ class Edit:
         one = found.pop() if len(found) == 1 else None
         return one if one and one[0].startswith("src/") and one[1] else None
 
-
     def path(self, folder: Path) -> str | None:
         """The path below the crate of the one function that this edit changes, or of its module where it is a trait's method."""
         one = self.function(folder)
         if not one:
             return None
-        file, name = one
-        module = [it for it in Path(file).with_suffix("").parts[1:] if it != "lib"]
-        lines = (folder / file).read_text().split("\n")
-        changed = next(place for place, line in enumerate(lines) if self.pairs[0][1] in line)
-        block = next((it for it in reversed(lines[: changed + 1]) if re.match(r"(impl\b.*\{|\})\Z", it)), "}")
-        if block == "}":
-            return "::".join([*module, name])
-        methods = METHODS.match(block)
-        return "::".join([*module, methods[1], name] if methods else module) or None
+        lines = (folder / one[0]).read_text().split("\n")
+        return path_at(one[0], lines, next(place for place, line in enumerate(lines) if self.pairs[0][1] in line), one[1])
+
+    def definitions(self, folder: Path) -> set[str]:
+        """The names of the definitions that this edit changes in specs/."""
+        found = set()
+        for file, old, _ in self.pairs:
+            if file.startswith("specs/"):
+                text = (folder / file).read_text()
+                found.add(definition_at(text.split("\n"), text[: text.index(old)].count("\n")))
+        return found - {None}
 
 
 def function_at(text: str, line: int) -> str | None:
     """The name of the function around a line, counted from 0."""
     names = (FUNCTION.match(it) for it in reversed(text.split("\n")[: line + 1]))
     return next((it[1] for it in names if it), None)
+
+
+def path_at(file: str, lines: list[str], place: int, name: str) -> str | None:
+    """The path below the crate of a function of this name around a line, or of its module where it is a trait's method."""
+    module = [it for it in Path(file).with_suffix("").parts[1:] if it != "lib"]
+    block = next((it for it in reversed(lines[: place + 1]) if re.match(r"(impl\b.*\{|\})\Z", it)), "}")
+    if block == "}":
+        return "::".join([*module, name])
+    methods = METHODS.match(block)
+    return "::".join([*module, methods[1], name] if methods else module) or None
+
+
+def definition_at(lines: list[str], place: int) -> str | None:
+    """The name of the definition around a line of a file of specs/, counted from 0."""
+    names = (DEFINES.match(it) for it in reversed(lines[: place + 1]) if not it.startswith(("--", "use ", "module ", "where ")))
+    return next((it[1] for it in names if it), None)
+
+
+def words_of(text: str) -> set[str]:
+    return set(re.findall(r"[^\s(){}\[\].,;:λ⟦⟧«»]+", text))
+
+
+def clauses(folder: Path) -> dict[str, set[str]]:
+    """The functions of a crate by path, each with the words of its clauses."""
+    found: dict[str, set[str]] = {}
+    for file in sorted((folder / "src").rglob("*.rt")):
+        lines = file.read_text().split("\n")
+        for place, line in enumerate(lines):
+            at = FUNCTION.match(line)
+            if not at:
+                continue
+            indent = line[: len(line) - len(line.lstrip())]
+            end = next((it for it in range(place, len(lines)) if re.match(rf"{indent}(\{{.*|.*;|.*\{{)\Z", lines[it])), place)
+            path = path_at(str(file.relative_to(folder)), lines, place, at[1])
+            if path and end > place:
+                found.setdefault(path, set()).update(words_of(" ".join(lines[place + 1 : end])))
+    return found
+
+
+def citing(names: set[str], folder: Path) -> list[str]:
+    """The paths of some functions whose clauses name one of these definitions, or else one that rests on them."""
+    functions = clauses(folder)
+    parts: dict[str, set[str]] = {}
+    for file in (folder / "specs").rglob("*.antt"):
+        lines = file.read_text().split("\n")
+        for place, line in enumerate(lines):
+            if not line.startswith(("--", "use ")) and (name := definition_at(lines, place)):
+                parts.setdefault(name, set()).update(words_of(line))
+    while True:
+        found = [path for path, words in functions.items() if words & names]
+        more = names | {name for name, words in parts.items() if words & names}
+        if len(found) >= MOST_CITING or more == names:
+            return found[:MOST_CITING]
+        names = more
 
 
 def calls(crate: str) -> dict[str, set[str]]:
@@ -177,11 +235,13 @@ class Lane:
         raise NotImplementedError
 
     def alone(self, edit: Edit) -> tuple[bool, str]:
-        """The answer of the edit's own function, or else of the whole crate: what the function may do, one that calls it may not."""
+        """The answer of the edit's own function, or of some that cite the definition that it changes, or else of the whole crate: what
+        the function may do, one that calls it may not, and what turns code and definition alike, only a law or a sample refuses."""
         folder = self.proved / "crates" / edit.crate
         path = edit.path(folder)
-        if path:
-            well, text = self.answer(edit, [path])
+        paths = [path] if path else citing(edit.definitions(folder), folder)
+        if paths:
+            well, text = self.answer(edit, paths)
             if well:
                 return well, text
         return self.answer(edit, [])

@@ -1,6 +1,8 @@
 // From the text of a document to the list of its items, in one pass over the tokens.
-ghost use Rattle.std.specs.Prelude.{◌≡◌, ◌<◌, ◌≤◌, ◌==◌, [], true, IsTrue, slice_index, vec_len, IfOk, IfSome, OnOk, Some, length, map, option_and_then, take, drop};
+ghost use Rattle.std.specs.Prelude.{◌≡◌, ◌<◌, ◌≤◌, ◌==◌, ℕ, List, [], ◌∷◌, true, IsTrue, slice_index, vec_len, IfOk, IfSome, OnOk, Some, length, map, option_and_then, take, drop};
 ghost use Rattle.std.specs.List.Sorted.{IsPermutation};
+ghost use Rattle.json.specs.Token.{Token as TheToken};
+ghost use Rattle.json.specs.Reads.{token_of};
 ghost use Rattle.json.specs.Json.{value, items, members, parse_map};
 ghost use Rattle.serde_json.specs.Data.{no_members, array, object};
 ghost use Rattle.serde_json.specs.Find.{as_i64};
@@ -108,14 +110,14 @@ impl<'a> Listing<'a> {
     {
         let token = self.reader.next().ok_or(Stop::Unusual)?;
         match token {
-            Token::String(text) => Ok(self.items.text(text)?),
-            Token::Number(text) => match integer(text) {
-                Some(value) => Ok(self.items.integer(value)?),
-                None => Err(Stop::Unusual),
-            },
-            Token::Bool(value) => Ok(self.items.boolean(value)?),
-            Token::Null => Ok(self.items.null()?),
-            Token::EndObject | Token::EndArray | Token::Key(_) | Token::Bad => Err(Stop::Unusual),
+            Token::String(_)
+            | Token::Number(_)
+            | Token::Bool(_)
+            | Token::Null
+            | Token::EndObject
+            | Token::EndArray
+            | Token::Key(_)
+            | Token::Bad => add_scalar(&mut self.items, token),
             Token::BeginArray => {
                 if depth == 0 {
                     return Err(Stop::Unusual);
@@ -175,6 +177,29 @@ impl<'a> Listing<'a> {
         let number = self.items.object(&self.entries[start..])?;
         self.entries.truncate(start);
         Ok(number)
+    }
+}
+
+/// Adds the value that a token alone is, and answers its number.
+#[inline]
+fn add_scalar<'a>(items: &mut Builder<'a>, token: Token<'a>) -> Result<usize, Stop>
+    ensures { (depth : ℕ) (rest : List TheToken) → IfOk result (λ n. AddsRead
+        (converted of_json (value depth (token_of token.entry ∷ rest))) rest items.old items.new n) }
+{
+    match token {
+        Token::String(text) => Ok(items.text(text)?),
+        Token::Number(text) => match integer(text) {
+            Some(value) => Ok(items.integer(value)?),
+            None => Err(Stop::Unusual),
+        },
+        Token::Bool(value) => Ok(items.boolean(value)?),
+        Token::Null => Ok(items.null()?),
+        Token::BeginObject
+        | Token::BeginArray
+        | Token::EndObject
+        | Token::EndArray
+        | Token::Key(_)
+        | Token::Bad => Err(Stop::Unusual),
     }
 }
 

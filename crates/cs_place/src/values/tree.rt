@@ -35,34 +35,56 @@ pub(super) struct Tree<'a> {
     numbers: Vec<usize>,
 }
 
+/// From the number of a value, a step from it; and the number that this leads to.
+type Steps<'a> = BTreeMap<(Option<usize>, Step<'a>), usize>;
+
+/// The number of each path. The steps of all of them come into the map, and by number, what each leads from.
+fn numbers_of<'a>(
+    alloc: Global,
+    paths: &[ValuePath<'a>],
+    steps: &mut Steps<'a>,
+    parents: &mut Vec<Option<usize>>,
+) -> Result<Vec<usize>, AllocError>
+    ensures { IfOk result (λ v. vec_len v ≡ length paths.now) }
+{
+    let mut numbers = Vec::with_capacity(alloc, paths.len())?;
+    parents.push(None)?;
+    for path in paths {
+        let from = parent_number(path, numbers.as_slice());
+        let known = steps.get(&(from, path.step)).copied();
+        let number = known.unwrap_or(parents.len());
+        if known.is_none() {
+            let _ = steps.insert((from, path.step), number)?;
+            parents.push(from)?;
+        }
+        numbers.push(number)?;
+    }
+    Ok(numbers)
+}
+
+/// The steps that lead from values, in their order.
+fn children_of<'a>(alloc: Global, steps: &Steps<'a>) -> Result<Vec<Child<'a>>, AllocError> {
+    let mut children = Vec::with_capacity(alloc, steps.len())?;
+    for ((from, step), number) in steps {
+        if let Some(from) = from {
+            children.push(Child {
+                from: *from,
+                step: *step,
+                number: *number,
+            })?;
+        }
+    }
+    Ok(children)
+}
+
 impl<'a> Tree<'a> {
     pub(super) fn new(alloc: Global, paths: &[ValuePath<'a>]) -> Result<Self, AllocError>
         ensures { IfOk result (λ t. vec_len t.numbers ≡ length paths.now) }
     {
-        let mut parents = Vec::new(alloc);
-        parents.push(None)?;
-        let mut numbers = Vec::with_capacity(alloc, paths.len())?;
         let mut steps = BTreeMap::new(alloc);
-        for path in paths {
-            let from = parent_number(path, numbers.as_slice());
-            let known = steps.get(&(from, path.step)).copied();
-            let number = known.unwrap_or(parents.len());
-            if known.is_none() {
-                let _ = steps.insert((from, path.step), number)?;
-                parents.push(from)?;
-            }
-            numbers.push(number)?;
-        }
-        let mut children = Vec::with_capacity(alloc, steps.len())?;
-        for ((from, step), number) in &steps {
-            if let Some(from) = from {
-                children.push(Child {
-                    from: *from,
-                    step: *step,
-                    number: *number,
-                })?;
-            }
-        }
+        let mut parents = Vec::new(alloc);
+        let numbers = numbers_of(alloc, paths, &mut steps, &mut parents)?;
+        let children = children_of(alloc, &steps)?;
         Ok(Tree {
             children,
             parents,

@@ -1,59 +1,18 @@
-use Rattle.std.proofs.Common.{◌≡◌, ℕ, ◌-◌, ◌<◌, [], ◌∷◌, ◌++◌, map, drop, length, Some, None, IfOk, option_map, FitsSigned, w64, to_z, of_z, refl, sym, ap, ◌∙◌, subst, arith, rules}
+use Rattle.std.proofs.Common.{◌≡◌, ℕ, ◌-◌, ◌<◌, [], ◌∷◌, ◌++◌, map, drop, length, Some, None, IfOk, refl, sym, ap, ◌∙◌, subst, arith}
 use Rattle.std.specs.List.{AllByRecursion as Each}
-use Rattle.json.specs.Token.{Token}
 use Rattle.json.specs.Json.{after_end_array, read_key, items, members, value}
 use Rattle.json.specs.Reads.{token_of}
-use Rattle.json.proofs.Grammar.{value_is, value-begin_array, value-begin_object, read_key-shorter}
-use Rattle.serde_json.specs.Data as json_value
+use Rattle.json.proofs.Grammar.{value-begin_array, value-begin_object, read_key-shorter}
 use Rattle.serde_json.specs.Data.{no_members}
-use Rattle.serde_json.specs.Read.{number_of, of_json, of_items, of_members, converted}
-use Rattle.cs_document.specs.Document.{Entry, null, boolean, integer, text}
-use Rattle.cs_document.specs.Opened.{a_null, a_boolean, an_integer, a_text, a_list, an_object}
+use Rattle.serde_json.specs.Read.{of_json, of_items, of_members, converted}
+use Rattle.cs_document.specs.Document.{Entry}
+use Rattle.cs_document.specs.Opened.{a_list, an_object}
 use Rattle.cs_flat.specs.View.{entry_of}
 use Rattle.cs_doc.specs.Listings.{AddsRead}
-use Rattle.cs_doc.proofs.Integers.{number_in}
 use Rattle.cs_doc.proofs.Reading.{converted-array, converted-object}
-use Rattle.cs_doc.proofs.Turns.{ElementsRead, ElementsRead-none, ElementsRead-more, ElementsRead-end, MembersRead, MembersRead-none, MembersRead-more, MembersRead-below, MembersRead-end, AddsRead-at, AddsRead-one, whole_tail}
+use Rattle.cs_doc.proofs.Turns.{ElementsRead, ElementsRead-none, ElementsRead-more, ElementsRead-end, MembersRead, MembersRead-none, MembersRead-more, MembersRead-below, MembersRead-end, AddsRead-at, whole_tail}
 use Rattle.cs_doc.proofs.Entries.{Pair}
 use Rattle.cs_doc.proofs.listing.Listing.+read.Goals as goal
-
--- ---- values that hold none
-
-pub read-returns-in_ok-text-in-String-clause-read : goal.read-returns-in_ok-text-in-String-clause-read
-read-returns-in_ok-text-in-String-clause-read t c =
-    let s = c.in-String.text.now in
-    let first : c.args.self.now.reader ≡ token_of c.in_ok-token.token ∷ c.next.new.self = grind arith in
-    let is : c.args.self.now.reader ≡ Token.string s ∷ c.next.new.self = grind (arith, first) in
-    AddsRead-one _ _ c.args.self.now.items _ _ (a_text s) (json_value.string s) (text s) tt tt tt refl refl refl (ap (converted of_json) (ap (value c.args.depth) is ∙ value_is c.args.depth _)) refl
-    c.in_ok-text-in-String.ensures
-
-pub read-returns-in_ok-integer-in-Some-clause-read : goal.read-returns-in_ok-integer-in-Some-clause-read
-read-returns-in_ok-integer-in-Some-clause-read t c =
-    let first : c.args.self.now.reader ≡ token_of c.in_ok-token.token ∷ c.next.new.self = grind arith in
-    let is : c.args.self.now.reader ≡ Token.number c.in-Number.text.now ∷ c.next.new.self = grind (arith, first) in
-    let z = c.in-Some.value in
-    let back : to_z w64 (of_z w64 z) ≡ z = search rules in
-    let fits : FitsSigned w64 z = search rules in
-    let n = number_in (number_of c.in-Number.text.now) z c.in-Some.ensures in
-    let pushed = c.in_ok-integer-in-Some.ensures in
-    AddsRead-one _ _ c.args.self.now.items _ _ (an_integer z) (json_value.number n.0) (integer z) tt tt fits refl refl refl
-    (ap (converted of_json) (ap (value c.args.depth) is ∙ value_is c.args.depth _) ∙ ap (λ o. option_map (λ d. (d, c.next.new.self)) (option_map json_value.number o)) n.1)
-    (ap (option_map integer) n.2) (pushed.0, pushed.1 ∙ ap (λ i. c.args.self.now.items ++ an_integer i ∷ []) back)
-
-pub read-returns-in_ok-boolean-in-Bool-clause-read : goal.read-returns-in_ok-boolean-in-Bool-clause-read
-read-returns-in_ok-boolean-in-Bool-clause-read t c =
-    let b = c.in-Bool.value in
-    let first : c.args.self.now.reader ≡ token_of c.in_ok-token.token ∷ c.next.new.self = grind arith in
-    let is : c.args.self.now.reader ≡ Token.boolean b ∷ c.next.new.self = grind (arith, first) in
-    AddsRead-one _ _ c.args.self.now.items _ _ (a_boolean b) (json_value.boolean b) (boolean b) tt tt tt refl refl refl (ap (converted of_json) (ap (value c.args.depth) is ∙ value_is c.args.depth _)) refl
-    c.in_ok-boolean-in-Bool.ensures
-
-pub read-returns-in_ok-null-in-Null-clause-read : goal.read-returns-in_ok-null-in-Null-clause-read
-read-returns-in_ok-null-in-Null-clause-read t c =
-    let first : c.args.self.now.reader ≡ token_of c.in_ok-token.token ∷ c.next.new.self = grind arith in
-    let is : c.args.self.now.reader ≡ Token.null ∷ c.next.new.self = grind (arith, first) in
-    AddsRead-one _ _ c.args.self.now.items _ _ a_null json_value.null null tt tt tt refl refl refl (ap (converted of_json) (ap (value c.args.depth) is ∙ value_is c.args.depth _)) refl
-    c.in_ok-null-in-Null.ensures
 
 -- ---- lists and maps
 
