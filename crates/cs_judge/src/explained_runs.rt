@@ -12,33 +12,9 @@ use crate::text_judge::TextJudge;
 use crate::why::Why;
 use cs_place::Named;
 use cs_report::Form;
-use cs_tool::{Fault, MEMBER_ROOM, Rules, put, put_error, write_part, write_text};
+use cs_tool::{Fault, MEMBER_ROOM, put, put_error, write_part, write_text};
 use std::alloc::{AllocError, Global};
 use std::io::Write;
-
-/// The sources of the rules with their names, in their order; none for a schema. A source without a name is `-`.
-pub fn named_sources<'a>(
-    alloc: Global,
-    rules: &'a Rules,
-    names: &[&'a str],
-) -> Result<Vec<Named<'a>>, AllocError> {
-    let mut named = Vec::new(alloc);
-    match rules {
-        Rules::Schema { .. } => {}
-        Rules::Root { sources, .. } | Rules::Both { sources, .. } => {
-            for (place, source) in sources.iter().enumerate() {
-                let name = names.get(place).copied().unwrap_or("-");
-                let text = source.as_slice();
-                named.push(Named {
-                    name,
-                    text,
-                    line: 1,
-                })?;
-            }
-        }
-    }
-    Ok(named)
-}
 
 /// Judges the document, writes what [`TextJudge::explain`] tells of it, and flushes.
 ///

@@ -20,7 +20,7 @@ pub use cs_place::Named;
 pub use cs_reasons::Telling;
 pub use cs_report::Form;
 pub use explained_lines::explain_lines;
-pub use explained_runs::{named_sources, run_explained, write_explained, write_unexplained};
+pub use explained_runs::{run_explained, write_explained, write_unexplained};
 pub use lines::run_lines;
 pub use text_judge::{Prepared, TextJudge, prepare};
 pub use why::Why;

@@ -1,38 +1,18 @@
 // The program: its words, the files that they name, the standard streams and the exit status.
 #![tactic(auto)]
 
-mod checked;
-mod compared;
-mod explained;
-mod exported;
-mod files;
-mod listed;
-mod many;
-mod reasons;
-mod refused;
-mod replaced;
-mod requests;
-mod sampled;
-mod sides;
-mod unread;
-
-use checked::answer_of_sources;
 use clap::ArgMatches;
 use clap::error::ErrorKind;
-use cs_tool::{Fault, Request, command, run, write_fault};
-use explained::answer_with_reasons;
-use exported::{export_shaped, is_shaped};
-use many::answer_many;
-use reasons::{are_at_odds, reasons_of};
-use refused::export_or_tell;
-use requests::{Asked, asked_by};
+use cs_run_export::{export_or_tell, export_shaped, is_shaped};
+use cs_run_input::{are_at_odds, reasons_of};
+use cs_run_judge::{answer as answer_request, answer_with_reasons};
+use cs_run_questions::answer_of_sources;
+use cs_tool::{Fault, command, write_fault};
 use std::alloc::Global;
 use std::env::Args;
 use std::io;
 use std::process::ExitCode;
 
-/// The status of `invalid`.
-const INVALID: u8 = 1;
 /// The status of a faulty command line.
 const COMMAND_LINE: u8 = 3;
 
@@ -83,11 +63,7 @@ fn answered(rt: &HostRuntime, matches: &ArgMatches<'_>) -> Result<u8, Fault> {
             return Ok(answer_with_reasons(rt, command, words, reasons)?.unwrap_or(COMMAND_LINE));
         }
     }
-    match asked_by(rt, matches)? {
-        Some(Asked::Once(request)) => judged(rt, request),
-        Some(Asked::Many(rules, documents)) => answer_many(rt, &rules, documents),
-        None => Ok(COMMAND_LINE),
-    }
+    Ok(answer_request(rt, matches)?.unwrap_or(COMMAND_LINE))
 }
 
 /// The words of the process. `collect` would ask for the room of all of them first, and go on where that is refused.
@@ -123,10 +99,4 @@ fn unread_words(rt: &HostRuntime, error: &io::Error) -> Result<u8, Fault> {
     }
     let _ = eprintln!(rt; "error: an argument is not UTF-8");
     Ok(COMMAND_LINE)
-}
-
-/// Runs the request over the standard streams: 0, or 1 for `invalid`.
-fn judged(rt: &HostRuntime, request: Request) -> Result<u8, Fault> {
-    let truth = run(rt.alloc(), request, &mut rt.stdin(), &mut rt.stdout())?;
-    Ok(if truth { 0 } else { INVALID })
 }

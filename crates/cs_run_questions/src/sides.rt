@@ -1,11 +1,11 @@
 // The two editions of a definition that are compared, and what is told where one of them is refused.
-use crate::reasons::Reasons;
-use crate::refused::{about_input, print};
-use crate::unread::{Unread, sizes_among, unread_among};
 use clap::ArgMatches;
 use cs_compare::{CompareRefusal, Side};
-use cs_judge::{Form, Named};
+use cs_place::Named;
 use cs_refusals::{About, why_refused, write_refusal_json};
+use cs_report::Form;
+use cs_run_input::{Reasons, Unread, print, sizes_among, unread_among};
+use cs_run_refusals::about_input;
 use cs_tool::{Fault, Rules, write_fault, write_fault_json};
 use std::alloc::Global;
 use std::io::Write;

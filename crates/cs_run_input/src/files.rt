@@ -3,7 +3,7 @@ use cs_tool::{Fault, MOST_BYTES, MOST_INPUT_BYTES, read_up_to};
 use std::fs::File;
 
 /// The bytes of the sources, in the order of their paths. `SourcesTooLong` as soon as they are too long together.
-pub(crate) fn read_sources(rt: &HostRuntime, paths: &[&str]) -> Result<Vec<Vec<u8>>, Fault> {
+pub fn read_sources(rt: &HostRuntime, paths: &[&str]) -> Result<Vec<Vec<u8>>, Fault> {
     let mut sources = Vec::new(rt.alloc());
     let mut room = MOST_BYTES;
     for path in paths {
@@ -17,7 +17,7 @@ pub(crate) fn read_sources(rt: &HostRuntime, paths: &[&str]) -> Result<Vec<Vec<u
 }
 
 /// The bytes of a schema or a document.
-pub(crate) fn read_input(rt: &HostRuntime, path: &str) -> Result<Vec<u8>, Fault> {
+pub fn read_input(rt: &HostRuntime, path: &str) -> Result<Vec<u8>, Fault> {
     match read_file(rt, path, MOST_INPUT_BYTES)? {
         Some(bytes) => Ok(bytes),
         None => Err(Fault::InputTooLong),
@@ -33,7 +33,7 @@ fn read_file(rt: &HostRuntime, path: &str, limit: usize) -> Result<Option<Vec<u8
 }
 
 /// The bytes of standard input, as the one source.
-pub(crate) fn read_source(rt: &HostRuntime) -> Result<Vec<u8>, Fault> {
+pub fn read_source(rt: &HostRuntime) -> Result<Vec<u8>, Fault> {
     match read_up_to(rt.alloc(), &mut rt.stdin(), MOST_BYTES)? {
         Some(source) => Ok(source),
         None => Err(Fault::SourcesTooLong),
@@ -41,7 +41,7 @@ pub(crate) fn read_source(rt: &HostRuntime) -> Result<Vec<u8>, Fault> {
 }
 
 /// The bytes of standard input, as the document.
-pub(crate) fn read_document(rt: &HostRuntime) -> Result<Vec<u8>, Fault> {
+pub fn read_document(rt: &HostRuntime) -> Result<Vec<u8>, Fault> {
     match read_up_to(rt.alloc(), &mut rt.stdin(), MOST_INPUT_BYTES)? {
         Some(text) => Ok(text),
         None => Err(Fault::InputTooLong),

@@ -1,14 +1,19 @@
 // The command that writes schemas.
-use crate::refused::print;
+#![tactic(auto)]
+
+mod replaced;
+
 use crate::replaced::replace_file;
-use crate::requests::sources_of;
 use clap::ArgMatches;
 use cs_export::{Layout, export_all, export_root};
-use cs_tool::{Fault, slices_of};
+use cs_report::Form;
+use cs_run_input::{named_sources, names_of, print, root_of, sources_of, texts_of, word_of};
+use cs_run_refusals::{about_rules, or_told, tell_unread};
+use cs_tool::{Fault, Rules, slices_of};
 use std::alloc::Global;
 
 /// Whether the words ask for more than the schema of a root on standard output.
-pub(crate) fn is_shaped(words: &ArgMatches<'_>) -> bool {
+pub fn is_shaped(words: &ArgMatches<'_>) -> bool {
     let layout = layout_of(words);
     layout.is_described
         || layout.is_openapi
@@ -27,17 +32,13 @@ fn layout_of(words: &ArgMatches<'_>) -> Layout {
 }
 
 /// The status of an export as the words ask for it.
-pub(crate) fn export_shaped(rt: &HostRuntime, words: &ArgMatches<'_>) -> Result<u8, Fault> {
+pub fn export_shaped(rt: &HostRuntime, words: &ArgMatches<'_>) -> Result<u8, Fault> {
     let sources = sources_of(rt, words)?;
     write_schema(rt, words, &slices_of(rt.alloc(), &sources)?)
 }
 
 /// Writes the schema of these sources as the words ask for it. Nothing is written, and no file is made, before it is whole.
-pub(crate) fn write_schema(
-    rt: &HostRuntime,
-    words: &ArgMatches<'_>,
-    sources: &[&[u8]],
-) -> Result<u8, Fault> {
+fn write_schema(rt: &HostRuntime, words: &ArgMatches<'_>, sources: &[&[u8]]) -> Result<u8, Fault> {
     let mut schema = schema_of(rt.alloc(), words, sources)?;
     schema.push(b'\n')?;
     match words.get_str("output") {
@@ -54,4 +55,23 @@ fn schema_of(alloc: Global, words: &ArgMatches<'_>, sources: &[&[u8]]) -> Result
         Some(root) => export_root(alloc, sources, root, layout),
         None => export_all(alloc, sources, layout),
     }
+}
+
+/// The status of `export --why`.
+pub fn export_or_tell(rt: &HostRuntime, words: &ArgMatches<'_>) -> Result<u8, Fault> {
+    match exported(rt, words) {
+        Err(fault) => tell_unread(rt, Form::Lines, &fault, words),
+        status => status,
+    }
+}
+
+/// The status of an export whose refusals are told, those of its input aside.
+fn exported(rt: &HostRuntime, words: &ArgMatches<'_>) -> Result<u8, Fault> {
+    let root = root_of(rt.alloc(), words)?;
+    let sources = sources_of(rt, words)?;
+    let rules = Rules::Root { sources, root };
+    let named = named_sources(rt.alloc(), &rules, names_of(words))?;
+    let about = about_rules(&rules, &named, word_of(words, "root"), "");
+    let answer = write_schema(rt, words, &texts_of(rt.alloc(), about.sources)?);
+    or_told(rt, Form::Lines, about, words, answer)
 }

@@ -1,8 +1,7 @@
 // From the words of a command to what is asked. Sources, or a schema, are read before a document.
-use crate::files::{read_input, read_source, read_sources};
 use clap::ArgMatches;
+use cs_run_input::{Documents, documents_of, files_of, read_input, root_of, sources_of, word_of};
 use cs_tool::{Fault, Request, Rules};
-use std::alloc::Global;
 
 /// What the words of a command ask for.
 #[derive(Drop)]
@@ -11,15 +10,6 @@ pub(crate) enum Asked<'m, 'w> {
     Once(Request),
     /// Each of these documents, judged by the same rules.
     Many(Rules, Documents<'m, 'w>),
-}
-
-/// Documents that are judged one after another.
-#[derive(Drop)]
-pub(crate) enum Documents<'m, 'w> {
-    /// The lines of the file, or of standard input where there is none.
-    Lines(Option<&'w str>),
-    /// The files.
-    Files(&'m [&'w str]),
 }
 
 /// What a command asks for; `None` for no command, which `clap` refuses before.
@@ -77,38 +67,4 @@ fn agree<'m, 'w>(rt: &HostRuntime, words: &'m ArgMatches<'w>) -> Result<Asked<'m
     let files = files_of(rt, words)?;
     let doc = read_input(rt, word_of(words, "doc"))?;
     Ok(Asked::Once(Request::Agree { files, root, doc }))
-}
-
-/// The documents of `--lines` or `--docs`, where one of these words is there.
-pub(crate) fn documents_of<'m, 'w>(words: &'m ArgMatches<'w>) -> Option<Documents<'m, 'w>> {
-    if words.get_flag("lines") {
-        return Some(Documents::Lines(words.get_str("doc")));
-    }
-    words.get_strs("docs").map(Documents::Files)
-}
-
-/// The sources that are named, or standard input as the one source where none is.
-pub(crate) fn sources_of(rt: &HostRuntime, words: &ArgMatches<'_>) -> Result<Vec<Vec<u8>>, Fault> {
-    match words.get_strs("FILE") {
-        Some(paths) => read_sources(rt, paths),
-        None => Ok(vec![in rt.alloc(); read_source(rt)?]?),
-    }
-}
-
-/// The sources that are named.
-fn files_of(rt: &HostRuntime, words: &ArgMatches<'_>) -> Result<Vec<Vec<u8>>, Fault> {
-    match words.get_strs("FILE") {
-        Some(paths) => read_sources(rt, paths),
-        None => Ok(Vec::new(rt.alloc())),
-    }
-}
-
-/// The word after `--root`, as it is.
-pub(crate) fn root_of(alloc: Global, words: &ArgMatches<'_>) -> Result<String, Fault> {
-    Ok(String::from_str(alloc, word_of(words, "root"))?)
-}
-
-/// The value of an option that `clap` asks for.
-pub(crate) fn word_of<'a>(words: &ArgMatches<'a>, name: &str) -> &'a str {
-    words.get_str(name).unwrap_or("")
 }

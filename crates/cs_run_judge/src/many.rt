@@ -1,8 +1,7 @@
 // Many documents by the same rules, with a line for each.
 use crate::INVALID;
-use crate::files::read_input;
-use crate::requests::Documents;
 use cs_judge::{LinesOutcome, TextJudge, prepare, run_lines, write_answer, write_unread};
+use cs_run_input::{Documents, read_input};
 use cs_tool::{Fault, Rules};
 use std::fs::File;
 

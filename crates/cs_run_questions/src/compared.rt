@@ -1,15 +1,14 @@
 // The command that compares two editions of a definition.
 use crate::INVALID;
-use crate::files::read_sources;
-use crate::reasons::{Reasons, reasons_of};
-use crate::refused::{print, texts_of};
-use crate::requests::word_of;
 use crate::sides::{Edition, paths_of, tell_alone, tell_refused, tell_unread_side};
 use clap::ArgMatches;
 use cs_compare::{CompareRefusal, Comparison, Side, compare as compare_sources};
 use cs_doc::write_doc;
 use cs_document::Doc;
-use cs_judge::{Form, Named, named_sources, prepare};
+use cs_judge::{Why, prepare};
+use cs_place::Named;
+use cs_report::Form;
+use cs_run_input::{Reasons, named_sources, print, read_sources, reasons_of, texts_of, word_of};
 use cs_tool::{Fault, Rules};
 use std::alloc::{AllocError, Global};
 
@@ -203,7 +202,12 @@ fn explain(
     };
     let prepared = prepare(alloc, to.rules)?;
     let mut judge = prepared.judge(alloc)?;
-    judge.explain(document, reasons.by(to.sources), told)?;
+    let why = Why {
+        sources: to.sources,
+        form: reasons.form,
+        telling: reasons.telling,
+    };
+    judge.explain(document, why, told)?;
     Ok(())
 }
 

@@ -7,15 +7,15 @@ use std::io::ErrorKind;
 
 /// A file that wasn't read, as far as it is known.
 #[derive(Clone, Copy)]
-pub(crate) struct Unread<'a> {
-    pub(crate) path: Option<&'a str>,
+pub struct Unread<'a> {
+    pub path: Option<&'a str>,
     /// Why, in words; empty where it isn't known.
-    pub(crate) cause: &'a str,
+    pub cause: &'a str,
 }
 
 impl<'a> Unread<'a> {
     /// No file.
-    pub(crate) fn nothing() -> Unread<'a> {
+    pub fn nothing() -> Unread<'a> {
         Unread {
             path: None,
             cause: "",
@@ -25,11 +25,7 @@ impl<'a> Unread<'a> {
 
 /// The file that a fault of reading is about: the first one, in the order in which files are read, that can't be read or is too
 /// long. Nothing for other faults, and where it isn't found again. A pipe isn't opened again, since that may wait.
-pub(crate) fn unread_file<'a>(
-    rt: &HostRuntime,
-    fault: &Fault,
-    words: &ArgMatches<'a>,
-) -> Unread<'a> {
+pub fn unread_file<'a>(rt: &HostRuntime, fault: &Fault, words: &ArgMatches<'a>) -> Unread<'a> {
     let schema = words.get_str("schema");
     if let Some(found) = schema.and_then(|path| at_fault(rt, fault, path)) {
         return found;
@@ -43,7 +39,7 @@ pub(crate) fn unread_file<'a>(
 }
 
 /// The same, where these are all files.
-pub(crate) fn unread_among<'a>(rt: &HostRuntime, fault: &Fault, paths: &[&'a str]) -> Unread<'a> {
+pub fn unread_among<'a>(rt: &HostRuntime, fault: &Fault, paths: &[&'a str]) -> Unread<'a> {
     first_at_fault(rt, fault, paths).unwrap_or(Unread::nothing())
 }
 
@@ -93,7 +89,7 @@ fn said_of(kind: ErrorKind) -> &'static str {
 }
 
 /// The sources with their bytes, where they are too long together, or the file that is too long; none that isn't a regular file.
-pub(crate) fn sizes_of<'a>(
+pub fn sizes_of<'a>(
     rt: &HostRuntime,
     fault: &Fault,
     unread: Unread<'a>,
@@ -103,7 +99,7 @@ pub(crate) fn sizes_of<'a>(
 }
 
 /// The same, where these are the sources.
-pub(crate) fn sizes_among<'a>(
+pub fn sizes_among<'a>(
     rt: &HostRuntime,
     fault: &Fault,
     unread: Unread<'a>,

@@ -1,26 +1,25 @@
 // Answers with their reasons.
 use crate::INVALID;
-use crate::files::{read_document, read_input, read_source, read_sources};
 use crate::many::{UNREAD, status_of};
-use crate::reasons::Reasons;
-use crate::refused::{about_rules, or_told, tell_unread};
-use crate::requests::{Documents, documents_of, root_of, sources_of, word_of};
 use clap::ArgMatches;
 use cs_judge::{
-    Form, LinesOutcome, Named, TextJudge, Why, explain_lines, named_sources, prepare,
-    run_explained, write_explained, write_unexplained,
+    LinesOutcome, TextJudge, Why, explain_lines, prepare, run_explained, write_explained,
+    write_unexplained,
 };
+use cs_place::Named;
 use cs_refusals::About;
+use cs_report::Form;
+use cs_run_input::{
+    Documents, Reasons, STANDARD_INPUT, documents_of, named_sources, names_of, read_document,
+    read_input, read_source, read_sources, root_of, sources_of, word_of,
+};
+use cs_run_refusals::{about_rules, or_told, tell_unread};
 use cs_tool::{Fault, Rules};
-use std::alloc::{AllocError, Global};
 use std::fs::File;
 use std::io::{Read, sink};
 
-/// The name of standard input.
-pub(crate) const STANDARD_INPUT: &str = "-";
-
 /// The status of a command that asks for reasons; `None` for one that has none. A refusal is told as the reasons would be.
-pub(crate) fn answer_with_reasons(
+pub fn answer_with_reasons(
     rt: &HostRuntime,
     command: &str,
     words: &ArgMatches<'_>,
@@ -30,37 +29,6 @@ pub(crate) fn answer_with_reasons(
         Err(fault) => tell_unread(rt, reasons.form, &fault, words).map(Some),
         answer => answer,
     }
-}
-
-/// The names of the sources.
-pub(crate) fn names_of(alloc: Global, words: &ArgMatches<'_>) -> Result<Vec<String>, AllocError> {
-    let mut names = Vec::new(alloc);
-    match words.get_strs("FILE") {
-        Some(paths) => {
-            for path in paths {
-                let name = String::from_str(alloc, path)?;
-                names.push(name)?;
-            }
-        }
-        None => {
-            let name = String::from_str(alloc, STANDARD_INPUT)?;
-            names.push(name)?;
-        }
-    }
-    Ok(names)
-}
-
-/// The sources of the rules with their names.
-pub(crate) fn sources_by_name<'a>(
-    alloc: Global,
-    rules: &'a Rules,
-    names: &'a [String],
-) -> Result<Vec<Named<'a>>, AllocError> {
-    let mut slices: Vec<&'a str> = Vec::with_capacity(alloc, names.len())?;
-    for name in names {
-        slices.push(name.as_str())?;
-    }
-    named_sources(alloc, rules, &slices)
 }
 
 fn answered(
@@ -149,6 +117,15 @@ fn sources_and_document(
     Ok((vec![in rt.alloc(); source]?, text))
 }
 
+/// How documents are explained by rules that were read from these sources.
+fn why_of<'a>(reasons: Reasons, sources: &'a [Named<'a>]) -> Why<'a> {
+    Why {
+        sources,
+        form: reasons.form,
+        telling: reasons.telling,
+    }
+}
+
 /// The status after one document.
 fn explain_once(
     rt: &HostRuntime,
@@ -157,8 +134,7 @@ fn explain_once(
     words: &ArgMatches<'_>,
     reasons: Reasons,
 ) -> Result<u8, Fault> {
-    let names = names_of(rt.alloc(), words)?;
-    let sources = sources_by_name(rt.alloc(), &rules, &names)?;
+    let sources = named_sources(rt.alloc(), &rules, names_of(words))?;
     let document = Named {
         name: words.get_str("doc").unwrap_or(STANDARD_INPUT),
         text: &text,
@@ -173,7 +149,7 @@ fn explain_once(
             word_of(words, "schema"),
         )
     };
-    let answer = explain_document(rt, &rules, document, reasons.by(&sources));
+    let answer = explain_document(rt, &rules, document, why_of(reasons, &sources));
     or_told(rt, reasons.form, about, words, answer)
 }
 
@@ -198,9 +174,8 @@ fn explain_many(
     reasons: Reasons,
     documents: Documents<'_, '_>,
 ) -> Result<u8, Fault> {
-    let names = names_of(rt.alloc(), words)?;
-    let sources = sources_by_name(rt.alloc(), &rules, &names)?;
-    let why = reasons.by(&sources);
+    let sources = named_sources(rt.alloc(), &rules, names_of(words))?;
+    let why = why_of(reasons, &sources);
     let answer = match documents {
         Documents::Lines(path) => explain_input(rt, &rules, why, path),
         Documents::Files(paths) => explain_files(rt, &rules, why, paths),

@@ -1,14 +1,11 @@
 // The command that lists definitions.
-use crate::checked::named;
-use crate::explained::names_of;
-use crate::reasons::reasons_of;
-use crate::refused::{about_input, or_told, print, tell_unread};
-use crate::requests::sources_of;
-use crate::unread::Unread;
 use clap::ArgMatches;
-use cs_judge::{Form, Named};
 use cs_listing::{put_listing, put_listing_json};
+use cs_place::Named;
 use cs_refusals::About;
+use cs_report::Form;
+use cs_run_input::{Unread, named, names_of, print, reasons_of, sources_of};
+use cs_run_refusals::{about_input, or_told, tell_unread};
 use cs_tool::{Fault, accepted_package, slices_of};
 
 /// The status of `list`: a refusal is told as the words ask for it.
@@ -37,8 +34,7 @@ fn listed(
     is_told: bool,
 ) -> Result<u8, Fault> {
     let sources = sources_of(rt, words)?;
-    let names = names_of(rt.alloc(), words)?;
-    let named = named(rt.alloc(), &names, &sources)?;
+    let named = named(rt.alloc(), names_of(words), &sources)?;
     let answer = write_listing(rt, &sources, &named, form);
     if is_told {
         let about = About {

@@ -1,30 +1,20 @@
 // What the words say of reasons.
 use clap::ArgMatches;
-use cs_judge::{Form, Named, Telling, Why};
+use cs_reasons::Telling;
+use cs_report::Form;
 
 /// How many reasons are told at most where the words don't say.
 const MOST_REASONS: usize = 20;
 
 /// How reasons are asked for.
 #[derive(Clone, Copy)]
-pub(crate) struct Reasons {
-    pub(crate) form: Form,
-    pub(crate) telling: Telling,
-}
-
-impl Reasons {
-    /// The same, with the sources that rules were read from.
-    pub(crate) fn by<'a>(self, sources: &'a [Named<'a>]) -> Why<'a> {
-        Why {
-            sources,
-            form: self.form,
-            telling: self.telling,
-        }
-    }
+pub struct Reasons {
+    pub form: Form,
+    pub telling: Telling,
 }
 
 /// How the words ask for reasons; `None` where they don't.
-pub(crate) fn reasons_of(words: &ArgMatches<'_>) -> Option<Reasons> {
+pub fn reasons_of(words: &ArgMatches<'_>) -> Option<Reasons> {
     let form = match words.get_str("format") {
         Some("json") => Form::Json,
         Some("flag") => Form::Flag,
@@ -42,6 +32,6 @@ pub(crate) fn reasons_of(words: &ArgMatches<'_>) -> Option<Reasons> {
 }
 
 /// Whether the words ask for reasons in two ways: in lines, of the closest alternatives, and in a format.
-pub(crate) fn are_at_odds(words: &ArgMatches<'_>) -> bool {
+pub fn are_at_odds(words: &ArgMatches<'_>) -> bool {
     words.contains_id("format") && words.get_str("why") == Some("closest")
 }

@@ -1,26 +1,32 @@
 // The commands that judge no given document. `check` and `explain` speak of sources and refusals alone.
-use crate::COMMAND_LINE;
+#![tactic(auto)]
+
+mod compared;
+mod listed;
+mod sampled;
+mod sides;
+
 use crate::compared::compare;
-use crate::explained::{STANDARD_INPUT, names_of};
-use crate::files::read_input;
 use crate::listed::list;
-use crate::refused::print;
-use crate::requests::sources_of;
 use crate::sampled::write_samples;
 use clap::ArgMatches;
 use cs_findings::{Checked, write_findings, write_schema_findings};
-use cs_judge::Named;
+use cs_place::Named;
 use cs_refusals::explained;
+use cs_run_input::{named, names_of, print, read_input, sources_of};
 use cs_tool::{Fault, slices_of};
-use std::alloc::{AllocError, Global};
 
+/// The status of `breaking`, and of no sample.
+const INVALID: u8 = 1;
+/// The status of a faulty command line.
+const COMMAND_LINE: u8 = 3;
 /// The status of warnings alone, where they count.
 const WARNED: u8 = 1;
 /// The status of faults.
 const FAULTY: u8 = 2;
 
 /// The status of a command that judges no given document; `None` for every other one.
-pub(crate) fn answer_of_sources(
+pub fn answer_of_sources(
     rt: &HostRuntime,
     command: &str,
     words: &ArgMatches<'_>,
@@ -33,28 +39,6 @@ pub(crate) fn answer_of_sources(
         "samples" => write_samples(rt, words).map(Some),
         _ => Ok(None),
     }
-}
-
-/// The sources with their names.
-pub(crate) fn named<'a>(
-    alloc: Global,
-    names: &'a [String],
-    sources: &'a [Vec<u8>],
-) -> Result<Vec<Named<'a>>, AllocError> {
-    let mut named = Vec::with_capacity(alloc, sources.len())?;
-    for (place, source) in sources.iter().enumerate() {
-        let name = match names.get(place) {
-            Some(name) => name.as_str(),
-            None => STANDARD_INPUT,
-        };
-        let text = source.as_slice();
-        named.push(Named {
-            name,
-            text,
-            line: 1,
-        })?;
-    }
-    Ok(named)
 }
 
 /// The status of what was found, where warnings count and where they don't.
@@ -73,8 +57,7 @@ fn check(rt: &HostRuntime, words: &ArgMatches<'_>) -> Result<u8, Fault> {
         return check_schema(rt, path);
     }
     let sources = sources_of(rt, words)?;
-    let names = names_of(rt.alloc(), words)?;
-    let named = named(rt.alloc(), &names, &sources)?;
+    let named = named(rt.alloc(), names_of(words), &sources)?;
     let texts = slices_of(rt.alloc(), &sources)?;
     let root = words.get_str("root");
     let checked = write_findings(rt.alloc(), &texts, &named, root, &mut rt.stdout())?;

@@ -1,20 +1,16 @@
-// Refusals with what they mean.
-use crate::explained::{STANDARD_INPUT, names_of, sources_by_name};
-use crate::exported::write_schema;
-use crate::requests::{root_of, sources_of, word_of};
-use crate::unread::{Unread, sizes_of, unread_file};
+// Refusals of commands, told as their words ask for it.
+#![tactic(auto)]
+
 use clap::ArgMatches;
-use cs_judge::{Form, Named};
+use cs_place::Named;
 use cs_refusals::{About, why_refused, write_refusal_json};
+use cs_report::Form;
+use cs_run_input::{Unread, names_of, sizes_of, unread_file};
 use cs_tool::{Fault, Rules, write_fault, write_fault_json};
-use std::alloc::{AllocError, Global};
 use std::io::Write;
 
-/// The names of the sources where none is given.
-const UNNAMED: &[&str] = &[STANDARD_INPUT];
-
 /// What is known of a call whose input wasn't read.
-pub(crate) fn about_input<'a>(unread: Unread<'a>, sizes: &'a [(&'a str, u64)]) -> About<'a> {
+pub fn about_input<'a>(unread: Unread<'a>, sizes: &'a [(&'a str, u64)]) -> About<'a> {
     About {
         sources: &[],
         root: "",
@@ -27,7 +23,7 @@ pub(crate) fn about_input<'a>(unread: Unread<'a>, sizes: &'a [(&'a str, u64)]) -
 }
 
 /// What is known of a call by its rules, with the root and the path of the schema.
-pub(crate) fn about_rules<'a>(
+pub fn about_rules<'a>(
     rules: &'a Rules,
     sources: &'a [Named<'a>],
     root: &'a str,
@@ -50,7 +46,7 @@ pub(crate) fn about_rules<'a>(
 }
 
 /// The status of an answer; a refusal is told as the form has it.
-pub(crate) fn or_told(
+pub fn or_told(
     rt: &HostRuntime,
     form: Form,
     about: About<'_>,
@@ -98,10 +94,7 @@ fn tell(
 
 /// Writes the object of a refusal without what it means.
 fn write_number(rt: &HostRuntime, fault: &Fault, words: &ArgMatches<'_>) -> Result<(), Fault> {
-    match words.get_strs("FILE") {
-        Some(names) => write_fault_json(rt.alloc(), fault, names, &mut rt.stdout()),
-        None => write_fault_json(rt.alloc(), fault, UNNAMED, &mut rt.stdout()),
-    }
+    write_fault_json(rt.alloc(), fault, names_of(words), &mut rt.stdout())
 }
 
 /// Writes the object of a refusal with what it means.
@@ -111,10 +104,7 @@ fn write_object(
     about: About<'_>,
     words: &ArgMatches<'_>,
 ) -> Result<(), Fault> {
-    match words.get_strs("FILE") {
-        Some(names) => write_refusal_json(rt.alloc(), fault, names, about, &mut rt.stdout()),
-        None => write_refusal_json(rt.alloc(), fault, UNNAMED, about, &mut rt.stdout()),
-    }
+    write_refusal_json(rt.alloc(), fault, names_of(words), about, &mut rt.stdout())
 }
 
 /// Writes the line of a refusal and what it means, and gives its status.
@@ -128,7 +118,7 @@ fn tell_lines(rt: &HostRuntime, fault: &Fault, about: About<'_>) -> Result<u8, F
 }
 
 /// Tells a refusal of a call whose input wasn't read, with the file at fault.
-pub(crate) fn tell_unread(
+pub fn tell_unread(
     rt: &HostRuntime,
     form: Form,
     fault: &Fault,
@@ -140,47 +130,4 @@ pub(crate) fn tell_unread(
     let found = unread_file(rt, fault, words);
     let sizes = sizes_of(rt, fault, found, words)?;
     tell(rt, form, fault, about_input(found, &sizes), words)
-}
-
-/// The status of `export --why`.
-pub(crate) fn export_or_tell(rt: &HostRuntime, words: &ArgMatches<'_>) -> Result<u8, Fault> {
-    match exported(rt, words) {
-        Err(fault) => tell_unread(rt, Form::Lines, &fault, words),
-        status => status,
-    }
-}
-
-/// The status of an export whose refusals are told, those of its input aside.
-fn exported(rt: &HostRuntime, words: &ArgMatches<'_>) -> Result<u8, Fault> {
-    let root = root_of(rt.alloc(), words)?;
-    let sources = sources_of(rt, words)?;
-    let rules = Rules::Root { sources, root };
-    let names = names_of(rt.alloc(), words)?;
-    let named = sources_by_name(rt.alloc(), &rules, &names)?;
-    let about = about_rules(&rules, &named, word_of(words, "root"), "");
-    let answer = write_schema(rt, words, &texts_of(rt.alloc(), about.sources)?);
-    or_told(rt, Form::Lines, about, words, answer)
-}
-
-/// The texts of sources.
-pub(crate) fn texts_of<'a>(
-    alloc: Global,
-    sources: &[Named<'a>],
-) -> Result<Vec<&'a [u8]>, AllocError> {
-    let mut texts: Vec<&'a [u8]> = Vec::with_capacity(alloc, sources.len())?;
-    for source in sources {
-        texts.push(source.text)?;
-    }
-    Ok(texts)
-}
-
-/// Writes a text on standard output.
-pub(crate) fn print(rt: &HostRuntime, text: &[u8]) -> Result<(), Fault> {
-    let mut output = rt.stdout();
-    let is_written = output.write_all(text).is_ok() && output.flush().is_ok();
-    if is_written {
-        Ok(())
-    } else {
-        Err(Fault::WriteFailed)
-    }
 }

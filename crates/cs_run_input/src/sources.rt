@@ -1,0 +1,56 @@
+// Sources with their names.
+use clap::ArgMatches;
+use cs_place::Named;
+use cs_tool::Rules;
+use std::alloc::{AllocError, Global};
+
+/// The name of standard input.
+pub const STANDARD_INPUT: &str = "-";
+
+/// The names of the sources where none is given.
+const UNNAMED: &[&str] = &[STANDARD_INPUT];
+
+/// The names of the sources.
+pub fn names_of<'m, 'w>(words: &'m ArgMatches<'w>) -> &'m [&'w str] {
+    words.get_strs("FILE").unwrap_or(UNNAMED)
+}
+
+/// The sources with their names, in their order. A source without a name is `-`.
+pub fn named<'a>(
+    alloc: Global,
+    names: &[&'a str],
+    sources: &'a [Vec<u8>],
+) -> Result<Vec<Named<'a>>, AllocError> {
+    let mut named = Vec::with_capacity(alloc, sources.len())?;
+    for (place, source) in sources.iter().enumerate() {
+        let name = names.get(place).copied().unwrap_or(STANDARD_INPUT);
+        let text = source.as_slice();
+        named.push(Named {
+            name,
+            text,
+            line: 1,
+        })?;
+    }
+    Ok(named)
+}
+
+/// The sources of the rules with their names, in their order; none for a schema.
+pub fn named_sources<'a>(
+    alloc: Global,
+    rules: &'a Rules,
+    names: &[&'a str],
+) -> Result<Vec<Named<'a>>, AllocError> {
+    match rules {
+        Rules::Schema { .. } => Ok(Vec::new(alloc)),
+        Rules::Root { sources, .. } | Rules::Both { sources, .. } => named(alloc, names, sources),
+    }
+}
+
+/// The texts of sources.
+pub fn texts_of<'a>(alloc: Global, sources: &[Named<'a>]) -> Result<Vec<&'a [u8]>, AllocError> {
+    let mut texts: Vec<&'a [u8]> = Vec::with_capacity(alloc, sources.len())?;
+    for source in sources {
+        texts.push(source.text)?;
+    }
+    Ok(texts)
+}
