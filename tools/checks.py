@@ -4,7 +4,7 @@ passed, M failed`.
 
     tools/checks.py test PROGRAM            those that need no proof: what can be seen from the files, the tests of the crates `cs_rows*`
                                             unproved, and PROGRAM, which is built from its sources without the proofs first
-    tools/checks.py prove PROGRAM           every proof from nothing by `rt ci`, then the edits that edits/GATE names, and the program
+    tools/checks.py prove PROGRAM           every proof from nothing by `rt ci` (tools/kit.py), then the edits that edits/GATE names, and the program
                                             that `rt ci` built, PROGRAM, by the same checks
     tools/checks.py program PROGRAM         the checks of a program alone
 
@@ -95,7 +95,7 @@ def test(checks: Checks, pool: ThreadPoolExecutor, program: str) -> list[Future]
 
 def prove(checks: Checks, pool: ThreadPoolExecutor, program: str) -> list[Future]:
     given = os.environ.get("JOBS")
-    if not checks.follow(["rt", "ci"], **({"RT_JOBS": given} if given else {})):
+    if not checks.follow(["tools/kit.py", "ci"], **({"RT_JOBS": given} if given else {})):
         return []
     edits = pool.submit(checks.run, ["tools/edits.py", "--gate"], JOBS=str(max(1, lanes() - 1)))
     return [edits, *of_program(checks, pool, program)]

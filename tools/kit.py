@@ -1,4 +1,8 @@
-"""The toolchain's command `rt` as a module: it knows the crates, the words that the prover wants, and how many checks fit side by side."""
+#!/usr/bin/env python3
+"""The toolchain's command `rt` as a module: it knows the crates, the words that the prover wants, and how many checks fit side by side.
+
+    tools/kit.py WORD..     the command `rt WORD..`, which plans less memory for a check
+"""
 from __future__ import annotations
 
 import functools
@@ -10,6 +14,9 @@ import sys
 from pathlib import Path
 
 TOP = Path(__file__).resolve().parent.parent
+# Of the memory that `rt` plans for a check, what it takes at most: half, as measured over all crates, and a tenth of that to spare. By the
+# whole plan only two of the larger crates are proved side by side in 24 GiB.
+SHARE = 0.55
 
 
 @functools.lru_cache(maxsize=None)
@@ -20,9 +27,15 @@ def rt():
     loader.exec_module(made)
     # Its first call sets a signal's handler, which only the main thread may do.
     made.rtlib.guarded()
+    planned = made.need
+    made.need = lambda crate: SHARE * planned(crate)
     return made
 
 
 def crates() -> dict:
     """The crates of crates.txt by name, lowest first."""
     return {it.name: it for it in rt().rtlib.crates_below(str(TOP))}
+
+
+if __name__ == "__main__":
+    sys.exit(rt().main(sys.argv[1:]))
