@@ -7,12 +7,9 @@ use std::alloc::{AllocError, Global};
 /// The name of standard input.
 pub const STANDARD_INPUT: &str = "-";
 
-/// The names of the sources where none is given.
-const UNNAMED: &[&str] = &[STANDARD_INPUT];
-
-/// The names of the sources.
+/// The names of the sources; none for standard input.
 pub fn names_of<'m, 'w>(words: &'m ArgMatches<'w>) -> &'m [&'w str] {
-    words.get_strs("FILE").unwrap_or(UNNAMED)
+    words.get_strs("FILE").unwrap_or(&[])
 }
 
 /// The sources with their names, in their order. A source without a name is `-`.

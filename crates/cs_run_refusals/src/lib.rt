@@ -5,9 +5,12 @@ use clap::ArgMatches;
 use cs_place::Named;
 use cs_refusals::{About, why_refused, write_refusal_json};
 use cs_report::Form;
-use cs_run_input::{Unread, names_of, sizes_of, unread_file};
+use cs_run_input::{STANDARD_INPUT, Unread, sizes_of, unread_file};
 use cs_tool::{Fault, Rules, write_fault, write_fault_json};
 use std::io::Write;
+
+/// The names of the sources where none is given.
+const UNNAMED: &[&str] = &[STANDARD_INPUT];
 
 /// What is known of a call whose input wasn't read.
 pub fn about_input<'a>(unread: Unread<'a>, sizes: &'a [(&'a str, u64)]) -> About<'a> {
@@ -94,7 +97,10 @@ fn tell(
 
 /// Writes the object of a refusal without what it means.
 fn write_number(rt: &HostRuntime, fault: &Fault, words: &ArgMatches<'_>) -> Result<(), Fault> {
-    write_fault_json(rt.alloc(), fault, names_of(words), &mut rt.stdout())
+    match words.get_strs("FILE") {
+        Some(names) => write_fault_json(rt.alloc(), fault, names, &mut rt.stdout()),
+        None => write_fault_json(rt.alloc(), fault, UNNAMED, &mut rt.stdout()),
+    }
 }
 
 /// Writes the object of a refusal with what it means.
@@ -104,7 +110,10 @@ fn write_object(
     about: About<'_>,
     words: &ArgMatches<'_>,
 ) -> Result<(), Fault> {
-    write_refusal_json(rt.alloc(), fault, names_of(words), about, &mut rt.stdout())
+    match words.get_strs("FILE") {
+        Some(names) => write_refusal_json(rt.alloc(), fault, names, about, &mut rt.stdout()),
+        None => write_refusal_json(rt.alloc(), fault, UNNAMED, about, &mut rt.stdout()),
+    }
 }
 
 /// Writes the line of a refusal and what it means, and gives its status.
