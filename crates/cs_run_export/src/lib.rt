@@ -7,7 +7,7 @@ use crate::replaced::replace_file;
 use clap::ArgMatches;
 use cs_export::{Layout, export_all, export_root};
 use cs_report::Form;
-use cs_run_input::{named_sources, names_of, print, root_of, sources_of, texts_of, word_of};
+use cs_run_input::{named_sources, print, root_of, sources_of, texts_of, word_of};
 use cs_run_refusals::{about_rules, or_told, tell_unread};
 use cs_tool::{Fault, Rules, slices_of};
 use std::alloc::Global;
@@ -70,7 +70,7 @@ fn exported(rt: &HostRuntime, words: &ArgMatches<'_>) -> Result<u8, Fault> {
     let root = root_of(rt.alloc(), words)?;
     let sources = sources_of(rt, words)?;
     let rules = Rules::Root { sources, root };
-    let named = named_sources(rt.alloc(), &rules, names_of(words))?;
+    let named = named_sources(rt.alloc(), &rules, words.get_strs("FILE").unwrap_or(&[]))?;
     let about = about_rules(&rules, &named, word_of(words, "root"), "");
     let answer = write_schema(rt, words, &texts_of(rt.alloc(), about.sources)?);
     or_told(rt, Form::Lines, about, words, answer)

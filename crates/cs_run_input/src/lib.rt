@@ -11,6 +11,6 @@ mod words;
 pub use files::{read_document, read_input, read_source, read_sources};
 pub use output::print;
 pub use reasons::{Reasons, are_at_odds, reasons_of};
-pub use sources::{STANDARD_INPUT, named, named_sources, names_of, texts_of};
+pub use sources::{STANDARD_INPUT, named, named_sources, texts_of};
 pub use unread::{Unread, sizes_among, sizes_of, unread_among, unread_file};
 pub use words::{Documents, documents_of, files_of, root_of, sources_of, word_of};

@@ -1,16 +1,10 @@
 // Sources with their names.
-use clap::ArgMatches;
 use cs_place::Named;
 use cs_tool::Rules;
 use std::alloc::{AllocError, Global};
 
 /// The name of standard input.
 pub const STANDARD_INPUT: &str = "-";
-
-/// The names of the sources; none for standard input.
-pub fn names_of<'m, 'w>(words: &'m ArgMatches<'w>) -> &'m [&'w str] {
-    words.get_strs("FILE").unwrap_or(&[])
-}
 
 /// The sources with their names, in their order. A source without a name is `-`.
 pub fn named<'a>(

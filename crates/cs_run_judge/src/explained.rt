@@ -10,8 +10,8 @@ use cs_place::Named;
 use cs_refusals::About;
 use cs_report::Form;
 use cs_run_input::{
-    Documents, Reasons, STANDARD_INPUT, documents_of, named_sources, names_of, read_document,
-    read_input, read_source, read_sources, root_of, sources_of, word_of,
+    Documents, Reasons, STANDARD_INPUT, documents_of, named_sources, read_document, read_input,
+    read_source, read_sources, root_of, sources_of, word_of,
 };
 use cs_run_refusals::{about_rules, or_told, tell_unread};
 use cs_tool::{Fault, Rules};
@@ -134,7 +134,7 @@ fn explain_once(
     words: &ArgMatches<'_>,
     reasons: Reasons,
 ) -> Result<u8, Fault> {
-    let sources = named_sources(rt.alloc(), &rules, names_of(words))?;
+    let sources = named_sources(rt.alloc(), &rules, words.get_strs("FILE").unwrap_or(&[]))?;
     let document = Named {
         name: words.get_str("doc").unwrap_or(STANDARD_INPUT),
         text: &text,
@@ -174,7 +174,7 @@ fn explain_many(
     reasons: Reasons,
     documents: Documents<'_, '_>,
 ) -> Result<u8, Fault> {
-    let sources = named_sources(rt.alloc(), &rules, names_of(words))?;
+    let sources = named_sources(rt.alloc(), &rules, words.get_strs("FILE").unwrap_or(&[]))?;
     let why = why_of(reasons, &sources);
     let answer = match documents {
         Documents::Lines(path) => explain_input(rt, &rules, why, path),

@@ -13,7 +13,7 @@ use clap::ArgMatches;
 use cs_findings::{Checked, write_findings, write_schema_findings};
 use cs_place::Named;
 use cs_refusals::explained;
-use cs_run_input::{named, names_of, print, read_input, sources_of};
+use cs_run_input::{named, print, read_input, sources_of};
 use cs_tool::{Fault, slices_of};
 
 /// The status of `breaking`, and of no sample.
@@ -57,7 +57,7 @@ fn check(rt: &HostRuntime, words: &ArgMatches<'_>) -> Result<u8, Fault> {
         return check_schema(rt, path);
     }
     let sources = sources_of(rt, words)?;
-    let named = named(rt.alloc(), names_of(words), &sources)?;
+    let named = named(rt.alloc(), words.get_strs("FILE").unwrap_or(&[]), &sources)?;
     let texts = slices_of(rt.alloc(), &sources)?;
     let root = words.get_str("root");
     let checked = write_findings(rt.alloc(), &texts, &named, root, &mut rt.stdout())?;

@@ -4,7 +4,7 @@ use cs_listing::{put_listing, put_listing_json};
 use cs_place::Named;
 use cs_refusals::About;
 use cs_report::Form;
-use cs_run_input::{Unread, named, names_of, print, reasons_of, sources_of};
+use cs_run_input::{Unread, named, print, reasons_of, sources_of};
 use cs_run_refusals::{about_input, or_told, tell_unread};
 use cs_tool::{Fault, accepted_package, slices_of};
 
@@ -34,7 +34,7 @@ fn listed(
     is_told: bool,
 ) -> Result<u8, Fault> {
     let sources = sources_of(rt, words)?;
-    let named = named(rt.alloc(), names_of(words), &sources)?;
+    let named = named(rt.alloc(), words.get_strs("FILE").unwrap_or(&[]), &sources)?;
     let answer = write_listing(rt, &sources, &named, form);
     if is_told {
         let about = About {

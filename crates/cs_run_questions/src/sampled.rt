@@ -4,7 +4,7 @@ use clap::ArgMatches;
 use cs_doc::write_doc;
 use cs_document::Doc;
 use cs_report::Form;
-use cs_run_input::{named_sources, names_of, print, root_of, sources_of, texts_of, word_of};
+use cs_run_input::{named_sources, print, root_of, sources_of, texts_of, word_of};
 use cs_run_refusals::{about_rules, or_told, tell_unread};
 use cs_samples::{QuestionFault, Sampled, samples};
 use cs_tool::{Fault, Rules, read_root, slices_of};
@@ -30,7 +30,7 @@ fn written_or_told(rt: &HostRuntime, words: &ArgMatches<'_>) -> Result<u8, Fault
     let root = root_of(rt.alloc(), words)?;
     let sources = sources_of(rt, words)?;
     let rules = Rules::Root { sources, root };
-    let named = named_sources(rt.alloc(), &rules, names_of(words))?;
+    let named = named_sources(rt.alloc(), &rules, words.get_strs("FILE").unwrap_or(&[]))?;
     let about = about_rules(&rules, &named, word_of(words, "root"), "");
     let texts = texts_of(rt.alloc(), &named)?;
     let answer = written(rt, words, &texts);
