@@ -5,7 +5,7 @@ use crate::tables::{Row, cell, check};
 use cs_doc::{Flat, flatten, read_doc};
 use cs_schema::{SchemaDoc, read_schema};
 use cs_table::{Judge, fill};
-use cs_validate::{ValidateFault, is_valid, valid_judge, valid_table};
+use cs_validate::{is_valid, valid_judge, valid_table};
 use std::alloc::{AllocError, Global};
 use std::test::Fail;
 
@@ -45,15 +45,11 @@ fn counted(alloc: Global, schema: &str, text: &str) -> Result<(u64, bool), Fail>
     Ok((table.judged(), table.get(flat.len() - 1, rule)))
 }
 
-/// What `is_valid` answers; nothing where there are too many pairs.
-pub(crate) fn verdict(alloc: Global, schema: &str, text: &str) -> Result<Option<bool>, Fail> {
+/// What `is_valid` answers.
+fn verdict(alloc: Global, schema: &str, text: &str) -> Result<bool, Fail> {
     let schema = schema_of(alloc, schema)?;
     let doc = read_doc(alloc, text.as_bytes())?;
-    match is_valid(alloc, &schema, &doc) {
-        Ok(verdict) => Ok(Some(verdict)),
-        Err(ValidateFault::TooManyPairs) => Ok(None),
-        Err(fault) => Err(Fail::from(fault)),
-    }
+    Ok(is_valid(alloc, &schema, &doc)?)
 }
 
 /// Whether the row's document is judged as it says, by the table and by `is_valid`.
@@ -62,7 +58,7 @@ pub(crate) fn is_judged(alloc: Global, row: &str) -> Result<bool, Fail> {
     let (doc, wanted) = cell(rest);
     let (judged, valid) = counted(alloc, schema, doc)?;
     let answer = format!(in alloc; "{judged} {valid}")?;
-    Ok(answer.as_str() == wanted.trim() && verdict(alloc, schema, doc)? == Some(valid))
+    Ok(answer.as_str() == wanted.trim() && verdict(alloc, schema, doc)? == valid)
 }
 
 #[test]
@@ -151,49 +147,5 @@ fn each_pair_is_judged_once(rt: HostRuntime) -> Result<(), Fail> {
     let text = r#"{"next":{"v":1},"v":0}"#;
     assert!(rt; asked_of(rt.alloc(), NEXT, text)? == (12, 12));
     assert!(rt; asked_of(rt.alloc(), &doubling(rt.alloc(), 40)?, "7")? == (122, 122));
-    Ok(())
-}
-
-/// Whether there is a judge, with so many items and rules.
-fn has_judge(
-    alloc: Global,
-    schema: &SchemaDoc,
-    flat: &Flat<'_>,
-    sizes: (usize, usize),
-) -> Result<bool, Fail> {
-    let (judge, rule) = valid_judge(alloc, schema, flat)?;
-    Ok((judge.items(), judge.rules()) == sizes && rule < judge.rules())
-}
-
-/// Whether a schema of 8,192 rules has a judge for the document, but no table and no verdict.
-fn has_many_pairs(alloc: Global, schema: &str, text: &str, items: usize) -> Result<bool, Fail> {
-    let refused = verdict(alloc, schema, text)?.is_none();
-    let schema = schema_of(alloc, schema)?;
-    let doc = read_doc(alloc, text.as_bytes())?;
-    let flat = flatten(alloc, &doc)?;
-    let table = valid_table(alloc, &schema, &flat);
-    Ok(
-        refused
-            && matches!(table, Err(ValidateFault::TooManyPairs))
-            && has_judge(alloc, &schema, &flat, (items, 8_192))?,
-    )
-}
-
-/// A list of so many of that text, and one more.
-fn repeated(alloc: Global, text: &str, count: usize) -> Result<String, AllocError> {
-    let part = format!(in alloc; "{text},")?;
-    let before = part.repeat(alloc, count)?;
-    format!(in alloc; "[{before}{text}]")
-}
-
-#[test]
-fn pairs_have_a_limit(rt: HostRuntime) -> Result<(), Fail> {
-    let members = repeated(rt.alloc(), "true", 8_190)?;
-    let schema = format!(in rt.alloc(); "{{\"allOf\":{members}}}")?;
-    let zeros = repeated(rt.alloc(), "0", 8_190)?;
-    assert!(rt; counted(rt.alloc(), &schema, &zeros)? == (67_108_864, true));
-    assert!(rt; verdict(rt.alloc(), &schema, &zeros)? == Some(true));
-    let more = repeated(rt.alloc(), "0", 8_191)?;
-    assert!(rt; has_many_pairs(rt.alloc(), &schema, &more, 8_193)?);
     Ok(())
 }
