@@ -3,14 +3,14 @@ use crate::never::answer_by_refusals;
 use crate::tables::{Row, cell, check};
 use cs_doc::{Flat, flatten, read_doc};
 use cs_guard::{Guarded, guard};
-use cs_instance::{instance_judge, instance_table};
+use cs_instance::{InstanceFault, instance_judge, instance_table};
 use cs_resolve::resolve;
 use cs_syntax::parse_file;
 use std::alloc::{AllocError, Global};
 use std::test::Fail;
 
-/// Packages, whose `;` are newlines, roots, documents, how many judgements their tables have, and the verdicts. A
-/// document's values and the rules that the root reaches are counted by hand.
+/// Packages, whose `;` are newlines, roots, documents, how many judgements their tables have, and the verdicts; or `no
+/// root` where it isn't declared. A document's values and the rules that the root reaches are counted by hand.
 const TABLES: &str = r##"#T: {v: int, kids?: [...#T]} => #T => {"v":1,"kids":[{"v":2}]} => 25 true
 #T: {v: int, kids?: [...#T]} => #T => {"v":1,"kids":[{}]} => 20 false
 #P: int => #P => 1 => 2 true
@@ -34,7 +34,10 @@ const TABLES: &str = r##"#T: {v: int, kids?: [...#T]} => #T => {"v":1,"kids":[{"
 #B: {k: string};#C: #B & {k: "x"} => #C => {"k":"x"} => 16 true
 #B: {k: string};#C: #B & {k: "x"} => #C => {"k":"x","z":1} => 24 false
 #E: {l?: #E, r?: [#E]};#F: #E => #E => {"l":{"r":[{}]},"r":[{"l":{}}]} => 35 true
-#E: {l?: #E, r?: [#E]} => #E => {"l":{"r":[{}]},"r":[{"l":1}]} => 35 false"##;
+#E: {l?: #E, r?: [#E]} => #E => {"l":{"r":[{}]},"r":[{"l":1}]} => 35 false
+#A: int => #B => 1 => no root
+#A: int => A => 1 => no root
+ => #A => 1 => no root"##;
 
 /// The guarded package of a source.
 fn guarded_of(alloc: Global, source: &str) -> Result<Guarded, Fail> {
@@ -43,13 +46,22 @@ fn guarded_of(alloc: Global, source: &str) -> Result<Guarded, Fail> {
     Ok(guard(alloc, resolve(alloc, files)?)?)
 }
 
-/// How many judgements the table of a document has, and the verdict of the document by the root.
-fn counted(alloc: Global, source: &str, root: &str, text: &str) -> Result<(u64, bool), Fail> {
+/// How many judgements the table of a document has, and the verdict of the document by the root; nothing where the root isn't
+/// declared.
+fn counted(
+    alloc: Global,
+    source: &str,
+    root: &str,
+    text: &str,
+) -> Result<Option<(u64, bool)>, Fail> {
     let package = guarded_of(alloc, source)?;
     let doc = read_doc(alloc, text.as_bytes())?;
     let flat = flatten(alloc, &doc)?;
-    let (table, rule) = instance_table(alloc, &package, root, &flat)?;
-    Ok((table.judged(), table.get(flat.len() - 1, rule)))
+    match instance_table(alloc, &package, root, &flat) {
+        Ok((table, rule)) => Ok(Some((table.judged(), table.get(flat.len() - 1, rule)))),
+        Err(InstanceFault::UnknownRoot) => Ok(None),
+        Err(fault) => Err(Fail::from(fault)),
+    }
 }
 
 /// Whether the row's document is judged as it says.
@@ -58,7 +70,9 @@ pub(crate) fn is_judged(alloc: Global, row: &str) -> Result<bool, Fail> {
     let (root, rest) = cell(rest);
     let (doc, wanted) = cell(rest);
     let source = text.replace(alloc, ';', "\n")?;
-    let (judged, verdict) = counted(alloc, &source, root, doc)?;
+    let Some((judged, verdict)) = counted(alloc, &source, root, doc)? else {
+        return Ok(wanted.trim() == "no root");
+    };
     let answer = format!(in alloc; "{judged} {verdict}")?;
     Ok(answer.as_str() == wanted.trim())
 }
@@ -81,7 +95,7 @@ fn doubling(alloc: Global, mark: &str, last: usize) -> Result<String, AllocError
 /// Whether 7 is an instance of the first of the definitions, after so many judgements.
 fn is_doubled(alloc: Global, mark: &str, last: usize, judgements: u64) -> Result<bool, Fail> {
     let source = doubling(alloc, mark, last)?;
-    Ok(counted(alloc, &source, "#A0", "7")? == (judgements, true))
+    Ok(counted(alloc, &source, "#A0", "7")? == Some((judgements, true)))
 }
 
 #[test]

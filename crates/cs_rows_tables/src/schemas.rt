@@ -5,7 +5,7 @@ use crate::tables::{Row, cell, check};
 use cs_doc::{Flat, flatten, read_doc};
 use cs_schema::{SchemaDoc, read_schema};
 use cs_table::{Judge, fill};
-use cs_validate::{is_valid, valid_judge, valid_table};
+use cs_validate::{ValidateFault, is_valid, valid_judge, valid_table};
 use std::alloc::{AllocError, Global};
 use std::test::Fail;
 
@@ -36,13 +36,17 @@ fn schema_of(alloc: Global, text: &str) -> Result<SchemaDoc, Fail> {
     Ok(read_schema(alloc, &doc)?)
 }
 
-/// How many judgements the table of a document has, and the verdict of the document by the root.
-fn counted(alloc: Global, schema: &str, text: &str) -> Result<(u64, bool), Fail> {
+/// How many judgements the table of a document has, and the verdict of the document by the root; nothing where there are too
+/// many pairs.
+fn counted(alloc: Global, schema: &str, text: &str) -> Result<Option<(u64, bool)>, Fail> {
     let schema = schema_of(alloc, schema)?;
     let doc = read_doc(alloc, text.as_bytes())?;
     let flat = flatten(alloc, &doc)?;
-    let (table, rule) = valid_table(alloc, &schema, &flat)?;
-    Ok((table.judged(), table.get(flat.len() - 1, rule)))
+    match valid_table(alloc, &schema, &flat) {
+        Ok((table, rule)) => Ok(Some((table.judged(), table.get(flat.len() - 1, rule)))),
+        Err(ValidateFault::TooManyPairs) => Ok(None),
+        Err(fault) => Err(Fail::from(fault)),
+    }
 }
 
 /// What `is_valid` answers.
@@ -56,7 +60,9 @@ fn verdict(alloc: Global, schema: &str, text: &str) -> Result<bool, Fail> {
 pub(crate) fn is_judged(alloc: Global, row: &str) -> Result<bool, Fail> {
     let (schema, rest) = cell(row);
     let (doc, wanted) = cell(rest);
-    let (judged, valid) = counted(alloc, schema, doc)?;
+    let Some((judged, valid)) = counted(alloc, schema, doc)? else {
+        return Ok(false);
+    };
     let answer = format!(in alloc; "{judged} {valid}")?;
     Ok(answer.as_str() == wanted.trim() && verdict(alloc, schema, doc)? == valid)
 }
@@ -83,8 +89,8 @@ fn doubling(alloc: Global, last: usize) -> Result<String, AllocError> {
 /// Whether 7 is valid against so many definitions, after so many judgements, and null isn't.
 fn is_doubled(alloc: Global, last: usize, judgements: u64) -> Result<bool, Fail> {
     let schema = doubling(alloc, last)?;
-    let valid = counted(alloc, &schema, "7")? == (judgements, true);
-    Ok(valid && counted(alloc, &schema, "null")? == (judgements, false))
+    let valid = counted(alloc, &schema, "7")? == Some((judgements, true));
+    Ok(valid && counted(alloc, &schema, "null")? == Some((judgements, false)))
 }
 
 #[test]
@@ -147,5 +153,23 @@ fn each_pair_is_judged_once(rt: HostRuntime) -> Result<(), Fail> {
     let text = r#"{"next":{"v":1},"v":0}"#;
     assert!(rt; asked_of(rt.alloc(), NEXT, text)? == (12, 12));
     assert!(rt; asked_of(rt.alloc(), &doubling(rt.alloc(), 40)?, "7")? == (122, 122));
+    Ok(())
+}
+
+/// A list of so many of that text, and one more.
+fn repeated(alloc: Global, text: &str, count: usize) -> Result<String, AllocError> {
+    let part = format!(in alloc; "{text},")?;
+    let before = part.repeat(alloc, count)?;
+    format!(in alloc; "[{before}{text}]")
+}
+
+#[test]
+fn pairs_have_a_limit(rt: HostRuntime) -> Result<(), Fail> {
+    let members = repeated(rt.alloc(), "true", 8_190)?;
+    let schema = format!(in rt.alloc(); "{{\"allOf\":{members}}}")?;
+    let zeros = repeated(rt.alloc(), "0", 8_190)?;
+    assert!(rt; counted(rt.alloc(), &schema, &zeros)? == Some((67_108_864, true)));
+    let more = repeated(rt.alloc(), "0", 8_191)?;
+    assert!(rt; counted(rt.alloc(), &schema, &more)?.is_none());
     Ok(())
 }
