@@ -7,7 +7,6 @@ mod counting;
 mod documents;
 #[cfg(test)]
 mod fillings;
-mod forms;
 #[cfg(test)]
 mod instances;
 #[cfg(test)]
@@ -22,5 +21,3 @@ mod schemas;
 mod tables;
 #[cfg(test)]
 mod texts;
-
-pub use forms::FORMS;
