@@ -57,6 +57,50 @@ documents() { # folder
     done < documents
 }
 
+# judged_lines LABEL LINE: runs a line on the documents of a row, all at once, and compares the verdicts
+judged_lines() {
+    run_line "$2 --lines --doc documents"
+    code=0
+    if grep -q invalid verdicts; then code=1; fi
+    if is_run "$code" "$(cat verdicts)" ''; then count "$1: $2" yes; else count "$1: $2: wanted $(tr '\n' ' ' < verdicts)" no; fi
+}
+
+# The documents of a row, a line each, and their verdicts: those that are valid, and those that aren't; blanks part them, and `-` is none
+set_documents() { # valid, invalid
+    : > documents
+    : > verdicts
+    printf '%s\n%s\n' "$1" "$2" | awk '{ for (i = 1; i <= NF; i++) if ($i != "-") {
+        print $i > "documents"; print (NR == 1 ? "valid" : "invalid") > "verdicts" } }'
+}
+
+# The rows of `packages`: a source, a root, the `$defs` of its schema, and the documents, which all commands judge.
+packages() { # folder
+    while IFS= read -r line || [ -n "$line" ]; do
+        printf '%s' "${line%% => *}" | tr ';' '\n' > source.cue
+        rest=${line#* => }
+        name=${rest%% => *}
+        rest=${rest#* => }
+        run_line "export --root $name source.cue"
+        judge "$1: ${line%% => *}: export --root $name" "${rest%% => *}"
+        cp "$room/out" schema.json
+        rest=${rest#* => }
+        set_documents "${rest%% => *}" "${rest#* => }"
+        for words in "vet --root $name source.cue" 'validate --schema schema.json' "agree --root $name source.cue"; do
+            judged_lines "$1: ${line%% => *}" "$words"
+        done
+    done < packages
+}
+
+# The rows of `schemas`: a schema, and the documents.
+schemas() { # folder
+    while IFS= read -r line || [ -n "$line" ]; do
+        printf '%s' "${line%% => *}" > schema.json
+        rest=${line#* => }
+        set_documents "${rest%% => *}" "${rest#* => }"
+        judged_lines "$1: ${line%% => *}" 'validate --schema schema.json'
+    done < schemas
+}
+
 # The rows of a table: a source, whose `;` are newlines, and what is wanted of it.
 table() { # folder
     while IFS= read -r line || [ -n "$line" ]; do
@@ -124,7 +168,7 @@ for name in "$@"; do
     root=
     if [ -e args ]; then root=$(sed -n 's/^#//p' args | tail -n 1); fi
     form=single
-    for it in runs documents table repeated fronts; do
+    for it in runs documents packages schemas table repeated fronts; do
         if [ -e "$it" ]; then form=$it; fi
     done
     "$form" "cases/$name"

@@ -243,6 +243,28 @@ try "prints 2 {\"error\":27,\"file\":\"zeros.json\",\"hint\":\"$pairs split the 
 try 'says 2 error 27⏎more-zeros.json: 13,417 values and 5,002 rules make 67,111,834 pairs, and 67,108,864 may be: judge the parts of the document one by one, or split the package by roots' \
     'run vet --why --root "#A" --doc more-zeros.json twice.cue'
 
+# As many pairs as may be, by 8,192 values and as many rules or schemas, and one value more.
+{ printf '#A: _'; yes ' & _' | head -n 8189 | tr -d '\n'; } > most.cue
+{ printf '{"allOf":[true'; yes ',true' | head -n 8190 | tr -d '\n'; printf ']}'; } > most.json
+{ printf '[0'; yes ',0' | head -n 8190 | tr -d '\n'; printf ']'; } > most-zeros.json
+sed 's/]$/,0]/' most-zeros.json > over-zeros.json
+over='over-zeros.json: 8,193 values and 8,192'
+try valid 'run vet --root "#A" --doc most-zeros.json most.cue'
+try valid 'run validate --schema most.json --doc most-zeros.json'
+try "says 2 error 27⏎$over rules make 67,117,056 pairs, and 67,108,864 may be: judge the parts of the document one by one, or split the package by roots" \
+    'run vet --why --root "#A" --doc over-zeros.json most.cue'
+try "says 2 error 27⏎$over schemas make 67,117,056 pairs, and 67,108,864 may be: judge the parts of the document one by one, or leave out definitions that nothing refers to" \
+    'run validate --why --schema most.json --doc over-zeros.json'
+
+# Faults of a schema: 50 are told, and none behind those whose places have more than 1,048,576 bytes together.
+for count in 49 50 51; do
+    { printf '{"title":"t"'; seq 0 $((count - 1)) | sed 's/.*/,"x&":1/' | tr -d '\n'; printf '}'; } > faults.json
+    try_run 2 "$((count < 50 ? count : 50))" '' 'run check --schema faults.json | wc -l'
+done
+{ printf '{"properties":{"'; head -c 600000 /dev/zero | tr '\0' k; printf '":{"x":1,"y":1,"z":1}}}'; } > below.json
+try_run 2 2 '' 'run check --schema below.json | wc -l'
+try 'error 20' 'printf "\"\377\"" | run validate --schema /dev/stdin --doc one'
+
 # Inputs without an end, in 400 MB of memory: reading stops at the limit.
 try 'error 1' 'ulimit -v 400000; yes | run export --root "#P"'
 try 'error 1' 'ulimit -v 400000; yes | run export --root "#P" /dev/stdin'

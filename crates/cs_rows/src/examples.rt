@@ -1,6 +1,5 @@
 // Packages with their schemas, and documents with their verdicts on both sides.
 use crate::tables::{Row, cell, check, expanded, sources_of};
-use cs_rows_tables::FORMS;
 use cs_tool::{Fault, agree, export, validate, vet};
 use std::alloc::{AllocError, Global};
 use std::test::Fail;
@@ -153,11 +152,6 @@ pub(crate) fn is_held(alloc: Global, row: &str) -> Result<bool, Fault> {
 #[test]
 fn packages_have_schemas_and_documents(rt: HostRuntime) -> Result<(), Fail> {
     check(rt.alloc(), PACKAGES, Row::Example)
-}
-
-#[test]
-fn every_form_has_schemas_and_documents(rt: HostRuntime) -> Result<(), Fail> {
-    check(rt.alloc(), FORMS, Row::Example)
 }
 
 #[test]

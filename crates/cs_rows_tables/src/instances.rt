@@ -1,17 +1,16 @@
 // Tables of documents and the rules of packages, through the calls of `cs_instance`.
 use crate::never::answer_by_refusals;
 use crate::tables::{Row, cell, check};
-use crate::translations::has_no_schema;
 use cs_doc::{Flat, flatten, read_doc};
 use cs_guard::{Guarded, guard};
-use cs_instance::{InstanceFault, instance_judge, instance_table, is_instance};
+use cs_instance::{InstanceFault, instance_judge, instance_table};
 use cs_resolve::resolve;
 use cs_syntax::parse_file;
 use std::alloc::{AllocError, Global};
 use std::test::Fail;
 
-/// Packages, whose `;` are newlines, roots, documents, how many judgements their tables have, and the verdicts. A
-/// document's values and the rules that the root reaches are counted by hand.
+/// Packages, whose `;` are newlines, roots, documents, how many judgements their tables have, and the verdicts; or `no
+/// root` where it isn't declared. A document's values and the rules that the root reaches are counted by hand.
 const TABLES: &str = r##"#T: {v: int, kids?: [...#T]} => #T => {"v":1,"kids":[{"v":2}]} => 25 true
 #T: {v: int, kids?: [...#T]} => #T => {"v":1,"kids":[{}]} => 20 false
 #P: int => #P => 1 => 2 true
@@ -35,22 +34,34 @@ const TABLES: &str = r##"#T: {v: int, kids?: [...#T]} => #T => {"v":1,"kids":[{"
 #B: {k: string};#C: #B & {k: "x"} => #C => {"k":"x"} => 16 true
 #B: {k: string};#C: #B & {k: "x"} => #C => {"k":"x","z":1} => 24 false
 #E: {l?: #E, r?: [#E]};#F: #E => #E => {"l":{"r":[{}]},"r":[{"l":{}}]} => 35 true
-#E: {l?: #E, r?: [#E]} => #E => {"l":{"r":[{}]},"r":[{"l":1}]} => 35 false"##;
+#E: {l?: #E, r?: [#E]} => #E => {"l":{"r":[{}]},"r":[{"l":1}]} => 35 false
+#A: int => #B => 1 => no root
+#A: int => A => 1 => no root
+ => #A => 1 => no root"##;
 
 /// The guarded package of a source.
-pub(crate) fn guarded_of(alloc: Global, source: &str) -> Result<Guarded, Fail> {
+fn guarded_of(alloc: Global, source: &str) -> Result<Guarded, Fail> {
     let mut files = Vec::new(alloc);
     files.push(parse_file(alloc, source)?)?;
     Ok(guard(alloc, resolve(alloc, files)?)?)
 }
 
-/// How many judgements the table of a document has, and the verdict of the document by the root.
-fn counted(alloc: Global, source: &str, root: &str, text: &str) -> Result<(u64, bool), Fail> {
+/// How many judgements the table of a document has, and the verdict of the document by the root; nothing where the root isn't
+/// declared.
+fn counted(
+    alloc: Global,
+    source: &str,
+    root: &str,
+    text: &str,
+) -> Result<Option<(u64, bool)>, Fail> {
     let package = guarded_of(alloc, source)?;
     let doc = read_doc(alloc, text.as_bytes())?;
     let flat = flatten(alloc, &doc)?;
-    let (table, rule) = instance_table(alloc, &package, root, &flat)?;
-    Ok((table.judged(), table.get(flat.len() - 1, rule)))
+    match instance_table(alloc, &package, root, &flat) {
+        Ok((table, rule)) => Ok(Some((table.judged(), table.get(flat.len() - 1, rule)))),
+        Err(InstanceFault::UnknownRoot) => Ok(None),
+        Err(fault) => Err(Fail::from(fault)),
+    }
 }
 
 /// Whether the row's document is judged as it says.
@@ -59,7 +70,9 @@ pub(crate) fn is_judged(alloc: Global, row: &str) -> Result<bool, Fail> {
     let (root, rest) = cell(rest);
     let (doc, wanted) = cell(rest);
     let source = text.replace(alloc, ';', "\n")?;
-    let (judged, verdict) = counted(alloc, &source, root, doc)?;
+    let Some((judged, verdict)) = counted(alloc, &source, root, doc)? else {
+        return Ok(wanted.trim() == "no root");
+    };
     let answer = format!(in alloc; "{judged} {verdict}")?;
     Ok(answer.as_str() == wanted.trim())
 }
@@ -82,7 +95,7 @@ fn doubling(alloc: Global, mark: &str, last: usize) -> Result<String, AllocError
 /// Whether 7 is an instance of the first of the definitions, after so many judgements.
 fn is_doubled(alloc: Global, mark: &str, last: usize, judgements: u64) -> Result<bool, Fail> {
     let source = doubling(alloc, mark, last)?;
-    Ok(counted(alloc, &source, "#A0", "7")? == (judgements, true))
+    Ok(counted(alloc, &source, "#A0", "7")? == Some((judgements, true)))
 }
 
 #[test]
@@ -119,75 +132,4 @@ fn a_judge_goes_by_the_table(rt: HostRuntime) -> Result<(), Fail> {
     let text = r#"{"v":1,"kids":[{"v":2}]}"#;
     assert!(rt; by_refusals(rt.alloc(), source, "#T", text)? == Some(false));
     Ok(())
-}
-
-/// What `is_instance` answers; nothing where there are too many pairs.
-fn verdict(alloc: Global, source: &str, root: &str, text: &str) -> Result<Option<bool>, Fail> {
-    let package = guarded_of(alloc, source)?;
-    let doc = read_doc(alloc, text.as_bytes())?;
-    match is_instance(alloc, &package, root, &doc) {
-        Ok(verdict) => Ok(Some(verdict)),
-        Err(InstanceFault::TooManyPairs) => Ok(None),
-        Err(fault) => Err(Fail::from(fault)),
-    }
-}
-
-/// A list of so many zeros, and one more.
-fn zeros(alloc: Global, count: usize) -> Result<String, AllocError> {
-    let before = "0,".repeat(alloc, count)?;
-    format!(in alloc; "[{before}0]")
-}
-
-#[test]
-fn pairs_have_a_limit(rt: HostRuntime) -> Result<(), Fail> {
-    let operands = "_ & ".repeat(rt.alloc(), 8_189)?;
-    let source = format!(in rt.alloc(); "#A: {operands}_")?;
-    assert!(rt; verdict(rt.alloc(), &source, "#A", &zeros(rt.alloc(), 8_190)?)? == Some(true));
-    assert!(rt; verdict(rt.alloc(), &source, "#A", &zeros(rt.alloc(), 8_191)?)?.is_none());
-    Ok(())
-}
-
-#[test]
-fn a_list_is_no_instance_of_other_integers(rt: HostRuntime) -> Result<(), Fail> {
-    let operands = "!=1 & ".repeat(rt.alloc(), 4_999)?;
-    let source = format!(in rt.alloc(); "#A: {operands}!=1")?;
-    assert!(rt; verdict(rt.alloc(), &source, "#A", &zeros(rt.alloc(), 7_999)?)? == Some(false));
-    Ok(())
-}
-
-/// Whether there is no judge of a document for the root.
-fn has_no_judge(alloc: Global, package: &Guarded, root: &str, flat: &Flat<'_>) -> bool {
-    let judge = instance_judge(alloc, package, root, flat);
-    matches!(judge, Err(InstanceFault::UnknownRoot))
-}
-
-/// Whether there is no judge, no table and no verdict.
-fn has_no_verdict(alloc: Global, package: &Guarded, root: &str) -> Result<bool, Fail> {
-    let doc = read_doc(alloc, b"1")?;
-    let flat = flatten(alloc, &doc)?;
-    let table = instance_table(alloc, package, root, &flat);
-    let verdict = is_instance(alloc, package, root, &doc);
-    Ok(
-        matches!(table, Err(InstanceFault::UnknownRoot))
-            && matches!(verdict, Err(InstanceFault::UnknownRoot))
-            && has_no_judge(alloc, package, root, &flat),
-    )
-}
-
-/// Packages, and roots that they don't declare.
-const UNKNOWN: &str = "#A: int => #B
-#A: int => A
- => #A";
-
-/// Whether the row's root is refused by each call, and by `compile`.
-pub(crate) fn is_unknown(alloc: Global, row: &str) -> Result<bool, Fail> {
-    let (source, root) = cell(row);
-    let root = root.trim();
-    let package = guarded_of(alloc, source)?;
-    Ok(has_no_verdict(alloc, &package, root)? && has_no_schema(alloc, &package, root))
-}
-
-#[test]
-fn the_root_is_declared(rt: HostRuntime) -> Result<(), Fail> {
-    check(rt.alloc(), UNKNOWN, Row::Unknown)
 }

@@ -1,5 +1,4 @@
-// Worked examples: documents and schemas of texts, documents as lists of their values, tables of verdicts, and packages
-// with their schemas.
+// Worked examples: documents and schemas of texts, documents as lists of their values, and tables of verdicts.
 #![tactic(auto)]
 
 #[cfg(test)]
@@ -8,9 +7,6 @@ mod counting;
 mod documents;
 #[cfg(test)]
 mod fillings;
-#[cfg(test)]
-mod flaws;
-mod forms;
 #[cfg(test)]
 mod instances;
 #[cfg(test)]
@@ -25,9 +21,3 @@ mod schemas;
 mod tables;
 #[cfg(test)]
 mod texts;
-#[cfg(test)]
-mod translations;
-#[cfg(test)]
-mod warnings;
-
-pub use forms::FORMS;

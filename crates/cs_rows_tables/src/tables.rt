@@ -1,6 +1,6 @@
 // Tables of examples: a row a line, its cells parted by `=>`. A line that begins with two blanks and `…` goes on with the row
 // before it.
-use crate::{documents, flaws, instances, listings, schemas, texts, translations, warnings};
+use crate::{documents, instances, listings, schemas, texts};
 use std::alloc::Global;
 use std::test::Fail;
 
@@ -15,22 +15,12 @@ pub(crate) enum Row {
     Fronts,
     /// Two texts, and whether they are the same document.
     Pair,
-    /// A schema, and what it is once it was read and written again, or its refusal.
+    /// A schema, and what it is once it was read and written again.
     Written,
-    /// A schema, documents that are valid and documents that aren't.
-    Verdicts,
-    /// A source, a root, the schemas of what it reaches, documents that are instances of it and documents that aren't.
-    Compiled,
-    /// A package, and a root that it doesn't declare.
-    Unknown,
     /// A package, a root, a document, how many judgements its table has and the verdict.
     Package,
     /// A schema, a document, how many judgements its table has and the verdict.
     Schema,
-    /// A package, and the definitions of it that are told to have no instance, each with why.
-    Warned,
-    /// A schema, and all its flaws.
-    Flaws,
 }
 
 /// Fails with the first row that doesn't hold.
@@ -51,13 +41,8 @@ fn holds(alloc: Global, row: &str, rows: Row) -> Result<bool, Fail> {
         Row::Fronts => Ok(listings::fronts_agree(alloc, row)?),
         Row::Pair => Ok(documents::are_compared(alloc, row)?),
         Row::Written => texts::is_answered(alloc, row),
-        Row::Verdicts => texts::are_judged(alloc, row),
-        Row::Compiled => translations::is_held(alloc, row),
-        Row::Unknown => instances::is_unknown(alloc, row),
         Row::Package => instances::is_judged(alloc, row),
         Row::Schema => schemas::is_judged(alloc, row),
-        Row::Warned => warnings::are_told(alloc, row),
-        Row::Flaws => flaws::are_told(alloc, row),
     }
 }
 
