@@ -75,6 +75,138 @@ repeated() { # folder
     done < repeated
 }
 
+# rows FILE: the rows of a table; a line that begins with two blanks and `…` goes on with the one before it
+rows() {
+    sed -e ':more' -e 'N' -e '$!b more' -e 's/\n  …//g' "$1"
+}
+
+# cut_cell: takes the first cell off `row`, as `cell`; `-` stands for one without a text
+cut_cell() {
+    cell=${row%% => *}
+    case $row in *' => '*) row=${row#* => } ;; *) row= ;; esac
+    [ "$cell" != - ] || cell=
+}
+
+# spelled: a text with a newline for each `;`, and with a text so many times for each `⟨NUMBER×TEXT⟩`
+spelled='
+function times(text, count,   all) {
+    for (; count > 0; count = int(count / 2)) {
+        if (count % 2) all = all text
+        if (count > 1) text = text text
+    }
+    return all
+}
+function spelled(text,   n, pieces, halves, at, all) {
+    gsub(/;/, "\n", text)
+    n = split(text, pieces, "⟨")
+    all = pieces[1]
+    for (i = 2; i <= n; i++) {
+        split(pieces[i], halves, "⟩")
+        at = index(halves[1], "×")
+        all = all times(substr(halves[1], at + length("×")), substr(halves[1], 1, at - 1)) halves[2]
+    }
+    return all
+}'
+
+# put FILE TEXT: writes a text as it is spelled
+put() {
+    case $2 in
+        *';'* | *'⟨'*) printf '%s\n' "$2" | awk "$spelled"'{ printf "%s", spelled($0) }' > "$1" ;;
+        *) printf '%s' "$2" > "$1" ;;
+    esac
+}
+
+# put_sources TEXT: writes sources, which ` % ` parts, into 1, 2 and so on, the names in `files`; one that is `\xff` is that byte
+put_sources() {
+    files=$(printf '%s\n' "$1" | awk "$spelled"'{
+        many = split(spelled($0) " % ", sources, " % ")
+        for (file = 1; file < many; file++) {
+            printf "%s", (sources[file] == "\\xff" ? "\377" : sources[file]) > file ""
+            print file
+        }
+    }')
+}
+
+# call NAME: judges `document` by the package of `files`, or by the schema
+call() {
+    case $1 in
+        validate) run validate --schema schema.json --doc document ;;
+        *) run "$1" --root "$word" --doc document $files ;;
+    esac
+}
+
+# each CELL CALL..: what is wanted, and documents, each of which is judged by these calls
+each() {
+    wanted=${1%%: *}
+    documents=${1#*: }
+    shift
+    set -f
+    for text in $documents; do
+        put document "$text"
+        for it in "$@"; do
+            call "$it"
+            judge "$label: $it $text" "$wanted"
+        done
+    done
+    set +f
+}
+
+# is_refused_in FILE: whether the run told the number of the refusal and this file
+is_refused_in() {
+    printf 1 > document
+    number=$(sed -n '1s/^error \([0-9]*\).*/\1/p' "$room/said")
+    run vet --format json --root "$word" --doc document $files
+    case $(cat "$room/out") in "{\"error\":$number,\"file\":\"$1\","*) true ;; *) false ;; esac
+}
+
+# exported WANTED: exports the root, and judges that; behind ` in ` stands the file that a refusal is about
+exported() {
+    run export --root "$word" $files
+    cp "$room/out" schema.json
+    put wanted "${1% in *}"
+    judge "$label: export" "$(cat wanted)"
+    case $1 in
+        'error '*' in '*) if is_refused_in "${1##* in }"; then count "$label: file" yes; else count "$label: file" no; fi ;;
+    esac
+}
+
+# The rows of `packages`: sources, a root, what is wanted of `export`, and cells of what is wanted of documents, by `vet` and
+# `agree`, and by `validate` where they have a verdict.
+packages() { # folder
+    rows packages > "$room/rows"
+    : > "$room/in"
+    while IFS= read -r row; do
+        label="$1: $row"
+        cut_cell
+        put_sources "$cell"
+        cut_cell
+        put word "$cell"
+        word=$(cat word)
+        root=${word#\#}
+        cut_cell
+        exported "$cell"
+        while [ -n "$row" ]; do
+            cut_cell
+            case $cell in *valid:*) each "$cell" vet agree validate ;; *) each "$cell" vet agree ;; esac
+        done
+    done < "$room/rows"
+}
+
+# The rows of `schemas`: a schema, and cells of what is wanted of documents by `validate`.
+schemas() { # folder
+    rows schemas > "$room/rows"
+    : > "$room/in"
+    while IFS= read -r row; do
+        label="$1: $row"
+        cut_cell
+        put schema.json "$cell"
+        while [ -n "$row" ]; do
+            cut_cell
+            each "$cell" validate
+        done
+    done < "$room/rows"
+}
+
 # Each front of a source, byte by byte: how many bytes, or from how many to how many, and what is wanted of them.
 fronts() { # folder
     next=0
@@ -124,7 +256,7 @@ for name in "$@"; do
     root=
     if [ -e args ]; then root=$(sed -n 's/^#//p' args | tail -n 1); fi
     form=single
-    for it in runs documents table repeated fronts; do
+    for it in runs documents packages schemas table repeated fronts; do
         if [ -e "$it" ]; then form=$it; fi
     done
     "$form" "cases/$name"
