@@ -174,7 +174,6 @@ exported() {
 # `agree`, and by `validate` where they have a verdict.
 packages() { # folder
     rows packages > "$room/rows"
-    : > "$room/in"
     while IFS= read -r row; do
         label="$1: $row"
         cut_cell
@@ -195,7 +194,6 @@ packages() { # folder
 # The rows of `schemas`: a schema, and cells of what is wanted of documents by `validate`.
 schemas() { # folder
     rows schemas > "$room/rows"
-    : > "$room/in"
     while IFS= read -r row; do
         label="$1: $row"
         cut_cell
@@ -222,6 +220,94 @@ fronts() { # folder
     [ "$next" -eq $(($(wc -c < stdin) + 1)) ] || { status=-; count "$1: the rows end before $next" no; }
 }
 
+# for_fronts COMMAND: runs the command for each front of `whole`, the text itself among them, which is the file `front`
+for_fronts() {
+    for length in $(seq 0 "$(wc -c < whole)"); do
+        head -c "$length" whole > front
+        "$1"
+    done
+}
+
+# answer: runs the program with `words`, and prints its verdict or the number of its refusal
+answer() {
+    run_line "$words"
+    [ "$status" -le 2 ] || echo "status $status"
+    sed -E 's/^error ([0-9]+)( at [0-9]+)?$/\1/' "$room/out" "$room/said"
+}
+
+# The rows of `answers`: words, a text, and what is answered for its fronts: each verdict or number for one front at least, and
+# nothing else.
+answers() { # folder
+    rows answers > "$room/rows"
+    while IFS= read -r row; do
+        label="$1: $row"
+        cut_cell
+        words=$cell
+        cut_cell
+        put whole "$cell"
+        for_fronts answer | sort -u > told
+        if printf '%s\n' "$row" | tr ' ' '\n' | sort -u | cmp -s - told; then count "$label" yes; else count "$label: $(cat told)" no; fi
+    done < "$room/rows"
+}
+
+# faults_told: the number and the place of each fault that the run of `check` has told, a line each
+faults_told() {
+    sed -E 's/^([^ ]+): error ([0-9]+): .*/\2 at \1/' "$room/out"
+}
+
+# The rows of `faults`: sources, and the number and the place of each fault that `check` tells.
+faults() { # folder
+    rows faults > "$room/rows"
+    while IFS= read -r row; do
+        label="$1: $row"
+        cut_cell
+        put_sources "$cell"
+        cut_cell
+        run check $files
+        printf '%s' "$cell${cell:+, }" | sed 's/, /\n/g' > wanted
+        if faults_told | cmp -s - wanted && [ ! -s "$room/said" ]; then count "$label" yes; else count "$label" no; fi
+    done < "$room/rows"
+}
+
+# first_fault: the refusal of `export` for `front` as faults_told has it, without its place where it has no offset; nothing for 13,
+# which is none of the source
+first_fault() {
+    run export --root '#A' front
+    number=
+    offset=
+    read -r _ number _ offset < "$room/said" || true
+    [ "$number" != 13 ] || number=
+    before=$(head -c "${offset:-0}" front; printf .)
+    line=$(($(printf '%s' "$before" | wc -l) + 1))
+    before=${before##*
+}
+    wanted=$number${offset:+" at front:$line:${#before}"}
+}
+
+# is_first: judges the faults of `front`: the first is that of `export`, and none but a cycle is told twice
+is_first() {
+    first_fault
+    run check front
+    faults_told > told
+    first=$(head -n 1 told)
+    [ -n "$offset" ] || first=${first%% at *}
+    if [ "$first" = "$wanted" ] && [ -z "$(grep -v '^12 ' told | sort | uniq -d)" ]; then
+        count "$label: $length" yes
+    else
+        count "$label: $length: wanted $wanted" no
+    fi
+}
+
+# The rows of `firsts`: sources, each of whose fronts is checked.
+firsts() { # folder
+    rows firsts > "$room/rows"
+    while IFS= read -r row; do
+        label="$1: $row"
+        put whole "$row"
+        for_fronts is_first
+    done < "$room/rows"
+}
+
 # is_file FILE WANTED: whether the file is the other, which may be left out where nothing is wanted, and says `*` where
 # anything is
 is_file() {
@@ -236,7 +322,6 @@ is_file() {
 
 # One run, by files.
 single() { # folder
-    : > "$room/in"
     if [ -e stdin ]; then cp stdin "$room/in"; fi
     run_args
     wanted=0
@@ -253,10 +338,11 @@ for name in "$@"; do
     # The program runs in a copy of the folder, where the files stand that its words name.
     cp -r "$cases/$name" "$room/here"
     cd "$room/here"
+    : > "$room/in"
     root=
     if [ -e args ]; then root=$(sed -n 's/^#//p' args | tail -n 1); fi
     form=single
-    for it in runs documents packages schemas table repeated fronts; do
+    for it in runs documents packages schemas answers faults firsts table repeated fronts; do
         if [ -e "$it" ]; then form=$it; fi
     done
     "$form" "cases/$name"
