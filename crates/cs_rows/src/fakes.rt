@@ -55,6 +55,7 @@ pub(crate) struct Output {
     kind: Option<ErrorKind>,
     pub(crate) has_failed: bool,
     flushed: usize,
+    pub(crate) flush_calls: usize,
     /// How many flushes had something new to flush.
     pub(crate) flushes: usize,
 }
@@ -73,6 +74,7 @@ impl Output {
             kind,
             has_failed: false,
             flushed: 0,
+            flush_calls: 0,
             flushes: 0,
         }
     }
@@ -107,6 +109,7 @@ impl Write for Output {
     }
 
     fn flush(&mut self) -> io::Result<()> {
+        self.flush_calls = self.flush_calls.saturating_add(1);
         if self.fails() {
             return Err(Error::from(self.kind.unwrap_or(ErrorKind::Other)));
         }

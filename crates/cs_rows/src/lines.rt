@@ -1,7 +1,6 @@
 // `run_lines`, with the first, the second, the third read or write failing and so on, until a run meets none; and how often it flushes.
-use crate::hostile::fakes::{Input, Output};
-use crate::hostile::tables::{Row, check};
-use crate::tables::cell;
+use crate::fakes::{Input, Output};
+use crate::tables::{Row, cell, check};
 use cs_judge::{LinesOutcome, run_lines};
 use cs_tool::{Fault, Rules};
 use std::alloc::{AllocError, Global};
@@ -31,7 +30,7 @@ struct Case<'a> {
 }
 
 /// The rules of a call for `#P`.
-pub(crate) fn rules_of(alloc: Global, call: &str, text: &str) -> Result<Rules, AllocError> {
+fn rules_of(alloc: Global, call: &str, text: &str) -> Result<Rules, AllocError> {
     let text = Vec::from_slice(alloc, text.as_bytes())?;
     if call == "validate" {
         return Ok(Rules::Schema { schema: text });
