@@ -250,7 +250,7 @@ answers() { # folder
     done < "$room/rows"
 }
 
-# faults_told: the number and the place of each fault that the run of `check` has told, a line each
+# faults_told: the number and the place of each fault that the run of `check` has told, a line for each
 faults_told() {
     sed -E 's/^([^ ]+): error ([0-9]+): .*/\2 at \1/' "$room/out"
 }
@@ -264,8 +264,14 @@ faults() { # folder
         put_sources "$cell"
         cut_cell
         run check $files
+        ended=0
+        [ -z "$cell" ] || ended=2
         printf '%s' "$cell${cell:+, }" | sed 's/, /\n/g' > wanted
-        if faults_told | cmp -s - wanted && [ ! -s "$room/said" ]; then count "$label" yes; else count "$label" no; fi
+        if [ "$status" -eq "$ended" ] && faults_told | cmp -s - wanted && [ ! -s "$room/said" ]; then
+            count "$label" yes
+        else
+            count "$label" no
+        fi
     done < "$room/rows"
 }
 
