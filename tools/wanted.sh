@@ -62,7 +62,7 @@ is_run() {
 # is_verdict STATUS WORD: the same of one word, without another process, since most runs are judged so
 is_verdict() {
     [ "$status" -eq "$1" ] && [ ! -s "$room/said" ] \
-        && { IFS= read -r line && [ "$line" = "$2" ] && ! IFS= read -r line && [ -z "$line" ]; } < "$room/out"
+        && { IFS= read -r printed && [ "$printed" = "$2" ] && ! IFS= read -r printed && [ -z "$printed" ]; } < "$room/out"
 }
 
 # is_listed STATUS [TEXTS]: whether the run ended so and printed these lines, with a `;` between them in place of a newline

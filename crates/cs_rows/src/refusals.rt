@@ -60,14 +60,22 @@ fn fault_of_sources(alloc: Global, number: u32) -> Fault {
     }
 }
 
-/// A refusal of that number.
-fn fault_of(alloc: Global, number: u32) -> Fault {
-    let (place, name) = (String::new(alloc), String::new(alloc));
+/// A refusal of that number by a place and a name of a schema.
+fn fault_of_schemas(alloc: Global, number: u32) -> Fault {
+    let name = String::new(alloc);
+    let place = String::new(alloc);
     match number {
-        20 => Fault::SchemaNotJson,
         21 => Fault::Keyword { place, name },
         22 => Fault::Shape { place, name },
-        23 => Fault::Reference { place, name },
+        _ => Fault::Reference { place, name },
+    }
+}
+
+/// A refusal of that number.
+fn fault_of(alloc: Global, number: u32) -> Fault {
+    match number {
+        20 => Fault::SchemaNotJson,
+        21..=23 => fault_of_schemas(alloc, number),
         24 => Fault::Loop {
             names: Vec::new(alloc),
         },
@@ -98,16 +106,19 @@ fn refusals_have_a_line_and_a_message(rt: HostRuntime) -> Result<(), Fail> {
     check(rt.alloc(), REFUSALS, Row::Refusal)
 }
 
-fn is_unknown_root<T>(answer: &Result<T, Fault>) -> bool {
-    matches!(answer, Err(Fault::UnknownRoot))
+fn is_unknown_root(refusal: &Option<Fault>) -> bool {
+    matches!(refusal, Some(Fault::UnknownRoot))
+}
+
+/// Whether a package of no sources is refused for its root by `export`, `vet` and `agree`.
+fn is_nothing_declared(alloc: Global) -> bool {
+    let exported = export(alloc, &[], "#A").err();
+    let vetted = vet(alloc, &[], "#A", b"1").err();
+    let agreed = agree(alloc, &[], "#A", b"1").err();
+    is_unknown_root(&exported) && is_unknown_root(&vetted) && is_unknown_root(&agreed)
 }
 
 #[test]
 fn no_sources_declare_no_root(rt: HostRuntime) {
-    let alloc = rt.alloc();
-    let exported = export(alloc, &[], "#A");
-    let vetted = vet(alloc, &[], "#A", b"1");
-    let agreed = agree(alloc, &[], "#A", b"1");
-    let are_refused = is_unknown_root(&exported) && is_unknown_root(&vetted);
-    assert!(rt; are_refused && is_unknown_root(&agreed));
+    assert!(rt; is_nothing_declared(rt.alloc()));
 }

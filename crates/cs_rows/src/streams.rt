@@ -217,9 +217,11 @@ pub(crate) fn is_whole(alloc: Global, row: &str) -> Result<bool, AllocError> {
     let input = expanded(alloc, case.input)?;
     let wanted = expanded(alloc, case.wanted)?;
     let case = Case {
+        call: case.call,
+        text: case.text,
+        doc: case.doc,
         input: &input,
         wanted: &wanted,
-        ..case
     };
     Ok(is_answered(alloc, case, a_call.parse::<usize>().unwrap_or(0)))
 }

@@ -59,9 +59,15 @@ pub(crate) fn expanded(alloc: Global, row: &str) -> Result<String, AllocError> {
         let (repeated, after) = piece.split_once('⟩').unwrap_or(("", piece));
         let (count, text) = repeated.split_once('×').unwrap_or(("", ""));
         let count = count.parse::<usize>().unwrap_or(0);
-        let text = text.repeat(alloc, count)?;
-        whole.push_str(&text)?;
+        push_times(&mut whole, text, count)?;
         whole.push_str(after)?;
     }
     Ok(whole)
+}
+
+fn push_times(whole: &mut String, text: &str, count: usize) -> Result<(), AllocError> {
+    for _ in 0..count {
+        whole.push_str(text)?;
+    }
+    Ok(())
 }
