@@ -256,7 +256,13 @@ try "{$(links 10 64 '"A<":{"additionalProperties":false,"properties":{"a":{"$ref
     'run export --root "#A10" chain.cue'
 try_calls valid '#A10' chain.cue chain.json
 try_calls invalid '#A10' chain.cue null-chain.json
-try_refused 'error 16' '#A10' longer.cue one
+printf 1 > unit
+try_refused 'error 16' '#A10' longer.cue unit
+# The deepest schema that a source of 28 levels has.
+deepest="#N: $(repeat 27 '{a: _, a: ')!=1$(repeat 27 ', ...}')"
+printf '%s\n%s' "$deepest" "$deepest" > deepest.cue
+try_run 0 114 '' 'run export --root "#N" deepest.cue | sed "s/\"[^\"]*\"//g" | grep -o "[][{}]" \
+    | awk "/[[{]/ { if (++open > most) most = open } /[]}]/ { open-- } END { print most }"'
 # Definitions that each refer twice to the next one.
 printf 7 > seven
 printf null > null.json
