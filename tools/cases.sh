@@ -75,9 +75,14 @@ repeated() { # folder
     done < repeated
 }
 
-# rows FILE: the rows of a table; a line that begins with two blanks and `…` goes on with the one before it
-rows() {
-    sed -e ':more' -e 'N' -e '$!b more' -e 's/\n  …//g' "$1"
+# for_rows FILE FOLDER COMMAND: runs the command for each `row` of a table; a line that begins with two blanks and `…` goes on with the
+# one before it
+for_rows() {
+    sed -e ':more' -e 'N' -e '$!b more' -e 's/\n  …//g' "$1" > "$room/rows"
+    while IFS= read -r row || [ -n "$row" ]; do
+        label="$2: $row"
+        "$3"
+    done < "$room/rows"
 }
 
 # cut_cell: takes the first cell off `row`, as `cell`; `-` stands for one without a text
@@ -172,38 +177,32 @@ exported() {
 
 # The rows of `packages`: sources, a root, what is wanted of `export`, and cells of what is wanted of documents, by `vet` and
 # `agree`, and by `validate` where they have a verdict.
-packages() { # folder
-    rows packages > "$room/rows"
-    while IFS= read -r row; do
-        label="$1: $row"
+package() {
+    cut_cell
+    put_sources "$cell"
+    cut_cell
+    put word "$cell"
+    word=$(cat word)
+    root=${word#\#}
+    cut_cell
+    exported "$cell"
+    while [ -n "$row" ]; do
         cut_cell
-        put_sources "$cell"
-        cut_cell
-        put word "$cell"
-        word=$(cat word)
-        root=${word#\#}
-        cut_cell
-        exported "$cell"
-        while [ -n "$row" ]; do
-            cut_cell
-            case $cell in *valid:*) each "$cell" vet agree validate ;; *) each "$cell" vet agree ;; esac
-        done
-    done < "$room/rows"
+        case $cell in *valid:*) each "$cell" vet agree validate ;; *) each "$cell" vet agree ;; esac
+    done
 }
+packages() { for_rows packages "$1" package; } # folder
 
 # The rows of `schemas`: a schema, and cells of what is wanted of documents by `validate`.
-schemas() { # folder
-    rows schemas > "$room/rows"
-    while IFS= read -r row; do
-        label="$1: $row"
+schema() {
+    cut_cell
+    put schema.json "$cell"
+    while [ -n "$row" ]; do
         cut_cell
-        put schema.json "$cell"
-        while [ -n "$row" ]; do
-            cut_cell
-            each "$cell" validate
-        done
-    done < "$room/rows"
+        each "$cell" validate
+    done
 }
+schemas() { for_rows schemas "$1" schema; } # folder
 
 # Each front of a source, byte by byte: how many bytes, or from how many to how many, and what is wanted of them.
 fronts() { # folder
@@ -237,18 +236,15 @@ answer() {
 
 # The rows of `answers`: words, a text, and what is answered for its fronts: each verdict or number for one front at least, and
 # nothing else.
-answers() { # folder
-    rows answers > "$room/rows"
-    while IFS= read -r row; do
-        label="$1: $row"
-        cut_cell
-        words=$cell
-        cut_cell
-        put whole "$cell"
-        for_fronts answer | sort -u > told
-        if printf '%s\n' "$row" | tr ' ' '\n' | sort -u | cmp -s - told; then count "$label" yes; else count "$label: $(cat told)" no; fi
-    done < "$room/rows"
+answered() {
+    cut_cell
+    words=$cell
+    cut_cell
+    put whole "$cell"
+    for_fronts answer | sort -u > told
+    if printf '%s\n' "$row" | tr ' ' '\n' | sort -u | cmp -s - told; then count "$label" yes; else count "$label: $(cat told)" no; fi
 }
+answers() { for_rows answers "$1" answered; } # folder
 
 # faults_told: the number and the place of each fault that the run of `check` has told, a line for each
 faults_told() {
@@ -256,24 +252,21 @@ faults_told() {
 }
 
 # The rows of `faults`: sources, and the number and the place of each fault that `check` tells.
-faults() { # folder
-    rows faults > "$room/rows"
-    while IFS= read -r row; do
-        label="$1: $row"
-        cut_cell
-        put_sources "$cell"
-        cut_cell
-        run check $files
-        ended=0
-        [ -z "$cell" ] || ended=2
-        printf '%s' "$cell${cell:+, }" | sed 's/, /\n/g' > wanted
-        if [ "$status" -eq "$ended" ] && faults_told | cmp -s - wanted && [ ! -s "$room/said" ]; then
-            count "$label" yes
-        else
-            count "$label" no
-        fi
-    done < "$room/rows"
+faulty() {
+    cut_cell
+    put_sources "$cell"
+    cut_cell
+    run check $files
+    ended=0
+    [ -z "$cell" ] || ended=2
+    printf '%s' "$cell${cell:+, }" | sed 's/, /\n/g' > wanted
+    if [ "$status" -eq "$ended" ] && faults_told | cmp -s - wanted && [ ! -s "$room/said" ]; then
+        count "$label" yes
+    else
+        count "$label" no
+    fi
 }
+faults() { for_rows faults "$1" faulty; } # folder
 
 # first_fault: the refusal of `export` for `front` as faults_told has it, without its place where it has no offset; nothing for 13,
 # which is none of the source
@@ -282,6 +275,7 @@ first_fault() {
     number=
     offset=
     read -r _ number _ offset < "$room/said" || true
+    [ "$status" -le 2 ] || number="status $status"
     [ "$number" != 13 ] || number=
     before=$(head -c "${offset:-0}" front; printf .)
     line=$(($(printf '%s' "$before" | wc -l) + 1))
@@ -297,7 +291,7 @@ is_first() {
     faults_told > told
     first=$(head -n 1 told)
     [ -n "$offset" ] || first=${first%% at *}
-    if [ "$first" = "$wanted" ] && [ -z "$(grep -v '^12 ' told | sort | uniq -d)" ]; then
+    if [ "$status" -le 2 ] && [ "$first" = "$wanted" ] && [ -z "$(grep -v '^12 ' told | sort | uniq -d)" ]; then
         count "$label: $length" yes
     else
         count "$label: $length: wanted $wanted" no
@@ -305,14 +299,11 @@ is_first() {
 }
 
 # The rows of `firsts`: sources, each of whose fronts is checked.
-firsts() { # folder
-    rows firsts > "$room/rows"
-    while IFS= read -r row; do
-        label="$1: $row"
-        put whole "$row"
-        for_fronts is_first
-    done < "$room/rows"
+first_faults() {
+    put whole "$row"
+    for_fronts is_first
 }
+firsts() { for_rows firsts "$1" first_faults; } # folder
 
 # is_file FILE WANTED: whether the file is the other, which may be left out where nothing is wanted, and says `*` where
 # anything is
