@@ -47,6 +47,31 @@ listed() {
     awk -v form="$1" 'BEGIN { for (i = 0; i < 49998; i++) printf "%s" form, (i ? "," : ""), i }'
 }
 
+# links FROM COUNT LINK: so many lines by a text, whose `<` stands for the number and `>` for the next one
+links() {
+    seq "$1" "$(($1 + $2 - 1))" | awk -v link="$3" '{ text = link; gsub("<", $1, text); gsub(">", $1 + 1, text); print text }'
+}
+
+# repeat COUNT TEXT: a text so many times
+repeat() {
+    yes "$2" | head -n "$1" | tr -d '\n'
+}
+
+# try_calls WANTED ROOT SOURCE DOCUMENT: a document by a definition, by its schema, and by both
+try_calls() {
+    "$program" export --root "$2" "$3" > exported.json
+    for words in "vet --root '$2' --doc $4 $3" "agree --root '$2' --doc $4 $3" "validate --schema exported.json --doc $4"; do
+        try "$1" "run $words # $3 $4"
+    done
+}
+
+# try_refused WANTED ROOT SOURCE DOCUMENT: a package that is refused
+try_refused() {
+    for words in "export --root '$2' $3" "vet --root '$2' --doc $4 $3" "agree --root '$2' --doc $4 $3"; do
+        try "$1" "run $words"
+    done
+}
+
 mkdir "$room/here"
 cd "$room/here"
 port='{"P":{"maximum":65535,"minimum":1,"type":"integer"}}'
@@ -220,6 +245,49 @@ try 'error 20' 'run validate --schema input-limit --doc one'
 try 'error 28' 'run validate --schema input-over --doc one'
 try 'error 25' 'run agree --root "#P" --doc input-limit port.cue'
 try 'error 28' 'run agree --root "#P" --doc input-over port.cue'
+
+# Chains: 64 references in turn are judged, and one more is refused. The numbers begin with 10, so that their order is that of their texts.
+root=A10
+{ links 10 64 '#A<: {a: #A>}'; echo '#A74: int'; } > chain.cue
+{ links 10 65 '#A<: {a: #A>}'; echo '#A75: int'; } > longer.cue
+{ repeat 64 '{"a":'; printf 1; repeat 64 '}'; } > chain.json
+{ repeat 64 '{"a":'; printf null; repeat 64 '}'; } > null-chain.json
+try "{$(links 10 64 '"A<":{"additionalProperties":false,"properties":{"a":{"$ref":"#/$defs/A>"}},"required":["a"],"type":"object"},' | tr -d '\n')\"A74\":{\"type\":\"integer\"}}" \
+    'run export --root "#A10" chain.cue'
+try_calls valid '#A10' chain.cue chain.json
+try_calls invalid '#A10' chain.cue null-chain.json
+printf 1 > unit
+try_refused 'error 16' '#A10' longer.cue unit
+# The deepest schema that a source of 28 levels has.
+deepest="#N: $(repeat 27 '{a: _, a: ')!=1$(repeat 27 ', ...}')"
+printf '%s\n%s' "$deepest" "$deepest" > deepest.cue
+try_run 0 114 '' 'run export --root "#N" deepest.cue | sed "s/\"[^\"]*\"//g" | grep -o "[][{}]" \
+    | awk "/[[{]/ { if (++open > most) most = open } /[]}]/ { open-- } END { print most }"'
+# Definitions that each refer twice to the next one.
+printf 7 > seven
+printf null > null.json
+{ links 10 40 '#A<: #A> & #A>'; echo '#A50: int'; } > double.cue
+try "{$(links 10 40 '"A<":{"allOf":[{"$ref":"#/$defs/A>"},{"$ref":"#/$defs/A>"}]},' | tr -d '\n')\"A50\":{\"type\":\"integer\"}}" \
+    'run export --root "#A10" double.cue'
+try_calls valid '#A10' double.cue seven
+try_calls invalid '#A10' double.cue null.json
+root=P
+for mark in '&' '|'; do
+    { links 0 64 "#A<: #A> $mark #A>"; echo '#A64: int'; } > double.cue
+    { links 0 65 "#A<: #A> $mark #A>"; echo '#A65: int'; } > longer.cue
+    try_calls valid '#A0' double.cue seven
+    try_calls invalid '#A0' double.cue null.json
+    try_refused 'error 16' '#A0' longer.cue seven
+done
+# 8,192 rules are judged for a list of 8,191 zeros, and have too many pairs with one of 8,192.
+{ printf '#A0: '; repeat 8189 '_ & '; printf _; } > rules.cue
+{ printf '['; repeat 8190 '0,'; printf '0]'; } > most.json
+{ printf '['; repeat 8191 '0,'; printf '0]'; } > over.json
+try_calls valid '#A0' rules.cue most.json
+try_calls 'error 27' '#A0' rules.cue over.json
+# Of more than fifty faults 50 are told.
+{ printf '#A: {'; repeat 60 'a: *1, '; printf '}'; } > faults.cue
+try_run 2 50 '' 'run check faults.cue | wc -l'
 
 # Many files: each is read to its end and let go before the next one, and all of them have one limit.
 try valid 'run vet --root "#P" --doc one $(yes port.cue | head -n 300)'

@@ -59,6 +59,12 @@ is_run() {
     [ "$status" -eq "$1" ] && is_text "$room/out" "$2" && is_text "$room/said" "$3"
 }
 
+# is_verdict STATUS WORD: the same of one word, without another process, since most runs are judged so
+is_verdict() {
+    [ "$status" -eq "$1" ] && [ ! -s "$room/said" ] \
+        && { IFS= read -r printed && [ "$printed" = "$2" ] && ! IFS= read -r printed && [ -z "$printed" ]; } < "$room/out"
+}
+
 # is_listed STATUS [TEXTS]: whether the run ended so and printed these lines, with a `;` between them in place of a newline
 is_listed() {
     listed=$1
@@ -87,8 +93,8 @@ is_told_more() {
 is_wanted() {
     case $1 in
         answered) is_answered ;;
-        valid) is_run 0 valid '' ;;
-        invalid) is_run 1 invalid '' ;;
+        valid) is_verdict 0 valid ;;
+        invalid) is_verdict 1 invalid ;;
         'error 15') is_run 5 '' "$1" ;;
         'error 30' | 'error 31') is_run 4 '' "$1" ;;
         'error '*) is_run 2 '' "$1" ;;

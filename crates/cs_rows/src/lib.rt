@@ -1,24 +1,12 @@
-// Worked examples, and hostile input: the calls of `cs_tool`, `cs_judge` and `cs_check`.
+// The calls of `cs_tool` and `cs_judge` over readers and writers that fail, and the words of refusals: what the program can't show.
 #![tactic(auto)]
 
 #[cfg(test)]
-mod chains;
+mod fakes;
 #[cfg(test)]
-mod commands;
-#[cfg(test)]
-mod documents;
-#[cfg(test)]
-mod examples;
-#[cfg(test)]
-mod faults;
-#[cfg(test)]
-mod hostile;
-#[cfg(test)]
-mod keywords;
+mod lines;
 #[cfg(test)]
 mod refusals;
-#[cfg(test)]
-mod requests;
 #[cfg(test)]
 mod streams;
 #[cfg(test)]
