@@ -41,10 +41,15 @@ fn answer_lines(
 fn answer_files(rt: &HostRuntime, rules: &Rules, paths: &[&str]) -> Result<u8, Fault> {
     let prepared = prepare(rt.alloc(), rules)?;
     let mut judge = prepared.judge(rt.alloc())?;
+    answer_paths(rt, &mut judge, paths)
+}
+
+/// The status after these files, by a judge.
+fn answer_paths(rt: &HostRuntime, judge: &mut TextJudge<'_>, paths: &[&str]) -> Result<u8, Fault> {
     let mut outcome = LinesOutcome::AllValid;
     let mut is_unread = false;
     for path in paths {
-        let answer = answer_file(rt, &mut judge, path)?;
+        let answer = answer_file(rt, judge, path)?;
         outcome = outcome.with(answer.unwrap_or(LinesOutcome::SomeRefused));
         is_unread |= answer.is_none();
     }
