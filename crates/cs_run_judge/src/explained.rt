@@ -3,7 +3,7 @@ use crate::INVALID;
 use crate::many::{UNREAD, status_of};
 use clap::ArgMatches;
 use cs_judge::{
-    LinesOutcome, TextJudge, Why, explain_lines, prepare, run_explained, write_explained,
+    LinesOutcome, Prepared, TextJudge, Why, explain_lines, prepare, run_explained, write_explained,
     write_unexplained,
 };
 use cs_place::Named;
@@ -161,6 +161,16 @@ fn explain_document(
     why: Why<'_>,
 ) -> Result<u8, Fault> {
     let prepared = prepare(rt.alloc(), rules)?;
+    explain_prepared(rt, &prepared, document, why)
+}
+
+/// The same by prepared rules.
+fn explain_prepared(
+    rt: &HostRuntime,
+    prepared: &Prepared<'_>,
+    document: Named<'_>,
+    why: Why<'_>,
+) -> Result<u8, Fault> {
     let mut judge = prepared.judge(rt.alloc())?;
     let truth = run_explained(rt.alloc(), &mut judge, document, why, &mut rt.stdout())?;
     Ok(if truth { 0 } else { INVALID })
@@ -239,6 +249,16 @@ fn explain_files(
     paths: &[&str],
 ) -> Result<u8, Fault> {
     let prepared = prepare(rt.alloc(), rules)?;
+    explain_prepared_files(rt, &prepared, why, paths)
+}
+
+/// The same by prepared rules.
+fn explain_prepared_files(
+    rt: &HostRuntime,
+    prepared: &Prepared<'_>,
+    why: Why<'_>,
+    paths: &[&str],
+) -> Result<u8, Fault> {
     let mut judge = prepared.judge(rt.alloc())?;
     explain_paths(rt, &mut judge, why, paths)
 }

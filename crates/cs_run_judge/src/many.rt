@@ -1,6 +1,6 @@
 // Many documents by the same rules, with a line for each.
 use crate::INVALID;
-use cs_judge::{LinesOutcome, TextJudge, prepare, run_lines, write_answer, write_unread};
+use cs_judge::{LinesOutcome, Prepared, TextJudge, prepare, run_lines, write_answer, write_unread};
 use cs_run_input::{Documents, read_input};
 use cs_tool::{Fault, Rules};
 use std::fs::File;
@@ -40,6 +40,11 @@ fn answer_lines(
 /// The status after a line for each file: that of the documents, unless one could not be read.
 fn answer_files(rt: &HostRuntime, rules: &Rules, paths: &[&str]) -> Result<u8, Fault> {
     let prepared = prepare(rt.alloc(), rules)?;
+    answer_prepared(rt, &prepared, paths)
+}
+
+/// The same by prepared rules.
+fn answer_prepared(rt: &HostRuntime, prepared: &Prepared<'_>, paths: &[&str]) -> Result<u8, Fault> {
     let mut judge = prepared.judge(rt.alloc())?;
     answer_paths(rt, &mut judge, paths)
 }

@@ -5,7 +5,7 @@ use clap::ArgMatches;
 use cs_compare::{CompareRefusal, Comparison, Side, compare as compare_sources};
 use cs_doc::write_doc;
 use cs_document::Doc;
-use cs_judge::{Why, prepare};
+use cs_judge::{Prepared, Why, prepare};
 use cs_place::Named;
 use cs_report::Form;
 use cs_run_input::{Reasons, named_sources, print, read_sources, reasons_of, texts_of, word_of};
@@ -167,7 +167,7 @@ fn put_breaking(
         return Ok(());
     };
     let mut told = Vec::new(alloc);
-    explain(alloc, &shown, to, reasons, &mut told)?;
+    let _is_instance = explain(alloc, &shown, to, reasons, &mut told)?;
     if is_json(Some(reasons)) {
         put_object(text, &shown, &told)?;
     } else {
@@ -194,21 +194,31 @@ fn explain(
     to: Edition<'_>,
     reasons: Reasons,
     told: &mut Vec<u8>,
-) -> Result<(), Fault> {
-    let document = Named {
-        name: SHOWN,
-        text: shown,
-        line: 1,
-    };
-    let prepared = prepare(alloc, to.rules)?;
-    let mut judge = prepared.judge(alloc)?;
+) -> Result<bool, Fault> {
     let why = Why {
         sources: to.sources,
         form: reasons.form,
         telling: reasons.telling,
     };
-    judge.explain(document, why, told)?;
-    Ok(())
+    let prepared = prepare(alloc, to.rules)?;
+    explain_prepared(alloc, &prepared, shown, why, told)
+}
+
+/// The same by prepared rules.
+fn explain_prepared(
+    alloc: Global,
+    prepared: &Prepared<'_>,
+    shown: &[u8],
+    why: Why<'_>,
+    told: &mut Vec<u8>,
+) -> Result<bool, Fault> {
+    let document = Named {
+        name: SHOWN,
+        text: shown,
+        line: 1,
+    };
+    let mut judge = prepared.judge(alloc)?;
+    judge.explain(document, why, told)
 }
 
 /// Puts the answer in lines: the word, the document and the reasons.
