@@ -14,9 +14,9 @@ import sys
 from pathlib import Path
 
 TOP = Path(__file__).resolve().parent.parent
-# Of the memory that `rt` plans for a check, what it takes at most: half, as measured over all crates, and a tenth of that to spare. By the
-# whole plan only two of the larger crates are proved side by side in 24 GiB.
-SHARE = 0.55
+# Of the memory that `rt` plans for a check, what it takes at most: 62 hundredths, as measured over all crates (4.4 GB for `cs_judge`). By
+# the whole plan only two of the larger crates are proved side by side in 24 GiB.
+SHARE = 0.65
 
 
 @functools.lru_cache(maxsize=None)
