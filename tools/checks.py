@@ -26,7 +26,14 @@ TOP = Path(__file__).resolve().parent.parent
 COUNTED = re.compile(r"(\d+) passed[,;] (\d+) failed")
 TEST = re.compile(r"^#\[test\]", re.M)
 # What can be seen from the files in a second.
-OF_FILES = [["tools/edits.py", "--fit"], ["tools/recursions.sh"], ["tools/definitions.sh"], ["tools/contracts.sh"], ["tools/places.py"]]
+OF_FILES = [
+    ["tools/edits.py", "--fit"],
+    ["tools/recursions.sh"],
+    ["tools/definitions.sh"],
+    ["tools/contracts.sh"],
+    ["tools/places.py"],
+    ["tools/promises.py"],
+]
 # What is asked of a program, the longest first.
 OF_PROGRAMS = ["tools/cases.sh", "tools/commands.sh", "tools/examples.sh", "tools/natural.py", "tools/pages.sh", "tools/explained.py"]
 

@@ -4,12 +4,13 @@
 # lines it has, without empty ones, comments and imports, and a closing line with their sum. What is declared in the code, and what
 # std and the ported crates define, isn't counted. Status 2 where an import names a file that isn't there.
 #
-#     tools/reached.sh [FILE]        another file to begin from, as crates/cs_doc/specs/Texts.antt
+#     tools/reached.sh [FILE..]      other files to begin from, as crates/cs_doc/specs/Texts.antt
 set -eu
 cd "$(dirname "$0")/.."
 export LC_ALL=C
 
-awk -v first="${1:-crates/cs_tool/specs/Headline.antt}" '
+[ $# -gt 0 ] || set -- crates/cs_tool/specs/Headline.antt
+awk -v first="$*" '
     function is_there(file,    line, status) {
         status = (getline line < file)
         close(file)
@@ -57,12 +58,15 @@ awk -v first="${1:-crates/cs_tool/specs/Headline.antt}" '
     }
 
     BEGIN {
-        if (!is_there(first)) {
-            print "there is no " first > "/dev/stderr"
-            wrong = 1
-            exit 2
+        n = split(first, begun, " ")
+        for (i = 1; i <= n; i++) {
+            if (!is_there(begun[i])) {
+                print "there is no " begun[i] > "/dev/stderr"
+                wrong = 1
+                exit 2
+            }
+            reach(begun[i])
         }
-        reach(first)
     }
 
     END {

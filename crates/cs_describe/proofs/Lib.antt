@@ -9,6 +9,8 @@ pub mod Unchanged
 pub mod PlainDefined
 pub mod PlainLoops
 pub mod PlainLaw
+-- how deep a schema with texts nests
+pub mod Nested
 -- a schema of the profile with texts
 pub mod StillSchema
 mod Samples

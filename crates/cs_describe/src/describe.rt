@@ -1,6 +1,7 @@
 // Descriptions, schema by schema, from the root down.
-ghost use Rattle.std.specs.Prelude.{◌≡◌, IfOk, OnOk, option_map, codes, if◌then◌else◌};
+ghost use Rattle.std.specs.Prelude.{◌≡◌, ◌≤◌, suc, IfOk, OnOk, option_map, codes, if◌then◌else◌};
 ghost use Rattle.std.specs.Str.{bytes_eq};
+ghost use Rattle.cs_document.specs.Document.{depth};
 ghost use Rattle.cs_document.specs.View.{doc_view, list_view, object_view};
 ghost use Rattle.cs_profile.specs.Profile.{IsSchema};
 ghost use Rattle.cs_describe.specs.Described.{described as described_schema, described_members, described_value, described_list, described_elements, described_map, described_named, described_root, described_document, with_text, truth_with_text};
@@ -31,6 +32,7 @@ pub fn described(
     ensures profile { IfOk result (λ d. IsSchema (doc_view doc) → IsSchema (doc_view d)) }
     ensures meaning { IfOk result
         (λ d. IsSchema (doc_view doc) → SameValidity (doc_view doc) (doc_view d)) }
+    ensures nested { IfOk result (λ d. depth (doc_view d) ≤ suc (depth (doc_view doc))) }
 {
     let Doc::Object(members) = doc else {
         return Ok(doc);

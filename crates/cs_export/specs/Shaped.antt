@@ -1,8 +1,8 @@
 -- Schemas as they are asked for: what a text is read as, beside the schema of the translation.
-use Rattle.std.specs.Prelude.{◌≡◌, ℕ, ◌≤◌, List, Bool, false}
+use Rattle.std.specs.Prelude.{◌≡◌, ℕ, suc, ◌≤◌, List, Bool, false}
 use Rattle.serde_json.specs.Read.{max_depth}
 use Rattle.cs_document.specs.Document.{Document, IsDocument, depth}
-use Rattle.cs_doc.specs.Texts.{Reads}
+use Rattle.cs_doc.specs.Texts.{Reads, text_of}
 use Rattle.cs_package.specs.Environment.{Environment}
 use Rattle.cs_instance.specs.Instance.{Rule, definition, IsInstance}
 use Rattle.cs_instance.specs.Instance as instance
@@ -16,6 +16,7 @@ use Rattle.cs_describe.specs.Plain.{plain}
 use Rattle.cs_describe.specs.Meaning.{SameValidity}
 use Rattle.cs_export.specs.declared.layout.Layout.{Layout}
 use Rattle.cs_tool.specs.Accepted.{IsAccepted, DeclaresRoot}
+use Rattle.cs_tool.specs.Headline.{IsExport}
 
 -- the text is read as the document, if that nests no deeper than what `serde_json` reads
 abbrev pub IsTextOf : Document → List ℕ → Type 0
@@ -27,28 +28,41 @@ pub record IsSameSchema (schema document : Document) : Type 0 where
   pub profile : IsSchema document
   pub validity : SameValidity schema document
 
--- the text is the schema as it is asked for. Where descriptions aren't asked for, it is the very schema
+-- nothing is asked for beside the schema
+pub record IsBare (layout : Layout) : Type 0 where
+  pub undescribed : layout.is_described ≡ false
+  pub whole : layout.is_openapi ≡ false
+  pub compact : layout.is_pretty ≡ false
+
+-- the text is the schema as it is asked for. Where descriptions aren't asked for, it is the very schema; with them it nests a level
+-- deeper at most; and where nothing is asked for, the text is the compact one
 pub record IsShaped (layout : Layout) (schema : Document) (text : List ℕ) : Type 0 where
   pub document : Document
   pub written : IsTextOf document text
+  pub nested : layout.is_openapi ≡ false → depth document ≤ suc (depth schema)
+  pub bare : IsBare layout → text ≡ text_of schema
   pub same_schema : layout.is_openapi ≡ false → IsSameSchema schema document
   pub same : layout.is_openapi ≡ false → layout.is_described ≡ false → document ≡ schema
 
--- the text is the schema of the root definition that the sources spell; it admits exactly the documents that the definition admits
+-- the text is the schema of the root definition that the sources spell, which is that of the translation; it is read as a schema that
+-- admits exactly the documents that the definition admits, and where nothing is asked for, it is the text of the export itself
 pub record IsRootSchema (sources : List (List ℕ)) (root : List ℕ) (layout : Layout) (text : List ℕ) : Type 0 where
   pub environment : Environment
   pub name : List ℕ
   pub declares : DeclaresRoot sources root environment name
   pub schema : SchemaValue
   pub compiled : Compiles environment name schema
+  pub translated : IsTranslation environment name (document_of schema)
   pub one_instance : instance.OneMeaning environment
   pub one_validity : validity.OneMeaning (document_of schema)
   pub shaped : IsShaped layout (document_of schema) text
+  pub read : layout.is_openapi ≡ false → Reads text shaped.document
+  pub bare : IsBare layout → IsExport sources root text
   pub admits : layout.is_openapi ≡ false → (V : Document → Document → Bool) (I : Rule → Document → Bool)
       → IsValidity shaped.document V → IsInstance environment I → (x : Document) → IsDocument x
       → V shaped.document x ≡ I (definition name) x
 
--- the text is the schemas of all definitions that the sources spell
+-- the text is the schemas of all definitions that the sources spell, and is read as these
 pub record ArePackageSchemas (sources : List (List ℕ)) (layout : Layout) (text : List ℕ) : Type 0 where
   pub environment : Environment
   pub accepted : IsAccepted sources environment
@@ -57,3 +71,4 @@ pub record ArePackageSchemas (sources : List (List ℕ)) (layout : Layout) (text
   pub one_instance : instance.OneMeaning environment
   pub one_validity : validity.OneMeaning (document_of schema)
   pub shaped : IsShaped layout (document_of schema) text
+  pub read : layout.is_openapi ≡ false → Reads text shaped.document

@@ -1,8 +1,11 @@
 // From a schema to the text that is asked for.
-ghost use Rattle.std.specs.Prelude.{◌≡◌, false, IfOk, IsOkUnless};
+ghost use Rattle.std.specs.Prelude.{◌≡◌, ◌≤◌, suc, false, IfOk, IsOkUnless};
+ghost use Rattle.cs_doc.specs.Texts.{text_of as compact_text};
+ghost use Rattle.cs_document.specs.Document.{depth};
 ghost use Rattle.cs_document.specs.View.{doc_view};
 ghost use Rattle.cs_schema.specs.Profile.{IsSchema};
 ghost use Rattle.cs_schema.specs.SchemaDocument.{document_of};
+ghost use Rattle.cs_schema.specs.Trim.{trim};
 ghost use Rattle.cs_schema.specs.Validity.{OneMeaning};
 ghost use Rattle.cs_export.specs.Shaped.{IsShaped, IsSameSchema, IsTextOf};
 
@@ -25,6 +28,8 @@ pub(crate) fn shaped_text(
     layout: Layout,
 ) -> Result<Vec<u8>, Fault>
     ensures shaped { IfOk result (λ text. IsShaped layout (document_of schema.now) text.items) }
+    ensures profile { IsSchema (document_of schema.now) }
+    ensures trimmed { trim (document_of schema.now) ≡ document_of schema.now }
     ensures memory { IsOkUnless result Fault.OutOfMemory }
 {
     cs_schema::one_meaning(schema); // for the proof: there is one validity
@@ -44,6 +49,7 @@ fn described_if(
     ensures schema { IfOk result (λ d. IsSchema (doc_view doc) → OneMeaning (doc_view doc)
         → IsSameSchema (doc_view doc) (doc_view d)) }
     ensures same { is_described ≡ false → IfOk result (λ d. d ≡ doc) }
+    ensures nested { IfOk result (λ d. depth (doc_view d) ≤ suc (depth (doc_view doc))) }
     ensures memory { IsOkUnless result Fault.OutOfMemory }
 {
     if !is_described {
@@ -67,7 +73,8 @@ fn components_if(alloc: Global, doc: Doc, is_openapi: bool) -> Result<Doc, Fault
 
 /// The text of a document, compact or indented.
 fn text_of(alloc: Global, doc: &Doc, is_pretty: bool) -> Result<Vec<u8>, Fault>
-    ensures written { IfOk result (λ text. IsTextOf (doc_view doc.now) text.items) }
+    ensures written { IfOk result (λ text. IsTextOf (doc_view doc.now) text.items
+        × (is_pretty ≡ false → text.items ≡ compact_text (doc_view doc.now))) }
     ensures memory { IsOkUnless result Fault.OutOfMemory }
 {
     if is_pretty {

@@ -148,7 +148,7 @@ pub const EXPLANATIONS: &[Explanation] = &[
     },
     Explanation {
         number: 17,
-        meaning: "`compare` or `samples` met its limits, and says nothing: 100,000 questions, 5,000,000 steps of search, or 100,000 values in a document.",
+        meaning: "`compare` or `samples` met its limits, and says nothing: 100,000 questions, 5,000,000 steps of search, or in a document 100,000 values or 127 levels.",
         remedy: "Ask of a smaller definition, or split unions that meet in a conjunction.",
     },
     Explanation {

@@ -13,7 +13,8 @@ pub enum QuestionFault {
     OutOfMemory,
     /// A package doesn't declare its root.
     UnknownRoot,
-    /// No answer was found within the limits: 100,000 questions, 5,000,000 steps, and 100,000 values in a document.
+    /// No answer was found within the limits: 100,000 questions, 5,000,000 steps, and in a document 100,000 values and
+    /// 127 levels.
     TooManyCases,
 }
 

@@ -38,6 +38,18 @@ struct Extent {
     depth: usize,
 }
 
+/// That of a scalar.
+const SCALAR: Extent = Extent {
+    values: 1,
+    depth: 0,
+};
+
+/// That of a list or a map with nothing inside.
+const EMPTY: Extent = Extent {
+    values: 1,
+    depth: 1,
+};
+
 /// That of a document that isn't found.
 const ENDLESS: Extent = Extent {
     values: usize::MAX,
@@ -60,13 +72,9 @@ fn joined(first: Extent, second: Extent) -> Extent {
 }
 
 fn extent_found(table: &Table<'_>, extents: &[Extent], found: &Found<'_>) -> Extent {
-    let one = Extent {
-        values: 1,
-        depth: 0,
-    };
     match found {
-        Found::Null | Found::Bool(_) | Found::Int(_) | Found::Text(_) => one,
-        Found::List(parts) => around(table, extents, one, parts),
+        Found::Null | Found::Bool(_) | Found::Int(_) | Found::Text(_) => SCALAR,
+        Found::List(parts) => around(table, extents, EMPTY, parts),
         Found::Map {
             members,
             further,
@@ -97,10 +105,7 @@ fn around_members(
     extents: &[Extent],
     members: &[(&str, Vec<Literal>)],
 ) -> Extent {
-    let mut all = Extent {
-        values: 1,
-        depth: 0,
-    };
+    let mut all = EMPTY;
     for (_label, part) in members {
         all = joined(all, extent_of(table, extents, part));
     }

@@ -1,5 +1,5 @@
 -- What files of low bodies declare is low.
-use Rattle.std.proofs.Common.{◌≡◌, ℕ, ◌≤◌, Bool, true, false, cond, List, [], ◌∷◌, ◌++◌, map, Some, unwrap_or, max, refl, ap₂, subst, arith}
+use Rattle.std.proofs.Common.{◌≡◌, ℕ, ◌≤◌, Bool, true, false, cond, List, [], ◌∷◌, ◌++◌, map, Some, unwrap_or, max, refl, sym, ap₂, subst, arith}
 use Rattle.std.specs.List.{AllByRecursion, flat_map}
 use Rattle.std.specs.Prelude.{filter}
 use Rattle.std.specs.Str.{bytes_eq}
@@ -7,14 +7,14 @@ use Rattle.cs_syntax.specs.Height as tree
 use Rattle.cs_grammar.specs.Tree as T
 use Rattle.cs_grammar.specs.Tree.{Tree, Trees, Fields, End, DefinitionTree, body, defined_name, FileTree, definitions}
 use Rattle.cs_resolve.specs.Declarations as declared
-use Rattle.cs_package.specs.Environment.{bodies}
+use Rattle.cs_package.specs.Environment.{Environment, bodies}
 use Rattle.cs_package.specs.Expression as cue
 use Rattle.cs_package.specs.Expression.{Expression, Expressions, atom, bottom}
 use Rattle.cs_package.specs.Height.{height, height_all, height_fields, height_rest, heights, IsLow}
 use Rattle.cs_resolve.specs.Predeclared.{names, among, predeclared}
 use Rattle.cs_resolve.specs.Refinement.{Refinements}
 use Rattle.cs_resolve.specs.Resolved.{read_opened, all_opened, narrowed_operands, resolved, resolved_all, resolved_fields, resolved_end, environment_of_files}
-use Rattle.cs_tool.specs.Accepted.{AreFiles}
+use Rattle.cs_tool.specs.Accepted.{AreFiles, IsAccepted}
 
 -- ---- what is resolved is no higher than it was
 
@@ -111,3 +111,7 @@ low_files rs ss fs h n es is =
     let bound = low_named rs ds (declared.names ds) n es is in
     let all = low_spelled ss fs h in
     omega (arith, bound, all)
+
+-- what accepted sources declare is low
+pub low_accepted : (ss : List (List ℕ)) (E : Environment) → IsAccepted ss E → IsLow E
+low_accepted ss E a = subst IsLow (sym a.one_package.declares) (low_files a.one_package.refinements ss a.files a.spelled)

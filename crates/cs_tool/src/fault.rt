@@ -43,7 +43,7 @@ pub enum Fault {
     /// 16: a chain of more than 64 strong references, where there is no cycle.
     ChainTooLong,
     /// 17: whether every document of one definition is one of another was not found within the limits: 100,000 questions,
-    /// 5,000,000 steps of search, and 100,000 values in a document.
+    /// 5,000,000 steps of search, and in a document 100,000 values and 127 levels.
     TooManyCases,
     /// 20: the schema's text isn't JSON that `serde_json` reads.
     SchemaNotJson,

@@ -3,10 +3,13 @@
 -- 4.3.2, 8.2.3.1 and 10; Validation 2020-12, section 6). Each value on the way isn't valid by its schema.
 use Rattle.std.specs.Prelude.{◌≡◌, ℕ, Bool, true, false, List, [], ◌∷◌, ◌++◌, Option, Some, None}
 use Rattle.std.specs.List.{flat_map}
-use Rattle.cs_document.specs.Document.{Document}
+use Rattle.cs_document.specs.Document.{Document, IsDocument}
 use Rattle.cs_document.specs.Opened.{opened}
-use Rattle.cs_rules.specs.Pointers.{Step, key, place}
+use Rattle.cs_rules.specs.Pointers.{Step, key, place, At}
 use Rattle.cs_profile.specs.Constraint.{constraint_of}
+use Rattle.cs_profile.specs.Validity.{is_satisfied, IsValidity}
+use Rattle.cs_profile.specs.declared.keyword.Keyword.{Keyword}
+use Rattle.cs_profile.specs.declared.keyword.Keyword.TheVariants as keyword
 use Rattle.cs_validate.specs.Causes.{Cause, reference, part, alternative, property, additional, prefix, items, never_valid, no_alternative, missing, by_keyword, IsCause}
 
 -- by which keyword a schema asks another one: `$ref`; `allOf` or `anyOf`, at a place; `properties` or `additionalProperties`, of
@@ -92,3 +95,16 @@ module _ (R : Document) (V : Document → Document → Bool) where
     pub data IsTold (one_by_one : Bool) (ways : List Way) (s x : Document) : Cause Document Document Document → Type 0 where
       itself : {c : Cause Document Document Document} → IsWhy ways s x c → IsTold one_by_one ways s x c
       none : {k : ℕ} {p : Document} → one_by_one ≡ false → IsRefused ways s x → IsWhyNot s x (alternative k p) → IsTold one_by_one ways s x no_alternative
+
+-- what a reason says: the document x0 isn't valid by s0, and the steps of the ways lead to a value of it, which isn't valid by s,
+-- whatever other schemas are said to validate, unless it is by `not`
+pub record FailsAt (R : Document) (V : Document → Document → Bool) (s0 x0 : Document) (ways : List Way) (s x : Document) (c : Cause Document Document Document) : Type 0 where
+  pub whole : V s0 x0 ≡ false
+  pub there : At (steps_of ways) x0 x
+  pub refused : V s x ≡ false
+  pub alone : ¬ (c ≡ by_keyword keyword.Not) → (W : Document → Document → Bool) → is_satisfied (λ p. W p x) (λ y p. W p y) (constraint_of R s) x (opened x) ≡ false
+
+-- each reason says this, by the validity of the schemas of R
+pub record ReasonsHold (R : Document) : Type 0 where
+  pub told : (V : Document → Document → Bool) → IsValidity R V → (s0 x0 : Document) → IsDocument x0 → (ways : List Way) (s x : Document) (c : Cause Document Document Document)
+      → IsWhy R V s0 x0 ways s x c → FailsAt R V s0 x0 ways s x c

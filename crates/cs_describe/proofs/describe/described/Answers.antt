@@ -1,11 +1,12 @@
-use Rattle.std.proofs.Common.{sym, ap, ◌∙◌, subst}
-use Rattle.cs_document.specs.Document.{object}
+use Rattle.std.proofs.Common.{ℕ, suc, ◌≤◌, sym, ap, ◌∙◌, subst, arith}
+use Rattle.cs_document.specs.Document.{Document, object, depth}
 use Rattle.cs_document.specs.View.{doc_view}
 use Rattle.cs_document.specs.declared.doc.Doc.{Object}
 use Rattle.cs_document.proofs.Views.{view-Object}
 use Rattle.cs_profile.specs.Profile.{IsSchema}
 use Rattle.cs_describe.specs.Described.{described_document}
 use Rattle.cs_describe.specs.Plain.{plain}
+use Rattle.cs_describe.proofs.Nested.{document_nested}
 use Rattle.cs_describe.proofs.Unchanged.{document_same}
 use Rattle.cs_describe.proofs.PlainLaw.{same_validity}
 use Rattle.cs_describe.proofs.StillSchema.{still_schema}
@@ -28,3 +29,7 @@ returns-clause-profile c h =
 pub returns-clause-meaning : goal.returns-clause-meaning
 returns-clause-meaning c h =
     same_validity (doc_view c.args.doc) (doc_view (Object c.in_ok-describe_root.field-0)) h.no_loop (returns-clause-same c)
+
+pub returns-clause-nested : goal.returns-clause-nested
+returns-clause-nested c =
+    subst (λ (d : Document). depth d ≤ suc (depth (doc_view c.args.doc))) (sym (returns-clause-found c)) (document_nested c.args.notes.now.entries (doc_view c.args.doc))

@@ -1,12 +1,15 @@
-use Rattle.std.proofs.Common.{ℕ, List, Vec}
+use Rattle.std.proofs.Common.{ℕ, ◌≤◌, List, Vec, arith}
 use Rattle.std.proofs.lemmas.Result.{IfOk-weaker, err_from_is_err_and}
 use Rattle.std.specs.declared.alloc.Global.{Global}
+use Rattle.cs_document.specs.Document.{depth}
 use Rattle.cs_schema.specs.SchemaDocument.{document_of}
+use Rattle.cs_tool.proofs.Low.{low_accepted}
 use Rattle.cs_export.specs.Shaped.{IsShaped, ArePackageSchemas}
 use Rattle.cs_export.proofs.exports.export_all.Goals as goal
 
 pub returns-clause-found : goal.returns-clause-found
 returns-clause-found c =
+    let nested : depth (document_of c.in_ok-schema.schema) ≤ 114 = c.in_ok-schema.ensures.found.nested (low_accepted _ _ c.in_ok-package.ensures.accepted) in
     IfOk-weaker _ (λ (v : Vec ℕ Global). IsShaped c.args.layout (document_of c.in_ok-schema.schema) v.items)
     (λ (v : Vec ℕ Global). ArePackageSchemas _ c.args.layout v.items)
     (λ v shaped. record {
@@ -17,6 +20,7 @@ returns-clause-found c =
       one_instance = c.one_meaning.ensures;
       one_validity = c.one_meaning-2.ensures;
       shaped = shaped;
+      read = λ whole. let deeper = shaped.nested whole in let bound : depth shaped.document ≤ 127 = omega arith in shaped.written bound;
     }) c.shaped_text.ensures.shaped
 
 pub returns-in_err-package-clause-only : goal.returns-in_err-package-clause-only

@@ -1,7 +1,12 @@
-use Rattle.std.proofs.Common.{◌≡◌, ℕ, List, Vec, sym, ◌∙◌}
+use Rattle.std.proofs.Common.{◌≡◌, ℕ, ◌≤◌, List, Vec, sym, ap, ◌∙◌, subst, arith}
 use Rattle.std.proofs.lemmas.Result.{IfOk-weaker}
 use Rattle.std.specs.declared.alloc.Global.{Global}
-use Rattle.cs_schema.specs.SchemaDocument.{document_of}
+use Rattle.cs_doc.specs.Texts.{Reads}
+use Rattle.cs_document.specs.Document.{depth}
+use Rattle.cs_schema.specs.Root.{with_definitions}
+use Rattle.cs_schema.specs.SchemaDocument.{document_of, definitions_view, unless_no_map}
+use Rattle.cs_schema.specs.Trim.{with_dialect}
+use Rattle.cs_tool.proofs.Low.{low_accepted}
 use Rattle.cs_export.specs.Shaped.{IsShaped, IsRootSchema}
 use Rattle.cs_export.proofs.exports.export_root.Goals as goal
 
@@ -10,16 +15,41 @@ returns-clause-found c =
     let at = c.in_ok-package.ensures.found in
     let made = c.in_ok-schema.ensures.found in
     let one = c.one_meaning-2.ensures in
-    IfOk-weaker _ (λ (v : Vec ℕ Global). IsShaped c.args.layout (document_of c.in_ok-schema.schema) v.items)
+    let schema = document_of c.in_ok-schema.schema in
+    let ds = unless_no_map (definitions_view c.in_ok-schema.schema.definitions) in
+    let nested : depth schema ≤ 114 = made.2.nested (low_accepted _ _ at.1.accepted) in
+    IfOk-weaker _ (λ (v : Vec ℕ Global). IsShaped c.args.layout schema v.items)
     (λ (v : Vec ℕ Global). IsRootSchema _ c.args.root.now c.args.layout v.items)
-    (λ v shaped. record {
-      environment = c.in_ok-package.«package»;
-      name = made.0;
-      declares = record { accepted = at.1.accepted; named = made.1 };
-      schema = c.in_ok-schema.schema;
-      compiled = made.2;
-      one_instance = c.one_meaning.ensures;
-      one_validity = one;
-      shaped = shaped;
-      admits = λ schema_alone V I g h x is. sym ((shaped.same_schema schema_alone).validity one.some.0 V one.some.1 g x) ∙ made.2.meaning one.some.0 I one.some.1 h x is;
-    }) c.shaped_text.ensures.shaped
+    (λ v shaped.
+      let low : depth schema ≤ 127 = omega arith in
+      record {
+        environment = c.in_ok-package.«package»;
+        name = made.0;
+        declares = record { accepted = at.1.accepted; named = made.1 };
+        schema = c.in_ok-schema.schema;
+        compiled = made.2;
+        translated = c.in_ok-schema.ensures.translated made.0 made.1;
+        one_instance = c.one_meaning.ensures;
+        one_validity = one;
+        shaped = shaped;
+        read = λ whole. let deeper = shaped.nested whole in let bound : depth shaped.document ≤ 127 = omega arith in shaped.written bound;
+        bare = λ b.
+          let same = shaped.same b.whole b.undescribed in
+          record {
+            environment = c.in_ok-package.«package»;
+            name = made.0;
+            declares = record { accepted = at.1.accepted; named = made.1 };
+            schema = schema;
+            written = shaped.bare b;
+            nested = nested;
+            read = subst (Reads v.items) same (shaped.written (subst (λ d. depth d ≤ 127) (sym same) low));
+            profile = c.shaped_text.ensures.profile;
+            trimmed = c.shaped_text.ensures.trimmed;
+            refers = (ds, ap (λ root. with_dialect (with_definitions ds root)) made.2.root);
+            definitions = made.2.definitions;
+            one_instance = c.one_meaning.ensures;
+            one_validity = one;
+            admits = made.2.meaning;
+          };
+        admits = λ schema_alone V I g h x is. sym ((shaped.same_schema schema_alone).validity one.some.0 V one.some.1 g x) ∙ made.2.meaning one.some.0 I one.some.1 h x is;
+      }) c.shaped_text.ensures.shaped

@@ -8,6 +8,7 @@ use Rattle.cs_tool.specs.Agreement.{IsAgreement}
 use Rattle.cs_tool.specs.Ready.{IsReady, RootHasManyPairs, ExportHasManyPairs, SchemaHasManyPairs, IsReadyToAgree}
 use Rattle.cs_tool.specs.CallRefusals.{AgreeRefusal}
 use Rattle.cs_tool.specs.Sides.{AreSidesOf}
+use Rattle.cs_tool.specs.Translated.{IsTranslated}
 use Rattle.cs_tool.specs.declared.fault.Fault.{Fault}
 use Rattle.cs_tool.specs.declared.fault.Fault.TheVariants.{OutOfMemory, NotJson, NotInteger, TooManyPairs}
 use Rattle.cs_tool.proofs.Judging.{Refuses, memory_alone, by_text, by_root, by_schema, few_of_root, verdict, validated}
@@ -79,10 +80,10 @@ returns-in_err-is_valid c =
     })
 
 -- both sides answer, and so the same
-agreement : (sources : List (List ℕ)) (root schema_text text : List ℕ) (a b : Bool) → IsExport sources root schema_text → IsVerdict sources root text a → IsValidated schema_text text b → IsAgreement sources root text a
-agreement sources root schema_text text a b exported verdict validated =
+agreement : (sources : List (List ℕ)) (root schema_text text : List ℕ) (a b : Bool) → IsExport sources root schema_text → IsTranslated sources root schema_text → IsVerdict sources root text a → IsValidated schema_text text b → IsAgreement sources root text a
+agreement sources root schema_text text a b exported translated verdict validated =
     let same = vet-and-validate-agree sources root schema_text text a b exported verdict validated in
-    record { verdict = verdict; schema_text = schema_text; exported = exported; validated = subst (IsValidated schema_text text) (sym same) validated }
+    record { verdict = verdict; schema_text = schema_text; exported = exported; translated = translated; validated = subst (IsValidated schema_text text) (sym same) validated }
 
 pub returns-clause-found : goal.returns-clause-found
 returns-clause-found c = λ ss r is.
@@ -93,7 +94,7 @@ returns-clause-found c = λ ss r is.
     let vetted = verdict ss r t _ _ (read_as c.in_ok-doc.doc) _ is.declares doc.found doc.document root_side.one_meaning root_side.answer root_side.within in
     let valid = validated is.schema_text t _ (read_as c.in_ok-doc.doc) _ is.read doc.found doc.document schema_side.one_meaning schema_side.within schema_side.answer in
     let same = vet-and-validate-agree ss r is.schema_text t _ _ is.exported vetted valid in
-    let both = agreement ss r is.schema_text t _ _ is.exported vetted valid in
+    let both = agreement ss r is.schema_text t _ _ is.exported is.translated vetted valid in
     elim c.if-is_instance.branch [
       | then-is_instance w ↦ subst (IsAgreement ss r t) (same ∙ sym w.truth-is) both
       | else-is_instance w ↦ subst (IsAgreement ss r t) (sym w.truth-is) both

@@ -4,7 +4,6 @@ use Rattle.std.specs.declared.alloc.Global.{Global}
 use Rattle.cs_document.specs.Document.{Document, depth}
 use Rattle.cs_doc.specs.Texts.{Reads, text_of}
 use Rattle.cs_package.specs.Environment.{Environment, Names}
-use Rattle.cs_package.specs.Height.{IsLow}
 use Rattle.cs_schema.specs.SchemaDocument.{document_of, definitions_view, unless_no_map}
 use Rattle.cs_schema.specs.Root.{with_definitions}
 use Rattle.cs_schema.specs.Trim.{with_dialect}
@@ -12,20 +11,17 @@ use Rattle.cs_compile.specs.Translation.{IsTranslation}
 use Rattle.cs_tool.specs.Translated.{IsTranslated}
 use Rattle.cs_tool.specs.Accepted.{IsAccepted}
 use Rattle.cs_tool.specs.Headline.{IsExport}
-use Rattle.cs_tool.proofs.Low.{low_files}
+use Rattle.cs_tool.proofs.Low.{low_accepted}
 use Rattle.cs_tool.proofs.Declared.{one_environment}
 use Rattle.cs_tool.proofs.Texts.{one_document}
 use Rattle.cs_tool.proofs.exports.exported.Goals as goal
-
-low : (sources : List (List ℕ)) (E : Environment) → IsAccepted sources E → IsLow E
-low sources E a = subst IsLow (sym a.one_package.declares) (low_files a.one_package.refinements sources a.files a.spelled)
 
 pub returns-clause-found : goal.returns-clause-found
 returns-clause-found c = λ sources accepted.
     let made = c.in_ok-schema.ensures.found in
     let schema = document_of c.in_ok-schema.schema in
     let ds = unless_no_map (definitions_view c.in_ok-schema.schema.definitions) in
-    let nested = made.2.nested (low _ _ accepted) in
+    let nested = made.2.nested (low_accepted _ _ accepted) in
     IfOk-weaker _ (λ (v : Vec ℕ Global). (v.items ≡ text_of schema) × (depth schema ≤ 127 → Reads v.items schema))
     (λ (v : Vec ℕ Global). IsExport sources c.args.root.now v.items)
     (λ v h. record {
@@ -56,7 +52,7 @@ translation sources root text E schema accepted read is F n read_as declares rea
 pub returns-clause-translated : goal.returns-clause-translated
 returns-clause-translated c = λ sources accepted.
     let schema = document_of c.in_ok-schema.schema in
-    let nested = c.in_ok-schema.ensures.found.2.nested (low _ _ accepted) in
+    let nested = c.in_ok-schema.ensures.found.2.nested (low_accepted _ _ accepted) in
     IfOk-weaker _ (λ (v : Vec ℕ Global). (v.items ≡ text_of schema) × (depth schema ≤ 127 → Reads v.items schema))
     (λ (v : Vec ℕ Global). IsTranslated sources c.args.root.now v.items)
     (λ v h. translation sources c.args.root.now v.items c.args.guarded.now schema accepted (h.1 (omega (arith, nested))) c.in_ok-schema.ensures.translated)
