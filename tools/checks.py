@@ -4,8 +4,8 @@ passed, M failed`.
 
     tools/checks.py test PROGRAM            those that need no proof: what can be seen from the files, the tests of the crates `cs_rows*`
                                             unproved, and PROGRAM, which is built from its sources without the proofs first
-    tools/checks.py prove PROGRAM           every proof from nothing by `rt ci` (tools/kit.py), then the edits that edits/GATE names, and the program
-                                            that `rt ci` built, PROGRAM, by the same checks
+    tools/checks.py prove PROGRAM           every proof from nothing by `rt ci` (tools/kit.py); the edits that edits/GATE names, as soon as it has proved
+                                            what they stand on; and the program that it built, PROGRAM, by the same checks
     tools/checks.py program PROGRAM         the checks of a program alone
 
 JOBS=N: at most so many at once; without it as many as there are processors.
@@ -18,13 +18,19 @@ import subprocess
 import sys
 import threading
 import time
+from collections.abc import Callable
 from concurrent.futures import Future, ThreadPoolExecutor
 from dataclasses import dataclass, field
 from pathlib import Path
 
+import edits
+import kit
+
 TOP = Path(__file__).resolve().parent.parent
 COUNTED = re.compile(r"(\d+) passed[,;] (\d+) failed")
 TEST = re.compile(r"^#\[test\]", re.M)
+# How `rt ci` says that a crate is proved.
+PROVED = re.compile(r"(\w+) (?:proved|is kept: .*)")
 # What can be seen from the files in a second.
 OF_FILES = [
     ["tools/edits.py", "--fit"],
@@ -66,14 +72,15 @@ class Checks:
         ran = subprocess.run(words, cwd=TOP / folder, env={**os.environ, **environment}, **streams, text=True, errors="replace")
         return self.count([*words, *([f"in {folder}"] if folder != "." else [])], ran.stdout, ran.returncode, began)
 
-    def follow(self, words: list[str], **environment: str) -> bool:
-        """The same, where each line is printed at once."""
+    def follow(self, words: list[str], seen: Callable[[str], None], **environment: str) -> bool:
+        """The same, where each line is printed at once, and handed on."""
         began, said = time.monotonic(), ""
         streams = {"stdin": subprocess.DEVNULL, "stdout": subprocess.PIPE, "stderr": subprocess.STDOUT}
         with subprocess.Popen(words, cwd=TOP, env={**os.environ, **environment}, **streams, text=True, errors="replace") as running:
             for line in running.stdout:
                 print(line, end="", flush=True)
                 said = line
+                seen(line)
         return self.count(words, said, running.returncode, began)
 
     def sum(self) -> int:
@@ -100,12 +107,30 @@ def test(checks: Checks, pool: ThreadPoolExecutor, program: str) -> list[Future]
     return [*tested, *seen, *(of_program(checks, pool, program, PATIENCE="120") if built.result() else [])]
 
 
+class GateEdits:
+    """The edits of the gate, which are tried once all crates that they stand on are proved. They give way to the proofs, so that they
+    take the processors that these leave."""
+
+    def __init__(self, checks: Checks, pool: ThreadPoolExecutor):
+        crates = kit.crates()
+        edited = {path.parent.name for path in edits.gate_paths()}
+        self.waits = edited.union(*({it.name for it in crates[name].below()} for name in edited))
+        self.checks, self.pool, self.tried = checks, pool, []
+
+    def seen(self, line: str) -> None:
+        """A line of `rt ci`: where it was the last crate that they wait for, the edits begin."""
+        proved = PROVED.fullmatch(line.rstrip("\n"))
+        if proved and proved[1] in self.waits:
+            self.waits.remove(proved[1])
+            if not self.waits:
+                words = ["nice", "tools/edits.py", "--gate"]
+                self.tried.append(self.pool.submit(self.checks.run, words, JOBS=str(max(1, lanes() // 2))))
+
+
 def prove(checks: Checks, pool: ThreadPoolExecutor, program: str) -> list[Future]:
-    given = os.environ.get("JOBS")
-    if not checks.follow(["tools/kit.py", "ci"], **({"RT_JOBS": given} if given else {})):
-        return []
-    edits = pool.submit(checks.run, ["tools/edits.py", "--gate"], JOBS=str(max(1, lanes() - 1)))
-    return [edits, *of_program(checks, pool, program)]
+    given, tried = os.environ.get("JOBS"), GateEdits(checks, pool)
+    well = checks.follow(["tools/kit.py", "ci"], tried.seen, **({"RT_JOBS": given} if given else {}))
+    return [*tried.tried, *(of_program(checks, pool, program) if well else [])]
 
 
 def main(words: list[str]) -> int:
