@@ -24,7 +24,7 @@ FILENAME ~ /\.md$/ && /^\|/ && !/^\|-/ {
     split(row, cells, "|")
     if (cells[2] ~ /^ call /) next
     if (cells[2] ~ /`/) call = cells[2]
-    crates = spans(heading " " call, "cs_[a-z]+")
+    crates = spans(heading " " call, "cs_[a-z_]+")
     calls = spans(call, "[A-Za-z:]*[a-z_]+|==")
     clauses = cells[3] ~ /`/ ? spans(cells[3], "[a-z_]+") : ""
     n = split(crates, crate, " ")

@@ -56,7 +56,7 @@ function fault(text) {
 }
 
 /^#/ {
-    crate = match($0, /`cs_[a-z]+`/) ? substr($0, RSTART + 1, RLENGTH - 2) : ""
+    crate = match($0, /`cs_[a-z_]+`/) ? substr($0, RSTART + 1, RLENGTH - 2) : ""
     listed = 0
 }
 !/^\|/ { listed = 0; next }
@@ -71,7 +71,7 @@ function fault(text) {
     files = ""
     n = spans_of(cells[count])
     for (i = 1; i <= n; i++) {
-        file = "crates/" (spans[i] ~ /^cs_[a-z]+\// ? "" : crate "/") spans[i]
+        file = "crates/" (spans[i] ~ /^cs_[a-z_]+\// ? "" : crate "/") spans[i]
         if (!(file in seen)) read_file(file)
         if (seen[file]) files = files " " file
         else fault("there is no " file)

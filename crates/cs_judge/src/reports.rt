@@ -14,11 +14,13 @@ ghost use Rattle.cs_validate.specs.Rules as by_schema;
 use crate::why::Why;
 use cs_doc::{Document, Flat, flatten};
 use cs_instance::{InstanceFault, RootRules};
+use cs_instance_report::report_instance;
 use cs_place::Named;
-use cs_report::{Form, report_instance, report_validity};
+use cs_report::Form;
 use cs_table::Verdicts;
 use cs_tool::{is_instance, is_valid};
 use cs_validate::{SchemaRules, ValidateFault};
+use cs_validity_report::report_validity;
 use std::alloc::Global;
 
 /// Whether the document is an instance of the root; why not is told in the report. The table's memory is used again.

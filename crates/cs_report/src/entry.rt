@@ -6,40 +6,46 @@ use std::collections::HashSet;
 
 /// A reason in words, with the place of the value and that of the rule that refuses it.
 #[derive(Drop)]
-pub(crate) struct Entry<'a> {
+pub struct Entry<'a> {
     /// The place of the value in the document, or that of the key that isn't allowed (RFC 6901).
-    pub(crate) pointer: String,
+    pub pointer: String,
     /// The offset in the document's text.
-    pub(crate) offset: usize,
-    pub(crate) line: usize,
-    pub(crate) column: usize,
+    pub offset: usize,
+    /// The line of that offset.
+    pub line: usize,
+    /// The column of that offset.
+    pub column: usize,
     /// What kind of reason it is, in a word.
-    pub(crate) reason: &'static str,
+    pub reason: &'static str,
     /// What is wrong.
-    pub(crate) text: String,
+    pub text: String,
     /// The key that is missing, or the one that may have been meant.
-    pub(crate) label: Option<&'a str>,
+    pub label: Option<&'a str>,
     /// The name of the definition that the rule is in; empty in a schema.
-    pub(crate) definition: &'a str,
+    pub definition: &'a str,
     /// The rule: the definition's name and the path from there.
-    pub(crate) rule: String,
+    pub rule: String,
     /// Where the rule is in its text, if it was found.
-    pub(crate) source: Option<SourcePlace<'a>>,
+    pub source: Option<SourcePlace<'a>>,
     /// Which alternative was followed; empty where there is none.
-    pub(crate) alternative: String,
+    pub alternative: String,
     /// How many disjunctions are on the way.
-    pub(crate) depth: usize,
+    pub depth: usize,
 }
 
 /// A place in a source.
 #[derive(Clone, Copy, Drop)]
-pub(crate) struct SourcePlace<'a> {
-    pub(crate) file: &'a str,
+pub struct SourcePlace<'a> {
+    /// The name of the file.
+    pub file: &'a str,
     /// The number of the file.
-    pub(crate) number: usize,
-    pub(crate) offset: usize,
-    pub(crate) line: usize,
-    pub(crate) column: usize,
+    pub number: usize,
+    /// The offset in the file's text.
+    pub offset: usize,
+    /// The line of that offset.
+    pub line: usize,
+    /// The column of that offset.
+    pub column: usize,
 }
 
 impl Entry<'_> {
@@ -68,7 +74,7 @@ fn above(pointer: &str) -> &str {
 }
 
 /// Leaves out that a key is missing where another one is told to be its misspelling, in the same map and alternative.
-pub(crate) fn without_misspelt<'a>(
+pub fn without_misspelt<'a>(
     alloc: Global,
     entries: Vec<Entry<'a>>,
 ) -> Result<Vec<Entry<'a>>, AllocError> {
@@ -102,12 +108,12 @@ fn told_apart(alloc: Global, entries: &[Entry<'_>]) -> Result<Vec<bool>, AllocEr
 }
 
 /// Sorts entries by the place in the document, then by that of the rule.
-pub(crate) fn sort_entries(entries: &mut Vec<Entry<'_>>) -> Result<(), AllocError> {
+pub fn sort_entries(entries: &mut Vec<Entry<'_>>) -> Result<(), AllocError> {
     entries.sort_by_key(|entry| (entry.offset, entry.rule_order()))
 }
 
 /// Gives entries, which are sorted, the lines and columns of their offsets, by one walk over the text.
-pub(crate) fn place_entries(document: Named<'_>, entries: &mut Vec<Entry<'_>>) {
+pub fn place_entries(document: Named<'_>, entries: &mut Vec<Entry<'_>>) {
     let mut from = 0;
     let mut line = document.line;
     let mut column = 1usize;
@@ -128,7 +134,7 @@ pub(crate) fn place_entries(document: Named<'_>, entries: &mut Vec<Entry<'_>>) {
 }
 
 /// Puts which alternative was followed: the one at a place among so many, and how many others were as close.
-pub(crate) fn put_alternative(
+pub fn put_alternative(
     text: &mut String,
     place: usize,
     count: usize,

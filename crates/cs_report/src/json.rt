@@ -1,13 +1,10 @@
 // Reasons as JSON for programs.
-ghost use Rattle.std.specs.Prelude.{◌≡◌, ◌++◌, OnOk, string_bytes};
-ghost use Rattle.cs_report.specs.Valid.{flag_text};
-
 use crate::entry::{Entry, SourcePlace};
 use crate::text::{put_number, put_quoted};
 use std::alloc::AllocError;
 
 /// Puts a member with a string behind others: its key needs no escape.
-pub(crate) fn put_string(text: &mut String, key: &str, value: &str) -> Result<(), AllocError> {
+pub fn put_string(text: &mut String, key: &str, value: &str) -> Result<(), AllocError> {
     text.push_str(",\"")?;
     text.push_str(key)?;
     text.push_str("\":")?;
@@ -15,7 +12,7 @@ pub(crate) fn put_string(text: &mut String, key: &str, value: &str) -> Result<()
 }
 
 /// Puts a member with a number behind others: its key needs no escape.
-pub(crate) fn put_count(text: &mut String, key: &str, value: usize) -> Result<(), AllocError> {
+pub fn put_count(text: &mut String, key: &str, value: usize) -> Result<(), AllocError> {
     text.push_str(",\"")?;
     text.push_str(key)?;
     text.push_str("\":")?;
@@ -29,7 +26,7 @@ fn put_source(text: &mut String, place: &SourcePlace<'_>) -> Result<(), AllocErr
 }
 
 /// Puts what an entry says of the value.
-pub(crate) fn put_value_members(text: &mut String, entry: &Entry<'_>) -> Result<(), AllocError> {
+fn put_value_members(text: &mut String, entry: &Entry<'_>) -> Result<(), AllocError> {
     text.push_str("\"valid\":false")?;
     put_string(text, "instanceLocation", entry.pointer.as_str())?;
     put_count(text, "line", entry.line)?;
@@ -63,11 +60,7 @@ fn put_entry(text: &mut String, entry: &Entry<'_>) -> Result<(), AllocError> {
 }
 
 /// Puts the object with the reasons, and how many are left out.
-pub(crate) fn put_object(
-    text: &mut String,
-    entries: &[Entry<'_>],
-    more: usize,
-) -> Result<(), AllocError> {
+pub fn put_object(text: &mut String, entries: &[Entry<'_>], more: usize) -> Result<(), AllocError> {
     text.push_str("{\"valid\":false,\"errors\":[")?;
     for (place, entry) in entries.iter().enumerate() {
         if place > 0 {
@@ -78,15 +71,4 @@ pub(crate) fn put_object(
     text.push(']')?;
     put_count(text, "more", more)?;
     text.push_str("}\n")
-}
-
-/// Puts the object that says whether the document is valid, and no more (Core, section 12.4.1).
-pub(crate) fn put_flag(text: &mut String, valid: bool) -> Result<(), AllocError>
-    ensures { OnOk result (string_bytes text.new ≡ string_bytes text.old ++ flag_text valid) }
-{
-    if valid {
-        text.push_str("{\"valid\":true}\n")
-    } else {
-        text.push_str("{\"valid\":false}\n")
-    }
 }

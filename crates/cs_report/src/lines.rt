@@ -47,7 +47,7 @@ fn put_entry(text: &mut String, name: &str, entry: &Entry<'_>) -> Result<(), All
 }
 
 /// Puts a line for each entry, and one that says how many reasons are left out, if any are.
-pub(crate) fn put_lines(
+pub fn put_lines(
     text: &mut String,
     document: Named<'_>,
     entries: &[Entry<'_>],

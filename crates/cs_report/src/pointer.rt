@@ -52,7 +52,7 @@ fn put_step(pointer: &mut String, step: &Step<'_>) -> Result<(), AllocError>
 }
 
 /// Leads a pointer on by these steps.
-pub(crate) fn put_steps(pointer: &mut String, steps: &[Step<'_>]) -> Result<(), AllocError>
+pub fn put_steps(pointer: &mut String, steps: &[Step<'_>]) -> Result<(), AllocError>
     ensures { OnOk result (string_bytes pointer.new
         ≡ at_steps (string_bytes pointer.old) steps.now) }
 {

@@ -3,12 +3,12 @@ use itoa::Buffer;
 use std::alloc::AllocError;
 
 /// Puts a number.
-pub(crate) fn put_number(text: &mut String, number: usize) -> Result<(), AllocError> {
+pub fn put_number(text: &mut String, number: usize) -> Result<(), AllocError> {
     text.push_str(Buffer::new().format(number))
 }
 
 /// Puts an integer.
-pub(crate) fn put_integer(text: &mut String, integer: i64) -> Result<(), AllocError> {
+pub fn put_integer(text: &mut String, integer: i64) -> Result<(), AllocError> {
     text.push_str(Buffer::new().format(integer))
 }
 
@@ -51,7 +51,7 @@ pub(crate) fn put_escaped(text: &mut String, character: char) -> Result<(), Allo
 }
 
 /// Puts a text as a string of JSON (RFC 8259, section 7).
-pub(crate) fn put_quoted(text: &mut String, inside: &str) -> Result<(), AllocError> {
+pub fn put_quoted(text: &mut String, inside: &str) -> Result<(), AllocError> {
     text.push('"')?;
     for character in inside.chars() {
         put_escaped(text, character)?;

@@ -1,10 +1,10 @@
 // The values of a document whose places are told.
-use crate::entry::Entry;
 use crate::finding::key_at;
 use cs_flat::Flat;
 use cs_instance::InstanceCause;
 use cs_place::{Named, Step, ValuePath, places};
 use cs_reasons::Link;
+use cs_report::Entry;
 use std::alloc::{AllocError, Global};
 
 /// Where the place of a reason is.

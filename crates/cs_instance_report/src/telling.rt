@@ -1,9 +1,5 @@
 // From the reasons of a refused document to their entries.
-use crate::entry::{
-    Entry, SourcePlace, place_entries, put_alternative, sort_entries, without_misspelt,
-};
 use crate::finding::{Finding, Findings, Once, missing_of, source_offset};
-use crate::pointer::put_steps;
 use crate::sources::Sources;
 use crate::targets::{Targets, step_of};
 use crate::walk::{Followed, Walk, definition_name};
@@ -12,6 +8,9 @@ use cs_instance::{InstanceCause, RootRules};
 use cs_package::Package;
 use cs_place::{Named, Step};
 use cs_reasons::{Link, Reason, Reasons};
+use cs_report::{
+    Entry, SourcePlace, place_entries, put_alternative, put_steps, sort_entries, without_misspelt,
+};
 use std::alloc::{AllocError, Global};
 use std::collections::{HashMap, HashSet};
 

@@ -3,29 +3,22 @@ ghost use Rattle.std.specs.Prelude.{◌≡◌, ◌++◌, true, false, OnOk, OnEr
 ghost use Rattle.cs_report.specs.Valid.{flag_text, valid_text};
 ghost use Rattle.cs_validate.specs.WhyTold.{says_valid};
 
-mod causes;
-mod finding;
-mod leaves;
-mod targets;
-mod units;
-mod walk;
-mod words;
-
-use crate::Form;
-use crate::entry::{Entry, place_entries, sort_entries, without_misspelt};
-use crate::json::put_object;
-use crate::lines::put_lines;
+use crate::finding::Findings;
+use crate::leaves::{Leaf, leaves};
+use crate::targets::Targets;
+use crate::units::{leaf_units, link_units, put_basic, sort_units};
 use cs_flat::Flat;
 use cs_place::{Named, Place};
 use cs_reasons::{Reasons, Telling};
+use cs_report::{
+    Entry, Form, flag_words, place_entries, put_lines, put_object, sort_entries, valid_words,
+    without_misspelt,
+};
 use cs_validate::{Explanation, SchemaRules, ValidCause};
-use finding::Findings;
-use leaves::{Leaf, leaves};
 use std::alloc::{AllocError, Global};
-use targets::Targets;
-use units::{leaf_units, link_units, put_basic, sort_units};
 
-/// As [`crate::report_instance`], of a document that isn't valid against a schema document.
+/// Writes why a document isn't valid against a schema document behind `output`, or in the forms of JSON that it is valid, where there
+/// are no reasons. Each line, and the object, ends with a newline. Only memory can run out.
 pub fn report_validity(
     alloc: Global,
     form: Form,
@@ -55,29 +48,14 @@ pub fn report_validity(
     }
 }
 
-/// That a document is valid, and that it isn't (Core, section 12.4.1).
-const VALID: &str = "{\"valid\":true}\n";
-
-const INVALID: &str = "{\"valid\":false}\n";
-
-/// That a document isn't valid, where the reasons aren't told: for people, for programs, and in the output format `basic` (Core,
-/// section 12.4.2).
+/// That a document isn't valid, where the reasons aren't told: for people, for programs, and in the output format `basic` (JSON
+/// Schema Core 2020-12, section 12.4.2).
 const UNTOLD_LINE: &str =
     "the reasons aren't told: values and required names make more than 67,108,864 pairs\n";
 
 const UNTOLD_OBJECT: &str = "{\"valid\":false,\"errors\":[],\"more\":1}\n";
 
 const UNTOLD_BASIC: &str = "{\"valid\":false,\"errors\":[]}\n";
-
-/// What is told of a document that is valid.
-fn valid_words(form: Form) -> &'static str
-    ensures { result.now ≡ valid_text form }
-{
-    match form {
-        Form::Lines => "",
-        Form::Json | Form::Flag | Form::Basic => VALID,
-    }
-}
 
 /// What is told of a document that isn't valid, where the reasons aren't told. There is one reason at least.
 fn untold_words(form: Form) -> &'static str
@@ -86,7 +64,7 @@ fn untold_words(form: Form) -> &'static str
     match form {
         Form::Lines => UNTOLD_LINE,
         Form::Json => UNTOLD_OBJECT,
-        Form::Flag => INVALID,
+        Form::Flag => flag_words(false),
         Form::Basic => UNTOLD_BASIC,
     }
 }
@@ -104,7 +82,7 @@ fn put_reasons<'t>(
 {
     let more = reasons.count.saturating_sub(reasons.told.len());
     match form {
-        Form::Flag => text.push_str(INVALID),
+        Form::Flag => text.push_str(flag_words(false)),
         Form::Basic => put_units(text, telling, findings, document, reasons),
         Form::Lines => {
             let entries = entries(telling, findings, document, reasons)?;

@@ -1,12 +1,11 @@
 // The output format `basic` (JSON Schema Core 2020-12, section 12.4.2).
-use super::leaves::Leaf;
-use super::targets::{Target, Targets};
-use super::walk::Walk;
-use crate::json::{put_count, put_string};
-use crate::text::put_quoted;
+use crate::leaves::Leaf;
+use crate::targets::{Target, Targets};
+use crate::walk::Walk;
 use cs_place::{Named, Place, Position, Positions};
 use cs_profile::{Schema, SchemaDoc};
 use cs_reasons::Link;
+use cs_report::{put_count, put_quoted, put_string};
 use cs_validate::ValidCause;
 use std::alloc::{AllocError, Global};
 

@@ -1,11 +1,10 @@
 // The reasons that are told, in words.
-use super::finding::{Finding, Findings};
-use super::targets::{Target, Targets};
-use super::walk::Walk;
-use crate::entry::Entry;
-use crate::pointer::put_steps;
+use crate::finding::{Finding, Findings};
+use crate::targets::{Target, Targets};
+use crate::walk::Walk;
 use cs_place::Place;
 use cs_reasons::{Reason, Reasons, Telling};
+use cs_report::{Entry, put_steps};
 use cs_validate::ValidCause;
 use std::alloc::AllocError;
 

@@ -2,9 +2,9 @@
 use crate::expression::Located;
 use crate::outline::Separator;
 use crate::sources::Sources;
-use crate::text::{put_number, put_quoted};
 use cs_instance::InstanceCause;
 use cs_package::{FieldMark, Package, Part, Shape, ShapeEnd};
+use cs_report::{put_number, put_quoted};
 use std::alloc::{AllocError, Global};
 
 /// What a rule is in the package.

@@ -2,30 +2,18 @@
 ghost use Rattle.std.specs.Prelude.{◌≡◌, ◌⊎◌, ◌++◌, true, false, OnOk, OnErr, is_none, string_bytes};
 ghost use Rattle.cs_report.specs.Valid.{flag_text, valid_text};
 
-use crate::Form;
-use crate::json::{put_flag, put_object};
-use crate::lines::put_lines;
 use crate::sources::sources_of;
 use crate::telling::entries_of;
 use cs_flat::Flat;
 use cs_instance::{InstanceCause, RootRules};
 use cs_place::Named;
 use cs_reasons::{Reasons, Telling};
+use cs_report::{Form, flag_words, put_lines, put_object, valid_words};
 use std::alloc::{AllocError, Global};
 
 /// How many reasons are left out.
 fn left_out<C: Drop>(reasons: &Reasons<C>) -> usize {
     reasons.count.saturating_sub(reasons.told.len())
-}
-
-/// Puts what is told of a document that is an instance.
-fn put_valid(text: &mut String, form: Form) -> Result<(), AllocError>
-    ensures { OnOk result (string_bytes text.new ≡ string_bytes text.old ++ valid_text form) }
-{
-    match form {
-        Form::Lines => Ok(()),
-        Form::Json | Form::Flag | Form::Basic => put_flag(text, true),
-    }
 }
 
 /// Puts what is told of a document that is none.
@@ -44,7 +32,7 @@ fn put_invalid(
         → OnOk result (string_bytes text.new ≡ string_bytes text.old ++ flag_text false) }
 {
     match form {
-        Form::Flag | Form::Basic => put_flag(text, false),
+        Form::Flag | Form::Basic => text.push_str(flag_words(false)),
         Form::Lines => {
             let cut = sources_of(alloc, sources)?;
             let entries = entries_of(alloc, rules, &cut, telling.all, document, flat, reasons)?;
@@ -79,7 +67,7 @@ pub fn report_instance(
 {
     let mut text = String::new(alloc);
     match reasons {
-        None => put_valid(&mut text, form)?,
+        None => text.push_str(valid_words(form))?,
         Some(found) => put_invalid(
             alloc, form, telling, rules, sources, document, flat, found, &mut text,
         )?,

@@ -1,9 +1,8 @@
 // Words for what schemas ask of values.
-use crate::text::{put_integer, put_number};
-use crate::wording::{MOST_WANTED, put_counted};
 use cs_document::Doc;
 use cs_flat::Item;
 use cs_profile::{JsonKind, Keywords};
+use cs_report::{MOST_WANTED, put_counted, put_integer, put_number, put_shown};
 use cs_validate::{Want, Wanted};
 use std::alloc::{AllocError, Global};
 use std::collections::BTreeSet;
@@ -24,11 +23,12 @@ pub(crate) fn kind_name(kind: JsonKind) -> &'static str {
 /// Puts a value that is found: a scalar as JSON writes it, cut where it is long, or of which kind it is.
 pub(crate) fn put_found(text: &mut String, item: Item<'_>) -> Result<(), AllocError> {
     match item {
+        Item::Null => text.push_str("null"),
+        Item::Bool(value) => text.push_str(if value { "true" } else { "false" }),
+        Item::Int(value) => put_integer(text, value),
+        Item::Text(value) => put_shown(text, value),
         Item::List(_) => text.push_str("an array"),
         Item::Object(_) => text.push_str("an object"),
-        Item::Null | Item::Bool(_) | Item::Int(_) | Item::Text(_) => {
-            crate::wording::put_found(text, item)
-        }
     }
 }
 

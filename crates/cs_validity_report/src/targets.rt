@@ -1,5 +1,5 @@
 // The values of a document whose places are told.
-use super::causes::value_step;
+use crate::causes::value_step;
 use cs_place::{Place, Step, ValuePath, places};
 use cs_reasons::Link;
 use cs_validate::ValidCause;

@@ -1,11 +1,10 @@
 // What is wrong with a value, by a cause that leads nowhere.
-use super::walk::{LastStep, Walk};
-use super::words;
-use crate::text::{put_integer, put_quoted};
-use crate::wording::{Suggestion, put_not_allowed};
+use crate::walk::{LastStep, Walk};
+use crate::words;
 use cs_flat::{Flat, Item};
 use cs_place::Step;
 use cs_profile::{Keyword, Keywords, Schema};
+use cs_report::{Suggestion, put_integer, put_not_allowed, put_quoted};
 use cs_validate::{SchemaRules, ValidCause};
 use std::alloc::{AllocError, Global};
 

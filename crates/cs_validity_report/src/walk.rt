@@ -1,12 +1,11 @@
 // Along a chain of causes, from the root of a schema document to a schema and from a document to a value.
 ghost use Rattle.std.specs.Prelude.{◌<◌, length, IfSome};
 
-use super::causes::{keyword_of, part_step, reference_of, schema_inside, value_step};
-use crate::entry::put_alternative;
-use crate::pointer::put_steps;
+use crate::causes::{keyword_of, part_step, reference_of, schema_inside, value_step};
 use cs_place::Step;
 use cs_profile::{Keyword, Schema, SchemaDoc};
 use cs_reasons::Link;
+use cs_report::{put_alternative, put_steps};
 use cs_validate::ValidCause;
 use std::alloc::{AllocError, Global};
 

@@ -1,10 +1,10 @@
 // Sources, cut into tokens, and where they declare definitions.
-use crate::entry::SourcePlace;
 use crate::expression::{Cut, Located};
 use crate::outline::{Outline, is_mark};
 use cs_grammar::{Sort, SyntaxFault, Token};
 use cs_lexer::lex;
 use cs_place::{Named, position_of};
+use cs_report::SourcePlace;
 use std::alloc::{AllocError, Global};
 use std::str;
 

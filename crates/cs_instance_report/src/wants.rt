@@ -1,9 +1,8 @@
-// What expressions of CUE ask for, as CUE spells it.
-use crate::text::{put_integer, put_number, put_quoted};
-use crate::wording::MOST_WANTED;
+// What is found, and what expressions of CUE ask for, as CUE spells it.
 use cs_flat::Item;
 use cs_instance::{Want, Wanted};
 use cs_package::{Kind, Relation, Shape};
+use cs_report::{MOST_WANTED, put_integer, put_number, put_quoted, put_shown};
 use std::alloc::AllocError;
 
 fn kind_name(kind: Kind) -> &'static str {
@@ -139,6 +138,18 @@ fn put_alternatives(text: &mut String, wanted: &Wanted<'_>) -> Result<(), AllocE
     Ok(())
 }
 
+/// Puts a value that is found: a string as JSON writes it, cut where it is long, or of which kind it is.
+pub(crate) fn put_found(text: &mut String, item: Item<'_>) -> Result<(), AllocError> {
+    match item {
+        Item::Null => text.push_str("null"),
+        Item::Bool(value) => text.push_str(if value { "true" } else { "false" }),
+        Item::Int(value) => put_integer(text, value),
+        Item::Text(value) => put_shown(text, value),
+        Item::List(_) => text.push_str("a list"),
+        Item::Object(_) => text.push_str("a struct"),
+    }
+}
+
 /// Puts what is found and what is wanted of it.
 pub(crate) fn put_mismatch(
     text: &mut String,
@@ -149,7 +160,7 @@ pub(crate) fn put_mismatch(
         return text.push_str("nothing is allowed here");
     }
     text.push_str("found ")?;
-    crate::wording::put_found(text, item)?;
+    put_found(text, item)?;
     text.push_str(", want ")?;
     put_shape(text, shape)
 }
@@ -164,7 +175,7 @@ pub(crate) fn put_none_taken(
         return text.push_str("nothing is allowed here");
     }
     text.push_str("found ")?;
-    crate::wording::put_found(text, item)?;
+    put_found(text, item)?;
     text.push_str(", want ")?;
     put_alternatives(text, wanted)
 }

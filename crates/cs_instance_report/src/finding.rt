@@ -1,13 +1,14 @@
 // What is wrong with a value, by a cause that leads nowhere.
 use crate::expression::Located;
-use crate::text::put_quoted;
 use crate::walk::{Walk, put_label};
-use crate::wants::{mismatch_word, none_taken_word, put_mismatch, put_none_taken, wants_number};
-use crate::wording::{Suggestion, put_counted, put_found, put_not_allowed};
+use crate::wants::{
+    mismatch_word, none_taken_word, put_found, put_mismatch, put_none_taken, wants_number,
+};
 use cs_flat::{Flat, Item};
 use cs_instance::{InstanceCause, RootRules};
 use cs_package::{FieldMark, Part, Shape};
 use cs_place::Step;
+use cs_report::{Suggestion, put_counted, put_not_allowed, put_number, put_quoted};
 use std::alloc::{AllocError, Global};
 
 /// How many labels are compared with keys that aren't allowed, in all.
@@ -226,7 +227,7 @@ impl<'t> Findings<'t> {
         let mut text = String::from_str(self.alloc, "found ")?;
         put_counted(&mut text, element_count(item), "element")?;
         text.push_str(", want at least ")?;
-        crate::text::put_number(&mut text, fixed)?;
+        put_number(&mut text, fixed)?;
         Ok(self.here("few", text))
     }
 
@@ -239,7 +240,7 @@ impl<'t> Findings<'t> {
             others => put_counted(&mut text, others, "element")?,
         }
         text.push_str(" too many: the list has ")?;
-        crate::text::put_number(&mut text, count)?;
+        put_number(&mut text, count)?;
         let mut finding = self.here("many", text);
         finding.step = Some(Step::Element(fixed));
         Ok(finding)
