@@ -1,7 +1,8 @@
 // The lines of faults.
 use crate::readable::readable;
+use cs_advice::cut_sources;
 use cs_place::Named;
-use cs_refusals::{cut_sources, put_finding};
+use cs_refusals::put_finding;
 use cs_tool::Fault;
 use std::alloc::{AllocError, Global};
 

@@ -1,12 +1,4 @@
-// Forms of CUE at the places of refusals.
-use crate::left_out::form_left_out;
-use crate::near::{Near, end_of};
-use crate::stuck::form_stuck;
-use crate::syntax::form_out_of_place;
-use cs_grammar::{Sort, SyntaxFault, Token};
-use cs_lexer::lex;
-use cs_tool::Fault;
-use std::alloc::{AllocError, Global};
+// Forms of CUE that are refused.
 
 /// A form that is refused: one of CUE that the profile leaves out, or a mistake.
 #[derive(Clone, Copy)]
@@ -140,69 +132,4 @@ pub struct Found {
     pub form: Form,
     pub start: usize,
     pub end: usize,
-}
-
-/// The form at the place of a fault in the source that the fault names; none for faults without an offset, and where the source
-/// has no token there or behind. Only memory can run out.
-pub fn form_of(alloc: Global, source: &str, fault: &Fault) -> Result<Option<Found>, AllocError> {
-    match lex(alloc, source) {
-        Ok(tokens) => Ok(form_among(source, &tokens, fault)),
-        Err(SyntaxFault::OutOfMemory) => Err(AllocError),
-        Err(_) => Ok(form_among(source, &[], fault)),
-    }
-}
-
-/// The same, with the tokens of the source; none of them where it isn't cut, as at a fault by 3 or 6.
-pub fn form_among(source: &str, tokens: &[Token<'_>], fault: &Fault) -> Option<Found> {
-    let offset = fault.offset()?;
-    match fault {
-        Fault::NoToken { .. } => return Some(form_stuck(source.as_bytes(), offset)),
-        Fault::IntegerRange { .. } => return Some(large_integer(source.as_bytes(), offset)),
-        _ => {}
-    }
-    let near = Near::at(tokens, offset)?;
-    match fault {
-        Fault::Syntax { .. } => Some(form_out_of_place(near)),
-        Fault::LeftOut { .. } => Some(form_left_out(near)),
-        _ => form_of_meaning(near.here(), fault),
-    }
-}
-
-/// An integer that is too large, at an offset.
-fn large_integer(source: &[u8], offset: usize) -> Found {
-    let rest = source.get(offset..).unwrap_or(&[]);
-    let len = rest
-        .iter()
-        .take_while(|byte| byte.is_ascii_alphanumeric() || **byte == b'_')
-        .count();
-    Found {
-        form: Form::LargeInteger,
-        start: offset,
-        end: offset.saturating_add(len),
-    }
-}
-
-/// The form of a fault of the package, at a token.
-fn form_of_meaning(token: Token<'_>, fault: &Fault) -> Option<Found> {
-    let form = match fault {
-        Fault::UnknownName { .. } if token.sort == Sort::Definition => Form::UnknownDefinition,
-        Fault::UnknownName { .. } if is_kind_of_cue(token.text) => Form::UnknownKind,
-        Fault::UnknownName { .. } => Form::UnknownName,
-        Fault::FieldReference { .. } => Form::FieldReference,
-        Fault::NotOpened { .. } => Form::NotOpened,
-        _ => return None,
-    };
-    Some(Found {
-        form,
-        start: token.start,
-        end: end_of(token),
-    })
-}
-
-/// Whether a name is that of a kind of CUE which the profile leaves out.
-fn is_kind_of_cue(name: &str) -> bool {
-    matches!(
-        name,
-        "float" | "float32" | "float64" | "bytes" | "uint64" | "uint128" | "int128" | "rune"
-    )
 }

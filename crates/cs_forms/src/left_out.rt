@@ -3,8 +3,8 @@ use crate::forms::{Form, Found};
 use crate::near::{Near, ends_value};
 use cs_grammar::Sort;
 
-/// The form at a token that the profile leaves out.
-pub(crate) fn form_left_out(near: Near<'_, '_>) -> Found {
+/// The form at a token that the profile leaves out, wherever it stands.
+pub fn form_left_out(near: Near<'_, '_>) -> Found {
     match near.here().sort {
         Sort::Hidden => near.shows(Form::HiddenName),
         Sort::Name => near.shows(form_of_word(near.here().text)),

@@ -3,9 +3,14 @@
 
 mod forms;
 mod left_out;
+mod meanings;
 mod near;
 mod stuck;
 mod syntax;
 
-pub use forms::{Form, Found, form_among, form_of};
+pub use forms::{Form, Found};
+pub use left_out::form_left_out;
+pub use meanings::{form_too_large, form_unknown};
 pub use near::{Near, end_of, ends_value};
+pub use stuck::form_stuck;
+pub use syntax::form_out_of_place;

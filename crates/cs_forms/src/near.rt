@@ -162,7 +162,7 @@ impl<'t, 'a> Near<'t, 'a> {
     }
 
     /// A form that the token shows.
-    pub(crate) fn shows(&self, form: Form) -> Found {
+    pub fn shows(&self, form: Form) -> Found {
         Found {
             form,
             start: self.token.start,

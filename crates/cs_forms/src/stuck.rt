@@ -1,8 +1,8 @@
 // Forms where no token of the profile begins (3).
 use crate::forms::{Form, Found};
 
-/// The form at an offset where no token begins.
-pub(crate) fn form_stuck(source: &[u8], offset: usize) -> Found {
+/// The form at an offset of a source where no token begins. The source needn't be cut into tokens.
+pub fn form_stuck(source: &[u8], offset: usize) -> Found {
     let rest = source.get(offset..).unwrap_or(&[]);
     let form = form_at(rest);
     Found {

@@ -3,8 +3,8 @@ use crate::forms::{Form, Found};
 use crate::near::{Around, Near, begins_value, ends_value};
 use cs_grammar::{Sort, Token};
 
-/// The form at a token that is out of place.
-pub(crate) fn form_out_of_place(near: Near<'_, '_>) -> Found {
+/// The form at a token that is out of place, though the profile has it elsewhere.
+pub fn form_out_of_place(near: Near<'_, '_>) -> Found {
     if let Some(found) = after_word(near) {
         return found;
     }

@@ -1,7 +1,7 @@
 // What is told of texts of JSON that are refused.
 use crate::keys::{Inner, pointer_of};
-use crate::spot::{Spot, Words};
-use crate::text::put_code;
+use crate::words::Words;
+use cs_advice::{Spot, put_code};
 use cs_place::Named;
 use serde_json::Value;
 use std::alloc::{AllocError, Global};

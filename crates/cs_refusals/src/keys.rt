@@ -1,5 +1,5 @@
 // What a place of a JSON text is inside of, and its pointer.
-use crate::text::put_number;
+use cs_advice::put_number;
 use serde_json::Value;
 use std::alloc::{AllocError, Global};
 

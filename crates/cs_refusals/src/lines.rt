@@ -1,21 +1,11 @@
 // Refusals in lines, for people and for problem matchers.
-use crate::excerpt::put_excerpt;
-use crate::sources::{Source, sources_of};
-use crate::spot::{Span, Spot, Words};
-use crate::text::{put_line, put_number, put_place};
 use crate::told::{About, put_told};
-use cs_place::{Named, position_of};
+use crate::words::{Words, no_words};
+use cs_advice::{Source, Span, Spot, put_excerpt, put_line, put_number, put_offset, sources_of};
+use cs_place::Named;
 use cs_tool::Fault;
 use itoa::Buffer;
 use std::alloc::{AllocError, Global};
-
-/// No words.
-pub(crate) fn no_words(alloc: Global) -> Words {
-    Words {
-        pointer: None,
-        hint: String::new(alloc),
-    }
-}
 
 /// Why a call was refused: a line with the place, as `FILE:LINE:COLUMN: `, and what to do; where a source, a schema or a document
 /// has the place, its line and a mark below. What isn't known is left out. Only memory can run out.
@@ -88,17 +78,6 @@ fn put_front(text: &mut String, spot: Spot<'_>, span: Option<Span>) -> Result<()
             text.push_str(": ")
         }
     }
-}
-
-/// Puts the place of an offset of a text: `NAME:LINE:COLUMN: `.
-pub(crate) fn put_offset(
-    text: &mut String,
-    named: Named<'_>,
-    offset: usize,
-) -> Result<(), AllocError> {
-    let place = position_of(named.text, offset);
-    let line = place.line.saturating_add(named.line).saturating_sub(1);
-    put_place(text, named.name, line, place.column)
 }
 
 /// Puts the pointer of the value at fault, and what to do.

@@ -1,5 +1,5 @@
 // From a number to what docs/REFUSALS.md says of it.
-use crate::text::put_number;
+use cs_advice::put_number;
 use cs_meanings::{EXPLANATIONS, Explanation, explanation};
 use std::alloc::{AllocError, Global};
 

@@ -1,10 +1,8 @@
 // Refusals as objects of JSON, for programs.
-use crate::form_names::form_name;
-use crate::lines::{no_words, place_of};
-use crate::sources::sources_of;
-use crate::spot::{Span, Spot, Words};
-use crate::text::{put_number, put_quoted};
+use crate::lines::place_of;
 use crate::told::{About, put_told};
+use crate::words::{Words, no_words};
+use cs_advice::{Span, Spot, form_name, put_number, put_quoted, sources_of};
 use cs_place::{Named, position_of};
 use cs_tool::{Fault, write_fault_json};
 use itoa::Buffer;

@@ -1,7 +1,6 @@
 // How many values and rules there are, where they make too many pairs (27).
-use crate::spot::Spot;
-use crate::text::put_grouped;
 use crate::told::About;
+use cs_advice::{Spot, put_grouped};
 use cs_doc::{DocFault, read_doc};
 use cs_document::Doc;
 use cs_flat::{Flat, flatten};

@@ -1,7 +1,6 @@
 // What is told of schemas that are refused.
-use crate::cycles::put_names_of_loop;
-use crate::spot::{Spot, Words};
-use crate::text::put_code;
+use crate::words::Words;
+use cs_advice::{Spot, put_code, put_names_of_loop};
 use cs_place::{Named, Step, ValuePath, places};
 use cs_tool::Fault;
 use std::alloc::{AllocError, Global};

@@ -1,16 +1,15 @@
 // What is told of a refusal.
-use crate::advice::put_advice;
-use crate::chains::put_chain;
-use crate::cycles::put_cycle;
 use crate::documents::{put_not_integer, put_not_json};
+use crate::encoding::put_not_utf8;
+use crate::forms::form_among;
 use crate::numbers::put_meaning;
-use crate::packages::{put_no_root, put_not_utf8, put_package_name, put_too_high, put_too_large};
 use crate::pairs::put_too_many_pairs;
 use crate::schemas::{put_loop, put_schema_fault};
-use crate::sources::Source;
-use crate::spot::{Spot, Words};
-use crate::text::put_line;
-use cs_forms::form_among;
+use crate::words::Words;
+use cs_advice::{
+    Source, Spot, put_advice, put_chain, put_cycle, put_line, put_no_root, put_package_name,
+    put_too_high, put_too_large,
+};
 use cs_place::Named;
 use cs_tool::Fault;
 use std::alloc::{AllocError, Global};

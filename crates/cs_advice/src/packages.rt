@@ -1,14 +1,12 @@
 // What is told of faults of whole files and packages.
 use crate::layout::{Inside, Part, layout_of};
-use crate::lines::put_offset;
 use crate::nearest::{nearest, put_names, put_suggestion};
 use crate::parts::first_too_high;
 use crate::sources::{Source, declared};
 use crate::spot::Spot;
-use crate::text::{put_code, put_grouped};
+use crate::text::{put_code, put_grouped, put_offset};
 use cs_forms::end_of;
 use cs_grammar::Token;
-use simdutf8::compat::from_utf8;
 use std::alloc::{AllocError, Global};
 
 /// How deep brackets may nest.
@@ -16,24 +14,12 @@ const MOST_NESTED: usize = 28;
 /// How many definitions a package may have.
 const MOST_DEFINITIONS: usize = 1_000;
 
-/// Where a source isn't UTF-8 (2).
-pub(crate) fn put_not_utf8<'a>(
-    text: &mut String,
-    source: Option<&Source<'a, '_>>,
-) -> Result<Spot<'a>, AllocError> {
-    let Some(source) = source else {
-        return Ok(Spot::nowhere());
-    };
-    let Err(error) = from_utf8(source.named.text) else {
-        return Ok(Spot::in_file(source.named));
-    };
-    text.push_str("no UTF-8 from here: save the file as UTF-8, without a byte order mark")?;
-    let offset = error.valid_up_to();
-    Ok(Spot::at(source.named, offset, offset))
-}
-
-/// Where a source nests too deep (7): the bracket with the first level that is too deep.
-pub(crate) fn put_too_high<'a>(
+/// Puts where a source nests too deep (7), and gives the place of the bracket or the definition with the first level that is too
+/// deep; nothing and the file where its tokens show none, and no place without a source.
+///
+/// # Errors
+/// Memory ran out.
+pub fn put_too_high<'a>(
     alloc: Global,
     text: &mut String,
     source: Option<&Source<'a, '_>>,
@@ -92,8 +78,12 @@ fn clause_of<'a>(source: &Source<'_, 'a>) -> Option<Token<'a>> {
     }
 }
 
-/// Both clauses, where a file names another package (8).
-pub(crate) fn put_package_name<'a>(
+/// Puts the package clause of a file and the first one of the sources, where they name different packages (8), and gives the place of
+/// the name in this file; nothing and the file where it has no clause, and no place without a source.
+///
+/// # Errors
+/// Memory ran out.
+pub fn put_package_name<'a>(
     text: &mut String,
     sources: &[Source<'a, '_>],
     file: usize,
@@ -118,8 +108,12 @@ pub(crate) fn put_package_name<'a>(
     Ok(Spot::at(source.named, name.start, end_of(name)))
 }
 
-/// The names that a package declares, where the root is none of them (13).
-pub(crate) fn put_no_root<'a>(
+/// Puts the names that the sources declare, where the root is none of them (13), and the one that may have been meant. It has no
+/// place.
+///
+/// # Errors
+/// Memory ran out.
+pub fn put_no_root<'a>(
     alloc: Global,
     text: &mut String,
     sources: &[Source<'a, '_>],
@@ -142,8 +136,11 @@ pub(crate) fn put_no_root<'a>(
     Ok(Spot::nowhere())
 }
 
-/// How many definitions or nodes there are, where a package is too large (14).
-pub(crate) fn put_too_large<'a>(
+/// Puts how many definitions or nodes the sources have, where these are too many (14). It has no place.
+///
+/// # Errors
+/// Memory ran out.
+pub fn put_too_large<'a>(
     alloc: Global,
     text: &mut String,
     sources: &[Source<'a, '_>],

@@ -1,14 +1,21 @@
 // Writing into texts.
+use cs_place::{Named, position_of};
 use itoa::Buffer;
 use std::alloc::AllocError;
 
 /// Puts a number.
-pub(crate) fn put_number(text: &mut String, number: usize) -> Result<(), AllocError> {
+///
+/// # Errors
+/// Memory ran out.
+pub fn put_number(text: &mut String, number: usize) -> Result<(), AllocError> {
     text.push_str(Buffer::new().format(number))
 }
 
 /// Puts a number with a comma before each three digits.
-pub(crate) fn put_grouped(text: &mut String, number: usize) -> Result<(), AllocError> {
+///
+/// # Errors
+/// Memory ran out.
+pub fn put_grouped(text: &mut String, number: usize) -> Result<(), AllocError> {
     let mut buffer = Buffer::new();
     let digits = buffer.format(number);
     let len = digits.len();
@@ -35,7 +42,10 @@ fn is_control(character: char) -> bool {
 }
 
 /// Puts a text with a `?` for each control character.
-pub(crate) fn put_line(text: &mut String, inside: &str) -> Result<(), AllocError> {
+///
+/// # Errors
+/// Memory ran out.
+pub fn put_line(text: &mut String, inside: &str) -> Result<(), AllocError> {
     for character in inside.chars() {
         text.push(if is_control(character) {
             '?'
@@ -47,25 +57,33 @@ pub(crate) fn put_line(text: &mut String, inside: &str) -> Result<(), AllocError
 }
 
 /// Puts a text in backquotes.
-pub(crate) fn put_code(text: &mut String, inside: &str) -> Result<(), AllocError> {
+///
+/// # Errors
+/// Memory ran out.
+pub fn put_code(text: &mut String, inside: &str) -> Result<(), AllocError> {
     text.push('`')?;
     put_line(text, inside)?;
     text.push('`')
 }
 
 /// Puts `NAME:LINE:COLUMN: `.
-pub(crate) fn put_place(
-    text: &mut String,
-    name: &str,
-    line: usize,
-    column: usize,
-) -> Result<(), AllocError> {
+fn put_place(text: &mut String, name: &str, line: usize, column: usize) -> Result<(), AllocError> {
     put_line(text, name)?;
     text.push(':')?;
     put_number(text, line)?;
     text.push(':')?;
     put_number(text, column)?;
     text.push_str(": ")
+}
+
+/// Puts the place of an offset of a text: `NAME:LINE:COLUMN: `.
+///
+/// # Errors
+/// Memory ran out.
+pub fn put_offset(text: &mut String, named: Named<'_>, offset: usize) -> Result<(), AllocError> {
+    let place = position_of(named.text, offset);
+    let line = place.line.saturating_add(named.line).saturating_sub(1);
+    put_place(text, named.name, line, place.column)
 }
 
 /// The digit of a number below 16.
@@ -85,7 +103,10 @@ fn put_control(text: &mut String, control: char) -> Result<(), AllocError> {
 }
 
 /// Puts a text as a string of JSON (RFC 8259, section 7).
-pub(crate) fn put_quoted(text: &mut String, inside: &str) -> Result<(), AllocError> {
+///
+/// # Errors
+/// Memory ran out.
+pub fn put_quoted(text: &mut String, inside: &str) -> Result<(), AllocError> {
     text.push('"')?;
     for character in inside.chars() {
         match character {

@@ -23,7 +23,10 @@ fn sides(text: &[u8], offset: usize) -> (&[u8], &[u8]) {
 
 /// Puts the line of an offset, and below it a mark under the characters up to another offset; nothing where the line is empty or
 /// isn't UTF-8.
-pub(crate) fn put_excerpt(
+///
+/// # Errors
+/// Memory ran out.
+pub fn put_excerpt(
     text: &mut String,
     source: &[u8],
     start: usize,

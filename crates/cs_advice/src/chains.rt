@@ -140,8 +140,12 @@ fn graph_of(
     Ok(graph)
 }
 
-/// Puts the first chain that is too long, if it is found (16).
-pub(crate) fn put_chain<'a>(
+/// Puts the first chain of references that is too long (16), and gives the place of its first definition; nothing and no place where
+/// the tokens of the sources show none.
+///
+/// # Errors
+/// Memory ran out.
+pub fn put_chain<'a>(
     alloc: Global,
     text: &mut String,
     sources: &[Source<'a, '_>],

@@ -9,8 +9,8 @@ use std::str;
 /// A source with its tokens; none of them where it isn't cut.
 #[derive(Drop)]
 pub struct Source<'n, 't> {
-    pub(crate) named: Named<'n>,
-    pub(crate) tokens: Vec<Token<'t>>,
+    pub named: Named<'n>,
+    pub tokens: Vec<Token<'t>>,
 }
 
 /// The first declaration of a definition.
@@ -35,7 +35,10 @@ fn tokens_of<'a>(alloc: Global, text: &'a [u8]) -> Result<Vec<Token<'a>>, AllocE
 }
 
 /// The sources with their tokens, in their order.
-pub(crate) fn sources_of<'a>(
+///
+/// # Errors
+/// Memory ran out.
+pub fn sources_of<'a>(
     alloc: Global,
     named: &[Named<'a>],
 ) -> Result<Vec<Source<'a, 'a>>, AllocError> {
@@ -49,7 +52,10 @@ pub(crate) fn sources_of<'a>(
 }
 
 /// The sources with the tokens of these copies of them, in their order: a copy has other characters in the place of what no token
-/// begins with, and its offsets are those of the source. Only memory can run out.
+/// begins with, and its offsets are those of the source.
+///
+/// # Errors
+/// Memory ran out.
 pub fn cut_sources<'n, 't>(
     alloc: Global,
     named: &[Named<'n>],

@@ -22,8 +22,12 @@ pub(crate) fn text_of(bytes: Option<&[u8]>) -> &str {
     }
 }
 
-/// Puts what is said of a form in a source, one of these.
-pub(crate) fn put_advice(
+/// Puts what is said of a form that was found in a source, which is one of these: what it is, and what to write instead, with the
+/// names that the sources have there.
+///
+/// # Errors
+/// Memory ran out.
+pub fn put_advice(
     alloc: Global,
     text: &mut String,
     source: &Source<'_, '_>,

@@ -10,8 +10,12 @@ use std::alloc::{AllocError, Global};
 /// How many definitions of a cycle are named.
 const MOST_IN_CYCLE: usize = 16;
 
-/// Puts a cycle of definitions, each with its place, and what ends it.
-pub(crate) fn put_cycle<'a>(
+/// Puts a cycle of definitions by their names, each with its place, and what ends it (12), and gives the place of the first one;
+/// nothing and no place where the sources don't declare that.
+///
+/// # Errors
+/// Memory ran out.
+pub fn put_cycle<'a>(
     alloc: Global,
     text: &mut String,
     sources: &[Source<'a, '_>],
@@ -40,8 +44,11 @@ fn first_of<'a>(declared: &[Declaration<'a>], names: &[String]) -> Option<Declar
     declaration_of(declared, names.first()?.as_str())
 }
 
-/// Puts the names of a loop, and the first one again behind them.
-pub(crate) fn put_names_of_loop(
+/// Puts the names of a loop, the first ones of many, and the first one again behind them.
+///
+/// # Errors
+/// Memory ran out.
+pub fn put_names_of_loop(
     text: &mut String,
     names: &[String],
     first: &str,

@@ -2,7 +2,7 @@
 use cs_forms::Form;
 
 /// The name of a form. Each has a row, so that a new one gets its own.
-pub(crate) fn form_name(form: Form) -> &'static str {
+pub fn form_name(form: Form) -> &'static str {
     match form {
         Form::ByteOrderMark => "byte-order-mark",
         Form::Float => "float",

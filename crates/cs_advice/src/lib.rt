@@ -1,0 +1,31 @@
+// What to do at a place of a source: in words, by the tokens there and by how they are laid out. Nothing is known of faults.
+#![tactic(auto)]
+
+mod advice;
+mod bases;
+mod chains;
+mod cycles;
+mod excerpt;
+mod fields;
+mod form_names;
+mod labels;
+mod layout;
+mod nearest;
+mod packages;
+mod parts;
+mod sentences;
+mod sources;
+mod spot;
+mod strong;
+mod text;
+mod unknown;
+
+pub use advice::put_advice;
+pub use chains::put_chain;
+pub use cycles::{put_cycle, put_names_of_loop};
+pub use excerpt::put_excerpt;
+pub use form_names::form_name;
+pub use packages::{put_no_root, put_package_name, put_too_high, put_too_large};
+pub use sources::{Source, cut_sources, sources_of};
+pub use spot::{Span, Spot};
+pub use text::{put_code, put_grouped, put_line, put_number, put_offset, put_quoted};
