@@ -5,7 +5,6 @@ ghost use Rattle.cs_judge.specs.Lines.{IsDone, IsCutOff, LeavesLines, IsOfRules}
 ghost use Rattle.cs_judge.specs.Answering.{AreAnswered, IsAnswered, AreCutOff, IsCutOffIn};
 
 use crate::answers::LinesOutcome;
-use crate::begun_line::BegunLine;
 use crate::explained_runs::members_of;
 use crate::fronts::put_input;
 use crate::held_answers::HeldAnswers;
@@ -75,18 +74,12 @@ fn begin<'a, 'b>(
     ensures rules { IfOk result (λ r. r.run.judge ≡ judge.entry) }
     ensures memory { IsOkUnless result Fault.OutOfMemory }
 {
-    let held = HeldAnswers::new(alloc)?;
+    let run = LineRun::begin(alloc, judge)?;
     let notes = HeldAnswers::new(alloc)?;
     let line = Named {
         name,
         text: b"",
         line: 1,
-    };
-    let run = LineRun {
-        judge,
-        begun: BegunLine::new(alloc),
-        held,
-        outcome: LinesOutcome::AllValid,
     };
     Ok(ExplainedRun {
         run,

@@ -1,5 +1,5 @@
 // A run over the lines of an input.
-ghost use Rattle.std.specs.Prelude.{◌≡◌, ◌+◌, ◌⊎◌, ℕ, List, ◌∷◌, [], ◌++◌, ◌<◌, length, Option, Some, OnOk, OnErr, IfOk, IfErr, Err};
+ghost use Rattle.std.specs.Prelude.{◌≡◌, ◌+◌, ◌⊎◌, ℕ, List, ◌∷◌, [], ◌++◌, ◌<◌, length, Option, Some, OnOk, OnErr, IfOk, IfErr, IsOkUnless, Err};
 ghost use Rattle.cs_judge.specs.Judged.{AreReadable};
 ghost use Rattle.cs_judge.specs.Begun.{HoldsFront};
 ghost use Rattle.cs_judge.specs.Lines.{IsLineAnswer, worse, outcome_of_answer, IsDone, IsCutOff, LeavesLines, IsOfRules};
@@ -57,21 +57,55 @@ pub fn run_lines<R: Read, W: Write>(
 {
     let prepared = prepare(alloc, rules)?;
     let judge = prepared.judge(alloc)?;
-    let held = HeldAnswers::new(alloc)?;
-    let mut chunk = vec![in alloc; 0u8; CHUNK]?;
-    let begun = BegunLine::new(alloc);
-    let outcome = LinesOutcome::AllValid;
-    let mut run = LineRun {
-        judge,
-        begun,
-        held,
-        outcome,
-    };
-    answer_input(&mut run, &mut chunk, input, output)
+    run_prepared(alloc, judge, input, output)
+}
+
+/// The same by the judge of prepared rules.
+fn run_prepared<R: Read, W: Write>(
+    alloc: Global,
+    judge: TextJudge<'_>,
+    input: &mut R,
+    output: &mut W,
+) -> Result<LinesOutcome, Fault>
+    ensures done { IfOk result (IsDone judge.entry (R.remaining input.old)
+        (W.contents output.old) (W.contents output.new)) }
+    ensures refused { IfErr result (λ e. LeavesLines judge.entry e
+        (R.remaining input.old) (R.remaining input.new)
+        (W.contents output.old) (W.contents output.new)) }
+    ensures unread { IfErr result (λ e. IsOfRules e
+        → (input.new ≡ input.old) × (output.new ≡ output.old)) }
+    ensures only { IfErr result (λ e. (e ≡ Fault.OutOfMemory)
+        ⊎ (e ≡ Fault.ReadFailed) ⊎ (e ≡ Fault.WriteFailed)) }
+{
+    let mut run = LineRun::begin(alloc, judge)?;
+    answer_input(alloc, &mut run, input, output)
 }
 
 /// Answers the lines of the input, which is read in chunks.
 fn answer_input<R: Read, W: Write>(
+    alloc: Global,
+    run: &mut LineRun<'_>,
+    input: &mut R,
+    output: &mut W,
+) -> Result<LinesOutcome, Fault>
+    requires start { IsAnswered (W.contents output.old) (W.contents output.old) [] run.old }
+    requires none { run.old.held ≡ [] }
+    ensures done { IfOk result (IsDone run.old.judge (R.remaining input.old)
+        (W.contents output.old) (W.contents output.new)) }
+    ensures refused { IfErr result (λ e. LeavesLines run.old.judge e
+        (R.remaining input.old) (R.remaining input.new)
+        (W.contents output.old) (W.contents output.new)) }
+    ensures unread { IfErr result (λ e. IsOfRules e
+        → (input.new ≡ input.old) × (output.new ≡ output.old)) }
+    ensures kind { IfErr result (λ e. (e ≡ Fault.OutOfMemory)
+        ⊎ (e ≡ Fault.ReadFailed) ⊎ (e ≡ Fault.WriteFailed)) }
+{
+    let mut chunk = vec![in alloc; 0u8; CHUNK]?;
+    answer_chunks(run, &mut chunk, input, output)
+}
+
+/// Answers the lines of the input, as many bytes at a time as the chunk has.
+fn answer_chunks<R: Read, W: Write>(
     run: &mut LineRun<'_>,
     chunk: &mut [u8],
     input: &mut R,
@@ -99,6 +133,25 @@ fn answer_input<R: Read, W: Write>(
         run.held.write_out(output)?;
     }
     Err(Fault::ReadFailed)
+}
+
+impl<'a> LineRun<'a> {
+    /// A run before its first line.
+    pub(crate) fn begin(alloc: Global, judge: TextJudge<'a>) -> Result<LineRun<'a>, Fault>
+        ensures begun { IfOk result (λ r. HoldsFront r.begun []) }
+        ensures held { IfOk result (λ r. r.held ≡ []) }
+        ensures outcome { IfOk result (λ r. r.outcome ≡ LinesOutcome.AllValid) }
+        ensures rules { IfOk result (λ r. r.judge ≡ judge.entry) }
+        ensures memory { IsOkUnless result Fault.OutOfMemory }
+    {
+        let held = HeldAnswers::new(alloc)?;
+        Ok(LineRun {
+            judge,
+            begun: BegunLine::new(alloc),
+            held,
+            outcome: LinesOutcome::AllValid,
+        })
+    }
 }
 
 impl LineRun<'_> {

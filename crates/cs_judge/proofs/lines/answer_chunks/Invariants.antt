@@ -1,7 +1,7 @@
 use Rattle.std.proofs.Common.{◌≡◌, ℕ, List, []}
 use Rattle.std.specs.Io.KnownBytes.{Consumes}
 use Rattle.cs_judge.specs.Answering.{IsAnswered}
-use Rattle.cs_judge.proofs.lines.answer_input.Given as goal
+use Rattle.cs_judge.proofs.lines.answer_chunks.Given as goal
 
 abbrev pub invariant-loop : goal.invariant-loop
 invariant-loop g l = record {
