@@ -30,7 +30,7 @@ TOP = Path(__file__).resolve().parent.parent
 COUNTED = re.compile(r"(\d+) passed[,;] (\d+) failed")
 TEST = re.compile(r"^#\[test\]", re.M)
 # How `rt ci` says that a crate is proved.
-PROVED = re.compile(r"(\w+) (?:proved|is kept: .*)")
+PROVED = re.compile(r"rt: (\w+) (?:proved|is kept: .*)")
 # What can be seen from the files in a second.
 OF_FILES = [
     ["tools/edits.py", "--fit"],
