@@ -24,6 +24,6 @@ pub mod PlacedCauses
 pub mod PlacedTold
 pub mod CauseLists
 pub mod Untold
-pub mod Earlier
+pub mod EarlierPairs
 pub mod Refused
 pub mod Renamed

@@ -14,7 +14,7 @@ use Rattle.cs_validate.specs.Steps.{asked_of}
 use Rattle.cs_validate.specs.NumberedCauses.{NumberedCause, led_from}
 use Rattle.cs_validate.specs.PlacedCauses.{leads_to, is_alternative, members_in, required_in, named_in, IsKeyed, StaysAt, IsPlacedCause}
 use Rattle.cs_validate.specs.Props.{parts_prop}
-use Rattle.cs_validate.specs.Earlier.{cause_lower, parts_lower}
+use Rattle.cs_validate.specs.EarlierPairs.{cause_lower, parts_lower}
 use Rattle.cs_validate.specs.Untold.{rule_of_some, cause_some}
 use Rattle.cs_validate.specs.declared.rules.Rule.{Rule as Coded}
 use Rattle.cs_validate.specs.declared.placed_cause.PlacedCause.{PlacedCause}
