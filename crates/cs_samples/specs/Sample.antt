@@ -1,7 +1,7 @@
 -- Which documents are samples of a root.
 use Rattle.std.specs.Prelude.{◌≡◌, ℕ, Bool, true, false, List}
 use Rattle.std.specs.List.{AllByRecursion}
-use Rattle.cs_document.specs.Document.{Document}
+use Rattle.cs_document.specs.Document.{Document, IsDocument}
 use Rattle.cs_document.specs.View.{doc_view}
 use Rattle.cs_document.specs.declared.doc.Doc.{Doc}
 use Rattle.cs_package.specs.Environment.{Environment, Names}
@@ -19,3 +19,7 @@ IsSample E root which x = (I : Rule → Document → Bool) (n : List ℕ) → Is
 
 abbrev pub AreSamples : Environment → List ℕ → Sampled → List Doc → Type 0
 AreSamples E root which ds = AllByRecursion (λ d. IsSample E root which (doc_view d)) ds
+
+-- no document is an instance of the root
+abbrev pub HasNoInstance : Environment → List ℕ → Type 0
+HasNoInstance E root = (I : Rule → Document → Bool) (n : List ℕ) (x : Document) → IsInstance E I → Names E root n → IsDocument x → I (definition n) x ≡ false

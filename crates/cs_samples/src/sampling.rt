@@ -5,7 +5,7 @@ ghost use Rattle.cs_document.specs.Document.{document_eq};
 ghost use Rattle.cs_document.specs.View.{doc_view};
 ghost use Rattle.cs_package.specs.Environment.{Names};
 ghost use Rattle.cs_samples.specs.Answers.{IsAnswer, IsPut, AreKept};
-ghost use Rattle.cs_samples.specs.Sample.{AreSamples};
+ghost use Rattle.cs_samples.specs.Sample.{AreSamples, HasNoInstance};
 
 use crate::asking::{Answer, Asking};
 use crate::places::Place;
@@ -15,7 +15,7 @@ use crate::walks::walk_of;
 use cs_document::Doc;
 use cs_guard::{Guarded, reachable};
 use cs_package::Package;
-use cs_question::{Budget, QuestionFault};
+use cs_question::{Budget, QuestionFault, instance_of};
 use std::alloc::{AllocError, Global};
 use std::collections::BTreeSet;
 
@@ -33,7 +33,7 @@ const MOST_LIMITED: usize = 8;
 /// each required key, each length of a list, and each struct that allows no further key, one that is no instance for this alone,
 /// where there is one; any that is no instance where there is none of these. Each definition is sampled at the first place that
 /// refers to it. Where that gives no document that just fails, the definition is changed for all places that refer to it. A further
-/// key is called `key`.
+/// key is called `key`. There is no valid one, where one is asked for, only if nothing is an instance of the root.
 ///
 /// At most `most` places give a document, `most + 100` give none, and 8 meet a limit. All questions together take 5,000,000 steps
 /// at most, and each at most half of those that are left. Where no more may be asked, there are the documents so far.
@@ -51,6 +51,8 @@ pub fn samples(
     ensures samples { IfOk result (λ v. AreSamples «package».now root.now which v.items) }
     ensures within { IfOk result (λ v. length v.items ≤ most) }
     ensures distinct { IfOk result (λ v. IsDistinct document_eq (map doc_view v.items)) }
+    ensures none { which ≡ Sampled.Valid → 0 < most
+        → IfOk result (λ v. v.items ≡ [] → HasNoInstance «package».now root.now) }
     ensures known { OnOk result ((n : List ℕ) × Names «package».now root.now n) }
     ensures unknown { IsErrOf result QuestionFault.UnknownRoot
         → (n : List ℕ) → ¬ Names «package».now root.now n }
@@ -68,10 +70,37 @@ pub fn samples(
     let Ok(found) = gathered(&asking, number, most, &mut budget) else {
         return Err(QuestionFault::OutOfMemory);
     };
-    if found.docs.is_empty() && found.limited > 0 {
+    if !found.docs.is_empty() {
+        return Ok(found.docs);
+    }
+    if found.limited > 0 {
         return Err(QuestionFault::TooManyCases);
     }
-    Ok(found.docs)
+    match which {
+        Sampled::Valid if most > 0 => one_instance(&asking, &mut budget),
+        _ => Ok(Vec::new(alloc)),
+    }
+}
+
+/// The instance that the question about the root as it stands finds; none where nothing is an instance of the root.
+fn one_instance(asking: &Asking<'_>, budget: &mut Budget) -> Result<Vec<Doc>, QuestionFault>
+    ensures samples { IfOk result (λ v. AreSamples asking.now.package.now asking.now.root.now
+        Sampled.Valid v.items) }
+    ensures one { IfOk result (λ v. length v.items ≤ 1) }
+    ensures distinct { IfOk result (λ v. IsDistinct document_eq (map doc_view v.items)) }
+    ensures none { IfOk result (λ v. v.items ≡ []
+        → HasNoInstance asking.now.package.now asking.now.root.now) }
+    ensures unknown { IsErrOf result QuestionFault.UnknownRoot
+        → (n : List ℕ) → ¬ Names asking.now.package.now asking.now.root.now n }
+{
+    match instance_of(asking.alloc, asking.package, asking.root, budget)? {
+        None => Ok(Vec::new(asking.alloc)),
+        Some(doc) => {
+            let mut docs = Vec::new(asking.alloc);
+            docs.push(doc)?;
+            Ok(docs)
+        }
+    }
 }
 
 /// What the questions answered: documents in their order, how many answered nothing new, and how many met a limit.
