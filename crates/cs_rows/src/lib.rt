@@ -1,4 +1,4 @@
-// The calls of `cs_tool` and `cs_judge` over readers and writers that fail, and the words of refusals: what the program can't show.
+// The calls of `cs_tool` and `cs_judge` over readers and writers that fail, and without a source: what the program can't show.
 #![tactic(auto)]
 
 #[cfg(test)]
@@ -6,7 +6,7 @@ mod fakes;
 #[cfg(test)]
 mod lines;
 #[cfg(test)]
-mod refusals;
+mod sources;
 #[cfg(test)]
 mod streams;
 #[cfg(test)]

@@ -195,9 +195,6 @@ fn each_read_and_write_fails_in_turn(rt: HostRuntime) -> Result<(), Fail> {
 /// The same requests, where nothing fails: a byte comes a call, and as many are taken a call as the first cell says.
 const WHOLE: &str = r##"1 => export => - => - => #P: int & >=1 & <=65535
   … => true {"$defs":{"P":{"maximum":65535,"minimum":1,"type":"integer"}},"$ref":"#/$defs/P","$schema":"https://json-schema.org/draft/2020-12/schema"}
-1000 => export => - => - => #Q: int => 13
-1000 => export => - => - => ⟨1048577× ⟩ => 1
-1000 => export => - => - => ⟨1048576× ⟩ => 13
 1000 => export => - => - => #P: ⟨3999×int | ⟩int
   … => true {"$defs":{"P":{"anyOf":[⟨3999×{"type":"integer"},⟩{"type":"integer"}]}},"$ref":"#/$defs/P","$schema":"https://json-schema.org/draft/2020-12/schema"}"##;
 

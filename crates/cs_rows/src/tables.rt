@@ -1,7 +1,6 @@
 // Tables of examples: a row a line, its cells parted by `=>`. A line that begins with two blanks and `…` goes on with the row
 // before it.
-use crate::{lines, refusals, streams};
-use cs_tool::Fault;
+use crate::{lines, streams};
 use std::alloc::{AllocError, Global};
 use std::test::Fail;
 
@@ -18,8 +17,6 @@ pub(crate) enum Row {
     Lines,
     /// An input, how it is read, and how often its answers are flushed.
     Flushes,
-    /// The number of a refusal, the line that reports it, and words of its message.
-    Refusal,
 }
 
 /// Fails with the first row that doesn't hold.
@@ -33,14 +30,13 @@ pub(crate) fn check(alloc: Global, table: &str, rows: Row) -> Result<(), Fail> {
     Ok(())
 }
 
-fn holds(alloc: Global, row: &str, rows: Row) -> Result<bool, Fault> {
+fn holds(alloc: Global, row: &str, rows: Row) -> Result<bool, AllocError> {
     match rows {
         Row::Stream => Ok(streams::is_told(alloc, row)),
-        Row::Whole => Ok(streams::is_whole(alloc, row)?),
+        Row::Whole => streams::is_whole(alloc, row),
         Row::Blanks => Ok(streams::are_blanks_refused(alloc, row)),
-        Row::Lines => Ok(lines::are_told(alloc, row)?),
-        Row::Flushes => Ok(lines::is_flushed(alloc, row)?),
-        Row::Refusal => refusals::is_said(alloc, row),
+        Row::Lines => lines::are_told(alloc, row),
+        Row::Flushes => lines::is_flushed(alloc, row),
     }
 }
 
