@@ -72,6 +72,16 @@ try_refused() {
     done
 }
 
+# writes_of WORD..: in how many writes the program prints, by a socket that keeps each by itself; its status
+writes_of() {
+    python3 -c 'import socket, subprocess, sys
+ours, theirs = socket.socketpair(socket.AF_UNIX, socket.SOCK_SEQPACKET)
+run = subprocess.Popen(sys.argv[1:], stdout=theirs)
+theirs.close()
+print(sum(1 for _ in iter(lambda: ours.recv(1 << 20), b"")))
+sys.exit(run.wait())' "$program" "$@"
+}
+
 mkdir "$room/here"
 cd "$room/here"
 port='{"P":{"maximum":65535,"minimum":1,"type":"integer"}}'
@@ -298,6 +308,23 @@ try 'error 1' 'run export --root "#P" one source-limit missing.cue'
 # Large answers that are given where there is memory.
 try "{\"P\":{\"enum\":[$(seq -s , 0 49998)]}}" 'run export --root "#P" literals.cue'
 try_run 0 'all of it' '' 'run export --root "#P" fields.cue | cmp - fields.json && echo "all of it"'
+# On lines too, as components, and of 300 files.
+{
+    printf '{\n  "$defs": {\n    "P": {\n      "enum": [\n'
+    seq 0 49997 | sed 's/.*/        &,/'
+    printf '        49998\n      ]\n    }\n  },\n  "$ref": "#/$defs/P",\n  "$schema": "https://json-schema.org/draft/2020-12/schema"\n}\n'
+} > literals.json
+try_run 0 'all of it' '' 'run export --pretty --root "#P" literals.cue | cmp - literals.json && echo "all of it"'
+tr -d '\n' < fields.json > fields.line
+try_run 0 'all of it' '' 'run export --pretty --root "#P" fields.cue | tr -d " \n" | cmp - fields.line && echo "all of it"'
+sed 's|"$ref":"#/$defs/P",||' fields.json > all.json
+try_run 0 'all of it' '' 'run export --all fields.cue | cmp - all.json && echo "all of it"'
+bodies='{"maximum":65535,"minimum":1,"type":"integer"}'
+bodies="{\"P\":{\"allOf\":[$(repeat 299 "$bodies,")$bodies]}}"
+try_run 0 "{\"\$defs\":$bodies,\"\$ref\":\"#/\$defs/P\",$dialect}" '' 'run export --root "#P" $(yes port.cue | head -n 300)'
+try_run 0 "{\"\$defs\":$bodies,\"\$ref\":\"#/\$defs/P\",$dialect}" '' 'run export --describe --root "#P" $(yes port.cue | head -n 300)'
+try_run 0 "{\"\$defs\":$bodies,$dialect}" '' 'run export --all $(yes port.cue | head -n 300)'
+try_run 0 "{\"components\":{\"schemas\":$bodies}}" '' 'run export --openapi $(yes port.cue | head -n 300)'
 
 # Too many pairs of values and schemas, where those of values and rules are few enough.
 try invalid 'run vet --root "#A" --doc zeros.json twice.cue'
@@ -360,6 +387,10 @@ try 'lines 2 error 25;valid' '{ cat input-limit; echo; cat one; } | run validate
 try 'lines 2 error 28;valid' '{ cat input-over; echo; cat one; } > over-and-one; run agree --root "#P" --lines --doc over-and-one port.cue'
 try 'lines 2 valid;error 28' 'cat one input-over > joined; { echo 80; cat joined; } | run vet --root "#P" --lines port.cue'
 try 'lines 0 valid;valid' '(printf 8; sleep 0.2; printf "0\n8"; sleep 0.2; printf 0) | run validate --schema port.json --lines'
+# An input is read in chunks of 65,536 bytes, and what is answered to one is written together: 200,000 lines of 600,000 bytes in few writes.
+yes 80 | head -n 200000 > eighties
+try_run 0 few '' 'code=0; count=$(writes_of vet --root "#P" --lines --doc eighties port.cue) || code=$?; echo "$code" > "$room/status"
+    [ "$count" -le 40 ] && echo few'
 # Each verdict is there before the next line is sent.
 try_run 1 'valid
 invalid
@@ -433,6 +464,20 @@ printf '1\n[0,\n0\n' > lines.json
 try_run 2 'valid
 error 25
 invalid' 'lines.json:3:1: (root): found 0, want >=1 [port.cue:1:11 #P]' 'run vet --root "#P" --lines --why --doc lines.json port.cue'
+try_run 2 'valid
+error 25
+invalid' '-:3:1: (root): found 0, want >=1 [port.cue:1:11 #P]' 'printf "1\n\n0\n" | run vet --root "#P" --lines --why port.cue'
+# All of them, in the order of the lines: also more of them than are held, and those of one line that are more by themselves.
+seq 3000 > counted
+sed 's/.*/-:&:1: (root): found 0, want >=1 [port.cue:1:11 #P]/' counted > reasons
+try_run 1 'all of them' '' 'yes 0 | head -n 3000 | run vet --root "#P" --lines --why port.cue 2>&1 > /dev/null | cmp - reasons && echo "all of them"'
+try_run 1 'all of them' '' 'yes 0 | head -n 3000 | run vet --root "#P" --lines --format json port.cue \
+    | sed "s/^{\"input\":\([0-9]*\),\"valid\":false,.*}$/\1/" | cmp - counted && echo "all of them"'
+printf '#P: [...>=1]\n' > list.cue
+try_run 1 '1 1
+2000 2
+1 3' '' '{ echo "[0]"; echo "[$(repeat 1999 0,)0]"; echo "[0]"; } | run vet --root "#P" --lines --why --most 10000 list.cue 2>&1 > /dev/null \
+    | cut -d : -f 2 | uniq -c | sed "s/^ *//"'
 
 # Reasons by as many names as are told, 8,192 of each of 8,191 maps, and by more: a list of these maps is a value too.
 { printf '{"items":{"required":['; listed '"k%05d"' | cut -d , -f -8192; printf ']}}'; } > names.json
