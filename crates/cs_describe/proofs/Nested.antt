@@ -1,5 +1,5 @@
 -- Texts make a schema a level deeper at most: the schema `true`, which becomes an object, is the only one that nests deeper.
-use Rattle.std.proofs.Common.{◌≡◌, ℕ, suc, ◌≤◌, Bool, true, false, List, Option, Some, None, Ordering, Less, Equal, Greater, nat_cmp, bytes_eq, codes, String, Global, if◌then◌else◌, arith}
+use Rattle.std.proofs.Common.{◌≡◌, ℕ, suc, ◌≤◌, Bool, true, false, List, Option, Some, None, Ordering, Less, Equal, Greater, nat_cmp, bytes_eq, codes, String, Global, string_bytes, if◌then◌else◌, arith}
 use Rattle.std.specs.Cmp.Lexicographic.{slice_cmp}
 use Rattle.std.specs.Ordering.{match_ordering}
 use Rattle.std.specs.Prelude.{max}
@@ -29,7 +29,8 @@ put_text k s (member l e ms) = by (slice_cmp nat_cmp k l) (put_text k s ms)
 
 text_nested : (t : Option (String Global)) (ms : Members) (b : ℕ) → members_depth ms ≤ b → members_depth (with_text t ms) ≤ b
 text_nested None ms b h = h
-text_nested (Some t) ms b h = let put = put_text (codes "description") _ ms in omega arith
+text_nested (Some t) ms b h =
+    let inside : members_depth (with_text (Some t) ms) ≤ members_depth ms = put_text (codes "description") (string_bytes t) ms in omega arith
 
 truth_nested : (t : Option (String Global)) → depth (truth_with_text t) ≤ 1
 truth_nested None = omega arith
