@@ -1,5 +1,5 @@
 -- Documents that are kept, each once.
-use Rattle.std.proofs.Common.{◌≡◌, ◌+◌, ◌≤◌, ◌⊎◌, inl, inr, List, [], ◌∷◌, ◌++◌, Bool, true, false, ◌||◌, cond, map, length, ℕ, refl, sym, ap, ap₂, ◌∙◌, subst, arith}
+use Rattle.std.proofs.Common.{◌≡◌, ◌+◌, ◌≤◌, inl, inr, List, [], ◌∷◌, ◌++◌, Bool, true, false, ◌||◌, cond, map, length, refl, sym, ap, ap₂, ◌∙◌, subst, arith}
 use Rattle.std.specs.BTreeSet.{BTreeSet, contains, Updates}
 use Rattle.std.specs.List.{IsDistinct, list_any, AllByRecursion as Each}
 use Rattle.std.specs.Ordering.{is_eq}
@@ -7,9 +7,8 @@ use Rattle.std.proofs.lemmas.List.{map-append, length-append}
 use Rattle.std.proofs.lemmas.List.Folds.{list_any-append}
 use Rattle.std.proofs.lemmas.Map.Keys.{IsDistinct-push}
 use Rattle.cs_document.proofs.Each.{each_append}
-use Rattle.cs_document.specs.Document.{document_eq}
+use Rattle.cs_document.specs.Document.{Document, document_eq}
 use Rattle.cs_document.specs.Equality.{document_eq-laws}
-use Rattle.cs_document.specs.Order.{document_cmp}
 use Rattle.cs_document.specs.TotalOrder.{document_cmp-eq, document_eq-equivalence}
 use Rattle.cs_document.specs.View.{doc_view}
 use Rattle.cs_document.specs.declared.doc.Doc.{Doc}
@@ -34,9 +33,12 @@ kept-more s n k d ds h is new puts =
       distinct = subst (IsDistinct document_eq) (sym grown) (IsDistinct-push document_eq-equivalence (map doc_view ds) (doc_view d) h.distinct (ap (λ x. list_any (document_eq x) (map doc_view ds)) (sym is) ∙ sym (h.same k) ∙ new));
     }
 
-distinct-none : IsDistinct document_eq []
+pub distinct-none : IsDistinct document_eq []
 unfolding IsDistinct
 distinct-none = tt
+
+pub distinct-one : (x : Document) → IsDistinct document_eq (x ∷ [])
+distinct-one x = IsDistinct-push document_eq-equivalence [] x distinct-none refl
 
 -- nothing is kept yet
 pub kept-none : (s : BTreeSet Doc) (ds : List Doc) → s.keys ≡ [] → ds ≡ [] → AreKept s ds

@@ -1,0 +1,36 @@
+use Rattle.std.proofs.Common.{◌≡◌, ℕ, List, [], ◌∷◌, ◌++◌, Bool, true, false, map, refl, sym, ap, ◌∙◌, subst}
+use Rattle.std.specs.List.{IsDistinct}
+use Rattle.std.specs.Option.{is_some}
+use Rattle.cs_document.specs.Document.{Document, document_eq}
+use Rattle.cs_document.specs.View.{doc_view}
+use Rattle.cs_instance.specs.Instance.{Rule, definition, IsInstance}
+use Rattle.cs_package.specs.Environment.{Names}
+use Rattle.cs_question.specs.Separates.{Separates}
+use Rattle.cs_samples.specs.Sample.{AreSamples}
+use Rattle.cs_samples.specs.declared.sampled.Sampled.TheVariants.{Valid}
+use Rattle.cs_samples.proofs.Kept.{distinct-none, distinct-one}
+use Rattle.cs_samples.proofs.sampling.one_instance.Goals as goal
+
+is_false : (b : Bool) → (b ≡ true → ⊥) → b ≡ false
+is_false true h = absurd (h refl)
+is_false false h = refl
+
+pub returns-in-None-clause-distinct : goal.returns-in-None-clause-distinct
+returns-in-None-clause-distinct c = subst (λ ds. IsDistinct document_eq (map doc_view ds)) (sym c.new.ensures.items) distinct-none
+
+pub returns-in-None-clause-none : goal.returns-in-None-clause-none
+returns-in-None-clause-none c = λ e I n x is named fits.
+    is_false (I (definition n) x) (λ holds. c.in_ok-instance_of.ensures.none (ap is_some c.in-None.is) I n x is named fits ((holds, tt), tt))
+
+only_one : (c : goal.In_ok-push-in-Some) → c.push.new.self.items ≡ c.in-Some.doc ∷ []
+only_one c = c.in_ok-push-in-Some.ensures.items ∙ ap (λ ds. ds ++ c.in-Some.doc ∷ []) c.new-docs.ensures.items
+
+pub returns-in_ok-push-in-Some-clause-samples : goal.returns-in_ok-push-in-Some-clause-samples
+returns-in_ok-push-in-Some-clause-samples c =
+    let E = c.args.asking.now.«package».now in
+    let root = c.args.asking.now.root.now in
+    let one : (I : Rule → Document → Bool) (n : List ℕ) → IsInstance E I → Names E root n → Separates (I (definition n) ∷ []) [] (doc_view c.in-Some.doc) = rw c.in-Some.is at c.in_ok-instance_of.ensures.one in
+    subst (AreSamples E root Valid) (sym (only_one c)) (λ I n is named. (one I n is named).0.0, tt)
+
+pub returns-in_ok-push-in-Some-clause-distinct : goal.returns-in_ok-push-in-Some-clause-distinct
+returns-in_ok-push-in-Some-clause-distinct c = subst (λ ds. IsDistinct document_eq (map doc_view ds)) (sym (only_one c)) (distinct-one (doc_view c.in-Some.doc))
