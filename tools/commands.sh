@@ -457,6 +457,12 @@ try 'error 15' 'ulimit -v 50000; run validate --schema true.json < input-limit'
 try 'error 15' 'ulimit -v 50000; run vet --root "#P" --doc input-limit port.cue'
 try 'error 15' 'ulimit -v 50000; run agree --root "#P" --doc input-limit port.cue'
 
+# Reasons take memory for the values that have one, two of 8,002 here, each times some 8,000 rules.
+{ printf '#A: [...#B]\n#B: '; repeat 7999 '_ & '; printf int; } > chosen.cue
+{ printf '['; repeat 8000 '0,'; printf '"x"]'; } > chosen.json
+try 'lines 1 invalid;chosen.json:1:16002: /8000: found "x", want int [chosen.cue:2:32001 #B]' \
+    'ulimit -v 100000; run vet --why --root "#A" --doc chosen.json chosen.cue'
+
 # Reasons of lines are told beside the verdicts, with the line of the input.
 try_run 1 'valid
 invalid' '-:2:1: (root): found 0, want >=1 [port.cue:1:11 #P]' 'printf "1\n0\n" | run vet --root "#P" --lines --why port.cue'

@@ -173,11 +173,10 @@ try 'cycle of 1,000 definitions: export --why' 0 'told error 12' 'export --why -
 # Comments, and many definitions and fields, in schemas that people read.
 { many 300000 '//\n' | sed 's/\\n/\n/g'; printf '\n#A: int\n'; } > wide.cue
 try '300,000 lines of comments: export --describe' 0 '{"A":{"type":"integer"}}' 'export --describe --root #A wide.cue'
-{ printf '#A: {\n'; listed 40000 'a%d: int // x' '\n'; printf '\n}\n'; } > wide.cue
-slow='the schema has four times the bytes of the source, and plain export takes half as long'
-try '40,000 fields with comments: export --describe' 0 'shows "a39999":{"description":"x","type":"integer"}' \
+{ printf '#A: {\n'; listed 40000 'a%d: int // the field' '\n'; printf '\n}\n'; } > wide.cue
+# The schema has four times the bytes of the source, and plain export takes half as long: a field counts as 500 pairs here.
+try '40,000 fields with comments: export --describe' 20000000 'shows "a39999":{"description":"the field","type":"integer"}' \
     'export --describe --root #A wide.cue'
-slow=
 { printf '#A: int'; many 500 ' // a comment that is not the last one\n#A: int' | sed 's/\\n/\n/g'; } > wide.cue
 try 'a definition declared 501 times: export --describe' 0 'shows a comment that is not the last one' 'export --describe --all wide.cue'
 listed 1000 '#a%d: {x?: #a0}' '\n' > wide.cue
@@ -214,6 +213,11 @@ try 'source of 1,048,572 open lists: compare' 0 'error 7' 'compare --root #A --o
 try 'source of 1,048,572 open lists: compare --why' 0 'told error 7' 'compare --why --root #A --old any.cue --new open.cue'
 { printf '#A: '; many 262143 '"a":'; } > open.cue
 try 'source of 262,143 labels' 0 'error 7' 'export --root #A open.cue'
+
+# Many short documents.
+yes 7 | head -n 1000000 > sevens
+try '1,000,000 lines: vet --lines' 2000000 'shows valid' 'vet --lines --root #A --doc sevens any.cue'
+rm sevens
 
 # One long text, key, number, name, comment.
 { printf '"'; fill 62914560 a; printf '"'; } > text
@@ -514,6 +518,8 @@ awk 'BEGIN {
 try 'a chain of 1,000 definitions against itself: compare' 100000000 'lines 0 compatible' 'compare --root #A0 --old wide.cue --new wide.cue'
 try 'a chain of 1,000 definitions: samples' 100000000 'shows {"x":{"x":{"x":null}}}' 'samples --root #A0 wide.cue'
 try 'a chain of 1,000 definitions: samples --invalid' 100000000 'shows {"x":{"x":{}}}' 'samples --invalid --root #A0 wide.cue'
+{ printf '#A: #B | 1 | 2\n#B: '; listed 20 '({a%d: 1, ...} | {b: 1, ...})' ' & '; printf ' & {z: 1, ...} & {z: 2, ...}\n'; } > wide.cue
+try '1,048,576 cases before two integers: samples' 100000000 'lines 0 1;2' 'samples --root #A wide.cue'
 awk 'BEGIN { printf "#A: "; for (i = 0; i < 16; i++) printf "%s({a%d: 1, ...} | {b%d: 1, ...})", i ? " & " : "", i, i; print "" }' > wide.cue
 try '65,536 cases against themselves: compare' 100000000 'error 17' 'compare --root #A --old wide.cue --new wide.cue'
 try '65,536 cases: samples --invalid' 100000000 'lines 0 null' 'samples --invalid --root #A wide.cue'
@@ -523,6 +529,11 @@ try '10,000 texts: samples' 100000000 'shows "v9999"' 'samples --root #A wide.cu
 try '10,000 texts: samples --invalid' 100000000 'lines 0 "aaaaaa";null' 'samples --invalid --root #A wide.cue'
 { printf '#A: {'; listed 1000 'a%d: int' ', '; printf '}\n'; } > wide.cue
 try '1,000 fields against themselves: compare' 100000000 'lines 0 compatible' 'compare --root #A --old wide.cue --new wide.cue'
+# By more than half of the steps that a comparison may take, and by more than all.
+{ printf '#A: {'; listed 7000 'a%d: int' ', '; printf '}\n'; } > other.cue
+try '7,000 fields against themselves: compare' 100000000 'lines 0 compatible' 'compare --root #A --old other.cue --new other.cue'
+{ printf '#A: {'; listed 9000 'a%d: int' ', '; printf '}\n'; } > other.cue
+try '9,000 fields against themselves: compare' 100000000 'error 17' 'compare --root #A --old other.cue --new other.cue'
 try '1,000 fields: samples' 100000000 'shows {"a0":0,"a1":0,"a10":0,' 'samples --root #A wide.cue'
 try '1,000 fields: samples --invalid' 100000000 'shows {"a1":0,"a10":0,' 'samples --invalid --root #A wide.cue'
 { printf '#A: ['; listed 2000 'int' ', '; printf ']\n'; } > wide.cue
