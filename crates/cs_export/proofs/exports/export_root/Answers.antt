@@ -21,19 +21,19 @@ returns-clause-found c =
     IfOk-weaker _ (λ (v : Vec ℕ Global). IsShaped c.args.layout schema v.items)
     (λ (v : Vec ℕ Global). IsRootSchema _ c.args.root.now c.args.layout v.items)
     (λ v shaped.
-      let low : depth schema ≤ 127 = omega arith in
-      record {
-        environment = c.in_ok-package.«package»;
-        name = made.0;
-        declares = record { accepted = at.1.accepted; named = made.1 };
-        schema = c.in_ok-schema.schema;
-        compiled = made.2;
-        translated = c.in_ok-schema.ensures.translated made.0 made.1;
-        one_instance = c.one_meaning.ensures;
-        one_validity = one;
-        shaped = shaped;
-        read = λ whole. let deeper = shaped.nested whole in let bound : depth shaped.document ≤ 127 = omega arith in shaped.written bound;
-        bare = λ b.
+    let low : depth schema ≤ 127 = omega arith in
+    record {
+      environment = c.in_ok-package.«package»;
+      name = made.0;
+      declares = record { accepted = at.1.accepted; named = made.1 };
+      schema = c.in_ok-schema.schema;
+      compiled = made.2;
+      translated = c.in_ok-schema.ensures.translated made.0 made.1;
+      one_instance = c.one_meaning.ensures;
+      one_validity = one;
+      shaped = shaped;
+      read = λ whole. let deeper = shaped.nested whole in let bound : depth shaped.document ≤ 127 = omega arith in shaped.written bound;
+      bare = λ b.
           let same = shaped.same b.whole b.undescribed in
           record {
             environment = c.in_ok-package.«package»;
@@ -51,5 +51,5 @@ returns-clause-found c =
             one_validity = one;
             admits = made.2.meaning;
           };
-        admits = λ schema_alone V I g h x is. sym ((shaped.same_schema schema_alone).validity one.some.0 V one.some.1 g x) ∙ made.2.meaning one.some.0 I one.some.1 h x is;
-      }) c.shaped_text.ensures.shaped
+      admits = λ schema_alone V I g h x is. sym ((shaped.same_schema schema_alone).validity one.some.0 V one.some.1 g x) ∙ made.2.meaning one.some.0 I one.some.1 h x is;
+    }) c.shaped_text.ensures.shaped
