@@ -1,6 +1,6 @@
 #!/bin/sh
 # Runs the program where pipes, rights, special files or little memory are needed, and compares what it prints, what it says
-# on standard error and its status. A line for each run that goes wrong, and a closing count. Takes ten seconds.
+# on standard error and its status. A line for each run that goes wrong, and a closing count. Takes ten seconds, and Python for one run.
 #
 #     tools/commands.sh PROGRAM
 set -eu
