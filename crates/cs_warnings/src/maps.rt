@@ -18,7 +18,7 @@ pub(crate) fn meet_keys<'a>(
 {
     let required = required_by_both(alloc, &a.required, &b.required)?;
     let allowed = allowed_by_both(alloc, &a.allowed, &b.allowed)?;
-    let closed_by = closing(a, b);
+    let closed_by = closing_both(a, b, &required);
     Ok(Keys {
         required,
         allowed,
@@ -37,7 +37,7 @@ pub(crate) fn join_keys<'a>(
 {
     let required = shared(alloc, &a.required, &b.required)?;
     let allowed = allowed_by_one(alloc, &a.allowed, &b.allowed)?;
-    let closed_by = closing(a, b);
+    let closed_by = closing_one(a, b);
     Ok(Keys {
         required,
         allowed,
@@ -60,8 +60,44 @@ fn required_by_both<'a>(
     joined(alloc, keys, others)
 }
 
-/// The definition of the first closed literal.
-fn closing(a: &Keys<'_>, b: &Keys<'_>) -> Option<usize> {
+/// The definition of the closed literal that doesn't allow the first of the required keys that isn't allowed by both. Where all are,
+/// that of the one that allows no key but those of the other; none where neither is so, since each bars other keys then.
+fn closing_both(a: &Keys<'_>, b: &Keys<'_>, required: &[&str]) -> Option<usize> {
+    for key in required {
+        if bars(a, key) {
+            return a.closed_by;
+        }
+        if bars(b, key) {
+            return b.closed_by;
+        }
+    }
+    if is_within(a, b) {
+        a.closed_by
+    } else if is_within(b, a) {
+        b.closed_by
+    } else {
+        None
+    }
+}
+
+/// Whether no map of these has a key.
+fn bars(keys: &Keys<'_>, key: &str) -> bool {
+    match &keys.allowed {
+        Some(allowed) => !is_among(allowed, key),
+        None => false,
+    }
+}
+
+/// Whether the one leaves keys out, and allows none that the other doesn't.
+fn is_within(keys: &Keys<'_>, others: &Keys<'_>) -> bool {
+    match &keys.allowed {
+        Some(allowed) => allowed.iter().all(|key| !bars(others, key)),
+        None => false,
+    }
+}
+
+/// The definition of the first closed literal: a key that isn't allowed then isn't by either of the two.
+fn closing_one(a: &Keys<'_>, b: &Keys<'_>) -> Option<usize> {
     match a.closed_by {
         Some(_) => a.closed_by,
         None => b.closed_by,

@@ -27,7 +27,10 @@ pub(crate) fn keys_of<'a>(
 {
     let required = required_keys(alloc, parts)?;
     let allowed = allowed_unless(alloc, parts, opened)?;
-    let closed_by = if opened { None } else { Some(definition) };
+    let closed_by = match &allowed {
+        Some(_) => Some(definition),
+        None => None,
+    };
     Ok(Keys {
         required,
         allowed,
