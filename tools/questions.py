@@ -2,7 +2,7 @@
 """Asks about pairs of packages whether each document of the one is one of the other, and looks at documents for what the answer
 has to be. A line for each wrong answer, the kinds of answers, and a closing count.
 
-    tools/questions.py PROGRAM [--pairs N] [--seed N] [--slowest SECONDS] [FOLDER..]     PROGRAM is `cs_bench`
+    tools/questions.py PROGRAM [--pairs N] [--seed N] [--slowest SECONDS] [FOLDER..]
 
 - 1,000 random pairs of small packages, most of them a package and an edited copy of it, in both directions. Whatever small document
   separates them by the evaluator below, which knows the program's only by docs/PROFILE.md, has to be found: `compatible` and
@@ -19,6 +19,7 @@ import json
 import random
 import subprocess
 import sys
+import tempfile
 import time
 from collections import Counter
 from pathlib import Path
@@ -253,13 +254,20 @@ def documents(chance: random.Random, old: Package, new: Package) -> list:
 # Questions.
 
 
-def asked(program: str, pairs: list, seconds: float) -> list[str]:
-    lines = [f"{spelled(old)} => {root} => {spelled(new)} => {new_root}\n" for old, root, new, new_root in pairs]
-    run = subprocess.run([program, "separating"], input="".join(lines), capture_output=True, text=True, timeout=seconds)
-    answers = run.stdout.splitlines()
-    if run.returncode or len(answers) != len(pairs):
-        raise SystemExit(f"{program} separating: status {run.returncode}, {len(answers)} answers to {len(pairs)}: {run.stderr[-2000:]}")
-    return answers
+def asked(program: str, pair, seconds: float = 60) -> str:
+    """What `compare` says of the pair: `compatible`, the document that separates it, `error 17`, or `refused` for any other refusal."""
+    old, root, new, new_root = pair
+    with tempfile.TemporaryDirectory() as room:
+        for name, source in (("old.cue", old), ("new.cue", new)):
+            Path(room, name).write_text(spelled(source).replace(";", "\n"))
+        words = [program, "compare", "--root", root, "--new-root", new_root, "--old", "old.cue", "--new", "new.cue"]
+        run = subprocess.run(words, cwd=room, capture_output=True, text=True, timeout=seconds)
+    said = run.stdout.splitlines() or run.stderr.splitlines()
+    if run.returncode > 2 or not said:
+        raise SystemExit(f"{' '.join(words)}: status {run.returncode}, {run.stderr[-2000:]}")
+    if run.returncode == 2:
+        return "error 17" if said[0] == "error 17" else "refused"
+    return said[-1]
 
 
 def separates(pair, doc) -> bool:
@@ -304,7 +312,7 @@ def try_random(program: str, count: int, seed: int, report: Report) -> None:
             old = package(chance)
             new = package(chance) if chance.random() < 0.25 else edited_copy(chance, old)
             pairs += [(old, "#A", new, "#A"), (new, "#A", old, "#A")]
-        answers = asked(program, pairs, 600)
+        answers = [asked(program, pair) for pair in pairs]
         for place in range(0, len(pairs), 2):
             docs = [] if answers[place] == "refused" else documents(chance, pairs[place][0], pairs[place][2])
             for pair, answer in zip(pairs[place : place + 2], answers[place : place + 2]):
@@ -323,7 +331,7 @@ def try_folder(program: str, folder: Path, slowest: float, report: Report) -> No
                 questions += [(what, (old, name, new, name)), (what, (new, name, old, name))]
     for what, pair in questions:
         start = time.monotonic()
-        (answer,) = asked(program, [pair], 60)
+        answer = asked(program, pair)
         took = time.monotonic() - start
         report.slowest = max(report.slowest, took)
         wrong = told_wrong(pair, answer, [])
@@ -342,10 +350,10 @@ def main() -> int:
     words.add_argument("--slowest", type=float, default=1.0)
     words.add_argument("folders", nargs="*", type=Path)
     given = words.parse_intermixed_args()
-    report = Report()
-    try_random(given.program, given.pairs, given.seed, report)
+    report, program = Report(), str(Path(given.program).resolve())
+    try_random(program, given.pairs, given.seed, report)
     for folder in given.folders:
-        try_folder(given.program, folder, given.slowest, report)
+        try_folder(program, folder, given.slowest, report)
     told = ", ".join(f"{count} {kind}" for kind, count in sorted(report.kinds.items()))
     print(f"{told}; the slowest of the folders took {report.slowest:.2f} seconds")
     print(f"{sum(report.kinds.values()) - report.wrong} passed, {report.wrong} failed")

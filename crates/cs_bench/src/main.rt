@@ -10,24 +10,23 @@
 // The word `again` makes a call of the tool twice, and prints a line for each answer: behind it stand the call, the root and the
 // document, and standard input is the source, or the schema. The call is `export`, `vet`, `validate`, `agree`, or `run` for
 // `agree` over a reader and a writer.
-// The word `separating` asks about the pairs of definitions in standard input, a line each, and prints their answers: `questions.rt`
-// says how they are written.
 // Where memory runs out, it ends as `cue2schema` does: by `error 15` and status 5.
 #![tactic(auto)]
 
 mod again;
 mod documents;
-mod questions;
 mod sources;
+mod step;
 mod stop;
 mod tables;
 
-use again::Inputs;
+use crate::again::Inputs;
+use crate::step::{Step, step_of};
+use crate::stop::Stop;
 use std::alloc::Global;
 use std::io::{Read, Write};
 use std::process::ExitCode;
 use std::str;
-use stop::Stop;
 
 fn main(rt: HostRuntime) -> ExitCode {
     match printed(&rt) {
@@ -47,21 +46,30 @@ fn main(rt: HostRuntime) -> ExitCode {
 fn printed(rt: &HostRuntime) -> Result<(), Stop> {
     let mut input = Vec::new(rt.alloc());
     rt.stdin().read_to_end(&mut input)?;
-    let mut words = Vec::new(rt.alloc());
-    for word in std::env::args(rt)? {
-        words.push(word)?;
-    }
+    let words = words_of(rt)?;
     let lines = lines_of(rt.alloc(), input.as_slice(), words.as_slice())?;
     rt.stdout().write_all(&lines)?;
     Ok(())
 }
 
+/// The words of the process.
+fn words_of(rt: &HostRuntime) -> Result<Vec<String>, Stop> {
+    let mut words = Vec::new(rt.alloc());
+    for word in std::env::args(rt)? {
+        words.push(word)?;
+    }
+    Ok(words)
+}
+
 /// What the words ask for, as lines.
 fn lines_of(alloc: Global, input: &[u8], words: &[String]) -> Result<Vec<u8>, Stop> {
-    match word_at(words, 1, "lex") {
-        "again" => answered_twice(alloc, input, words),
-        "separating" => questions::answered(alloc, str::from_utf8(input)?),
-        _ => line_of(alloc, counted(alloc, input, words)?),
+    match step_of(word_at(words, 1, "lex")) {
+        None => Err(Stop::Refused),
+        Some(Step::Again) => answered_twice(alloc, input, words),
+        Some(step) => {
+            let times = word_at(words, 2, "1").parse::<u32>()?;
+            line_of(alloc, counted(alloc, input, step, times)?)
+        }
     }
 }
 
@@ -89,15 +97,13 @@ fn answered_twice(alloc: Global, text: &[u8], words: &[String]) -> Result<Vec<u8
     again::answered_twice(alloc, word_at(words, 2, ""), inputs)
 }
 
-/// What the words ask for.
-fn counted(alloc: Global, input: &[u8], words: &[String]) -> Result<usize, Stop> {
-    let times = word_at(words, 2, "1").parse::<u32>()?;
-    match word_at(words, 1, "lex") {
-        "read" => documents::read(alloc, input, times),
-        "list" => documents::listed(alloc, input, times),
-        "flatten" => documents::flattened(alloc, input, times),
-        "copy" => documents::copied(alloc, input, times),
-        "fill" => tables::filled(alloc, str::from_utf8(input)?, times),
-        step => sources::counted(alloc, str::from_utf8(input)?, step, times),
+/// What a step counts, the last of so many times.
+fn counted(alloc: Global, input: &[u8], step: Step, times: u32) -> Result<usize, Stop> {
+    match step {
+        Step::Read | Step::List | Step::Flatten | Step::Copy => {
+            documents::counted(alloc, input, step, times)
+        }
+        Step::Fill => tables::filled(alloc, str::from_utf8(input)?, times),
+        _ => sources::counted(alloc, str::from_utf8(input)?, step, times),
     }
 }

@@ -1,6 +1,6 @@
 // Documents of texts, through the calls of `cs_doc`.
 use crate::tables::{Row, cell, check};
-use cs_doc::{Doc, DocFault, read_doc, write_doc};
+use cs_doc::{Doc, read_doc, write_doc};
 use std::alloc::Global;
 use std::test::Fail;
 
@@ -17,17 +17,18 @@ const TEXTS: &str =
 pub(crate) fn is_rewritten(alloc: Global, row: &str) -> Result<bool, Fail> {
     let (text, wanted) = cell(row);
     let doc = read_doc(alloc, text.as_bytes())?;
-    Ok(write_doc(alloc, &doc)?.as_slice() == wanted.as_bytes())
+    is_text_of(alloc, &doc, wanted)
+}
+
+/// Whether the document is written so.
+pub(crate) fn is_text_of(alloc: Global, doc: &Doc, wanted: &str) -> Result<bool, Fail> {
+    let text = write_doc(alloc, doc)?;
+    Ok(text.as_slice() == wanted.as_bytes())
 }
 
 #[test]
 fn texts_are_read_and_written(rt: HostRuntime) -> Result<(), Fail> {
     check(rt.alloc(), TEXTS, Row::Text)
-}
-
-/// Whether the text is read as the document.
-fn is_doc(alloc: Global, text: &[u8], doc: &Doc) -> Result<bool, DocFault> {
-    Ok(read_doc(alloc, text)? == *doc)
 }
 
 /// Texts, and whether they are the same document.
@@ -42,14 +43,23 @@ pub(crate) fn are_compared(alloc: Global, row: &str) -> Result<bool, Fail> {
     let (first, rest) = cell(row);
     let (second, wanted) = cell(rest);
     let doc = read_doc(alloc, first.as_bytes())?;
-    let is_copied = doc.copy(alloc)? == doc;
-    let is_same = is_doc(alloc, second.as_bytes(), &doc)?;
-    Ok(is_copied && is_same == (wanted.trim() == "yes"))
+    Ok(is_doc(alloc, second, &doc)? == (wanted == "yes") && is_copied(alloc, &doc)?)
+}
+
+/// Whether the text is read as the document.
+fn is_doc(alloc: Global, text: &str, doc: &Doc) -> Result<bool, Fail> {
+    let other = read_doc(alloc, text.as_bytes())?;
+    Ok(other == *doc)
+}
+
+fn is_copied(alloc: Global, doc: &Doc) -> Result<bool, Fail> {
+    let copy = doc.copy(alloc)?;
+    Ok(copy == *doc)
 }
 
 #[test]
 fn documents_are_copied_and_compared(rt: HostRuntime) -> Result<(), Fail> {
     check(rt.alloc(), PAIRS, Row::Pair)?;
-    assert!(rt; is_doc(rt.alloc(), b"-9223372036854775808", &Doc::Int(i64::MIN))?);
+    assert!(rt; is_doc(rt.alloc(), "-9223372036854775808", &Doc::Int(i64::MIN))?);
     Ok(())
 }

@@ -39,16 +39,14 @@ pub(crate) fn is_filled(alloc: Global, row: &str) -> Result<bool, Fail> {
     let (classes, wanted) = cell(rest);
     let judge = judge_of(number_of(items), number_of(rules), number_of(classes));
     match fill(alloc, &judge) {
-        Ok(table) => Ok(
-            are_counted(&table, judge.asked.get(), wanted) && has_thirds(&table, &judge),
-        ),
+        Ok(table) => Ok(has_thirds(&table, &judge, wanted)),
         Err(TableFault::TooManyPairs) => Ok(wanted == "too many pairs" && judge.asked.get() == 0),
         Err(fault) => Err(Fail::from(fault)),
     }
 }
 
-/// Whether a table has the judge's sizes, and says yes where the rule is what is left of the item by thirds.
-fn has_thirds(table: &Verdicts, judge: &Thirds) -> bool {
+/// Whether a table has the judge's sizes and is counted as is wanted, and says yes where the rule is what is left of the item by thirds.
+fn has_thirds(table: &Verdicts, judge: &Thirds, wanted: &str) -> bool {
     for item in 0..table.items() {
         for rule in 0..table.rules() {
             if table.get(item, rule) != (item % 3 == rule) {
@@ -56,7 +54,8 @@ fn has_thirds(table: &Verdicts, judge: &Thirds) -> bool {
             }
         }
     }
-    table.items() == judge.items && table.rules() == judge.rules
+    let is_sized = table.items() == judge.items && table.rules() == judge.rules;
+    is_sized && are_counted(table.judged(), judge.asked.get(), wanted)
 }
 
 #[test]

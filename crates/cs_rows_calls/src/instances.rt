@@ -50,14 +50,18 @@ const BY_REFUSALS: &str =
 /// Whether the row's document is judged as it says.
 pub(crate) fn is_judged(alloc: Global, row: &str, rows: Row) -> Result<bool, Fail> {
     let (source, rest) = cell(row);
+    let package = guarded_of(alloc, source)?;
+    is_judged_by(alloc, &package, rest, rows)
+}
+
+fn is_judged_by(alloc: Global, package: &Guarded, rest: &str, rows: Row) -> Result<bool, Fail> {
     let (root, rest) = cell(rest);
     let (doc, wanted) = cell(rest);
-    let package = guarded_of(alloc, source)?;
     let doc = read_doc(alloc, doc.as_bytes())?;
     let flat = flatten(alloc, &doc)?;
     match rows {
-        Row::PackageByRefusals => is_told_by_refusals(alloc, &package, root, &flat, wanted),
-        _ => is_told(alloc, &package, root, &flat, wanted),
+        Row::PackageByRefusals => is_told_by_refusals(alloc, package, root, &flat, wanted),
+        _ => is_told(alloc, package, root, &flat, wanted),
     }
 }
 
@@ -84,7 +88,7 @@ fn is_told_by_refusals(
     wanted: &str,
 ) -> Result<bool, Fail> {
     let (judge, rule) = instance_judge(alloc, package, root, flat)?;
-    Ok(says_by_refusals(alloc, &judge, rule, wanted)?)
+    says_by_refusals(alloc, &judge, rule, wanted)
 }
 
 #[test]

@@ -27,26 +27,24 @@ fn has_items(flat: &Flat<'_>) -> bool {
     flat.len() == 6
 }
 
-#[test]
-fn items_name_those_inside(rt: HostRuntime) -> Result<(), Fail> {
-    let doc = read_doc(rt.alloc(), b"[1,[2],{\"k\":\"v\"}]")?;
-    let flat = flatten(rt.alloc(), &doc)?;
-    assert!(rt; has_items(&flat));
-    Ok(())
-}
-
 /// Maps, and keys with the numbers of their values; `-` where there is none.
 const KEYS: &str = r##"{"b":[1],"d":2,"c":null,"":"e"} => =0 b=2 c=3 d=4 e=-
 {"b":[1],"d":2,"c":null,"":"e"} => =0 a=- c=3 cc=- d=4
 {"b":[1],"d":2,"c":null,"":"e"} => d=4 c=3 b=2 =0 d=4
 {"b":[1],"d":2,"c":null,"":"e"} => =0 b=2 d=4 a=- bb=- e=-"##;
 
-/// Whether the keys of the row's map have these numbers, looked for one after another from any place on.
-pub(crate) fn are_looked_up(alloc: Global, row: &str) -> Result<bool, Fail> {
+/// The document of whose items `is_item` knows.
+const ITEMS: &str = r#"[1,[2],{"k":"v"}]"#;
+
+/// Whether the row's document has these items, or keys with these numbers, looked for one after another from any place on.
+pub(crate) fn are_numbered(alloc: Global, row: &str, rows: Row) -> Result<bool, Fail> {
     let (text, wanted) = cell(row);
     let doc = read_doc(alloc, text.as_bytes())?;
     let flat = flatten(alloc, &doc)?;
-    Ok(are_from_any_place(&flat, wanted))
+    Ok(match rows {
+        Row::Items => has_items(&flat),
+        _ => are_from_any_place(&flat, wanted),
+    })
 }
 
 fn are_from_any_place(flat: &Flat<'_>, wanted: &str) -> bool {
@@ -72,6 +70,11 @@ fn are_in_turn(flat: &Flat<'_>, start: usize, wanted: &str) -> bool {
         }
     }
     true
+}
+
+#[test]
+fn items_name_those_inside(rt: HostRuntime) -> Result<(), Fail> {
+    check(rt.alloc(), ITEMS, Row::Items)
 }
 
 #[test]

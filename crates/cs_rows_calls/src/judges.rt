@@ -1,8 +1,9 @@
 // Judges that count how often they are asked, and what tables and judges say.
 use crate::tables::{cell, number_of};
-use cs_table::{Judge, TableFault, Verdicts, fill};
+use cs_table::{Judge, Verdicts, fill};
 use std::alloc::Global;
 use std::cell::Cell;
+use std::test::Fail;
 
 /// Answers yes where the rule is what is left of the item by thirds, or never, and has a class for each such rest.
 #[derive(Drop)]
@@ -86,10 +87,10 @@ impl<'a, J: Judge> Judge for Counting<'a, J> {
     }
 }
 
-/// Whether a table has as many judgements as is wanted, and as many as were asked for.
-pub(crate) fn are_counted(table: &Verdicts, asked: u64, wanted: &str) -> bool {
-    let (judged, counted) = cell(wanted);
-    table.judged() == number_of(judged) as u64 && asked == number_of(counted) as u64
+/// Whether there are as many judgements as is wanted, and as many were asked for.
+pub(crate) fn are_counted(judged: u64, asked: u64, wanted: &str) -> bool {
+    let (first, second) = cell(wanted);
+    judged == number_of(first) as u64 && asked == number_of(second) as u64
 }
 
 /// Whether a table has as many judgements, and its last item the verdict by the rule, as is wanted.
@@ -107,12 +108,27 @@ fn last_verdict(table: &Verdicts, rule: usize) -> Option<bool> {
     }
 }
 
-fn truth_of(word: &str) -> Option<bool> {
+pub(crate) fn truth_of(word: &str) -> Option<bool> {
     match word {
         "true" => Some(true),
         "false" => Some(false),
         _ => None,
     }
+}
+
+/// Whether the judge is asked once for each judgement of its table, of which there are as many as is wanted.
+pub(crate) fn is_asked_once<J: Judge>(
+    alloc: Global,
+    judge: &J,
+    wanted: &str,
+) -> Result<bool, Fail> {
+    let counting = Counting {
+        judge,
+        asked: Cell::new(0),
+    };
+    let table = fill(alloc, &counting)?;
+    let judged = number_of(cell(wanted).0) as u64;
+    Ok(table.judged() == judged && counting.asked.get() == judged)
 }
 
 /// Whether the judge's verdict of its last item by the rule is as is wanted, where a table says no for every pair.
@@ -121,7 +137,7 @@ pub(crate) fn says_by_refusals<J: Judge>(
     judge: &J,
     rule: usize,
     wanted: &str,
-) -> Result<bool, TableFault> {
+) -> Result<bool, Fail> {
     let never = Thirds {
         items: judge.items(),
         rules: judge.rules(),
@@ -130,12 +146,16 @@ pub(crate) fn says_by_refusals<J: Judge>(
         asked: Cell::new(0),
     };
     let done = fill(alloc, &never)?;
-    let Some(last) = judge.items().checked_sub(1) else {
-        return Ok(false);
-    };
+    Ok(verdict_by(judge, rule, &done) == truth_of(wanted))
+}
+
+/// The judge's verdict of its last item by the rule, where a table gives the others.
+fn verdict_by<J: Judge>(judge: &J, rule: usize, done: &Verdicts) -> Option<bool> {
+    let last = judge.items().checked_sub(1)?;
     let is_sized = done.items() == judge.items() && done.rules() == judge.rules();
-    let is_right = is_sized
-        && rule < judge.rules()
-        && Some(judge.judge(last, rule, &done)) == truth_of(wanted);
-    Ok(is_right)
+    if is_sized && rule < judge.rules() {
+        Some(judge.judge(last, rule, done))
+    } else {
+        None
+    }
 }

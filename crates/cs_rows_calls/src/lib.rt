@@ -19,8 +19,6 @@ mod packages;
 #[cfg(test)]
 mod places;
 #[cfg(test)]
-mod readers;
-#[cfg(test)]
 mod schema_texts;
 #[cfg(test)]
 mod tables;

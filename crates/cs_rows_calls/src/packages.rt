@@ -5,16 +5,13 @@ use cs_syntax::parse_file;
 use std::alloc::Global;
 use std::test::Fail;
 
-/// The package of these sources.
-pub(crate) fn package_of(alloc: Global, sources: &[&str]) -> Result<Package, Fail> {
+fn package_of(alloc: Global, source: &str) -> Result<Package, Fail> {
     let mut files = Vec::new(alloc);
-    for source in sources {
-        files.push(parse_file(alloc, source)?)?;
-    }
+    files.push(parse_file(alloc, source)?)?;
     Ok(resolve(alloc, files)?)
 }
 
 /// The guarded package of a source.
 pub(crate) fn guarded_of(alloc: Global, source: &str) -> Result<Guarded, Fail> {
-    Ok(guard(alloc, package_of(alloc, &[source])?)?)
+    Ok(guard(alloc, package_of(alloc, source)?)?)
 }

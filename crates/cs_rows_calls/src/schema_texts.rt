@@ -1,6 +1,7 @@
 // Schemas of texts, through the calls of `cs_schema`.
+use crate::documents::is_text_of;
 use crate::tables::{Row, cell, check};
-use cs_doc::{read_doc, write_doc};
+use cs_doc::read_doc;
 use cs_profile::Schema;
 use cs_schema::{SchemaDoc, read_schema, to_doc};
 use std::alloc::Global;
@@ -43,7 +44,8 @@ false => false
   … => {"$defs":{"A":{"allOf":[{"items":{"$ref":"#/$defs/B"}}]},"B":{"not":{"properties":{"a":{"$ref":"#/$defs/A"}}}}},
   …"$schema":"https://json-schema.org/draft/2020-12/schema"}"##;
 
-fn read(alloc: Global, text: &str) -> Result<SchemaDoc, Fail> {
+/// The schema of a text.
+pub(crate) fn read(alloc: Global, text: &str) -> Result<SchemaDoc, Fail> {
     let doc = read_doc(alloc, text.as_bytes())?;
     Ok(read_schema(alloc, &doc)?)
 }
@@ -52,8 +54,12 @@ fn read(alloc: Global, text: &str) -> Result<SchemaDoc, Fail> {
 pub(crate) fn is_rewritten(alloc: Global, row: &str) -> Result<bool, Fail> {
     let (text, wanted) = cell(row);
     let schema = read(alloc, text)?;
-    let doc = to_doc(alloc, &schema)?;
-    Ok(write_doc(alloc, &doc)?.as_slice() == wanted.as_bytes())
+    is_written(alloc, &schema, wanted)
+}
+
+fn is_written(alloc: Global, schema: &SchemaDoc, wanted: &str) -> Result<bool, Fail> {
+    let doc = to_doc(alloc, schema)?;
+    is_text_of(alloc, &doc, wanted)
 }
 
 #[test]

@@ -23,6 +23,8 @@ pub(crate) enum Row {
     Way,
     /// The same; the fronts of the text.
     Fronts,
+    /// A document, and its items.
+    Items,
     /// A map, and keys with the numbers of their values.
     Keys,
     /// A schema, and what it is once it was read and written again.
@@ -44,13 +46,23 @@ pub(crate) enum Row {
 /// Fails with the first row that doesn't hold.
 pub(crate) fn check(alloc: Global, table: &str, rows: Row) -> Result<(), Fail> {
     let table = table.replace(alloc, "\n  …", "")?;
+    check_rows(alloc, &table, rows)
+}
+
+fn check_rows(alloc: Global, table: &str, rows: Row) -> Result<(), Fail> {
     for row in table.lines() {
-        let row = expanded(alloc, row)?;
-        if !holds(alloc, &row, rows)? {
-            return Err(Fail::new(&row));
-        }
+        check_row(alloc, row, rows)?;
     }
     Ok(())
+}
+
+fn check_row(alloc: Global, row: &str, rows: Row) -> Result<(), Fail> {
+    let row = expanded(alloc, row)?;
+    if holds(alloc, &row, rows)? {
+        Ok(())
+    } else {
+        Err(Fail::new(&row))
+    }
 }
 
 fn holds(alloc: Global, row: &str, rows: Row) -> Result<bool, Fail> {
@@ -62,7 +74,7 @@ fn holds(alloc: Global, row: &str, rows: Row) -> Result<bool, Fail> {
         Row::Pair => documents::are_compared(alloc, row),
         Row::Way => ways::goes(alloc, row),
         Row::Fronts => ways::fronts_agree(alloc, row),
-        Row::Keys => items::are_looked_up(alloc, row),
+        Row::Items | Row::Keys => items::are_numbered(alloc, row, rows),
         Row::Written => schema_texts::is_rewritten(alloc, row),
         Row::Package | Row::PackageByRefusals => instances::is_judged(alloc, row, rows),
         Row::Schema | Row::LargeSchema | Row::SchemaByRefusals => {

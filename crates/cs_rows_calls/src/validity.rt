@@ -1,12 +1,11 @@
 // Tables of documents and the schemas of schema documents, through the calls of `cs_validate`.
-use crate::judges::{Counting, says, says_by_refusals};
-use crate::tables::{Row, cell, check, number_of};
+use crate::judges::{is_asked_once, says, says_by_refusals, truth_of};
+use crate::schema_texts::read;
+use crate::tables::{Row, cell, check};
 use cs_doc::{Doc, Flat, flatten, read_doc};
-use cs_schema::{SchemaDoc, read_schema};
-use cs_table::fill;
+use cs_schema::SchemaDoc;
 use cs_validate::{ValidateFault, is_valid, valid_judge, valid_table};
 use std::alloc::Global;
-use std::cell::Cell;
 use std::test::Fail;
 
 /// Schemas, documents, how many judgements their tables have, and the verdicts. A document's values, and the root, the
@@ -49,18 +48,33 @@ const BY_REFUSALS: &str =
 /// Whether the row's document is judged as it says.
 pub(crate) fn is_judged(alloc: Global, row: &str, rows: Row) -> Result<bool, Fail> {
     let (schema, rest) = cell(row);
+    let schema = read(alloc, schema)?;
+    is_judged_by(alloc, &schema, rest, rows)
+}
+
+fn is_judged_by(alloc: Global, schema: &SchemaDoc, rest: &str, rows: Row) -> Result<bool, Fail> {
     let (text, wanted) = cell(rest);
-    let schema = read_schema(alloc, &read_doc(alloc, schema.as_bytes())?)?;
     let doc = read_doc(alloc, text.as_bytes())?;
     let flat = flatten(alloc, &doc)?;
     match rows {
-        Row::SchemaByRefusals => is_told_by_refusals(alloc, &schema, &flat, wanted),
-        Row::LargeSchema => is_told(alloc, &schema, &flat, wanted),
-        _ => Ok(
-            is_told(alloc, &schema, &flat, wanted)?
-                && is_told_once(alloc, &schema, &doc, &flat, wanted)?,
-        ),
+        Row::Schema => is_told_thrice(alloc, schema, &doc, &flat, wanted),
+        Row::LargeSchema => is_told(alloc, schema, &flat, wanted),
+        _ => is_told_by_the_judge(alloc, schema, &flat, wanted, rows),
     }
+}
+
+/// Whether the table, the judge and `is_valid` tell of the document what is wanted.
+fn is_told_thrice(
+    alloc: Global,
+    schema: &SchemaDoc,
+    doc: &Doc,
+    flat: &Flat<'_>,
+    wanted: &str,
+) -> Result<bool, Fail> {
+    let is_told = is_told(alloc, schema, flat, wanted)?;
+    let is_asked_once = is_told_by_the_judge(alloc, schema, flat, wanted, Row::Schema)?;
+    let verdict = is_valid(alloc, schema, doc)?;
+    Ok(is_told && is_asked_once && Some(verdict) == truth_of(cell(wanted).1))
 }
 
 /// Whether the document's table has as many judgements, and its last value the verdict by the root, as is wanted.
@@ -72,38 +86,19 @@ fn is_told(alloc: Global, schema: &SchemaDoc, flat: &Flat<'_>, wanted: &str) -> 
     }
 }
 
-/// Whether the judge is asked for each judgement once, and `is_valid` gives the verdict.
-fn is_told_once(
-    alloc: Global,
-    schema: &SchemaDoc,
-    doc: &Doc,
-    flat: &Flat<'_>,
-    wanted: &str,
-) -> Result<bool, Fail> {
-    let (judged, verdict) = cell(wanted);
-    let is_right = is_valid(alloc, schema, doc)? == (verdict == "true");
-    Ok(is_right && asked(alloc, schema, flat)? == number_of(judged) as u64)
-}
-
-/// How often the judge is asked while its table is filled.
-fn asked(alloc: Global, schema: &SchemaDoc, flat: &Flat<'_>) -> Result<u64, Fail> {
-    let (judge, _) = valid_judge(alloc, schema, flat)?;
-    let counting = Counting {
-        judge: &judge,
-        asked: Cell::new(0),
-    };
-    fill(alloc, &counting)?;
-    Ok(counting.asked.get())
-}
-
-fn is_told_by_refusals(
+/// Whether the judge is asked as often as is wanted, or gives the verdict that is wanted where every other one is no.
+fn is_told_by_the_judge(
     alloc: Global,
     schema: &SchemaDoc,
     flat: &Flat<'_>,
     wanted: &str,
+    rows: Row,
 ) -> Result<bool, Fail> {
     let (judge, rule) = valid_judge(alloc, schema, flat)?;
-    Ok(says_by_refusals(alloc, &judge, rule, wanted)?)
+    match rows {
+        Row::SchemaByRefusals => says_by_refusals(alloc, &judge, rule, wanted),
+        _ => is_asked_once(alloc, &judge, wanted),
+    }
 }
 
 #[test]

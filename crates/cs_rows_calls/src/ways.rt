@@ -61,23 +61,34 @@ nul => no JSON
 fn way(alloc: Global, text: &[u8]) -> Result<&'static str, DocFault> {
     let mut scratch = Scratch::new(alloc);
     let flat = read_flat(alloc, text, &mut scratch)?;
-    match (&flat, read_doc(alloc, text)) {
-        (Some(flat), Ok(doc)) => listed(alloc, flat, &doc),
-        (None, Ok(_doc)) => Ok("tree"),
-        (None, Err(DocFault::NotJson)) => Ok("no JSON"),
-        (None, Err(DocFault::NotInteger)) => Ok("another number"),
-        (Some(_flat), Err(DocFault::NotJson | DocFault::NotInteger)) => Ok("a refused document"),
-        (_, Err(DocFault::OutOfMemory)) => Err(DocFault::OutOfMemory),
+    match read_doc(alloc, text) {
+        Ok(doc) => way_of(alloc, &flat, &doc),
+        Err(fault) => Ok(refusal(flat.is_some(), &fault)),
     }
 }
 
-/// `listed` where the list has the document's values: its last one is the document, and there are as many.
-fn listed(alloc: Global, flat: &Flat<'_>, doc: &Doc) -> Result<&'static str, DocFault> {
+/// The way of a document: `listed` where the list has its values, of which the last one is the document, and as many as there are.
+fn way_of(alloc: Global, flat: &Option<Flat<'_>>, doc: &Doc) -> Result<&'static str, DocFault> {
+    let Some(flat) = flat else {
+        return Ok("tree");
+    };
     let other = flatten(alloc, doc)?;
     if flat.equals(flat.len() - 1, doc) && flat.len() == other.len() {
         Ok("listed")
     } else {
         Ok("another document")
+    }
+}
+
+/// Why a text isn't read, where the list isn't read either.
+fn refusal(is_listed: bool, fault: &DocFault) -> &'static str {
+    if is_listed {
+        return "a refused document";
+    }
+    match fault {
+        DocFault::NotJson => "no JSON",
+        DocFault::NotInteger => "another number",
+        DocFault::OutOfMemory => "no memory",
     }
 }
 
