@@ -31,13 +31,13 @@ module _ (start mid now : Option (List ℕ)) (text held : List ℕ) (h : Hands s
       let same : h.0 ++ take w.0 held ≡ take n text = sym (take-append-add h.0 held w.0) ∙ ap (take n) (sym h.2) in
       (n, short, subst (Appends start now) same (Appends-trans start mid now h.0 (take w.0 held) h.1 w.2))
 
-module _ (start mid now : Option (List ℕ)) (lines : List (List ℕ)) (run : LineRun) (a : AreAnswered start mid lines run) where
-  pub lines_cut_off : AppendsFront mid now run.held → AreCutOff run.judge lines start now
+module _ (rules : Rules) (start mid now : Option (List ℕ)) (lines : List (List ℕ)) (run : LineRun) (a : AreAnswered rules start mid lines run) where
+  pub lines_cut_off : AppendsFront mid now run.held → AreCutOff rules lines start now
   lines_cut_off w = record { answers = a.answers; answered = a.answered; written = front_written start mid now (answers_text a.answers) run.held a.handed w }
 
 -- nothing more is written
-pub lines_unwritten : (start now : Option (List ℕ)) (lines : List (List ℕ)) (run : LineRun) → AreAnswered start now lines run → AreCutOff run.judge lines start now
-lines_unwritten start now lines run a = lines_cut_off start now now lines run a (0, omega arith, Appends-nil now)
+pub lines_unwritten : (rules : Rules) (start now : Option (List ℕ)) (lines : List (List ℕ)) (run : LineRun) → AreAnswered rules start now lines run → AreCutOff rules lines start now
+lines_unwritten rules start now lines run a = lines_cut_off rules start now now lines run a (0, omega arith, Appends-nil now)
 
 -- ---- what was read
 
@@ -94,8 +94,8 @@ module _ (rules : Rules) (remaining left start now : Option (List ℕ)) (bytes :
 -- ---- the steps of a run
 
 -- before the first read
-pub nothing_read : (now : Option (List ℕ)) (run : LineRun) → HoldsFront run.begun [] → run.held ≡ [] → run.outcome ≡ AllValid → IsAnswered now now [] run
-nothing_read now run begun none outcome = record {
+pub nothing_read : (rules : Rules) (now : Option (List ℕ)) (run : LineRun) → HoldsFront run.begun [] → run.held ≡ [] → run.outcome ≡ AllValid → IsAnswered rules now now [] run
+nothing_read rules now run begun none outcome = record {
   lines = [];
   rest = [];
   split = no_bytes;
@@ -104,18 +104,18 @@ nothing_read now run begun none outcome = record {
 }
 
 -- nothing of the answers changes
-pub same_answers : (start now : Option (List ℕ)) (lines : List (List ℕ)) (run after : LineRun) → AreAnswered start now lines run → after.judge ≡ run.judge → after.held ≡ run.held → after.outcome ≡ run.outcome → AreAnswered start now lines after
-same_answers start now lines run after a judge held outcome = record {
+pub same_answers : (rules : Rules) (start now : Option (List ℕ)) (lines : List (List ℕ)) (run after : LineRun) → AreAnswered rules start now lines run → after.held ≡ run.held → after.outcome ≡ run.outcome → AreAnswered rules start now lines after
+same_answers rules start now lines run after a held outcome = record {
   answers = a.answers;
-  answered = subst (λ r. AreAnswers r lines a.answers) (sym judge) a.answered;
+  answered = a.answered;
   handed = subst (Hands start now (answers_text a.answers)) (sym held) a.handed;
   outcome_is = outcome ∙ a.outcome_is;
 }
 
 -- what was held is written
-pub written_out : (start mid now : Option (List ℕ)) (bytes : List ℕ) (run after : LineRun) → IsAnswered start mid bytes run → Appends mid now run.held
-    → after.judge ≡ run.judge → after.begun ≡ run.begun → after.held ≡ [] → after.outcome ≡ run.outcome → IsAnswered start now bytes after
-written_out start mid now bytes run after a w judge begun none outcome =
+pub written_out : (rules : Rules) (start mid now : Option (List ℕ)) (bytes : List ℕ) (run after : LineRun) → IsAnswered rules start mid bytes run → Appends mid now run.held
+    → after.begun ≡ run.begun → after.held ≡ [] → after.outcome ≡ run.outcome → IsAnswered rules start now bytes after
+written_out rules start mid now bytes run after a w begun none outcome =
     let b = a.answered in
     let text = answers_text b.answers in
     record {
@@ -125,15 +125,15 @@ written_out start mid now bytes run after a w judge begun none outcome =
       begun = subst (λ l. HoldsFront l a.rest) (sym begun) a.begun;
       answered = record {
         answers = b.answers;
-        answered = subst (λ r. AreAnswers r a.lines b.answers) (sym judge) b.answered;
+        answered = b.answered;
         handed = subst (Hands start now text) (sym none) (text, held_written start mid now text run.held b.handed w, sym (append-nil text));
         outcome_is = outcome ∙ b.outcome_is;
       };
     }
 
-module _ (start mid now : Option (List ℕ)) (bytes piece : List ℕ) (run after : LineRun) (a : IsAnswered start mid bytes run) (clean : IsLine piece) where
+module _ (rules : Rules) (start mid now : Option (List ℕ)) (bytes piece : List ℕ) (run after : LineRun) (a : IsAnswered rules start mid bytes run) (clean : IsLine piece) where
   -- the piece ends a line, which is answered
-  pub line_answered : AreAnswered start now (a.lines ++ (a.rest ++ piece) ∷ []) after → HoldsFront after.begun [] → IsAnswered start now (bytes ++ piece ++ 10 ∷ []) after
+  pub line_answered : AreAnswered rules start now (a.lines ++ (a.rest ++ piece) ∷ []) after → HoldsFront after.begun [] → IsAnswered rules start now (bytes ++ piece ++ 10 ∷ []) after
   line_answered answered begun = record {
     lines = a.lines ++ (a.rest ++ piece) ∷ [];
     rest = [];
@@ -143,7 +143,7 @@ module _ (start mid now : Option (List ℕ)) (bytes piece : List ℕ) (run after
   }
 
   -- the piece is kept
-  pub piece_kept : AreAnswered start now a.lines after → HoldsFront after.begun (a.rest ++ piece) → IsAnswered start now (bytes ++ piece) after
+  pub piece_kept : AreAnswered rules start now a.lines after → HoldsFront after.begun (a.rest ++ piece) → IsAnswered rules start now (bytes ++ piece) after
   piece_kept answered begun = record {
     lines = a.lines;
     rest = a.rest ++ piece;
@@ -152,30 +152,30 @@ module _ (start mid now : Option (List ℕ)) (bytes piece : List ℕ) (run after
     answered = answered;
   }
 
-module _ (start mid now : Option (List ℕ)) (bytes : List ℕ) (run : LineRun) (a : IsAnswered start mid bytes run) where
+module _ (rules : Rules) (start mid now : Option (List ℕ)) (bytes : List ℕ) (run : LineRun) (a : IsAnswered rules start mid bytes run) where
   -- a write fails while lines of these bytes are answered
-  pub answers_cut_off : AreCutOff run.judge a.lines start now → IsCutOffIn run.judge bytes start now
+  pub answers_cut_off : AreCutOff rules a.lines start now → IsCutOffIn rules bytes start now
   answers_cut_off cut = (a.lines, split_begins bytes a.lines a.rest a.split, cut)
 
 -- the lines of the whole input are answered
 abbrev pub AreAllAnswered : Rules → Option (List ℕ) → Option (List ℕ) → List ℕ → LineRun → Type 0
-AreAllAnswered rules start now bytes run = (lines : List (List ℕ)) × AreLines bytes lines × AreAnswered start now lines run × (run.judge ≡ rules)
+AreAllAnswered rules start now bytes run = (lines : List (List ℕ)) × AreLines bytes lines × AreAnswered rules start now lines run
 
-module _ (start now : Option (List ℕ)) (bytes : List ℕ) (run : LineRun) (a : IsAnswered start now bytes run) where
+module _ (rules : Rules) (start now : Option (List ℕ)) (bytes : List ℕ) (run : LineRun) (a : IsAnswered rules start now bytes run) where
   -- no line is begun
-  pub none_begun : a.rest ≡ [] → AreAllAnswered run.judge start now bytes run
-  none_begun none = (a.lines, (a.lines, a.rest, a.split, sym (ap (λ r. a.lines ++ last_line r) none ∙ append-nil a.lines)), a.answered, refl)
+  pub none_begun : a.rest ≡ [] → AreAllAnswered rules start now bytes run
+  none_begun none = (a.lines, (a.lines, a.rest, a.split, sym (ap (λ r. a.lines ++ last_line r) none ∙ append-nil a.lines)), a.answered)
 
   last_is_one : (rest : List ℕ) → rest ≢ [] → last_line rest ≡ (rest ++ []) ∷ []
   last_is_one [] some = absurd (some refl)
   last_is_one (b ∷ bytes) some = ap (λ r. r ∷ []) (sym (append-nil (b ∷ bytes)))
 
   -- the line that is begun is answered
-  pub last_answered : (later : Option (List ℕ)) (after : LineRun) → a.rest ≢ [] → after.judge ≡ run.judge → AreAnswered start later (a.lines ++ (a.rest ++ []) ∷ []) after → AreAllAnswered run.judge start later bytes after
-  last_answered later after some same answered = (a.lines ++ (a.rest ++ []) ∷ [], (a.lines, a.rest, a.split, ap (λ l. a.lines ++ l) (sym (last_is_one a.rest some))), answered, same)
+  pub last_answered : (later : Option (List ℕ)) (after : LineRun) → a.rest ≢ [] → AreAnswered rules start later (a.lines ++ (a.rest ++ []) ∷ []) after → AreAllAnswered rules start later bytes after
+  last_answered later after some answered = (a.lines ++ (a.rest ++ []) ∷ [], (a.lines, a.rest, a.split, ap (λ l. a.lines ++ l) (sym (last_is_one a.rest some))), answered)
 
   -- a write fails while the last line is answered
-  pub last_cut_off : (later : Option (List ℕ)) → AreCutOff run.judge a.lines start later → IsCutOff run.judge (Some bytes) start later
+  pub last_cut_off : (later : Option (List ℕ)) → AreCutOff rules a.lines start later → IsCutOff rules (Some bytes) start later
   last_cut_off later cut = record {
     lines = a.lines;
     answers = cut.answers;
@@ -190,7 +190,7 @@ module _ (rules : Rules) (start mid now : Option (List ℕ)) (bytes : List ℕ) 
     lines = a.0;
     answers = a.2.answers;
     read = a.1;
-    answered = subst (λ r. AreAnswers r a.0 a.2.answers) a.3 a.2.answered;
+    answered = a.2.answered;
     written = held_written start mid now (answers_text a.2.answers) run.held a.2.handed w;
     outcome_is = a.2.outcome_is;
   }
@@ -200,7 +200,7 @@ module _ (rules : Rules) (start mid now : Option (List ℕ)) (bytes : List ℕ) 
     lines = a.0;
     answers = a.2.answers;
     read = ([], subst (AreLines bytes) (sym (append-nil a.0)) a.1);
-    answered = subst (λ r. AreAnswers r a.0 a.2.answers) a.3 a.2.answered;
+    answered = a.2.answered;
     written = front_written start mid now (answers_text a.2.answers) run.held a.2.handed w;
   }
 
@@ -211,12 +211,12 @@ pub cut_off_more : (rules : Rules) (bytes more : List ℕ) (start now : Option (
 cut_off_more rules bytes more start now h = (h.0, begins_more bytes more h.0 h.1, h.2)
 
 -- one more line is answered
-pub one_more : (start mid now : Option (List ℕ)) (lines : List (List ℕ)) (line : List ℕ) (answer : Answer) (run after : LineRun) → AreAnswered start mid lines run → IsLineAnswer run.judge line answer
-    → Hands mid now (run.held ++ answer_line answer) after.held → after.judge ≡ run.judge → after.outcome ≡ worse run.outcome (outcome_of_answer answer) → AreAnswered start now (lines ++ line ∷ []) after
-one_more start mid now lines line answer run after a is handed same outcome =
+pub one_more : (rules : Rules) (start mid now : Option (List ℕ)) (lines : List (List ℕ)) (line : List ℕ) (answer : Answer) (run after : LineRun) → AreAnswered rules start mid lines run → IsLineAnswer rules line answer
+    → Hands mid now (run.held ++ answer_line answer) after.held → after.outcome ≡ worse run.outcome (outcome_of_answer answer) → AreAnswered rules start now (lines ++ line ∷ []) after
+one_more rules start mid now lines line answer run after a is handed outcome =
     record {
       answers = a.answers ++ answer ∷ [];
-      answered = subst (λ r. AreAnswers r (lines ++ line ∷ []) (a.answers ++ answer ∷ [])) (sym same) (answers_push run.judge lines a.answers line answer a.answered is);
+      answered = answers_push rules lines a.answers line answer a.answered is;
       handed = subst (λ t. Hands start now t after.held) (sym (text_push a.answers answer)) (hands_more start mid now (answers_text a.answers) run.held (answer_line answer) after.held a.handed handed);
       outcome_is = outcome ∙ ap (λ o. worse o (outcome_of_answer answer)) a.outcome_is ∙ sym (outcome_push a.answers answer);
     }

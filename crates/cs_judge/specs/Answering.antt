@@ -9,19 +9,19 @@ use Rattle.cs_tool.specs.Runs.{line_of}
 use Rattle.cs_tool.specs.Streams.{AppendsFront}
 
 -- the lines are answered, and what is written of the answers was taken by the writer or is held
-pub record AreAnswered (start now : Option (List ℕ)) (lines : List (List ℕ)) (run : LineRun) : Type 0 where
+pub record AreAnswered (rules : Rules) (start now : Option (List ℕ)) (lines : List (List ℕ)) (run : LineRun) : Type 0 where
   pub answers : List Answer
-  pub answered : AreAnswers run.judge lines answers
+  pub answered : AreAnswers rules lines answers
   pub handed : Hands start now (answers_text answers) run.held
   pub outcome_is : run.outcome ≡ outcome_of answers
 
 -- the lines that end among the bytes are answered, and the line after them is begun
-pub record IsAnswered (start now : Option (List ℕ)) (bytes : List ℕ) (run : LineRun) : Type 0 where
+pub record IsAnswered (rules : Rules) (start now : Option (List ℕ)) (bytes : List ℕ) (run : LineRun) : Type 0 where
   pub lines : List (List ℕ)
   pub rest : List ℕ
   pub split : Splits bytes lines rest
   pub begun : HoldsFront run.begun rest
-  pub answered : AreAnswered start now lines run
+  pub answered : AreAnswered rules start now lines run
 
 -- the writer took a front of what is written of the lines
 pub record AreCutOff (rules : Rules) (lines : List (List ℕ)) (start now : Option (List ℕ)) : Type 0 where

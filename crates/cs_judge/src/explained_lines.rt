@@ -1,5 +1,5 @@
 // A run over the lines of an input that tells reasons.
-ghost use Rattle.std.specs.Prelude.{◌≡◌, ◌⊎◌, ℕ, List, ◌∷◌, [], ◌++◌, ◌<◌, length, Option, Some, OnOk, OnErr, IfOk, IfErr, IsOkUnless, Err};
+ghost use Rattle.std.specs.Prelude.{◌≡◌, ◌⊎◌, ℕ, List, ◌∷◌, [], ◌++◌, ◌<◌, length, Option, Some, OnOk, OnErr, IfOk, IfErr, Err};
 ghost use Rattle.cs_judge.specs.Begun.{HoldsFront};
 ghost use Rattle.cs_judge.specs.Lines.{IsDone, IsCutOff, LeavesLines, IsOfRules};
 ghost use Rattle.cs_judge.specs.Answering.{AreAnswered, IsAnswered, AreCutOff, IsCutOffIn};
@@ -16,16 +16,16 @@ use cs_place::Named;
 use cs_report::Form;
 use cs_tool::{Fault, MEMBER_ROOM, put, put_error};
 use memchr::memchr;
-use std::alloc::Global;
+use std::alloc::{AllocError, Global};
 use std::io::{Read, Write};
 
 /// A run between two reads, with what is told of its lines.
 #[derive(Drop)]
-struct ExplainedRun<'a, 'b> {
-    run: LineRun<'a>,
-    why: Why<'b>,
+struct ExplainedRun<'a> {
+    run: LineRun,
+    why: Why<'a>,
     /// The name of the input, and the number of the line that is begun.
-    line: Named<'b>,
+    line: Named<'a>,
     /// What is told of the line before.
     told: Vec<u8>,
     /// What is told and not written yet.
@@ -40,7 +40,7 @@ struct ExplainedRun<'a, 'b> {
 /// Those of [`crate::run_lines`] but for those of the rules; `WriteFailed` also where `notes` fails.
 pub fn explain_lines<R: Read, W: Write, E: Write>(
     alloc: Global,
-    judge: TextJudge<'_>,
+    mut judge: TextJudge<'_>,
     name: &str,
     why: Why<'_>,
     input: &mut R,
@@ -57,52 +57,22 @@ pub fn explain_lines<R: Read, W: Write, E: Write>(
     ensures only { IfErr result (λ e. (e ≡ Fault.OutOfMemory)
         ⊎ (e ≡ Fault.ReadFailed) ⊎ (e ≡ Fault.WriteFailed)) }
 {
-    let mut run = begin(alloc, judge, name, why)?;
-    answer_input(alloc, &mut run, input, output, notes)
-}
-
-/// A run before its first line.
-fn begin<'a, 'b>(
-    alloc: Global,
-    judge: TextJudge<'a>,
-    name: &'b str,
-    why: Why<'b>,
-) -> Result<ExplainedRun<'a, 'b>, Fault>
-    ensures begun { IfOk result (λ r. HoldsFront r.run.begun []) }
-    ensures held { IfOk result (λ r. r.run.held ≡ []) }
-    ensures outcome { IfOk result (λ r. r.run.outcome ≡ LinesOutcome.AllValid) }
-    ensures rules { IfOk result (λ r. r.run.judge ≡ judge.entry) }
-    ensures memory { IsOkUnless result Fault.OutOfMemory }
-{
-    let run = LineRun::begin(alloc, judge)?;
-    let notes = HeldAnswers::new(alloc)?;
-    let line = Named {
-        name,
-        text: b"",
-        line: 1,
-    };
-    Ok(ExplainedRun {
-        run,
-        why,
-        line,
-        told: Vec::new(alloc),
-        notes,
-    })
+    answer_input(alloc, &mut judge, name, why, input, output, notes)
 }
 
 /// Answers the lines of the input, which is read in chunks.
 fn answer_input<R: Read, W: Write, E: Write>(
     alloc: Global,
-    run: &mut ExplainedRun<'_, '_>,
+    judge: &mut TextJudge<'_>,
+    name: &str,
+    why: Why<'_>,
     input: &mut R,
     output: &mut W,
     notes: &mut E,
 ) -> Result<LinesOutcome, Fault>
-    requires start { IsAnswered (W.contents output.old) (W.contents output.old) [] run.old.run }
-    requires none { run.old.run.held ≡ [] }
-    ensures done { IfOk result (IsDone run.old.run.judge (R.remaining input.old)
+    ensures done { IfOk result (IsDone judge.old (R.remaining input.old)
         (W.contents output.old) (W.contents output.new)) }
-    ensures refused { IfErr result (λ e. LeavesLines run.old.run.judge e
+    ensures refused { IfErr result (λ e. LeavesLines judge.old e
         (R.remaining input.old) (R.remaining input.new)
         (W.contents output.old) (W.contents output.new)) }
     ensures unread { IfErr result (λ e. IsOfRules e
@@ -110,24 +80,27 @@ fn answer_input<R: Read, W: Write, E: Write>(
     ensures kind { IfErr result (λ e. (e ≡ Fault.OutOfMemory)
         ⊎ (e ≡ Fault.ReadFailed) ⊎ (e ≡ Fault.WriteFailed)) }
 {
+    let mut run = ExplainedRun::new(alloc, name, why)?;
     let mut chunk = vec![in alloc; 0u8; CHUNK]?;
-    answer_chunks(run, &mut chunk, input, output, notes)
+    answer_chunks(judge, &mut run, &mut chunk, input, output, notes)
 }
 
 /// Answers the lines of the input, as many bytes at a time as the chunk has.
 fn answer_chunks<R: Read, W: Write, E: Write>(
-    run: &mut ExplainedRun<'_, '_>,
+    judge: &mut TextJudge<'_>,
+    run: &mut ExplainedRun<'_>,
     chunk: &mut [u8],
     input: &mut R,
     output: &mut W,
     notes: &mut E,
 ) -> Result<LinesOutcome, Fault>
     requires room { 0 < length chunk.old }
-    requires start { IsAnswered (W.contents output.old) (W.contents output.old) [] run.old.run }
+    requires start { IsAnswered judge.old (W.contents output.old) (W.contents output.old)
+        [] run.old.run }
     requires none { run.old.run.held ≡ [] }
-    ensures done { IfOk result (IsDone run.old.run.judge (R.remaining input.old)
+    ensures done { IfOk result (IsDone judge.old (R.remaining input.old)
         (W.contents output.old) (W.contents output.new)) }
-    ensures refused { IfErr result (λ e. LeavesLines run.old.run.judge e
+    ensures refused { IfErr result (λ e. LeavesLines judge.old e
         (R.remaining input.old) (R.remaining input.new)
         (W.contents output.old) (W.contents output.new)) }
     ensures kind { IfErr result (λ e. (e ≡ Fault.ReadFailed) ⊎ (e ≡ Fault.WriteFailed)) }
@@ -137,38 +110,63 @@ fn answer_chunks<R: Read, W: Write, E: Write>(
             return Err(Fault::ReadFailed);
         };
         if count == 0 {
-            run.finish(output, notes)?;
+            run.finish(judge, output, notes)?;
             return Ok(run.run.outcome);
         }
-        run.answer_chunk(&chunk[..count], output, notes)?;
+        run.answer_chunk(judge, &chunk[..count], output, notes)?;
         run.notes.write_out(notes)?;
         run.run.held.write_out(output)?;
     }
     Err(Fault::ReadFailed)
 }
 
-impl ExplainedRun<'_, '_> {
+impl<'a> ExplainedRun<'a> {
+    /// A run before its first line.
+    fn new(alloc: Global, name: &'a str, why: Why<'a>) -> Result<ExplainedRun<'a>, AllocError>
+        ensures begun { IfOk result (λ r. HoldsFront r.run.begun []) }
+        ensures held { IfOk result (λ r. r.run.held ≡ []) }
+        ensures outcome { IfOk result (λ r. r.run.outcome ≡ LinesOutcome.AllValid) }
+    {
+        let run = LineRun::new(alloc)?;
+        let notes = HeldAnswers::new(alloc)?;
+        let line = Named {
+            name,
+            text: b"",
+            line: 1,
+        };
+        Ok(ExplainedRun {
+            run,
+            why,
+            line,
+            told: Vec::new(alloc),
+            notes,
+        })
+    }
+}
+
+impl ExplainedRun<'_> {
     /// Answers each line that ends in the chunk, and keeps the front of the line after them.
     fn answer_chunk<W: Write, E: Write>(
         &mut self,
+        judge: &mut TextJudge<'_>,
         chunk: &[u8],
         output: &mut W,
         notes: &mut E,
     ) -> Result<(), Fault>
         ensures all { (start : Option (List ℕ)) (bytes : List ℕ)
-            → IsAnswered start (W.contents output.old) bytes self.old.run
-            → OnOk result (IsAnswered start (W.contents output.new)
+            → IsAnswered judge.old start (W.contents output.old) bytes self.old.run
+            → OnOk result (IsAnswered judge.old start (W.contents output.new)
             (bytes ++ chunk.now) self.new.run) }
         ensures front { (start : Option (List ℕ)) (bytes : List ℕ)
-            → IsAnswered start (W.contents output.old) bytes self.old.run
-            → OnErr result (IsCutOffIn self.old.run.judge (bytes ++ chunk.now)
+            → IsAnswered judge.old start (W.contents output.old) bytes self.old.run
+            → OnErr result (IsCutOffIn judge.old (bytes ++ chunk.now)
             start (W.contents output.new)) }
         ensures kind { OnErr result (result ≡ Err Fault.WriteFailed) }
-        ensures same { self.new.run.judge ≡ self.old.run.judge }
+        ensures same { judge.new ≡ judge.old }
     {
         let mut at = 0;
         while let Some(count) = memchr(b'\n', &chunk[at..]) {
-            self.answer_line(&chunk[at..at + count], output, notes)?;
+            self.answer_line(judge, &chunk[at..at + count], output, notes)?;
             at += count + 1;
         }
         self.run.begun.add(&chunk[at..]);
@@ -178,24 +176,27 @@ impl ExplainedRun<'_, '_> {
     /// Answers the line that ends with the piece.
     fn answer_line<W: Write, E: Write>(
         &mut self,
+        judge: &mut TextJudge<'_>,
         piece: &[u8],
         output: &mut W,
         notes: &mut E,
     ) -> Result<(), Fault>
         ensures all { (start : Option (List ℕ)) (lines : List (List ℕ)) (front : List ℕ)
-            → AreAnswered start (W.contents output.old) lines self.old.run
+            → AreAnswered judge.old start (W.contents output.old) lines self.old.run
             → HoldsFront self.old.run.begun front
-            → OnOk result (AreAnswered start (W.contents output.new)
+            → OnOk result (AreAnswered judge.old start (W.contents output.new)
             (lines ++ (front ++ piece.now) ∷ []) self.new.run) }
         ensures begun { HoldsFront self.new.run.begun [] }
         ensures front { (start : Option (List ℕ)) (lines : List (List ℕ))
-            → AreAnswered start (W.contents output.old) lines self.old.run
-            → OnErr result (AreCutOff self.old.run.judge lines start (W.contents output.new)) }
+            → AreAnswered judge.old start (W.contents output.old) lines self.old.run
+            → OnErr result (AreCutOff judge.old lines start (W.contents output.new)) }
         ensures kind { OnErr result (result ≡ Err Fault.WriteFailed) }
-        ensures same { self.new.run.judge ≡ self.old.run.judge }
+        ensures same { judge.new ≡ judge.old }
     {
         self.told.clear();
-        let answer = self.run.explain(piece, self.line, self.why, &mut self.told);
+        let answer = self
+            .run
+            .explain(judge, piece, self.line, self.why, &mut self.told);
         self.note(&answer, notes)?;
         self.line.line = self.line.line.saturating_add(1);
         self.run.held.hold(&answer, output)
@@ -241,19 +242,24 @@ impl ExplainedRun<'_, '_> {
     }
 
     /// Answers the line without a newline, where the input ends in one, and writes what is held.
-    fn finish<W: Write, E: Write>(&mut self, output: &mut W, notes: &mut E) -> Result<(), Fault>
+    fn finish<W: Write, E: Write>(
+        &mut self,
+        judge: &mut TextJudge<'_>,
+        output: &mut W,
+        notes: &mut E,
+    ) -> Result<(), Fault>
         ensures all { (start : Option (List ℕ)) (bytes : List ℕ)
-            → IsAnswered start (W.contents output.old) bytes self.old.run
-            → OnOk result (IsDone self.old.run.judge (Some bytes)
+            → IsAnswered judge.old start (W.contents output.old) bytes self.old.run
+            → OnOk result (IsDone judge.old (Some bytes)
             start (W.contents output.new) self.new.run.outcome) }
         ensures front { (start : Option (List ℕ)) (bytes : List ℕ)
-            → IsAnswered start (W.contents output.old) bytes self.old.run
-            → OnErr result (IsCutOff self.old.run.judge (Some bytes)
+            → IsAnswered judge.old start (W.contents output.old) bytes self.old.run
+            → OnErr result (IsCutOff judge.old (Some bytes)
             start (W.contents output.new)) }
         ensures kind { OnErr result (result ≡ Err Fault.WriteFailed) }
     {
         if !self.run.begun.is_empty() {
-            self.answer_line(&[], output, notes)?;
+            self.answer_line(judge, &[], output, notes)?;
         }
         self.notes.write_out(notes)?;
         self.run.held.write_out(output)

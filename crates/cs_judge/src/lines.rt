@@ -1,5 +1,5 @@
 // A run over the lines of an input.
-ghost use Rattle.std.specs.Prelude.{◌≡◌, ◌+◌, ◌⊎◌, ℕ, List, ◌∷◌, [], ◌++◌, ◌<◌, length, Option, Some, OnOk, OnErr, IfOk, IfErr, IsOkUnless, Err};
+ghost use Rattle.std.specs.Prelude.{◌≡◌, ◌+◌, ◌⊎◌, ℕ, List, ◌∷◌, [], ◌++◌, ◌<◌, length, Option, Some, OnOk, OnErr, IfOk, IfErr, Err};
 ghost use Rattle.cs_judge.specs.Judged.{AreReadable};
 ghost use Rattle.cs_judge.specs.Begun.{HoldsFront};
 ghost use Rattle.cs_judge.specs.Lines.{IsLineAnswer, worse, outcome_of_answer, IsDone, IsCutOff, LeavesLines, IsOfRules};
@@ -8,12 +8,12 @@ ghost use Rattle.cs_judge.specs.Answering.{AreAnswered, IsAnswered, AreCutOff, I
 use crate::answers::{LinesOutcome, outcome_of};
 use crate::begun_line::BegunLine;
 use crate::held_answers::HeldAnswers;
-use crate::text_judge::{TextJudge, prepare};
+use crate::text_judge::{Prepared, TextJudge, prepare};
 use crate::why::Why;
 use cs_place::Named;
 use cs_tool::{Fault, Rules};
 use memchr::memchr;
-use std::alloc::Global;
+use std::alloc::{AllocError, Global};
 use std::io::{Read, Write};
 
 /// How many bytes are asked for at a time.
@@ -21,8 +21,7 @@ pub(crate) const CHUNK: usize = 65_536;
 
 /// A run between two reads.
 #[derive(Drop)]
-pub(crate) struct LineRun<'a> {
-    pub(crate) judge: TextJudge<'a>,
+pub(crate) struct LineRun {
     pub(crate) begun: BegunLine,
     pub(crate) held: HeldAnswers,
     pub(crate) outcome: LinesOutcome,
@@ -56,43 +55,19 @@ pub fn run_lines<R: Read, W: Write>(
         ⊎ (e ≡ Fault.ReadFailed) ⊎ (e ≡ Fault.WriteFailed)) }
 {
     let prepared = prepare(alloc, rules)?;
-    let judge = prepared.judge(alloc)?;
-    run_prepared(alloc, judge, input, output)
+    run_prepared(alloc, &prepared, input, output)
 }
 
-/// The same by the judge of prepared rules.
+/// The same by prepared rules.
 fn run_prepared<R: Read, W: Write>(
     alloc: Global,
-    judge: TextJudge<'_>,
+    prepared: &Prepared<'_>,
     input: &mut R,
     output: &mut W,
 ) -> Result<LinesOutcome, Fault>
-    ensures done { IfOk result (IsDone judge.entry (R.remaining input.old)
+    ensures done { IfOk result (IsDone prepared.now (R.remaining input.old)
         (W.contents output.old) (W.contents output.new)) }
-    ensures refused { IfErr result (λ e. LeavesLines judge.entry e
-        (R.remaining input.old) (R.remaining input.new)
-        (W.contents output.old) (W.contents output.new)) }
-    ensures unread { IfErr result (λ e. IsOfRules e
-        → (input.new ≡ input.old) × (output.new ≡ output.old)) }
-    ensures only { IfErr result (λ e. (e ≡ Fault.OutOfMemory)
-        ⊎ (e ≡ Fault.ReadFailed) ⊎ (e ≡ Fault.WriteFailed)) }
-{
-    let mut run = LineRun::begin(alloc, judge)?;
-    answer_input(alloc, &mut run, input, output)
-}
-
-/// Answers the lines of the input, which is read in chunks.
-fn answer_input<R: Read, W: Write>(
-    alloc: Global,
-    run: &mut LineRun<'_>,
-    input: &mut R,
-    output: &mut W,
-) -> Result<LinesOutcome, Fault>
-    requires start { IsAnswered (W.contents output.old) (W.contents output.old) [] run.old }
-    requires none { run.old.held ≡ [] }
-    ensures done { IfOk result (IsDone run.old.judge (R.remaining input.old)
-        (W.contents output.old) (W.contents output.new)) }
-    ensures refused { IfErr result (λ e. LeavesLines run.old.judge e
+    ensures refused { IfErr result (λ e. LeavesLines prepared.now e
         (R.remaining input.old) (R.remaining input.new)
         (W.contents output.old) (W.contents output.new)) }
     ensures unread { IfErr result (λ e. IsOfRules e
@@ -100,23 +75,47 @@ fn answer_input<R: Read, W: Write>(
     ensures kind { IfErr result (λ e. (e ≡ Fault.OutOfMemory)
         ⊎ (e ≡ Fault.ReadFailed) ⊎ (e ≡ Fault.WriteFailed)) }
 {
+    let mut judge = prepared.judge(alloc)?;
+    answer_input(alloc, &mut judge, input, output)
+}
+
+/// Answers the lines of the input, which is read in chunks.
+fn answer_input<R: Read, W: Write>(
+    alloc: Global,
+    judge: &mut TextJudge<'_>,
+    input: &mut R,
+    output: &mut W,
+) -> Result<LinesOutcome, Fault>
+    ensures done { IfOk result (IsDone judge.old (R.remaining input.old)
+        (W.contents output.old) (W.contents output.new)) }
+    ensures refused { IfErr result (λ e. LeavesLines judge.old e
+        (R.remaining input.old) (R.remaining input.new)
+        (W.contents output.old) (W.contents output.new)) }
+    ensures unread { IfErr result (λ e. IsOfRules e
+        → (input.new ≡ input.old) × (output.new ≡ output.old)) }
+    ensures kind { IfErr result (λ e. (e ≡ Fault.OutOfMemory)
+        ⊎ (e ≡ Fault.ReadFailed) ⊎ (e ≡ Fault.WriteFailed)) }
+{
+    let mut run = LineRun::new(alloc)?;
     let mut chunk = vec![in alloc; 0u8; CHUNK]?;
-    answer_chunks(run, &mut chunk, input, output)
+    answer_chunks(judge, &mut run, &mut chunk, input, output)
 }
 
 /// Answers the lines of the input, as many bytes at a time as the chunk has.
 fn answer_chunks<R: Read, W: Write>(
-    run: &mut LineRun<'_>,
+    judge: &mut TextJudge<'_>,
+    run: &mut LineRun,
     chunk: &mut [u8],
     input: &mut R,
     output: &mut W,
 ) -> Result<LinesOutcome, Fault>
     requires room { 0 < length chunk.old }
-    requires start { IsAnswered (W.contents output.old) (W.contents output.old) [] run.old }
+    requires start { IsAnswered judge.old (W.contents output.old) (W.contents output.old)
+        [] run.old }
     requires none { run.old.held ≡ [] }
-    ensures done { IfOk result (IsDone run.old.judge (R.remaining input.old)
+    ensures done { IfOk result (IsDone judge.old (R.remaining input.old)
         (W.contents output.old) (W.contents output.new)) }
-    ensures refused { IfErr result (λ e. LeavesLines run.old.judge e
+    ensures refused { IfErr result (λ e. LeavesLines judge.old e
         (R.remaining input.old) (R.remaining input.new)
         (W.contents output.old) (W.contents output.new)) }
     ensures kind { IfErr result (λ e. (e ≡ Fault.ReadFailed) ⊎ (e ≡ Fault.WriteFailed)) }
@@ -126,50 +125,50 @@ fn answer_chunks<R: Read, W: Write>(
             return Err(Fault::ReadFailed);
         };
         if count == 0 {
-            run.finish(output)?;
+            run.finish(judge, output)?;
             return Ok(run.outcome);
         }
-        run.answer_chunk(&chunk[..count], output)?;
+        run.answer_chunk(judge, &chunk[..count], output)?;
         run.held.write_out(output)?;
     }
     Err(Fault::ReadFailed)
 }
 
-impl<'a> LineRun<'a> {
+impl LineRun {
     /// A run before its first line.
-    pub(crate) fn begin(alloc: Global, judge: TextJudge<'a>) -> Result<LineRun<'a>, Fault>
+    pub(crate) fn new(alloc: Global) -> Result<LineRun, AllocError>
         ensures begun { IfOk result (λ r. HoldsFront r.begun []) }
         ensures held { IfOk result (λ r. r.held ≡ []) }
         ensures outcome { IfOk result (λ r. r.outcome ≡ LinesOutcome.AllValid) }
-        ensures rules { IfOk result (λ r. r.judge ≡ judge.entry) }
-        ensures memory { IsOkUnless result Fault.OutOfMemory }
     {
         let held = HeldAnswers::new(alloc)?;
         Ok(LineRun {
-            judge,
             begun: BegunLine::new(alloc),
             held,
             outcome: LinesOutcome::AllValid,
         })
     }
-}
 
-impl LineRun<'_> {
     /// Answers each line that ends in the chunk, and keeps the front of the line after them.
-    fn answer_chunk<W: Write>(&mut self, chunk: &[u8], output: &mut W) -> Result<(), Fault>
+    fn answer_chunk<W: Write>(
+        &mut self,
+        judge: &mut TextJudge<'_>,
+        chunk: &[u8],
+        output: &mut W,
+    ) -> Result<(), Fault>
         ensures all { (start : Option (List ℕ)) (bytes : List ℕ)
-            → IsAnswered start (W.contents output.old) bytes self.old
-            → OnOk result (IsAnswered start (W.contents output.new) (bytes ++ chunk.now) self.new) }
+            → IsAnswered judge.old start (W.contents output.old) bytes self.old
+            → OnOk result (IsAnswered judge.old start (W.contents output.new) (bytes ++ chunk.now) self.new) }
         ensures front { (start : Option (List ℕ)) (bytes : List ℕ)
-            → IsAnswered start (W.contents output.old) bytes self.old
-            → OnErr result (IsCutOffIn self.old.judge (bytes ++ chunk.now)
+            → IsAnswered judge.old start (W.contents output.old) bytes self.old
+            → OnErr result (IsCutOffIn judge.old (bytes ++ chunk.now)
             start (W.contents output.new)) }
         ensures kind { OnErr result (result ≡ Err Fault.WriteFailed) }
-        ensures same { self.new.judge ≡ self.old.judge }
+        ensures same { judge.new ≡ judge.old }
     {
         let mut at = 0;
         while let Some(count) = memchr(b'\n', &chunk[at..]) {
-            self.answer_line(&chunk[at..at + count], output)?;
+            self.answer_line(judge, &chunk[at..at + count], output)?;
             at += count + 1;
         }
         self.begun.add(&chunk[at..]);
@@ -177,20 +176,25 @@ impl LineRun<'_> {
     }
 
     /// Answers the line that ends with the piece.
-    fn answer_line<W: Write>(&mut self, piece: &[u8], output: &mut W) -> Result<(), Fault>
+    fn answer_line<W: Write>(
+        &mut self,
+        judge: &mut TextJudge<'_>,
+        piece: &[u8],
+        output: &mut W,
+    ) -> Result<(), Fault>
         ensures all { (start : Option (List ℕ)) (lines : List (List ℕ)) (front : List ℕ)
-            → AreAnswered start (W.contents output.old) lines self.old
+            → AreAnswered judge.old start (W.contents output.old) lines self.old
             → HoldsFront self.old.begun front
-            → OnOk result (AreAnswered start (W.contents output.new)
+            → OnOk result (AreAnswered judge.old start (W.contents output.new)
             (lines ++ (front ++ piece.now) ∷ []) self.new) }
         ensures begun { HoldsFront self.new.begun [] }
         ensures front { (start : Option (List ℕ)) (lines : List (List ℕ))
-            → AreAnswered start (W.contents output.old) lines self.old
-            → OnErr result (AreCutOff self.old.judge lines start (W.contents output.new)) }
+            → AreAnswered judge.old start (W.contents output.old) lines self.old
+            → OnErr result (AreCutOff judge.old lines start (W.contents output.new)) }
         ensures kind { OnErr result (result ≡ Err Fault.WriteFailed) }
-        ensures same { self.new.judge ≡ self.old.judge }
+        ensures same { judge.new ≡ judge.old }
     {
-        let answer = self.begun.finish(&mut self.judge, piece);
+        let answer = self.begun.finish(judge, piece);
         self.outcome = self.outcome.with(outcome_of(&answer));
         self.held.hold(&answer, output)
     }
@@ -198,37 +202,38 @@ impl LineRun<'_> {
     /// Answers the line that ends with the piece, of which nothing is held yet, and adds what is told of it.
     pub(crate) fn explain(
         &mut self,
+        judge: &mut TextJudge<'_>,
         piece: &[u8],
         line: Named<'_>,
         why: Why<'_>,
         told: &mut Vec<u8>,
     ) -> Result<bool, Fault>
         ensures answer { (front : List ℕ) → HoldsFront self.old.begun front
-            → IsLineAnswer self.old.judge (front ++ piece.now) result }
+            → IsLineAnswer judge.old (front ++ piece.now) result }
         ensures begun { HoldsFront self.new.begun [] }
         ensures outcome { self.new.outcome ≡ worse self.old.outcome (outcome_of_answer result) }
         ensures held { self.new.held ≡ self.old.held }
-        ensures same { self.new.judge ≡ self.old.judge }
+        ensures same { judge.new ≡ judge.old }
     {
-        let answer = self.begun.explain(&mut self.judge, piece, line, why, told);
+        let answer = self.begun.explain(judge, piece, line, why, told);
         let outcome = outcome_of(&answer);
         self.outcome = self.outcome.with(outcome);
         answer
     }
 
     /// Answers the line without a newline, where the input ends in one, and writes what is held.
-    fn finish<W: Write>(&mut self, output: &mut W) -> Result<(), Fault>
+    fn finish<W: Write>(&mut self, judge: &mut TextJudge<'_>, output: &mut W) -> Result<(), Fault>
         ensures all { (start : Option (List ℕ)) (bytes : List ℕ)
-            → IsAnswered start (W.contents output.old) bytes self.old
-            → OnOk result (IsDone self.old.judge (Some bytes)
+            → IsAnswered judge.old start (W.contents output.old) bytes self.old
+            → OnOk result (IsDone judge.old (Some bytes)
             start (W.contents output.new) self.new.outcome) }
         ensures front { (start : Option (List ℕ)) (bytes : List ℕ)
-            → IsAnswered start (W.contents output.old) bytes self.old
-            → OnErr result (IsCutOff self.old.judge (Some bytes) start (W.contents output.new)) }
+            → IsAnswered judge.old start (W.contents output.old) bytes self.old
+            → OnErr result (IsCutOff judge.old (Some bytes) start (W.contents output.new)) }
         ensures kind { OnErr result (result ≡ Err Fault.WriteFailed) }
     {
         if !self.begun.is_empty() {
-            self.answer_line(&[], output)?;
+            self.answer_line(judge, &[], output)?;
         }
         self.held.write_out(output)
     }

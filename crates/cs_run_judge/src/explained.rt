@@ -1,6 +1,7 @@
 // Answers with their reasons.
 use crate::INVALID;
 use crate::many::{UNREAD, status_of};
+use crate::requests::rules_of;
 use clap::ArgMatches;
 use cs_judge::{
     LinesOutcome, Prepared, TextJudge, Why, explain_lines, prepare, run_explained, write_explained,
@@ -11,7 +12,7 @@ use cs_refusals::About;
 use cs_report::Form;
 use cs_run_input::{
     Documents, Reasons, STANDARD_INPUT, documents_of, named_sources, read_document, read_input,
-    read_source, read_sources, root_of, sources_of, word_of,
+    read_source, read_sources, root_of, word_of,
 };
 use cs_run_refusals::{about_rules, or_told, tell_unread};
 use cs_tool::{Fault, Rules};
@@ -39,38 +40,13 @@ fn answered(
 ) -> Result<Option<u8>, Fault> {
     if let Some(documents) = documents_of(words) {
         return match rules_of(rt, command, words)? {
-            Some(rules) => explain_many(rt, rules, words, reasons, documents).map(Some),
+            Some(rules) => explain_many(rt, &rules, words, reasons, documents).map(Some),
             None => Ok(None),
         };
     }
     match once(rt, command, words)? {
-        Some((rules, text)) => explain_once(rt, rules, text, words, reasons).map(Some),
+        Some((rules, text)) => explain_once(rt, &rules, &text, words, reasons).map(Some),
         None => Ok(None),
-    }
-}
-
-/// The rules of a command for many documents.
-fn rules_of(
-    rt: &HostRuntime,
-    command: &str,
-    words: &ArgMatches<'_>,
-) -> Result<Option<Rules>, Fault> {
-    match command {
-        "vet" => {
-            let root = root_of(rt.alloc(), words)?;
-            let sources = sources_of(rt, words)?;
-            Ok(Some(Rules::Root { sources, root }))
-        }
-        "validate" => {
-            let schema = read_input(rt, word_of(words, "schema"))?;
-            Ok(Some(Rules::Schema { schema }))
-        }
-        "agree" => {
-            let root = root_of(rt.alloc(), words)?;
-            let sources = sources_of(rt, words)?;
-            Ok(Some(Rules::Both { sources, root }))
-        }
-        _ => Ok(None),
     }
 }
 
@@ -129,27 +105,27 @@ fn why_of<'a>(reasons: Reasons, sources: &'a [Named<'a>]) -> Why<'a> {
 /// The status after one document.
 fn explain_once(
     rt: &HostRuntime,
-    rules: Rules,
-    text: Vec<u8>,
+    rules: &Rules,
+    text: &[u8],
     words: &ArgMatches<'_>,
     reasons: Reasons,
 ) -> Result<u8, Fault> {
-    let sources = named_sources(rt.alloc(), &rules, words.get_strs("FILE").unwrap_or(&[]))?;
+    let sources = named_sources(rt.alloc(), rules, words.get_strs("FILE").unwrap_or(&[]))?;
     let document = Named {
         name: words.get_str("doc").unwrap_or(STANDARD_INPUT),
-        text: &text,
+        text,
         line: 1,
     };
     let about = About {
         document: Some(document),
         ..about_rules(
-            &rules,
+            rules,
             &sources,
             word_of(words, "root"),
             word_of(words, "schema"),
         )
     };
-    let answer = explain_document(rt, &rules, document, why_of(reasons, &sources));
+    let answer = explain_document(rt, rules, document, why_of(reasons, &sources));
     or_told(rt, reasons.form, about, words, answer)
 }
 
@@ -172,26 +148,36 @@ fn explain_prepared(
     why: Why<'_>,
 ) -> Result<u8, Fault> {
     let mut judge = prepared.judge(rt.alloc())?;
-    let truth = run_explained(rt.alloc(), &mut judge, document, why, &mut rt.stdout())?;
+    explain_by(rt, &mut judge, document, why)
+}
+
+/// The same by a judge.
+fn explain_by(
+    rt: &HostRuntime,
+    judge: &mut TextJudge<'_>,
+    document: Named<'_>,
+    why: Why<'_>,
+) -> Result<u8, Fault> {
+    let truth = run_explained(rt.alloc(), judge, document, why, &mut rt.stdout())?;
     Ok(if truth { 0 } else { INVALID })
 }
 
 /// The status after many documents.
 fn explain_many(
     rt: &HostRuntime,
-    rules: Rules,
+    rules: &Rules,
     words: &ArgMatches<'_>,
     reasons: Reasons,
     documents: Documents<'_, '_>,
 ) -> Result<u8, Fault> {
-    let sources = named_sources(rt.alloc(), &rules, words.get_strs("FILE").unwrap_or(&[]))?;
+    let sources = named_sources(rt.alloc(), rules, words.get_strs("FILE").unwrap_or(&[]))?;
     let why = why_of(reasons, &sources);
     let answer = match documents {
-        Documents::Lines(path) => explain_input(rt, &rules, why, path),
-        Documents::Files(paths) => explain_files(rt, &rules, why, paths),
+        Documents::Lines(path) => explain_input(rt, rules, why, path),
+        Documents::Files(paths) => explain_files(rt, rules, why, paths),
     };
     let (root, schema) = (word_of(words, "root"), word_of(words, "schema"));
-    let about = about_rules(&rules, &sources, root, schema);
+    let about = about_rules(rules, &sources, root, schema);
     or_told(rt, reasons.form, about, words, answer)
 }
 
@@ -220,6 +206,17 @@ fn explain_lines_of<R: Read>(
     input: &mut R,
 ) -> Result<u8, Fault> {
     let prepared = prepare(rt.alloc(), rules)?;
+    explain_prepared_lines(rt, &prepared, name, why, input)
+}
+
+/// The same by prepared rules.
+fn explain_prepared_lines<R: Read>(
+    rt: &HostRuntime,
+    prepared: &Prepared<'_>,
+    name: &str,
+    why: Why<'_>,
+    input: &mut R,
+) -> Result<u8, Fault> {
     let judge = prepared.judge(rt.alloc())?;
     Ok(status_of(lines_outcome(rt, judge, name, why, input)?))
 }

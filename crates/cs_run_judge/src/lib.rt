@@ -6,8 +6,9 @@ mod many;
 mod requests;
 
 use crate::many::answer_many;
-use crate::requests::{Asked, asked_by};
+use crate::requests::{request_of, rules_of};
 use clap::ArgMatches;
+use cs_run_input::documents_of;
 use cs_tool::{Fault, Request, run};
 pub use explained::answer_with_reasons;
 
@@ -16,9 +17,17 @@ const INVALID: u8 = 1;
 
 /// The status of `export`, or of a command that judges documents, where no reasons are asked for; `None` for every other one.
 pub fn answer(rt: &HostRuntime, matches: &ArgMatches<'_>) -> Result<Option<u8>, Fault> {
-    match asked_by(rt, matches)? {
-        Some(Asked::Once(request)) => judged(rt, request).map(Some),
-        Some(Asked::Many(rules, documents)) => answer_many(rt, &rules, documents).map(Some),
+    let Some((command, words)) = matches.subcommand() else {
+        return Ok(None);
+    };
+    if let Some(documents) = documents_of(words) {
+        return match rules_of(rt, command, words)? {
+            Some(rules) => answer_many(rt, &rules, documents).map(Some),
+            None => Ok(None),
+        };
+    }
+    match request_of(rt, command, words)? {
+        Some(request) => judged(rt, request).map(Some),
         None => Ok(None),
     }
 }

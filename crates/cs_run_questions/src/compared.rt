@@ -38,12 +38,34 @@ fn compared(rt: &HostRuntime, words: &ArgMatches<'_>) -> Result<u8, Fault> {
         Ok(rules) => rules,
         Err(fault) => return tell_unread_side(rt, reasons, fault, Side::New, words),
     };
-    let old_sources = named_sources(rt.alloc(), &old, paths_of(words, Side::Old).unwrap_or(&[]))?;
-    let new_sources = named_sources(rt.alloc(), &new, paths_of(words, Side::New).unwrap_or(&[]))?;
-    let before = Edition::of(&old, &old_sources, root_of(words, Side::Old));
-    let after = Edition::of(&new, &new_sources, root_of(words, Side::New));
-    match answers(rt.alloc(), before, after, reasons, words.get_flag("both")) {
-        Ok((text, is_compatible)) => {
+    compare_rules(rt, words, &old, &new)
+}
+
+/// The status of `compare` by the rules of both sides.
+fn compare_rules(
+    rt: &HostRuntime,
+    words: &ArgMatches<'_>,
+    old: &Rules,
+    new: &Rules,
+) -> Result<u8, Fault> {
+    let old_sources = named_sources(rt.alloc(), old, paths_of(words, Side::Old).unwrap_or(&[]))?;
+    let new_sources = named_sources(rt.alloc(), new, paths_of(words, Side::New).unwrap_or(&[]))?;
+    let before = Edition::of(old, &old_sources, root_of(words, Side::Old));
+    let after = Edition::of(new, &new_sources, root_of(words, Side::New));
+    compare_editions(rt, words, before, after)
+}
+
+/// The status of `compare` by the editions of both sides.
+fn compare_editions(
+    rt: &HostRuntime,
+    words: &ArgMatches<'_>,
+    before: Edition<'_>,
+    after: Edition<'_>,
+) -> Result<u8, Fault> {
+    let (reasons, is_both) = (reasons_of(words), words.get_flag("both"));
+    let mut text = Vec::new(rt.alloc());
+    match put_answers(rt.alloc(), &mut text, before, after, reasons, is_both) {
+        Ok(is_compatible) => {
             print(rt, &text)?;
             Ok(if is_compatible { 0 } else { INVALID })
         }
@@ -69,29 +91,29 @@ fn rules_of(rt: &HostRuntime, words: &ArgMatches<'_>, side: Side) -> Result<Rule
     Ok(Rules::Root { sources, root })
 }
 
-/// The answer to one direction or to both, and whether nothing breaks.
-fn answers(
+/// Puts the answer to one direction or to both, and gives whether nothing breaks.
+fn put_answers(
     alloc: Global,
+    text: &mut Vec<u8>,
     before: Edition<'_>,
     after: Edition<'_>,
     reasons: Option<Reasons>,
     is_both: bool,
-) -> Result<(Vec<u8>, bool), CompareRefusal> {
-    let mut text = Vec::new(alloc);
+) -> Result<bool, CompareRefusal> {
     if !is_both {
-        let is_compatible = put_answer(alloc, &mut text, before, after, reasons)?;
-        put_newline(&mut text, reasons)?;
-        return Ok((text, is_compatible));
+        let is_compatible = put_answer(alloc, text, before, after, reasons)?;
+        put_newline(text, reasons)?;
+        return Ok(is_compatible);
     }
-    put_front(&mut text, BACKWARD, "{", reasons)?;
-    let backward = put_answer(alloc, &mut text, before, after, reasons)?;
-    put_front(&mut text, FORWARD, ",", reasons)?;
-    let forward = put_answer(alloc, &mut text, after, before, reasons)?;
+    put_front(text, BACKWARD, "{", reasons)?;
+    let backward = put_answer(alloc, text, before, after, reasons)?;
+    put_front(text, FORWARD, ",", reasons)?;
+    let forward = put_answer(alloc, text, after, before, reasons)?;
     if is_json(reasons) {
         text.extend_from_slice(b"}")?;
     }
-    put_newline(&mut text, reasons)?;
-    Ok((text, backward && forward))
+    put_newline(text, reasons)?;
+    Ok(backward && forward)
 }
 
 fn is_json(reasons: Option<Reasons>) -> bool {
@@ -135,9 +157,7 @@ fn put_answer(
     to: Edition<'_>,
     reasons: Option<Reasons>,
 ) -> Result<bool, CompareRefusal> {
-    let admitting = texts_of(alloc, from.sources)?;
-    let refusing = texts_of(alloc, to.sources)?;
-    match compare_sources(alloc, &admitting, from.root, &refusing, to.root)? {
+    match comparison(alloc, from, to)? {
         Comparison::Compatible if is_json(reasons) => {
             text.extend_from_slice(b"{\"compatible\":true}")?;
             Ok(true)
@@ -153,6 +173,17 @@ fn put_answer(
     }
 }
 
+/// Whether each document of an edition is one of the other edition.
+fn comparison(
+    alloc: Global,
+    from: Edition<'_>,
+    to: Edition<'_>,
+) -> Result<Comparison, CompareRefusal> {
+    let admitting = texts_of(alloc, from.sources)?;
+    let refusing = texts_of(alloc, to.sources)?;
+    compare_sources(alloc, &admitting, from.root, &refusing, to.root)
+}
+
 /// Puts the document that an edition refuses, and as it is asked for why.
 fn put_breaking(
     alloc: Global,
@@ -162,18 +193,28 @@ fn put_breaking(
     reasons: Option<Reasons>,
 ) -> Result<(), CompareRefusal> {
     let shown = shown_text(alloc, doc)?;
-    let Some(reasons) = reasons else {
-        put_lines(text, &shown, b"")?;
-        return Ok(());
-    };
+    match reasons {
+        Some(reasons) => put_reasons(alloc, text, &shown, to, reasons),
+        None => Ok(put_lines(text, &shown, b"")?),
+    }
+}
+
+/// Puts the document that an edition refuses, and what it tells of it.
+fn put_reasons(
+    alloc: Global,
+    text: &mut Vec<u8>,
+    shown: &[u8],
+    to: Edition<'_>,
+    reasons: Reasons,
+) -> Result<(), CompareRefusal> {
     let mut told = Vec::new(alloc);
-    let _is_instance = explain(alloc, &shown, to, reasons, &mut told)?;
+    let _is_instance = explain(alloc, shown, to, reasons, &mut told)?;
     if is_json(Some(reasons)) {
-        put_object(text, &shown, &told)?;
+        put_object(text, shown, &told)?;
     } else {
         put_lines(
             text,
-            &shown,
+            shown,
             told.strip_prefix(b"invalid\n").unwrap_or(&told),
         )?;
     }

@@ -57,8 +57,17 @@ fn check(rt: &HostRuntime, words: &ArgMatches<'_>) -> Result<u8, Fault> {
         return check_schema(rt, path);
     }
     let sources = sources_of(rt, words)?;
-    let named = named(rt.alloc(), words.get_strs("FILE").unwrap_or(&[]), &sources)?;
-    let texts = slices_of(rt.alloc(), &sources)?;
+    check_sources(rt, words, &sources)
+}
+
+/// The status after all that is found in these sources.
+fn check_sources(
+    rt: &HostRuntime,
+    words: &ArgMatches<'_>,
+    sources: &[Vec<u8>],
+) -> Result<u8, Fault> {
+    let named = named(rt.alloc(), words.get_strs("FILE").unwrap_or(&[]), sources)?;
+    let texts = slices_of(rt.alloc(), sources)?;
     let root = words.get_str("root");
     let checked = write_findings(rt.alloc(), &texts, &named, root, &mut rt.stdout())?;
     Ok(status(checked, words.get_flag("strict")))

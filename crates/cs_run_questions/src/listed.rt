@@ -1,5 +1,6 @@
 // The command that lists definitions.
 use clap::ArgMatches;
+use cs_guard::Guarded;
 use cs_listing::{put_listing, put_listing_json};
 use cs_place::Named;
 use cs_refusals::About;
@@ -55,12 +56,22 @@ fn write_listing(
     form: Form,
 ) -> Result<u8, Fault> {
     let package = accepted_package(rt.alloc(), &slices_of(rt.alloc(), sources)?)?;
+    write_package(rt, named, &package, form)
+}
+
+/// Writes the definitions of a package.
+fn write_package(
+    rt: &HostRuntime,
+    named: &[Named<'_>],
+    package: &Guarded,
+    form: Form,
+) -> Result<u8, Fault> {
     let mut text = Vec::new(rt.alloc());
     match form {
-        Form::Json => put_listing_json(rt.alloc(), named, &package, &mut text)?,
+        Form::Json => put_listing_json(rt.alloc(), named, package, &mut text)?,
         Form::Lines | Form::Flag | Form::Basic => {
-            put_listing(rt.alloc(), named, &package, &mut text)?;
-        },
+            put_listing(rt.alloc(), named, package, &mut text)?;
+        }
     }
     print(rt, &text)?;
     Ok(0)

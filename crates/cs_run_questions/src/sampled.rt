@@ -29,9 +29,17 @@ pub(crate) fn write_samples(rt: &HostRuntime, words: &ArgMatches<'_>) -> Result<
 fn written_or_told(rt: &HostRuntime, words: &ArgMatches<'_>) -> Result<u8, Fault> {
     let root = root_of(rt.alloc(), words)?;
     let sources = sources_of(rt, words)?;
-    let rules = Rules::Root { sources, root };
-    let named = named_sources(rt.alloc(), &rules, words.get_strs("FILE").unwrap_or(&[]))?;
-    let about = about_rules(&rules, &named, word_of(words, "root"), "");
+    written_or_told_by(rt, words, &Rules::Root { sources, root })
+}
+
+/// The same by the rules of the root.
+fn written_or_told_by(
+    rt: &HostRuntime,
+    words: &ArgMatches<'_>,
+    rules: &Rules,
+) -> Result<u8, Fault> {
+    let named = named_sources(rt.alloc(), rules, words.get_strs("FILE").unwrap_or(&[]))?;
+    let about = about_rules(rules, &named, word_of(words, "root"), "");
     let texts = texts_of(rt.alloc(), &named)?;
     let answer = written(rt, words, &texts);
     or_told(rt, Form::Lines, about, words, answer)
@@ -48,14 +56,18 @@ fn written(rt: &HostRuntime, words: &ArgMatches<'_>, sources: &[&[u8]]) -> Resul
     let most = words.get_one("most").unwrap_or(MOST_SAMPLES);
     let package = read_root(rt.alloc(), sources, root)?;
     match samples(rt.alloc(), &package, root, which, most) {
-        Ok(docs) => {
-            print(rt, &lines_of(rt.alloc(), &docs)?)?;
-            Ok(if docs.is_empty() { INVALID } else { 0 })
-        }
+        Ok(docs) => print_docs(rt, &docs),
         Err(QuestionFault::OutOfMemory) => Err(Fault::OutOfMemory),
         Err(QuestionFault::UnknownRoot) => Err(Fault::UnknownRoot),
         Err(QuestionFault::TooManyCases) => Err(Fault::TooManyCases),
     }
+}
+
+/// Writes these documents, and gives the status.
+fn print_docs(rt: &HostRuntime, docs: &[Doc]) -> Result<u8, Fault> {
+    let text = lines_of(rt.alloc(), docs)?;
+    print(rt, &text)?;
+    Ok(if docs.is_empty() { INVALID } else { 0 })
 }
 
 /// A line of JSON for each document.

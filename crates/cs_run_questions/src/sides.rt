@@ -118,8 +118,7 @@ pub(crate) fn tell_refused(
     }
 }
 
-/// Tells a refusal of a side, or of none. Want of memory is told by its number alone; no object is written where nothing can be
-/// written.
+/// Tells a refusal of a side, or of none, where it is asked for.
 fn tell(
     rt: &HostRuntime,
     reasons: Option<Reasons>,
@@ -128,18 +127,30 @@ fn tell(
     names: &[&str],
     about: About<'_>,
 ) -> Result<u8, Fault> {
-    let Some(reasons) = reasons else {
-        return Err(fault);
-    };
-    match (reasons.form, &fault) {
-        (Form::Lines, Fault::OutOfMemory) => Err(fault),
-        (Form::Lines, _) => tell_lines(rt, &fault, side, about),
-        (Form::Json | Form::Flag | Form::Basic, Fault::WriteFailed) => Err(fault),
+    match reasons {
+        Some(reasons) => tell_as(rt, reasons.form, &fault, side, names, about),
+        None => Err(fault),
+    }
+}
+
+/// Tells a refusal in a form. Want of memory is told by its number alone; no object is written where nothing can be written.
+fn tell_as(
+    rt: &HostRuntime,
+    form: Form,
+    fault: &Fault,
+    side: Option<Side>,
+    names: &[&str],
+    about: About<'_>,
+) -> Result<u8, Fault> {
+    match (form, fault) {
+        (Form::Lines, Fault::OutOfMemory) => Err(Fault::OutOfMemory),
+        (Form::Lines, _) => tell_lines(rt, fault, side, about),
+        (Form::Json | Form::Flag | Form::Basic, Fault::WriteFailed) => Err(Fault::WriteFailed),
         (Form::Json | Form::Flag | Form::Basic, Fault::OutOfMemory) => {
-            write_fault_json(rt.alloc(), &fault, &[], &mut rt.stdout())?;
+            write_fault_json(rt.alloc(), fault, &[], &mut rt.stdout())?;
             Ok(fault.status())
         }
-        (Form::Json | Form::Flag | Form::Basic, _) => tell_object(rt, &fault, side, names, about),
+        (Form::Json | Form::Flag | Form::Basic, _) => tell_object(rt, fault, side, names, about),
     }
 }
 

@@ -1,7 +1,6 @@
-use Rattle.std.proofs.Common.{◌≡◌, ◌<◌, ◌++◌, take, length, refl, subst, ◌∙◌, arith}
+use Rattle.std.proofs.Common.{◌≡◌, ◌<◌, ◌++◌, take, length, refl, ◌∙◌, arith}
 use Rattle.std.proofs.KnownBytes.{Consumes-trans}
 use Rattle.std.proofs.lemmas.Result.{err_from_is_err_and}
-use Rattle.cs_judge.specs.Lines.{IsDone, IsCutOff}
 use Rattle.cs_tool.specs.declared.fault.Fault.TheVariants.{WriteFailed}
 use Rattle.cs_judge.proofs.LineRuns.{lines_cut_off, lines_unwritten, answers_cut_off, cut_off, cut_off_at_end, done, read_nothing, write_failed, written_out}
 use Rattle.cs_judge.proofs.explained_lines.answer_chunks.Goals as goal
@@ -15,11 +14,11 @@ returns-in_err-finish-clause-refused g c =
     let room : 0 < length c.read.new.buf = omega (arith, c.read.auto.buf, l.auto.chunk, c.requires.room) in
     let given = read_nothing _ _ _ v.bytes c.read.new.buf c.in-Ok.count v.given c.in-Ok.ensures.bytes.0 c.if-count-eq0.true in
     let end = c.in-Ok.ensures.bytes.1 c.if-count-eq0.true room in
-    let cut = cut_off_at_end l.run.run.judge (remaining c.args.input.now) _ (contents c.args.output.now) _ v.bytes given end (c.in_err-finish.ensures.front _ v.bytes v.answered) in
-    let by_rules = subst (λ r. IsCutOff r (remaining c.args.input.now) (contents c.args.output.now) (contents c.finish.new.output)) v.same cut in
+    let front = rw v.same at c.in_err-finish.ensures.front in
+    let cut = cut_off_at_end c.args.judge.now (remaining c.args.input.now) _ (contents c.args.output.now) _ v.bytes given end (front _ v.bytes v.answered) in
     let kind : c.in_err-finish.field-0.0 ≡ WriteFailed = cc c.in_err-finish.ensures.kind in
     let p = err_from_is_err_and c.from_residual.result c.from_residual.ensures.1 in
-    write_failed c.from_residual.result p.0 _ _ _ _ _ p.1 (p.2 ∙ kind) by_rules
+    write_failed c.from_residual.result p.0 _ _ _ _ _ p.1 (p.2 ∙ kind) cut
 
 pub returns-then-count-eq0-clause-done : goal.returns-then-count-eq0-clause-done
 returns-then-count-eq0-clause-done g c =
@@ -30,8 +29,8 @@ returns-then-count-eq0-clause-done g c =
     let room : 0 < length c.read.new.buf = omega (arith, c.read.auto.buf, l.auto.chunk, c.requires.room) in
     let given = read_nothing _ _ _ v.bytes c.read.new.buf c.in-Ok.count v.given c.in-Ok.ensures.bytes.0 c.if-count-eq0.true in
     let end = c.in-Ok.ensures.bytes.1 c.if-count-eq0.true room in
-    let all = done l.run.run.judge (remaining c.args.input.now) _ (contents c.args.output.now) _ v.bytes given end (c.in_ok-finish.ensures.all _ v.bytes v.answered) in
-    subst (λ r. IsDone r (remaining c.args.input.now) (contents c.args.output.now) (contents c.finish.new.output) c.finish.new.self.run.outcome) v.same all
+    let all = rw v.same at c.in_ok-finish.ensures.all in
+    done c.args.judge.now (remaining c.args.input.now) _ (contents c.args.output.now) _ v.bytes given end (all _ v.bytes v.answered)
 
 pub returns-in_err-answer_chunk-clause-refused : goal.returns-in_err-answer_chunk-clause-refused
 returns-in_err-answer_chunk-clause-refused g c =
@@ -40,11 +39,11 @@ returns-in_err-answer_chunk-clause-refused g c =
     let remaining = g.R.Read.remaining in
     let contents = g.W.Write.contents in
     let given = Consumes-trans _ _ _ v.bytes _ v.given c.in-Ok.ensures.bytes.0 in
-    let cut = cut_off l.run.run.judge (remaining c.args.input.now) _ (contents c.args.output.now) _ _ given (c.in_err-answer_chunk.ensures.front _ v.bytes v.answered) in
-    let by_rules = subst (λ r. IsCutOff r (remaining c.args.input.now) (contents c.args.output.now) (contents c.answer_chunk.new.output)) v.same cut in
+    let front = rw v.same at c.in_err-answer_chunk.ensures.front in
+    let cut = cut_off c.args.judge.now (remaining c.args.input.now) _ (contents c.args.output.now) _ _ given (front _ v.bytes v.answered) in
     let kind : c.in_err-answer_chunk.field-0.0 ≡ WriteFailed = cc c.in_err-answer_chunk.ensures.kind in
     let p = err_from_is_err_and c.from_residual-in_err-answer_chunk.result c.from_residual-in_err-answer_chunk.ensures.1 in
-    write_failed c.from_residual-in_err-answer_chunk.result p.0 _ _ _ _ _ p.1 (p.2 ∙ kind) by_rules
+    write_failed c.from_residual-in_err-answer_chunk.result p.0 _ _ _ _ _ p.1 (p.2 ∙ kind) cut
 
 pub returns-in_err-write_out-clause-refused : goal.returns-in_err-write_out-clause-refused
 returns-in_err-write_out-clause-refused g c =
@@ -55,14 +54,14 @@ returns-in_err-write_out-clause-refused g c =
     let start = contents c.args.output.now in
     let now = contents c.answer_chunk.new.output in
     let run = c.answer_chunk.new.self.run in
-    let a = c.in_ok-answer_chunk.ensures.all start v.bytes v.answered in
+    let all = rw v.same at c.in_ok-answer_chunk.ensures.all in
+    let a = all start v.bytes v.answered in
     let given = Consumes-trans _ _ _ v.bytes _ v.given c.in-Ok.ensures.bytes.0 in
-    let lines = lines_unwritten start now a.lines run a.answered in
-    let cut = cut_off run.judge (remaining c.args.input.now) _ start now _ given (answers_cut_off start _ now _ run a lines) in
-    let by_rules = subst (λ r. IsCutOff r (remaining c.args.input.now) start now) (c.answer_chunk.ensures.same ∙ v.same) cut in
+    let lines = lines_unwritten c.args.judge.now start now a.lines run a.answered in
+    let cut = cut_off c.args.judge.now (remaining c.args.input.now) _ start now _ given (answers_cut_off c.args.judge.now start _ now _ run a lines) in
     let kind : c.in_err-write_out.field-0.0 ≡ WriteFailed = cc c.in_err-write_out.ensures.kind in
     let p = err_from_is_err_and c.from_residual-in_err-write_out.result c.from_residual-in_err-write_out.ensures.1 in
-    write_failed c.from_residual-in_err-write_out.result p.0 _ _ _ _ _ p.1 (p.2 ∙ kind) by_rules
+    write_failed c.from_residual-in_err-write_out.result p.0 _ _ _ _ _ p.1 (p.2 ∙ kind) cut
 
 pub returns-in_err-write_out-2-clause-refused : goal.returns-in_err-write_out-2-clause-refused
 returns-in_err-write_out-2-clause-refused g c =
@@ -73,23 +72,24 @@ returns-in_err-write_out-2-clause-refused g c =
     let start = contents c.args.output.now in
     let now = contents c.write_out-in-loop.new.output in
     let run = c.answer_chunk.new.self.run in
-    let a = c.in_ok-answer_chunk.ensures.all start v.bytes v.answered in
+    let all = rw v.same at c.in_ok-answer_chunk.ensures.all in
+    let a = all start v.bytes v.answered in
     let given = Consumes-trans _ _ _ v.bytes _ v.given c.in-Ok.ensures.bytes.0 in
-    let lines = lines_cut_off start _ now a.lines run a.answered c.in_err-write_out-2.ensures.front in
-    let cut = cut_off run.judge (remaining c.args.input.now) _ start now _ given (answers_cut_off start _ now _ run a lines) in
-    let by_rules = subst (λ r. IsCutOff r (remaining c.args.input.now) start now) (c.answer_chunk.ensures.same ∙ v.same) cut in
+    let lines = lines_cut_off c.args.judge.now start _ now a.lines run a.answered c.in_err-write_out-2.ensures.front in
+    let cut = cut_off c.args.judge.now (remaining c.args.input.now) _ start now _ given (answers_cut_off c.args.judge.now start _ now _ run a lines) in
     let kind : c.in_err-write_out-2.field-0.0 ≡ WriteFailed = cc c.in_err-write_out-2.ensures.kind in
     let p = err_from_is_err_and c.from_residual-in_err-write_out-2.result c.from_residual-in_err-write_out-2.ensures.1 in
-    write_failed c.from_residual-in_err-write_out-2.result p.0 _ _ _ _ _ p.1 (p.2 ∙ kind) by_rules
+    write_failed c.from_residual-in_err-write_out-2.result p.0 _ _ _ _ _ p.1 (p.2 ∙ kind) cut
 
 pub loop-preserved : goal.loop-preserved
 loop-preserved g c =
     let v = c.loop.invariant in
     let start = g.W.Write.contents c.args.output.now in
-    let a = c.in_ok-answer_chunk.ensures.all start v.bytes v.answered in record {
+    let all = rw v.same at c.in_ok-answer_chunk.ensures.all in
+    let a = all start v.bytes v.answered in record {
       bytes = v.bytes ++ take c.in-Ok.count c.read.new.buf;
       given = Consumes-trans _ _ _ v.bytes _ v.given c.in-Ok.ensures.bytes.0;
-      answered = written_out start _ _ _ c.answer_chunk.new.self.run _ a c.in_ok-write_out-2.ensures.all refl refl c.in_ok-write_out-2.ensures.empty refl;
+      answered = written_out c.args.judge.now start _ _ _ c.answer_chunk.new.self.run _ a c.in_ok-write_out-2.ensures.all refl c.in_ok-write_out-2.ensures.empty refl;
       none = c.in_ok-write_out-2.ensures.empty;
       same = c.answer_chunk.ensures.same ∙ v.same;
     }

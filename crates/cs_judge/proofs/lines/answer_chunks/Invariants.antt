@@ -7,7 +7,7 @@ abbrev pub invariant-loop : goal.invariant-loop
 invariant-loop g l = record {
   bytes : List ℕ;
   given : Consumes (g.R.Read.remaining l.initial.input) (g.R.Read.remaining l.input) bytes;
-  answered : IsAnswered (g.W.Write.contents l.initial.output) (g.W.Write.contents l.output) bytes l.run;
+  answered : IsAnswered l.initial.judge (g.W.Write.contents l.initial.output) (g.W.Write.contents l.output) bytes l.run;
   none : l.run.held ≡ [];
-  same : l.run.judge ≡ l.initial.run.judge;
+  same : l.judge ≡ l.initial.judge;
 }

@@ -1,4 +1,4 @@
-use Rattle.std.proofs.Common.{subst, ◌∙◌, IfErr}
+use Rattle.std.proofs.Common.{subst, IfErr}
 use Rattle.std.proofs.lemmas.Result.{err_from_is_err_and}
 use Rattle.cs_judge.specs.Lines.{LeavesLines}
 use Rattle.cs_judge.proofs.RulesRefused.{rules_refused}
@@ -12,5 +12,4 @@ returns-in_err-prepared-clause-refused g c =
 
 pub returns-clause-refused : goal.returns-clause-refused
 returns-clause-refused g c =
-    let same = c.in_ok-judge.ensures.rules ∙ c.in_ok-prepared.ensures.rules in
-    subst (λ r. IfErr c.run_prepared.result (λ e. LeavesLines r e (g.R.Read.remaining c.args.input.now) (g.R.Read.remaining c.run_prepared.new.input) (g.W.Write.contents c.args.output.now) (g.W.Write.contents c.run_prepared.new.output))) same c.run_prepared.ensures.refused
+    subst (λ r. IfErr c.run_prepared.result (λ e. LeavesLines r e (g.R.Read.remaining c.args.input.now) (g.R.Read.remaining c.run_prepared.new.input) (g.W.Write.contents c.args.output.now) (g.W.Write.contents c.run_prepared.new.output))) c.in_ok-prepared.ensures.rules c.run_prepared.ensures.refused

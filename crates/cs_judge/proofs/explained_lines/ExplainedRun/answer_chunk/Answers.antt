@@ -1,6 +1,6 @@
 use Rattle.std.proofs.Common.{[], ◌∷◌, ◌++◌, take, refl, sym, ap, subst, ◌∙◌, append_assoc}
 use Rattle.cs_judge.specs.declared.lines.LineRun.{LineRun}
-use Rattle.cs_judge.specs.Answering.{IsAnswered, IsCutOffIn}
+use Rattle.cs_judge.specs.Answering.{IsAnswered}
 use Rattle.cs_judge.proofs.LineLists.{on_error}
 use Rattle.cs_judge.proofs.LineRuns.{line_answered, piece_kept, same_answers, answers_cut_off, chunk_cut_off, regrouped}
 use Rattle.cs_judge.proofs.Newlines as newlines
@@ -11,10 +11,11 @@ returns-in_err-answer_line-clause-front g c = λ start bytes first.
     let l = c.loop-count in
     let chunk = c.args.chunk.now in
     let now = g.W.Write.contents c.answer_line.new.output in
+    let rules = c.args.judge.now in
     let a = l.invariant.all start bytes first in
-    let cut = answers_cut_off start _ now (bytes ++ take l.at chunk) l.self.run a (c.in_err-answer_line.ensures.front start a.lines a.answered) in
-    let by_rules = subst (λ r. IsCutOffIn r (bytes ++ chunk) start now) l.invariant.same (chunk_cut_off l.self.run.judge bytes chunk l.at start now cut) in
-    on_error c.from_residual.result by_rules
+    let front = rw l.invariant.same at c.in_err-answer_line.ensures.front in
+    let cut = answers_cut_off rules start _ now (bytes ++ take l.at chunk) l.self.run a (front start a.lines a.answered) in
+    on_error c.from_residual.result (chunk_cut_off rules bytes chunk l.at start now cut)
 
 pub loop-count-preserved : goal.loop-count-preserved
 loop-count-preserved g c =
@@ -28,11 +29,13 @@ loop-count-preserved g c =
           let now = g.W.Write.contents c.answer_line.new.output in
           let a = l.invariant.all start bytes before in
           let piece = newlines.piece chunk l.at count first here in
-          let answered = c.in_ok-answer_line.ensures.all start a.lines a.rest a.answered a.begun in
+          let rules = c.args.judge.now in
+          let all = rw l.invariant.same at c.in_ok-answer_line.ensures.all in
+          let answered = all start a.lines a.rest a.answered a.begun in
           let clean = newlines.piece_is_line chunk l.at count first here in
-          let whole = line_answered start _ now (bytes ++ take l.at chunk) piece l.self.run c.answer_line.new.self.run a clean answered c.answer_line.ensures.begun in
+          let whole = line_answered rules start _ now (bytes ++ take l.at chunk) piece l.self.run c.answer_line.new.self.run a clean answered c.answer_line.ensures.begun in
           let same = regrouped bytes (take l.at chunk) piece (10 ∷ []) ∙ ap (λ t. bytes ++ t) (sym (newlines.taken chunk l.at count first here)) in
-          subst (λ b. IsAnswered start now b c.answer_line.new.self.run) same whole;
+          subst (λ b. IsAnswered c.args.judge.now start now b c.answer_line.new.self.run) same whole;
       same = c.answer_line.ensures.same ∙ l.invariant.same;
     }
 
@@ -44,8 +47,8 @@ returns-clause-all g c = λ start bytes before.
     let a = l.invariant.all start bytes before in
     let piece = newlines.from chunk l.at in
     let clean = newlines.all_is_line piece c.in_default.ensures in
-    let after : LineRun = record { judge = l.self.run.judge; begun = c.add.new.self; held = l.self.run.held; outcome = l.self.run.outcome } in
-    let answered = same_answers start now a.lines l.self.run after a.answered refl refl refl in
-    let whole = piece_kept start now now (bytes ++ take l.at chunk) piece l.self.run after a clean answered (c.add.ensures a.rest a.begun) in
+    let after : LineRun = record { begun = c.add.new.self; held = l.self.run.held; outcome = l.self.run.outcome } in
+    let answered = same_answers c.args.judge.now start now a.lines l.self.run after a.answered refl refl in
+    let whole = piece_kept c.args.judge.now start now now (bytes ++ take l.at chunk) piece l.self.run after a clean answered (c.add.ensures a.rest a.begun) in
     let same = append_assoc bytes (take l.at chunk) piece ∙ ap (λ t. bytes ++ t) (newlines.front_and_from chunk l.at) in
-    subst (λ b. IsAnswered start now b after) same whole
+    subst (λ b. IsAnswered c.args.judge.now start now b after) same whole

@@ -5,9 +5,9 @@ use Rattle.cs_judge.proofs.explained_lines.ExplainedRun.answer_chunk.Given as go
 abbrev pub invariant-loop-count : goal.invariant-loop-count
 invariant-loop-count g l = record {
   within : l.at ≤ length l.chunk;
-  all : (start : Option (List ℕ)) (bytes : List ℕ) → IsAnswered start (g.W.Write.contents l.initial.output) bytes l.initial.self.run
-      → IsAnswered start (g.W.Write.contents l.output) (bytes ++ take l.at l.chunk) l.self.run;
-  same : l.self.run.judge ≡ l.initial.self.run.judge;
+  all : (start : Option (List ℕ)) (bytes : List ℕ) → IsAnswered l.initial.judge start (g.W.Write.contents l.initial.output) bytes l.initial.self.run
+      → IsAnswered l.initial.judge start (g.W.Write.contents l.output) (bytes ++ take l.at l.chunk) l.self.run;
+  same : l.judge ≡ l.initial.judge;
 }
 
 abbrev pub decreases-loop-count : goal.decreases-loop-count

@@ -8,7 +8,7 @@ pub returns-clause-all : goal.returns-clause-all
 returns-clause-all g c = λ start lines front a begun.
     let is = c.finish-answer.ensures.answer front begun in
     let outcome = c.with-self.ensures ∙ ap (worse c.args.self.now.outcome) c.outcome_of.ensures in
-    on_ok c.hold.result (λ handed. one_more start _ _ lines (front ++ c.args.piece.now) c.finish-answer.result c.args.self.now _ a is handed c.finish-answer.ensures.same outcome) c.hold.ensures.all
+    on_ok c.hold.result (λ handed. one_more c.args.judge.now start _ _ lines (front ++ c.args.piece.now) c.finish-answer.result c.args.self.now _ a is handed outcome) c.hold.ensures.all
 
 pub returns-clause-front : goal.returns-clause-front
-returns-clause-front g c = λ start lines a. on_err c.hold.result (lines_cut_off start _ _ lines c.args.self.now a) c.hold.ensures.front
+returns-clause-front g c = λ start lines a. on_err c.hold.result (lines_cut_off c.args.judge.now start _ _ lines c.args.self.now a) c.hold.ensures.front

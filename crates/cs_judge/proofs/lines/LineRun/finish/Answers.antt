@@ -8,20 +8,20 @@ use Rattle.cs_judge.proofs.lines.LineRun.finish.Goals as goal
 
 pub returns-in_err-answer_line-clause-front : goal.returns-in_err-answer_line-clause-front
 returns-in_err-answer_line-clause-front g c = λ start bytes a.
-    on_error c.from_residual.result (last_cut_off start _ bytes c.args.self.now a _ (c.in_err-answer_line.ensures.front start a.lines a.answered))
+    on_error c.from_residual.result (last_cut_off c.args.judge.now start _ bytes c.args.self.now a _ (c.in_err-answer_line.ensures.front start a.lines a.answered))
 
 module _ (g : Over) (c : goal.After-write_out g) where
   -- all lines are answered where the run writes out
-  all_lines : (start : Option (List ℕ)) (bytes : List ℕ) → IsAnswered start (g.W.Write.contents c.args.output.now) bytes c.args.self.now → AreAllAnswered c.args.self.now.judge start (g.W.Write.contents c.if-not-is_empty.output) bytes c.if-not-is_empty.self
+  all_lines : (start : Option (List ℕ)) (bytes : List ℕ) → IsAnswered c.args.judge.now start (g.W.Write.contents c.args.output.now) bytes c.args.self.now → AreAllAnswered c.args.judge.now start (g.W.Write.contents c.if-not-is_empty.output) bytes c.if-not-is_empty.self
   all_lines start bytes a =
       elim c.if-not-is_empty.branch [
         | then-not-is_empty+in_ok-answer_line w ↦
             let some : a.rest ≢ [] = λ none. cc ((c.is_empty.ensures.tells a.rest a.begun).1 none, w.if-not-is_empty.true) in
             let answered = w.in_ok-answer_line.ensures.all start a.lines a.rest a.answered a.begun in
-            rw (w.self-is, w.output-is) (last_answered start _ bytes c.args.self.now a _ _ some w.answer_line.ensures.same answered)
+            rw (w.self-is, w.output-is) (last_answered c.args.judge.now start _ bytes c.args.self.now a _ _ some answered)
         | else-not-is_empty w ↦
             let none = (c.is_empty.ensures.tells a.rest a.begun).0 w.if-not-is_empty.false in
-            rw (w.self-is, w.output-is) (none_begun start _ bytes c.args.self.now a none)
+            rw (w.self-is, w.output-is) (none_begun c.args.judge.now start _ bytes c.args.self.now a none)
       ]
 
 pub returns-clause-all : goal.returns-clause-all
