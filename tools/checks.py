@@ -123,13 +123,19 @@ class GateEdits:
         if proved and proved[1] in self.waits:
             self.waits.remove(proved[1])
             if not self.waits:
-                words = ["nice", "tools/edits.py", "--gate"]
-                self.tried.append(self.pool.submit(self.checks.run, words, JOBS=str(max(1, lanes() // 2))))
+                self.begin()
+
+    def begin(self) -> None:
+        words = ["nice", "tools/edits.py", "--gate"]
+        self.tried.append(self.pool.submit(self.checks.run, words, JOBS=str(max(1, lanes() // 2))))
 
 
 def prove(checks: Checks, pool: ThreadPoolExecutor, program: str) -> list[Future]:
     given, tried = os.environ.get("JOBS"), GateEdits(checks, pool)
     well = checks.follow(["tools/kit.py", "ci"], tried.seen, **({"RT_JOBS": given} if given else {}))
+    # Whatever `rt ci` said of crates on its way, all of them are proved now.
+    if well and not tried.tried:
+        tried.begin()
     return [*tried.tried, *(of_program(checks, pool, program) if well else [])]
 
 
