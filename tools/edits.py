@@ -13,10 +13,12 @@ Edits of different functions are tried in one check: where each of these functio
 own edit, since the prover doesn't judge a function that calls one that isn't proved. Else they are tried apart.
 
 The gate proves no crate a second time: `rt ci` has just proved all of them, so of each crate the functions with edits alone are
-checked, over the libraries that it left in crates/*/out/rlib.
+checked, over the libraries that it left in crates/*/out/rlib. Since each such check also proves what these functions call in the
+crate, a crate whose edits don't fit into one check is checked first as it is, and each edit over what that kept.
 """
 from __future__ import annotations
 
+import contextlib
 import os
 import re
 import shutil
@@ -24,7 +26,8 @@ import subprocess
 import sys
 import tempfile
 import threading
-from collections import deque
+from collections import Counter, deque
+from collections.abc import Iterator
 from dataclasses import dataclass
 from pathlib import Path
 
@@ -310,10 +313,54 @@ class TreeLane(Lane):
         folder = self.tree / "crates" / crate
         for file, text in made.items():
             (folder / file).write_text(text)
-        ran = run(["rt", "check", "--jobs", "1", *(word for path in paths for word in ("--only", path))], folder)
+        ran = run(["rt", "check", *words_of_check(paths)], folder)
         for file in made:
             shutil.copy2(self.proved / "crates" / crate / file, folder / file)
         return ran.returncode, ran.stdout
+
+
+class Seeds:
+    """What a check of a crate as it is proved of the functions that its edits change, in a folder for each crate: later checks begin with it."""
+
+    def __init__(self, crates: dict, batches: list[list[Edit]], room: Path):
+        self.crates, self.room, self.made = crates, room, {}
+        checks = Counter(batch[0].crate for batch in batches)
+        self.paths = {name: self.of_edits(name, batches) for name, count in checks.items() if count > 1}
+        self.locks = {name: threading.Lock() for name in self.paths}
+
+    @staticmethod
+    def of_edits(crate: str, batches: list[list[Edit]]) -> list[str]:
+        """The functions of a crate that its edits change, none where one of them isn't known."""
+        paths = {edit.path(TOP / "crates" / crate) for batch in batches for edit in batch if edit.crate == crate}
+        return [] if None in paths else sorted(paths)
+
+    def seed(self, crate: str) -> Path | None:
+        """The folder with what was proved of a crate, where that is worth it; the first that asks for it proves it, and others wait."""
+        if crate not in self.paths:
+            return None
+        with self.locks[crate]:
+            if crate not in self.made:
+                folder = self.room / crate
+                folder.mkdir()
+                ran = kit.rt().checked(self.crates[crate], {}, words_of_check(self.paths[crate]), str(folder))
+                self.made[crate] = folder if ran.returncode == 0 else None
+            return self.made[crate]
+
+    @contextlib.contextmanager
+    def copied(self, crate: str) -> Iterator[str | None]:
+        """A copy of it that a check may write into; its files are the same, since a check replaces what it writes."""
+        seed = self.seed(crate)
+        if not seed:
+            yield None
+            return
+        with tempfile.TemporaryDirectory(dir=self.room) as folder:
+            kit.rt().linked(str(seed), f"{folder}/kept")
+            yield f"{folder}/kept"
+
+
+def words_of_check(paths: list[str]) -> list[str]:
+    """The words of a check of the functions at these paths, or where there are none of all."""
+    return ["--jobs", "1", *(word for path in paths for word in ("--only", path))]
 
 
 class GateLane(Lane):
@@ -321,12 +368,12 @@ class GateLane(Lane):
 
     takes_names = False
 
-    def __init__(self, proved: Path, crates: dict):
-        self.proved, self.crates = proved, crates
+    def __init__(self, proved: Path, crates: dict, seeds: Seeds):
+        self.proved, self.crates, self.seeds = proved, crates, seeds
 
     def check(self, crate: str, made: dict[str, str], paths: list[str]) -> tuple[int, str]:
-        words = ["--jobs", "1", *(word for path in paths for word in ("--only", path))]
-        ran = kit.rt().checked(self.crates[crate], made, words, None)
+        with self.seeds.copied(crate) as kept:
+            ran = kit.rt().checked(self.crates[crate], made, words_of_check(paths), kept)
         return ran.returncode, ran.stdout
 
 
@@ -368,6 +415,14 @@ class Trial:
         if None in names or len(set(names)) < len(names):
             return False
         return not any(one != other and one in reached.get(other, set()) for one in names for other in names)
+
+    def take_crates_in_turn(self) -> None:
+        """Puts the first checks of all crates first, so that no lane waits for what another proves of the same crate."""
+        seen, turns = Counter(), {}
+        for batch in self.tasks:
+            turns[id(batch)] = seen[batch[0].crate]
+            seen[batch[0].crate] += 1
+        self.tasks = deque(sorted(self.tasks, key=lambda it: turns[id(it)]))
 
     def answer(self, edit: Edit, well: bool, text: str) -> None:
         with self.lock:
@@ -438,7 +493,7 @@ def changed_since(words: list[str]) -> list[str]:
 
 
 def proved_tree(crates: list[str], tree: Path) -> bool:
-    """Proves these crates, and those that they stand on, in a copy of this tree over its kept work."""
+    """Proves these crates, and those that they stand on, in a copy of this tree over its kept work, whose files a check replaces and doesn't change."""
     lines = [it for it in (TOP / "crates.txt").read_text().split("\n") if re.match(r"[a-z]", it)]
     below = {it.split(":")[0].split()[0]: it.split(":")[1].split() for it in lines}
     needed, left = set(), list(crates)
@@ -453,7 +508,8 @@ def proved_tree(crates: list[str], tree: Path) -> bool:
     for crate in needed:
         for part in ("src", "specs", "proofs", "out"):
             if (TOP / "crates" / crate / part).is_dir():
-                shutil.copytree(TOP / "crates" / crate / part, tree / "crates" / crate / part)
+                copied = kit.rt().link_or_copy if part == "out" else shutil.copy2
+                shutil.copytree(TOP / "crates" / crate / part, tree / "crates" / crate / part, copy_function=copied)
     subprocess.run(["git", "init", "-q", "."], cwd=tree, check=True)
     ran = run(["rt", "all", "check", "--jobs", jobs()], tree)
     if ran.returncode:
@@ -480,13 +536,14 @@ def is_left(crate) -> bool:
     return max(it.stat().st_mtime for it in files) < library.stat().st_mtime
 
 
-def gate_lanes(edits: list[Edit]) -> list[Lane]:
-    crates = kit.crates()
-    needed = {below.name: below for edit in edits for below in crates[edit.crate].below()}
+def gate_lanes(trial: "Trial", room: Path) -> list[Lane]:
+    crates, batches = kit.crates(), list(trial.tasks)
+    needed = {below.name: below for batch in batches for below in crates[batch[0].crate].below()}
     lacking = [name for name, crate in needed.items() if not is_left(crate)]
     if lacking:
         sys.exit(f"{lacking[0]} isn't built as its files are: run rt ci first")
-    return [GateLane(TOP, crates) for _ in range(int(jobs()))]
+    seeds = Seeds(crates, batches, room)
+    return [GateLane(TOP, crates, seeds) for _ in range(int(jobs()))]
 
 
 def tried(trial: "Trial", lanes: list[Lane]) -> int:
@@ -504,8 +561,10 @@ def tried(trial: "Trial", lanes: list[Lane]) -> int:
 def gate() -> int:
     if misfits():
         return 1
-    edits = [Edit.read(it, it.parent.name) for it in gate_paths()]
-    return tried(Trial(edits), gate_lanes(edits))
+    trial = Trial([Edit.read(it, it.parent.name) for it in gate_paths()])
+    trial.take_crates_in_turn()
+    with tempfile.TemporaryDirectory() as room:
+        return tried(trial, gate_lanes(trial, Path(room)))
 
 
 def main(words: list[str]) -> int:
