@@ -4,6 +4,7 @@ use Rattle.cs_document.specs.Document.{Document, IsDocument}
 use Rattle.cs_document.specs.View.{doc_view}
 use Rattle.cs_package.specs.Environment.{Environment}
 use Rattle.cs_instance.specs.Instance.{Rule, definition, IsInstance, OneMeaning}
+use Rattle.cs_question.specs.ReadAgain.{IsReadAgain}
 use Rattle.cs_tool.specs.Accepted.{DeclaresRoot}
 use Rattle.cs_compare.specs.declared.comparison.Comparison.{Comparison}
 use Rattle.cs_compare.specs.declared.comparison.Comparison.TheVariants.{Compatible, Breaking}
@@ -20,10 +21,10 @@ abbrev pub Keeps : {old : List (List ℕ)} → {old_root : List ℕ} → {new : 
 Keeps before after = (I J : Rule → Document → Bool) → IsInstance before.environment I → IsInstance after.environment J
     → (x : Document) → IsDocument x → I (definition before.name) x ≡ true → J (definition after.name) x ≡ true
 
--- the document is one of the old edition, and none of the new edition
+-- the document, which its text is read as, is one of the old edition, and none of the new edition
 abbrev pub Breaks : {old : List (List ℕ)} → {old_root : List ℕ} → {new : List (List ℕ)} → {new_root : List ℕ} → Edition old old_root → Edition new new_root → Document → Type 0
-Breaks before after x = (I J : Rule → Document → Bool) → IsInstance before.environment I → IsInstance after.environment J
-    → (I (definition before.name) x ≡ true) × (J (definition after.name) x ≡ false)
+Breaks before after x = IsReadAgain x × ((I J : Rule → Document → Bool) → IsInstance before.environment I → IsInstance after.environment J
+    → (I (definition before.name) x ≡ true) × (J (definition after.name) x ≡ false))
 
 abbrev pub IsAnswer : {old : List (List ℕ)} → {old_root : List ℕ} → {new : List (List ℕ)} → {new_root : List ℕ} → Edition old old_root → Edition new new_root → Comparison → Type 0
 IsAnswer before after Compatible = Keeps before after

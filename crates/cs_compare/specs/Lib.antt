@@ -1,3 +1,4 @@
--- What a comparison answers and refuses.
+-- What a comparison answers and refuses, and what is written of it and of documents.
 pub mod Compared
 pub mod Refused
+pub mod Written

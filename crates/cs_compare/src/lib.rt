@@ -2,7 +2,11 @@
 #![tactic(auto)]
 
 mod comparison;
+mod documents;
 mod refusal;
+mod written;
 
 pub use comparison::{Comparison, compare};
+pub use documents::write_documents;
 pub use refusal::{CompareRefusal, Side};
+pub use written::{Told, write_both, write_comparison};

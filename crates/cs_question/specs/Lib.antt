@@ -1,5 +1,6 @@
 -- What a question asks.
 pub mod Separates
+pub mod ReadAgain
 pub mod Faults
 pub mod NoInstance
 -- for contracts of private functions and proofs alone

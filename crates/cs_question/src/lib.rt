@@ -19,6 +19,7 @@ mod nodes;
 mod places;
 mod questions;
 mod queue;
+mod read_again;
 mod scalars;
 mod state;
 mod table;

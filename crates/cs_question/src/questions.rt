@@ -6,6 +6,7 @@ ghost use Rattle.cs_package.specs.Environment.{Names};
 ghost use Rattle.cs_instance.specs.Instance.{Rule, definition, IsInstance};
 ghost use Rattle.cs_question.specs.Separates.{Separates};
 ghost use Rattle.cs_question.specs.Faults.{IsRefusal};
+ghost use Rattle.cs_question.specs.ReadAgain.{IsReadAgain};
 ghost use Rattle.cs_question.specs.Truth.{IsShut};
 ghost use Rattle.std.specs.List.{list_all};
 
@@ -14,6 +15,7 @@ use crate::explore::explored;
 use crate::fault::QuestionFault;
 use crate::literal::{Literal, Side, add, are_same, met};
 use crate::nodes::{Nodes, nodes_of};
+use crate::read_again::is_read_again;
 use crate::table::Table;
 use crate::witness::{Witness, witness_of};
 use cs_document::Doc;
@@ -31,8 +33,8 @@ fn has_none(table: &Table<'_>, asked: &[Literal]) -> bool
     }
 }
 
-/// A document that is an instance of one root and not of another one, each a definition of its package named with its `#`; none
-/// where there is no such document, so each instance of the one is an instance of the other.
+/// A document that is an instance of one root and not of another one, each a definition of its package named with its `#`, and that
+/// its text is read as; none where there is no such document, so each instance of the one is an instance of the other.
 ///
 /// # Errors
 /// `UnknownRoot` exactly where a package doesn't declare its root, `TooManyCases` where a limit is met, or the budget has too few
@@ -53,6 +55,7 @@ pub fn separating(
         → IsInstance admitting.now I → IsInstance refusing.now J
         → Names admitting.now admitting_root.now n → Names refusing.now refusing_root.now m
         → Separates (I (definition n) ∷ []) (J (definition m) ∷ []) (doc_view d))) }
+    ensures read { IfOk result (λ o. IfSome o (λ d. IsReadAgain (doc_view d))) }
     ensures declared { OnOk result (((n : List ℕ) × Names admitting.now admitting_root.now n)
         × ((m : List ℕ) × Names refusing.now refusing_root.now m)) }
     ensures refused { IfErr result (λ e. IsRefusal e admitting.now admitting_root.now
@@ -74,6 +77,7 @@ pub fn separating(
     budget.spend(cost_of_judging(&nodes, values));
     if is_judged(alloc, admitting, admitting_root, &doc, true)?
         && is_judged(alloc, refusing, refusing_root, &doc, false)?
+        && is_read_again(alloc, &doc)?
     {
         Ok(Some(doc))
     } else {
@@ -130,7 +134,7 @@ fn both(alloc: Global, met: usize, unmet: usize) -> Result<Vec<Literal>, AllocEr
     Ok(asked)
 }
 
-/// An instance of the root, a definition of the package named with its `#`; none where it has none.
+/// An instance of the root, a definition of the package named with its `#`, that its text is read as; none where it has none.
 ///
 /// # Errors
 /// `UnknownRoot` exactly where the package doesn't declare the root, `TooManyCases` where a limit is met, or the budget has too
@@ -147,6 +151,7 @@ pub fn instance_of(
     ensures one { IfOk result (λ o. IfSome o (λ d. (I : Rule → Document → Bool) (n : List ℕ)
         → IsInstance «package».now I → Names «package».now root.now n
         → Separates (I (definition n) ∷ []) [] (doc_view d))) }
+    ensures read { IfOk result (λ o. IfSome o (λ d. IsReadAgain (doc_view d))) }
     ensures declared { OnOk result ((n : List ℕ) × Names «package».now root.now n) }
     ensures refused { IfErr result (λ e. IsRefusal e «package».now root.now) }
 {
@@ -167,7 +172,7 @@ pub fn instance_of(
     }
     let Witness { doc, values } = witness_of(alloc, &table)?;
     budget.spend(cost_of_judging(&nodes, values));
-    if is_judged(alloc, package, root, &doc, true)? {
+    if is_judged(alloc, package, root, &doc, true)? && is_read_again(alloc, &doc)? {
         Ok(Some(doc))
     } else {
         Err(QuestionFault::TooManyCases)

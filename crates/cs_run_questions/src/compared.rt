@@ -2,22 +2,21 @@
 use crate::INVALID;
 use crate::sides::{Edition, paths_of, tell_alone, tell_refused, tell_unread_side};
 use clap::ArgMatches;
-use cs_compare::{CompareRefusal, Comparison, Side, compare as compare_sources};
+use cs_compare::{
+    CompareRefusal, Comparison, Side, Told, compare as compare_sources, write_both,
+    write_comparison,
+};
 use cs_doc::write_doc;
 use cs_document::Doc;
 use cs_judge::{Prepared, Why, prepare};
 use cs_place::Named;
 use cs_report::Form;
-use cs_run_input::{Reasons, named_sources, print, read_sources, reasons_of, texts_of, word_of};
+use cs_run_input::{Reasons, named_sources, read_sources, reasons_of, texts_of, word_of};
 use cs_tool::{Fault, Rules};
-use std::alloc::{AllocError, Global};
+use std::alloc::Global;
 
 /// The name of the document that is shown, in what is told of it.
 const SHOWN: &str = "document";
-/// The names of both directions: whether old documents are new ones, and whether new documents are old ones.
-const BACKWARD: &str = "backward";
-
-const FORWARD: &str = "forward";
 
 /// The status of `compare`: 0, or 1 where an answer is `breaking`. A refusal is told as the answer would be.
 pub(crate) fn compare(rt: &HostRuntime, words: &ArgMatches<'_>) -> Result<u8, Fault> {
@@ -62,15 +61,45 @@ fn compare_editions(
     before: Edition<'_>,
     after: Edition<'_>,
 ) -> Result<u8, Fault> {
-    let (reasons, is_both) = (reasons_of(words), words.get_flag("both"));
-    let mut text = Vec::new(rt.alloc());
-    match put_answers(rt.alloc(), &mut text, before, after, reasons, is_both) {
-        Ok(is_compatible) => {
-            print(rt, &text)?;
-            Ok(if is_compatible { 0 } else { INVALID })
-        }
+    let reasons = reasons_of(words);
+    let written = if words.get_flag("both") {
+        write_directions(rt, before, after, reasons)
+    } else {
+        write_direction(rt, before, after, reasons)
+    };
+    match written {
+        Ok(is_compatible) => Ok(if is_compatible { 0 } else { INVALID }),
         Err(refusal) => tell_refused(rt, reasons, refusal, before, after, words),
     }
+}
+
+/// Writes whether each document of an edition is one of the other edition.
+fn write_direction(
+    rt: &HostRuntime,
+    from: Edition<'_>,
+    to: Edition<'_>,
+    reasons: Option<Reasons>,
+) -> Result<bool, CompareRefusal> {
+    let told = told_answer(rt.alloc(), from, to, reasons)?;
+    Ok(write_comparison(rt.alloc(), &told, is_json(reasons), &mut rt.stdout())?)
+}
+
+/// Writes whether old documents are new ones, and whether new documents are old ones.
+fn write_directions(
+    rt: &HostRuntime,
+    before: Edition<'_>,
+    after: Edition<'_>,
+    reasons: Option<Reasons>,
+) -> Result<bool, CompareRefusal> {
+    let backward = told_answer(rt.alloc(), before, after, reasons)?;
+    let forward = told_answer(rt.alloc(), after, before, reasons)?;
+    Ok(write_both(
+        rt.alloc(),
+        &backward,
+        &forward,
+        is_json(reasons),
+        &mut rt.stdout(),
+    )?)
 }
 
 /// The root of a side: the new one may have a name of its own.
@@ -91,31 +120,6 @@ fn rules_of(rt: &HostRuntime, words: &ArgMatches<'_>, side: Side) -> Result<Rule
     Ok(Rules::Root { sources, root })
 }
 
-/// Puts the answer to one direction or to both, and gives whether nothing breaks.
-fn put_answers(
-    alloc: Global,
-    text: &mut Vec<u8>,
-    before: Edition<'_>,
-    after: Edition<'_>,
-    reasons: Option<Reasons>,
-    is_both: bool,
-) -> Result<bool, CompareRefusal> {
-    if !is_both {
-        let is_compatible = put_answer(alloc, text, before, after, reasons)?;
-        put_newline(text, reasons)?;
-        return Ok(is_compatible);
-    }
-    put_front(text, BACKWARD, "{", reasons)?;
-    let backward = put_answer(alloc, text, before, after, reasons)?;
-    put_front(text, FORWARD, ",", reasons)?;
-    let forward = put_answer(alloc, text, after, before, reasons)?;
-    if is_json(reasons) {
-        text.extend_from_slice(b"}")?;
-    }
-    put_newline(text, reasons)?;
-    Ok(backward && forward)
-}
-
 fn is_json(reasons: Option<Reasons>) -> bool {
     match reasons {
         Some(reasons) => matches!(reasons.form, Form::Json),
@@ -123,54 +127,22 @@ fn is_json(reasons: Option<Reasons>) -> bool {
     }
 }
 
-/// Ends an object; lines have their ends.
-fn put_newline(text: &mut Vec<u8>, reasons: Option<Reasons>) -> Result<(), AllocError> {
-    if is_json(reasons) {
-        text.extend_from_slice(b"\n")?;
-    }
-    Ok(())
-}
-
-/// Puts the name of a direction before its answer; in an object behind this punctuation.
-fn put_front(
-    text: &mut Vec<u8>,
-    name: &str,
-    punctuation: &str,
-    reasons: Option<Reasons>,
-) -> Result<(), AllocError> {
-    if is_json(reasons) {
-        text.extend_from_slice(punctuation.as_bytes())?;
-        text.extend_from_slice(b"\"")?;
-        text.extend_from_slice(name.as_bytes())?;
-        text.extend_from_slice(b"\":")
-    } else {
-        text.extend_from_slice(name.as_bytes())?;
-        text.extend_from_slice(b": ")
-    }
-}
-
-/// Puts the answer whether each document of an edition is one of the other edition, and gives it.
-fn put_answer(
+/// Whether each document of an edition is one of the other edition, and where it is asked for why one isn't.
+fn told_answer(
     alloc: Global,
-    text: &mut Vec<u8>,
     from: Edition<'_>,
     to: Edition<'_>,
     reasons: Option<Reasons>,
-) -> Result<bool, CompareRefusal> {
-    match comparison(alloc, from, to)? {
-        Comparison::Compatible if is_json(reasons) => {
-            text.extend_from_slice(b"{\"compatible\":true}")?;
-            Ok(true)
-        }
-        Comparison::Compatible => {
-            text.extend_from_slice(b"compatible\n")?;
-            Ok(true)
-        }
-        Comparison::Breaking(doc) => {
-            put_breaking(alloc, text, &doc, to, reasons)?;
-            Ok(false)
-        }
-    }
+) -> Result<Told, CompareRefusal> {
+    let comparison = comparison(alloc, from, to)?;
+    let reasons = match (&comparison, reasons) {
+        (Comparison::Breaking(doc), Some(reasons)) => reasons_told(alloc, doc, to, reasons)?,
+        _ => Vec::new(alloc),
+    };
+    Ok(Told {
+        comparison,
+        reasons,
+    })
 }
 
 /// Whether each document of an edition is one of the other edition.
@@ -184,48 +156,23 @@ fn comparison(
     compare_sources(alloc, &admitting, from.root, &refusing, to.root)
 }
 
-/// Puts the document that an edition refuses, and as it is asked for why.
-fn put_breaking(
+/// What an edition tells of a document that it refuses: the lines below the verdict, or the object without its newline.
+fn reasons_told(
     alloc: Global,
-    text: &mut Vec<u8>,
     doc: &Doc,
     to: Edition<'_>,
-    reasons: Option<Reasons>,
-) -> Result<(), CompareRefusal> {
-    let shown = shown_text(alloc, doc)?;
-    match reasons {
-        Some(reasons) => put_reasons(alloc, text, &shown, to, reasons),
-        None => Ok(put_lines(text, &shown, b"")?),
-    }
-}
-
-/// Puts the document that an edition refuses, and what it tells of it.
-fn put_reasons(
-    alloc: Global,
-    text: &mut Vec<u8>,
-    shown: &[u8],
-    to: Edition<'_>,
     reasons: Reasons,
-) -> Result<(), CompareRefusal> {
+) -> Result<Vec<u8>, Fault> {
+    let shown = write_doc(alloc, doc)?;
     let mut told = Vec::new(alloc);
-    let _is_instance = explain(alloc, shown, to, reasons, &mut told)?;
-    if is_json(Some(reasons)) {
-        put_object(text, shown, &told)?;
-    } else {
-        put_lines(
-            text,
-            shown,
-            told.strip_prefix(b"invalid\n").unwrap_or(&told),
-        )?;
-    }
-    Ok(())
-}
-
-fn shown_text(alloc: Global, doc: &Doc) -> Result<Vec<u8>, CompareRefusal> {
-    match write_doc(alloc, doc) {
-        Ok(text) => Ok(text),
-        Err(fault) => Err(CompareRefusal::from(Fault::from(fault))),
-    }
+    let _is_instance = explain(alloc, &shown, to, reasons, &mut told)?;
+    let bare = match reasons.form {
+        Form::Json => told.trim_ascii_end(),
+        Form::Lines | Form::Flag | Form::Basic => {
+            told.strip_prefix(b"invalid\n").unwrap_or(&told)
+        }
+    };
+    Ok(bare.to_vec(alloc)?)
 }
 
 /// Adds what an edition tells of the document that it refuses.
@@ -260,21 +207,4 @@ fn explain_prepared(
     };
     let mut judge = prepared.judge(alloc)?;
     judge.explain(document, why, told)
-}
-
-/// Puts the answer in lines: the word, the document and the reasons.
-fn put_lines(text: &mut Vec<u8>, shown: &[u8], told: &[u8]) -> Result<(), AllocError> {
-    text.extend_from_slice(b"breaking\n")?;
-    text.extend_from_slice(shown)?;
-    text.extend_from_slice(b"\n")?;
-    text.extend_from_slice(told)
-}
-
-/// Puts the answer as an object: the document, and the object that tells of it.
-fn put_object(text: &mut Vec<u8>, shown: &[u8], told: &[u8]) -> Result<(), AllocError> {
-    text.extend_from_slice(b"{\"compatible\":false,\"document\":")?;
-    text.extend_from_slice(shown)?;
-    text.extend_from_slice(b",\"report\":")?;
-    text.extend_from_slice(told.trim_ascii_end())?;
-    text.extend_from_slice(b"}")
 }

@@ -1,14 +1,12 @@
 // The command that writes documents of a definition.
 use crate::INVALID;
 use clap::ArgMatches;
-use cs_doc::write_doc;
-use cs_document::Doc;
+use cs_compare::write_documents;
 use cs_report::Form;
-use cs_run_input::{named_sources, print, root_of, sources_of, texts_of, word_of};
+use cs_run_input::{named_sources, root_of, sources_of, texts_of, word_of};
 use cs_run_refusals::{about_rules, or_told, tell_unread};
 use cs_samples::{QuestionFault, Sampled, samples};
 use cs_tool::{Fault, Rules, read_root, slices_of};
-use std::alloc::Global;
 
 /// How many documents are written at most where the words don't say.
 const MOST_SAMPLES: usize = 100;
@@ -56,27 +54,12 @@ fn written(rt: &HostRuntime, words: &ArgMatches<'_>, sources: &[&[u8]]) -> Resul
     let most = words.get_one("most").unwrap_or(MOST_SAMPLES);
     let package = read_root(rt.alloc(), sources, root)?;
     match samples(rt.alloc(), &package, root, which, most) {
-        Ok(docs) => print_docs(rt, &docs),
+        Ok(docs) => {
+            let has_some = write_documents(rt.alloc(), &docs, &mut rt.stdout())?;
+            Ok(if has_some { 0 } else { INVALID })
+        }
         Err(QuestionFault::OutOfMemory) => Err(Fault::OutOfMemory),
         Err(QuestionFault::UnknownRoot) => Err(Fault::UnknownRoot),
         Err(QuestionFault::TooManyCases) => Err(Fault::TooManyCases),
     }
-}
-
-/// Writes these documents, and gives the status.
-fn print_docs(rt: &HostRuntime, docs: &[Doc]) -> Result<u8, Fault> {
-    let text = lines_of(rt.alloc(), docs)?;
-    print(rt, &text)?;
-    Ok(if docs.is_empty() { INVALID } else { 0 })
-}
-
-/// A line of JSON for each document.
-fn lines_of(alloc: Global, docs: &[Doc]) -> Result<Vec<u8>, Fault> {
-    let mut text = Vec::new(alloc);
-    for doc in docs {
-        let line = write_doc(alloc, doc)?;
-        text.extend_from_slice(&line)?;
-        text.extend_from_slice(b"\n")?;
-    }
-    Ok(text)
 }

@@ -1,3 +1,2 @@
 -- Lemmas of samples.
 pub mod Kept
-pub mod Sounds

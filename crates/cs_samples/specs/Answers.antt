@@ -8,7 +8,7 @@ use Rattle.cs_document.specs.Order.{document_cmp}
 use Rattle.cs_document.specs.View.{doc_view}
 use Rattle.cs_document.specs.declared.doc.Doc.{Doc}
 use Rattle.cs_package.specs.Environment.{Environment}
-use Rattle.cs_samples.specs.declared.sampled.Sampled.{Sampled}
+use Rattle.cs_variants.specs.declared.sampled.Sampled.{Sampled}
 use Rattle.cs_samples.specs.declared.asking.Answer.{Answer}
 use Rattle.cs_samples.specs.declared.asking.Answer.TheVariants.{Document, Nothing, TooManyCases}
 use Rattle.cs_samples.specs.Sample.{IsSample}

@@ -2,4 +2,3 @@
 pub mod Sample
 -- for contracts of private functions and proofs alone
 pub mod Answers
-pub mod Sound

@@ -1,14 +1,15 @@
 // The question that a place asks.
-ghost use Rattle.std.specs.Prelude.{IfOk, IsTrue};
+ghost use Rattle.std.specs.Prelude.{IfOk, IfSome, IsTrue};
 ghost use Rattle.cs_document.specs.View.{doc_view};
-ghost use Rattle.cs_samples.specs.Sample.{IsSample};
+ghost use Rattle.cs_question.specs.ReadAgain.{IsReadAgain};
+ghost use Rattle.cs_samples.specs.Sample.{IsAsAsked};
 
 use crate::costs::cost_of;
-use crate::sampled::Sampled;
 use cs_document::Doc;
 use cs_guard::Guarded;
 use cs_instance::{InstanceFault, is_instance};
 use cs_question::{Budget, QuestionFault, instance_of, separating};
+use cs_variants::Sampled;
 use std::alloc::Global;
 
 /// What is asked for: samples of the root of a package.
@@ -57,7 +58,9 @@ impl Asking<'_> {
     }
 
     /// What the last definition of the variant admits, and the root refuses where no instance is asked for.
-    fn found(&self, variant: &Guarded, budget: &mut Budget) -> Result<Option<Doc>, QuestionFault> {
+    fn found(&self, variant: &Guarded, budget: &mut Budget) -> Result<Option<Doc>, QuestionFault>
+        ensures { IfOk result (λ o. IfSome o (λ d. IsReadAgain (doc_view d))) }
+    {
         let package = variant.package();
         let Some(last) = package.count().checked_sub(1) else {
             return Ok(None);
@@ -73,6 +76,7 @@ impl Asking<'_> {
 
     /// The document, where it is a sample.
     fn judged(&self, doc: Doc) -> Result<Answer, QuestionFault>
+        requires { IsReadAgain (doc_view doc) }
         ensures { IfOk result (IsAnswer self.now.package.now self.now.root.now self.now.which) }
     {
         match self.is_sample(&doc) {
@@ -84,7 +88,7 @@ impl Asking<'_> {
     }
 
     fn is_sample(&self, doc: &Doc) -> Result<bool, InstanceFault>
-        ensures { IfOk result (λ b. IsTrue b → IsSample self.now.package.now self.now.root.now
+        ensures { IfOk result (λ b. IsTrue b → IsAsAsked self.now.package.now self.now.root.now
             self.now.which (doc_view doc.now)) }
     {
         let is_valid = is_instance(self.alloc, self.package, self.root, doc)?;

@@ -8,14 +8,11 @@ ghost use Rattle.cs_samples.specs.Answers.{IsAnswer, IsPut, AreKept};
 ghost use Rattle.cs_samples.specs.Sample.{AreSamples, HasNoInstance};
 
 use crate::asking::{Answer, Asking};
-use crate::places::Place;
-use crate::sampled::Sampled;
-use crate::variants::Making;
-use crate::walks::walk_of;
 use cs_document::Doc;
 use cs_guard::{Guarded, reachable};
 use cs_package::Package;
 use cs_question::{Budget, QuestionFault, instance_of};
+use cs_variants::{Making, Place, Sampled, walk_of};
 use std::alloc::{AllocError, Global};
 use std::collections::BTreeSet;
 

@@ -5,6 +5,7 @@ use Rattle.cs_document.specs.View.{doc_view}
 use Rattle.cs_package.specs.Environment.{Environment, Names}
 use Rattle.cs_instance.specs.Instance.{Rule, definition, IsInstance}
 use Rattle.cs_question.specs.Faults.{IsRefusal}
+use Rattle.cs_question.specs.ReadAgain.{IsReadAgain}
 use Rattle.cs_question.specs.Separates.{Separates}
 use Rattle.cs_question.specs.declared.fault.QuestionFault.{QuestionFault}
 use Rattle.cs_question.specs.declared.fault.QuestionFault.TheVariants as question
@@ -49,10 +50,11 @@ returns-in-Ok-Some-clause-answered c =
     let F = c.in_ok-after.after in
     let one : (I J : Rule → Document → Bool) (n m : List ℕ) → IsInstance E I → IsInstance F J → Names E c.args.old_root.now n → Names F c.args.new_root.now m
     → Separates (I (definition n) ∷ []) (J (definition m) ∷ []) (doc_view c.in-Ok-Some.doc) = rw c.in-Ok-Some.field-0-is at c.in-Ok-Some.ensures.one in
+    let read : IsReadAgain (doc_view c.in-Ok-Some.doc) = rw c.in-Ok-Some.field-0-is at c.in-Ok-Some.ensures.read in
     record {
       before = record { environment = E; name = old.0; declares = old.1; one_meaning = c.one_meaning.ensures };
       after = record { environment = F; name = new.0; declares = new.1; one_meaning = c.one_meaning-2.ensures };
-      answers = λ I J i j. let s = one I J old.0 new.0 i j old.1.named new.1.named in (s.0.0, s.1.0);
+      answers = (read, λ I J i j. let s = one I J old.0 new.0 i j old.1.named new.1.named in (s.0.0, s.1.0));
     }
 
 pub returns-clause-refused : goal.returns-clause-refused

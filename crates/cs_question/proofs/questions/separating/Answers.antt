@@ -28,5 +28,5 @@ returns-then-has_none-clause-none c = λ e I J n m x i j named other d sep.
     (ap (λ k. I (definition k) x) (same_name E c.args.admitting_root.now name n c.in_ok-first.ensures.named named) ∙ sep.0.0)
     (ap (λ k. J (definition k) x) (same_name F c.args.refusing_root.now name' m c.in_ok-second.ensures.named other) ∙ sep.1.0)
 
-pub returns-then-branch-2-clause-one : goal.returns-then-branch-2-clause-one
-returns-then-branch-2-clause-one c = λ I J n m i j named other. ((c.in_ok-is_judged.ensures.judged c.if-branch.true I n i named, tt), (c.in_ok-is_judged-2.ensures.judged c.if-branch-2.true J m j other, tt))
+pub returns-then-branch-3-clause-one : goal.returns-then-branch-3-clause-one
+returns-then-branch-3-clause-one c = λ I J n m i j named other. ((c.in_ok-is_judged.ensures.judged c.if-branch.true I n i named, tt), (c.in_ok-is_judged-2.ensures.judged c.if-branch-2.true J m j other, tt))

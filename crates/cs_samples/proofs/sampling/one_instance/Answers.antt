@@ -5,9 +5,10 @@ use Rattle.cs_document.specs.Document.{Document, document_eq}
 use Rattle.cs_document.specs.View.{doc_view}
 use Rattle.cs_instance.specs.Instance.{Rule, definition, IsInstance}
 use Rattle.cs_package.specs.Environment.{Names}
+use Rattle.cs_question.specs.ReadAgain.{IsReadAgain}
 use Rattle.cs_question.specs.Separates.{Separates}
 use Rattle.cs_samples.specs.Sample.{AreSamples}
-use Rattle.cs_samples.specs.declared.sampled.Sampled.TheVariants.{Valid}
+use Rattle.cs_variants.specs.declared.sampled.Sampled.TheVariants.{Valid}
 use Rattle.cs_samples.proofs.Kept.{distinct-none, distinct-one}
 use Rattle.cs_samples.proofs.sampling.one_instance.Goals as goal
 
@@ -30,7 +31,8 @@ returns-in_ok-push-in-Some-clause-samples c =
     let E = c.args.asking.now.«package».now in
     let root = c.args.asking.now.root.now in
     let one : (I : Rule → Document → Bool) (n : List ℕ) → IsInstance E I → Names E root n → Separates (I (definition n) ∷ []) [] (doc_view c.in-Some.doc) = rw c.in-Some.is at c.in_ok-instance_of.ensures.one in
-    subst (AreSamples E root Valid) (sym (only_one c)) (λ I n is named. (one I n is named).0.0, tt)
+    let read : IsReadAgain (doc_view c.in-Some.doc) = rw c.in-Some.is at c.in_ok-instance_of.ensures.read in
+    subst (AreSamples E root Valid) (sym (only_one c)) ((read, λ I n is named. (one I n is named).0.0), tt)
 
 pub returns-in_ok-push-in-Some-clause-distinct : goal.returns-in_ok-push-in-Some-clause-distinct
 returns-in_ok-push-in-Some-clause-distinct c = subst (λ ds. IsDistinct document_eq (map doc_view ds)) (sym (only_one c)) (distinct-one (doc_view c.in-Some.doc))

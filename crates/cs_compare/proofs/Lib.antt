@@ -1,0 +1,2 @@
+-- samples of what is written
+mod Samples

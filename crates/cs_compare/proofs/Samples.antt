@@ -1,0 +1,38 @@
+-- What is written of comparisons and of documents, worked by the definitions. A wrong expectation stops the check here.
+use Rattle.std.proofs.Common.{◌≡◌, [], ◌∷◌, map, true, false, codes, refl}
+use Rattle.cs_doc.proofs.OnLiterals.{cs_doc_on_literals}
+use Rattle.cs_document.specs.Document.{null, boolean}
+use Rattle.cs_document.specs.View.{doc_view}
+use Rattle.cs_document.specs.declared.doc.Doc.{Doc}
+use Rattle.cs_compare.specs.Written.{lines_of, object_of, comparison_text, both_text, documents_text, has_some}
+use Rattle.cs_compare.specs.declared.comparison.Comparison.TheVariants.{Compatible, Breaking}
+use Rattle.cs_compare.specs.declared.written.Told.{Told}
+
+-- reasons are lines of their own, and there may be none
+lines : (d : Doc) → doc_view d ≡ boolean true
+    → map (λ reasons. lines_of (Breaking d) reasons) ([] ∷ codes "why\n" ∷ []) ≡ codes "breaking\ntrue\n" ∷ codes "breaking\ntrue\nwhy\n" ∷ []
+unfolding cs_doc_on_literals
+lines d is = rw is
+
+an_object : (d : Doc) → doc_view d ≡ null
+    → object_of (Breaking d) (codes "{\"valid\":false}") ≡ codes "{\"compatible\":false,\"document\":null,\"report\":{\"valid\":false}}"
+unfolding cs_doc_on_literals
+an_object d is = rw is
+
+-- lines have their newlines, and an object gets one
+one_direction : (t : Told) → t.comparison ≡ Compatible
+    → map (λ is_json. comparison_text is_json t) (true ∷ false ∷ []) ≡ codes "{\"compatible\":true}\n" ∷ codes "compatible\n" ∷ []
+one_direction t is = rw is
+
+both_directions : (t u : Told) → t.comparison ≡ Compatible → u.comparison ≡ Compatible
+    → map (λ is_json. both_text is_json t u) (true ∷ false ∷ [])
+    ≡ codes "{\"backward\":{\"compatible\":true},\"forward\":{\"compatible\":true}}\n" ∷ codes "backward: compatible\nforward: compatible\n" ∷ []
+both_directions t u is other = rw (is, other)
+
+documents : (d e : Doc) → doc_view d ≡ null → doc_view e ≡ boolean false
+    → map documents_text ([] ∷ (d ∷ e ∷ []) ∷ []) ≡ [] ∷ codes "null\nfalse\n" ∷ []
+unfolding cs_doc_on_literals
+documents d e is other = rw (is, other)
+
+some : (d : Doc) → map has_some ([] ∷ (d ∷ []) ∷ []) ≡ false ∷ true ∷ []
+some d = refl

@@ -1,0 +1,2 @@
+-- Lemmas of packages that are made of copies.
+pub mod Sounds

@@ -1,0 +1,4 @@
+-- Which documents are sampled.
+pub mod Sampled
+-- for contracts of private functions and proofs alone
+pub mod Sound
