@@ -5,14 +5,13 @@ ghost use Rattle.cs_tool.specs.Given.{bytes_in};
 
 use crate::declared::declarations;
 use crate::faults::put_faults;
+use crate::found::warned;
 use crate::text::write_out;
 use crate::warnings::put_warning;
 use cs_check::check;
 use cs_guard::Guarded;
 use cs_place::Named;
-use cs_question::{QuestionFault, without_instance};
 use cs_tool::{Fault, accepted_package};
-use cs_warnings::warnings;
 use std::alloc::{AllocError, Global};
 use std::io::Write;
 
@@ -30,8 +29,7 @@ pub enum Checked {
 /// Checks the sources, and writes a line for each fault, 50 at most; where there is none, one for each definition that is found to
 /// have no instance. `named` has the sources with their names, in their order.
 ///
-/// That what is told is so is proved where it is found: by `cs_check::check`, `cs_question::without_instance` and `cs_warnings::warnings`. The words and the places
-/// in lines are tested.
+/// That what is told is so is proved where it is found: by `cs_check::check` and `warned`. The words and the places in lines are tested.
 ///
 /// # Errors
 /// `OutOfMemory` and `WriteFailed`.
@@ -83,15 +81,6 @@ fn write_faults<W: Write>(
     write_out(text.as_bytes(), output)
 }
 
-/// For each definition whether it is found that no document is an instance of it.
-fn empty_definitions(alloc: Global, package: &Guarded) -> Result<Vec<bool>, AllocError> {
-    match without_instance(alloc, package) {
-        Ok(empty) => Ok(empty),
-        Err(QuestionFault::OutOfMemory) => Err(AllocError),
-        Err(QuestionFault::TooManyCases | QuestionFault::UnknownRoot) => Ok(Vec::new(alloc)),
-    }
-}
-
 /// The lines of warnings; empty where there is none.
 fn warning_lines(
     alloc: Global,
@@ -99,8 +88,7 @@ fn warning_lines(
     named: &[Named<'_>],
 ) -> Result<String, AllocError> {
     let mut text = String::new(alloc);
-    let empty = empty_definitions(alloc, package)?;
-    let found = warnings(alloc, package, &empty)?;
+    let found = warned(alloc, package)?;
     if found.is_empty() {
         return Ok(text);
     }

@@ -4,10 +4,12 @@
 mod declared;
 mod faults;
 mod findings;
+mod found;
 mod readable;
 mod schemas;
 mod text;
 mod warnings;
 
 pub use findings::{Checked, write_findings};
+pub use found::warned;
 pub use schemas::write_schema_findings;
