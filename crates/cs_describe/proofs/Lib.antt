@@ -1,5 +1,6 @@
 -- What the proofs of this crate show: texts change nothing of a schema document but its descriptions (`document_same` in
--- `Unchanged`), and two schema documents that are the same without descriptions validate the same (`same_validity` in `PlainLaw`).
+-- `Unchanged`), and two schema documents that are the same without descriptions validate the same, and so does each schema by their
+-- definitions (`same_validity` and `same_definitions` in `PlainLaw`).
 
 -- members and elements, one after another; a map and a list that are made from others
 pub mod Joined

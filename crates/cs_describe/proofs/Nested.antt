@@ -1,5 +1,5 @@
 -- Texts make a schema a level deeper at most: the schema `true`, which becomes an object, is the only one that nests deeper.
-use Rattle.std.proofs.Common.{◌≡◌, ℕ, suc, ◌≤◌, Bool, true, false, List, Option, Some, None, Ordering, Less, Equal, Greater, nat_cmp, bytes_eq, codes, String, Global, string_bytes, if◌then◌else◌, arith}
+use Rattle.std.proofs.Common.{ℕ, suc, ◌≤◌, Bool, true, false, List, Option, Some, None, Ordering, Less, Equal, Greater, nat_cmp, bytes_eq, codes, String, Global, string_bytes, if◌then◌else◌, arith}
 use Rattle.std.specs.Cmp.Lexicographic.{slice_cmp}
 use Rattle.std.specs.Ordering.{match_ordering}
 use Rattle.std.specs.Prelude.{max}

@@ -16,7 +16,7 @@ use Rattle.cs_profile.specs.Loops.{NoLoop}
 use Rattle.cs_profile.specs.Shapes.{form_in}
 use Rattle.cs_profile.proofs.Meanings.{one_meaning}
 use Rattle.cs_describe.specs.Plain.{as_schema, plain_by, plain_schema, plain_members, plain_values, plain_value, plain}
-use Rattle.cs_describe.specs.Meaning.{SameValidity}
+use Rattle.cs_describe.specs.Meaning.{SameValidity, SameDefinitions}
 use Rattle.cs_describe.proofs.PlainDefined.{elements_plain, below, entries_plain, property_keys, properties_plain, places_plain, defined_plain}
 use Rattle.cs_describe.proofs.PlainLoops.{no_loop_plain, no_loop_full}
 
@@ -125,14 +125,38 @@ at_root (object ms) V W v w e x =
     ∙ sym (members_alike (object ms) (plain (object ms)) (defined_plain (object ms)) (λ p. W p x) (λ y p. W p y) x true ms) ∙ sym (w (plain (object ms)) x)
 at_root d V W v w e x = e d x
 
-keeps_meaning : (d : Document) → NoLoop d → SameValidity d (plain d)
-keeps_meaning d none V W v w = at_root d V W v w ((one_meaning d none).only V (λ s x. W (plain_schema s) x) v (plain_validity d W w))
+-- a schema validates by the definitions of a document what the one without descriptions does by those without
+below_root : (d : Document) → NoLoop d → (V W : Document → Document → Bool) → IsValidity d V → IsValidity (plain d) W → (s x : Document) → V s x ≡ W (plain_schema s) x
+below_root d none V W v w = (one_meaning d none).only V (λ s x. W (plain_schema s) x) v (plain_validity d W w)
 
--- two schema documents that are the same without descriptions validate the same
+keeps_meaning : (d : Document) → NoLoop d → SameValidity d (plain d)
+keeps_meaning d none V W v w = at_root d V W v w (below_root d none V W v w)
+
+-- two schema documents that are the same without descriptions: a validity of the one without, and what it is of both
+record Shared (d e : Document) : Type 0 where
+  validity : Document → Document → Bool
+  of_first : IsValidity (plain d) validity
+  of_second : IsValidity (plain e) validity
+  no_loop : NoLoop e
+
+shared : (d e : Document) → NoLoop d → plain e ≡ plain d → Shared d e
+shared d e none same =
+    let bare = no_loop_plain d none in
+    let one = (one_meaning (plain d) bare).some in record {
+      validity = one.0;
+      of_first = one.1;
+      of_second = subst (λ p. IsValidity p one.0) (sym same) one.1;
+      no_loop = no_loop_full e (subst NoLoop (sym same) bare);
+    }
+
+-- they validate the same
 pub same_validity : (d e : Document) → NoLoop d → plain e ≡ plain d → SameValidity d e
 same_validity d e none same V W v w x =
-    let bare = no_loop_plain d none in
-    let one = (one_meaning (plain d) bare).some in
-    let other : IsValidity (plain e) one.0 = subst (λ p. IsValidity p one.0) (sym same) one.1 in
-    let rest : NoLoop e = no_loop_full e (subst NoLoop (sym same) bare) in
-    keeps_meaning d none V one.0 v one.1 x ∙ ap (λ p. one.0 p x) (sym same) ∙ sym (keeps_meaning e rest W one.0 w other x)
+    let one = shared d e none same in
+    keeps_meaning d none V one.validity v one.of_first x ∙ ap (λ p. one.validity p x) (sym same) ∙ sym (keeps_meaning e one.no_loop W one.validity w one.of_second x)
+
+-- and so does each schema by their definitions
+pub same_definitions : (d e : Document) → NoLoop d → plain e ≡ plain d → SameDefinitions d e
+same_definitions d e none same V W v w s x =
+    let one = shared d e none same in
+    below_root d none V one.validity v one.of_first s x ∙ sym (below_root e one.no_loop W one.validity w one.of_second s x)

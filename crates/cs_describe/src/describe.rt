@@ -6,7 +6,7 @@ ghost use Rattle.cs_document.specs.View.{doc_view, list_view, object_view};
 ghost use Rattle.cs_profile.specs.Profile.{IsSchema};
 ghost use Rattle.cs_describe.specs.Described.{described as described_schema, described_members, described_value, described_list, described_elements, described_map, described_named, described_root, described_document, with_text, truth_with_text};
 ghost use Rattle.cs_describe.specs.Plain.{plain};
-ghost use Rattle.cs_describe.specs.Meaning.{SameValidity};
+ghost use Rattle.cs_describe.specs.Meaning.{SameValidity, SameDefinitions};
 
 use crate::Notes;
 use cs_document::Doc;
@@ -32,6 +32,8 @@ pub fn described(
     ensures profile { IfOk result (λ d. IsSchema (doc_view doc) → IsSchema (doc_view d)) }
     ensures meaning { IfOk result
         (λ d. IsSchema (doc_view doc) → SameValidity (doc_view doc) (doc_view d)) }
+    ensures definitions { IfOk result
+        (λ d. IsSchema (doc_view doc) → SameDefinitions (doc_view doc) (doc_view d)) }
     ensures nested { IfOk result (λ d. depth (doc_view d) ≤ suc (depth (doc_view doc))) }
 {
     let Doc::Object(members) = doc else {

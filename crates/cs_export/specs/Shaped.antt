@@ -1,20 +1,22 @@
 -- Schemas as they are asked for: what a text is read as, beside the schema of the translation.
-use Rattle.std.specs.Prelude.{◌≡◌, ℕ, suc, ◌≤◌, List, Bool, false}
+use Rattle.std.specs.Prelude.{◌≡◌, ℕ, suc, ◌≤◌, List, Bool, false, IsSome, if◌then◌else◌}
 use Rattle.serde_json.specs.Read.{max_depth}
 use Rattle.cs_document.specs.Document.{Document, IsDocument, depth}
 use Rattle.cs_doc.specs.Texts.{Reads, text_of}
-use Rattle.cs_package.specs.Environment.{Environment}
+use Rattle.cs_package.specs.Environment.{Environment, bodies}
 use Rattle.cs_instance.specs.Instance.{Rule, definition, IsInstance}
 use Rattle.cs_instance.specs.Instance as instance
 use Rattle.cs_schema.specs.Profile.{IsSchema}
+use Rattle.cs_schema.specs.Root.{reference_to}
 use Rattle.cs_schema.specs.SchemaDocument.{SchemaValue, document_of}
 use Rattle.cs_schema.specs.Validity.{IsValidity}
 use Rattle.cs_schema.specs.Validity as validity
 use Rattle.cs_compile.specs.Whole.{Compiles, CompilesAll}
 use Rattle.cs_compile.specs.Translation.{IsTranslation}
 use Rattle.cs_describe.specs.Plain.{plain}
-use Rattle.cs_describe.specs.Meaning.{SameValidity}
+use Rattle.cs_describe.specs.Meaning.{SameValidity, SameDefinitions}
 use Rattle.cs_export.specs.declared.layout.Layout.{Layout}
+use Rattle.cs_export.specs.Components.{to_component, to_definition, moved_named, definitions_in, components_of}
 use Rattle.cs_tool.specs.Accepted.{IsAccepted, DeclaresRoot}
 use Rattle.cs_tool.specs.Headline.{IsExport}
 
@@ -22,11 +24,13 @@ use Rattle.cs_tool.specs.Headline.{IsExport}
 abbrev pub IsTextOf : Document → List ℕ → Type 0
 IsTextOf d text = depth d ≤ max_depth → Reads text d
 
--- the document is the schema: without descriptions they are the same, and both validate the same documents
+-- the document is the schema: without descriptions they are the same, both validate the same documents, and so does each schema by
+-- their definitions
 pub record IsSameSchema (schema document : Document) : Type 0 where
   pub plain : plain document ≡ plain schema
   pub profile : IsSchema document
   pub validity : SameValidity schema document
+  pub definitions : SameDefinitions schema document
 
 -- nothing is asked for beside the schema
 pub record IsBare (layout : Layout) : Type 0 where
@@ -34,18 +38,25 @@ pub record IsBare (layout : Layout) : Type 0 where
   pub whole : layout.is_openapi ≡ false
   pub compact : layout.is_pretty ≡ false
 
+-- what the text of a schema document is read as: the document, or its components
+abbrev pub asked_for : Layout → Document → Document
+asked_for layout d = if layout.is_openapi then components_of d else d
+
 -- the text is the schema as it is asked for. Where descriptions aren't asked for, it is the very schema; with them it nests a level
--- deeper at most; and where nothing is asked for, the text is the compact one
+-- deeper at most. Its components are its definitions but for where references point: with these put back, they are the definitions
+-- again. And where nothing is asked for, the text is the compact one
 pub record IsShaped (layout : Layout) (schema : Document) (text : List ℕ) : Type 0 where
   pub document : Document
-  pub written : IsTextOf document text
-  pub nested : layout.is_openapi ≡ false → depth document ≤ suc (depth schema)
+  pub same_schema : IsSameSchema schema document
+  pub nested : depth document ≤ suc (depth schema)
+  pub same : layout.is_described ≡ false → document ≡ schema
+  pub put_back : moved_named to_definition (moved_named to_component (definitions_in document)) ≡ definitions_in document
+  pub written : IsTextOf (asked_for layout document) text
   pub bare : IsBare layout → text ≡ text_of schema
-  pub same_schema : layout.is_openapi ≡ false → IsSameSchema schema document
-  pub same : layout.is_openapi ≡ false → layout.is_described ≡ false → document ≡ schema
 
 -- the text is the schema of the root definition that the sources spell, which is that of the translation; it is read as a schema that
--- admits exactly the documents that the definition admits, and where nothing is asked for, it is the text of the export itself
+-- admits exactly the documents that the definition admits, or as the components of that schema; and where nothing is asked for, it is
+-- the text of the export itself
 pub record IsRootSchema (sources : List (List ℕ)) (root : List ℕ) (layout : Layout) (text : List ℕ) : Type 0 where
   pub environment : Environment
   pub name : List ℕ
@@ -56,13 +67,13 @@ pub record IsRootSchema (sources : List (List ℕ)) (root : List ℕ) (layout : 
   pub one_instance : instance.OneMeaning environment
   pub one_validity : validity.OneMeaning (document_of schema)
   pub shaped : IsShaped layout (document_of schema) text
-  pub read : layout.is_openapi ≡ false → Reads text shaped.document
+  pub read : Reads text (asked_for layout shaped.document)
   pub bare : IsBare layout → IsExport sources root text
-  pub admits : layout.is_openapi ≡ false → (V : Document → Document → Bool) (I : Rule → Document → Bool)
-      → IsValidity shaped.document V → IsInstance environment I → (x : Document) → IsDocument x
-      → V shaped.document x ≡ I (definition name) x
+  pub admits : (V : Document → Document → Bool) (I : Rule → Document → Bool) → IsValidity shaped.document V → IsInstance environment I
+      → (x : Document) → IsDocument x → V shaped.document x ≡ I (definition name) x
 
--- the text is the schemas of all definitions that the sources spell, and is read as these
+-- the text is the schemas of all definitions that the sources spell, and is read as these, or as their components; a reference to one of
+-- these schemas validates exactly the instances of its definition
 pub record ArePackageSchemas (sources : List (List ℕ)) (layout : Layout) (text : List ℕ) : Type 0 where
   pub environment : Environment
   pub accepted : IsAccepted sources environment
@@ -71,4 +82,6 @@ pub record ArePackageSchemas (sources : List (List ℕ)) (layout : Layout) (text
   pub one_instance : instance.OneMeaning environment
   pub one_validity : validity.OneMeaning (document_of schema)
   pub shaped : IsShaped layout (document_of schema) text
-  pub read : layout.is_openapi ≡ false → Reads text shaped.document
+  pub read : Reads text (asked_for layout shaped.document)
+  pub admits : (V : Document → Document → Bool) (I : Rule → Document → Bool) → IsValidity shaped.document V → IsInstance environment I
+      → (n : List ℕ) → IsSome (bodies environment n) → (x : Document) → IsDocument x → V (reference_to n) x ≡ I (definition n) x

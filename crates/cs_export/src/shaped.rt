@@ -1,5 +1,5 @@
 // From a schema to the text that is asked for.
-ghost use Rattle.std.specs.Prelude.{◌≡◌, ◌≤◌, suc, false, IfOk, IsOkUnless};
+ghost use Rattle.std.specs.Prelude.{◌≡◌, ◌≤◌, suc, false, IfOk, IsOkUnless, if◌then◌else◌};
 ghost use Rattle.cs_doc.specs.Texts.{text_of as compact_text};
 ghost use Rattle.cs_document.specs.Document.{depth};
 ghost use Rattle.cs_document.specs.View.{doc_view};
@@ -7,6 +7,7 @@ ghost use Rattle.cs_schema.specs.Profile.{IsSchema};
 ghost use Rattle.cs_schema.specs.SchemaDocument.{document_of};
 ghost use Rattle.cs_schema.specs.Trim.{trim};
 ghost use Rattle.cs_schema.specs.Validity.{OneMeaning};
+ghost use Rattle.cs_export.specs.Components.{components_of};
 ghost use Rattle.cs_export.specs.Shaped.{IsShaped, IsSameSchema, IsTextOf};
 
 use crate::components::components;
@@ -61,7 +62,8 @@ fn described_if(
 
 /// A schema's definitions as components, if they are asked for.
 fn components_if(alloc: Global, doc: Doc, is_openapi: bool) -> Result<Doc, Fault>
-    ensures same { is_openapi ≡ false → IfOk result (λ d. d ≡ doc) }
+    ensures shaped { IfOk result (λ d. doc_view d
+        ≡ (if is_openapi then components_of (doc_view doc) else doc_view doc)) }
     ensures memory { IsOkUnless result Fault.OutOfMemory }
 {
     if is_openapi {

@@ -1,26 +1,32 @@
-use Rattle.std.proofs.Common.{ℕ, ◌≤◌, List, Vec, arith}
+use Rattle.std.proofs.Common.{ℕ, ◌≤◌, Vec, sym, ◌∙◌, arith}
 use Rattle.std.proofs.lemmas.Result.{IfOk-weaker, err_from_is_err_and}
 use Rattle.std.specs.declared.alloc.Global.{Global}
 use Rattle.cs_document.specs.Document.{depth}
+use Rattle.cs_schema.specs.Root.{reference_to}
 use Rattle.cs_schema.specs.SchemaDocument.{document_of}
 use Rattle.cs_tool.proofs.Low.{low_accepted}
-use Rattle.cs_export.specs.Shaped.{IsShaped, ArePackageSchemas}
+use Rattle.cs_export.specs.Shaped.{asked_for, IsShaped, ArePackageSchemas}
+use Rattle.cs_export.proofs.Deep.{asked_deep}
 use Rattle.cs_export.proofs.exports.export_all.Goals as goal
 
 pub returns-clause-found : goal.returns-clause-found
 returns-clause-found c =
-    let nested : depth (document_of c.in_ok-schema.schema) ≤ 114 = c.in_ok-schema.ensures.found.nested (low_accepted _ _ c.in_ok-package.ensures.accepted) in
+    let made = c.in_ok-schema.ensures.found in
+    let one = c.one_meaning-2.ensures in
+    let nested : depth (document_of c.in_ok-schema.schema) ≤ 114 = made.nested (low_accepted _ _ c.in_ok-package.ensures.accepted) in
     IfOk-weaker _ (λ (v : Vec ℕ Global). IsShaped c.args.layout (document_of c.in_ok-schema.schema) v.items)
     (λ (v : Vec ℕ Global). ArePackageSchemas _ c.args.layout v.items)
     (λ v shaped. record {
       environment = c.in_ok-package.«package»;
       accepted = c.in_ok-package.ensures.accepted;
       schema = c.in_ok-schema.schema;
-      compiled = c.in_ok-schema.ensures.found;
+      compiled = made;
       one_instance = c.one_meaning.ensures;
-      one_validity = c.one_meaning-2.ensures;
+      one_validity = one;
       shaped = shaped;
-      read = λ whole. let deeper = shaped.nested whole in let bound : depth shaped.document ≤ 127 = omega arith in shaped.written bound;
+      read = let deeper = shaped.nested in let asked = asked_deep c.args.layout.is_openapi shaped.document in let bound : depth (asked_for c.args.layout shaped.document) ≤ 127 = omega arith in shaped.written bound;
+      admits = λ V I g h n is x document.
+          sym (shaped.same_schema.definitions one.some.0 V one.some.1 g (reference_to n) x) ∙ made.meaning one.some.0 I one.some.1 h n is x document;
     }) c.shaped_text.ensures.shaped
 
 pub returns-in_err-package-clause-only : goal.returns-in_err-package-clause-only

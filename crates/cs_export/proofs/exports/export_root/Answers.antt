@@ -1,4 +1,4 @@
-use Rattle.std.proofs.Common.{◌≡◌, ℕ, ◌≤◌, List, Vec, sym, ap, ◌∙◌, subst, arith}
+use Rattle.std.proofs.Common.{◌≡◌, ℕ, ◌≤◌, Vec, sym, ap, ◌∙◌, subst, if◌then◌else◌, arith}
 use Rattle.std.proofs.lemmas.Result.{IfOk-weaker}
 use Rattle.std.specs.declared.alloc.Global.{Global}
 use Rattle.cs_doc.specs.Texts.{Reads}
@@ -7,7 +7,9 @@ use Rattle.cs_schema.specs.Root.{with_definitions}
 use Rattle.cs_schema.specs.SchemaDocument.{document_of, definitions_view, unless_no_map}
 use Rattle.cs_schema.specs.Trim.{with_dialect}
 use Rattle.cs_tool.proofs.Low.{low_accepted}
-use Rattle.cs_export.specs.Shaped.{IsShaped, IsRootSchema}
+use Rattle.cs_export.specs.Components.{components_of}
+use Rattle.cs_export.specs.Shaped.{asked_for, IsShaped, IsRootSchema}
+use Rattle.cs_export.proofs.Deep.{asked_deep}
 use Rattle.cs_export.proofs.exports.export_root.Goals as goal
 
 pub returns-clause-found : goal.returns-clause-found
@@ -21,7 +23,11 @@ returns-clause-found c =
     IfOk-weaker _ (λ (v : Vec ℕ Global). IsShaped c.args.layout schema v.items)
     (λ (v : Vec ℕ Global). IsRootSchema _ c.args.root.now c.args.layout v.items)
     (λ v shaped.
-    let low : depth schema ≤ 127 = omega arith in
+    let document = shaped.document in
+    let deeper = shaped.nested in
+    let asked = asked_deep c.args.layout.is_openapi document in
+    let bound : depth (asked_for c.args.layout document) ≤ 127 = omega arith in
+    let read : Reads v.items (asked_for c.args.layout document) = shaped.written bound in
     record {
       environment = c.in_ok-package.«package»;
       name = made.0;
@@ -32,9 +38,9 @@ returns-clause-found c =
       one_instance = c.one_meaning.ensures;
       one_validity = one;
       shaped = shaped;
-      read = λ whole. let deeper = shaped.nested whole in let bound : depth shaped.document ≤ 127 = omega arith in shaped.written bound;
+      read = read;
       bare = λ b.
-          let same = shaped.same b.whole b.undescribed in
+          let same : asked_for c.args.layout document ≡ schema = ap (λ t. if t then components_of document else document) b.whole ∙ shaped.same b.undescribed in
           record {
             environment = c.in_ok-package.«package»;
             name = made.0;
@@ -42,7 +48,7 @@ returns-clause-found c =
             schema = schema;
             written = shaped.bare b;
             nested = nested;
-            read = subst (Reads v.items) same (shaped.written (subst (λ d. depth d ≤ 127) (sym same) low));
+            read = subst (Reads v.items) same read;
             profile = c.shaped_text.ensures.profile;
             trimmed = c.shaped_text.ensures.trimmed;
             refers = (ds, ap (λ root. with_dialect (with_definitions ds root)) made.2.root);
@@ -51,5 +57,5 @@ returns-clause-found c =
             one_validity = one;
             admits = made.2.meaning;
           };
-      admits = λ schema_alone V I g h x is. sym ((shaped.same_schema schema_alone).validity one.some.0 V one.some.1 g x) ∙ made.2.meaning one.some.0 I one.some.1 h x is;
+      admits = λ V I g h x is. sym (shaped.same_schema.validity one.some.0 V one.some.1 g x) ∙ made.2.meaning one.some.0 I one.some.1 h x is;
     }) c.shaped_text.ensures.shaped
