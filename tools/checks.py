@@ -41,7 +41,15 @@ OF_FILES = [
     ["tools/promises.py"],
 ]
 # What is asked of a program, the longest first.
-OF_PROGRAMS = ["tools/cases.sh", "tools/commands.sh", "tools/examples.sh", "tools/natural.py", "tools/pages.sh", "tools/explained.py"]
+OF_PROGRAMS = [
+    "tools/cases.sh",
+    "tools/commands.sh",
+    "tools/examples.sh",
+    "tools/prefixes.py",
+    "tools/natural.py",
+    "tools/pages.sh",
+    "tools/explained.py",
+]
 
 
 def lanes() -> int:

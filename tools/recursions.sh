@@ -13,6 +13,7 @@ cd "$(dirname "$0")/.."
 limited='crates/cs_doc/proofs/listing/Listing/+read
 crates/cs_instance/proofs/near/literals/Search/+leading
 crates/cs_instance/proofs/near/names/+are_near
+crates/cs_report/proofs/wording/+are_near
 crates/cs_syntax/proofs/parser/height/+height
 crates/cs_syntax/proofs/parser/place/Parser/+parse'
 

@@ -2,7 +2,7 @@
 use crate::expression::Located;
 use crate::walk::{Walk, put_label};
 use crate::wants::{
-    mismatch_word, none_taken_word, put_found, put_mismatch, put_none_taken, wants_number,
+    admitted_kind, mismatch_word, none_taken_word, put_found, put_mismatch, put_none_taken,
 };
 use cs_flat::{Flat, Item};
 use cs_instance::{InstanceCause, RootRules};
@@ -26,18 +26,8 @@ pub(crate) struct Finding<'t> {
     pub(crate) key: bool,
     /// The key that is missing, or the one that may have been meant.
     pub(crate) label: Option<&'t str>,
-    /// What is told once for a value and an alternative.
-    pub(crate) once: Once<'t>,
-}
-
-/// What is told once for a value and an alternative.
-#[derive(Clone, Copy)]
-pub(crate) enum Once<'t> {
-    Not,
-    /// That it is no number.
-    Number,
-    /// That a key is missing.
-    Missing(&'t str),
+    /// Of which kind the value isn't, where that is all that is wrong with it; empty otherwise.
+    pub(crate) kind: &'static str,
 }
 
 /// The value of a number.
@@ -54,6 +44,15 @@ pub(crate) fn key_at<'t>(flat: &'t Flat<'t>, item: usize, member: usize) -> Opti
     match item_at(flat, item) {
         Item::Object(entries) => Some(entries.get(member)?.0),
         Item::Null | Item::Bool(_) | Item::Int(_) | Item::Text(_) | Item::List(_) => None,
+    }
+}
+
+/// Of which kind a value is: a number, a text, or something else, which has no name here.
+fn kind_of(item: Item<'_>) -> &'static str {
+    match item {
+        Item::Int(_) => "number",
+        Item::Text(_) => "text",
+        Item::Null | Item::Bool(_) | Item::List(_) | Item::Object(_) => "",
     }
 }
 
@@ -80,8 +79,13 @@ fn suggestion_of<'t>(
         }
         *comparisons -= 1;
         let label = part.label.as_str();
-        if !matches!(part.mark, FieldMark::Every { .. }) && !has_key(item, label) {
-            suggestion = Suggestion::or_better(suggestion, alloc, key, label)?;
+        if matches!(part.mark, FieldMark::Every { .. }) {
+            continue;
+        }
+        if let Some(nearer) = Suggestion::nearer(suggestion, alloc, key, label)?
+            && !has_key(item, label)
+        {
+            suggestion = Some(nearer);
         }
     }
     Ok(suggestion)
@@ -148,7 +152,7 @@ impl<'t> Findings<'t> {
             step: None,
             key: false,
             label: None,
-            once: Once::Not,
+            kind: "",
         }
     }
 
@@ -162,8 +166,9 @@ impl<'t> Findings<'t> {
         };
         put_mismatch(&mut text, item, shape)?;
         let mut finding = self.here(mismatch_word(item, shape), text);
-        if wants_number(shape) && !matches!(item, Item::Int(_)) {
-            finding.once = Once::Number;
+        let kind = admitted_kind(shape);
+        if kind != kind_of(item) {
+            finding.kind = kind;
         }
         Ok(finding)
     }
@@ -176,7 +181,7 @@ impl<'t> Findings<'t> {
         rule: &mut String,
     ) -> Result<Finding<'t>, AllocError> {
         let mut text = String::from_str(self.alloc, "a key is missing")?;
-        let mut once = Once::Not;
+        let mut missing = None;
         if let Some(Shape::Struct { parts, .. }) = shape {
             if let Some(part) = parts.get(declaration) {
                 let label = part.label.as_str();
@@ -185,14 +190,11 @@ impl<'t> Findings<'t> {
                 put_quoted(&mut text, label)?;
                 text.push_str(" is missing")?;
                 put_label(rule, part)?;
-                once = Once::Missing(label);
+                missing = Some(label);
             }
         }
         let mut finding = self.here("missing", text);
-        if let Once::Missing(label) = once {
-            finding.label = Some(label);
-        }
-        finding.once = once;
+        finding.label = missing;
         Ok(finding)
     }
 

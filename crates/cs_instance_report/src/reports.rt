@@ -1,23 +1,18 @@
 // Reports of reasons.
-ghost use Rattle.std.specs.Prelude.{◌≡◌, ◌⊎◌, ◌++◌, true, false, OnOk, OnErr, is_none, string_bytes};
-ghost use Rattle.cs_report.specs.Valid.{flag_text, valid_text};
+ghost use Rattle.std.specs.Prelude.{◌≡◌, ◌⊎◌, ◌++◌, OnOk, OnErr, is_none, string_bytes};
+ghost use Rattle.cs_report.specs.Valid.{flag_text, Reports};
 
 use crate::sources::sources_of;
-use crate::telling::entries_of;
+use crate::telling::words_of;
 use cs_flat::Flat;
 use cs_instance::{InstanceCause, RootRules};
 use cs_place::Named;
 use cs_reasons::{Reasons, Telling};
-use cs_report::{Form, flag_words, put_lines, put_object, valid_words};
+use cs_report::{Form, put_lines, put_members, report_verdict};
 use std::alloc::{AllocError, Global};
 
-/// How many reasons are left out.
-fn left_out<C: Drop>(reasons: &Reasons<C>) -> usize {
-    reasons.count.saturating_sub(reasons.told.len())
-}
-
-/// Puts what is told of a document that is none.
-fn put_invalid(
+/// Puts what is told of the reasons, if there are any: in the output formats of JSON Schema nothing.
+fn put_reasons(
     alloc: Global,
     form: Form,
     telling: Telling,
@@ -25,23 +20,26 @@ fn put_invalid(
     sources: &[Named<'_>],
     document: Named<'_>,
     flat: &Flat<'_>,
-    reasons: &Reasons<InstanceCause>,
+    reasons: Option<&Reasons<InstanceCause>>,
     text: &mut String,
 ) -> Result<(), AllocError>
     ensures { (form ≡ Form.Flag) ⊎ (form ≡ Form.Basic)
-        → OnOk result (string_bytes text.new ≡ string_bytes text.old ++ flag_text false) }
+        → OnOk result (string_bytes text.new ≡ string_bytes text.old) }
 {
+    let Some(reasons) = reasons else {
+        return Ok(());
+    };
     match form {
-        Form::Flag | Form::Basic => text.push_str(flag_words(false)),
+        Form::Flag | Form::Basic => Ok(()),
         Form::Lines => {
             let cut = sources_of(alloc, sources)?;
-            let entries = entries_of(alloc, rules, &cut, telling.all, document, flat, reasons)?;
-            put_lines(text, document, &entries, left_out(reasons))
+            let told = words_of(alloc, rules, &cut, telling, document, flat, reasons)?;
+            put_lines(text, document, &told.entries, told.more)
         }
         Form::Json => {
             let cut = sources_of(alloc, sources)?;
-            let entries = entries_of(alloc, rules, &cut, telling.all, document, flat, reasons)?;
-            put_object(text, &entries, left_out(reasons))
+            let told = words_of(alloc, rules, &cut, telling, document, flat, reasons)?;
+            put_members(text, &told.entries, told.more)
         }
     }
 }
@@ -61,16 +59,13 @@ pub fn report_instance(
 ) -> Result<(), AllocError>
     ensures flag { (form ≡ Form.Flag) ⊎ (form ≡ Form.Basic)
         → OnOk result (output.new.items ≡ output.old.items ++ flag_text (is_none reasons.entry)) }
-    ensures valid { is_none reasons.entry ≡ true
-        → OnOk result (output.new.items ≡ output.old.items ++ valid_text form) }
+    ensures says { OnOk result
+        (Reports form (is_none reasons.entry) output.old.items output.new.items) }
     ensures kept { OnErr result (output.new.items ≡ output.old.items) }
 {
     let mut text = String::new(alloc);
-    match reasons {
-        None => text.push_str(valid_words(form))?,
-        Some(found) => put_invalid(
-            alloc, form, telling, rules, sources, document, flat, found, &mut text,
-        )?,
-    }
-    output.extend_from_slice(text.as_bytes())
+    put_reasons(
+        alloc, form, telling, rules, sources, document, flat, reasons, &mut text,
+    )?;
+    report_verdict(alloc, form, reasons.is_none(), text.as_str(), output)
 }

@@ -3,8 +3,8 @@ use crate::expression::{Cut, Located};
 use crate::outline::{Outline, is_mark};
 use cs_grammar::{Sort, SyntaxFault, Token};
 use cs_lexer::lex;
-use cs_place::{Named, position_of};
-use cs_report::SourcePlace;
+use cs_place::{Named, Positions};
+use cs_report::{Entry, SourcePlace};
 use std::alloc::{AllocError, Global};
 use std::str;
 
@@ -13,8 +13,6 @@ use std::str;
 struct Source<'a> {
     named: Named<'a>,
     cut: Cut<'a>,
-    /// The offsets at which lines begin.
-    lines: Vec<usize>,
 }
 
 /// Where a body of a definition is declared.
@@ -47,26 +45,12 @@ fn tokens_of<'a>(alloc: Global, text: &'a [u8]) -> Result<Vec<Token<'a>>, AllocE
     }
 }
 
-/// The offsets at which lines begin.
-fn lines_of(alloc: Global, text: &[u8]) -> Result<Vec<usize>, AllocError> {
-    let mut lines = Vec::new(alloc);
-    lines.push(0)?;
-    for (at, byte) in text.iter().enumerate() {
-        if *byte == b'\n' {
-            lines.push(at.saturating_add(1))?;
-        }
-    }
-    Ok(lines)
-}
-
 fn source_of<'a>(alloc: Global, named: Named<'a>) -> Result<Source<'a>, AllocError> {
     let tokens = tokens_of(alloc, named.text)?;
     let outline = Outline::new(alloc, &tokens)?;
-    let lines = lines_of(alloc, named.text)?;
     Ok(Source {
         named,
         cut: Cut { tokens, outline },
-        lines,
     })
 }
 
@@ -133,19 +117,63 @@ impl<'a> Sources<'a> {
         declaration.declared()
     }
 
-    /// The place of an offset of a file.
+    /// The place of an offset of a file, whose line and column aren't looked for yet.
     pub(crate) fn place(&self, file: usize, offset: usize) -> Option<SourcePlace<'a>> {
         let source = self.files.get(file)?;
-        let line = source.lines.partition_point(|first| *first <= offset);
-        let first = *source.lines.get(line.checked_sub(1)?)?;
-        let text = source.named.text.get(first..)?;
-        let column = position_of(text, offset.checked_sub(first)?).column;
         Some(SourcePlace {
             file: source.named.name,
             number: file,
             offset,
-            line,
-            column,
+            line: 1,
+            column: 1,
         })
+    }
+
+    /// Gives the rules of entries their lines and columns, where they were found: each file is read once, up to the last of them.
+    pub(crate) fn place_rules(
+        &self,
+        alloc: Global,
+        entries: &mut Vec<Entry<'_>>,
+    ) -> Result<(), AllocError> {
+        let mut files = Vec::with_capacity(alloc, self.files.len())?;
+        for source in &self.files {
+            files.push(Positions::new(source.named.text))?;
+        }
+        for place in rules_in_order(alloc, entries)? {
+            place_rule(&mut files, place, entries);
+        }
+        Ok(())
+    }
+}
+
+/// The file and the offset of the rule of each entry where it was found, and the entry's own place, file by file.
+fn rules_in_order(
+    alloc: Global,
+    entries: &Vec<Entry<'_>>,
+) -> Result<Vec<(usize, usize, usize)>, AllocError> {
+    let mut order = Vec::with_capacity(alloc, entries.len())?;
+    for (place, entry) in entries.iter().enumerate() {
+        if let Some(rule) = &entry.source {
+            order.push((rule.number, rule.offset, place))?;
+        }
+    }
+    order.sort()?;
+    Ok(order)
+}
+
+/// Gives the rule of the entry at a place its line and column: the file and the offset come before that place.
+fn place_rule(
+    files: &mut Vec<Positions<'_>>,
+    place: (usize, usize, usize),
+    entries: &mut Vec<Entry<'_>>,
+) {
+    let (file, offset, entry) = place;
+    if let Some(positions) = files.get_mut(file)
+        && let Some(found) = entries.get_mut(entry)
+        && let Some(rule) = &mut found.source
+    {
+        let position = positions.at(offset);
+        rule.line = position.line;
+        rule.column = position.column;
     }
 }

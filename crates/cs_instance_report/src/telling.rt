@@ -1,5 +1,5 @@
 // From the reasons of a refused document to their entries.
-use crate::finding::{Finding, Findings, Once, missing_of, source_offset};
+use crate::finding::{Finding, Findings, missing_of, source_offset};
 use crate::sources::Sources;
 use crate::targets::{Targets, step_of};
 use crate::walk::{Followed, Walk, definition_name};
@@ -7,57 +7,17 @@ use cs_flat::Flat;
 use cs_instance::{InstanceCause, RootRules};
 use cs_package::Package;
 use cs_place::{Named, Step};
-use cs_reasons::{Link, Reason, Reasons};
+use cs_reasons::{Link, Reason, Reasons, Telling};
 use cs_report::{
-    Entry, SourcePlace, place_entries, put_alternative, put_steps, sort_entries, without_misspelt,
+    Branch, Effort, Entry, SourcePlace, Told, place_entries, put_alternative, put_steps, told_of,
 };
 use std::alloc::{AllocError, Global};
-use std::collections::{HashMap, HashSet};
-
-/// The disjunction that was followed last, by its place among the links from 1 on, and the place of the alternative; both are 0
-/// where none was.
-type Branch = (usize, usize);
+use std::collections::HashMap;
 
 fn branch_of(followed: Option<Followed>) -> Branch {
     match followed {
         None => (0, 0),
         Some(followed) => (followed.link.saturating_add(1), followed.place),
-    }
-}
-
-/// What is told of a value already: by the alternatives, that it is no number, and which keys it lacks.
-#[derive(Drop)]
-struct Told<'t> {
-    item: usize,
-    numbers: HashSet<Branch>,
-    missing: HashSet<(Branch, &'t str)>,
-}
-
-impl<'t> Told<'t> {
-    fn new(alloc: Global, item: usize) -> Told<'t> {
-        Told {
-            item,
-            numbers: HashSet::new(alloc),
-            missing: HashSet::new(alloc),
-        }
-    }
-
-    /// Whether it is new that a value is wrong so, below an alternative. Reasons come value by value.
-    fn is_new(
-        &mut self,
-        alloc: Global,
-        item: usize,
-        branch: Branch,
-        once: Once<'t>,
-    ) -> Result<bool, AllocError> {
-        if self.item != item {
-            *self = Told::new(alloc, item);
-        }
-        match once {
-            Once::Not => Ok(true),
-            Once::Number => Ok(self.numbers.insert(branch)?),
-            Once::Missing(key) => Ok(self.missing.insert((branch, key))?),
-        }
     }
 }
 
@@ -100,7 +60,7 @@ struct Teller<'t, 'a> {
     /// Whether alternatives are told apart by how far they are to the right.
     indented: bool,
     targets: Targets<'t>,
-    told: Told<'t>,
+    effort: Effort,
 }
 
 impl<'t, 'a> Teller<'t, 'a> {
@@ -160,6 +120,7 @@ impl<'t, 'a> Teller<'t, 'a> {
         let mut pointer = String::new(self.alloc);
         put_steps(&mut pointer, steps)?;
         let mut alternative = String::new(self.alloc);
+        let branch = branch_of(walk.followed);
         if let Some(followed) = walk.followed {
             let as_close = followed.as_close;
             put_alternative(&mut alternative, followed.place, followed.count, as_close)?;
@@ -177,11 +138,14 @@ impl<'t, 'a> Teller<'t, 'a> {
             rule: walk.rule,
             source,
             alternative,
+            branch,
+            kind: finding.kind,
+            number: self.effort.seen,
             depth,
         })
     }
 
-    /// The entry of a reason, unless it says what is told already.
+    /// The entry of a reason.
     fn tell(&mut self, reason: &Reason<InstanceCause>) -> Result<Option<Entry<'t>>, AllocError> {
         let Some(link) = self.links.get(reason.link) else {
             return Ok(None);
@@ -197,13 +161,6 @@ impl<'t, 'a> Teller<'t, 'a> {
         let finding = self
             .findings
             .finding(&reason.cause, link.item, link.rule, &mut walk)?;
-        let branch = branch_of(walk.followed);
-        if !self
-            .told
-            .is_new(self.alloc, link.item, branch, finding.once)?
-        {
-            return Ok(None);
-        }
         if let Some(step) = finding.step {
             steps.push(step)?;
         }
@@ -213,21 +170,24 @@ impl<'t, 'a> Teller<'t, 'a> {
             Some(place) => place,
             None => self.find_place(&walk, key)?,
         };
+        let taken = walk.steps;
         let entry = self.entry(walk, source, &steps, finding)?;
+        self.effort.count(taken, Some(&entry));
         Ok(Some(entry))
     }
 }
 
-/// The entries of the reasons that are told, in their order: by place in the document, then by place of the rule.
-pub(crate) fn entries_of<'t>(
+/// What is told of reasons in words: each that is asked for, and further ones while that takes little, so that what several of them
+/// say is told once, and counted once.
+pub(crate) fn words_of<'t>(
     alloc: Global,
     rules: &'t RootRules<'t>,
     sources: &'t Sources<'t>,
-    indented: bool,
+    telling: Telling,
     document: Named<'_>,
     flat: &'t Flat<'t>,
     reasons: &'t Reasons<InstanceCause>,
-) -> Result<Vec<Entry<'t>>, AllocError> {
+) -> Result<Told<'t>, AllocError> {
     let (guarded, root) = rules.root();
     let targets = Targets::new(alloc, flat, &reasons.links)?;
     let mut teller = Teller {
@@ -239,19 +199,22 @@ pub(crate) fn entries_of<'t>(
         sources,
         places: HashMap::new(alloc),
         links: &reasons.links,
-        indented,
+        indented: telling.all,
         targets,
-        told: Told::new(alloc, 0),
+        effort: Effort::new(telling.most),
     };
     let mut entries = Vec::new(alloc);
     for reason in &reasons.told {
-        if let Some(entry) = teller.tell(reason)? {
+        if teller.effort.lasts()
+            && let Some(entry) = teller.tell(reason)?
+        {
             entries.push(entry)?;
         }
     }
     teller.targets.find(alloc, document, &mut entries)?;
-    let mut entries = without_misspelt(alloc, entries)?;
-    sort_entries(&mut entries)?;
-    place_entries(document, &mut entries);
-    Ok(entries)
+    let further = reasons.count.saturating_sub(teller.effort.seen);
+    let mut told = told_of(alloc, entries, telling.most, further)?;
+    place_entries(document, &mut told.entries);
+    sources.place_rules(alloc, &mut told.entries)?;
+    Ok(told)
 }

@@ -46,6 +46,8 @@ pub(crate) struct Walk<'t, 'a> {
     pub(crate) followed: Option<Followed>,
     /// How many alternatives are on the way.
     pub(crate) depth: usize,
+    /// How many steps the way has.
+    pub(crate) steps: usize,
 }
 
 /// The name of a definition, if the package has it.
@@ -123,6 +125,7 @@ impl<'t, 'a> Walk<'t, 'a> {
             rule,
             followed: None,
             depth: 0,
+            steps: 0,
         })
     }
 
@@ -231,6 +234,7 @@ impl<'t, 'a> Walk<'t, 'a> {
         link: usize,
         as_close: usize,
     ) -> Result<(), AllocError> {
+        self.steps = self.steps.saturating_add(1);
         match cause {
             InstanceCause::Part { place, .. } => self.step_part(*place),
             InstanceCause::Alternative { place, .. } => {

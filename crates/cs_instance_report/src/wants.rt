@@ -180,14 +180,16 @@ pub(crate) fn put_none_taken(
     put_alternatives(text, wanted)
 }
 
-/// Whether an expression without parts admits integers alone.
-pub(crate) fn wants_number(shape: &Shape) -> bool {
+/// Of which kind all values are that an expression without parts admits, where it is no literal: numbers or texts. Empty where that
+/// isn't so.
+pub(crate) fn admitted_kind(shape: &Shape) -> &'static str {
     match shape {
         Shape::Kind(Kind::Int | Kind::Number)
         | Shape::Range { .. }
         | Shape::Bound { .. }
-        | Shape::NotInt(_) => true,
-        Shape::Kind(Kind::Text | Kind::Bool)
+        | Shape::NotInt(_) => "number",
+        Shape::Kind(Kind::Text) | Shape::NotText(_) => "text",
+        Shape::Kind(Kind::Bool)
         | Shape::Top
         | Shape::Bottom
         | Shape::Null
@@ -195,12 +197,11 @@ pub(crate) fn wants_number(shape: &Shape) -> bool {
         | Shape::Int(_)
         | Shape::Text(_)
         | Shape::Definition(_)
-        | Shape::NotText(_)
         | Shape::NotNull
         | Shape::And(_)
         | Shape::Or(_)
         | Shape::Struct { .. }
-        | Shape::List { .. } => false,
+        | Shape::List { .. } => "",
     }
 }
 

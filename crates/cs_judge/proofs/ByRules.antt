@@ -56,6 +56,12 @@ module _ (text : List ℕ) (result : Result Bool Fault) where
   by_both (rules.Root sources root) r s is found refused only = absurd is
   by_both (rules.Schema schema) r s is found refused only = absurd is
 
+-- numbered sides are those of some sources
+pub sides_of : (R : Rules) (r : Environment × List ℕ) (s : Document) → AreNumbersOf R (numbered.Both r s) → (ss : List (List ℕ)) × (root : List ℕ) × AreSidesOf ss root r.0 r.1 s
+sides_of (rules.Both sources root) r s is = (_, _, is)
+sides_of (rules.Root sources root) r s is = absurd is
+sides_of (rules.Schema schema) r s is = absurd is
+
 -- what was read of a root is declared by some sources, and so is that of both sides
 pub root_read : (R : Rules) (E : Environment) (r : Bor (List ℕ)) → IsReadOf R (read.Root E r) → (ss : List (List ℕ)) × (n : List ℕ) × DeclaresRoot ss r.now E n
 root_read (rules.Root sources root) E r is = let same : r.now ≡ string_bytes root = is.0 in rw same (_, is.1.0, is.1.1)

@@ -1,18 +1,33 @@
 -- What a run with reasons answers, writes and leaves.
-use Rattle.std.proofs.Common.{◌≡◌, ℕ, List, [], ◌++◌, Bool, true, false, Option, Ok, Err, IfOk, IfErr, sym, ap, subst, ◌∙◌, append_assoc, codes}
+use Rattle.std.proofs.Common.{◌≡◌, ◌⊎◌, ℕ, ◌+◌, ◌-◌, ◌^◌, min, List, [], ◌∷◌, ◌++◌, length, Bool, true, false, not, Option, Result, Ok, Err, IfOk, IfErr, refl, inl, inr, sym, ap, subst, ◌∙◌, arith, append_assoc, length-append, codes}
 use Rattle.std.specs.Io.KnownBytes.{Appends}
 use Rattle.std.proofs.KnownBytes.{Appends-trans}
+use Rattle.cs_report.specs.Valid.{report_text, Says, Reports}
 use Rattle.cs_report.specs.declared.form.Form.{Form}
-use Rattle.cs_report.specs.declared.form.Form.TheVariants.{Lines}
+use Rattle.cs_report.specs.declared.form.Form.TheVariants.{Lines, Json, Flag, Basic}
 use Rattle.cs_tool.specs.declared.rules.Rules.{Rules}
-use Rattle.cs_judge.specs.Explained.{IsTold, Tells, IsLabelled, WritesLabelled}
+use Rattle.cs_judge.specs.Answering.{AreAnswered}
+use Rattle.cs_judge.specs.declared.lines.LineRun.{LineRun}
+use Rattle.cs_judge.specs.Explained.{IsTold, Tells, is_told_by_schema, ReportsIf, IsLabelled, members_text, IsObject, input_member, IsDocumentFront, WritesObject, WritesLabelled, line_number, AreObjects, no_object, one_object, AreTold, IsWritten, AreToldTo}
 use Rattle.cs_judge.specs.Judged.{call_on}
 use Rattle.cs_judge.specs.Lines.{Answer, IsTextAnswer, answer_line}
 use Rattle.cs_tool.specs.Runs.{IsCallAnswer, IsCallRefusal, verdict_text}
+use Rattle.cs_judge.proofs.LineRuns.{line_told, weaker}
 
 -- nothing was told before
 pub told_first : (form : Form) (truth : Bool) (told : List ℕ) → Tells form truth [] told → IsTold form truth told
 told_first form truth told h = subst (IsTold form truth) (sym h.1) h.2
+
+-- nothing was reported before
+pub first_report : (form : Form) (truth : Bool) (old new told : List ℕ) → old ≡ [] → told ≡ new → Reports form truth old new → Says form truth told
+first_report form truth old new told none same h = (h.2.0, same ∙ h.1 ∙ ap (λ o. o ++ h.0) none ∙ h.2.1)
+
+-- where both sides say the same, the report says it, whichever side makes it
+pub one_side : (form : Form) (a b : Bool) (old mid new : List ℕ) → a ≡ b → ReportsIf (not (is_told_by_schema form)) form a old mid → ReportsIf (is_told_by_schema form) form b mid new → Reports form a old new
+one_side Lines a b old mid new same root schema = subst (Reports Lines a old) (sym schema) root
+one_side Json a b old mid new same root schema = subst (Reports Json a old) (sym schema) root
+one_side Flag a b old mid new same root schema = subst (λ t. Reports Flag t old new) (sym same) (subst (λ m. Reports Flag b m new) root schema)
+one_side Basic a b old mid new same root schema = subst (λ t. Reports Basic t old new) (sym same) (subst (λ m. Reports Basic b m new) root schema)
 
 -- what is told of a verdict follows the label
 pub labelled_told : (label : List ℕ) (truth : Bool) (told : List ℕ) → IsTold Lines truth told → IsLabelled label (Ok truth) (label ++ codes ": " ++ told)
@@ -27,6 +42,58 @@ three_parts a b c d first second third f s t = Appends-trans a c d (first ++ sec
 pub writes_told : (label told : List ℕ) (answer : Answer) (truth : Bool) (old new : Option (List ℕ)) → answer ≡ Ok truth → IfOk answer (λ b. IsTold Lines b told) → Appends old new (label ++ codes ": " ++ told) → WritesLabelled Lines label answer old new
 writes_told label told (Ok valid) truth old new is h w = (label ++ codes ": " ++ told, labelled_told label valid told h, w)
 writes_told label told (Err e) truth old new is h w = absurd (cc is)
+
+-- the object of a document is written
+pub writes_object : (form : Form) (label told : List ℕ) (answer : Answer) (old new : Option (List ℕ)) → IfOk answer (λ b. IsTold form b told) → (front : List ℕ) × IsDocumentFront label front × Appends old new (front ++ members_text answer told) → WritesObject form label answer old new
+writes_object form label told answer old new h w = (w.0, w.0 ++ members_text answer told, w.1, (told, h, refl), w.2)
+
+pub object_labelled : (form : Form) (label : List ℕ) (answer : Answer) (old new : Option (List ℕ)) → (form ≡ Json) ⊎ ((form ≡ Flag) ⊎ (form ≡ Basic)) → WritesObject form label answer old new → WritesLabelled form label answer old new
+object_labelled Lines label answer old new (inl is) h = absurd (cc is)
+object_labelled Lines label answer old new (inr (inl is)) h = absurd (cc is)
+object_labelled Lines label answer old new (inr (inr is)) h = absurd (cc is)
+object_labelled Json label answer old new is h = h
+object_labelled Flag label answer old new is h = h
+object_labelled Basic label answer old new is h = h
+
+-- ---- the objects of lines
+
+-- no line is answered
+pub told_none : (form : Form) → AreTold form [] []
+told_none Lines = refl
+told_none Json = no_object
+told_none Flag = no_object
+told_none Basic = no_object
+
+-- one more is
+told_more : (form : Form) (answers : List Answer) (text : List ℕ) (answer : Answer) (more : List ℕ) → AreTold form answers text → IsWritten form (line_number answers) answer more → AreTold form (answers ++ answer ∷ []) (text ++ more)
+told_more Lines answers text answer more h w = ap (λ m. text ++ m) w ∙ line_told answer answers text h
+told_more Json answers text answer more h w = one_object answer more h w
+told_more Flag answers text answer more h w = one_object answer more h w
+told_more Basic answers text answer more h w = one_object answer more h w
+
+next : (n m most : ℕ) → m ≡ min (n + 1) most → min (m + 1) most ≡ min (n + 1 + 1) most
+next n m most is = omega arith
+
+next_number : (answers : List Answer) (answer : Answer) (number : ℕ) → number ≡ line_number answers → min (number + 1) (2 ^ 64 - 1) ≡ line_number (answers ++ answer ∷ [])
+next_number answers answer number is = next (length answers) number (2 ^ 64 - 1) is ∙ ap (λ n. min (n + 1) (2 ^ 64 - 1)) (sym (length-append answers (answer ∷ [])))
+
+module _ (form : Form) (number : ℕ) (answer : Answer) (more : List ℕ) (w : IsWritten form number answer more) (answers : List Answer) (text : List ℕ) (h : AreToldTo form number answers text) where
+  pub written : AreTold form (answers ++ answer ∷ []) (text ++ more)
+  written = told_more form answers text answer more h.0 (subst (λ n. IsWritten form n answer more) h.1 w)
+
+  pub written_to : AreToldTo form (min (number + 1) (2 ^ 64 - 1)) (answers ++ answer ∷ []) (text ++ more)
+  written_to = (written, next_number answers answer number h.1)
+
+-- whatever the number of the next line is
+pub at_any_line : (form : Form) (number : ℕ) (rules : Rules) (start now : Option (List ℕ)) (lines : List (List ℕ)) (run : LineRun) → AreAnswered (AreToldTo form number) rules start now lines run → AreAnswered (AreTold form) rules start now lines run
+at_any_line form number rules start now lines run = weaker rules start now lines run (λ answers text told. told.0)
+
+-- something is written of each answer
+pub some_written : (form : Form) (number : ℕ) (answer : Answer) (told : List ℕ) → IfOk answer (λ b. IsTold form b told) → (more : List ℕ) × IsWritten form number answer more
+some_written Lines number answer told h = (answer_line answer, refl)
+some_written Json number answer told h = (input_member number ++ members_text answer told, (told, h, refl))
+some_written Flag number answer told h = (input_member number ++ members_text answer told, (told, h, refl))
+some_written Basic number answer told h = (input_member number ++ members_text answer told, (told, h, refl))
 
 -- ---- the answer to a text
 

@@ -48,6 +48,10 @@ hands_more a b c text held more kept first second =
     let regrouped = ap (λ t. t ++ more) first.2 ∙ append_assoc first.0 held more ∙ ap (λ t. first.0 ++ t) second.2 ∙ sym (append_assoc first.0 second.0 kept) in
     (first.0 ++ second.0, Appends-trans a b c first.0 second.0 first.1 second.1, regrouped)
 
+-- more is held
+pub hands_both : (a b : Option (List ℕ)) (text held more : List ℕ) → Hands a b text held → Hands a b (text ++ more) (held ++ more)
+hands_both a b text held more h = (h.0, h.1, ap (λ t. t ++ more) h.2 ∙ append_assoc h.0 held more)
+
 -- ---- lines of bytes
 
 pub no_bytes : Splits [] [] []

@@ -4,35 +4,39 @@ use Rattle.std.specs.List.{All, flat_map}
 use Rattle.cs_judge.specs.declared.lines.LineRun.{LineRun}
 use Rattle.cs_tool.specs.declared.rules.Rules.{Rules}
 use Rattle.cs_judge.specs.Begun.{HoldsFront}
-use Rattle.cs_judge.specs.Lines.{Answer, IsLine, Splits, AreAnswers, answers_text, outcome_of, Hands}
+use Rattle.cs_judge.specs.Lines.{Answer, IsLine, Splits, AreAnswers, outcome_of, Hands}
 use Rattle.cs_tool.specs.Runs.{line_of}
 use Rattle.cs_tool.specs.Streams.{AppendsFront}
 
 -- the lines are answered, and what is written of the answers was taken by the writer or is held
-pub record AreAnswered (rules : Rules) (start now : Option (List ℕ)) (lines : List (List ℕ)) (run : LineRun) : Type 0 where
+pub record AreAnswered (IsTextOf : List Answer → List ℕ → Type 0) (rules : Rules) (start now : Option (List ℕ)) (lines : List (List ℕ)) (run : LineRun) : Type 0 where
   pub answers : List Answer
   pub answered : AreAnswers rules lines answers
-  pub handed : Hands start now (answers_text answers) run.held
+  pub text : List ℕ
+  pub told : IsTextOf answers text
+  pub handed : Hands start now text run.held
   pub outcome_is : run.outcome ≡ outcome_of answers
 
 -- the lines that end among the bytes are answered, and the line after them is begun
-pub record IsAnswered (rules : Rules) (start now : Option (List ℕ)) (bytes : List ℕ) (run : LineRun) : Type 0 where
+pub record IsAnswered (IsTextOf : List Answer → List ℕ → Type 0) (rules : Rules) (start now : Option (List ℕ)) (bytes : List ℕ) (run : LineRun) : Type 0 where
   pub lines : List (List ℕ)
   pub rest : List ℕ
   pub split : Splits bytes lines rest
   pub begun : HoldsFront run.begun rest
-  pub answered : AreAnswered rules start now lines run
+  pub answered : AreAnswered IsTextOf rules start now lines run
 
 -- the writer took a front of what is written of the lines
-pub record AreCutOff (rules : Rules) (lines : List (List ℕ)) (start now : Option (List ℕ)) : Type 0 where
+pub record AreCutOff (IsTextOf : List Answer → List ℕ → Type 0) (rules : Rules) (lines : List (List ℕ)) (start now : Option (List ℕ)) : Type 0 where
   pub answers : List Answer
   pub answered : AreAnswers rules lines answers
-  pub written : AppendsFront start now (answers_text answers)
+  pub text : List ℕ
+  pub told : IsTextOf answers text
+  pub written : AppendsFront start now text
 
 -- the bytes begin with these lines and their newlines
 abbrev pub BeginsWith : List ℕ → List (List ℕ) → Type 0
 BeginsWith bytes lines = (more : List ℕ) × (bytes ≡ flat_map line_of lines ++ more) × All IsLine lines
 
 -- the writer took a front of what is written of the first lines
-abbrev pub IsCutOffIn : Rules → List ℕ → Option (List ℕ) → Option (List ℕ) → Type 0
-IsCutOffIn rules bytes start now = (lines : List (List ℕ)) × BeginsWith bytes lines × AreCutOff rules lines start now
+abbrev pub IsCutOffIn : (List Answer → List ℕ → Type 0) → Rules → List ℕ → Option (List ℕ) → Option (List ℕ) → Type 0
+IsCutOffIn IsTextOf rules bytes start now = (lines : List (List ℕ)) × BeginsWith bytes lines × AreCutOff IsTextOf rules lines start now

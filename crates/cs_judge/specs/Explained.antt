@@ -1,31 +1,37 @@
 -- What is told of a document beside its verdict.
-use Rattle.std.specs.Prelude.{◌≡◌, ℕ, List, ◌++◌, Bool, true, false, Option, Ok, codes, decimal}
+use Rattle.std.specs.Prelude.{◌≡◌, ◌⊎◌, ℕ, ◌+◌, ◌-◌, ◌^◌, min, List, [], ◌∷◌, ◌++◌, length, drop, Bool, true, false, Option, Ok, Err, IfOk, codes, decimal}
 use Rattle.std.specs.Io.KnownBytes.{Appends, Keeps}
+use Rattle.json.specs.Print.{quoted}
+use Rattle.cs_report.specs.Valid.{Says, Reports}
 use Rattle.cs_report.specs.declared.form.Form.{Form}
 use Rattle.cs_report.specs.declared.form.Form.TheVariants.{Lines, Json, Flag, Basic}
 use Rattle.cs_judge.specs.Judged.{call_on}
-use Rattle.cs_judge.specs.Lines.{Answer, labelled}
+use Rattle.cs_judge.specs.Lines.{Answer, AreAnswerLines, answer_line, labelled, Hands}
+use Rattle.cs_tool.specs.Objects.{error_member}
 use Rattle.cs_tool.specs.Runs.{IsCallAnswer, IsCallRefusal, verdict_text, line_of}
 use Rattle.cs_tool.specs.Streams.{AppendsFront}
 use Rattle.cs_tool.specs.declared.fault.Fault.{Fault}
 use Rattle.cs_tool.specs.declared.fault.Fault.TheVariants.{WriteFailed}
 use Rattle.cs_tool.specs.declared.rules.Rules.{Rules}
 
--- in lines the verdict's line comes first, and no other one follows `valid`
+-- in lines the verdict's line comes first, and no other one follows `valid`; in the other forms an object says it
 abbrev pub IsTold : Form → Bool → List ℕ → Type 0
 IsTold Lines true text = text ≡ line_of (verdict_text true)
 IsTold Lines false text = (reasons : List ℕ) × (text ≡ line_of (verdict_text false) ++ reasons)
-IsTold Json truth text = Unit {0}
-IsTold Flag truth text = Unit {0}
-IsTold Basic truth text = Unit {0}
+IsTold Json truth text = Says Json truth text
+IsTold Flag truth text = Says Flag truth text
+IsTold Basic truth text = Says Basic truth text
 
 -- what is told of the verdict was added
 abbrev pub Tells : Form → Bool → List ℕ → List ℕ → Type 0
 Tells form truth old new = (text : List ℕ) × (new ≡ old ++ text) × IsTold form truth text
 
--- what an object that tells of a line begins with
-abbrev pub input_member : ℕ → List ℕ
-input_member number = codes "{\"input\":" ++ decimal number ++ codes ","
+-- where a document is judged on both sides, the schema tells the reasons in the output formats of JSON Schema
+abbrev pub is_told_by_schema : Form → Bool
+is_told_by_schema Lines = false
+is_told_by_schema Json = false
+is_told_by_schema Flag = true
+is_told_by_schema Basic = true
 
 -- ---- what is written of a document
 
@@ -44,9 +50,80 @@ abbrev pub IsLabelled : List ℕ → Answer → List ℕ → Type 0
 IsLabelled label (Ok false) text = (reasons : List ℕ) × (text ≡ labelled label (Ok false) ++ reasons)
 IsLabelled label answer text = text ≡ labelled label answer
 
--- in lines that is what the writer took
+-- ---- an object for each document, or for each line
+
+-- what follows the front of an object: what is told of the verdict behind its first byte, or the number of the refusal
+abbrev pub members_text : Answer → List ℕ → List ℕ
+members_text (Ok truth) told = drop 1 told
+members_text (Err fault) told = error_member fault ++ codes "}\n"
+
+-- the object has that front, and tells the answer as it is told of the text alone
+abbrev pub IsObject : Form → List ℕ → Answer → List ℕ → Type 0
+IsObject form front answer text = (told : List ℕ) × IfOk answer (λ truth. IsTold form truth told) × (text ≡ front ++ members_text answer told)
+
+-- what an object that tells of a line begins with: its number
+abbrev pub input_member : ℕ → List ℕ
+input_member number = codes "{\"input\":" ++ decimal number ++ codes ","
+
+-- what an object that tells of a document begins with: its name
+abbrev pub document_member : List ℕ → List ℕ
+document_member name = codes "{\"document\":" ++ quoted name ++ codes ","
+
+-- where memory runs out the name is left out
+abbrev pub IsDocumentFront : List ℕ → List ℕ → Type 0
+IsDocumentFront name front = (front ≡ document_member name) ⊎ (front ≡ codes "{")
+
+-- the writer took the object of a document of that label
+abbrev pub WritesObject : Form → List ℕ → Answer → Option (List ℕ) → Option (List ℕ) → Type 0
+WritesObject form label answer old new = (front : List ℕ) × (text : List ℕ) × IsDocumentFront label front × IsObject form front answer text × Appends old new text
+
+-- in lines the writer took the line of that label, and else the object
 abbrev pub WritesLabelled : Form → List ℕ → Answer → Option (List ℕ) → Option (List ℕ) → Type 0
 WritesLabelled Lines label answer old new = (text : List ℕ) × IsLabelled label answer text × Appends old new text
-WritesLabelled Json label answer old new = Unit {0}
-WritesLabelled Flag label answer old new = Unit {0}
-WritesLabelled Basic label answer old new = Unit {0}
+WritesLabelled Json label answer old new = WritesObject Json label answer old new
+WritesLabelled Flag label answer old new = WritesObject Flag label answer old new
+WritesLabelled Basic label answer old new = WritesObject Basic label answer old new
+
+-- ---- the lines of an input
+
+-- the number of the line behind those that are answered, up to the largest one that a counter has
+abbrev pub line_number : List Answer → ℕ
+line_number answers = min (length answers + 1) (2 ^ 64 - 1)
+
+-- the objects of the lines, one behind the other, each with the number of its line
+pub data AreObjects (form : Form) : List Answer → List ℕ → Type 0 where
+  no_object : AreObjects form [] []
+  one_object : {answers : List Answer} {text : List ℕ} (answer : Answer) (object : List ℕ) → AreObjects form answers text → IsObject form (input_member (line_number answers)) answer object → AreObjects form (answers ++ answer ∷ []) (text ++ object)
+
+-- what a run with reasons writes of the answers: their lines, or their objects
+abbrev pub AreTold : Form → List Answer → List ℕ → Type 0
+AreTold Lines answers text = AreAnswerLines answers text
+AreTold Json answers text = AreObjects Json answers text
+AreTold Flag answers text = AreObjects Flag answers text
+AreTold Basic answers text = AreObjects Basic answers text
+
+-- ---- on the way
+
+-- what one side adds to the report of a document that is judged on both: all, or nothing
+abbrev pub ReportsIf : Bool → Form → Bool → List ℕ → List ℕ → Type 0
+ReportsIf true form truth old new = Reports form truth old new
+ReportsIf false form truth old new = new ≡ old
+
+-- what is written of the answer to a line of that number
+abbrev pub IsWritten : Form → ℕ → Answer → List ℕ → Type 0
+IsWritten Lines number answer text = text ≡ answer_line answer
+IsWritten Json number answer text = IsObject Json (input_member number) answer text
+IsWritten Flag number answer text = IsObject Flag (input_member number) answer text
+IsWritten Basic number answer text = IsObject Basic (input_member number) answer text
+
+-- it is held behind what was held
+abbrev pub HoldsWritten : Form → ℕ → Answer → Option (List ℕ) → Option (List ℕ) → List ℕ → List ℕ → Type 0
+HoldsWritten form number answer start now before after = (text : List ℕ) × IsWritten form number answer text × Hands start now (before ++ text) after
+
+-- the writer took a front of both
+abbrev pub LeavesWritten : Form → ℕ → Answer → Option (List ℕ) → Option (List ℕ) → List ℕ → Type 0
+LeavesWritten form number answer start now before = (text : List ℕ) × IsWritten form number answer text × AppendsFront start now (before ++ text)
+
+-- what is written of the answers, up to the line of that number
+abbrev pub AreToldTo : Form → ℕ → List Answer → List ℕ → Type 0
+AreToldTo form number answers text = AreTold form answers text × (number ≡ line_number answers)

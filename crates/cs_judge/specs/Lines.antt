@@ -73,6 +73,9 @@ answer_line answer = line_of (answer_text answer)
 abbrev pub answers_text : List Answer → List ℕ
 answers_text answers = flat_map answer_line answers
 
+abbrev pub AreAnswerLines : List Answer → List ℕ → Type 0
+AreAnswerLines answers text = text ≡ answers_text answers
+
 -- ---- the outcome
 
 abbrev pub outcome_of_answer : Answer → LinesOutcome
@@ -92,27 +95,31 @@ abbrev pub outcome_of : List Answer → LinesOutcome
 outcome_of [] = AllValid
 outcome_of (a ∷ answers) = worse (outcome_of_answer a) (outcome_of answers)
 
--- ---- a run
+-- ---- a run, and what it writes of answers
 
--- what a run that ends answers and has written: one line for each line of the whole input, in order
-pub record IsDone (rules : Rules) (remaining old new : Option (List ℕ)) (outcome : LinesOutcome) : Type 0 where
+-- what a run that ends answers and has written: what stands for the lines of the whole input, in order
+pub record IsDone (IsTextOf : List Answer → List ℕ → Type 0) (rules : Rules) (remaining old new : Option (List ℕ)) (outcome : LinesOutcome) : Type 0 where
   pub lines : List (List ℕ)
   pub answers : List Answer
   pub read : IfSome remaining (λ bytes. AreLines bytes lines)
   pub answered : AreAnswers rules lines answers
-  pub written : Appends old new (answers_text answers)
+  pub text : List ℕ
+  pub told : IsTextOf answers text
+  pub written : Appends old new text
   pub outcome_is : outcome ≡ outcome_of answers
 
 -- the writer took a front of what is written of the first lines
-pub record IsCutOff (rules : Rules) (remaining old new : Option (List ℕ)) : Type 0 where
+pub record IsCutOff (IsTextOf : List Answer → List ℕ → Type 0) (rules : Rules) (remaining old new : Option (List ℕ)) : Type 0 where
   pub lines : List (List ℕ)
   pub answers : List Answer
   pub read : IfSome remaining (λ bytes. AreFirstLines bytes lines)
   pub answered : AreAnswers rules lines answers
-  pub written : AppendsFront old new (answers_text answers)
+  pub text : List ℕ
+  pub told : IsTextOf answers text
+  pub written : AppendsFront old new text
 
 -- the reader gave some bytes, and the writer has the answers to the lines that end among them
-pub record IsStopped (rules : Rules) (remaining left old new : Option (List ℕ)) : Type 0 where
+pub record IsStopped (IsTextOf : List Answer → List ℕ → Type 0) (rules : Rules) (remaining left old new : Option (List ℕ)) : Type 0 where
   pub bytes : List ℕ
   pub given : Consumes remaining left bytes
   pub lines : List (List ℕ)
@@ -120,13 +127,15 @@ pub record IsStopped (rules : Rules) (remaining left old new : Option (List ℕ)
   pub split : Splits bytes lines rest
   pub answers : List Answer
   pub answered : AreAnswers rules lines answers
-  pub written : Appends old new (answers_text answers)
+  pub text : List ℕ
+  pub told : IsTextOf answers text
+  pub written : Appends old new text
 
 -- what a refusal says of a run, of what the reader has left, and of what the writer has
-abbrev pub LeavesLines : Rules → Fault → Option (List ℕ) → Option (List ℕ) → Option (List ℕ) → Option (List ℕ) → Type 0
-LeavesLines rules WriteFailed remaining left old new = IsCutOff rules remaining old new
-LeavesLines rules ReadFailed remaining left old new = IsStopped rules remaining left old new
-LeavesLines rules fault remaining left old new = (text : List ℕ) → IsCallRefusal (call_on rules text) fault
+abbrev pub LeavesLines : (List Answer → List ℕ → Type 0) → Rules → Fault → Option (List ℕ) → Option (List ℕ) → Option (List ℕ) → Option (List ℕ) → Type 0
+LeavesLines IsTextOf rules WriteFailed remaining left old new = IsCutOff IsTextOf rules remaining old new
+LeavesLines IsTextOf rules ReadFailed remaining left old new = IsStopped IsTextOf rules remaining left old new
+LeavesLines IsTextOf rules fault remaining left old new = (text : List ℕ) → IsCallRefusal (call_on rules text) fault
 
 -- the rules are refused before the input is read
 abbrev pub IsOfRules : Fault → Type 0

@@ -1,6 +1,7 @@
 // A line that is read in pieces, answered with its reasons.
-ghost use Rattle.std.specs.Prelude.{◌≡◌, ℕ, List, [], ◌++◌};
+ghost use Rattle.std.specs.Prelude.{◌≡◌, ℕ, List, [], ◌++◌, IfOk};
 ghost use Rattle.cs_judge.specs.Begun.{HoldsFront};
+ghost use Rattle.cs_judge.specs.Explained.{Tells};
 ghost use Rattle.cs_judge.specs.Lines.{IsLineAnswer};
 
 use crate::begun_line::{BegunLine, Kept};
@@ -22,6 +23,8 @@ impl BegunLine {
         ensures answer { (front : List ℕ) → HoldsFront self.old front
             → IsLineAnswer judge.old (front ++ piece.now) result }
         ensures empty { HoldsFront self.new [] }
+        ensures told { IfOk result
+            (λ b. Tells why.entry.form b told.old.items told.new.items) }
         ensures same { judge.new ≡ judge.old }
     {
         if self.is_empty() && piece.len() <= MOST_INPUT_BYTES {
@@ -44,6 +47,8 @@ impl BegunLine {
     ) -> Result<bool, Fault>
         ensures answer { (line : List ℕ) → HoldsFront self.now line
             → IsLineAnswer judge.old line result }
+        ensures told { IfOk result
+            (λ b. Tells why.entry.form b told.old.items told.new.items) }
         ensures same { judge.new ≡ judge.old }
     {
         match self.kept {

@@ -1,8 +1,10 @@
 // A run over the lines of an input that tells reasons.
-ghost use Rattle.std.specs.Prelude.{◌≡◌, ◌⊎◌, ℕ, List, ◌∷◌, [], ◌++◌, ◌<◌, length, Option, Some, OnOk, OnErr, IfOk, IfErr, Err};
+ghost use Rattle.std.specs.Prelude.{◌≡◌, ◌⊎◌, ℕ, ◌+◌, ◌-◌, ◌^◌, min, List, ◌∷◌, [], ◌++◌, ◌<◌, length, Option, Some, OnOk, OnErr, IfOk, IfErr, Err};
 ghost use Rattle.cs_judge.specs.Begun.{HoldsFront};
-ghost use Rattle.cs_judge.specs.Lines.{IsDone, IsCutOff, LeavesLines, IsOfRules};
+ghost use Rattle.cs_judge.specs.Explained.{IsTold, input_member, members_text, AreTold, AreToldTo, HoldsWritten, LeavesWritten};
+ghost use Rattle.cs_judge.specs.Lines.{IsDone, IsCutOff, LeavesLines, IsOfRules, Hands};
 ghost use Rattle.cs_judge.specs.Answering.{AreAnswered, IsAnswered, AreCutOff, IsCutOffIn};
+ghost use Rattle.cs_tool.specs.Streams.{AppendsFront};
 
 use crate::answers::LinesOutcome;
 use crate::explained_runs::members_of;
@@ -14,7 +16,7 @@ use crate::text_judge::TextJudge;
 use crate::why::Why;
 use cs_place::Named;
 use cs_report::Form;
-use cs_tool::{Fault, MEMBER_ROOM, put, put_error};
+use cs_tool::{Fault, MEMBER_ROOM, put_error};
 use memchr::memchr;
 use std::alloc::{AllocError, Global};
 use std::io::{Read, Write};
@@ -23,18 +25,18 @@ use std::io::{Read, Write};
 #[derive(Drop)]
 struct ExplainedRun<'a> {
     run: LineRun,
-    why: Why<'a>,
     /// The name of the input, and the number of the line that is begun.
     line: Named<'a>,
     /// What is told of the line before.
     told: Vec<u8>,
-    /// What is told and not written yet.
+    /// The reasons in lines that aren't written yet.
     notes: HeldAnswers,
 }
 
-/// Judges each line of the input as [`crate::run_lines`] does by the judge's rules, and writes the same lines to `output`; what is told of the
-/// lines goes to `notes`: in lines the reasons, each with the name of the input and the number of its line; else for each line
-/// one object, whose first member is `input`, that number, with `error` for a refusal. Both are flushed before the next read.
+/// Judges each line of the input as [`crate::run_lines`] does, by the judge's rules. In lines it writes the same lines to `output`,
+/// and the reasons to `notes`, each with the name of the input and the number of its line. In the other forms it writes to `output`
+/// for each line one object, whose first member is `input`, that number: behind it what is told of the line alone, or `error` for a
+/// refusal. Both are flushed before the next read.
 ///
 /// # Errors
 /// Those of [`crate::run_lines`] but for those of the rules; `WriteFailed` also where `notes` fails.
@@ -47,9 +49,9 @@ pub fn explain_lines<R: Read, W: Write, E: Write>(
     output: &mut W,
     notes: &mut E,
 ) -> Result<LinesOutcome, Fault>
-    ensures done { IfOk result (IsDone judge.entry (R.remaining input.old)
-        (W.contents output.old) (W.contents output.new)) }
-    ensures refused { IfErr result (λ e. LeavesLines judge.entry e
+    ensures done { IfOk result (IsDone (AreTold why.entry.form) judge.entry
+        (R.remaining input.old) (W.contents output.old) (W.contents output.new)) }
+    ensures refused { IfErr result (λ e. LeavesLines (AreTold why.entry.form) judge.entry e
         (R.remaining input.old) (R.remaining input.new)
         (W.contents output.old) (W.contents output.new)) }
     ensures unread { IfErr result (λ e. IsOfRules e
@@ -70,9 +72,9 @@ fn answer_input<R: Read, W: Write, E: Write>(
     output: &mut W,
     notes: &mut E,
 ) -> Result<LinesOutcome, Fault>
-    ensures done { IfOk result (IsDone judge.old (R.remaining input.old)
-        (W.contents output.old) (W.contents output.new)) }
-    ensures refused { IfErr result (λ e. LeavesLines judge.old e
+    ensures done { IfOk result (IsDone (AreTold why.entry.form) judge.old
+        (R.remaining input.old) (W.contents output.old) (W.contents output.new)) }
+    ensures refused { IfErr result (λ e. LeavesLines (AreTold why.entry.form) judge.old e
         (R.remaining input.old) (R.remaining input.new)
         (W.contents output.old) (W.contents output.new)) }
     ensures unread { IfErr result (λ e. IsOfRules e
@@ -80,27 +82,28 @@ fn answer_input<R: Read, W: Write, E: Write>(
     ensures kind { IfErr result (λ e. (e ≡ Fault.OutOfMemory)
         ⊎ (e ≡ Fault.ReadFailed) ⊎ (e ≡ Fault.WriteFailed)) }
 {
-    let mut run = ExplainedRun::new(alloc, name, why)?;
+    let mut run = ExplainedRun::new(alloc, name)?;
     let mut chunk = vec![in alloc; 0u8; CHUNK]?;
-    answer_chunks(judge, &mut run, &mut chunk, input, output, notes)
+    answer_chunks(judge, &mut run, why, &mut chunk, input, output, notes)
 }
 
 /// Answers the lines of the input, as many bytes at a time as the chunk has.
 fn answer_chunks<R: Read, W: Write, E: Write>(
     judge: &mut TextJudge<'_>,
     run: &mut ExplainedRun<'_>,
+    why: Why<'_>,
     chunk: &mut [u8],
     input: &mut R,
     output: &mut W,
     notes: &mut E,
 ) -> Result<LinesOutcome, Fault>
     requires room { 0 < length chunk.old }
-    requires start { IsAnswered judge.old (W.contents output.old) (W.contents output.old)
-        [] run.old.run }
+    requires start { IsAnswered (AreToldTo why.form run.old.line.line) judge.old
+        (W.contents output.old) (W.contents output.old) [] run.old.run }
     requires none { run.old.run.held ≡ [] }
-    ensures done { IfOk result (IsDone judge.old (R.remaining input.old)
-        (W.contents output.old) (W.contents output.new)) }
-    ensures refused { IfErr result (λ e. LeavesLines judge.old e
+    ensures done { IfOk result (IsDone (AreTold why.entry.form) judge.old
+        (R.remaining input.old) (W.contents output.old) (W.contents output.new)) }
+    ensures refused { IfErr result (λ e. LeavesLines (AreTold why.entry.form) judge.old e
         (R.remaining input.old) (R.remaining input.new)
         (W.contents output.old) (W.contents output.new)) }
     ensures kind { IfErr result (λ e. (e ≡ Fault.ReadFailed) ⊎ (e ≡ Fault.WriteFailed)) }
@@ -110,10 +113,10 @@ fn answer_chunks<R: Read, W: Write, E: Write>(
             return Err(Fault::ReadFailed);
         };
         if count == 0 {
-            run.finish(judge, output, notes)?;
+            run.finish(judge, why, output, notes)?;
             return Ok(run.run.outcome);
         }
-        run.answer_chunk(judge, &chunk[..count], output, notes)?;
+        run.answer_chunk(judge, why, &chunk[..count], output, notes)?;
         run.notes.write_out(notes)?;
         run.run.held.write_out(output)?;
     }
@@ -122,10 +125,11 @@ fn answer_chunks<R: Read, W: Write, E: Write>(
 
 impl<'a> ExplainedRun<'a> {
     /// A run before its first line.
-    fn new(alloc: Global, name: &'a str, why: Why<'a>) -> Result<ExplainedRun<'a>, AllocError>
+    fn new(alloc: Global, name: &'a str) -> Result<ExplainedRun<'a>, AllocError>
         ensures begun { IfOk result (λ r. HoldsFront r.run.begun []) }
         ensures held { IfOk result (λ r. r.run.held ≡ []) }
         ensures outcome { IfOk result (λ r. r.run.outcome ≡ LinesOutcome.AllValid) }
+        ensures first { IfOk result (λ r. r.line.line ≡ 1) }
     {
         let run = LineRun::new(alloc)?;
         let notes = HeldAnswers::new(alloc)?;
@@ -136,7 +140,6 @@ impl<'a> ExplainedRun<'a> {
         };
         Ok(ExplainedRun {
             run,
-            why,
             line,
             told: Vec::new(alloc),
             notes,
@@ -149,24 +152,27 @@ impl ExplainedRun<'_> {
     fn answer_chunk<W: Write, E: Write>(
         &mut self,
         judge: &mut TextJudge<'_>,
+        why: Why<'_>,
         chunk: &[u8],
         output: &mut W,
         notes: &mut E,
     ) -> Result<(), Fault>
         ensures all { (start : Option (List ℕ)) (bytes : List ℕ)
-            → IsAnswered judge.old start (W.contents output.old) bytes self.old.run
-            → OnOk result (IsAnswered judge.old start (W.contents output.new)
-            (bytes ++ chunk.now) self.new.run) }
+            → IsAnswered (AreToldTo why.entry.form self.old.line.line) judge.old
+            start (W.contents output.old) bytes self.old.run
+            → OnOk result (IsAnswered (AreToldTo why.entry.form self.new.line.line) judge.old
+            start (W.contents output.new) (bytes ++ chunk.now) self.new.run) }
         ensures front { (start : Option (List ℕ)) (bytes : List ℕ)
-            → IsAnswered judge.old start (W.contents output.old) bytes self.old.run
-            → OnErr result (IsCutOffIn judge.old (bytes ++ chunk.now)
+            → IsAnswered (AreToldTo why.entry.form self.old.line.line) judge.old
+            start (W.contents output.old) bytes self.old.run
+            → OnErr result (IsCutOffIn (AreTold why.entry.form) judge.old (bytes ++ chunk.now)
             start (W.contents output.new)) }
         ensures kind { OnErr result (result ≡ Err Fault.WriteFailed) }
         ensures same { judge.new ≡ judge.old }
     {
         let mut at = 0;
         while let Some(count) = memchr(b'\n', &chunk[at..]) {
-            self.answer_line(judge, &chunk[at..at + count], output, notes)?;
+            self.answer_line(judge, why, &chunk[at..at + count], output, notes)?;
             at += count + 1;
         }
         self.run.begun.add(&chunk[at..]);
@@ -177,91 +183,135 @@ impl ExplainedRun<'_> {
     fn answer_line<W: Write, E: Write>(
         &mut self,
         judge: &mut TextJudge<'_>,
+        why: Why<'_>,
         piece: &[u8],
         output: &mut W,
         notes: &mut E,
     ) -> Result<(), Fault>
         ensures all { (start : Option (List ℕ)) (lines : List (List ℕ)) (front : List ℕ)
-            → AreAnswered judge.old start (W.contents output.old) lines self.old.run
+            → AreAnswered (AreToldTo why.entry.form self.old.line.line) judge.old
+            start (W.contents output.old) lines self.old.run
             → HoldsFront self.old.run.begun front
-            → OnOk result (AreAnswered judge.old start (W.contents output.new)
-            (lines ++ (front ++ piece.now) ∷ []) self.new.run) }
+            → OnOk result (AreAnswered (AreToldTo why.entry.form self.new.line.line) judge.old
+            start (W.contents output.new) (lines ++ (front ++ piece.now) ∷ []) self.new.run) }
         ensures begun { HoldsFront self.new.run.begun [] }
-        ensures front { (start : Option (List ℕ)) (lines : List (List ℕ))
-            → AreAnswered judge.old start (W.contents output.old) lines self.old.run
-            → OnErr result (AreCutOff judge.old lines start (W.contents output.new)) }
+        ensures front { (start : Option (List ℕ)) (lines : List (List ℕ)) (front : List ℕ)
+            → AreAnswered (AreToldTo why.entry.form self.old.line.line) judge.old
+            start (W.contents output.old) lines self.old.run
+            → HoldsFront self.old.run.begun front
+            → OnErr result (AreCutOff (AreTold why.entry.form) judge.old
+            (lines ++ (front ++ piece.now) ∷ []) start (W.contents output.new)) }
         ensures kind { OnErr result (result ≡ Err Fault.WriteFailed) }
         ensures same { judge.new ≡ judge.old }
     {
         self.told.clear();
         let answer = self
             .run
-            .explain(judge, piece, self.line, self.why, &mut self.told);
-        self.note(&answer, notes)?;
-        self.line.line = self.line.line.saturating_add(1);
-        self.run.held.hold(&answer, output)
-    }
-
-    /// Holds what is told of a line.
-    fn note<E: Write>(&mut self, answer: &Result<bool, Fault>, notes: &mut E) -> Result<(), Fault>
-        ensures kind { OnErr result (result ≡ Err Fault.WriteFailed) }
-        ensures same { self.new.run ≡ self.old.run }
-    {
-        match self.why.form {
-            Form::Lines => {
-                let reasons = self.told.strip_prefix(verdict_line(false));
-                self.notes.hold_text(reasons.unwrap_or(b""), notes)
-            }
-            Form::Json | Form::Flag | Form::Basic => self.note_object(answer, notes),
-        }
-    }
-
-    /// Holds the object of a line.
-    fn note_object<E: Write>(
-        &mut self,
-        answer: &Result<bool, Fault>,
-        notes: &mut E,
-    ) -> Result<(), Fault>
-        ensures kind { OnErr result (result ≡ Err Fault.WriteFailed) }
-        ensures same { self.new.run ≡ self.old.run }
-    {
-        let mut front = [0u8; 2 * MEMBER_ROOM];
-        let front = &mut front[..];
-        let end = put_input(front, self.line.line);
-        match answer {
-            Ok(_) => {
-                self.notes.hold_text(&front[..end], notes)?;
-                self.notes.hold_text(members_of(&self.told), notes)
-            }
-            Err(fault) => {
-                let end = put_error(front, end, fault);
-                let end = put(front, end, b"}\n");
-                self.notes.hold_text(&front[..end], notes)
-            }
-        }
+            .explain(judge, piece, self.line, why, &mut self.told);
+        note(&mut self.notes, why.form, &self.told, notes)?;
+        let number = self.line.line;
+        self.line.line = number.saturating_add(1);
+        hold_told(
+            &mut self.run.held,
+            why.form,
+            number,
+            &answer,
+            &self.told,
+            output,
+        )
     }
 
     /// Answers the line without a newline, where the input ends in one, and writes what is held.
     fn finish<W: Write, E: Write>(
         &mut self,
         judge: &mut TextJudge<'_>,
+        why: Why<'_>,
         output: &mut W,
         notes: &mut E,
     ) -> Result<(), Fault>
         ensures all { (start : Option (List ℕ)) (bytes : List ℕ)
-            → IsAnswered judge.old start (W.contents output.old) bytes self.old.run
-            → OnOk result (IsDone judge.old (Some bytes)
+            → IsAnswered (AreToldTo why.entry.form self.old.line.line) judge.old
+            start (W.contents output.old) bytes self.old.run
+            → OnOk result (IsDone (AreTold why.entry.form) judge.old (Some bytes)
             start (W.contents output.new) self.new.run.outcome) }
         ensures front { (start : Option (List ℕ)) (bytes : List ℕ)
-            → IsAnswered judge.old start (W.contents output.old) bytes self.old.run
-            → OnErr result (IsCutOff judge.old (Some bytes)
+            → IsAnswered (AreToldTo why.entry.form self.old.line.line) judge.old
+            start (W.contents output.old) bytes self.old.run
+            → OnErr result (IsCutOff (AreTold why.entry.form) judge.old (Some bytes)
             start (W.contents output.new)) }
         ensures kind { OnErr result (result ≡ Err Fault.WriteFailed) }
     {
         if !self.run.begun.is_empty() {
-            self.answer_line(judge, &[], output, notes)?;
+            self.answer_line(judge, why, &[], output, notes)?;
         }
         self.notes.write_out(notes)?;
         self.run.held.write_out(output)
+    }
+}
+
+/// Holds the reasons of a line, in lines.
+fn note<E: Write>(
+    held: &mut HeldAnswers,
+    form: Form,
+    told: &[u8],
+    notes: &mut E,
+) -> Result<(), Fault>
+    ensures kind { OnErr result (result ≡ Err Fault.WriteFailed) }
+{
+    match form {
+        Form::Lines => {
+            let reasons = told.strip_prefix(verdict_line(false));
+            held.hold_text(reasons.unwrap_or(b""), notes)
+        }
+        Form::Json | Form::Flag | Form::Basic => Ok(()),
+    }
+}
+
+/// Holds what is written of the answer to a line of that number: in lines its line, and else its object.
+fn hold_told<W: Write>(
+    held: &mut HeldAnswers,
+    form: Form,
+    number: usize,
+    answer: &Result<bool, Fault>,
+    told: &[u8],
+    output: &mut W,
+) -> Result<(), Fault>
+    ensures all { IfOk answer.now (λ b. IsTold form b told.now)
+        → OnOk result (HoldsWritten form number answer.now
+        (W.contents output.old) (W.contents output.new) held.old held.new) }
+    ensures front { IfOk answer.now (λ b. IsTold form b told.now)
+        → OnErr result (LeavesWritten form number answer.now
+        (W.contents output.old) (W.contents output.new) held.old) }
+    ensures kind { OnErr result (result ≡ Err Fault.WriteFailed) }
+{
+    match form {
+        Form::Lines => held.hold(answer, output),
+        Form::Json | Form::Flag | Form::Basic => hold_object(held, number, answer, told, output),
+    }
+}
+
+/// Holds the object of the answer to a line of that number.
+fn hold_object<W: Write>(
+    held: &mut HeldAnswers,
+    number: usize,
+    answer: &Result<bool, Fault>,
+    told: &[u8],
+    output: &mut W,
+) -> Result<(), Fault>
+    ensures all { OnOk result (Hands (W.contents output.old) (W.contents output.new)
+        (held.old ++ (input_member number ++ members_text answer.now told.now)) held.new) }
+    ensures front { OnErr result (AppendsFront (W.contents output.old) (W.contents output.new)
+        (held.old ++ (input_member number ++ members_text answer.now told.now))) }
+    ensures kind { OnErr result (result ≡ Err Fault.WriteFailed) }
+{
+    let mut front = [0u8; 2 * MEMBER_ROOM];
+    let front = &mut front[..];
+    let end = put_input(front, number);
+    match answer {
+        Ok(_) => held.hold_both(&front[..end], members_of(told), output),
+        Err(fault) => {
+            let end = put_error(front, end, fault);
+            held.hold_both(&front[..end], b"}\n", output)
+        }
     }
 }

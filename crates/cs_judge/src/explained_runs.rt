@@ -1,7 +1,7 @@
 // Answers with their reasons, over writers.
-ghost use Rattle.std.specs.Prelude.{◌≡◌, ◌⊎◌, ℕ, List, Err, OnOk, OnErr, IfOk, IfErr};
+ghost use Rattle.std.specs.Prelude.{◌≡◌, ◌⊎◌, ◌++◌, ℕ, List, drop, Err, OnOk, OnErr, IfOk, IfErr};
 ghost use Rattle.std.specs.Io.KnownBytes.{Appends};
-ghost use Rattle.cs_judge.specs.Explained.{IsToldAnswer, LeavesTold, IsTold, WritesLabelled};
+ghost use Rattle.cs_judge.specs.Explained.{IsToldAnswer, LeavesTold, IsTold, IsDocumentFront, members_text, WritesLabelled};
 ghost use Rattle.cs_judge.specs.Judged.{call_on};
 ghost use Rattle.cs_judge.specs.Lines.{Answer, IsTextAnswer, outcome_of_answer};
 ghost use Rattle.cs_tool.specs.Runs.{IsReadyCall};
@@ -132,7 +132,7 @@ fn write_lines<W: Write>(
     }
 }
 
-/// Writes the object of an answer, whose name is its first member; then flushes. The name is left out where memory runs out.
+/// Writes the object of an answer, whose name is its first member; then flushes.
 fn write_object<W: Write>(
     alloc: Global,
     answer: &Result<bool, Fault>,
@@ -140,12 +140,37 @@ fn write_object<W: Write>(
     told: &[u8],
     output: &mut W,
 ) -> Result<(), Fault>
+    ensures all { OnOk result ((front : List ℕ) × IsDocumentFront name.now front
+        × Appends (W.contents output.old) (W.contents output.new)
+        (front ++ members_text answer.now told.now)) }
+    ensures kind { OnErr result (result ≡ Err Fault.WriteFailed) }
+{
+    write_front(alloc, name, output)?;
+    write_members(answer, told, output)
+}
+
+/// Writes what the object of a document of that name begins with. The name is left out where memory runs out.
+fn write_front<W: Write>(alloc: Global, name: &str, output: &mut W) -> Result<(), Fault>
+    ensures all { OnOk result ((front : List ℕ) × IsDocumentFront name.now front
+        × Appends (W.contents output.old) (W.contents output.new) front) }
     ensures kind { OnErr result (result ≡ Err Fault.WriteFailed) }
 {
     match document_front(alloc, name) {
-        Ok(front) => write_part(output, &front)?,
-        Err(AllocError) => write_part(output, b"{")?,
+        Ok(front) => write_part(output, &front),
+        Err(AllocError) => write_part(output, b"{"),
     }
+}
+
+/// Writes what follows the front of an object that tells an answer; then flushes.
+fn write_members<W: Write>(
+    answer: &Result<bool, Fault>,
+    told: &[u8],
+    output: &mut W,
+) -> Result<(), Fault>
+    ensures all { OnOk result (Appends (W.contents output.old) (W.contents output.new)
+        (members_text answer.now told.now)) }
+    ensures kind { OnErr result (result ≡ Err Fault.WriteFailed) }
+{
     match answer {
         Ok(_) => write_text(output, members_of(told)),
         Err(fault) => {
@@ -159,7 +184,9 @@ fn write_object<W: Write>(
 }
 
 /// What follows the first byte of an object.
-pub(crate) fn members_of(object: &[u8]) -> &[u8] {
+pub(crate) fn members_of(object: &[u8]) -> &[u8]
+    ensures { result.now ≡ drop 1 object.now }
+{
     match object {
         [] => object,
         [_, members @ ..] => members,

@@ -96,7 +96,9 @@ pub(crate) fn explain_both(
     ensures only { (sources : List (List ℕ)) (root : List ℕ)
         → AreSidesOf sources root root_side.now.0 root_side.now.1 schema_side.now
         → IsReadyToAgree sources root document.entry.text.now → IsOkUnless result Fault.OutOfMemory }
-    ensures told { IfOk result (λ b. Tells why.entry.form b output.old.items output.new.items) }
+    ensures told { (sources : List (List ℕ)) (root : List ℕ)
+        → AreSidesOf sources root root_side.now.0 root_side.now.1 schema_side.now
+        → IfOk result (λ b. Tells why.entry.form b output.old.items output.new.items) }
     ensures kept { OnErr result (output.new.items ≡ output.old.items) }
 {
     let doc = read_document(alloc, document.text, scratch)?;

@@ -1,6 +1,6 @@
 // What the objects of JSON that tell of documents and of lines begin with.
-ghost use Rattle.std.specs.Prelude.{◌≡◌, ◌≤◌, length, take};
-ghost use Rattle.cs_judge.specs.Explained.{input_member};
+ghost use Rattle.std.specs.Prelude.{◌≡◌, ◌≤◌, length, take, IfOk};
+ghost use Rattle.cs_judge.specs.Explained.{input_member, document_member};
 
 use cs_tool::put;
 use itoa::Buffer;
@@ -19,7 +19,9 @@ pub(crate) fn put_input(line: &mut [u8], number: usize) -> usize
 }
 
 /// The beginning of the object of a document of that name, with its first member.
-pub(crate) fn document_front(alloc: Global, name: &str) -> Result<Vec<u8>, AllocError> {
+pub(crate) fn document_front(alloc: Global, name: &str) -> Result<Vec<u8>, AllocError>
+    ensures { IfOk result (λ front. front.items ≡ document_member name.now) }
+{
     let mut out = Writer::new(Vec::new(alloc));
     out.begin_object()?;
     out.key("document")?;

@@ -1,4 +1,4 @@
-// The lines of answers, held back until the input is read again.
+// What is written of answers, held back until the input is read again.
 ghost use Rattle.std.specs.Prelude.{◌≡◌, ℕ, List, [], ◌++◌, ◌≤◌, IfOk, OnOk, OnErr, Err, length, take};
 ghost use Rattle.std.specs.Io.KnownBytes.{Appends};
 ghost use Rattle.cs_tool.specs.Streams.{AppendsFront};
@@ -57,19 +57,52 @@ impl HeldAnswers {
         Ok(())
     }
 
+    /// Holds one more text, of two parts.
+    pub(crate) fn hold_both<W: Write>(
+        &mut self,
+        first: &[u8],
+        second: &[u8],
+        output: &mut W,
+    ) -> Result<(), Fault>
+        ensures all { OnOk result (Hands (W.contents output.old) (W.contents output.new)
+            (self.old ++ first.now ++ second.now) self.new) }
+        ensures front { OnErr result (AppendsFront (W.contents output.old) (W.contents output.new)
+            (self.old ++ first.now ++ second.now)) }
+        ensures kind { OnErr result (result ≡ Err Fault.WriteFailed) }
+    {
+        self.hold_text(first, output)?;
+        self.hold_text(second, output)
+    }
+
     /// Holds one more text, behind the answers. Writes what is held, or also the text, where there is no room.
     pub(crate) fn hold_text<W: Write>(&mut self, text: &[u8], output: &mut W) -> Result<(), Fault>
+        ensures all { OnOk result (Hands (W.contents output.old) (W.contents output.new)
+            (self.old ++ text.now) self.new) }
+        ensures front { OnErr result (AppendsFront (W.contents output.old) (W.contents output.new)
+            (self.old ++ text.now)) }
         ensures kind { OnErr result (result ≡ Err Fault.WriteFailed) }
     {
         if text.len() > HELD - self.end {
-            let held = &self.bytes[..self.end];
-            write_part(output, held)?;
-            self.end = 0;
+            return self.hold_alone(text, output);
         }
+        self.end = put(&mut self.bytes, self.end, text);
+        Ok(())
+    }
+
+    /// Writes what is held, and holds the text, or writes it too where it is longer than what may be held.
+    fn hold_alone<W: Write>(&mut self, text: &[u8], output: &mut W) -> Result<(), Fault>
+        ensures all { OnOk result (Hands (W.contents output.old) (W.contents output.new)
+            (self.old ++ text.now) self.new) }
+        ensures front { OnErr result (AppendsFront (W.contents output.old) (W.contents output.new)
+            (self.old ++ text.now)) }
+        ensures kind { OnErr result (result ≡ Err Fault.WriteFailed) }
+    {
+        write_part(output, &self.bytes[..self.end])?;
+        self.end = 0;
         if text.len() > HELD {
             return write_part(output, text);
         }
-        self.end = put(&mut self.bytes, self.end, text);
+        self.end = put(&mut self.bytes, 0, text);
         Ok(())
     }
 

@@ -8,6 +8,7 @@ mod explained_lines;
 mod explained_runs;
 mod explanations;
 mod fronts;
+mod further;
 mod held_answers;
 mod lines;
 mod reports;

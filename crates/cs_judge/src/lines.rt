@@ -2,7 +2,8 @@
 ghost use Rattle.std.specs.Prelude.{◌≡◌, ◌+◌, ◌⊎◌, ℕ, List, ◌∷◌, [], ◌++◌, ◌<◌, length, Option, Some, OnOk, OnErr, IfOk, IfErr, Err};
 ghost use Rattle.cs_judge.specs.Judged.{AreReadable};
 ghost use Rattle.cs_judge.specs.Begun.{HoldsFront};
-ghost use Rattle.cs_judge.specs.Lines.{IsLineAnswer, worse, outcome_of_answer, IsDone, IsCutOff, LeavesLines, IsOfRules};
+ghost use Rattle.cs_judge.specs.Explained.{Tells};
+ghost use Rattle.cs_judge.specs.Lines.{AreAnswerLines, IsLineAnswer, worse, outcome_of_answer, IsDone, IsCutOff, LeavesLines, IsOfRules};
 ghost use Rattle.cs_judge.specs.Answering.{AreAnswered, IsAnswered, AreCutOff, IsCutOffIn};
 
 use crate::answers::{LinesOutcome, outcome_of};
@@ -44,9 +45,9 @@ pub fn run_lines<R: Read, W: Write>(
     input: &mut R,
     output: &mut W,
 ) -> Result<LinesOutcome, Fault>
-    ensures done { IfOk result (IsDone rules.now (R.remaining input.old)
+    ensures done { IfOk result (IsDone AreAnswerLines rules.now (R.remaining input.old)
         (W.contents output.old) (W.contents output.new)) }
-    ensures refused { IfErr result (λ e. LeavesLines rules.now e
+    ensures refused { IfErr result (λ e. LeavesLines AreAnswerLines rules.now e
         (R.remaining input.old) (R.remaining input.new)
         (W.contents output.old) (W.contents output.new)) }
     ensures unread { IfErr result (λ e. IsOfRules e
@@ -65,9 +66,9 @@ fn run_prepared<R: Read, W: Write>(
     input: &mut R,
     output: &mut W,
 ) -> Result<LinesOutcome, Fault>
-    ensures done { IfOk result (IsDone prepared.now (R.remaining input.old)
+    ensures done { IfOk result (IsDone AreAnswerLines prepared.now (R.remaining input.old)
         (W.contents output.old) (W.contents output.new)) }
-    ensures refused { IfErr result (λ e. LeavesLines prepared.now e
+    ensures refused { IfErr result (λ e. LeavesLines AreAnswerLines prepared.now e
         (R.remaining input.old) (R.remaining input.new)
         (W.contents output.old) (W.contents output.new)) }
     ensures unread { IfErr result (λ e. IsOfRules e
@@ -86,9 +87,9 @@ fn answer_input<R: Read, W: Write>(
     input: &mut R,
     output: &mut W,
 ) -> Result<LinesOutcome, Fault>
-    ensures done { IfOk result (IsDone judge.old (R.remaining input.old)
+    ensures done { IfOk result (IsDone AreAnswerLines judge.old (R.remaining input.old)
         (W.contents output.old) (W.contents output.new)) }
-    ensures refused { IfErr result (λ e. LeavesLines judge.old e
+    ensures refused { IfErr result (λ e. LeavesLines AreAnswerLines judge.old e
         (R.remaining input.old) (R.remaining input.new)
         (W.contents output.old) (W.contents output.new)) }
     ensures unread { IfErr result (λ e. IsOfRules e
@@ -110,12 +111,12 @@ fn answer_chunks<R: Read, W: Write>(
     output: &mut W,
 ) -> Result<LinesOutcome, Fault>
     requires room { 0 < length chunk.old }
-    requires start { IsAnswered judge.old (W.contents output.old) (W.contents output.old)
-        [] run.old }
+    requires start { IsAnswered AreAnswerLines judge.old
+        (W.contents output.old) (W.contents output.old) [] run.old }
     requires none { run.old.held ≡ [] }
-    ensures done { IfOk result (IsDone judge.old (R.remaining input.old)
+    ensures done { IfOk result (IsDone AreAnswerLines judge.old (R.remaining input.old)
         (W.contents output.old) (W.contents output.new)) }
-    ensures refused { IfErr result (λ e. LeavesLines judge.old e
+    ensures refused { IfErr result (λ e. LeavesLines AreAnswerLines judge.old e
         (R.remaining input.old) (R.remaining input.new)
         (W.contents output.old) (W.contents output.new)) }
     ensures kind { IfErr result (λ e. (e ≡ Fault.ReadFailed) ⊎ (e ≡ Fault.WriteFailed)) }
@@ -157,11 +158,12 @@ impl LineRun {
         output: &mut W,
     ) -> Result<(), Fault>
         ensures all { (start : Option (List ℕ)) (bytes : List ℕ)
-            → IsAnswered judge.old start (W.contents output.old) bytes self.old
-            → OnOk result (IsAnswered judge.old start (W.contents output.new) (bytes ++ chunk.now) self.new) }
+            → IsAnswered AreAnswerLines judge.old start (W.contents output.old) bytes self.old
+            → OnOk result (IsAnswered AreAnswerLines judge.old start (W.contents output.new)
+            (bytes ++ chunk.now) self.new) }
         ensures front { (start : Option (List ℕ)) (bytes : List ℕ)
-            → IsAnswered judge.old start (W.contents output.old) bytes self.old
-            → OnErr result (IsCutOffIn judge.old (bytes ++ chunk.now)
+            → IsAnswered AreAnswerLines judge.old start (W.contents output.old) bytes self.old
+            → OnErr result (IsCutOffIn AreAnswerLines judge.old (bytes ++ chunk.now)
             start (W.contents output.new)) }
         ensures kind { OnErr result (result ≡ Err Fault.WriteFailed) }
         ensures same { judge.new ≡ judge.old }
@@ -183,14 +185,15 @@ impl LineRun {
         output: &mut W,
     ) -> Result<(), Fault>
         ensures all { (start : Option (List ℕ)) (lines : List (List ℕ)) (front : List ℕ)
-            → AreAnswered judge.old start (W.contents output.old) lines self.old
+            → AreAnswered AreAnswerLines judge.old start (W.contents output.old) lines self.old
             → HoldsFront self.old.begun front
-            → OnOk result (AreAnswered judge.old start (W.contents output.new)
+            → OnOk result (AreAnswered AreAnswerLines judge.old start (W.contents output.new)
             (lines ++ (front ++ piece.now) ∷ []) self.new) }
         ensures begun { HoldsFront self.new.begun [] }
         ensures front { (start : Option (List ℕ)) (lines : List (List ℕ))
-            → AreAnswered judge.old start (W.contents output.old) lines self.old
-            → OnErr result (AreCutOff judge.old lines start (W.contents output.new)) }
+            → AreAnswered AreAnswerLines judge.old start (W.contents output.old) lines self.old
+            → OnErr result (AreCutOff AreAnswerLines judge.old lines
+            start (W.contents output.new)) }
         ensures kind { OnErr result (result ≡ Err Fault.WriteFailed) }
         ensures same { judge.new ≡ judge.old }
     {
@@ -213,6 +216,8 @@ impl LineRun {
         ensures begun { HoldsFront self.new.begun [] }
         ensures outcome { self.new.outcome ≡ worse self.old.outcome (outcome_of_answer result) }
         ensures held { self.new.held ≡ self.old.held }
+        ensures told { IfOk result
+            (λ b. Tells why.entry.form b told.old.items told.new.items) }
         ensures same { judge.new ≡ judge.old }
     {
         let answer = self.begun.explain(judge, piece, line, why, told);
@@ -224,12 +229,13 @@ impl LineRun {
     /// Answers the line without a newline, where the input ends in one, and writes what is held.
     fn finish<W: Write>(&mut self, judge: &mut TextJudge<'_>, output: &mut W) -> Result<(), Fault>
         ensures all { (start : Option (List ℕ)) (bytes : List ℕ)
-            → IsAnswered judge.old start (W.contents output.old) bytes self.old
-            → OnOk result (IsDone judge.old (Some bytes)
+            → IsAnswered AreAnswerLines judge.old start (W.contents output.old) bytes self.old
+            → OnOk result (IsDone AreAnswerLines judge.old (Some bytes)
             start (W.contents output.new) self.new.outcome) }
         ensures front { (start : Option (List ℕ)) (bytes : List ℕ)
-            → IsAnswered judge.old start (W.contents output.old) bytes self.old
-            → OnErr result (IsCutOff judge.old (Some bytes) start (W.contents output.new)) }
+            → IsAnswered AreAnswerLines judge.old start (W.contents output.old) bytes self.old
+            → OnErr result (IsCutOff AreAnswerLines judge.old (Some bytes)
+            start (W.contents output.new)) }
         ensures kind { OnErr result (result ≡ Err Fault.WriteFailed) }
     {
         if !self.begun.is_empty() {

@@ -1,16 +1,19 @@
 // The verdicts on documents that were read from texts, with reports of their reasons.
-ghost use Rattle.std.specs.Prelude.{◌≡◌, Bool, IfOk, IfErr, OnOk, IsErrOf};
+ghost use Rattle.std.specs.Prelude.{◌≡◌, Bool, not, IfOk, IfErr, OnOk, IsErrOf};
 ghost use Rattle.cs_doc.specs.ReadAs.{read_as};
 ghost use Rattle.cs_document.specs.Document.{Document as TheDocument};
 ghost use Rattle.cs_flat.specs.Listed.{document_in};
 ghost use Rattle.cs_instance.specs.Instance as instance;
 ghost use Rattle.cs_instance.specs.Instance.{Rule, definition, IsInstance};
 ghost use Rattle.cs_instance.specs.Rules as by_root;
+ghost use Rattle.cs_judge.specs.Explained.{is_told_by_schema, ReportsIf};
 ghost use Rattle.cs_profile.specs.Validity as validity;
 ghost use Rattle.cs_profile.specs.Validity.{IsValidity};
+ghost use Rattle.cs_report.specs.Valid.{Reports};
 ghost use Rattle.cs_validate.specs.Refusal.{IsRefusal};
 ghost use Rattle.cs_validate.specs.Rules as by_schema;
 
+use crate::further::{explained_by_root, explained_by_schema};
 use crate::why::Why;
 use cs_doc::{Document, Flat, flatten};
 use cs_instance::{InstanceFault, RootRules};
@@ -41,6 +44,8 @@ pub(crate) fn instance_report(
     ensures many { IsErrOf result InstanceFault.TooManyPairs
         → by_root.HasManyPairs rules.now.0 rules.now.1 (read_as read.now) }
     ensures known { IsErrOf result InstanceFault.UnknownRoot → ⊥ }
+    ensures says { IfOk result
+        (λ b. Reports why.entry.form b report.old.items report.new.items) }
 {
     match read {
         Document::Listed(flat) => listed_instance(rules, alloc, flat, table, document, why, report),
@@ -69,8 +74,10 @@ fn listed_instance(
     ensures many { IsErrOf result InstanceFault.TooManyPairs
         → by_root.HasManyPairs rules.now.0 rules.now.1 (document_in flat.now) }
     ensures known { IsErrOf result InstanceFault.UnknownRoot → ⊥ }
+    ensures says { IfOk result
+        (λ b. Reports why.entry.form b report.old.items report.new.items) }
 {
-    let reasons = rules.explained(alloc, flat, table, why.telling)?;
+    let reasons = explained_by_root(rules, alloc, flat, table, why)?;
     let is_instance = reasons.is_none();
     report_instance(
         alloc,
@@ -101,6 +108,8 @@ pub(crate) fn validity_report(
         → IsValidity rules.now V → b ≡ V rules.now (read_as read.now)) }
     ensures within { OnOk result (¬ by_schema.HasManyPairs rules.now (read_as read.now)) }
     ensures refused { IfErr result (λ e. IsRefusal e rules.now (read_as read.now)) }
+    ensures says { IfOk result
+        (λ b. Reports why.entry.form b report.old.items report.new.items) }
 {
     match read {
         Document::Listed(flat) => listed_validity(rules, alloc, flat, table, document, why, report),
@@ -126,8 +135,10 @@ fn listed_validity(
         → IsValidity rules.now V → b ≡ V rules.now (document_in flat.now)) }
     ensures within { OnOk result (¬ by_schema.HasManyPairs rules.now (document_in flat.now)) }
     ensures refused { IfErr result (λ e. IsRefusal e rules.now (document_in flat.now)) }
+    ensures says { IfOk result
+        (λ b. Reports why.entry.form b report.old.items report.new.items) }
 {
-    let explanation = rules.explained(alloc, flat, table, why.telling)?;
+    let explanation = explained_by_schema(rules, alloc, flat, table, why)?;
     let is_valid = explanation.is_valid();
     report_validity(
         alloc,
@@ -143,7 +154,9 @@ fn listed_validity(
 }
 
 /// Whether the reasons are told by the schema, where there are both sides.
-fn is_by_schema(form: Form) -> bool {
+fn is_by_schema(form: Form) -> bool
+    ensures { result ≡ is_told_by_schema form }
+{
     match form {
         Form::Lines | Form::Json => false,
         Form::Flag | Form::Basic => true,
@@ -169,6 +182,8 @@ pub(crate) fn instance_side(
     ensures many { IsErrOf result InstanceFault.TooManyPairs
         → by_root.HasManyPairs rules.now.0 rules.now.1 (read_as read.now) }
     ensures known { IsErrOf result InstanceFault.UnknownRoot → ⊥ }
+    ensures says { IfOk result (λ b. ReportsIf (not (is_told_by_schema why.entry.form))
+        why.entry.form b report.old.items report.new.items) }
 {
     if is_by_schema(why.form) {
         is_instance(rules, alloc, read, table)
@@ -193,6 +208,8 @@ pub(crate) fn validity_side(
         → IsValidity rules.now V → b ≡ V rules.now (read_as read.now)) }
     ensures within { OnOk result (¬ by_schema.HasManyPairs rules.now (read_as read.now)) }
     ensures refused { IfErr result (λ e. IsRefusal e rules.now (read_as read.now)) }
+    ensures says { IfOk result (λ b. ReportsIf (is_told_by_schema why.entry.form)
+        why.entry.form b report.old.items report.new.items) }
 {
     if is_by_schema(why.form) {
         validity_report(rules, alloc, read, table, document, why, report)

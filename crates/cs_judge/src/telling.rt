@@ -1,6 +1,7 @@
 // What is told of a verdict.
 ghost use Rattle.std.specs.Prelude.{◌≡◌, ◌++◌, OnOk, OnErr};
 ghost use Rattle.cs_judge.specs.Explained.{Tells};
+ghost use Rattle.cs_report.specs.Valid.{Says};
 ghost use Rattle.cs_tool.specs.Runs.{verdict_text, line_of};
 
 use cs_report::Form;
@@ -20,7 +21,8 @@ pub(crate) fn tell(
     report: &[u8],
     output: &mut Vec<u8>,
 ) -> Result<(), AllocError>
-    ensures told { OnOk result (Tells form truth output.old.items output.new.items) }
+    ensures told { Says form truth report.now
+        → OnOk result (Tells form truth output.old.items output.new.items) }
     ensures kept { OnErr result (output.new.items ≡ output.old.items) }
 {
     match form {

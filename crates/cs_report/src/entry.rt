@@ -1,8 +1,11 @@
 // Reasons in words.
 use crate::text::put_number;
 use cs_place::{Named, position_of};
-use std::alloc::{AllocError, Global};
-use std::collections::HashSet;
+use std::alloc::AllocError;
+
+/// The disjunction whose alternative was followed last, by its place among the links from 1 on, and the alternative's own place; both
+/// are 0 where none was followed.
+pub type Branch = (usize, usize);
 
 /// A reason in words, with the place of the value and that of the rule that refuses it.
 #[derive(Drop)]
@@ -29,6 +32,12 @@ pub struct Entry<'a> {
     pub source: Option<SourcePlace<'a>>,
     /// Which alternative was followed; empty where there is none.
     pub alternative: String,
+    /// The same, for what is told once for a value and an alternative.
+    pub branch: Branch,
+    /// Of which kind the value isn't, where that is all that is wrong with it; empty otherwise.
+    pub kind: &'static str,
+    /// The place among the reasons that were found.
+    pub number: usize,
     /// How many disjunctions are on the way.
     pub depth: usize,
 }
@@ -57,6 +66,13 @@ impl Entry<'_> {
         }
     }
 
+    /// How many bytes its texts have.
+    pub fn bytes(&self) -> usize {
+        let places = self.pointer.len().saturating_add(self.rule.len());
+        let words = self.text.len().saturating_add(self.alternative.len());
+        places.saturating_add(words)
+    }
+
     /// The path in the definition.
     pub(crate) fn path(&self) -> &str {
         let rule = self.rule.as_str();
@@ -65,50 +81,8 @@ impl Entry<'_> {
     }
 }
 
-/// The pointer of what a key is in.
-fn above(pointer: &str) -> &str {
-    match pointer.rsplit_once('/') {
-        None => "",
-        Some((map, _key)) => map,
-    }
-}
-
-/// Leaves out that a key is missing where another one is told to be its misspelling, in the same map and alternative.
-pub fn without_misspelt<'a>(
-    alloc: Global,
-    entries: Vec<Entry<'a>>,
-) -> Result<Vec<Entry<'a>>, AllocError> {
-    let kept = told_apart(alloc, &entries)?;
-    let mut left = Vec::with_capacity(alloc, entries.len())?;
-    for (entry, is_kept) in entries.into_iter().zip(kept) {
-        if is_kept {
-            left.push(entry)?;
-        }
-    }
-    Ok(left)
-}
-
-/// Which entries aren't told by another one.
-fn told_apart(alloc: Global, entries: &[Entry<'_>]) -> Result<Vec<bool>, AllocError> {
-    let mut meant = HashSet::new(alloc);
-    for entry in entries {
-        if entry.reason == "extra" {
-            let map = above(entry.pointer.as_str());
-            meant.insert((map, entry.label, entry.alternative.as_str()))?;
-        }
-    }
-    let mut kept = Vec::with_capacity(alloc, entries.len())?;
-    for entry in entries {
-        let map = entry.pointer.as_str();
-        let is_missing = entry.reason == "missing" && entry.label.is_some();
-        let is_told = is_missing && meant.contains(&(map, entry.label, entry.alternative.as_str()));
-        kept.push(!is_told)?;
-    }
-    Ok(kept)
-}
-
 /// Sorts entries by the place in the document, then by that of the rule.
-pub fn sort_entries(entries: &mut Vec<Entry<'_>>) -> Result<(), AllocError> {
+pub(crate) fn sort_entries(entries: &mut Vec<Entry<'_>>) -> Result<(), AllocError> {
     entries.sort_by_key(|entry| (entry.offset, entry.rule_order()))
 }
 

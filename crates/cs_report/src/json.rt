@@ -59,9 +59,13 @@ fn put_entry(text: &mut String, entry: &Entry<'_>) -> Result<(), AllocError> {
     text.push('}')
 }
 
-/// Puts the object with the reasons, and how many are left out.
-pub fn put_object(text: &mut String, entries: &[Entry<'_>], more: usize) -> Result<(), AllocError> {
-    text.push_str("{\"valid\":false,\"errors\":[")?;
+/// Puts the members with the reasons, and with how many are left out, behind that of the verdict.
+pub fn put_members(
+    text: &mut String,
+    entries: &[Entry<'_>],
+    more: usize,
+) -> Result<(), AllocError> {
+    text.push_str(",\"errors\":[")?;
     for (place, entry) in entries.iter().enumerate() {
         if place > 0 {
             text.push(',')?;
@@ -69,6 +73,5 @@ pub fn put_object(text: &mut String, entries: &[Entry<'_>], more: usize) -> Resu
         put_entry(text, entry)?;
     }
     text.push(']')?;
-    put_count(text, "more", more)?;
-    text.push_str("}\n")
+    put_count(text, "more", more)
 }

@@ -197,7 +197,7 @@ fn explain_input(
     explain_lines_of(rt, rules, path, why, &mut file)
 }
 
-/// The status after the lines of an input. Their objects take the place of the verdicts, and reasons in lines go to standard error.
+/// The status after the lines of an input. Reasons in lines go to standard error.
 fn explain_lines_of<R: Read>(
     rt: &HostRuntime,
     rules: &Rules,
@@ -233,7 +233,7 @@ fn lines_outcome<R: Read>(
     match why.form {
         Form::Lines => explain_lines(alloc, judge, name, why, input, output, &mut rt.stderr()),
         Form::Json | Form::Flag | Form::Basic => {
-            explain_lines(alloc, judge, name, why, input, &mut sink(), output)
+            explain_lines(alloc, judge, name, why, input, output, &mut sink())
         }
     }
 }

@@ -3,13 +3,16 @@ use crate::walk::{LastStep, Walk};
 use crate::words;
 use cs_flat::{Flat, Item};
 use cs_place::Step;
-use cs_profile::{Keyword, Keywords, Schema};
+use cs_profile::{JsonKind, Keyword, Keywords, Schema};
 use cs_report::{Suggestion, put_integer, put_not_allowed, put_quoted};
 use cs_validate::{SchemaRules, ValidCause};
 use std::alloc::{AllocError, Global};
 
 /// How many declared keys are looked through for one that may have been meant.
 const MOST_NAMES: usize = 1000;
+
+/// How many declared keys are compared with keys that aren't allowed, in all.
+const MOST_COMPARISONS: usize = 1_000_000;
 
 /// What is wrong with a value.
 #[derive(Drop)]
@@ -23,6 +26,8 @@ pub(crate) struct Finding<'t> {
     pub(crate) key: bool,
     /// The key that is missing, or the one that may have been meant.
     pub(crate) label: Option<&'t str>,
+    /// Of which kind the value isn't, where that is all that is wrong with it; empty otherwise.
+    pub(crate) kind: &'static str,
 }
 
 /// What findings are made of.
@@ -30,7 +35,9 @@ pub(crate) struct Finding<'t> {
 pub(crate) struct Findings<'t> {
     pub(crate) alloc: Global,
     pub(crate) rules: &'t SchemaRules<'t>,
-    pub(crate) flat: &'t Flat<'t>,
+    flat: &'t Flat<'t>,
+    /// How many more declared keys are compared with keys that aren't allowed.
+    comparisons: usize,
 }
 
 /// The value of a number.
@@ -72,11 +79,16 @@ fn suggestion_of<'t>(
     keywords: &'t Keywords,
     item: Item<'_>,
     key: &str,
+    comparisons: &mut usize,
 ) -> Result<Option<Suggestion<'t>>, AllocError> {
     let mut suggestion = None;
-    for (name, _) in keywords.properties.iter().take(MOST_NAMES) {
-        if !has_key(item, name.as_str()) {
-            suggestion = Suggestion::or_better(suggestion, alloc, key, name.as_str())?;
+    let most = MOST_NAMES.min(*comparisons);
+    for (name, _) in keywords.properties.iter().take(most) {
+        *comparisons = comparisons.saturating_sub(1);
+        if let Some(nearer) = Suggestion::nearer(suggestion, alloc, key, name.as_str())?
+            && !has_key(item, name.as_str())
+        {
+            suggestion = Some(nearer);
         }
     }
     Ok(suggestion)
@@ -90,13 +102,28 @@ fn here<'t>(reason: &'static str, text: String) -> Finding<'t> {
         step: None,
         key: false,
         label: None,
+        kind: "",
     }
 }
 
 impl<'t> Findings<'t> {
+    /// What is found of a document by the rules of a schema document.
+    pub(crate) fn new(
+        alloc: Global,
+        rules: &'t SchemaRules<'t>,
+        flat: &'t Flat<'t>,
+    ) -> Findings<'t> {
+        Findings {
+            alloc,
+            rules,
+            flat,
+            comparisons: MOST_COMPARISONS,
+        }
+    }
+
     /// What is wrong with the value that a walk has led to; none where it is told elsewhere.
     pub(crate) fn finding(
-        &self,
+        &mut self,
         cause: &ValidCause<'t>,
         item: usize,
         rule: usize,
@@ -141,7 +168,14 @@ impl<'t> Findings<'t> {
             return Ok(here("never", text));
         };
         let reason = put_unmet(&mut text, keyword, keywords, value)?;
-        Ok(here(reason, text))
+        Ok(Finding {
+            reason,
+            text,
+            step: None,
+            key: false,
+            label: None,
+            kind: wanted_kind(keyword, keywords),
+        })
     }
 
     /// That none of the alternatives takes a value, or the one under the key that tells them apart.
@@ -159,7 +193,7 @@ impl<'t> Findings<'t> {
     }
 
     /// That a schema is `false`: that of keys that aren't declared, or that of elements behind those of a list.
-    fn never(&self, last: Option<&LastStep<'t>>) -> Result<Option<Finding<'t>>, AllocError> {
+    fn never(&mut self, last: Option<&LastStep<'t>>) -> Result<Option<Finding<'t>>, AllocError> {
         if let Some(last) = last {
             if let Some(keywords) = keywords_of(last.schema) {
                 let around = item_at(self.flat, last.item);
@@ -178,21 +212,19 @@ impl<'t> Findings<'t> {
 
     /// That a key isn't allowed.
     fn extra(
-        &self,
+        &mut self,
         keywords: &'t Keywords,
         around: Item<'_>,
         key: &str,
     ) -> Result<Finding<'t>, AllocError> {
-        let suggestion = suggestion_of(self.alloc, keywords, around, key)?;
+        let left = &mut self.comparisons;
+        let suggestion = suggestion_of(self.alloc, keywords, around, key, left)?;
         let mut text = String::new(self.alloc);
         put_not_allowed(&mut text, suggestion)?;
-        Ok(Finding {
-            reason: "extra",
-            text,
-            step: None,
-            key: true,
-            label: suggestion.map(|found| found.key),
-        })
+        let mut finding = here("extra", text);
+        finding.key = true;
+        finding.label = suggestion.map(|found| found.key);
+        Ok(finding)
     }
 
     /// That a list is too long. It is told at the first element that is too many.
@@ -209,6 +241,15 @@ impl<'t> Findings<'t> {
         let mut text = String::new(self.alloc);
         words::put_many(&mut text, element_count(around), fixed)?;
         Ok(Some(here("many", text)))
+    }
+}
+
+/// Of which kind a value isn't that a keyword refuses, where that is told by several: `type` asks for a number or an integer, and every
+/// number is an integer here.
+fn wanted_kind(keyword: Keyword, keywords: &Keywords) -> &'static str {
+    match (keyword, keywords.kind) {
+        (Keyword::Type, Some(JsonKind::Number | JsonKind::Integer)) => "number",
+        _ => "",
     }
 }
 

@@ -2,68 +2,90 @@
 use crate::finding::{Finding, Findings};
 use crate::targets::{Target, Targets};
 use crate::walk::Walk;
-use cs_place::Place;
+use cs_place::Named;
 use cs_reasons::{Reason, Reasons, Telling};
-use cs_report::{Entry, put_steps};
+use cs_report::{Effort, Entry, Told, place_entries, put_steps, told_of};
 use cs_validate::ValidCause;
 use std::alloc::AllocError;
 
-/// A reason in words.
+/// Reasons in words, with no place in the text yet.
 #[derive(Drop)]
-pub(crate) struct Leaf<'t> {
-    /// What is told of it, with no place in the text yet.
-    entry: Entry<'t>,
-    /// The path of keywords to the one that refuses the value (Core, section 12.3.1).
-    pub(crate) keywords: String,
-    pub(crate) target: Target,
+struct Leaves<'t> {
+    entries: Vec<Entry<'t>>,
+    /// What each of them is told of.
+    targets: Vec<Target>,
+    effort: Effort,
 }
 
-impl<'t> Leaf<'t> {
-    /// What is told, at the place that was found.
-    pub(crate) fn into_entry(self, found: &[Option<Place>]) -> Entry<'t> {
-        let offset = self.target.offset(found);
-        let mut entry = self.entry;
-        entry.offset = offset;
-        entry
-    }
-
-    /// The place of the value, and what is wrong.
-    pub(crate) fn into_texts(self) -> (String, String, String) {
-        (self.keywords, self.entry.pointer, self.entry.text)
-    }
-}
-
-/// Puts the reasons that are told in words; those that say the same as another one are left out.
-pub(crate) fn leaves<'t>(
+/// What is told of reasons in words: each that is asked for, and further ones while that takes little, so that what several of them
+/// say is told once, and counted once.
+pub(crate) fn words_of<'t>(
     findings: Findings<'t>,
     telling: Telling,
+    document: Named<'_>,
     reasons: &Reasons<ValidCause<'t>>,
-    targets: &mut Targets<'t>,
-) -> Result<Vec<Leaf<'t>>, AllocError> {
-    let mut leaves = Vec::with_capacity(findings.alloc, reasons.told.len())?;
+) -> Result<Told<'t>, AllocError> {
+    let alloc = findings.alloc;
+    let mut findings = findings;
+    let mut targets = Targets::new(alloc, &reasons.links)?;
+    let mut leaves = Leaves {
+        entries: Vec::new(alloc),
+        targets: Vec::new(alloc),
+        effort: Effort::new(telling.most),
+    };
     for reason in reasons.told.iter() {
-        if let Some(leaf) = leaf_of(findings, telling, reasons, targets, reason)? {
-            leaves.push(leaf)?;
+        if leaves.effort.lasts() {
+            add_leaf(
+                &mut findings,
+                telling,
+                reasons,
+                &mut targets,
+                reason,
+                &mut leaves,
+            )?;
         }
     }
-    Ok(leaves)
+    let further = reasons.count.saturating_sub(leaves.effort.seen);
+    let entries = placed(leaves, &targets, document)?;
+    let mut told = told_of(alloc, entries, telling.most, further)?;
+    place_entries(document, &mut told.entries);
+    Ok(told)
 }
 
-fn leaf_of<'t>(
-    findings: Findings<'t>,
+/// The entries of leaves, with their places in the text of the document.
+fn placed<'t>(
+    leaves: Leaves<'t>,
+    targets: &Targets<'t>,
+    document: Named<'_>,
+) -> Result<Vec<Entry<'t>>, AllocError> {
+    let mut entries = leaves.entries;
+    let found = targets.find(*entries.allocator(), document.text)?;
+    for (entry, target) in entries.iter_mut().zip(leaves.targets.iter()) {
+        entry.offset = target.offset(&found);
+    }
+    Ok(entries)
+}
+
+/// Adds a reason in words, unless it is told elsewhere.
+fn add_leaf<'t>(
+    findings: &mut Findings<'t>,
     telling: Telling,
     reasons: &Reasons<ValidCause<'t>>,
     targets: &mut Targets<'t>,
     reason: &Reason<ValidCause<'t>>,
-) -> Result<Option<Leaf<'t>>, AllocError> {
+    leaves: &mut Leaves<'t>,
+) -> Result<(), AllocError> {
     let Some(link) = reasons.links.get(reason.link) else {
-        return Ok(None);
+        return Ok(());
     };
     let schema = findings.rules.schema();
     let links = reasons.links.as_slice();
     let mut walk = Walk::along(findings.alloc, schema, links, reason.link)?;
-    let Some(finding) = findings.finding(&reason.cause, link.item, link.rule, &walk)? else {
-        return Ok(None);
+    let steps = walk.steps;
+    let found = findings.finding(&reason.cause, link.item, link.rule, &walk)?;
+    let Some(finding) = found else {
+        leaves.effort.count(steps, None);
+        return Ok(());
     };
     walk.put_keyword(&reason.cause)?;
     if let Some(step) = finding.step {
@@ -71,11 +93,16 @@ fn leaf_of<'t>(
     }
     let target = targets.target(reason.link, finding.step, finding.key)?;
     let depth = if telling.all { walk.depth } else { 0 };
-    Ok(Some(leaf_from(finding, walk, target, depth)))
+    let entry = entry_of(finding, walk, leaves.effort.seen, depth);
+    leaves.effort.count(steps, Some(&entry));
+    leaves.targets.push(target)?;
+    leaves.entries.push(entry)?;
+    Ok(())
 }
 
-fn leaf_from<'t>(finding: Finding<'t>, walk: Walk<'t>, target: Target, depth: usize) -> Leaf<'t> {
-    let entry = Entry {
+/// The entry of a finding at the end of a walk, which is that of the reason at a place.
+fn entry_of<'t>(finding: Finding<'t>, walk: Walk<'t>, number: usize, depth: usize) -> Entry<'t> {
+    Entry {
         pointer: walk.pointer,
         offset: 0,
         line: 1,
@@ -87,11 +114,9 @@ fn leaf_from<'t>(finding: Finding<'t>, walk: Walk<'t>, target: Target, depth: us
         rule: walk.rule,
         source: None,
         alternative: walk.alternative,
+        branch: walk.branch,
+        kind: finding.kind,
+        number,
         depth,
-    };
-    Leaf {
-        entry,
-        keywords: walk.keywords,
-        target,
     }
 }

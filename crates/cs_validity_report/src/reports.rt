@@ -1,19 +1,15 @@
 // Reports of why documents aren't valid against schema documents.
-ghost use Rattle.std.specs.Prelude.{◌≡◌, ◌++◌, true, false, OnOk, OnErr, string_bytes};
-ghost use Rattle.cs_report.specs.Valid.{flag_text, valid_text};
+ghost use Rattle.std.specs.Prelude.{◌≡◌, OnOk, OnErr};
+ghost use Rattle.cs_report.specs.Valid.{Reports};
 ghost use Rattle.cs_validate.specs.WhyTold.{says_valid};
 
 use crate::finding::Findings;
-use crate::leaves::{Leaf, leaves};
-use crate::targets::Targets;
-use crate::units::{leaf_units, link_units, put_basic, sort_units};
+use crate::leaves::words_of;
+use crate::units::{leaf_units, link_units, put_basic};
 use cs_flat::Flat;
-use cs_place::{Named, Place};
+use cs_place::Named;
 use cs_reasons::{Reasons, Telling};
-use cs_report::{
-    Entry, Form, flag_words, place_entries, put_lines, put_object, sort_entries, valid_words,
-    without_misspelt,
-};
+use cs_report::{Form, put_lines, put_members, report_verdict};
 use cs_validate::{Explanation, SchemaRules, ValidCause};
 use std::alloc::{AllocError, Global};
 
@@ -29,46 +25,42 @@ pub fn report_validity(
     explanation: &Explanation<'_>,
     output: &mut Vec<u8>,
 ) -> Result<(), AllocError>
-    ensures flag { form ≡ Form.Flag
-        → OnOk result (output.new.items
-        ≡ output.old.items ++ flag_text (says_valid explanation.now)) }
-    ensures valid { says_valid explanation.now ≡ true
-        → OnOk result (output.new.items ≡ output.old.items ++ valid_text form) }
+    ensures says { OnOk result
+        (Reports form (says_valid explanation.now) output.old.items output.new.items) }
     ensures kept { OnErr result (output.new.items ≡ output.old.items) }
 {
+    let mut text = String::new(alloc);
     match explanation {
-        Explanation::Valid => output.extend_from_slice(valid_words(form).as_bytes()),
-        Explanation::Untold => output.extend_from_slice(untold_words(form).as_bytes()),
+        Explanation::Valid => {}
+        Explanation::Untold => text.push_str(untold_words(form))?,
         Explanation::Invalid(reasons) => {
-            let mut text = String::new(alloc);
-            let findings = Findings { alloc, rules, flat };
+            let findings = Findings::new(alloc, rules, flat);
             put_reasons(&mut text, form, telling, findings, document, reasons)?;
-            output.extend_from_slice(text.as_bytes())
         }
     }
+    report_verdict(alloc, form, explanation.is_valid(), text.as_str(), output)
 }
 
-/// That a document isn't valid, where the reasons aren't told: for people, for programs, and in the output format `basic` (JSON
+/// That the reasons of a document aren't told: for people, and the members for programs and in the output format `basic` (JSON
 /// Schema Core 2020-12, section 12.4.2).
 const UNTOLD_LINE: &str =
     "the reasons aren't told: values and required names make more than 67,108,864 pairs\n";
 
-const UNTOLD_OBJECT: &str = "{\"valid\":false,\"errors\":[],\"more\":1}\n";
+const UNTOLD_MEMBERS: &str = ",\"errors\":[],\"more\":1";
 
-const UNTOLD_BASIC: &str = "{\"valid\":false,\"errors\":[]}\n";
+const UNTOLD_BASIC: &str = ",\"errors\":[]";
 
-/// What is told of a document that isn't valid, where the reasons aren't told. There is one reason at least.
-fn untold_words(form: Form) -> &'static str
-    ensures { form ≡ Form.Flag → result.now ≡ flag_text false }
-{
+/// What is told of the reasons of a document that isn't valid, where they aren't told. There is one at least.
+fn untold_words(form: Form) -> &'static str {
     match form {
         Form::Lines => UNTOLD_LINE,
-        Form::Json => UNTOLD_OBJECT,
-        Form::Flag => flag_words(false),
+        Form::Json => UNTOLD_MEMBERS,
+        Form::Flag => "",
         Form::Basic => UNTOLD_BASIC,
     }
 }
 
+/// Puts what is told of reasons: in the output format `flag` nothing.
 fn put_reasons<'t>(
     text: &mut String,
     form: Form,
@@ -76,55 +68,22 @@ fn put_reasons<'t>(
     findings: Findings<'t>,
     document: Named<'_>,
     reasons: &Reasons<ValidCause<'t>>,
-) -> Result<(), AllocError>
-    ensures { form ≡ Form.Flag
-        → OnOk result (string_bytes text.new ≡ string_bytes text.old ++ flag_text false) }
-{
-    let more = reasons.count.saturating_sub(reasons.told.len());
+) -> Result<(), AllocError> {
     match form {
-        Form::Flag => text.push_str(flag_words(false)),
+        Form::Flag => Ok(()),
         Form::Basic => put_units(text, telling, findings, document, reasons),
         Form::Lines => {
-            let entries = entries(telling, findings, document, reasons)?;
-            put_lines(text, document, &entries, more)
+            let told = words_of(findings, telling, document, reasons)?;
+            put_lines(text, document, &told.entries, told.more)
         }
         Form::Json => {
-            let entries = entries(telling, findings, document, reasons)?;
-            put_object(text, &entries, more)
+            let told = words_of(findings, telling, document, reasons)?;
+            put_members(text, &told.entries, told.more)
         }
     }
 }
 
-/// The reasons in words, in the order of their places.
-fn entries<'t>(
-    telling: Telling,
-    findings: Findings<'t>,
-    document: Named<'_>,
-    reasons: &Reasons<ValidCause<'t>>,
-) -> Result<Vec<Entry<'t>>, AllocError> {
-    let mut targets = Targets::new(findings.alloc, &reasons.links)?;
-    let leaves = leaves(findings, telling, reasons, &mut targets)?;
-    let found = targets.find(findings.alloc, document.text)?;
-    let entries = entries_at(findings.alloc, leaves, &found)?;
-    let mut entries = without_misspelt(findings.alloc, entries)?;
-    sort_entries(&mut entries)?;
-    place_entries(document, &mut entries);
-    Ok(entries)
-}
-
-fn entries_at<'t>(
-    alloc: Global,
-    leaves: Vec<Leaf<'t>>,
-    found: &[Option<Place>],
-) -> Result<Vec<Entry<'t>>, AllocError> {
-    let mut entries = Vec::with_capacity(alloc, leaves.len())?;
-    for leaf in leaves {
-        entries.push(leaf.into_entry(found))?;
-    }
-    Ok(entries)
-}
-
-/// Puts the output format `basic`.
+/// Puts the members of the output format `basic` behind that of the verdict.
 fn put_units<'t>(
     text: &mut String,
     telling: Telling,
@@ -133,13 +92,9 @@ fn put_units<'t>(
     reasons: &Reasons<ValidCause<'t>>,
 ) -> Result<(), AllocError> {
     let alloc = findings.alloc;
-    let mut targets = Targets::new(alloc, &reasons.links)?;
     let schema = findings.rules.schema();
-    let mut schemas = link_units(alloc, schema, &reasons.links, &mut targets)?;
-    let leaves = leaves(findings, telling, reasons, &mut targets)?;
-    let mut refusals = leaf_units(alloc, leaves)?;
-    let found = targets.find(alloc, document.text)?;
-    sort_units(&mut schemas, &found)?;
-    sort_units(&mut refusals, &found)?;
+    let told = words_of(findings, telling, document, reasons)?;
+    let schemas = link_units(alloc, schema, document, reasons, &told.entries)?;
+    let refusals = leaf_units(alloc, schema, reasons, told.entries)?;
     put_basic(text, document, &schemas, &refusals)
 }

@@ -35,6 +35,14 @@ pub(crate) struct Targets<'a> {
     of_link: Vec<Option<usize>>,
 }
 
+/// The place of a value among those that are looked for, behind the document.
+fn place_behind(value: Option<usize>) -> usize {
+    match value {
+        None => 0,
+        Some(place) => place.saturating_add(1),
+    }
+}
+
 impl<'a> Targets<'a> {
     /// The values of links. A link comes before the one that leads to it.
     pub(crate) fn new(
@@ -78,6 +86,14 @@ impl<'a> Targets<'a> {
         Ok(place)
     }
 
+    /// The value of the link at a place.
+    pub(crate) fn of_link(&self, link: usize) -> Target {
+        Target {
+            value: place_behind(self.of(link)),
+            key: false,
+        }
+    }
+
     /// The value of the link at a place, or what is a step from there, or its key.
     pub(crate) fn target(
         &mut self,
@@ -91,7 +107,7 @@ impl<'a> Targets<'a> {
             Some(step) => Some(self.put(around, step)?),
         };
         Ok(Target {
-            value: value.map_or(0, |place| place.saturating_add(1)),
+            value: place_behind(value),
             key,
         })
     }

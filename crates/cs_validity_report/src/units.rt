@@ -1,11 +1,10 @@
 // The output format `basic` (JSON Schema Core 2020-12, section 12.4.2).
-use crate::leaves::Leaf;
-use crate::targets::{Target, Targets};
+use crate::targets::Targets;
 use crate::walk::Walk;
-use cs_place::{Named, Place, Position, Positions};
+use cs_place::{Named, Position, Positions};
 use cs_profile::{Schema, SchemaDoc};
-use cs_reasons::Link;
-use cs_report::{put_count, put_quoted, put_string};
+use cs_reasons::{Link, Reasons};
+use cs_report::{Entry, put_count, put_quoted, put_string};
 use cs_validate::ValidCause;
 use std::alloc::{AllocError, Global};
 
@@ -17,64 +16,130 @@ pub(crate) struct Unit {
     /// The place of the value.
     pointer: String,
     error: String,
-    target: Target,
     /// The offset in the document's text.
     offset: usize,
 }
 
-/// The units of the root and of the schemas that chains lead to. A schema that is `false` has that of its reason.
+/// Which links are on the chains to the reasons of entries. What leads to a link is behind it.
+fn on_chains(
+    alloc: Global,
+    reasons: &Reasons<ValidCause<'_>>,
+    entries: &[Entry<'_>],
+) -> Result<Vec<bool>, AllocError> {
+    let mut on = vec![in alloc; false; reasons.links.len()]?;
+    for entry in entries {
+        if let Some(reason) = reasons.told.get(entry.number)
+            && let Some(slot) = on.get_mut(reason.link)
+        {
+            *slot = true;
+        }
+    }
+    for (place, link) in reasons.links.iter().enumerate() {
+        mark_above(link, place, &mut on);
+    }
+    Ok(on)
+}
+
+/// Marks the link that leads to the one at a place, if that is marked.
+fn mark_above(link: &Link<ValidCause<'_>>, place: usize, on: &mut Vec<bool>) {
+    if on.get(place).copied() == Some(true)
+        && let Some(up) = &link.up
+        && let Some(slot) = on.get_mut(up.link)
+    {
+        *slot = true;
+    }
+}
+
+/// The units of the root and of the schemas on the chains to the reasons of entries, by their places in the text, and at one place by
+/// their paths: a schema comes before those inside it. One that is `false` has that of its reason.
 pub(crate) fn link_units<'t>(
     alloc: Global,
     schema: &'t SchemaDoc,
-    links: &[Link<ValidCause<'t>>],
-    targets: &mut Targets<'t>,
+    document: Named<'_>,
+    reasons: &Reasons<ValidCause<'t>>,
+    entries: &[Entry<'_>],
 ) -> Result<Vec<Unit>, AllocError> {
+    let on = on_chains(alloc, reasons, entries)?;
+    let targets = Targets::new(alloc, &reasons.links)?;
+    let found = targets.find(alloc, document.text)?;
     let mut units = Vec::new(alloc);
-    for (place, link) in links.iter().enumerate().rev() {
-        let walk = Walk::along(alloc, schema, links, place)?;
-        if !matches!(walk.schema, Some(Schema::Always(false))) {
-            let error = match link.up {
-                None => "the document is not valid",
-                Some(_) => "the subschema is not valid",
-            };
-            units.push(Unit {
-                keywords: walk.keywords,
-                pointer: walk.pointer,
-                error: String::from_str(alloc, error)?,
-                target: targets.target(place, None, false)?,
-                offset: 0,
-            })?;
+    for (place, is_on) in on.iter().enumerate().rev() {
+        if *is_on {
+            let offset = targets.of_link(place).offset(&found);
+            add_unit(alloc, schema, &reasons.links, place, offset, &mut units)?;
         }
     }
+    sort_units(&mut units)?;
     Ok(units)
 }
 
-/// The units of reasons.
-pub(crate) fn leaf_units(alloc: Global, leaves: Vec<Leaf<'_>>) -> Result<Vec<Unit>, AllocError> {
-    let mut units = Vec::with_capacity(alloc, leaves.len())?;
-    for leaf in leaves {
-        let target = leaf.target;
-        let (keywords, pointer, error) = leaf.into_texts();
-        units.push(Unit {
-            keywords,
-            pointer,
-            error,
-            target,
-            offset: 0,
-        })?;
+/// Adds the unit of the link at a place, whose value has an offset.
+fn add_unit<'t>(
+    alloc: Global,
+    schema: &'t SchemaDoc,
+    links: &[Link<ValidCause<'t>>],
+    place: usize,
+    offset: usize,
+    units: &mut Vec<Unit>,
+) -> Result<(), AllocError> {
+    let walk = Walk::along(alloc, schema, links, place)?;
+    if matches!(walk.schema, Some(Schema::Always(false))) {
+        return Ok(());
     }
-    Ok(units)
+    let error = if walk.steps == 0 {
+        "the document is not valid"
+    } else {
+        "the subschema is not valid"
+    };
+    units.push(Unit {
+        keywords: walk.keywords,
+        pointer: walk.pointer,
+        error: String::from_str(alloc, error)?,
+        offset,
+    })?;
+    Ok(())
 }
 
-/// Sorts units by their places in the text, and at one place by their paths: a schema comes before those inside it.
-pub(crate) fn sort_units(units: &mut Vec<Unit>, found: &[Option<Place>]) -> Result<(), AllocError> {
-    for unit in units.iter_mut() {
-        unit.offset = unit.target.offset(found);
-    }
+fn sort_units(units: &mut Vec<Unit>) -> Result<(), AllocError> {
     units.sort_by(|unit, other| {
         let paths = unit.keywords.as_str().cmp(&other.keywords.as_str());
         unit.offset.cmp(&other.offset).then(paths)
     })
+}
+
+/// The path of keywords to the one that refuses a value by the reason at a place (Core, section 12.3.1).
+fn keywords_of<'t>(
+    alloc: Global,
+    schema: &'t SchemaDoc,
+    reasons: &Reasons<ValidCause<'t>>,
+    number: usize,
+) -> Result<String, AllocError> {
+    let Some(reason) = reasons.told.get(number) else {
+        return Ok(String::new(alloc));
+    };
+    let mut walk = Walk::along(alloc, schema, &reasons.links, reason.link)?;
+    walk.put_keyword(&reason.cause)?;
+    Ok(walk.keywords)
+}
+
+/// The units of the reasons of entries, in their order.
+pub(crate) fn leaf_units<'t>(
+    alloc: Global,
+    schema: &'t SchemaDoc,
+    reasons: &Reasons<ValidCause<'t>>,
+    entries: Vec<Entry<'_>>,
+) -> Result<Vec<Unit>, AllocError> {
+    let mut units = Vec::with_capacity(alloc, entries.len())?;
+    for entry in entries {
+        let keywords = keywords_of(alloc, schema, reasons, entry.number)?;
+        units.push(Unit {
+            keywords,
+            offset: entry.offset,
+            pointer: entry.pointer,
+            error: entry.text,
+        })?;
+    }
+    Ok(units)
 }
 
 /// Puts a unit at a place in a text whose first line has a number.
@@ -112,15 +177,15 @@ fn put_units(
     Ok(())
 }
 
-/// Puts the object with the units of schemas, of which the root's is the first, and then those of reasons.
+/// Puts the member with the units of schemas, of which the root's is the first, and then those of reasons.
 pub(crate) fn put_basic(
     text: &mut String,
     document: Named<'_>,
     schemas: &[Unit],
     reasons: &[Unit],
 ) -> Result<(), AllocError> {
-    text.push_str("{\"valid\":false,\"errors\":[")?;
+    text.push_str(",\"errors\":[")?;
     put_units(text, document, schemas, 0)?;
     put_units(text, document, reasons, schemas.len())?;
-    text.push_str("]}\n")
+    text.push(']')
 }

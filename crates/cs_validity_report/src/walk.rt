@@ -5,7 +5,7 @@ use crate::causes::{keyword_of, part_step, reference_of, schema_inside, value_st
 use cs_place::Step;
 use cs_profile::{Keyword, Schema, SchemaDoc};
 use cs_reasons::Link;
-use cs_report::{put_alternative, put_steps};
+use cs_report::{Branch, put_alternative, put_steps};
 use cs_validate::ValidCause;
 use std::alloc::{AllocError, Global};
 
@@ -32,8 +32,12 @@ pub(crate) struct Walk<'t> {
     pub(crate) rule: String,
     /// Which alternative was followed last; empty where none was.
     pub(crate) alternative: String,
+    /// The same, for what is told once for a value and an alternative.
+    pub(crate) branch: Branch,
     /// How many alternatives are on the way.
     pub(crate) depth: usize,
+    /// How many steps the way has.
+    pub(crate) steps: usize,
 }
 
 /// The place of the link before the one at a place. It is behind that one.
@@ -83,7 +87,9 @@ impl<'t> Walk<'t> {
             keywords: String::new(alloc),
             rule: String::from_str(alloc, "#")?,
             alternative: String::new(alloc),
+            branch: (0, 0),
             depth: 0,
+            steps: 0,
         })
     }
 
@@ -111,7 +117,8 @@ impl<'t> Walk<'t> {
             return Ok(());
         };
         let cause = up.cause;
-        self.put_alternative(&cause, before.as_close)?;
+        self.steps = self.steps.saturating_add(1);
+        self.put_alternative(&cause, up.link, before.as_close)?;
         self.put_rule(&cause)?;
         if let Some(step) = value_step(&cause) {
             put_steps(&mut self.pointer, &[step])?;
@@ -125,15 +132,17 @@ impl<'t> Walk<'t> {
         Ok(())
     }
 
-    /// Puts which alternative is followed, if the cause leads to one.
+    /// Puts which alternative is followed, if the cause leads to one from the link at a place.
     fn put_alternative(
         &mut self,
         cause: &ValidCause<'t>,
+        link: usize,
         as_close: usize,
     ) -> Result<(), AllocError> {
         let ValidCause::Alternative { place, .. } = cause else {
             return Ok(());
         };
+        self.branch = (link.saturating_add(1), *place);
         self.depth = self.depth.saturating_add(1);
         self.alternative.truncate(0);
         put_alternative(

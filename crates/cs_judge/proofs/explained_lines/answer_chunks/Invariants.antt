@@ -1,13 +1,14 @@
 use Rattle.std.proofs.Common.{◌≡◌, ℕ, List, []}
 use Rattle.std.specs.Io.KnownBytes.{Consumes}
 use Rattle.cs_judge.specs.Answering.{IsAnswered}
+use Rattle.cs_judge.specs.Explained.{AreToldTo}
 use Rattle.cs_judge.proofs.explained_lines.answer_chunks.Given as goal
 
 abbrev pub invariant-loop : goal.invariant-loop
 invariant-loop g l = record {
   bytes : List ℕ;
   given : Consumes (g.R.Read.remaining l.initial.input) (g.R.Read.remaining l.input) bytes;
-  answered : IsAnswered l.initial.judge (g.W.Write.contents l.initial.output) (g.W.Write.contents l.output) bytes l.run.run;
+  answered : IsAnswered (AreToldTo l.why.form l.run.line.line) l.initial.judge (g.W.Write.contents l.initial.output) (g.W.Write.contents l.output) bytes l.run.run;
   none : l.run.run.held ≡ [];
   same : l.judge ≡ l.initial.judge;
 }

@@ -13,7 +13,9 @@ use Rattle.cs_tool.specs.declared.fault.Fault.{Fault}
 use Rattle.cs_tool.specs.declared.fault.Fault.TheVariants.{OutOfMemory, NotJson, NotInteger, TooManyPairs}
 use Rattle.cs_tool.proofs.Judging.{Refuses, memory_alone, by_text, by_root, by_schema, few_of_root, verdict, validated}
 use Rattle.cs_tool.proofs.BothSides.{vet-and-validate-agree}
-use Rattle.cs_judge.proofs.explanations.explain_both.Goals.{then-is_instance, else-is_instance}
+use Rattle.cs_report.specs.Valid.{Says}
+use Rattle.cs_judge.proofs.ExplainedRuns.{first_report, one_side}
+use Rattle.cs_judge.proofs.explanations.explain_both.Goals.{After-tell, then-is_instance, else-is_instance}
 use Rattle.cs_judge.proofs.explanations.explain_both.Goals as goal
 
 module _ (sources : List (List ℕ)) (root text : List ℕ) where
@@ -46,7 +48,7 @@ returns-in_err-doc c =
       found = λ ss r is. tt;
       refused = λ ss r is. refused ss r t (_, _, is.declares) _ (told ss r);
       only = λ ss r is ready. only ss r t ready _ (told ss r);
-      told = tt;
+      told = λ ss r is. tt;
       kept = refl;
     })
 
@@ -61,7 +63,7 @@ returns-in_err-is_instance c =
       found = λ ss r is. tt;
       refused = λ ss r is. refused ss r t (_, _, is.declares) _ (told ss r is);
       only = λ ss r is ready. only ss r t ready _ (told ss r is);
-      told = tt;
+      told = λ ss r is. tt;
       kept = refl;
     })
 
@@ -75,7 +77,7 @@ returns-in_err-is_valid c =
       found = λ ss r is. tt;
       refused = λ ss r is. refused ss r t (_, _, is.declares) _ (told ss r is);
       only = λ ss r is ready. only ss r t ready _ (told ss r is);
-      told = tt;
+      told = λ ss r is. tt;
       kept = refl;
     })
 
@@ -85,17 +87,37 @@ agreement sources root schema_text text a b exported translated verdict validate
     let same = vet-and-validate-agree sources root schema_text text a b exported verdict validated in
     record { verdict = verdict; schema_text = schema_text; exported = exported; translated = translated; validated = subst (IsValidated schema_text text) (sym same) validated }
 
+-- both sides say the same of the document that was read
+module _ (c : After-tell) (ss : List (List ℕ)) (r : List ℕ) (is : AreSidesOf ss r c.args.root_side.now.0 c.args.root_side.now.1 c.args.schema_side.now) where
+  vetted : IsVerdict ss r c.args.document.text.now c.in_ok-is_instance.is_instance
+  vetted =
+      let doc = c.in_ok-doc.ensures in
+      let told = c.in_ok-is_instance.ensures in
+      verdict ss r c.args.document.text.now _ _ (read_as c.in_ok-doc.doc) _ is.declares doc.found doc.document told.one_meaning told.answer told.within
+
+  valid : IsValidated is.schema_text c.args.document.text.now c.in_ok-is_valid.is_valid
+  valid =
+      let doc = c.in_ok-doc.ensures in
+      let told = c.in_ok-is_valid.ensures in
+      validated is.schema_text c.args.document.text.now _ (read_as c.in_ok-doc.doc) _ is.read doc.found doc.document told.one_meaning told.within told.answer
+
+  same : c.in_ok-is_instance.is_instance ≡ c.in_ok-is_valid.is_valid
+  same = vet-and-validate-agree ss r is.schema_text c.args.document.text.now _ _ is.exported vetted valid
+
+  truth_is : c.in_ok-is_instance.is_instance ≡ c.if-is_instance.truth
+  truth_is = elim c.if-is_instance.branch [ then-is_instance w ↦ same ∙ sym w.truth-is | else-is_instance w ↦ sym w.truth-is ]
+
+  agreed : IsAgreement ss r c.args.document.text.now c.if-is_instance.truth
+  agreed = subst (IsAgreement ss r c.args.document.text.now) truth_is (agreement ss r is.schema_text c.args.document.text.now _ _ is.exported is.translated vetted valid)
+
+  said : Says c.args.why.form c.if-is_instance.truth c.deref.result.now
+  said =
+      let form = c.args.why.form in
+      let report = one_side form _ _ _ _ _ same c.in_ok-is_instance.ensures.says c.in_ok-is_valid.ensures.says in
+      subst (λ b. Says form b c.deref.result.now) truth_is (first_report form _ _ _ _ c.new-report.ensures.items c.deref.ensures.value report)
+
 pub returns-clause-found : goal.returns-clause-found
-returns-clause-found c = λ ss r is.
-    let t = c.args.document.text.now in
-    let doc = c.in_ok-doc.ensures in
-    let root_side = c.in_ok-is_instance.ensures in
-    let schema_side = c.in_ok-is_valid.ensures in
-    let vetted = verdict ss r t _ _ (read_as c.in_ok-doc.doc) _ is.declares doc.found doc.document root_side.one_meaning root_side.answer root_side.within in
-    let valid = validated is.schema_text t _ (read_as c.in_ok-doc.doc) _ is.read doc.found doc.document schema_side.one_meaning schema_side.within schema_side.answer in
-    let same = vet-and-validate-agree ss r is.schema_text t _ _ is.exported vetted valid in
-    let both = agreement ss r is.schema_text t _ _ is.exported is.translated vetted valid in
-    elim c.if-is_instance.branch [
-      | then-is_instance w ↦ subst (IsAgreement ss r t) (same ∙ sym w.truth-is) both
-      | else-is_instance w ↦ subst (IsAgreement ss r t) (sym w.truth-is) both
-    ]
+returns-clause-found c = λ ss r is. agreed (goal.at.returns-clause-found c).After-tell ss r is
+
+pub returns-clause-told : goal.returns-clause-told
+returns-clause-told c = λ ss r is. c.in_ok-tell.ensures.told (said (goal.at.returns-clause-told c).After-tell ss r is)

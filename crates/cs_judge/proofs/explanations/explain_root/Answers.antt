@@ -6,6 +6,7 @@ use Rattle.cs_tool.specs.Ready.{IsReady, RootHasManyPairs, IsReadyToVet}
 use Rattle.cs_tool.specs.CallRefusals.{VetRefusal}
 use Rattle.cs_tool.specs.declared.fault.Fault.{Fault}
 use Rattle.cs_tool.specs.declared.fault.Fault.TheVariants.{OutOfMemory, NotJson, NotInteger, TooManyPairs}
+use Rattle.cs_judge.proofs.ExplainedRuns.{first_report}
 use Rattle.cs_tool.proofs.Judging.{Refuses, memory_alone, by_text, by_root, few_of_root, verdict}
 use Rattle.cs_judge.proofs.explanations.explain_root.Goals as goal
 
@@ -53,3 +54,6 @@ returns-clause-found c = λ ss r declares.
     let doc = c.in_ok-doc.ensures in
     let judged = c.in_ok-is_instance.ensures in
     verdict ss r c.args.document.text.now _ _ (read_as c.in_ok-doc.doc) _ declares doc.found doc.document judged.one_meaning judged.answer judged.within
+
+pub returns-clause-told : goal.returns-clause-told
+returns-clause-told c = c.in_ok-tell.ensures.told (first_report _ _ _ _ _ c.new-report.ensures.items c.deref.ensures.value c.in_ok-is_instance.ensures.says)

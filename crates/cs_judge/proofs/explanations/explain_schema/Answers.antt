@@ -6,6 +6,7 @@ use Rattle.cs_tool.specs.CallRefusals.{IsSchemaText, ValidateRefusal}
 use Rattle.cs_tool.specs.Sides.{IsSchemaOf}
 use Rattle.cs_tool.specs.declared.fault.Fault.{Fault}
 use Rattle.cs_tool.specs.declared.fault.Fault.TheVariants.{OutOfMemory, NotJson, NotInteger, TooManyPairs}
+use Rattle.cs_judge.proofs.ExplainedRuns.{first_report}
 use Rattle.cs_tool.proofs.Judging.{Refuses, memory_alone, by_text, by_schema, few_of_schema, validated}
 use Rattle.cs_judge.proofs.explanations.explain_schema.Goals as goal
 
@@ -52,3 +53,6 @@ returns-clause-found c = λ s is.
     let doc = c.in_ok-doc.ensures in
     let judged = c.in_ok-is_valid.ensures in
     validated s c.args.document.text.now _ (read_as c.in_ok-doc.doc) _ is doc.found doc.document judged.one_meaning judged.within judged.answer
+
+pub returns-clause-told : goal.returns-clause-told
+returns-clause-told c = c.in_ok-tell.ensures.told (first_report _ _ _ _ _ c.new-report.ensures.items c.deref.ensures.value c.in_ok-is_valid.ensures.says)

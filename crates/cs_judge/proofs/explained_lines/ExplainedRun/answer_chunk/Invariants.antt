@@ -1,12 +1,13 @@
 use Rattle.std.proofs.Common.{◌≡◌, ℕ, ◌-◌, ◌≤◌, List, ◌++◌, length, take, Option}
 use Rattle.cs_judge.specs.Answering.{IsAnswered}
+use Rattle.cs_judge.specs.Explained.{AreToldTo}
 use Rattle.cs_judge.proofs.explained_lines.ExplainedRun.answer_chunk.Given as goal
 
 abbrev pub invariant-loop-count : goal.invariant-loop-count
 invariant-loop-count g l = record {
   within : l.at ≤ length l.chunk;
-  all : (start : Option (List ℕ)) (bytes : List ℕ) → IsAnswered l.initial.judge start (g.W.Write.contents l.initial.output) bytes l.initial.self.run
-      → IsAnswered l.initial.judge start (g.W.Write.contents l.output) (bytes ++ take l.at l.chunk) l.self.run;
+  all : (start : Option (List ℕ)) (bytes : List ℕ) → IsAnswered (AreToldTo l.why.form l.initial.self.line.line) l.initial.judge start (g.W.Write.contents l.initial.output) bytes l.initial.self.run
+      → IsAnswered (AreToldTo l.why.form l.self.line.line) l.initial.judge start (g.W.Write.contents l.output) (bytes ++ take l.at l.chunk) l.self.run;
   same : l.judge ≡ l.initial.judge;
 }
 

@@ -1,30 +1,50 @@
-use Rattle.std.proofs.Common.{◌++◌, ap, subst, ◌∙◌}
-use Rattle.cs_judge.specs.Lines.{answer_line, Hands}
+use Rattle.std.proofs.Common.{◌++◌, ◌∷◌, [], sym, subst}
+use Rattle.cs_judge.specs.declared.lines.LineRun.{LineRun}
+use Rattle.cs_judge.specs.Answering.{AreAnswered}
+use Rattle.cs_judge.specs.Explained.{AreToldTo}
+use Rattle.cs_judge.specs.Lines.{Hands}
 use Rattle.cs_tool.specs.Streams.{AppendsFront}
+use Rattle.cs_judge.proofs.ExplainedRuns.{all_told, some_written, written, written_to}
 use Rattle.cs_judge.proofs.LineLists.{on_ok, on_err, on_error}
-use Rattle.cs_judge.proofs.LineRuns.{lines_cut_off, lines_unwritten, one_more}
+use Rattle.cs_judge.proofs.LineRuns.{more_cut_off, none_written, one_more}
 use Rattle.cs_judge.proofs.explained_lines.ExplainedRun.answer_line.Goals as goal
 
 pub returns-in_err-note-clause-front : goal.returns-in_err-note-clause-front
-returns-in_err-note-clause-front g c = λ start lines a. on_error c.from_residual.result (lines_unwritten c.args.judge.now start _ lines c.args.self.now.run a)
+returns-in_err-note-clause-front g c = λ start lines front a begun.
+    let form = c.args.why.form in
+    let number = c.args.self.now.line.line in
+    let answer = c.explain-answer.result in
+    let told = c.explain-answer.ensures in
+    let is_told = all_told form answer _ _ c.deref.result.now c.clear.ensures.items c.deref.ensures.value told.told in
+    let some = some_written form number answer c.deref.result.now is_told in
+    on_error c.from_residual.result (more_cut_off c.args.judge.now start _ _ lines (front ++ c.args.piece.now) answer some.0 c.args.self.now.run (written form number answer some.0 some.1) a (told.answer front begun) (none_written _ _))
 
 pub returns-clause-all : goal.returns-clause-all
 returns-clause-all g c = λ start lines front a begun.
-    let run = c.args.self.now.run in
-    let old = g.W.Write.contents c.args.output.now in
-    let new = g.W.Write.contents c.hold.new.output in
+    let form = c.args.why.form in
+    let number = c.args.self.now.line.line in
     let answer = c.explain-answer.result in
     let told = c.explain-answer.ensures in
-    let noted = c.note.ensures.same in
-    let held = ap (λ r. r.held) noted ∙ told.held in
-    let outcome = ap (λ r. r.outcome) noted ∙ told.outcome in
-    let is = told.answer front begun in
-    on_ok c.hold.result (λ handed. one_more c.args.judge.now start old new lines (front ++ c.args.piece.now) answer run _ a is (subst (λ h. Hands old new (h ++ answer_line answer) c.hold.new.self) held handed) outcome) c.hold.ensures.all
+    let old = g.W.Write.contents c.args.output.now in
+    let new = g.W.Write.contents c.hold_told.new.output in
+    let held = c.hold_told.new.held in
+    let is_told = all_told form answer _ _ c.deref-2.result.now c.clear.ensures.items c.deref-2.ensures.value told.told in
+    let line = front ++ c.args.piece.now in
+    let after : LineRun = record { begun = c.explain-answer.new.self.begun; held = held; outcome = c.explain-answer.new.self.outcome } in
+    on_ok c.hold_told.result (λ h.
+    subst (λ n. AreAnswered (AreToldTo form n) c.args.judge.now start new (lines ++ line ∷ []) after) (sym c.saturating_add-self.ensures)
+    (one_more c.args.judge.now start old new lines line answer h.0 c.args.self.now.run (written_to form number answer h.0 h.1) a (told.answer front begun) after (subst (λ t. Hands old new (t ++ h.0) held) told.held h.2) told.outcome))
+    (c.hold_told.ensures.all is_told)
 
 pub returns-clause-front : goal.returns-clause-front
-returns-clause-front g c = λ start lines a.
-    let run = c.args.self.now.run in
+returns-clause-front g c = λ start lines front a begun.
+    let form = c.args.why.form in
+    let number = c.args.self.now.line.line in
+    let answer = c.explain-answer.result in
+    let told = c.explain-answer.ensures in
     let old = g.W.Write.contents c.args.output.now in
-    let new = g.W.Write.contents c.hold.new.output in
-    let held = ap (λ r. r.held) c.note.ensures.same ∙ c.explain-answer.ensures.held in
-    on_err c.hold.result (λ w. lines_cut_off c.args.judge.now start old new lines run a (subst (AppendsFront old new) held w)) c.hold.ensures.front
+    let new = g.W.Write.contents c.hold_told.new.output in
+    let is_told = all_told form answer _ _ c.deref-2.result.now c.clear.ensures.items c.deref-2.ensures.value told.told in
+    on_err c.hold_told.result (λ h.
+    more_cut_off c.args.judge.now start old new lines (front ++ c.args.piece.now) answer h.0 c.args.self.now.run (written form number answer h.0 h.1) a (told.answer front begun) (subst (λ t. AppendsFront old new (t ++ h.0)) told.held h.2))
+    (c.hold_told.ensures.front is_told)

@@ -1,6 +1,7 @@
 use Rattle.std.proofs.Common.{[], ◌∷◌, ◌++◌, take, refl, sym, ap, subst, ◌∙◌, append_assoc}
 use Rattle.cs_judge.specs.declared.lines.LineRun.{LineRun}
 use Rattle.cs_judge.specs.Answering.{IsAnswered}
+use Rattle.cs_judge.specs.Lines.{AreAnswerLines}
 use Rattle.cs_judge.proofs.LineLists.{on_error}
 use Rattle.cs_judge.proofs.LineRuns.{line_answered, piece_kept, same_answers, answers_cut_off, chunk_cut_off, regrouped}
 use Rattle.cs_judge.proofs.Newlines as newlines
@@ -35,7 +36,7 @@ loop-count-preserved g c =
           let clean = newlines.piece_is_line chunk l.at count first here in
           let whole = line_answered rules start _ now (bytes ++ take l.at chunk) piece l.self c.answer_line.new.self a clean answered c.answer_line.ensures.begun in
           let same = regrouped bytes (take l.at chunk) piece (10 ∷ []) ∙ ap (λ t. bytes ++ t) (sym (newlines.taken chunk l.at count first here)) in
-          subst (λ b. IsAnswered c.args.judge.now start now b c.answer_line.new.self) same whole;
+          subst (λ b. IsAnswered AreAnswerLines c.args.judge.now start now b c.answer_line.new.self) same whole;
       same = c.answer_line.ensures.same ∙ l.invariant.same;
     }
 
@@ -51,4 +52,4 @@ returns-clause-all g c = λ start bytes before.
     let answered = same_answers c.args.judge.now start now a.lines l.self after a.answered refl refl in
     let whole = piece_kept c.args.judge.now start now now (bytes ++ take l.at chunk) piece l.self after a clean answered (c.add.ensures a.rest a.begun) in
     let same = append_assoc bytes (take l.at chunk) piece ∙ ap (λ t. bytes ++ t) (newlines.front_and_from chunk l.at) in
-    subst (λ b. IsAnswered c.args.judge.now start now b after) same whole
+    subst (λ b. IsAnswered AreAnswerLines c.args.judge.now start now b after) same whole

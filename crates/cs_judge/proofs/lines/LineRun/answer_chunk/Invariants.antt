@@ -1,12 +1,13 @@
 use Rattle.std.proofs.Common.{◌≡◌, ℕ, ◌-◌, ◌≤◌, List, ◌++◌, length, take, Option}
 use Rattle.cs_judge.specs.Answering.{IsAnswered}
+use Rattle.cs_judge.specs.Lines.{AreAnswerLines}
 use Rattle.cs_judge.proofs.lines.LineRun.answer_chunk.Given as goal
 
 abbrev pub invariant-loop-count : goal.invariant-loop-count
 invariant-loop-count g l = record {
   within : l.at ≤ length l.chunk;
-  all : (start : Option (List ℕ)) (bytes : List ℕ) → IsAnswered l.initial.judge start (g.W.Write.contents l.initial.output) bytes l.initial.self
-      → IsAnswered l.initial.judge start (g.W.Write.contents l.output) (bytes ++ take l.at l.chunk) l.self;
+  all : (start : Option (List ℕ)) (bytes : List ℕ) → IsAnswered AreAnswerLines l.initial.judge start (g.W.Write.contents l.initial.output) bytes l.initial.self
+      → IsAnswered AreAnswerLines l.initial.judge start (g.W.Write.contents l.output) (bytes ++ take l.at l.chunk) l.self;
   same : l.judge ≡ l.initial.judge;
 }
 

@@ -1,5 +1,6 @@
 use Rattle.std.proofs.Common.{List, [], Option, ◌≢◌, ℕ}
 use Rattle.cs_judge.specs.Answering.{IsAnswered}
+use Rattle.cs_judge.specs.Lines.{AreAnswerLines}
 use Rattle.cs_judge.proofs.LineLists.{on_ok, on_err, on_error}
 use Rattle.cs_judge.proofs.LineRuns.{AreAllAnswered, none_begun, last_answered, last_cut_off, all_done, all_cut_off}
 use Rattle.cs_judge.proofs.lines.LineRun.finish.Given.{Over}
@@ -12,7 +13,7 @@ returns-in_err-answer_line-clause-front g c = λ start bytes a.
 
 module _ (g : Over) (c : goal.After-write_out g) where
   -- all lines are answered where the run writes out
-  all_lines : (start : Option (List ℕ)) (bytes : List ℕ) → IsAnswered c.args.judge.now start (g.W.Write.contents c.args.output.now) bytes c.args.self.now → AreAllAnswered c.args.judge.now start (g.W.Write.contents c.if-not-is_empty.output) bytes c.if-not-is_empty.self
+  all_lines : (start : Option (List ℕ)) (bytes : List ℕ) → IsAnswered AreAnswerLines c.args.judge.now start (g.W.Write.contents c.args.output.now) bytes c.args.self.now → AreAllAnswered AreAnswerLines c.args.judge.now start (g.W.Write.contents c.if-not-is_empty.output) bytes c.if-not-is_empty.self
   all_lines start bytes a =
       elim c.if-not-is_empty.branch [
         | then-not-is_empty+in_ok-answer_line w ↦

@@ -1,7 +1,7 @@
 use Rattle.std.proofs.Common.{sym, subst, subst₂}
 use Rattle.cs_judge.specs.Judged.{call_on}
 use Rattle.cs_judge.specs.Prepared.{AreNumbersOf}
-use Rattle.cs_judge.proofs.ByRules.{IsOf, by_root, by_schema, by_both}
+use Rattle.cs_judge.proofs.ByRules.{IsOf, by_root, by_schema, by_both, sides_of}
 use Rattle.cs_judge.proofs.text_judge.TextJudge.explain.Goals.{in-Root, in-Schema, in-Both}
 use Rattle.cs_judge.proofs.text_judge.TextJudge.explain.Goals as goal
 
@@ -29,3 +29,14 @@ returns-clause-found c = (judged c).found
 
 pub returns-clause-refused : goal.returns-clause-refused
 returns-clause-refused c = (judged c).refused
+
+pub returns-clause-told : goal.returns-clause-told
+returns-clause-told c =
+    elim c.match-self.branch [
+      | in-Root w ↦ rw (w.result-is, w.output-is) w.explain_root.ensures.told
+      | in-Schema w ↦ rw (w.result-is, w.output-is) w.explain_schema.ensures.told
+      | in-Both w ↦
+          let is = subst₂ AreNumbersOf c.self.view_is w.in-Both.is c.self.invariant in
+          let sides = sides_of c.args.self.now _ _ is in
+          rw (w.result-is, w.output-is) (w.explain_both.ensures.told sides.0 sides.1 sides.2)
+    ]

@@ -1,0 +1,153 @@
+// Reasons beyond those that are asked for: what several of them say is one line, so lines are counted by all of them.
+ghost use Rattle.std.specs.Prelude.{◌≡◌, Bool, IfOk, IfErr, OnOk, IsErrOf, is_none};
+ghost use Rattle.cs_document.specs.Document.{Document as TheDocument};
+ghost use Rattle.cs_flat.specs.Listed.{document_in};
+ghost use Rattle.cs_instance.specs.Instance as instance;
+ghost use Rattle.cs_instance.specs.Instance.{Rule, definition, IsInstance};
+ghost use Rattle.cs_instance.specs.Rules as by_root;
+ghost use Rattle.cs_profile.specs.Validity as validity;
+ghost use Rattle.cs_profile.specs.Validity.{IsValidity};
+ghost use Rattle.cs_validate.specs.Refusal.{IsRefusal};
+ghost use Rattle.cs_validate.specs.Rules as by_schema;
+ghost use Rattle.cs_validate.specs.WhyTold.{says_valid};
+
+use crate::why::Why;
+use cs_flat::{Flat, Item};
+use cs_instance::{InstanceCause, InstanceFault, RootRules};
+use cs_reasons::{Reasons, Telling};
+use cs_report::Form;
+use cs_table::Verdicts;
+use cs_validate::{Explanation, SchemaRules, ValidateFault};
+use std::alloc::{AllocError, Global};
+
+/// Where there are more reasons than so many, none is looked at but those that are asked for.
+const MOST_COUNTED: usize = 1_000_000;
+
+/// How many reasons are looked at where fewer are asked for.
+const MOST_REASONS: usize = 10_000;
+
+/// How many steps their chains may have, all together.
+const MOST_STEPS: usize = 2_000_000;
+
+/// How many levels a document has: 1 where it is no list and no map.
+fn levels_of(alloc: Global, flat: &Flat<'_>) -> Result<usize, AllocError> {
+    let mut levels: Vec<u8> = Vec::with_capacity(alloc, flat.len())?;
+    for item in 0..flat.len() {
+        let mut inside = 0;
+        match flat.item(item) {
+            Item::List(elements) => {
+                for place in elements {
+                    inside = levels.get(*place).copied().unwrap_or(0).max(inside);
+                }
+            }
+            Item::Object(members) => {
+                for member in members {
+                    inside = levels.get(member.1).copied().unwrap_or(0).max(inside);
+                }
+            }
+            Item::Null | Item::Bool(_) | Item::Int(_) | Item::Text(_) => {}
+        }
+        levels.push(inside.saturating_add(1))?;
+    }
+    Ok(levels.last().copied().unwrap_or(1) as usize)
+}
+
+/// How many of so many reasons are looked at. A chain has a step for each value on its way and each rule at most, and all chains
+/// together have one for each value and each rule.
+fn looked_at(
+    alloc: Global,
+    flat: &Flat<'_>,
+    rules: usize,
+    count: usize,
+) -> Result<usize, AllocError> {
+    if count > MOST_COUNTED {
+        return Ok(0);
+    }
+    let most = count.min(MOST_REASONS);
+    if flat.len().saturating_mul(rules) <= MOST_STEPS {
+        return Ok(most);
+    }
+    let steps = levels_of(alloc, flat)?.saturating_mul(rules);
+    Ok(MOST_STEPS.checked_div(steps).unwrap_or(0).min(most))
+}
+
+/// What is asked again: more reasons than are told, where these are looked at.
+fn asked_again<C: Drop>(
+    alloc: Global,
+    flat: &Flat<'_>,
+    table: &Verdicts,
+    why: Why<'_>,
+    reasons: &Reasons<C>,
+) -> Result<Option<Telling>, AllocError> {
+    let told = reasons.told.len();
+    if why.form == Form::Flag || reasons.count <= told {
+        return Ok(None);
+    }
+    let most = looked_at(alloc, flat, table.rules(), reasons.count)?;
+    if most <= told {
+        return Ok(None);
+    }
+    Ok(Some(Telling {
+        most,
+        all: why.telling.all,
+    }))
+}
+
+/// As [`RootRules::explained`], with further reasons, all of them where they are few.
+pub(crate) fn explained_by_root<'b>(
+    rules: &'b RootRules<'_>,
+    alloc: Global,
+    flat: &'b Flat<'b>,
+    table: &mut Verdicts,
+    why: Why<'_>,
+) -> Result<Option<Reasons<InstanceCause>>, InstanceFault>
+    ensures one_meaning { OnOk result (instance.OneMeaning rules.now.0) }
+    ensures answer { IfOk result (λ o. (I : Rule → TheDocument → Bool) → IsInstance rules.now.0 I
+        → is_none o ≡ I (definition rules.now.1) (document_in flat.now)) }
+    ensures within { OnOk result
+        (¬ by_root.HasManyPairs rules.now.0 rules.now.1 (document_in flat.now)) }
+    ensures many { IsErrOf result InstanceFault.TooManyPairs
+        → by_root.HasManyPairs rules.now.0 rules.now.1 (document_in flat.now) }
+    ensures known { IsErrOf result InstanceFault.UnknownRoot → ⊥ }
+{
+    let asked = rules.explained(alloc, flat, table, why.telling)?;
+    let again = match &asked {
+        None => None,
+        Some(reasons) => asked_again(alloc, flat, table, why, reasons)?,
+    };
+    match again {
+        None => Ok(asked),
+        Some(telling) => {
+            drop(asked);
+            rules.explained(alloc, flat, table, telling)
+        }
+    }
+}
+
+/// As [`SchemaRules::explained`], with further reasons, all of them where they are few.
+pub(crate) fn explained_by_schema<'b>(
+    rules: &'b SchemaRules<'_>,
+    alloc: Global,
+    flat: &'b Flat<'b>,
+    table: &mut Verdicts,
+    why: Why<'_>,
+) -> Result<Explanation<'b>, ValidateFault>
+    ensures one_meaning { OnOk result (validity.OneMeaning rules.now) }
+    ensures answer { IfOk result (λ o. (V : TheDocument → TheDocument → Bool)
+        → IsValidity rules.now V → says_valid o ≡ V rules.now (document_in flat.now)) }
+    ensures within { OnOk result (¬ by_schema.HasManyPairs rules.now (document_in flat.now)) }
+    ensures refused { IfErr result (λ e. IsRefusal e rules.now (document_in flat.now)) }
+{
+    let asked = rules.explained(alloc, flat, table, why.telling)?;
+    let again = match &asked {
+        Explanation::Valid | Explanation::Untold => None,
+        Explanation::Invalid(reasons) => asked_again(alloc, flat, table, why, reasons)?,
+    };
+    match again {
+        None => Ok(asked),
+        Some(telling) => {
+            drop(asked);
+            rules.explained(alloc, flat, table, telling)
+        }
+    }
+}
