@@ -1,15 +1,15 @@
 // What is said of a form at its place, with the names that the source has there.
 use crate::bases::put_not_opened;
 use crate::fields::{put_embedded_definition, put_embedded_struct};
-use crate::labels::{field_of, value_without};
+use crate::form_words::sentence_of;
+use crate::labels::{Labelled, field_of, value_without};
 use crate::sentences::{
-    sentence_of, sentence_of_character, sentence_of_comparison, sentence_of_number,
-    sentence_of_package,
+    sentence_of_character, sentence_of_comparison, sentence_of_number, sentence_of_package,
 };
 use crate::sources::Source;
-use crate::text::{put_all, put_code, put_line};
+use crate::text::{put_line, put_spelled};
 use crate::unknown::{put_field_reference, put_kind, put_unknown};
-use cs_forms::{Form, Found, Near};
+use cs_forms::{Form, Found, Near, follows_label};
 use cs_grammar::{Sort, Token};
 use std::alloc::{AllocError, Global};
 use std::str;
@@ -35,17 +35,10 @@ pub fn put_advice(
     found: Found,
 ) -> Result<(), AllocError> {
     let shown = text_of(source.named.text.get(found.start..found.end));
+    if let Some((said, more)) = said_of(found.form, shown) {
+        return put_spelled(text, shown, said, more);
+    }
     match found.form {
-        Form::PackageValue | Form::PackageCall => put_spelled(
-            text,
-            shown,
-            &[sentence_of(found.form), "; ", sentence_of_package(shown)],
-        ),
-        Form::Selector | Form::Call | Form::LargeInteger => {
-            put_spelled(text, shown, &[sentence_of(found.form)])
-        }
-        Form::NumberSpelling => put_spelled(text, shown, &[sentence_of_number(shown)]),
-        Form::Comparison => put_spelled(text, shown, &[sentence_of_comparison(shown)]),
         Form::StrayCharacter => text.push_str(sentence_of_character(shown)),
         Form::UnknownKind => put_kind(text, shown),
         Form::UnknownName | Form::UnknownDefinition => put_unknown(alloc, text, shown, sources),
@@ -56,11 +49,17 @@ pub fn put_advice(
     }
 }
 
-/// Puts how a form is spelled, and what is said of it.
-fn put_spelled(text: &mut String, shown: &str, said: &[&str]) -> Result<(), AllocError> {
-    put_code(text, shown)?;
-    text.push_str(": ")?;
-    put_all(text, said)
+/// What is said of a form that is shown as it is spelled, and more of it.
+fn said_of(form: Form, shown: &str) -> Option<(&'static str, &'static str)> {
+    match form {
+        Form::PackageValue | Form::PackageCall => {
+            Some((sentence_of(form), sentence_of_package(shown)))
+        }
+        Form::Selector | Form::Call | Form::LargeInteger => Some((sentence_of(form), "")),
+        Form::NumberSpelling => Some((sentence_of_number(shown), "")),
+        Form::Comparison => Some((sentence_of_comparison(shown), "")),
+        _ => None,
+    }
 }
 
 /// Puts what is said of a form that a token shows.
@@ -90,49 +89,65 @@ fn put_advice_near(
 /// Puts that a default mark is left out, and what to write.
 fn put_default(text: &mut String, source: &[u8], near: Near<'_, '_>) -> Result<(), AllocError> {
     text.push_str("default marks are left out; ")?;
-    let Some(field) = field_of(near) else {
-        return text.push_str("take it out");
-    };
-    // Behind a `!` a default is never filled in: documents have to have the field.
-    if field.label.sort == Sort::Definition || field.is_required {
-        return text.push_str("take it out");
-    }
-    text.push_str("a document may leave the field out, so write `")?;
-    put_line(text, field.label.text)?;
-    text.push_str("?:")?;
-    match value_without(source, field, near.here()) {
-        Some((before, behind)) => {
-            let before = before.trim_ascii_start();
-            text.push(' ')?;
-            put_line(text, text_of(Some(before)))?;
-            let behind = if before.is_empty() {
-                behind.trim_ascii_start()
-            } else {
-                behind
-            };
-            put_line(text, text_of(Some(behind)))?;
+    match field_of(near) {
+        // Behind a `!` a default is never filled in: documents have to have the field.
+        Some(field) if field.label.sort != Sort::Definition && !field.is_required => {
+            put_optional(text, source, field, near.here())
         }
-        None => text.push_str(" ..")?,
+        _ => text.push_str("take it out"),
     }
-    text.push('`')
+}
+
+/// Puts that a field may be left out, with the rest of its value, in place of a default mark.
+fn put_optional(
+    text: &mut String,
+    source: &[u8],
+    field: Labelled<'_>,
+    mark: Token<'_>,
+) -> Result<(), AllocError> {
+    let (before, behind) = match value_without(source, field, mark) {
+        Some((before, behind)) => (
+            text_of(Some(before)).trim_ascii_start(),
+            text_of(Some(behind)),
+        ),
+        None => ("", ".."),
+    };
+    let behind = if before.is_empty() {
+        behind.trim_ascii_start()
+    } else {
+        behind
+    };
+    put_line(
+        text,
+        &[
+            "a document may leave the field out, so write `",
+            field.label.text,
+            "?: ",
+            before,
+            behind,
+            "`",
+        ],
+    )
 }
 
 /// Puts that `let` is left out, with the name behind the word.
 fn put_let(text: &mut String, near: Near<'_, '_>) -> Result<(), AllocError> {
     let name = near.behind(1);
-    if name.sort != Sort::Name {
-        return text.push_str("`let` is left out");
+    match name.sort {
+        Sort::Name => put_line(
+            text,
+            &[
+                "`let` is left out; write `#",
+                name.text,
+                ": ..` at the top of a file, and `#",
+                name.text,
+                "` for `",
+                name.text,
+                "`",
+            ],
+        ),
+        _ => text.push_str("`let` is left out"),
     }
-    let name = name.text;
-    put_all(
-        text,
-        &[
-            "`let` is left out; write `#",
-            name,
-            ": ..` at the top of a file, and `#",
-        ],
-    )?;
-    put_all(text, &[name, "` for `", name, "`"])
 }
 
 /// Puts what to write for a hidden name.
@@ -143,35 +158,41 @@ fn put_hidden(text: &mut String, near: Near<'_, '_>) -> Result<(), AllocError> {
             "hidden definitions are left out: drop the `_`; only what the root reaches is exported anyway",
         );
     }
-    let is_label = matches!(near.behind(1).text, ":" | "?" | "!");
+    let is_label = follows_label(near.behind(1));
     if is_label && near.bracket().is_some() {
         return text.push_str(
             "hidden fields are left out: documents don't have them, so take it out",
         );
     }
-    text.push_str(if is_label {
-        "a hidden field at the top of a file: a root is a definition, so write `#"
+    let (said, end) = if is_label {
+        (
+            "a hidden field at the top of a file: a root is a definition, so write `#",
+            ": ..`",
+        )
     } else {
-        "hidden fields are left out: give the value a definition and name it: `#"
-    })?;
-    put_line(text, shown_name(name))?;
-    text.push_str(if is_label { ": ..`" } else { "`" })
+        (
+            "hidden fields are left out: give the value a definition and name it: `#",
+            "`",
+        )
+    };
+    put_line(text, &[said, shown_name(name), end])
 }
 
 /// A hidden name without the `_` before it, unless no letter follows, as it has to behind a `#`.
 fn shown_name(name: &str) -> &str {
     let bare = name.trim_start_matches('_');
-    match bare.chars().next() {
-        Some(first) if first.is_ascii_alphabetic() => bare,
+    match bare.as_bytes() {
+        [b'A'..=b'Z' | b'a'..=b'z', ..] => bare,
         _ => name,
     }
 }
 
 /// What the limit of a relation may be.
 fn limits_of(relation: Token<'_>) -> &'static str {
-    match relation.text {
-        "!=" => "an integer, a text or `null`",
-        _ => "an integer",
+    if relation.text == "!=" {
+        "an integer, a text or `null`"
+    } else {
+        "an integer"
     }
 }
 
@@ -179,7 +200,7 @@ fn limits_of(relation: Token<'_>) -> &'static str {
 fn put_limit(text: &mut String, near: Near<'_, '_>, wanted: &str) -> Result<(), AllocError> {
     let (before, first) = (near.before(1), near.before(2));
     let relation = if before.text == "-" { first } else { before };
-    put_all(
+    put_line(
         text,
         &["the limit of `", relation.text, "` has to be ", wanted],
     )
@@ -187,9 +208,9 @@ fn put_limit(text: &mut String, near: Near<'_, '_>, wanted: &str) -> Result<(), 
 
 /// Puts that a field is no definition.
 fn put_field_at_top(text: &mut String, label: Token<'_>) -> Result<(), AllocError> {
-    text.push_str("a field at the top of a file: a root is a definition")?;
-    if label.sort == Sort::Name {
-        put_all(text, &[", so write `#", label.text, ": ..`"])?;
+    let said = "a field at the top of a file: a root is a definition";
+    match label.sort {
+        Sort::Name => put_line(text, &[said, ", so write `#", label.text, ": ..`"]),
+        _ => text.push_str(said),
     }
-    Ok(())
 }

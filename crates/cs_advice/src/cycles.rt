@@ -1,10 +1,10 @@
 // Cycles of definitions (12).
 use crate::labels::field_with;
-use crate::sources::{Declaration, Source, declaration_of, declared};
+use crate::sources::{Declaration, Declared, Source, declared_in};
 use crate::spot::Spot;
-use crate::text::{put_all, put_code, put_line, put_number};
-use cs_forms::Near;
+use crate::text::put_line;
 use cs_place::position_of;
+use itoa::Buffer;
 use std::alloc::{AllocError, Global};
 
 /// How many definitions of a cycle are named.
@@ -21,27 +21,32 @@ pub fn put_cycle<'a>(
     sources: &[Source<'a, '_>],
     names: &[String],
 ) -> Result<Spot<'a>, AllocError> {
-    let declared = declared(alloc, sources)?;
-    let Some(first) = first_of(&declared, names) else {
+    let declared = declared_in(alloc, sources)?;
+    let [first, ..] = names else {
         return Ok(Spot::nowhere());
     };
-    let Some(source) = sources.get(first.file) else {
+    let Some(declaration) = declared.of(first.as_str()) else {
         return Ok(Spot::nowhere());
     };
-    for name in names.iter().take(MOST_IN_CYCLE) {
-        put_declared(text, sources, &declared, name.as_str())?;
-        text.push_str(" -> ")?;
-    }
-    put_left(text, names)?;
-    put_code(text, first.name)?;
-    put_way_out(text, sources, &declared, names)?;
-    let end = first.offset.saturating_add(first.name.len());
-    Ok(Spot::at(source.named, first.offset, end))
+    put_places(text, &declared, names, sources.len() > 1)?;
+    put_way_out(text, &declared, names, first.as_str())?;
+    Ok(Spot::at_token(declaration.named, declaration.label.here()))
 }
 
-/// The declaration of the first of these names.
-fn first_of<'a>(declared: &[Declaration<'a>], names: &[String]) -> Option<Declaration<'a>> {
-    declaration_of(declared, names.first()?.as_str())
+/// Puts the names of a cycle with their places, the first ones of many.
+fn put_places(
+    text: &mut String,
+    declared: &Declared<'_, '_, '_>,
+    names: &[String],
+    shows_files: bool,
+) -> Result<(), AllocError> {
+    for name in names.iter().take(MOST_IN_CYCLE) {
+        match declared.of(name.as_str()) {
+            Some(declaration) => put_declaration(text, declaration, shows_files, " -> ")?,
+            None => put_line(text, &["`", name.as_str(), "` -> "])?,
+        }
+    }
+    put_left(text, names)
 }
 
 /// Puts the names of a loop, the first ones of many, and the first one again behind them.
@@ -54,78 +59,79 @@ pub fn put_names_of_loop(
     first: &str,
 ) -> Result<(), AllocError> {
     for name in names.iter().take(MOST_IN_CYCLE) {
-        put_code(text, name.as_str())?;
-        text.push_str(" -> ")?;
+        put_line(text, &["`", name.as_str(), "` -> "])?;
     }
     put_left(text, names)?;
-    put_code(text, first)
+    put_line(text, &["`", first, "`"])
 }
 
 /// Puts how many definitions of a cycle aren't named, if there are any.
 fn put_left(text: &mut String, names: &[String]) -> Result<(), AllocError> {
-    if names.len() > MOST_IN_CYCLE {
-        put_number(text, names.len().saturating_sub(MOST_IN_CYCLE))?;
-        text.push_str(" more -> ")?;
+    match names.len().checked_sub(MOST_IN_CYCLE) {
+        Some(left) if left > 0 => put_line(text, &[Buffer::new().format(left), " more -> "]),
+        _ => Ok(()),
     }
-    Ok(())
 }
 
-/// Puts how a cycle is ended: by the field of its last definition that has the first one as its value, where there is one.
+/// Puts the first name of a cycle again, and how the cycle is ended: by the field of its last definition that has the first one as
+/// its value, where there is one.
 fn put_way_out(
     text: &mut String,
-    sources: &[Source<'_, '_>],
-    declared: &[Declaration<'_>],
+    declared: &Declared<'_, '_, '_>,
     names: &[String],
+    first: &str,
 ) -> Result<(), AllocError> {
-    let (Some(first), Some(last)) = (names.first(), names.last()) else {
-        return Ok(());
-    };
-    let first = first.as_str();
-    if let Some(label) = field_of_last(sources, declared, last.as_str(), first) {
-        text.push_str(": write `")?;
-        put_line(text, label)?;
-        return put_all(text, &[": ", first, " | _|_`, which keeps the meaning"]);
+    match field_of_last(declared, names, first) {
+        Some(label) => put_line(
+            text,
+            &[
+                "`",
+                first,
+                "`: write `",
+                label,
+                ": ",
+                first,
+                " | _|_`, which keeps the meaning",
+            ],
+        ),
+        None => put_line(
+            text,
+            &[
+                "`",
+                first,
+                "`: to keep the meaning, add `| _|_` to one of these references in a field or an element, as `",
+                first,
+                " | _|_`; where none is in one, take it out",
+            ],
+        ),
     }
-    text.push_str(
-        ": to keep the meaning, add `| _|_` to one of these references in a field or an element, as `",
-    )?;
-    put_all(text, &[first, " | _|_`; where none is in one, take it out"])
 }
 
-/// The label in the definition of a name whose value is a reference to another one.
+/// The label in the last definition of some whose value is a reference to another one.
 fn field_of_last<'a>(
-    sources: &[Source<'_, 'a>],
-    declared: &[Declaration<'_>],
-    last: &str,
+    declared: &Declared<'_, '_, 'a>,
+    names: &[String],
     first: &str,
 ) -> Option<&'a str> {
-    let declaration = declaration_of(declared, last)?;
-    let source = sources.get(declaration.file)?;
-    field_with(Near::at(&source.tokens, declaration.offset)?, first)
+    let [.., last] = names else {
+        return None;
+    };
+    field_with(declared.of(last.as_str())?.label, first)
 }
 
-/// Puts a name with the line that declares it, and the file where there are several.
-pub(crate) fn put_declared(
+/// Puts the name of a definition with the line that declares it, and maybe the file, and words behind it.
+pub(crate) fn put_declaration(
     text: &mut String,
-    sources: &[Source<'_, '_>],
-    declared: &[Declaration<'_>],
-    name: &str,
+    declaration: Declaration<'_, '_, '_>,
+    shows_file: bool,
+    words: &str,
 ) -> Result<(), AllocError> {
-    put_code(text, name)?;
-    let Some(declaration) = declaration_of(declared, name) else {
-        return Ok(());
-    };
-    let Some(source) = sources.get(declaration.file) else {
-        return Ok(());
-    };
-    text.push_str(" (")?;
-    if sources.len() > 1 {
-        put_line(text, source.named.name)?;
-        text.push(':')?;
+    let Declaration { named, label } = declaration;
+    let place = position_of(named.text, label.here().start);
+    if shows_file {
+        put_line(text, &["`", label.here().text, "` (", named.name, ":"])?;
+    } else {
+        put_line(text, &["`", label.here().text, "` ("])?;
     }
-    put_number(
-        text,
-        position_of(source.named.text, declaration.offset).line,
-    )?;
-    text.push(')')
+    put_line(text, &[Buffer::new().format(place.line), ")", words])
 }

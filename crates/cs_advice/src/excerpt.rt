@@ -1,4 +1,5 @@
 // A line of a source, and the mark under a part of it.
+use memchr::{memchr, memrchr};
 use std::alloc::AllocError;
 use std::str;
 
@@ -8,16 +9,14 @@ const MOST_BESIDE: usize = 70;
 /// What of a text is on the line of an offset: before it and behind it.
 fn sides(text: &[u8], offset: usize) -> (&[u8], &[u8]) {
     let (before, behind) = text.split_at(offset.min(text.len()));
-    let before_len = before
-        .iter()
-        .rev()
-        .take_while(|byte| **byte != b'\n')
-        .count();
-    let behind_len = behind.iter().take_while(|byte| **byte != b'\n').count();
-    let first = before.len().saturating_sub(before_len);
+    let start = match memrchr(b'\n', before) {
+        Some(newline) => newline.saturating_add(1),
+        None => 0,
+    };
+    let len = memchr(b'\n', behind).unwrap_or(behind.len());
     (
-        before.get(first..).unwrap_or(&[]),
-        behind.get(..behind_len).unwrap_or(&[]),
+        before.get(start..).unwrap_or(&[]),
+        behind.get(..len).unwrap_or(&[]),
     )
 }
 
@@ -44,48 +43,48 @@ pub fn put_excerpt(
     if before.is_empty() && behind.is_empty() {
         return Ok(());
     }
+    put_marked(text, before, behind, marked.chars().count())
+}
+
+/// Puts a line by its two sides, and below it a mark under so many characters of the second one.
+fn put_marked(
+    text: &mut String,
+    before: &str,
+    behind: &str,
+    marked: usize,
+) -> Result<(), AllocError> {
     let left = before.chars().count().saturating_sub(MOST_BESIDE);
-    put_side(text, before, left)?;
-    put_side(text, behind, 0)?;
+    put_side(text, before, left, false)?;
+    put_side(text, behind, 0, false)?;
     text.push('\n')?;
-    put_blanks(text, before, left)?;
-    text.push('^')?;
-    for _ in 1..marked.chars().count().min(MOST_BESIDE) {
+    put_side(text, before, left, true)?;
+    for _ in 0..marked.min(MOST_BESIDE).max(1) {
         text.push('^')?;
     }
     text.push('\n')
 }
 
-/// Puts a part of a line behind so many characters, cut where it is long.
-fn put_side(text: &mut String, side: &str, left: usize) -> Result<(), AllocError> {
+/// Puts a part of a line behind so many characters, cut where it is long; or as many blanks, if that is asked for.
+fn put_side(text: &mut String, side: &str, left: usize, is_blank: bool) -> Result<(), AllocError> {
     if left > 0 {
-        text.push_str("..")?;
+        text.push_str(if is_blank { "  " } else { ".." })?;
     }
     for (at, character) in side.chars().skip(left).enumerate() {
         if at >= MOST_BESIDE {
             return text.push_str("..");
         }
-        text.push(shown(character))?;
+        text.push(shown(character, is_blank))?;
     }
     Ok(())
 }
 
-/// Puts a blank for each character of a part of a line, and a tab for a tab.
-fn put_blanks(text: &mut String, side: &str, left: usize) -> Result<(), AllocError> {
-    if left > 0 {
-        text.push_str("  ")?;
-    }
-    for character in side.chars().skip(left) {
-        text.push(if character == '\t' { '\t' } else { ' ' })?;
-    }
-    Ok(())
-}
-
-/// A character of a line, with a blank for one that moves the cursor or that shows nothing.
-fn shown(character: char) -> char {
+/// A character of a line, with a blank for one that moves the cursor or that shows nothing, and for each where blanks are asked for. A
+/// tab stays.
+fn shown(character: char, is_blank: bool) -> char {
     match character {
         '\t' => '\t',
         '\u{0}'..='\u{1f}' | '\u{7f}'..='\u{9f}' | '\u{feff}' => ' ',
+        _ if is_blank => ' ',
         _ => character,
     }
 }

@@ -1,7 +1,7 @@
 // What is said of values that are embedded in structs.
 use crate::advice::text_of;
 use crate::labels::{group_len, labels_inside, separates};
-use crate::text::{put_all, put_code, put_line};
+use crate::text::put_line;
 use cs_forms::{Near, end_of};
 use std::alloc::{AllocError, Global};
 
@@ -13,20 +13,23 @@ const MOST_NAMED: usize = 3;
 /// The other fields of the struct in which a definition is embedded first, where they are few and on one line.
 fn other_fields<'a>(source: &'a [u8], near: Near<'_, '_>) -> Option<&'a str> {
     let bracket = near.bracket()?;
-    if near.before(1).start != bracket.here().start || !separates(near.behind(1)) {
+    let next = near.behind(1);
+    if near.before(1).start != bracket.here().start || !separates(next) {
         return None;
     }
-    let closing = bracket.behind(group_len(bracket)?.checked_sub(1)?);
-    let bytes = source.get(end_of(near.behind(1))..closing.start)?;
-    let fields = text_of(Some(bytes)).trim_ascii();
+    let closing = bracket.behind(group_len(bracket)?.saturating_sub(1));
+    shown_fields(text_of(source.get(end_of(next)..closing.start)))
+}
+
+/// Fields as they are shown, where they are few, on one line, and not open.
+fn shown_fields(fields: &str) -> Option<&str> {
+    let fields = fields.trim_ascii();
     let fields = fields.strip_suffix(",").unwrap_or(fields);
-    if fields.is_empty() || fields.len() > MOST_SHOWN || fields.contains('\n') {
-        return None;
-    }
-    if fields.ends_with("...") {
-        None
-    } else {
+    let is_few = !fields.is_empty() && fields.len() <= MOST_SHOWN;
+    if is_few && !fields.contains('\n') && !fields.ends_with("...") {
         Some(fields)
+    } else {
+        None
     }
 }
 
@@ -37,10 +40,18 @@ pub(crate) fn put_embedded_definition(
     near: Near<'_, '_>,
 ) -> Result<(), AllocError> {
     let name = near.here().text;
-    text.push_str("an embedded definition: write its fields out, or `")?;
-    put_all(text, &[name, " & {"])?;
-    put_line(text, other_fields(source, near).unwrap_or(".."))?;
-    put_all(text, &[", ...}` with `...` in `", name, "` too"])
+    put_line(
+        text,
+        &[
+            "an embedded definition: write its fields out, or `",
+            name,
+            " & {",
+            other_fields(source, near).unwrap_or(".."),
+            ", ...}` with `...` in `",
+            name,
+            "` too",
+        ],
+    )
 }
 
 /// Puts what to write for an embedded struct.
@@ -49,20 +60,23 @@ pub(crate) fn put_embedded_struct(
     text: &mut String,
     near: Near<'_, '_>,
 ) -> Result<(), AllocError> {
-    text.push_str("an embedded struct: put ")?;
     let labels = match near.bracket() {
         Some(bracket) => labels_inside(alloc, bracket)?,
         None => Vec::new(alloc),
     };
+    put_embedded_beside(text, &labels)
+}
+
+/// The same for one beside the fields of these labels.
+fn put_embedded_beside(text: &mut String, labels: &[Near<'_, '_>]) -> Result<(), AllocError> {
     if labels.is_empty() || labels.len() > MOST_NAMED {
-        return text.push_str("the fields around it into each alternative");
+        return text.push_str("an embedded struct: put the fields around it into each alternative");
     }
+    let mut front = "an embedded struct: put `";
     for (at, label) in labels.iter().enumerate() {
-        if at > 0 {
-            let is_last = at.saturating_add(1) == labels.len();
-            text.push_str(if is_last { " and " } else { ", " })?;
-        }
-        put_code(text, label.here().text)?;
+        put_line(text, &[front, label.here().text, "`"])?;
+        let is_last = at.saturating_add(2) == labels.len();
+        front = if is_last { " and `" } else { ", `" };
     }
     text.push_str(" into each alternative")
 }

@@ -1,10 +1,12 @@
 // Labels, and the values under them.
-use cs_forms::{Near, end_of, ends_value};
+use cs_forms::{Near, end_of, ends_value, follows_label};
 use cs_grammar::{Sort, Token};
 use std::alloc::{AllocError, Global};
 
 /// How many bytes of a value are shown.
 const MOST_SHOWN: usize = 80;
+/// How many structs around a name are looked at for a field that it names.
+const MOST_AROUND: usize = 64;
 
 /// A field or a definition, and where its value is.
 #[derive(Clone, Copy)]
@@ -18,19 +20,19 @@ pub(crate) struct Labelled<'a> {
 }
 
 /// How deep brackets are behind a token, by how deep they are before it; none where it closes one that was open before.
-fn depth_behind(token: Token<'_>, depth: usize) -> Option<usize> {
-    match token.text {
-        "{" | "[" | "(" => depth.checked_add(1),
-        "}" | "]" | ")" => depth.checked_sub(1),
+pub(crate) fn depth_behind(token: Token<'_>, depth: usize) -> Option<usize> {
+    match token.text.as_bytes() {
+        [b'{' | b'[' | b'('] => depth.checked_add(1),
+        [b'}' | b']' | b')'] => depth.checked_sub(1),
         _ => Some(depth),
     }
 }
 
 /// The same, from behind a token to before it.
-fn depth_before(token: Token<'_>, depth: usize) -> Option<usize> {
-    match token.text {
-        "}" | "]" | ")" => depth.checked_add(1),
-        "{" | "[" | "(" => depth.checked_sub(1),
+pub(crate) fn depth_before(token: Token<'_>, depth: usize) -> Option<usize> {
+    match token.text.as_bytes() {
+        [b'}' | b']' | b')'] => depth.checked_add(1),
+        [b'{' | b'[' | b'('] => depth.checked_sub(1),
         _ => Some(depth),
     }
 }
@@ -77,16 +79,19 @@ fn value_end(near: Near<'_, '_>) -> usize {
 /// The field or the definition that a token is in the value of.
 pub(crate) fn field_of<'a>(near: Near<'_, 'a>) -> Option<Labelled<'a>> {
     let colon = colon_before(near)?;
-    let marked = colon.checked_add(1)?;
-    let mark = near.before(marked).text;
-    let is_marked = matches!(mark, "?" | "!");
-    let label = near.before(marked.checked_add(usize::from(is_marked))?);
+    let marked = colon.saturating_add(1);
+    let mark = near.before(marked);
+    let label = if mark.text == "?" || mark.text == "!" {
+        near.before(marked.saturating_add(1))
+    } else {
+        mark
+    };
     if !ends_value(label) || label.sort == Sort::Mark {
         return None;
     }
     Some(Labelled {
         label,
-        is_required: mark == "!",
+        is_required: mark.text == "!",
         start: end_of(near.before(colon)),
         end: value_end(near),
     })
@@ -100,44 +105,62 @@ pub(crate) fn value_without<'a>(
 ) -> Option<(&'a [u8], &'a [u8])> {
     let before = source.get(value.start..mark.start)?;
     let behind = source.get(end_of(mark)..value.end)?;
-    let len = before.len().checked_add(behind.len())?;
-    if len > MOST_SHOWN || before.contains(&b'\n') || behind.contains(&b'\n') {
+    let is_long = before.len().saturating_add(behind.len()) > MOST_SHOWN;
+    if is_long || before.contains(&b'\n') || behind.contains(&b'\n') {
         return None;
     }
     Some((before, behind))
 }
 
-/// The label of the same text as a name that it names, in a struct around it.
-pub(crate) fn field_named<'t, 'a>(near: Near<'t, 'a>) -> Option<Token<'a>> {
-    let name = near.here().text;
-    let mut inner = near;
-    for _ in 0..64 {
-        let bracket = inner.bracket()?;
-        if bracket.here().text == "{" {
-            if let Some(label) = label_inside(bracket, name) {
-                return Some(label);
-            }
+/// The next label of a struct behind a token in it, by how deep brackets are there, and whether a declaration begins there.
+fn label_behind<'t, 'a>(near: Near<'t, 'a>, depth: usize, begins: bool) -> Option<Near<'t, 'a>> {
+    let mut depth = depth;
+    let mut is_first = begins;
+    for steps in 1..usize::MAX {
+        let next = near.moved(steps)?;
+        if depth == 0 && is_first && follows_label(next.behind(1)) {
+            return Some(next);
         }
-        inner = bracket;
+        is_first = separates(next.here());
+        depth = depth_behind(next.here(), depth)?;
     }
     None
 }
 
-/// The first label of a text in the struct that a bracket opens.
+/// The first label of the struct that a bracket opens.
+fn first_label<'t, 'a>(bracket: Near<'t, 'a>) -> Option<Near<'t, 'a>> {
+    label_behind(bracket, 0, true)
+}
+
+/// The label behind another one in its struct.
+fn next_label<'t, 'a>(label: Near<'t, 'a>) -> Option<Near<'t, 'a>> {
+    let depth = depth_behind(label.here(), 0)?;
+    label_behind(label, depth, separates(label.here()))
+}
+
+/// The label of the same text as a name that it names, in a struct around it.
+pub(crate) fn field_named<'t, 'a>(near: Near<'t, 'a>) -> Option<Token<'a>> {
+    let mut inner = near;
+    for _ in 0..MOST_AROUND {
+        inner = inner.bracket()?;
+        if let Some(label) = label_inside(inner, near.here().text) {
+            return Some(label);
+        }
+    }
+    None
+}
+
+/// The first label of a text in the struct that a bracket opens; none where it opens something else.
 fn label_inside<'a>(bracket: Near<'_, 'a>, name: &str) -> Option<Token<'a>> {
-    let mut depth = 0;
-    let mut is_first = true;
-    for steps in 1..usize::MAX {
-        let token = bracket.behind(steps);
-        let is_label = matches!(bracket.behind(steps.checked_add(1)?).text, ":" | "?" | "!");
-        if depth == 0 && is_first && is_label && token.text == name {
-            return Some(token);
+    if bracket.here().text != "{" {
+        return None;
+    }
+    let mut label = first_label(bracket)?;
+    for _ in 0..usize::MAX {
+        if label.here().text == name {
+            return Some(label.here());
         }
-        if token.sort == Sort::End {
-            return None;
-        }
-        is_first = separates(token);
-        depth = depth_behind(token, depth)?;
+        label = next_label(label)?;
     }
     None
 }
@@ -148,21 +171,33 @@ pub(crate) fn labels_inside<'t, 'a>(
     bracket: Near<'t, 'a>,
 ) -> Result<Vec<Near<'t, 'a>>, AllocError> {
     let mut labels = Vec::new(alloc);
-    let mut depth = 0;
-    let mut is_first = true;
-    for steps in 1..usize::MAX {
-        let Some(near) = bracket.moved(steps) else {
-            return Ok(labels);
+    let mut next = first_label(bracket);
+    for _ in 0..usize::MAX {
+        let Some(label) = next else {
+            break;
         };
-        let is_label = matches!(near.behind(1).text, ":" | "?" | "!");
-        if depth == 0 && is_first && is_label {
-            labels.push(near)?;
+        labels.push(label)?;
+        next = next_label(label);
+    }
+    Ok(labels)
+}
+
+/// The labels of a name in the struct that a bracket opens.
+pub(crate) fn labels_named<'t, 'a>(
+    alloc: Global,
+    bracket: Near<'t, 'a>,
+    name: &str,
+) -> Result<Vec<Near<'t, 'a>>, AllocError> {
+    let mut labels = Vec::new(alloc);
+    let mut next = first_label(bracket);
+    for _ in 0..usize::MAX {
+        let Some(label) = next else {
+            break;
+        };
+        if label.here().text == name {
+            labels.push(label)?;
         }
-        is_first = separates(near.here());
-        match depth_behind(near.here(), depth) {
-            Some(deeper) => depth = deeper,
-            None => return Ok(labels),
-        }
+        next = next_label(label);
     }
     Ok(labels)
 }
@@ -186,38 +221,23 @@ pub(crate) fn group_len(bracket: Near<'_, '_>) -> Option<usize> {
 /// The label of the field whose value is a reference, where a definition is one struct literal that has it; an optional field is
 /// none.
 pub(crate) fn field_with<'a>(definition: Near<'_, 'a>, reference: &str) -> Option<&'a str> {
-    if definition.behind(2).text != "{" {
+    let bracket = definition.moved(2)?;
+    if bracket.here().text != "{" || !separates(bracket.behind(group_len(bracket)?)) {
         return None;
     }
-    let mut label = None;
-    let mut depth = 0;
-    for steps in 3..usize::MAX {
-        let token = definition.behind(steps);
-        if depth == 0 && label.is_none() && token.text == reference {
-            label = label_of_whole(definition, steps);
+    let mut label = first_label(bracket)?;
+    for _ in 0..usize::MAX {
+        if label.behind(2).text == reference && is_whole_value(label) {
+            return Some(label.here().text);
         }
-        match depth_behind(token, depth) {
-            Some(deeper) if token.sort != Sort::End => depth = deeper,
-            _ => {
-                let is_whole = separates(definition.behind(steps.checked_add(1)?));
-                return if is_whole { label } else { None };
-            }
-        }
+        label = next_label(label)?;
     }
     None
 }
 
-/// The label of a value that is one token.
-fn label_of_whole<'a>(definition: Near<'_, 'a>, steps: usize) -> Option<&'a str> {
-    let next = definition.behind(steps.checked_add(1)?);
-    let label = definition.behind(steps.checked_sub(2)?);
-    let colon = definition.behind(steps.checked_sub(1)?);
-    let first = definition.behind(steps.checked_sub(3)?);
-    let is_field = colon.text == ":" && (first.text == "{" || separates(first));
-    let is_label = matches!(label.sort, Sort::Name | Sort::Text);
-    if is_field && is_label && (separates(next) || next.text == "}") {
-        Some(label.text)
-    } else {
-        None
-    }
+/// Whether the value of a label is one token, and the field has to be there.
+fn is_whole_value(label: Near<'_, '_>) -> bool {
+    let is_field = matches!(label.here().sort, Sort::Name | Sort::Text);
+    let next = label.behind(3);
+    is_field && label.behind(1).text == ":" && (separates(next) || next.text == "}")
 }

@@ -1,4 +1,5 @@
 // How the tokens of a source are laid out: in brackets, and in parts between commas.
+use cs_forms::follows_label;
 use cs_grammar::{Sort, Token};
 use std::alloc::{AllocError, Global};
 
@@ -44,6 +45,60 @@ pub(crate) struct Layout {
     pub(crate) nodes: usize,
 }
 
+impl Part {
+    /// Takes a token that is in it and is no bracket, and says whether it makes a node.
+    fn take(&mut self, token: Token<'_>, is_label: bool) -> bool {
+        match token.text.as_bytes() {
+            [b':'] => {
+                self.labels = self.labels.saturating_add(1);
+                self.labels > 1
+            }
+            [b'?'] | [b'.', b'.', b'.'] => {
+                self.is_weak = true;
+                false
+            }
+            [b'&'] => {
+                let is_new = !self.is_joined;
+                self.is_joined = true;
+                self.has_and = true;
+                is_new
+            }
+            [b'|'] => {
+                let is_new = !self.has_or;
+                self.is_joined = false;
+                self.has_or = true;
+                is_new
+            }
+            _ => {
+                let is_value = !is_label && self.is_in_value() && is_leaf(token);
+                self.has_leaf |= is_value;
+                is_value
+            }
+        }
+    }
+
+    /// Whether a token behind those that it has is in a value.
+    fn is_in_value(&self) -> bool {
+        self.labels > 0 || matches!(self.inside, Inside::List | Inside::Parentheses)
+    }
+
+    /// What the bracket at a place opens in it.
+    fn inside_of(&self, tokens: &[Token<'_>], at: usize) -> Inside {
+        match tokens.get(at) {
+            Some(bracket) if bracket.text == "{" => Inside::Struct,
+            Some(bracket) if bracket.text == "[" => {
+                let is_first = self.labels == 0 && begins_part(tokens, at);
+                if self.inside == Inside::Struct && is_first {
+                    Inside::Label
+                } else {
+                    Inside::List
+                }
+            }
+            _ => Inside::Parentheses,
+        }
+    }
+}
+
 impl Layout {
     /// Begins a part, and gives its place.
     fn begin(
@@ -67,18 +122,23 @@ impl Layout {
         Ok(place)
     }
 
-    fn add_node(&mut self) {
-        self.nodes = self.nodes.saturating_add(1);
+    fn count(&mut self, is_node: bool) {
+        self.nodes = self.nodes.saturating_add(usize::from(is_node));
     }
 
-    /// Begins what a bracket opens in a part.
-    fn open(&mut self, current: usize, inside: Inside, at: usize) -> Result<usize, AllocError> {
-        if matches!(inside, Inside::Struct | Inside::List) {
-            self.add_node();
-        }
-        if inside == Inside::Label {
-            self.weaken(current);
-        }
+    /// Begins what the bracket at a place opens in a part.
+    fn open(
+        &mut self,
+        current: usize,
+        tokens: &[Token<'_>],
+        at: usize,
+    ) -> Result<usize, AllocError> {
+        let Some(part) = self.parts.get_mut(current) else {
+            return Ok(current);
+        };
+        let inside = part.inside_of(tokens, at);
+        part.is_weak |= inside == Inside::Label;
+        self.count(matches!(inside, Inside::Struct | Inside::List));
         self.begin(Some(current), inside, at)
     }
 
@@ -103,79 +163,65 @@ impl Layout {
         self.begin(part.parent, part.inside, opening)
     }
 
-    fn weaken(&mut self, current: usize) {
+    /// Takes a token that is in a part.
+    fn take(&mut self, current: usize, token: Token<'_>, is_label: bool) {
         if let Some(part) = self.parts.get_mut(current) {
-            part.is_weak = true;
+            let is_node = part.take(token, is_label);
+            self.count(is_node);
         }
     }
 
-    fn add_label(&mut self, current: usize) {
-        let mut is_further = false;
-        if let Some(part) = self.parts.get_mut(current) {
-            is_further = part.labels > 0;
-            part.labels = part.labels.saturating_add(1);
-        }
-        if is_further {
-            self.add_node();
-        }
-    }
-
-    fn add_and(&mut self, current: usize) {
-        let mut is_new = false;
-        if let Some(part) = self.parts.get_mut(current) {
-            is_new = !part.is_joined;
-            part.is_joined = true;
-            part.has_and = true;
-        }
-        if is_new {
-            self.add_node();
-        }
-    }
-
-    fn add_or(&mut self, current: usize) {
-        let mut is_new = false;
-        if let Some(part) = self.parts.get_mut(current) {
-            is_new = !part.has_or;
-            part.is_joined = false;
-            part.has_or = true;
-        }
-        if is_new {
-            self.add_node();
-        }
-    }
-
-    /// Counts a token that may be a value by itself.
-    fn add_leaf(&mut self, current: usize, token: Token<'_>) {
-        let mut is_value = false;
-        if let Some(part) = self.parts.get_mut(current) {
-            let is_behind = part.labels > 0
-                || matches!(part.inside, Inside::List | Inside::Parentheses);
-            is_value = is_behind && is_leaf(token);
-            part.has_leaf |= is_value;
-        }
-        if is_value {
-            self.add_node();
-        }
-    }
-
-    /// What a bracket opens that is in a part and behind a token.
-    fn inside_of(&self, current: usize, bracket: &str, before: Token<'_>) -> Inside {
-        let is_declaration = match self.parts.get(current) {
-            Some(part) => part.inside == Inside::Struct && part.labels == 0,
-            None => false,
+    /// Goes past the token at a place, and gives the part behind it.
+    fn pass(
+        &mut self,
+        current: usize,
+        tokens: &[Token<'_>],
+        at: usize,
+    ) -> Result<usize, AllocError> {
+        let Some(token) = tokens.get(at).copied() else {
+            return Ok(current);
         };
-        match bracket {
-            "{" => Inside::Struct,
-            "[" if is_declaration && begins_part(before) => Inside::Label,
-            "[" => Inside::List,
-            _ => Inside::Parentheses,
+        match token.text.as_bytes() {
+            [b'{' | b'[' | b'('] => self.open(current, tokens, at),
+            [b'}' | b']' | b')'] => Ok(self.around(current)),
+            [b','] => self.next(current, at),
+            [] if token.sort == Sort::Inserted => self.next(current, at),
+            _ => {
+                self.take(current, token, is_label(tokens, at));
+                Ok(current)
+            }
         }
+    }
+
+    /// Reads the tokens.
+    fn read(&mut self, tokens: &[Token<'_>]) -> Result<(), AllocError> {
+        let mut current = self.begin(None, Inside::Top, 0)?;
+        for at in 0..tokens.len() {
+            let next = self.pass(current, tokens, at)?;
+            // Of two parts, of which one is around the other, it is the one with the lower place.
+            self.of_token.push(next.min(current))?;
+            current = next;
+        }
+        Ok(())
     }
 }
 
-/// Whether a declaration begins behind a token.
-fn begins_part(before: Token<'_>) -> bool {
-    before.sort == Sort::Inserted || matches!(before.text, "{" | ",")
+/// Whether a declaration begins at a place.
+fn begins_part(tokens: &[Token<'_>], at: usize) -> bool {
+    match tokens.get(at.wrapping_sub(1)) {
+        Some(before) => {
+            before.sort == Sort::Inserted || matches!(before.text.as_bytes(), [b'{' | b','])
+        }
+        None => true,
+    }
+}
+
+/// Whether the token behind a place says that a label is there.
+fn is_label(tokens: &[Token<'_>], at: usize) -> bool {
+    match tokens.get(at.saturating_add(1)) {
+        Some(next) => follows_label(*next),
+        None => false,
+    }
 }
 
 /// Whether a token is an expression without parts, or the literal of a limit.
@@ -192,65 +238,13 @@ fn is_leaf(token: Token<'_>) -> bool {
     }
 }
 
-/// Whether a token behind another one says that this is a label.
-fn is_behind_label(token: Token<'_>) -> bool {
-    matches!(token.text, ":" | "?" | "!")
-}
-
 /// The parts of a source.
 pub(crate) fn layout_of(alloc: Global, tokens: &[Token<'_>]) -> Result<Layout, AllocError> {
     let mut layout = Layout {
         parts: Vec::new(alloc),
-        of_token: Vec::with_capacity(alloc, tokens.len())?,
+        of_token: Vec::new(alloc),
         nodes: 0,
     };
-    let mut current = layout.begin(None, Inside::Top, 0)?;
-    let mut before = Token {
-        sort: Sort::Inserted,
-        text: "",
-        start: 0,
-    };
-    for (at, token) in tokens.iter().enumerate() {
-        let place = current;
-        current = after_token(&mut layout, current, tokens, at, before)?;
-        let is_closing = matches!(token.text, "}" | "]" | ")");
-        layout
-            .of_token
-            .push(if is_closing { current } else { place })?;
-        before = *token;
-    }
+    layout.read(tokens)?;
     Ok(layout)
-}
-
-/// The part behind a token.
-fn after_token(
-    layout: &mut Layout,
-    current: usize,
-    tokens: &[Token<'_>],
-    at: usize,
-    before: Token<'_>,
-) -> Result<usize, AllocError> {
-    let Some(token) = tokens.get(at).copied() else {
-        return Ok(current);
-    };
-    match token.text {
-        "{" | "[" | "(" => {
-            let inside = layout.inside_of(current, token.text, before);
-            return layout.open(current, inside, at);
-        }
-        "}" | "]" | ")" => return Ok(layout.around(current)),
-        "," => return layout.next(current, at),
-        "" if token.sort == Sort::Inserted => return layout.next(current, at),
-        ":" => layout.add_label(current),
-        "?" | "..." => layout.weaken(current),
-        "&" => layout.add_and(current),
-        "|" => layout.add_or(current),
-        _ => {
-            let next = tokens.get(at.saturating_add(1)).copied();
-            if !next.is_some_and(is_behind_label) {
-                layout.add_leaf(current, token);
-            }
-        }
-    }
-    Ok(current)
 }

@@ -1,6 +1,7 @@
 // The declared name that may have been meant by another one.
 use crate::sources::Declaration;
-use crate::text::{put_code, put_number};
+use crate::text::put_line;
+use itoa::Buffer;
 use std::alloc::{AllocError, Global};
 
 /// How long a name is at most that another one is suggested for.
@@ -19,10 +20,8 @@ fn bare(name: &str) -> &str {
 fn few_edits(alloc: Global, from: &str, to: &str) -> Result<Option<usize>, AllocError> {
     let (from, to) = (bare(from), bare(to));
     let most = MOST_EDITS.min(from.len() / 3);
-    if from.len() > MOST_COMPARED || to.len() > MOST_COMPARED {
-        return Ok(None);
-    }
-    if from.len().abs_diff(to.len()) > 4 * MOST_EDITS {
+    let is_long = from.len() > MOST_COMPARED || to.len() > MOST_COMPARED;
+    if is_long || from.len().abs_diff(to.len()) > 4 * MOST_EDITS {
         return Ok(None);
     }
     let edits = strsim::levenshtein(alloc, from, to)?;
@@ -33,43 +32,35 @@ fn few_edits(alloc: Global, from: &str, to: &str) -> Result<Option<usize>, Alloc
 pub(crate) fn nearest<'a>(
     alloc: Global,
     name: &str,
-    declared: &[Declaration<'a>],
+    declared: &[Declaration<'_, '_, 'a>],
 ) -> Result<Option<&'a str>, AllocError> {
     let mut best = None;
     let mut fewest = usize::MAX;
     for declaration in declared {
-        if let Some(edits) = few_edits(alloc, name, declaration.name)? {
-            if edits < fewest {
+        match few_edits(alloc, name, declaration.name())? {
+            Some(edits) if edits < fewest => {
                 fewest = edits;
-                best = Some(declaration.name);
+                best = Some(declaration.name());
             }
+            _ => {}
         }
     }
     Ok(best)
 }
 
-/// Puts `; did you mean` and the name, if there is one.
-pub(crate) fn put_suggestion(text: &mut String, name: Option<&str>) -> Result<(), AllocError> {
-    if let Some(name) = name {
-        text.push_str("; did you mean ")?;
-        put_code(text, name)?;
-        text.push('?')?;
-    }
-    Ok(())
-}
-
 /// Puts the names, and how many are left.
-pub(crate) fn put_names(text: &mut String, declared: &[Declaration<'_>]) -> Result<(), AllocError> {
+pub(crate) fn put_names(
+    text: &mut String,
+    declared: &[Declaration<'_, '_, '_>],
+) -> Result<(), AllocError> {
+    let mut front = "`";
     for (at, declaration) in declared.iter().enumerate() {
         if at >= MOST_LISTED {
-            text.push_str(" and ")?;
-            put_number(text, declared.len().saturating_sub(at))?;
-            return text.push_str(" more");
+            let left = declared.len().saturating_sub(at);
+            return put_line(text, &[" and ", Buffer::new().format(left), " more"]);
         }
-        if at > 0 {
-            text.push_str(", ")?;
-        }
-        put_code(text, declaration.name)?;
+        put_line(text, &[front, declaration.name(), "`"])?;
+        front = ", `";
     }
     Ok(())
 }

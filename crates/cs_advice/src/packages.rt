@@ -1,16 +1,19 @@
 // What is told of faults of whole files and packages.
-use crate::layout::{Inside, Part, layout_of};
-use crate::nearest::{nearest, put_names, put_suggestion};
+use crate::labels::depth_behind;
+use crate::layout::{Inside, layout_of};
+use crate::nearest::{nearest, put_names};
 use crate::parts::first_too_high;
-use crate::sources::{Source, declared};
+use crate::sources::{Declaration, Source, declared_in};
 use crate::spot::Spot;
-use crate::text::{put_code, put_grouped, put_offset};
-use cs_forms::end_of;
+use crate::text::{put_grouped, put_line, put_offset};
 use cs_grammar::Token;
 use std::alloc::{AllocError, Global};
 
 /// How deep brackets may nest.
 const MOST_NESTED: usize = 28;
+/// What makes levels, and what to do where there are too many.
+const LEVELS: &str =
+    ": brackets, short fields, `&`, `|` and the value inside make 28 at most; give an inner part a definition";
 /// How many definitions a package may have.
 const MOST_DEFINITIONS: usize = 1_000;
 
@@ -27,44 +30,46 @@ pub fn put_too_high<'a>(
     let Some(source) = source else {
         return Ok(Spot::nowhere());
     };
-    if let Some(token) = too_deep(&source.tokens) {
-        text.push_str(
-            "this is the 29th bracket that is open; 28 may be: give an inner part a definition",
-        )?;
-        return Ok(Spot::at(source.named, token.start, end_of(token)));
+    match level_too_deep(alloc, &source.tokens)? {
+        Some((token, level, remedy)) => {
+            put_line(text, &[level, remedy])?;
+            Ok(Spot::at_token(source.named, token))
+        }
+        None => Ok(Spot::in_file(source.named)),
     }
-    let layout = layout_of(alloc, &source.tokens)?;
-    let Some(part) = first_too_high(alloc, &layout)? else {
-        return Ok(Spot::in_file(source.named));
-    };
-    let Some(token) = source.tokens.get(part.opening).copied() else {
-        return Ok(Spot::in_file(source.named));
-    };
-    put_level(text, part)?;
-    Ok(Spot::at(source.named, token.start, end_of(token)))
 }
 
-/// Puts that a part has the level that is too deep.
-fn put_level(text: &mut String, part: Part) -> Result<(), AllocError> {
-    text.push_str(if part.inside == Inside::Top {
+/// The bracket or the definition with the first level that is too deep, which level that is, and what to do.
+fn level_too_deep<'a>(
+    alloc: Global,
+    tokens: &[Token<'a>],
+) -> Result<Option<(Token<'a>, &'static str, &'static str)>, AllocError> {
+    if let Some(token) = too_deep(tokens) {
+        let level = "this is the 29th bracket that is open; 28 may be";
+        return Ok(Some((token, level, ": give an inner part a definition")));
+    }
+    let layout = layout_of(alloc, tokens)?;
+    let Some(part) = first_too_high(alloc, &layout.parts)? else {
+        return Ok(None);
+    };
+    let level = if part.inside == Inside::Top {
         "level 29 is in this definition"
     } else {
         "level 29 is in this bracket"
-    })?;
-    text.push_str(
-        ": brackets, short fields, `&`, `|` and the value inside make 28 at most; give an inner part a definition",
-    )
+    };
+    Ok(match tokens.get(part.opening) {
+        Some(token) => Some((*token, level, LEVELS)),
+        None => None,
+    })
 }
 
 /// The first bracket that is nested too deep.
 fn too_deep<'a>(tokens: &[Token<'a>]) -> Option<Token<'a>> {
-    let mut depth = 0usize;
+    let mut depth = 0;
     for token in tokens {
-        match token.text {
-            "{" | "[" | "(" if depth >= MOST_NESTED => return Some(*token),
-            "{" | "[" | "(" => depth = depth.saturating_add(1),
-            "}" | "]" | ")" => depth = depth.saturating_sub(1),
-            _ => {}
+        depth = depth_behind(*token, depth).unwrap_or(0);
+        if depth > MOST_NESTED {
+            return Some(*token);
         }
     }
     None
@@ -94,18 +99,22 @@ pub fn put_package_name<'a>(
     let Some(name) = clause_of(source) else {
         return Ok(Spot::in_file(source.named));
     };
-    text.push_str("this file is of the package ")?;
-    put_code(text, name.text)?;
-    for first in sources {
-        if let Some(other) = clause_of(first) {
+    put_line(text, &["this file is of the package `", name.text, "`"])?;
+    put_first_clause(text, sources)?;
+    text.push_str("; give the files of one package, or correct the clause")?;
+    Ok(Spot::at_token(source.named, name))
+}
+
+/// Puts the first package clause of the sources, with its place.
+fn put_first_clause(text: &mut String, sources: &[Source<'_, '_>]) -> Result<(), AllocError> {
+    for source in sources {
+        if let Some(name) = clause_of(source) {
             text.push_str(", and ")?;
-            put_offset(text, first.named, other.start)?;
-            put_code(text, other.text)?;
-            break;
+            put_offset(text, source.named, name.start)?;
+            return put_line(text, &["`", name.text, "`"]);
         }
     }
-    text.push_str("; give the files of one package, or correct the clause")?;
-    Ok(Spot::at(source.named, name.start, end_of(name)))
+    Ok(())
 }
 
 /// Puts the names that the sources declare, where the root is none of them (13), and the one that may have been meant. It has no
@@ -119,21 +128,28 @@ pub fn put_no_root<'a>(
     sources: &[Source<'a, '_>],
     root: &str,
 ) -> Result<Spot<'a>, AllocError> {
-    let declared = declared(alloc, sources)?;
-    text.push_str("no ")?;
-    put_code(text, root)?;
-    let suggestion = nearest(alloc, root, &declared)?;
-    put_suggestion(text, suggestion)?;
-    if declared.is_empty() {
-        text.push_str("; no definition is declared")?;
-        return Ok(Spot::nowhere());
-    }
-    if suggestion.is_none() {
-        text.push(';')?;
-    }
-    text.push_str(" declared: ")?;
-    put_names(text, &declared)?;
+    let declared = declared_in(alloc, sources)?;
+    let meant = nearest(alloc, root, &declared.all)?;
+    put_undeclared(text, root, meant, &declared.all)?;
     Ok(Spot::nowhere())
+}
+
+/// Puts that a root isn't declared, what may have been meant by it, and what is declared.
+fn put_undeclared<'a>(
+    text: &mut String,
+    root: &'a str,
+    meant: Option<&'a str>,
+    declared: &[Declaration<'_, '_, '_>],
+) -> Result<(), AllocError> {
+    if declared.is_empty() {
+        return put_line(text, &["no `", root, "`; no definition is declared"]);
+    }
+    let (front, meant, end) = match meant {
+        Some(meant) => ("`; did you mean `", meant, "`?"),
+        None => ("`;", "", ""),
+    };
+    put_line(text, &["no `", root, front, meant, end, " declared: "])?;
+    put_names(text, declared)
 }
 
 /// Puts how many definitions or nodes the sources have, where these are too many (14). It has no place.
@@ -145,14 +161,15 @@ pub fn put_too_large<'a>(
     text: &mut String,
     sources: &[Source<'a, '_>],
 ) -> Result<Spot<'a>, AllocError> {
-    let definitions = declared(alloc, sources)?.len();
-    if definitions > MOST_DEFINITIONS {
-        put_grouped(text, definitions)?;
-        text.push_str(" definitions, and 1,000 may be: split the package by roots")?;
+    let definitions = declared_in(alloc, sources)?.all.len();
+    let (count, noun) = if definitions > MOST_DEFINITIONS {
+        (definitions, " definitions, and 1,000")
     } else {
-        put_grouped(text, nodes_of(alloc, sources)?)?;
-        text.push_str(" nodes of expressions, and 50,000 may be: split the package by roots")?;
-    }
+        let nodes = nodes_of(alloc, sources)?;
+        (nodes, " nodes of expressions, and 50,000")
+    };
+    let remedy = " may be: split the package by roots";
+    put_grouped(text, count, &[noun, remedy])?;
     Ok(Spot::nowhere())
 }
 

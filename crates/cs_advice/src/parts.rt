@@ -1,5 +1,5 @@
 // How high parts are.
-use crate::layout::{Inside, Layout, Part};
+use crate::layout::{Inside, Part};
 use std::alloc::{AllocError, Global};
 
 /// How high an expression may be.
@@ -19,16 +19,15 @@ fn own_height(part: &Part) -> usize {
 }
 
 /// The first part, by its beginning, that has a level too deep; none where each is low enough.
-pub(crate) fn first_too_high(alloc: Global, layout: &Layout) -> Result<Option<Part>, AllocError> {
-    let mut heights: Vec<usize> = Vec::with_capacity(alloc, layout.parts.len())?;
-    for part in &layout.parts {
-        let outer = part
-            .parent
-            .and_then(|parent| heights.get(parent).copied())
-            .unwrap_or(0);
+pub(crate) fn first_too_high(alloc: Global, parts: &[Part]) -> Result<Option<Part>, AllocError> {
+    let mut heights: Vec<usize> = Vec::new(alloc);
+    for part in parts {
+        let outer = match part.parent {
+            Some(parent) => heights.get(parent).copied().unwrap_or(0),
+            None => 0,
+        };
         let height = outer.saturating_add(own_height(part));
-        let with_leaf = height.saturating_add(usize::from(part.has_leaf));
-        if with_leaf > MOST_HEIGHT {
+        if height.saturating_add(usize::from(part.has_leaf)) > MOST_HEIGHT {
             return Ok(Some(*part));
         }
         heights.push(height)?;

@@ -1,9 +1,11 @@
 // Sources with their tokens, and what they declare.
+use crate::labels::depth_behind;
+use cs_forms::Near;
 use cs_grammar::{Sort, SyntaxFault, Token};
 use cs_lexer::lex;
 use cs_place::Named;
 use std::alloc::{AllocError, Global};
-use std::collections::HashSet;
+use std::collections::HashMap;
 use std::str;
 
 /// A source with its tokens; none of them where it isn't cut.
@@ -13,17 +15,81 @@ pub struct Source<'n, 't> {
     pub tokens: Vec<Token<'t>>,
 }
 
-/// The first declaration of a definition.
+/// The first declaration of a definition: the source, and the name there.
 #[derive(Clone, Copy, Drop)]
-pub(crate) struct Declaration<'a> {
+pub(crate) struct Declaration<'s, 'n, 't> {
+    pub(crate) named: Named<'n>,
+    pub(crate) label: Near<'s, 't>,
+}
+
+impl<'t> Declaration<'_, '_, 't> {
     /// The name with its `#`.
-    pub(crate) name: &'a str,
-    pub(crate) file: usize,
-    pub(crate) offset: usize,
+    pub(crate) fn name(&self) -> &'t str {
+        self.label.here().text
+    }
+}
+
+/// The definitions that sources declare, each once, in the order in which they are declared.
+#[derive(Drop)]
+pub(crate) struct Declared<'s, 'n, 't> {
+    pub(crate) all: Vec<Declaration<'s, 'n, 't>>,
+    /// The places among them by their names.
+    pub(crate) places: HashMap<&'t str, usize>,
+}
+
+impl<'s, 'n, 't> Declared<'s, 'n, 't> {
+    /// The declaration of a name.
+    pub(crate) fn of(&self, name: &str) -> Option<Declaration<'s, 'n, 't>> {
+        let place = *self.places.get(name)?;
+        self.all.get(place).copied()
+    }
+
+    /// Adds a declaration, unless its name is known.
+    fn add(&mut self, declaration: Declaration<'s, 'n, 't>) -> Result<(), AllocError> {
+        let name = declaration.name();
+        if !self.places.contains_key(name) {
+            self.places.insert(name, self.all.len())?;
+            self.all.push(declaration)?;
+        }
+        Ok(())
+    }
+
+    /// Adds what a source declares.
+    fn add_source(&mut self, source: &'s Source<'n, 't>) -> Result<(), AllocError> {
+        let named = source.named;
+        let mut depth = 0;
+        for token in &source.tokens {
+            if depth == 0 && token.sort == Sort::Definition {
+                match Near::at(&source.tokens, token.start) {
+                    Some(label) if label.behind(1).text == ":" => {
+                        self.add(Declaration { named, label })?;
+                    }
+                    _ => {}
+                }
+            }
+            depth = depth_behind(*token, depth).unwrap_or(0);
+        }
+        Ok(())
+    }
+}
+
+/// The definitions that the sources declare.
+pub(crate) fn declared_in<'s, 'n, 't>(
+    alloc: Global,
+    sources: &'s [Source<'n, 't>],
+) -> Result<Declared<'s, 'n, 't>, AllocError> {
+    let mut declared = Declared {
+        all: Vec::new(alloc),
+        places: HashMap::new(alloc),
+    };
+    for source in sources {
+        declared.add_source(source)?;
+    }
+    Ok(declared)
 }
 
 /// The tokens of a source, or none where it has no cut.
-fn tokens_of<'a>(alloc: Global, text: &'a [u8]) -> Result<Vec<Token<'a>>, AllocError> {
+fn tokens_of<'t>(alloc: Global, text: &'t [u8]) -> Result<Vec<Token<'t>>, AllocError> {
     let Ok(source) = str::from_utf8(text) else {
         return Ok(Vec::new(alloc));
     };
@@ -34,6 +100,18 @@ fn tokens_of<'a>(alloc: Global, text: &'a [u8]) -> Result<Vec<Token<'a>>, AllocE
     }
 }
 
+/// Adds a source with the tokens of a text.
+fn add_cut<'n, 't>(
+    alloc: Global,
+    sources: &mut Vec<Source<'n, 't>>,
+    named: Named<'n>,
+    text: &'t [u8],
+) -> Result<(), AllocError> {
+    let tokens = tokens_of(alloc, text)?;
+    sources.push(Source { named, tokens })?;
+    Ok(())
+}
+
 /// The sources with their tokens, in their order.
 ///
 /// # Errors
@@ -42,11 +120,9 @@ pub fn sources_of<'a>(
     alloc: Global,
     named: &[Named<'a>],
 ) -> Result<Vec<Source<'a, 'a>>, AllocError> {
-    let mut sources = Vec::with_capacity(alloc, named.len())?;
+    let mut sources = Vec::new(alloc);
     for named in named {
-        let tokens = tokens_of(alloc, named.text)?;
-        let named = *named;
-        sources.push(Source { named, tokens })?;
+        add_cut(alloc, &mut sources, *named, named.text)?;
     }
     Ok(sources)
 }
@@ -61,65 +137,11 @@ pub fn cut_sources<'n, 't>(
     named: &[Named<'n>],
     copies: &'t [Vec<u8>],
 ) -> Result<Vec<Source<'n, 't>>, AllocError> {
-    let mut sources = Vec::with_capacity(alloc, named.len())?;
-    for (named, copy) in named.iter().zip(copies) {
-        let tokens = tokens_of(alloc, copy)?;
-        let named = *named;
-        sources.push(Source { named, tokens })?;
-    }
-    Ok(sources)
-}
-
-/// The definitions that the sources declare, each once, in the order in which they are declared.
-pub(crate) fn declared<'a>(
-    alloc: Global,
-    sources: &[Source<'_, 'a>],
-) -> Result<Vec<Declaration<'a>>, AllocError> {
-    let mut known = HashSet::new(alloc);
-    let mut found = Vec::new(alloc);
-    for (file, source) in sources.iter().enumerate() {
-        add_declarations(file, &source.tokens, &mut known, &mut found)?;
-    }
-    Ok(found)
-}
-
-/// Adds what a file declares and isn't known.
-fn add_declarations<'a>(
-    file: usize,
-    tokens: &[Token<'a>],
-    known: &mut HashSet<&'a str>,
-    found: &mut Vec<Declaration<'a>>,
-) -> Result<(), AllocError> {
-    let mut depth = 0usize;
-    for (at, token) in tokens.iter().enumerate() {
-        match token.text {
-            "{" | "[" | "(" => depth = depth.saturating_add(1),
-            "}" | "]" | ")" => depth = depth.saturating_sub(1),
-            name if depth == 0 && begins_declaration(tokens, at) => {
-                if known.insert(name)? {
-                    let offset = token.start;
-                    found.push(Declaration { name, file, offset })?;
-                }
-            }
-            _ => {}
+    let mut sources = Vec::new(alloc);
+    for (place, copy) in copies.iter().enumerate() {
+        if let Some(named) = named.get(place) {
+            add_cut(alloc, &mut sources, *named, copy)?;
         }
     }
-    Ok(())
-}
-
-/// Whether a token is the name of a definition with a colon behind it.
-fn begins_declaration(tokens: &[Token<'_>], at: usize) -> bool {
-    match tokens.get(at..) {
-        Some([name, colon, ..]) => name.sort == Sort::Definition && colon.text == ":",
-        _ => false,
-    }
-}
-
-/// The declaration of a name.
-pub(crate) fn declaration_of<'a>(
-    declared: &[Declaration<'a>],
-    name: &str,
-) -> Option<Declaration<'a>> {
-    let found = declared.iter().find(|declaration| declaration.name == name);
-    found.copied()
+    Ok(sources)
 }

@@ -1,5 +1,6 @@
 // Where refusals have their places.
-use cs_forms::Form;
+use cs_forms::{Form, end_of};
+use cs_grammar::Token;
 use cs_place::Named;
 
 /// A part of a text, from `start` up to `end`, which is behind its last byte.
@@ -44,5 +45,10 @@ impl<'a> Spot<'a> {
             span: Some(Span { start, end }),
             form: None,
         }
+    }
+
+    /// A token of a file.
+    pub(crate) fn at_token(named: Named<'a>, token: Token<'_>) -> Spot<'a> {
+        Spot::at(named, token.start, end_of(token))
     }
 }

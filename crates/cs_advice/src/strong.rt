@@ -1,19 +1,14 @@
 // Which definitions refer to which, where a document can't avoid the reference.
+use crate::graph::Graph;
 use crate::layout::{Inside, Layout, Part, layout_of};
 use cs_grammar::{Sort, Token};
 use std::alloc::{AllocError, Global};
-
-/// A reference from a definition to another one, by their names with `#`.
-#[derive(Clone, Copy, Drop)]
-pub(crate) struct Strong<'a> {
-    pub(crate) from: &'a str,
-    pub(crate) to: &'a str,
-}
+use std::collections::HashMap;
 
 /// What is on the way from a definition to a part.
 #[derive(Clone, Copy, Drop)]
 struct Way {
-    /// The part of the definition.
+    /// The place of the token that begins the definition.
     definition: usize,
     /// A document may leave it out.
     is_weak: bool,
@@ -23,9 +18,9 @@ struct Way {
 }
 
 /// The way to a part, by that to the part around it.
-fn way_to(part: &Part, place: usize, outer: Option<Way>) -> Way {
+fn way_to(part: &Part, outer: Option<Way>) -> Way {
     let outer = outer.unwrap_or(Way {
-        definition: place,
+        definition: part.opening,
         is_weak: false,
         has_or: false,
         is_inside: false,
@@ -40,39 +35,41 @@ fn way_to(part: &Part, place: usize, outer: Option<Way>) -> Way {
 }
 
 /// The way to each part.
-fn ways_of(alloc: Global, layout: &Layout) -> Result<Vec<Way>, AllocError> {
-    let mut ways: Vec<Way> = Vec::with_capacity(alloc, layout.parts.len())?;
-    for (place, part) in layout.parts.iter().enumerate() {
-        let outer = part.parent.and_then(|parent| ways.get(parent).copied());
-        ways.push(way_to(part, place, outer))?;
+fn ways_of(alloc: Global, parts: &[Part]) -> Result<Vec<Way>, AllocError> {
+    let mut ways: Vec<Way> = Vec::new(alloc);
+    for part in parts {
+        let outer = match part.parent {
+            Some(parent) => ways.get(parent).copied(),
+            None => None,
+        };
+        ways.push(way_to(part, outer))?;
     }
     Ok(ways)
 }
 
-/// The definition that a token is in and refers from, where a document can't avoid it.
-fn strong_at<'a>(
-    tokens: &[Token<'a>],
+/// The name of the definition that a token is in and refers from, where a document can't avoid it.
+fn strong_at<'t>(
+    tokens: &[Token<'t>],
     layout: &Layout,
     ways: &[Way],
     at: usize,
-) -> Option<&'a str> {
+) -> Option<&'t str> {
     let way = ways.get(*layout.of_token.get(at)?)?;
     if way.is_weak || way.has_or && way.is_inside {
         return None;
     }
-    let part = layout.parts.get(way.definition)?;
-    let label = tokens.get(part.opening)?;
-    Some(label.text)
+    Some(tokens.get(way.definition)?.text)
 }
 
-/// Adds the references of a source, in the order of its text.
-pub(crate) fn add_strong<'a>(
+/// Adds the references of a source, in the order of its text. The definitions have these places.
+pub(crate) fn add_strong(
     alloc: Global,
-    tokens: &[Token<'a>],
-    found: &mut Vec<Strong<'a>>,
+    tokens: &[Token<'_>],
+    places: &HashMap<&str, usize>,
+    graph: &mut Graph,
 ) -> Result<(), AllocError> {
     let layout = layout_of(alloc, tokens)?;
-    let ways = ways_of(alloc, &layout)?;
+    let ways = ways_of(alloc, &layout.parts)?;
     for (at, token) in tokens.iter().enumerate() {
         let is_label = match tokens.get(at.saturating_add(1)) {
             Some(next) => next.text == ":",
@@ -80,12 +77,22 @@ pub(crate) fn add_strong<'a>(
         };
         if token.sort == Sort::Definition && !is_label {
             if let Some(from) = strong_at(tokens, &layout, &ways, at) {
-                found.push(Strong {
-                    from,
-                    to: token.text,
-                })?;
+                add_between(places, graph, from, token.text)?;
             }
         }
     }
     Ok(())
+}
+
+/// Adds a reference from one name to another one, where both are those of definitions.
+fn add_between(
+    places: &HashMap<&str, usize>,
+    graph: &mut Graph,
+    from: &str,
+    to: &str,
+) -> Result<(), AllocError> {
+    match (places.get(from), places.get(to)) {
+        (Some(from), Some(to)) => graph.add(*from, *to),
+        _ => Ok(()),
+    }
 }

@@ -3,33 +3,11 @@ use cs_place::{Named, position_of};
 use itoa::Buffer;
 use std::alloc::AllocError;
 
-/// Puts a number.
+/// Puts these parts as they are, one after another.
 ///
 /// # Errors
 /// Memory ran out.
-pub fn put_number(text: &mut String, number: usize) -> Result<(), AllocError> {
-    text.push_str(Buffer::new().format(number))
-}
-
-/// Puts a number with a comma before each three digits.
-///
-/// # Errors
-/// Memory ran out.
-pub fn put_grouped(text: &mut String, number: usize) -> Result<(), AllocError> {
-    let mut buffer = Buffer::new();
-    let digits = buffer.format(number);
-    let len = digits.len();
-    for (at, digit) in digits.chars().enumerate() {
-        if at > 0 && len.saturating_sub(at) % 3 == 0 {
-            text.push(',')?;
-        }
-        text.push(digit)?;
-    }
-    Ok(())
-}
-
-/// Puts these parts, one after another.
-pub(crate) fn put_all(text: &mut String, parts: &[&str]) -> Result<(), AllocError> {
+pub fn put_all(text: &mut String, parts: &[&str]) -> Result<(), AllocError> {
     for part in parts {
         text.push_str(part)?;
     }
@@ -42,11 +20,8 @@ fn is_control(character: char) -> bool {
 }
 
 /// Puts a text with a `?` for each control character.
-///
-/// # Errors
-/// Memory ran out.
-pub fn put_line(text: &mut String, inside: &str) -> Result<(), AllocError> {
-    for character in inside.chars() {
+fn put_shown(text: &mut String, shown: &str) -> Result<(), AllocError> {
+    for character in shown.chars() {
         text.push(if is_control(character) {
             '?'
         } else {
@@ -56,65 +31,90 @@ pub fn put_line(text: &mut String, inside: &str) -> Result<(), AllocError> {
     Ok(())
 }
 
-/// Puts a text in backquotes.
+/// Puts these parts of a line, one after another, with a `?` for each control character in them.
 ///
 /// # Errors
 /// Memory ran out.
-pub fn put_code(text: &mut String, inside: &str) -> Result<(), AllocError> {
-    text.push('`')?;
-    put_line(text, inside)?;
-    text.push('`')
+pub fn put_line(text: &mut String, parts: &[&str]) -> Result<(), AllocError> {
+    for part in parts {
+        put_shown(text, part)?;
+    }
+    Ok(())
 }
 
-/// Puts `NAME:LINE:COLUMN: `.
-fn put_place(text: &mut String, name: &str, line: usize, column: usize) -> Result<(), AllocError> {
-    put_line(text, name)?;
-    text.push(':')?;
-    put_number(text, line)?;
-    text.push(':')?;
-    put_number(text, column)?;
-    text.push_str(": ")
+/// Puts how something is spelled, and what is said of it.
+pub(crate) fn put_spelled(
+    text: &mut String,
+    spelled: &str,
+    said: &str,
+    more: &str,
+) -> Result<(), AllocError> {
+    put_line(text, &["`", spelled, "`: ", said, more])
 }
 
-/// Puts the place of an offset of a text: `NAME:LINE:COLUMN: `.
+/// Puts a number with a comma before each three digits, and words behind it.
+///
+/// # Errors
+/// Memory ran out.
+pub fn put_grouped(text: &mut String, number: usize, words: &[&str]) -> Result<(), AllocError> {
+    let mut buffer = Buffer::new();
+    let digits = buffer.format(number);
+    let len = digits.len();
+    for (at, digit) in digits.chars().enumerate() {
+        if at > 0 && len.saturating_sub(at) % 3 == 0 {
+            text.push(',')?;
+        }
+        text.push(digit)?;
+    }
+    put_all(text, words)
+}
+
+/// The line and the column of an offset of a text, in what the text was taken from.
+///
+/// The first line and the first column are 1.
+pub fn line_and_column(named: Named<'_>, offset: usize) -> (usize, usize) {
+    let place = position_of(named.text, offset);
+    let line = place.line.saturating_add(named.line).saturating_sub(1);
+    (line, place.column)
+}
+
+/// Puts the place of an offset of a text, and words behind it: `NAME:LINE:COLUMN: `.
 ///
 /// # Errors
 /// Memory ran out.
 pub fn put_offset(text: &mut String, named: Named<'_>, offset: usize) -> Result<(), AllocError> {
-    let place = position_of(named.text, offset);
-    let line = place.line.saturating_add(named.line).saturating_sub(1);
-    put_place(text, named.name, line, place.column)
+    let (line, column) = line_and_column(named, offset);
+    put_line(
+        text,
+        &[
+            named.name,
+            ":",
+            Buffer::new().format(line),
+            ":",
+            Buffer::new().format(column),
+            ": ",
+        ],
+    )
 }
 
-/// The digit of a number below 16.
-fn hex_digit(number: u32) -> char {
-    match number {
-        0..=9 => (b'0' + number as u8) as char,
-        _ => (b'a' + (number % 16) as u8 - 10) as char,
-    }
-}
-
-/// Puts a control character as JSON escapes it (RFC 8259, section 7).
-fn put_control(text: &mut String, control: char) -> Result<(), AllocError> {
-    let code = control as u32 % 256;
-    text.push_str("\\u00")?;
-    text.push(hex_digit(code / 16))?;
-    text.push(hex_digit(code % 16))
-}
-
-/// Puts a text as a string of JSON (RFC 8259, section 7).
+/// Puts words, and behind them a text as a string of JSON (RFC 8259, section 7).
 ///
 /// # Errors
 /// Memory ran out.
-pub fn put_quoted(text: &mut String, inside: &str) -> Result<(), AllocError> {
-    text.push('"')?;
+pub fn put_quoted(text: &mut String, words: &str, inside: &str) -> Result<(), AllocError> {
+    put_all(text, &[words, "\""])?;
     for character in inside.chars() {
-        match character {
-            '"' => text.push_str("\\\"")?,
-            '\\' => text.push_str("\\\\")?,
-            _ if is_control(character) => put_control(text, character)?,
-            _ => text.push(character)?,
-        }
+        put_escaped(text, character)?;
     }
     text.push('"')
+}
+
+/// Puts a character of a string of JSON.
+fn put_escaped(text: &mut String, character: char) -> Result<(), AllocError> {
+    match character {
+        '"' => text.push_str("\\\""),
+        '\\' => text.push_str("\\\\"),
+        _ if is_control(character) => write!(text, "\\u{:04x}", character as u32),
+        _ => text.push(character),
+    }
 }

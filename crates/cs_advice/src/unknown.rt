@@ -1,42 +1,70 @@
 // What is said of names that aren't declared, and of those of fields.
 use crate::labels::field_named;
-use crate::nearest::{nearest, put_suggestion};
-use crate::sources::{Source, declared};
-use crate::text::{put_code, put_number};
+use crate::nearest::nearest;
+use crate::sources::{Source, declared_in};
+use crate::text::{put_line, put_spelled};
 use cs_forms::Near;
 use cs_place::position_of;
+use itoa::Buffer;
 use std::alloc::{AllocError, Global};
+
+/// What to write for kinds that are left out.
+const OTHER_KINDS: &[(&str, &str)] = &[
+    (
+        "bytes",
+        "JSON has no bytes; agree on a text, such as base64, and write `string`",
+    ),
+    ("uint64", "integers have 64 signed bits; write `uint`"),
+    ("uint128", "integers have 64 signed bits; write `uint`"),
+    ("int128", "integers have 64 signed bits; write `int`"),
+    ("rune", "this kind is left out; write `int` with its bounds"),
+];
+
+/// What CUE calls kinds that other languages call by these names.
+const MEANT: &[(&str, &str)] = &[
+    ("integer", "int"),
+    ("Int", "int"),
+    ("long", "int"),
+    ("boolean", "bool"),
+    ("Bool", "bool"),
+    ("str", "string"),
+    ("String", "string"),
+    ("text", "string"),
+    ("any", "_"),
+    ("object", "{...}"),
+    ("struct", "{...}"),
+    ("array", "[...]"),
+    ("list", "[...]"),
+    ("nil", "null"),
+    ("None", "null"),
+    ("undefined", "null"),
+];
+
+/// What a table has for a name.
+fn row_of(table: &[(&str, &'static str)], name: &str) -> Option<&'static str> {
+    for (key, value) in table {
+        if *key == name {
+            return Some(*value);
+        }
+    }
+    None
+}
 
 /// Puts what to write for a kind that is left out.
 pub(crate) fn put_kind(text: &mut String, kind: &str) -> Result<(), AllocError> {
-    put_code(text, kind)?;
-    text.push_str(": ")?;
-    text.push_str(match kind {
-        "bytes" => "JSON has no bytes; agree on a text, such as base64, and write `string`",
-        "uint64" | "uint128" => "integers have 64 signed bits; write `uint`",
-        "int128" => "integers have 64 signed bits; write `int`",
-        "rune" => "this kind is left out; write `int` with its bounds",
-        _ => "floats are left out; write `int`, and scale it (percent, milliseconds)",
-    })
+    let said = row_of(OTHER_KINDS, kind).unwrap_or(
+        "floats are left out; write `int`, and scale it (percent, milliseconds)",
+    );
+    put_spelled(text, kind, said, "")
 }
 
 /// Whether a name is that of a kind of the profile.
 fn is_kind(name: &str) -> bool {
-    matches!(
-        name,
-        "int"
-            | "number"
-            | "string"
-            | "bool"
-            | "uint"
-            | "uint8"
-            | "int8"
-            | "uint16"
-            | "int16"
-            | "uint32"
-            | "int32"
-            | "int64"
-    )
+    [
+        "int", "number", "string", "bool", "uint", "uint8", "int8", "uint16", "int16", "uint32",
+        "int32", "int64",
+    ]
+    .contains(&name)
 }
 
 /// Puts that a name names a field, and where that is.
@@ -46,30 +74,24 @@ pub(crate) fn put_field_reference(
     near: Near<'_, '_>,
 ) -> Result<(), AllocError> {
     let name = near.here().text;
-    put_code(text, name)?;
-    text.push_str(" is a field")?;
-    if let Some(label) = field_named(near) {
-        text.push_str(" (line ")?;
-        put_number(text, position_of(source, label.start).line)?;
-        text.push(')')?;
-    }
-    if is_kind(name) {
-        return text.push_str(", which hides this kind: put its label in double quotes");
-    }
-    text.push_str(": give its value a definition and name it in both")
-}
-
-/// What CUE calls a kind that other languages call by a name.
-fn kind_meant(name: &str) -> Option<&'static str> {
-    match name {
-        "integer" | "Int" | "long" => Some("int"),
-        "boolean" | "Bool" => Some("bool"),
-        "str" | "String" | "text" => Some("string"),
-        "any" => Some("_"),
-        "object" | "struct" => Some("{...}"),
-        "array" | "list" => Some("[...]"),
-        "nil" | "None" | "undefined" => Some("null"),
-        _ => None,
+    let remedy = if is_kind(name) {
+        ", which hides this kind: put its label in double quotes"
+    } else {
+        ": give its value a definition and name it in both"
+    };
+    match field_named(near) {
+        Some(label) => put_line(
+            text,
+            &[
+                "`",
+                name,
+                "` is a field (line ",
+                Buffer::new().format(position_of(source, label.start).line),
+                ")",
+                remedy,
+            ],
+        ),
+        None => put_line(text, &["`", name, "` is a field", remedy]),
     }
 }
 
@@ -80,13 +102,21 @@ pub(crate) fn put_unknown(
     name: &str,
     sources: &[Source<'_, '_>],
 ) -> Result<(), AllocError> {
-    put_code(text, name)?;
-    text.push_str(" isn't declared")?;
-    let declared = declared(alloc, sources)?;
-    let suggestion = nearest(alloc, name, &declared)?.or(kind_meant(name));
-    put_suggestion(text, suggestion)?;
-    if suggestion.is_none() && name.starts_with('#') {
-        text.push_str("; give the file that declares it too")?;
-    }
-    Ok(())
+    let declared = declared_in(alloc, sources)?;
+    let meant = nearest(alloc, name, &declared.all)?;
+    put_meant(text, name, meant.or(row_of(MEANT, name)))
+}
+
+/// Puts that a name isn't declared, and what may have been meant by it.
+fn put_meant<'a>(
+    text: &mut String,
+    name: &'a str,
+    meant: Option<&'a str>,
+) -> Result<(), AllocError> {
+    let (front, meant, end) = match meant {
+        Some(meant) => ("; did you mean `", meant, "`?"),
+        None if name.starts_with('#') => ("; give the file that declares it too", "", ""),
+        None => ("", "", ""),
+    };
+    put_line(text, &["`", name, "` isn't declared", front, meant, end])
 }

@@ -62,25 +62,9 @@ fn is_exported(name: &str) -> bool {
 
 /// Whether a name is that of a package which comes with CUE.
 fn is_package(name: &str) -> bool {
-    matches!(
-        name,
-        "base64"
-            | "bool"
-            | "csv"
-            | "hex"
-            | "json"
-            | "list"
-            | "math"
-            | "bits"
-            | "net"
-            | "path"
-            | "regexp"
-            | "strconv"
-            | "strings"
-            | "struct"
-            | "template"
-            | "time"
-            | "uuid"
-            | "yaml"
-    )
+    [
+        "base64", "bool", "csv", "hex", "json", "list", "math", "bits", "net", "path", "regexp",
+        "strconv", "strings", "struct", "template", "time", "uuid", "yaml",
+    ]
+    .contains(&name)
 }

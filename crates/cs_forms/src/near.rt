@@ -36,7 +36,7 @@ pub fn end_of(token: Token<'_>) -> usize {
 /// Whether a value ends with a token.
 pub fn ends_value(token: Token<'_>) -> bool {
     match token.sort {
-        Sort::Mark => matches!(token.text, "}" | "]" | ")"),
+        Sort::Mark => matches!(token.text.as_bytes(), [b'}' | b']' | b')']),
         Sort::LeftOut | Sort::Inserted | Sort::End => false,
         _ => true,
     }
@@ -45,19 +45,21 @@ pub fn ends_value(token: Token<'_>) -> bool {
 /// Whether a value begins with a token.
 pub(crate) fn begins_value(token: Token<'_>) -> bool {
     match token.sort {
-        Sort::Mark => matches!(
-            token.text,
-            "{" | "[" | "(" | "<" | "<=" | ">" | ">=" | "!=" | "-"
-        ),
+        Sort::Mark => { ["{", "[", "(", "<", "<=", ">", ">=", "!=", "-"].contains(&token.text) }
         Sort::LeftOut | Sort::Inserted | Sort::End => false,
         _ => true,
     }
 }
 
+/// Whether a token is behind a label: its colon, or the mark before that.
+pub fn follows_label(token: Token<'_>) -> bool {
+    matches!(token.text.as_bytes(), [b':' | b'?' | b'!'])
+}
+
 /// Whether what follows a token is a declaration, where declarations are.
 fn precedes_declaration(token: Token<'_>) -> bool {
     match token.sort {
-        Sort::Mark => matches!(token.text, "{" | ","),
+        Sort::Mark => matches!(token.text.as_bytes(), [b'{' | b',']),
         Sort::Inserted | Sort::End => true,
         _ => false,
     }
@@ -73,18 +75,7 @@ impl<'t, 'a> Near<'t, 'a> {
 
     /// The token so many behind, as another place.
     pub fn moved(&self, steps: usize) -> Option<Near<'t, 'a>> {
-        let at = self.at.checked_add(steps)?;
-        let token = *self.tokens.get(at)?;
-        Some(Near {
-            tokens: self.tokens,
-            at,
-            token,
-        })
-    }
-
-    /// The token so many before, as another place.
-    pub fn moved_back(&self, steps: usize) -> Option<Near<'t, 'a>> {
-        let at = self.at.checked_sub(steps)?;
+        let at = self.at.saturating_add(steps);
         let token = *self.tokens.get(at)?;
         Some(Near {
             tokens: self.tokens,
@@ -99,11 +90,11 @@ impl<'t, 'a> Near<'t, 'a> {
 
     /// The token so many before; the end where there is none.
     pub fn before(&self, steps: usize) -> Token<'a> {
-        match self
-            .at
-            .checked_sub(steps)
-            .and_then(|at| self.tokens.get(at))
-        {
+        let found = match self.at.checked_sub(steps) {
+            Some(at) => self.tokens.get(at),
+            None => None,
+        };
+        match found {
             Some(token) => *token,
             None => nothing(),
         }
@@ -122,13 +113,13 @@ impl<'t, 'a> Near<'t, 'a> {
         let mut closed = 0usize;
         for at in (0..self.at).rev() {
             let token = *self.tokens.get(at)?;
-            match token.text {
-                "{" | "[" | "(" if closed == 0 => {
+            match token.text.as_bytes() {
+                [b'{' | b'[' | b'('] if closed == 0 => {
                     let tokens = self.tokens;
                     return Some(Near { tokens, at, token });
                 }
-                "{" | "[" | "(" => closed = closed.saturating_sub(1),
-                "}" | "]" | ")" => closed = closed.saturating_add(1),
+                [b'{' | b'[' | b'('] => closed = closed.saturating_sub(1),
+                [b'}' | b']' | b')'] => closed = closed.saturating_add(1),
                 _ => {}
             }
         }

@@ -28,19 +28,24 @@ fn form_at(bytes: &[u8]) -> Form {
 
 /// The form of `#` that begins no name.
 fn form_of_hash(rest: &[u8]) -> Form {
-    let first = rest.iter().find(|byte| **byte != b'#');
-    match first {
-        Some(b'"' | b'\'') => Form::RawText,
-        _ => Form::StrayCharacter,
+    for byte in rest {
+        match *byte {
+            b'#' => {}
+            b'"' | b'\'' => return Form::RawText,
+            _ => return Form::StrayCharacter,
+        }
     }
+    Form::StrayCharacter
 }
 
 /// The length of the run of a number.
 fn number_len(bytes: &[u8]) -> usize {
-    bytes
-        .iter()
-        .take_while(|byte| byte.is_ascii_alphanumeric() || matches!(**byte, b'_' | b'.'))
-        .count()
+    for (at, byte) in bytes.iter().enumerate() {
+        if !byte.is_ascii_alphanumeric() && !matches!(*byte, b'_' | b'.') {
+            return at;
+        }
+    }
+    bytes.len()
 }
 
 /// The form of a number that isn't an integer of the profile.
@@ -52,16 +57,24 @@ fn form_of_number(bytes: &[u8]) -> Form {
     if number.ends_with(b"..") {
         return Form::MissingComma;
     }
-    let is_digits = number.iter().all(|byte| byte.is_ascii_digit()
-        || matches!(*byte, b'_' | b'.' | b'e' | b'E'));
-    let is_plain = number
-        .iter()
-        .all(|byte| byte.is_ascii_digit() || *byte == b'_');
-    if is_digits && !is_plain {
+    if is_float(number) {
         Form::Float
     } else {
         Form::NumberSpelling
     }
+}
+
+/// Whether a number has a fraction or an exponent, and only digits and `_` beside.
+fn is_float(number: &[u8]) -> bool {
+    let mut has_point = false;
+    for byte in number {
+        match *byte {
+            b'0'..=b'9' | b'_' => {}
+            b'.' | b'e' | b'E' => has_point = true,
+            _ => return false,
+        }
+    }
+    has_point
 }
 
 /// The form of a text behind its first quote.
@@ -98,26 +111,35 @@ fn character_len(bytes: &[u8]) -> usize {
     match bytes {
         [] => 0,
         [_first, rest @ ..] => {
-            let more = rest.iter().take_while(|byte| matches!(**byte, 128..=191));
-            more.count().saturating_add(1)
+            for (at, byte) in rest.iter().enumerate() {
+                if !matches!(*byte, 128..=191) {
+                    return at.saturating_add(1);
+                }
+            }
+            bytes.len()
         }
     }
 }
 
 /// The length of what is left of the line, without blanks at its end.
 fn line_len(bytes: &[u8]) -> usize {
-    let len = bytes.iter().take_while(|byte| **byte != b'\n').count();
-    let line = bytes.get(..len).unwrap_or(&[]);
-    line.trim_ascii_end().len()
+    for (at, byte) in bytes.iter().enumerate() {
+        if *byte == b'\n' {
+            return bytes.get(..at).unwrap_or(&[]).trim_ascii_end().len();
+        }
+    }
+    bytes.trim_ascii_end().len()
 }
 
 /// The length of an attribute up to its first closing parenthesis, or of what is left of its line.
 fn attribute_len(bytes: &[u8]) -> usize {
     let line = bytes.get(..line_len(bytes)).unwrap_or(&[]);
-    match line.iter().position(|byte| *byte == b')') {
-        Some(at) => at.saturating_add(1),
-        None => line.len(),
+    for (at, byte) in line.iter().enumerate() {
+        if *byte == b')' {
+            return at.saturating_add(1);
+        }
     }
+    line.len()
 }
 
 /// The length of a text with its quotes, or of what is left of its line.

@@ -1,6 +1,6 @@
 // Forms at a token that is out of place, and that the profile has elsewhere (4).
 use crate::forms::{Form, Found};
-use crate::near::{Around, Near, begins_value, ends_value};
+use crate::near::{Around, Near, begins_value, ends_value, follows_label};
 use cs_grammar::{Sort, Token};
 
 /// The form at a token that is out of place, though the profile has it elsewhere.
@@ -27,25 +27,33 @@ fn after_word(near: Near<'_, '_>) -> Option<Found> {
         "if" => Some(near.before_shows(Form::If)),
         "for" => Some(near.before_shows(Form::For)),
         "let" => Some(near.before_shows(Form::Let)),
-        "<" | "<=" | ">" | ">=" | "!=" if begins_value(near.here()) => {
-            Some(near.shows(form_of_limit(near.here())))
-        }
-        "-" if is_relation(near.before(2)) && begins_value(near.here()) => {
-            Some(near.shows(Form::Limit))
-        }
+        _ if begins_value(near.here()) => form_after_mark(near),
         _ => None,
     }
 }
 
+/// The form of a value after the mark of a limit, or after its sign.
+fn form_after_mark(near: Near<'_, '_>) -> Option<Found> {
+    let before = near.before(1);
+    if is_relation(before) {
+        return Some(near.shows(form_of_limit(near.here())));
+    }
+    if before.text == "-" && is_relation(near.before(2)) {
+        return Some(near.shows(Form::Limit));
+    }
+    None
+}
+
 fn is_relation(token: Token<'_>) -> bool {
-    matches!(token.text, "<" | "<=" | ">" | ">=" | "!=")
+    ["<", "<=", ">", ">=", "!="].contains(&token.text)
 }
 
 fn form_of_limit(token: Token<'_>) -> Form {
-    match token.text {
-        "true" | "false" | "null" | "{" | "[" => Form::LimitKind,
-        _ if token.sort == Sort::Text => Form::LimitKind,
-        _ => Form::Limit,
+    let is_other = ["true", "false", "null", "{", "["].contains(&token.text);
+    if is_other || token.sort == Sort::Text {
+        Form::LimitKind
+    } else {
+        Form::Limit
     }
 }
 
@@ -59,11 +67,13 @@ fn form_in_label(near: Near<'_, '_>) -> Found {
 
 /// The form at the first token of a declaration.
 fn form_of_declaration(near: Near<'_, '_>) -> Found {
-    match near.here().text {
-        _ if near.before(2).text == "..." => near.shows(Form::EarlyEllipsis),
-        "&" | "|" if near.before(1).sort == Sort::Inserted => near.shows(Form::BrokenLine),
-        "}" | "]" | ")" => closing(near),
-        "" | "," | "&" | "|" | ":" | "?" | "!" => plain(near),
+    if near.before(2).text == "..." {
+        return near.shows(Form::EarlyEllipsis);
+    }
+    match near.here().text.as_bytes() {
+        [b'&' | b'|'] if near.before(1).sort == Sort::Inserted => near.shows(Form::BrokenLine),
+        [b'}' | b']' | b')'] => closing(near),
+        [] | [b',' | b'&' | b'|' | b':' | b'?' | b'!'] => plain(near),
         _ if near.around() == Around::Top => near.shows(form_at_top(near)),
         _ => near.shows(form_in_struct(near)),
     }
@@ -74,7 +84,7 @@ fn form_at_top(near: Near<'_, '_>) -> Form {
         return Form::LatePackage;
     }
     let is_label = matches!(near.here().sort, Sort::Name | Sort::Text);
-    if is_label && matches!(near.behind(1).text, ":" | "?" | "!") {
+    if is_label && follows_label(near.behind(1)) {
         return Form::TopLevelField;
     }
     Form::TopLevelValue
@@ -83,8 +93,7 @@ fn form_at_top(near: Near<'_, '_>) -> Form {
 fn form_in_struct(near: Near<'_, '_>) -> Form {
     let here = near.here();
     match here.sort {
-        Sort::Definition if matches!(near.behind(1).text, ":" | "?" | "!") =>
-            Form::NestedDefinition,
+        Sort::Definition if follows_label(near.behind(1)) => Form::NestedDefinition,
         Sort::Definition => Form::EmbeddedDefinition,
         Sort::Integer if near.behind(1).text == ":" => Form::DigitLabel,
         _ => match here.text {
@@ -97,22 +106,40 @@ fn form_in_struct(near: Near<'_, '_>) -> Form {
 
 /// The form inside of an expression, where it is left out.
 fn in_expression(near: Near<'_, '_>) -> Option<Found> {
-    let before = near.before(1);
-    match near.here().text {
+    if ends_value(near.before(1)) {
+        behind_value(near)
+    } else {
+        behind_mark(near)
+    }
+}
+
+/// The form inside of an expression, behind the end of a value.
+fn behind_value(near: Near<'_, '_>) -> Option<Found> {
+    let (before, here) = (near.before(1), near.here());
+    match here.text {
         "(" if before.text == "close" => Some(near.before_shows(Form::Close)),
         "(" if before.sort == Sort::Name => Some(near.before_shows(Form::Call)),
-        "[" if ends_value(before) && before.text != "}" => Some(near.shows(Form::Index)),
-        "-" if ends_value(before) => Some(near.shows(Form::Arithmetic)),
-        "div" | "mod" | "quo" | "rem" if ends_value(before) => Some(near.shows(Form::Arithmetic)),
-        "<" | "<=" | ">" | ">=" | "!=" if ends_value(before) => Some(near.shows(Form::Comparison)),
-        "!" if !ends_value(before) => Some(near.shows(Form::Negation)),
+        "[" if before.text != "}" => Some(near.shows(Form::Index)),
         ":" if before.sort == Sort::Definition => Some(near.before_shows(Form::NestedDefinition)),
-        "&" | "|" if before.sort == Sort::Inserted => Some(near.shows(Form::BrokenLine)),
-        _ if before.text == "-" && begins_value(near.here()) => {
+        _ if is_relation(here) => Some(near.shows(Form::Comparison)),
+        _ if ["-", "div", "mod", "quo", "rem"].contains(&here.text) => {
+            Some(near.shows(Form::Arithmetic))
+        }
+        _ => None,
+    }
+}
+
+/// The form inside of an expression, where no value ends before the token.
+fn behind_mark(near: Near<'_, '_>) -> Option<Found> {
+    let (before, here) = (near.before(1), near.here());
+    match here.text.as_bytes() {
+        [b'!'] => Some(near.shows(Form::Negation)),
+        [b'&' | b'|'] if before.sort == Sort::Inserted => Some(near.shows(Form::BrokenLine)),
+        _ if before.text == "-" && begins_value(here) => {
             Some(near.before_shows(Form::Arithmetic))
         }
         _ if before.text == "..." && near.around() == Around::Struct => {
-            let is_typed = begins_value(near.here());
+            let is_typed = begins_value(here);
             let form = if is_typed {
                 Form::TypedEllipsis
             } else {
@@ -139,9 +166,9 @@ fn plain(near: Near<'_, '_>) -> Found {
     if is_end(here) && wants_value(before) {
         return near.shows(Form::MissingValue);
     }
-    match here.text {
-        "}" | "]" | ")" => closing(near),
-        "" if is_at_end(near) => closing(near),
+    match here.text.as_bytes() {
+        [b'}' | b']' | b')'] => closing(near),
+        [] if is_at_end(near) => closing(near),
         _ => near.shows(Form::Misplaced),
     }
 }
@@ -168,16 +195,16 @@ fn is_at_end(near: Near<'_, '_>) -> bool {
 fn is_end(token: Token<'_>) -> bool {
     match token.sort {
         Sort::Inserted | Sort::End => true,
-        _ => matches!(token.text, "," | "}" | "]" | ")" | "&" | "|" | ":"),
+        _ => matches!(
+            token.text.as_bytes(),
+            [b',' | b'}' | b']' | b')' | b'&' | b'|' | b':']
+        ),
     }
 }
 
 /// Whether a value has to follow a token.
 fn wants_value(token: Token<'_>) -> bool {
-    matches!(
-        token.text,
-        ":" | "&" | "|" | "<" | "<=" | ">" | ">=" | "!=" | "-" | "("
-    )
+    is_relation(token) || matches!(token.text.as_bytes(), [b':' | b'&' | b'|' | b'-' | b'('])
 }
 
 /// The form at the end of a source, or at a closing bracket that closes nothing.

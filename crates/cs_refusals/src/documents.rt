@@ -1,7 +1,7 @@
 // What is told of texts of JSON that are refused.
 use crate::keys::{Inner, pointer_of};
 use crate::words::Words;
-use cs_advice::{Spot, put_code};
+use cs_advice::{Spot, put_line};
 use cs_place::Named;
 use serde_json::Value;
 use std::alloc::{AllocError, Global};
@@ -20,20 +20,17 @@ pub(crate) fn put_not_json<'a>(
         text.push_str("a byte order mark: save the file as UTF-8 without it")?;
         return Ok(Spot::at(named, 0, 3));
     }
-    match Value::from_slice(alloc, named.text) {
-        Err(error) if error.is_memory() => Err(AllocError),
-        Err(error) if error.is_eof() => {
-            text.push_str("the JSON ends too early")?;
-            let end = named.text.len();
-            Ok(Spot::at(named, end, end))
-        }
-        Err(error) => {
-            text.push_str("this is no JSON here, or nests more than 127 levels deep")?;
-            let offset = offset_of(named.text, error.line(), error.column());
-            Ok(Spot::at(named, offset, offset))
-        }
-        Ok(_) => Ok(Spot::in_file(named)),
-    }
+    let (said, offset) = match Value::from_slice(alloc, named.text) {
+        Err(error) if error.is_memory() => return Err(AllocError),
+        Err(error) if error.is_eof() => ("the JSON ends too early", named.text.len()),
+        Err(error) => (
+            "this is no JSON here, or nests more than 127 levels deep",
+            offset_of(named.text, error.line(), error.column()),
+        ),
+        Ok(_) => return Ok(Spot::in_file(named)),
+    };
+    text.push_str(said)?;
+    Ok(Spot::at(named, offset, offset))
 }
 
 /// The offset of a line and a column in bytes, which count from 1.
@@ -63,22 +60,31 @@ pub(crate) fn put_not_integer<'a>(
     let Some(offset) = other_number(named.text, &mut inner)? else {
         return Ok(Spot::nowhere());
     };
-    let rest = named.text.get(offset..).unwrap_or(&[]);
-    let number = rest.get(..number_len(rest)).unwrap_or(&[]);
     words.pointer = Some(pointer_of(alloc, named.text, &inner)?);
-    put_code(&mut words.hint, str::from_utf8(number).unwrap_or(""))?;
-    words.hint.push_str(
-        " isn't an integer of 64 signed bits: write one without a fraction or an exponent",
+    let number = number_at(named.text, offset);
+    let shown = str::from_utf8(number).unwrap_or("");
+    put_line(
+        &mut words.hint,
+        &[
+            "`",
+            shown,
+            "` isn't an integer of 64 signed bits: write one without a fraction or an exponent",
+        ],
     )?;
     Ok(Spot::at(named, offset, offset.saturating_add(number.len())))
 }
 
-/// The length of the number at the front of a text of JSON.
-fn number_len(text: &[u8]) -> usize {
-    text.iter()
-        .take_while(|byte| byte.is_ascii_digit()
-            || matches!(**byte, b'-' | b'+' | b'.' | b'e' | b'E'))
-        .count()
+/// The number at an offset of a text of JSON.
+fn number_at(text: &[u8], offset: usize) -> &[u8] {
+    let rest = text.get(offset..).unwrap_or(&[]);
+    let mut len = 0usize;
+    for byte in rest {
+        if !byte.is_ascii_digit() && !matches!(*byte, b'-' | b'+' | b'.' | b'e' | b'E') {
+            break;
+        }
+        len = len.saturating_add(1);
+    }
+    rest.get(..len).unwrap_or(&[])
 }
 
 /// Where a text of JSON has the first number that isn't an integer of 64 signed bits; what it is inside of is then in `inner`.
@@ -87,12 +93,11 @@ fn other_number(text: &[u8], inner: &mut Inner) -> Result<Option<usize>, AllocEr
     for (at, byte) in text.iter().enumerate() {
         let is_outside = inner.pass(at, *byte)?;
         if is_outside && at >= past && (*byte == b'-' || byte.is_ascii_digit()) {
-            let number = text.get(at..).unwrap_or(&[]);
-            let len = number_len(number);
-            if !is_integer(number.get(..len).unwrap_or(&[])) {
+            let number = number_at(text, at);
+            if !is_integer(number) {
                 return Ok(Some(at));
             }
-            past = at.saturating_add(len);
+            past = at.saturating_add(number.len());
         }
     }
     Ok(None)

@@ -1,5 +1,6 @@
 // What a place of a JSON text is inside of, and its pointer.
-use cs_advice::put_number;
+use cs_advice::put_all;
+use itoa::Buffer;
 use serde_json::Value;
 use std::alloc::{AllocError, Global};
 
@@ -98,38 +99,44 @@ impl Inner {
 pub(crate) fn pointer_of(alloc: Global, text: &[u8], inner: &Inner) -> Result<String, AllocError> {
     let mut pointer = String::new(alloc);
     for open in &inner.open {
-        pointer.push('/')?;
-        match open {
-            Open::List(place) => put_number(&mut pointer, *place)?,
-            Open::Map(start, end) => {
-                put_key(alloc, &mut pointer, text.get(*start..*end).unwrap_or(&[]))?;
-            }
-        }
+        put_step(alloc, &mut pointer, text, *open)?;
     }
     Ok(pointer)
 }
 
-/// Puts a key, which is a text of JSON with its quotes, as a step of a pointer.
-fn put_key(alloc: Global, pointer: &mut String, quoted: &[u8]) -> Result<(), AllocError> {
-    let key = match Value::from_slice(alloc, quoted) {
-        Ok(key) => key,
-        Err(error) if error.is_memory() => return Err(AllocError),
-        Err(_error) => return Ok(()),
-    };
-    match key.as_str() {
-        Some(key) => put_step(pointer, key),
-        None => Ok(()),
+/// Puts the step of a pointer into a list or a map.
+fn put_step(
+    alloc: Global,
+    pointer: &mut String,
+    text: &[u8],
+    open: Open,
+) -> Result<(), AllocError> {
+    match open {
+        Open::List(place) => put_all(pointer, &["/", Buffer::new().format(place)]),
+        Open::Map(start, end) => {
+            pointer.push('/')?;
+            put_quoted_key(alloc, pointer, text.get(start..end).unwrap_or(&[]))
+        }
+    }
+}
+
+/// Puts a key, which is a text of JSON with its quotes.
+fn put_quoted_key(alloc: Global, pointer: &mut String, quoted: &[u8]) -> Result<(), AllocError> {
+    match Value::from_slice(alloc, quoted) {
+        Ok(key) => put_key(pointer, key.as_str().unwrap_or("")),
+        Err(error) if error.is_memory() => Err(AllocError),
+        Err(_error) => Ok(()),
     }
 }
 
 /// Puts a key with its escapes (RFC 6901, section 3).
-fn put_step(pointer: &mut String, key: &str) -> Result<(), AllocError> {
+fn put_key(pointer: &mut String, key: &str) -> Result<(), AllocError> {
     for character in key.chars() {
         match character {
-            '~' => pointer.push_str("~0")?,
-            '/' => pointer.push_str("~1")?,
-            _ => pointer.push(character)?,
-        }
+            '~' => pointer.push_str("~0"),
+            '/' => pointer.push_str("~1"),
+            _ => pointer.push(character),
+        }?;
     }
     Ok(())
 }

@@ -1,6 +1,7 @@
 // From a number to what docs/REFUSALS.md says of it.
-use cs_advice::put_number;
+use cs_advice::put_all;
 use cs_meanings::{EXPLANATIONS, Explanation, explanation};
+use itoa::Buffer;
 use std::alloc::{AllocError, Global};
 
 /// What docs/REFUSALS.md says of a number: for each of its rows a line with the number and the meaning, and one with what to
@@ -16,12 +17,17 @@ pub fn explained(alloc: Global, number: u32) -> Result<Option<String>, AllocErro
 }
 
 fn put_row(text: &mut String, row: &Explanation) -> Result<(), AllocError> {
-    put_number(text, row.number as usize)?;
-    text.push_str(": ")?;
-    text.push_str(row.meaning)?;
-    text.push('\n')?;
-    text.push_str(row.remedy)?;
-    text.push('\n')
+    put_all(
+        text,
+        &[
+            Buffer::new().format(row.number),
+            ": ",
+            row.meaning,
+            "\n",
+            row.remedy,
+            "\n",
+        ],
+    )
 }
 
 /// Puts what a number means and what to do, in one line.
@@ -29,7 +35,5 @@ pub(crate) fn put_meaning(text: &mut String, number: u32) -> Result<(), AllocErr
     let Some(found) = explanation(number) else {
         return Ok(());
     };
-    text.push_str(found.meaning)?;
-    text.push(' ')?;
-    text.push_str(found.remedy)
+    put_all(text, &[found.meaning, " ", found.remedy])
 }

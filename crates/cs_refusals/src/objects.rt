@@ -1,9 +1,9 @@
 // Refusals as objects of JSON, for programs.
 use crate::lines::place_of;
-use crate::told::{About, put_told};
+use crate::told::{About, put_told_about};
 use crate::words::{Words, no_words};
-use cs_advice::{Span, Spot, form_name, put_number, put_quoted, sources_of};
-use cs_place::{Named, position_of};
+use cs_advice::{Span, Spot, form_name, line_and_column, put_all, put_quoted};
+use cs_place::Named;
 use cs_tool::{Fault, write_fault_json};
 use itoa::Buffer;
 use std::alloc::{AllocError, Global};
@@ -45,42 +45,37 @@ fn refusal_object(
     let members = members_of(alloc, fault, about)?;
     let mut object = Vec::new(alloc);
     write_fault_json(alloc, fault, names, &mut object)?;
+    // Without its closing bracket and newline.
     let end = object.len().saturating_sub(2);
     object.truncate(end);
     object.extend_from_slice(members.as_bytes())?;
-    object.extend_from_slice(b"}\n")?;
     Ok(object)
 }
 
-/// The further members of a fault, each behind a comma.
+/// The further members of a fault, each behind a comma, and the end of its object.
 fn members_of(alloc: Global, fault: &Fault, about: About<'_>) -> Result<String, AllocError> {
-    let sources = sources_of(alloc, about.sources)?;
     let mut words = no_words(alloc);
-    let spot = put_told(alloc, &mut words, fault, about, about.root, &sources)?;
+    let spot = put_told_about(alloc, &mut words, fault, about)?;
     let mut text = String::new(alloc);
-    put_file(&mut text, fault, spot)?;
-    if let (Some(named), Some(span)) = (spot.named, place_of(fault, spot)) {
-        put_position(&mut text, named, span)?;
-    }
-    put_words(&mut text, spot, &words)?;
-    put_sizes(&mut text, about.sizes)?;
+    put_members(&mut text, fault, spot, &words, about.sizes)?;
     Ok(text)
 }
 
-/// Puts a member with a string. Its key needs no escape.
-fn put_string(text: &mut String, key: &str, value: &str) -> Result<(), AllocError> {
-    text.push_str(",\"")?;
-    text.push_str(key)?;
-    text.push_str("\":")?;
-    put_quoted(text, value)
-}
-
-/// Puts a member with a number. Its key needs no escape.
-fn put_count(text: &mut String, key: &str, value: usize) -> Result<(), AllocError> {
-    text.push_str(",\"")?;
-    text.push_str(key)?;
-    text.push_str("\":")?;
-    put_number(text, value)
+/// Puts the further members of a fault, and the end of its object.
+fn put_members(
+    text: &mut String,
+    fault: &Fault,
+    spot: Spot<'_>,
+    words: &Words,
+    sizes: &[(&str, u64)],
+) -> Result<(), AllocError> {
+    put_file(text, fault, spot)?;
+    if let (Some(named), Some(span)) = (spot.named, place_of(fault, spot)) {
+        put_position(text, named, span)?;
+    }
+    put_words(text, spot, words)?;
+    put_sizes(text, sizes)?;
+    text.push_str("}\n")
 }
 
 /// Puts the file of a fault that doesn't name it itself.
@@ -89,40 +84,44 @@ fn put_file(text: &mut String, fault: &Fault, spot: Spot<'_>) -> Result<(), Allo
         return Ok(());
     };
     match fault {
-        Fault::ReadFailed | Fault::InputTooLong => put_string(text, "path", named.name),
+        Fault::ReadFailed | Fault::InputTooLong => put_quoted(text, ",\"path\":", named.name),
         _ if fault.file().is_some() => Ok(()),
-        _ => put_string(text, "file", named.name),
+        _ => put_quoted(text, ",\"file\":", named.name),
     }
 }
 
 /// Puts the line and the column of a place.
 fn put_position(text: &mut String, named: Named<'_>, span: Span) -> Result<(), AllocError> {
-    let place = position_of(named.text, span.start);
-    let line = place.line.saturating_add(named.line).saturating_sub(1);
-    put_count(text, "line", line)?;
-    put_count(text, "column", place.column)
+    let (line, column) = line_and_column(named, span.start);
+    put_all(
+        text,
+        &[
+            ",\"line\":",
+            Buffer::new().format(line),
+            ",\"column\":",
+            Buffer::new().format(column),
+        ],
+    )
 }
 
 /// Puts the form, the pointer and what to do.
 fn put_words(text: &mut String, spot: Spot<'_>, words: &Words) -> Result<(), AllocError> {
     if let Some(form) = spot.form {
-        put_string(text, "form", form_name(form))?;
+        put_quoted(text, ",\"form\":", form_name(form))?;
     }
     if let Some(pointer) = &words.pointer {
-        put_string(text, "pointer", pointer)?;
+        put_quoted(text, ",\"pointer\":", pointer)?;
     }
-    put_string(text, "hint", &words.hint)
+    put_quoted(text, ",\"hint\":", &words.hint)
 }
 
 /// Puts the files with their bytes, if there are any.
 fn put_sizes(text: &mut String, sizes: &[(&str, u64)]) -> Result<(), AllocError> {
-    let mut mark = ",\"files\":[{\"path\":";
+    let mut front = ",\"files\":[{\"path\":";
     for (path, size) in sizes {
-        text.push_str(mark)?;
-        put_quoted(text, path)?;
-        text.push_str(",\"bytes\":")?;
-        text.push_str(Buffer::new().format(*size))?;
-        mark = "},{\"path\":";
+        put_quoted(text, front, path)?;
+        put_all(text, &[",\"bytes\":", Buffer::new().format(*size)])?;
+        front = "},{\"path\":";
     }
     if sizes.is_empty() {
         return Ok(());

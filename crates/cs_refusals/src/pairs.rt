@@ -1,31 +1,23 @@
 // How many values and rules there are, where they make too many pairs (27).
 use crate::told::About;
 use cs_advice::{Spot, put_grouped};
-use cs_doc::{DocFault, read_doc};
+use cs_doc::DocFault;
 use cs_document::Doc;
 use cs_flat::{Flat, flatten};
 use cs_guard::Guarded;
 use cs_instance::{InstanceFault, numbered_root};
 use cs_place::Named;
-use cs_schema::{SchemaDoc, SchemaFault, read_schema};
+use cs_schema::SchemaDoc;
 use cs_table::Judge;
-use cs_tool::{Fault, accepted_package, export};
+use cs_tool::{Fault, accepted_package, export, read_schema_text};
 use cs_validate::{ValidateFault, valid_judge};
 use std::alloc::{AllocError, Global};
 
 /// How many pairs of a value and a rule are judged at most.
 const MOST_PAIRS: usize = 67_108_864;
 
-/// What a document is judged by, with how many there are.
-#[derive(Clone, Copy)]
-enum Judging {
-    /// The rules that a root reaches.
-    Rules(usize),
-    /// The schemas in the schema of a root.
-    Exported(usize),
-    /// The schemas in a schema.
-    Schemas(usize),
-}
+/// What to do where a package has too many rules.
+const SPLIT: &str = "split the package by roots";
 
 /// Puts how many values the document has and how many rules it is judged by, where these make too many pairs (27); nothing where the
 /// rules aren't known.
@@ -38,56 +30,50 @@ pub(crate) fn put_too_many_pairs<'a>(
         return Ok(Spot::nowhere());
     };
     let values = values_of(named.text);
-    if let Some(judging) = judging_of(alloc, about, values)? {
-        put_pairs(text, values, judging)?;
+    match about.schema {
+        Some(schema) => {
+            let count = schemas_in(alloc, schema.text)?;
+            let remedy = "leave out definitions that nothing refers to";
+            put_pairs(text, values, count, " schemas", remedy)?;
+        }
+        None => put_pairs_of_root(alloc, text, about, values)?,
     }
     Ok(Spot::in_file(named))
 }
 
-/// Puts both numbers, and what to do.
-fn put_pairs(text: &mut String, values: usize, judging: Judging) -> Result<(), AllocError> {
-    let (count, noun, remedy) = match judging {
-        Judging::Rules(count) => (count, " rules", "split the package by roots"),
-        Judging::Exported(count) => (count, " schemas", "split the package by roots"),
-        Judging::Schemas(count) => {
-            let remedy = "leave out definitions that nothing refers to";
-            (count, " schemas", remedy)
-        }
-    };
-    put_grouped(text, values)?;
-    text.push_str(" values and ")?;
-    put_grouped(text, count)?;
-    text.push_str(noun)?;
-    text.push_str(" make ")?;
-    put_grouped(text, values.saturating_mul(count))?;
-    text.push_str(" pairs, and ")?;
-    put_grouped(text, MOST_PAIRS)?;
-    text.push_str(" may be: judge the parts of the document one by one, or ")?;
-    text.push_str(remedy)
-}
-
-/// What makes too many pairs with so many values: the schemas of the schema, or else the rules of the root, or where these are few
-/// enough the schemas of its schema. None where it isn't known.
-fn judging_of(
+/// Puts what makes too many pairs with so many values: the rules of the root, or where these are few enough the schemas of its schema.
+fn put_pairs_of_root(
     alloc: Global,
+    text: &mut String,
     about: About<'_>,
     values: usize,
-) -> Result<Option<Judging>, AllocError> {
-    if let Some(schema) = about.schema {
-        return Ok(schemas_in(alloc, schema.text)?.map(Judging::Schemas));
-    }
+) -> Result<(), AllocError> {
     let texts = texts_of(alloc, about.sources)?;
-    let Some(count) = rules_of(alloc, &texts, about.root)? else {
-        return Ok(None);
+    let rules = rules_of(alloc, &texts, about.root)?;
+    match rules {
+        Some(count) if values.saturating_mul(count) <= MOST_PAIRS => {
+            let schemas = exported_schemas(alloc, &texts, about.root)?;
+            put_pairs(text, values, schemas, " schemas", SPLIT)
+        }
+        _ => put_pairs(text, values, rules, " rules", SPLIT),
+    }
+}
+
+/// Puts both numbers, where the second one is known, and what to do.
+fn put_pairs(
+    text: &mut String,
+    values: usize,
+    count: Option<usize>,
+    noun: &str,
+    remedy: &str,
+) -> Result<(), AllocError> {
+    let Some(count) = count else {
+        return Ok(());
     };
-    if values.saturating_mul(count) > MOST_PAIRS {
-        return Ok(Some(Judging::Rules(count)));
-    }
-    match export(alloc, &texts, about.root) {
-        Ok(schema) => Ok(schemas_in(alloc, &schema)?.map(Judging::Exported)),
-        Err(Fault::OutOfMemory) => Err(AllocError),
-        Err(_) => Ok(None),
-    }
+    put_grouped(text, values, &[" values and "])?;
+    put_grouped(text, count, &[noun, " make "])?;
+    let limit = " pairs, and 67,108,864 may be: judge the parts of the document one by one, or ";
+    put_grouped(text, values.saturating_mul(count), &[limit, remedy])
 }
 
 fn texts_of<'a>(alloc: Global, sources: &[Named<'a>]) -> Result<Vec<&'a [u8]>, AllocError> {
@@ -116,19 +102,24 @@ fn rules_in(alloc: Global, package: &Guarded, root: &str) -> Result<Option<usize
     }
 }
 
-/// How many schemas are in a schema's text: the root, its definitions and every schema inside them; none where it is no schema.
-fn schemas_in(alloc: Global, text: &[u8]) -> Result<Option<usize>, AllocError> {
-    match read_doc(alloc, text) {
-        Ok(doc) => schemas_in_document(alloc, &doc),
-        Err(DocFault::OutOfMemory) => Err(AllocError),
-        Err(DocFault::NotJson | DocFault::NotInteger) => Ok(None),
+/// How many schemas are in the schema of a root; none where it can't be exported.
+fn exported_schemas(
+    alloc: Global,
+    texts: &[&[u8]],
+    root: &str,
+) -> Result<Option<usize>, AllocError> {
+    match export(alloc, texts, root) {
+        Ok(schema) => schemas_in(alloc, &schema),
+        Err(Fault::OutOfMemory) => Err(AllocError),
+        Err(_) => Ok(None),
     }
 }
 
-fn schemas_in_document(alloc: Global, doc: &Doc) -> Result<Option<usize>, AllocError> {
-    match read_schema(alloc, doc) {
+/// How many schemas are in a schema's text: the root, its definitions and every schema inside them; none where it is no schema.
+fn schemas_in(alloc: Global, text: &[u8]) -> Result<Option<usize>, AllocError> {
+    match read_schema_text(alloc, text) {
         Ok(schema) => schemas_of(alloc, &schema),
-        Err(SchemaFault::OutOfMemory) => Err(AllocError),
+        Err(Fault::OutOfMemory) => Err(AllocError),
         Err(_) => Ok(None),
     }
 }

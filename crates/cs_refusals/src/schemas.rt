@@ -1,6 +1,6 @@
 // What is told of schemas that are refused.
 use crate::words::Words;
-use cs_advice::{Spot, put_code, put_names_of_loop};
+use cs_advice::{Spot, put_line, put_names_of_loop};
 use cs_place::{Named, Step, ValuePath, places};
 use cs_tool::Fault;
 use std::alloc::{AllocError, Global};
@@ -13,25 +13,10 @@ enum Part {
     Elements,
 }
 
-/// Puts a key of a pointer with its escapes undone (RFC 6901, section 3).
+/// A key of a pointer with its escapes undone (RFC 6901, section 3).
 fn unescaped(alloc: Global, key: &str) -> Result<String, AllocError> {
-    let mut text = String::with_capacity(alloc, key.len())?;
-    let mut is_escaped = false;
-    for character in key.chars() {
-        match character {
-            '~' if !is_escaped => is_escaped = true,
-            '0' if is_escaped => {
-                text.push('~')?;
-                is_escaped = false;
-            }
-            '1' if is_escaped => {
-                text.push('/')?;
-                is_escaped = false;
-            }
-            _ => text.push(character)?,
-        }
-    }
-    Ok(text)
+    let key = key.replace(alloc, "~1", "/")?;
+    key.replace(alloc, "~0", "~")
 }
 
 /// The keys of a pointer.
@@ -71,8 +56,10 @@ fn offset_of(alloc: Global, text: &[u8], keys: &[String]) -> Result<Option<usize
         parent = Some(at);
     }
     let found = places(alloc, text, &paths)?;
-    let last = found.last().copied().flatten();
-    Ok(last.map(|place| place.key.unwrap_or(place.value)))
+    Ok(match found.last().copied().flatten() {
+        Some(place) => Some(place.key.unwrap_or(place.value)),
+        None => None,
+    })
 }
 
 /// What is told of a keyword, its value or a reference in a schema (21, 22, 23).
@@ -84,31 +71,39 @@ pub(crate) fn put_schema_fault<'a>(
 ) -> Result<Spot<'a>, AllocError> {
     match fault {
         Fault::Keyword { place, name } => {
-            put_code(&mut words.hint, name.as_str())?;
-            words.hint.push_str(
-                " isn't in the profile: say it by other keywords, or take it out where it says nothing",
-            )?;
-            spot_of(alloc, words, schema, place.as_str(), name.as_str())
-        }
-        Fault::Shape { place, name } if name.is_empty() => {
-            words
-                .hint
-                .push_str("a schema is `true`, `false` or an object")?;
-            spot_of(alloc, words, schema, place.as_str(), "")
+            let said =
+                "` isn't in the profile: say it by other keywords, or take it out where it says nothing";
+            put_line(&mut words.hint, &["`", name.as_str(), said])?;
+            spot_of(alloc, words, schema, place, name)
         }
         Fault::Shape { place, name } => {
-            words.hint.push_str("the value of ")?;
-            put_code(&mut words.hint, name.as_str())?;
-            words.hint.push_str(" has another form in the profile")?;
-            spot_of(alloc, words, schema, place.as_str(), name.as_str())
+            put_shape(&mut words.hint, name)?;
+            spot_of(alloc, words, schema, place, name)
         }
         Fault::Reference { place, name } => {
-            words.hint.push_str("`$defs` doesn't have ")?;
-            put_code(&mut words.hint, name.as_str())?;
-            spot_of(alloc, words, schema, place.as_str(), "$ref")
+            put_line(
+                &mut words.hint,
+                &["`$defs` doesn't have `", name.as_str(), "`"],
+            )?;
+            spot_of(alloc, words, schema, place, "$ref")
         }
         _ => Ok(Spot::nowhere()),
     }
+}
+
+/// Puts that the value of a keyword has another form in the profile; a schema where the keyword is empty.
+fn put_shape(text: &mut String, keyword: &str) -> Result<(), AllocError> {
+    if keyword.is_empty() {
+        return text.push_str("a schema is `true`, `false` or an object");
+    }
+    put_line(
+        text,
+        &[
+            "the value of `",
+            keyword,
+            "` has another form in the profile",
+        ],
+    )
 }
 
 /// The place of a keyword in the schema at a pointer, which is kept; that of the schema itself where the keyword is empty.
@@ -120,9 +115,19 @@ fn spot_of<'a>(
     keyword: &str,
 ) -> Result<Spot<'a>, AllocError> {
     words.pointer = Some(String::from_str(alloc, pointer)?);
-    let Some(schema) = schema else {
-        return Ok(Spot::nowhere());
-    };
+    match schema {
+        Some(schema) => spot_in(alloc, schema, pointer, keyword),
+        None => Ok(Spot::nowhere()),
+    }
+}
+
+/// The place of a keyword in a schema, by the pointer of the schema around it.
+fn spot_in<'a>(
+    alloc: Global,
+    schema: Named<'a>,
+    pointer: &str,
+    keyword: &str,
+) -> Result<Spot<'a>, AllocError> {
     let mut keys = keys_of(alloc, pointer)?;
     if !keyword.is_empty() {
         let keyword = String::from_str(alloc, keyword)?;

@@ -8,8 +8,9 @@ use crate::schemas::{put_loop, put_schema_fault};
 use crate::words::Words;
 use cs_advice::{
     Source, Spot, put_advice, put_chain, put_cycle, put_line, put_no_root, put_package_name,
-    put_too_high, put_too_large,
+    put_too_high, put_too_large, sources_of,
 };
+use cs_forms::Found;
 use cs_place::Named;
 use cs_tool::Fault;
 use std::alloc::{AllocError, Global};
@@ -47,12 +48,23 @@ pub(crate) fn put_told<'a>(
     }
     if words.hint.is_empty() && spot.named.is_none() {
         spot = unread(about.path);
-        put_line(&mut words.hint, about.cause)?;
+        put_line(&mut words.hint, &[about.cause])?;
     }
     if words.hint.is_empty() {
         put_meaning(&mut words.hint, fault.number())?;
     }
     Ok(spot)
+}
+
+/// The same, where the sources aren't cut yet.
+pub(crate) fn put_told_about<'a>(
+    alloc: Global,
+    words: &mut Words,
+    fault: &Fault,
+    about: About<'a>,
+) -> Result<Spot<'a>, AllocError> {
+    let sources = sources_of(alloc, about.sources)?;
+    put_told(alloc, words, fault, about, about.root, &sources)
 }
 
 /// The place of a fault of reading.
@@ -75,20 +87,35 @@ fn put_at_token<'a>(
     fault: &Fault,
     sources: &[Source<'a, '_>],
 ) -> Result<Spot<'a>, AllocError> {
-    let Some(source) = fault.file().and_then(|file| sources.get(file)) else {
+    let Some(source) = source_of(fault, sources) else {
         return Ok(Spot::nowhere());
     };
-    let Ok(whole) = str::from_utf8(source.named.text) else {
-        return Ok(Spot::in_file(source.named));
-    };
-    let Some(found) = form_among(whole, &source.tokens, fault) else {
-        return Ok(Spot::in_file(source.named));
-    };
-    put_advice(alloc, &mut words.hint, source, sources, found)?;
-    Ok(Spot {
-        form: Some(found.form),
-        ..Spot::at(source.named, found.start, found.end)
-    })
+    match form_in(source, fault) {
+        Some(found) => {
+            put_advice(alloc, &mut words.hint, source, sources, found)?;
+            Ok(Spot {
+                form: Some(found.form),
+                ..Spot::at(source.named, found.start, found.end)
+            })
+        }
+        None => Ok(Spot::in_file(source.named)),
+    }
+}
+
+/// The source that a fault names.
+fn source_of<'s, 'n, 't>(
+    fault: &Fault,
+    sources: &'s [Source<'n, 't>],
+) -> Option<&'s Source<'n, 't>> {
+    sources.get(fault.file()?)
+}
+
+/// The form at the place of a fault in its source; none in a source that isn't UTF-8.
+fn form_in(source: &Source<'_, '_>, fault: &Fault) -> Option<Found> {
+    match str::from_utf8(source.named.text) {
+        Ok(text) => form_among(text, &source.tokens, fault),
+        Err(_) => None,
+    }
 }
 
 /// Puts what is told of another fault, if anything is known of it.
