@@ -1,9 +1,10 @@
 #!/bin/sh
 # Times the commands that ask questions about a package, by whole runs of the program: `compare` of a package with itself, on many
-# definitions, a chain of them, a struct with many keys, a list with many fixed elements and tagged alternatives; and `samples` of many
-# definitions. A line for each: the bytes of the package; the milliseconds of the processor for the run beyond the program's start; the
-# same as a multiple of what a tenth of the package takes, which is 10 where the time is linear and 100 where it is the square; and the
-# most memory in KiB. Fails where a run takes more than 10 s or 500 MB, or where the answer isn't the one that is wanted.
+# definitions, a chain of them, a struct with many keys, a list with many fixed elements, tagged alternatives, constants and classes of
+# integers; and `samples` of many definitions. A line for each: the bytes of the package; the milliseconds of the processor for the run
+# beyond the program's start; the same as a multiple of what a tenth of the package takes, which is 10 where the time is linear and 100
+# where it is the square; and the most memory in KiB. Fails where a run takes more than 10 s or 500 MB, or where the answer isn't the one
+# that is wanted.
 # usage: questions.sh PROGRAM
 set -eu
 
@@ -68,6 +69,24 @@ tagged() { # count
     }'
 }
 
+# So many constants, none of them in order.
+constants() { # count
+    awk -v count="$1" 'BEGIN {
+        printf "#A0: "
+        for (i = 0; i < count; i++) printf "%s\"code %05d\"", (i ? " | " : ""), i * 7919 % count
+        print ""
+    }'
+}
+
+# So many classes of integers.
+ranges() { # count
+    awk -v count="$1" 'BEGIN {
+        printf "#A0: "
+        for (i = 0; i < count; i++) printf "%sint & >=%d & <=%d", (i ? " | " : ""), i * 10, i * 10 + 8
+        print ""
+    }'
+}
+
 echo '#A0: int' > "$folder/small"
 
 # measure COMMAND SHAPE COUNT LINES LAST: a line. The run prints so many lines, and LAST is in the last of them.
@@ -107,6 +126,8 @@ measure compare chain 1000 1 compatible
 measure compare labels 4000 1 compatible
 measure compare elements 20000 1 compatible
 measure compare tagged 100 1 compatible
+measure compare constants 20000 1 compatible
+measure compare ranges 3000 1 compatible
 measure samples structs 100 100 field_
 measure 'samples --invalid' structs 100 100 field_
 exit $failed

@@ -60,6 +60,8 @@ BEGIN {
     told["compare labels"] = "compare: a struct of 4,000 fields"
     told["compare elements"] = "compare: a list of 20,000 fixed elements"
     told["compare tagged"] = "compare: 100 tagged alternatives"
+    told["compare constants"] = "compare: 20,000 constants"
+    told["compare ranges"] = "compare: 3,000 classes of integers"
     told["samples structs"] = "samples: 100 structs of 23 fields"
     told["samples --invalid structs"] = "samples --invalid: 100 structs of 23 fields"
 }

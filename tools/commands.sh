@@ -190,9 +190,13 @@ try 'error 31' 'run export --root "#P" < port.cue > /dev/full'
 try_run 4 '{' 'error 31' 'run export --root "#P" wide.cue | { head -c 1; echo; }'
 try_run 4 '{' 'error 31' 'run export --root "#P" < wide.cue | { head -c 1; echo; }'
 # A file that may not grow further: what it has is a front of the answer.
-try_run 4 'a front' 'error 31' 'run export --root "#P" wide.cue > whole
-    (trap "" XFSZ; ulimit -f 16; run export --root "#P" wide.cue > part)
-    [ -s part ] && head -c "$(wc -c < part)" whole | cmp - part && echo "a front"'
+seq 1000 | sed 's/.*/#D&: int/' > declared.cue
+seq 1000 | sed 's/.*/#D&: int \& string/' > contrary.cue
+for words in 'export --root "#P" wide.cue' 'export --pretty --root "#P" wide.cue' 'export --all wide.cue' 'list declared.cue' 'check contrary.cue'; do
+    try_run 4 'a front' 'error 31' "run $words > whole
+    (trap '' XFSZ; ulimit -f 16; run $words > part)
+    [ -s part ] && head -c \"\$(wc -c < part)\" whole | cmp - part && echo 'a front'"
+done
 # Help and the version are answers too.
 try 'error 31' 'run --help > /dev/full'
 try 'error 31' 'run agree --help >&-'
@@ -220,13 +224,28 @@ try_run 2 '' '' 'run export --why --root "#P" syntax.cue 2> /dev/full'
 try 'says 4 error 30⏎folder: this is a folder' 'run vet --why --root "#P" --doc folder port.cue'
 try 'says 4 error 30⏎folder: this is a folder' 'run export --why --root "#P" port.cue folder'
 try 'prints 4 {"error":30,"path":"folder","hint":"this is a folder"}' 'run vet --format json --root "#P" --doc folder port.cue'
+try 'says 4 error 30⏎folder: this is a folder' 'run check port.cue folder'
+try 'says 4 error 30⏎folder: this is a folder' 'run check --schema folder'
+try 'says 4 error 30⏎new: folder: this is a folder' 'run compare --root "#P" --old port.cue --new port.cue folder'
 try 'says 4 error 31⏎A write failed. What was written is the beginning of the text. Write elsewhere.' \
     'run export --why --root "#P" port.cue > /dev/full'
+# A name of a file stays on its line.
+try 'prints 0 x\ny.cue:1:1: warning: no document is an instance of #A: its operands are of different kinds' \
+    'printf "#A: int & string\n" > "$(printf "x\ny.cue")"; run check "$(printf "x\ny.cue")"'
 try 'says 4 error 31⏎A write failed. What was written is the beginning of the text. Write elsewhere.' \
     'run vet --why --root "#P" --doc one port.cue > /dev/full'
 try 'error 31' 'run vet --format json --root "#P" --doc one port.cue > /dev/full'
 try 'error 31' 'run vet --format json --root "#P" --doc one syntax.cue > /dev/full'
 try 'error 31' 'run explain 31 > /dev/full'
+
+# What `samples` leaves is said, and is a status with `--strict`. What can't be said changes none.
+try_run 0 1 '1 more; --most N tells more' 'run samples --most 1 --root "#P" port.cue'
+try_run 1 1 '1 more; --most N tells more' 'run samples --most 1 --strict --root "#P" port.cue'
+try_run 0 '1
+65535' '' 'run samples --most 2 --strict --root "#P" port.cue'
+try_run 0 1 '' 'run samples --most 1 --root "#P" port.cue 2> /dev/full'
+try_run 1 1 '' 'run samples --most 1 --strict --root "#P" port.cue 2>&-'
+try 'error 31' 'run samples --root "#P" port.cue > /dev/full'
 
 # Limits: the greatest input that is read, and one byte more.
 try 'error 13' 'run export --root "#P" source-limit'
@@ -480,9 +499,11 @@ try_run 1 'all of them' '' 'yes 0 | head -n 3000 | run vet --root "#P" --lines -
 try_run 1 'all of them' '' 'yes 0 | head -n 3000 | run vet --root "#P" --lines --format json port.cue \
     | sed "s/^{\"input\":\([0-9]*\),\"valid\":false,.*}$/\1/" | cmp - counted && echo "all of them"'
 printf '#P: [...>=1]\n' > list.cue
+# A file, so that all lines are read at once: what is held is written before the next read.
+{ echo '[0]'; echo "[$(repeat 1999 0,)0]"; echo '[0]'; } > long-line.json
 try_run 1 '1 1
 2000 2
-1 3' '' '{ echo "[0]"; echo "[$(repeat 1999 0,)0]"; echo "[0]"; } | run vet --root "#P" --lines --why --most 10000 list.cue 2>&1 > /dev/null \
+1 3' '' 'run vet --root "#P" --lines --why --most 10000 list.cue 2>&1 > /dev/null < long-line.json \
     | cut -d : -f 2 | uniq -c | sed "s/^ *//"'
 
 # Reasons by as many names as are told, 8,192 of each of 8,191 maps, and by more: a list of these maps is a value too.
@@ -514,6 +535,67 @@ try valid '"$program" vet --format json --root "#P" --doc one syntax.cue > out.j
 try valid '"$program" validate --format json --schema keyword.json --doc one > out.json || true; run vet --root "#Output" --doc out.json output.cue'
 try valid '"$program" validate --format json --schema names.json --doc many.json > out.json || true; run vet --root "#Output" --doc out.json output.cue'
 try valid '"$program" validate --format basic --schema names.json --doc many.json > out.json || true; run validate --schema output.schema.json --doc out.json'
+# A path of keywords has 1,024 bytes at most; one through more references is cut, and the place of its keyword is told beside it. Of the
+# schemas on the way no more are told than take 4 KiB for each reason, and 1 MiB beside.
+chain() { # links last
+    printf '{"$defs":{'
+    links 0 "$1" '"d<":{"$ref":"#/$defs/d>"},' | tr -d '\n'
+    printf '"d%d":%s},' "$1" "$2"
+}
+last='s/.*"keywordLocation":"\(.*\)/\1/'
+unit='"instanceLocation":"","error":"found 0, want string","line":1,"column":1}]}'
+{ chain 202 '{"type":"string"}'; printf '"$ref":"#/$defs/d0"}'; } > chain.json
+try_run 1 "$(repeat 203 '/$ref')/type\",$unit" '' 'echo 0 | run validate --format basic --schema chain.json | sed "$last"'
+{ chain 203 '{"type":"string"}'; printf '"$ref":"#/$defs/d0"}'; } > chain.json
+try_run 1 "$(repeat 204 '/$ref')\",\"absoluteKeywordLocation\":\"#/\$defs/d203/type\",$unit" '' \
+    'echo 0 | run validate --format basic --schema chain.json | sed "$last"'
+try_run 1 206 '' 'echo 0 | run validate --format basic --schema chain.json | tr "{" "\n" | grep -c keywordLocation'
+{ chain 210 '{"properties":{"a b%é":{"type":"string"}}}'; printf '"$ref":"#/$defs/d0"}'; } > chain.json
+echo '{"a b%é":0}' > keyed.json
+try_run 1 '#/$defs/d210/properties/a%20b%25%C3%A9/type' '' \
+    'run validate --format basic --schema chain.json --doc keyed.json | sed "s/.*\"absoluteKeywordLocation\":\"\([^\"]*\)\".*/\1/"'
+try valid '"$program" validate --format basic --schema chain.json --doc keyed.json > out.json || true; run validate --schema output.schema.json --doc out.json'
+{ chain 400 '{"type":"string"}'; printf '"items":{"$ref":"#/$defs/d0"}}'; } > chain.json
+{ printf '[0'; repeat 399 ',0'; printf ']'; } > many.json
+try_run 1 short '' 'run validate --format basic --most 1000000 --schema chain.json --doc many.json \
+    | awk "{ bytes += length } END { print bytes < 5000000 ? \"short\" : bytes }"'
+
+
+# Names of files can't make lines, and nothing in them moves the cursor or turns a line: a newline, CSI and an escape, a mark of
+# direction, one without width.
+forged=$(printf 'x: valid\nb\033[31m\302\2332J\342\200\256\342\200\213.json')
+shown='x: valid\nb\u001b[31m\u009b2J\u202e\u200b.json'
+cp one "$forged"
+try_run 0 "$shown: valid" '' 'run vet --root "#P" port.cue --docs "$forged"'
+try_run 4 "$shown.none: error 30" '' 'run vet --root "#P" port.cue --docs "$forged.none"'
+try_run 0 "$shown: valid" '' 'run agree --why --root "#P" port.cue --docs "$forged"'
+echo 0 > "$forged"
+try_run 1 "$shown: invalid
+$shown:1:1: (root): found 0, want >=1 [port.cue:1:11 #P]" '' 'run vet --why --root "#P" port.cue --docs "$forged"'
+try_run 1 'invalid' "$shown:1:1: (root): found 0, want >=1 [port.cue:1:11 #P]" 'run vet --why --lines --root "#P" --doc "$forged" port.cue'
+try_run 4 '' "error 30
+$shown.none: no such file" 'run vet --why --root "#P" --doc "$forged.none" port.cue'
+cp port.cue "$forged"
+try_run 0 "$shown:1:1: #P: int" '' 'run list "$forged"'
+echo '#A: int & string' > "$forged"
+try_run 0 "$shown:1:1: warning: no document is an instance of #A: its operands are of different kinds" '' 'run check "$forged"'
+printf '#A:' > "$forged"
+try_run 2 "$shown:1:4: error 4: a value is missing here" '' 'run check "$forged"'
+try_run 2 '' "error 4 at 3
+$shown:1:4: a value is missing here
+#A:
+   ^" 'run export --why --root "#A" "$forged"'
+# Nor can words of a faulty command line.
+try_run 3 '\u001b[31m' '' 'run explain "$(printf "\033[31m")" 2>&1 | grep -o "[^ ]*31m" | tr -d "\047" | uniq'
+# Nor can keys and texts of documents, in the lines that tell of them.
+printf '{"a\\u202e\\u2028\\u0085\\u2066":1}' > turned.json
+try_run 1 'invalid
+turned.json:1:2: /a\u202e\u2028\u0085\u2066: this key is not allowed [turned.cue:1:5 #A]' '' \
+    'echo "#A: {}" > turned.cue; run vet --why --root "#A" --doc turned.json turned.cue'
+printf '"\342\201\246a\357\273\277\177"' > turned.json
+try_run 1 'invalid
+turned.json:1:1: (root): found "\u2066a\ufeff\u007f", want int [turned.cue:1:5 #A]' '' \
+    'echo "#A: int" > turned.cue; run vet --why --root "#A" --doc turned.json turned.cue'
 
 # A schema in a file: written beside it and renamed, so that a refused run leaves the old file. Nothing is left beside it.
 try_run 0 "$port_text" '' 'run export --root "#P" -o new.json port.cue; cat new.json; find . -name "new.json.*"'
@@ -537,6 +619,15 @@ try "$port" 'run export --root "#P" -o /dev/stdout port.cue'
 try 'error 31' 'run export --root "#P" -o /dev/full port.cue'
 try 'error 31' 'run export --root "#P" -o folder port.cue'
 try 'error 31' 'run export --root "#P" -o missing/new.json port.cue'
+try_run 4 '' 'error 31
+folder: this is a folder' 'run export --why --root "#P" -o folder port.cue'
+# A link to a file that isn't there makes the file, and no file that lies there stops a run.
+ln -s made.json dangling.json
+try_run 0 "dangling.json
+$port_text" '' 'run export --root "#P" -o dangling.json port.cue; find . -name "dangling.json" -type l | cut -c 3-; cat made.json'
+seq -f 'many.json.%g.new' 0 120 | xargs touch
+try_run 0 "121
+$port_text" '' 'run export --root "#P" -o many.json port.cue; find . -name "many.json.*.new" | wc -l; cat many.json'
 
 # A comment of 64 KiB becomes one description.
 { printf '// '; head -c 65536 /dev/zero | tr '\0' 'x'; printf '\n#P: int'; } > long.cue
@@ -589,6 +680,14 @@ if $as "$room/program" --version > "$room/out" 2> "$room/said"; then
     chmod 644 closed/old.json
     try_run 4 old 'error 31' 'run export --root "#P" -o closed/old.json port.cue; cat closed/old.json'
     try 'error 31' 'run export --root "#P" -o closed/new.json port.cue'
+    try_run 4 '' 'error 31
+closed/new.json: no right to write it' 'run export --why --root "#P" -o closed/new.json port.cue'
+    # A file that only its folder lets replace.
+    mkdir open
+    chmod 777 open
+    echo old > open/fixed.json
+    chmod 444 open/fixed.json
+    try_run 4 old 'error 31' 'run export --root "#P" -o open/fixed.json port.cue; cat open/fixed.json'
     chmod 755 folder
 else
     echo 'commands: rights are not tried, since nobody cannot run the program here'

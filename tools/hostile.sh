@@ -2,8 +2,9 @@
 # Runs the program on inputs that are made to be hard: deep, long, wide, of many definitions, at the limits and past them. It has
 # a stack of 8 MiB and 1 GiB of memory, by `ulimit -s` and `ulimit -v`, which counts all addresses. A line for each input: its
 # bytes, the pairs of a value and a rule (0 where it is refused before it is judged), the milliseconds of the processor and the most
-# memory. Each run has to end by itself with the answer or the refusal that is wanted, and to take at most ten times 20 ns a byte
-# and 10 ns a pair, and 50 ms, in which the program starts and the clock ticks. Fails where one doesn't, and other work on the
+# memory. Each run has to end by itself with the answer or the refusal that is wanted, and to take at most twenty times 20 ns a byte
+# and 10 ns a pair, and 50 ms, in which the program starts and the clock ticks: nearly twice what the slowest line takes on the machine
+# of docs/PERFORMANCE.md, since others were 1.6 times as slow. Fails where one doesn't, and other work on the
 # machine can make one take longer. A line that is known to take longer says why here, and fails for its answer alone. Takes two
 # minutes, and half a GB for its inputs, which it makes in a temporary folder. Needs GNU time.
 #
@@ -17,12 +18,18 @@ only=$*
 mkdir "$room/here"
 cd "$room/here"
 
+# How many KiB of addresses a run may take.
+memory=1048576
+
 # run WORD..: the program within its limits on $room/in, five minutes at most
 run() {
     status=0
-    /usr/bin/time -f '%U %S %M' -o "$room/taken" sh -c 'ulimit -s 8192; ulimit -v 1048576; exec timeout 300 "$@"' sh \
-        "$program" "$@" < "$room/in" > "$room/out" 2> "$room/said" || status=$?
+    /usr/bin/time -f '%U %S %M' -o "$room/taken" sh -c 'ulimit -s "$1"; ulimit -v "$2"; shift 2; exec timeout 300 "$@"' sh \
+        "$stack" "$memory" "$program" "$@" < "$room/in" > "$room/out" 2> "$room/said" || status=$?
 }
+
+# The stack of a run in KiB.
+stack=8192
 
 # bytes_of WORD..: the bytes of the files that these words name
 bytes_of() {
@@ -46,7 +53,7 @@ is_asked_for() {
 is_in_time() {
     tail -n 1 "$room/taken" | awk -v name="$1" -v bytes="$2" -v pairs="$3" '{
         taken = ($1 + $2) * 1e3
-        most = 50 + 10 * (20e-6 * bytes + 10e-6 * pairs)
+        most = 50 + 20 * (20e-6 * bytes + 10e-6 * pairs)
         fault = taken > most ? sprintf("  more than %.0f ms", most) : ""
         printf "%-52s %10d %10d %8.0f %9d%s\n", name, bytes, pairs, taken, $3, fault
         exit (fault != "")
@@ -147,6 +154,40 @@ try '126 nested lists, a number inside: vet --why=all' 254 \
 { printf '#A: ['; many 1499 "$(nested 26 '[' '' ']'),"; nested 26 '[' '' ']'; printf ']'; } > deep.cue
 { printf '['; many 99 'null,'; printf 'null]'; } > nulls
 try '1,500 times 26 nested lists, 101 values: vet' 3939202 invalid 'vet --root #A --doc nulls deep.cue'
+# As deep as may be, within a stack of 1 MiB, an eighth of what a process has by default: each command that reads something deep.
+stack=1024
+nested 127 '[' '' ']' > lists
+nested 126 '[' 0 ']' > number
+printf '#A: [...#A]\n' > rest.cue
+printf '{"$defs":{"A":{"items":{"$ref":"#/$defs/A"},"type":"array"}},"$ref":"#/$defs/A"}\n' > rest.json
+nested 127 '{"not":' true '}' > not
+{ printf '// Deep.\n#A: '; nested 28 '[' '' ']'; } > deep.cue
+{ printf '#A: '; nested 27 '[' int ']'; } > other.cue
+wrong="number:1:127: $(many 126 /0): found 0, want a list [rest.cue:1:5 #A]"
+try '1 MiB of stack: vet' 254 valid 'vet --root #A --doc lists rest.cue'
+try '1 MiB of stack: vet --why' 254 "lines 1 invalid;$wrong" 'vet --why --root #A --doc number rest.cue'
+try '1 MiB of stack: vet --lines' 254 'lines 0 valid' 'vet --lines --root #A --doc lists rest.cue'
+try '1 MiB of stack: vet --docs' 508 "lines 1 lists: valid;number: invalid;$wrong" 'vet --why --root #A rest.cue --docs lists number'
+try '1 MiB of stack: validate' 254 valid 'validate --schema rest.json --doc lists'
+try '1 MiB of stack: validate --why' 254 \
+    "lines 1 invalid;number:1:127: $(many 126 /0): found 0, want array [#/\$defs/A/type]" 'validate --why --schema rest.json --doc number'
+try '1 MiB of stack: validate not' 128 invalid 'validate --schema not --doc null'
+try '1 MiB of stack: validate --format basic' 128 \
+    'lines 1 {"valid":false,"errors":[{"valid":false,"keywordLocation":"","instanceLocation":"","error":"the document is not valid","line":1,"column":1},{"valid":false,"keywordLocation":"/not","instanceLocation":"","error":"this is not allowed","line":1,"column":1}]}' \
+    'validate --format basic --schema not --doc null'
+try '1 MiB of stack: check --schema' 128 'lines 0' 'check --schema not'
+try '1 MiB of stack: agree --why' 508 "lines 1 invalid;$wrong" 'agree --why --root #A --doc number rest.cue'
+try '1 MiB of stack: export' 0 "{\"A\":$deepest}" 'export --root #A deep.cue'
+try '1 MiB of stack: export --describe' 0 'shows "description":"Deep."' 'export --describe --openapi --root #A deep.cue'
+try '1 MiB of stack: export --pretty' 0 'shows "items": false' 'export --pretty --root #A deep.cue'
+try '1 MiB of stack: check' 0 'lines 0' 'check deep.cue'
+try '1 MiB of stack: list' 0 'lines 0 deep.cue:2:1: #A: list' 'list deep.cue'
+try '1 MiB of stack: samples' 0 "lines 0 $(nested 28 '[' '' ']')" 'samples --root #A deep.cue'
+try '1 MiB of stack: samples --invalid' 1000000 "shows $(nested 27 '[' null ']')" 'samples --invalid --root #A deep.cue'
+try '1 MiB of stack: compare --why' 0 \
+    "lines 1 breaking;$(nested 28 '[' '' ']');document:1:28: $(many 27 /0): found a list, want int [other.cue:1:32 #A$(many 27 '[0]')]" \
+    'compare --why --root #A --old deep.cue --new other.cue'
+stack=8192
 # Documents, schemas and sources that open without end.
 fill 60000000 '[' > open
 try '60,000,000 open lists: vet' 0 'error 25' 'vet --root #A --doc open any.cue'
@@ -164,12 +205,39 @@ try '1,000,000 open lists: export --why' 0 'told error 7' 'export --why --root #
 { printf '#A: {a: *1 |'; many 100000 ' 1 |'; printf ' 1}'; } > wide.cue
 try '100,000 alternatives behind a mark: export --why' 0 'told error 5 at' 'export --why --root #A wide.cue'
 listed 80000 '#a%d: _' > wide.cue
-try '80,000 definitions: export --why' 0 'told error 14' 'export --why --root #A wide.cue'
+try '80,000 definitions: export --why' 1000000 'told error 14' 'export --why --root #A wide.cue'
 listed 1000 '#abcdefghijklmnopqrstuvwxyzabcdefghijklmnopqrstuvwxyzabcd%d: _' > wide.cue
 try '1,000 long names, another root: export --why' 0 'told error 13' \
     'export --why --root #abcdefghijklmnopqrstuvwxyzabcdefghijklmnopqrstuvwxyzabce9 wide.cue'
+# Places on one line: each is found from the one before it. A line that is told counts as 100 pairs here.
+{ printf '#A: {'; listed 20000 'a%d: int' ', '; printf '}'; } > wide.cue
+printf '{}' > empty
+missing=$(awk 'BEGIN {
+    column = 6
+    for (i = 0; i < 20000; i++) {
+        printf "⏎empty:1:1: (root): the key \"a%d\" is missing [wide.cue:1:%d #A.a%d]", i, column, i
+        column += length("a" i ": int, ")
+    }
+}')
+try '20,000 keys declared on a line, none there: vet --why' 2020002 "prints 1 invalid$missing" \
+    'vet --why --most 1000000 --root #A --doc empty wide.cue'
 awk 'BEGIN { for (i = 0; i < 1000; i++) printf "#a%d: {x: #a%d}\n", i, (i + 1) % 1000 }' > wide.cue
 try 'cycle of 1,000 definitions: export --why' 0 'told error 12' 'export --why --root #a0 wide.cue'
+# Names of one hash. The seed of the standard library's hashes is fixed, so the number that they make of a name's first 16 bytes is
+# known. The next 8 bytes are combined with it by exclusive or, and the outcome is multiplied by what is made of the last 8. Here these
+# next 8 bytes are that number itself: all names of 32 bytes that begin so have the product 0. Two such beginnings, one with a `#`.
+bare=meMhVTn9FdqU6l7gG33IXeWH
+written='#HTVUnE9JVWMfh8sCVnCEw1Z'
+{ printf '#A: {'; listed 10000 "$bare%08d: int"; printf '}'; } > wide.cue
+try '10,000 labels of one hash: export' 10000000 "shows \"${bare}00009999\":{\"type\":\"integer\"}" 'export --root #A wide.cue'
+{ printf '#A: {'; listed 10000 "$bare%08d: {}"; printf '}'; } > wide.cue
+try '10,000 labels of one hash, with structs: export' 10000000 "shows \"${bare}00009999\":{\"additionalProperties\":false" \
+    'export --root #A wide.cue'
+listed 10000 "#$bare%08d: _" '\n' > wide.cue
+try '10,000 definitions of one hash: export' 0 'error 14' 'export --root #A wide.cue'
+listed 20000 "$written%08d: _" '\n' > wide.cue
+try '20,000 definitions of one hash, with #: check' 0 \
+    'prints 2 error 14: 20,000 definitions, and 1,000 may be: split the package by roots' 'check wide.cue'
 # Comments, and many definitions and fields, in schemas that people read.
 { many 300000 '//\n' | sed 's/\\n/\n/g'; printf '\n#A: int\n'; } > wide.cue
 try '300,000 lines of comments: export --describe' 0 '{"A":{"type":"integer"}}' 'export --describe --root #A wide.cue'
@@ -344,6 +412,19 @@ chain() { # after|before|loop
 }
 chain after > schema
 try '300,000 definitions, each to the one after' 300001 valid 'validate --schema schema --doc seven'
+# By `basic` as well: 204 references make a path of 1,020 bytes, 1,024 are told, and the place of the last keyword is told by itself.
+units=$(awk 'BEGIN {
+    for (i = 0; i < 205; i++) {
+        at = "\"instanceLocation\":\"\",\"error\":"
+        error = i ? "\"the subschema is not valid\"" : "\"the document is not valid\""
+        printf "{\"valid\":false,\"keywordLocation\":\"%s\",%s%s,\"line\":1,\"column\":1},", path, at, error
+        if (i < 204) path = path "/$ref"
+    }
+    place = "\"absoluteKeywordLocation\":\"#/$defs/d299999/type\""
+    printf "{\"valid\":false,\"keywordLocation\":\"%s\",%s,%s\"found null, want integer\",\"line\":1,\"column\":1}", path, place, at
+}')
+try '300,000 definitions, each to the one after: basic' 300001 "lines 1 {\"valid\":false,\"errors\":[$units]}" \
+    'validate --format basic --schema schema --doc null'
 chain before > schema
 try '300,000 definitions, each to the one before' 300001 valid 'validate --schema schema --doc seven'
 chain loop > schema
@@ -508,6 +589,15 @@ awk 'BEGIN {
 try '1,000 definitions out of order: check' 10000000 'lines 0' 'check wide.cue'
 { printf '#A: '; listed 20 '({a%d: 1, ...} | {b: 1, ...})' ' & '; printf ' & {z: 1, ...} & {z: 2, ...}'; } > wide.cue
 try '1,048,576 cases without a document: check' 20000000 'lines 0' 'check wide.cue'
+# Reasons of definitions without instances: none is found here, as each part needs another one inside, in each of 1,024 cases.
+{
+    printf '#Y: {n: null | #Y, ...}\n#Z: {n: 1 | #Z, ...}\n#A: '
+    listed 10 '({a%d: 1, ...} | {b: 1, ...})' ' & '
+    printf ' & {z: #Y & #Z, ...}'
+} > wide.cue
+try '1,024 cases without a reason: check' 10000000 'lines 0 wide.cue:3:1: warning: no document is an instance of #A' 'check wide.cue'
+{ printf '#A0: int & string\n'; awk 'BEGIN { for (i = 0; i < 998; i++) print "#A" i + 1 ": #A0 | {x: #A" i "}" }'; } > wide.cue
+try '999 definitions without an instance: check' 10000000 'shows none of its alternatives has an instance' 'check wide.cue'
 { printf '#A: {'; listed 40000 'a%d: int' ', '; printf '}'; } > wide.cue
 try '40,000 fields: check' 10000000 'lines 0' 'check wide.cue'
 # Comparisons and documents: an answer, or 17 where a limit is met.
@@ -516,17 +606,47 @@ awk 'BEGIN {
     print "#A999: int"
 }' > wide.cue
 try 'a chain of 1,000 definitions against itself: compare' 100000000 'lines 0 compatible' 'compare --root #A0 --old wide.cue --new wide.cue'
-try 'a chain of 1,000 definitions: samples' 100000000 'shows {"x":{"x":{"x":null}}}' 'samples --root #A0 wide.cue'
-try 'a chain of 1,000 definitions: samples --invalid' 100000000 'shows {"x":{"x":{}}}' 'samples --invalid --root #A0 wide.cue'
+try 'a chain of 1,000 definitions: samples' 100000000 'leaves {"x":{"x":{"x":null}}}' 'samples --root #A0 wide.cue'
+try 'a chain of 1,000 definitions: samples --invalid' 100000000 'leaves {"x":{"x":false}}' 'samples --invalid --root #A0 wide.cue'
 { printf '#A: #B | 1 | 2\n#B: '; listed 20 '({a%d: 1, ...} | {b: 1, ...})' ' & '; printf ' & {z: 1, ...} & {z: 2, ...}\n'; } > wide.cue
-try '1,048,576 cases before two integers: samples' 100000000 'lines 0 1;2' 'samples --root #A wide.cue'
+try '1,048,576 cases before two integers: samples' 100000000 'leaves 1' 'samples --root #A wide.cue'
 awk 'BEGIN { printf "#A: "; for (i = 0; i < 16; i++) printf "%s({a%d: 1, ...} | {b%d: 1, ...})", i ? " & " : "", i, i; print "" }' > wide.cue
 try '65,536 cases against themselves: compare' 100000000 'error 17' 'compare --root #A --old wide.cue --new wide.cue'
-try '65,536 cases: samples --invalid' 100000000 'lines 0 null' 'samples --invalid --root #A wide.cue'
+try '65,536 cases: samples --invalid' 100000000 'leaves null' 'samples --invalid --root #A wide.cue'
 { printf '#A: '; listed 10000 '"v%d"' ' | '; printf '\n'; } > wide.cue
-try '10,000 texts against themselves: compare' 100000000 'error 17' 'compare --root #A --old wide.cue --new wide.cue'
-try '10,000 texts: samples' 100000000 'shows "v9999"' 'samples --root #A wide.cue'
+try '10,000 texts against themselves: compare' 1000000 'lines 0 compatible' 'compare --root #A --old wide.cue --new wide.cue'
+try '10,000 texts: samples' 100000000 'leaves "v9999"' 'samples --root #A wide.cue'
 try '10,000 texts: samples --invalid' 100000000 'lines 0 "aaaaaa";null' 'samples --invalid --root #A wide.cue'
+{ printf '#A: '; listed 5000 '%d' ' | '; printf '\n'; } > wide.cue
+{ printf '#A: '; listed 5001 '%d' ' | '; printf '\n'; } > other.cue
+try '5,000 integers and one more: compare' 1000000 'lines 0 compatible' 'compare --root #A --old wide.cue --new other.cue'
+try '5,000 integers and one less: compare' 1000000 'lines 1 breaking;5000' 'compare --root #A --old other.cue --new wide.cue'
+# Classes of integers: each is one range, also where it isn't to be met.
+awk 'BEGIN { printf "#A: "; for (i = 0; i < 12; i++) printf "%sint & >=%d & <=%d", i ? " | " : "", i * 10, i * 10 + 8; print "" }' > wide.cue
+try '12 ranges against themselves: compare' 0 'lines 0 compatible' 'compare --root #A --old wide.cue --new wide.cue'
+awk 'BEGIN { printf "#A: int & <0"; for (i = 0; i < 62; i++) printf " | int & >=%d & <%d", i * 10, i * 10 + 10; print " | int & >=620" }' > wide.cue
+printf '#A: int\n' > other.cue
+try 'int against 64 ranges that part it: compare' 0 'lines 0 compatible' 'compare --root #A --old other.cue --new wide.cue'
+try '64 ranges that part int: samples --invalid' 5000000 'shows null' 'samples --invalid --root #A wide.cue'
+awk 'BEGIN { printf "#A: "; for (i = 0; i < 3000; i++) printf "%sint & >=%d & <=%d", i ? " | " : "", i * 10, i * 10 + 8; print "" }' > wide.cue
+try '3,000 ranges against themselves: compare' 1000000 'lines 0 compatible' 'compare --root #A --old wide.cue --new wide.cue'
+# corners COUNT: so many of the 32 structs with 1 or 2 under each of five keys
+corners() {
+    awk -v count="$1" 'BEGIN {
+        printf "#A: "
+        for (i = 0; i < count; i++) {
+            printf "%s{", i ? " | " : ""
+            for (k = 0; k < 5; k++) printf "%s%c: %d", k ? ", " : "", 97 + k, int(i / 2 ^ k) % 2 + 1
+            printf "}"
+        }
+        print ""
+    }'
+}
+printf '#A: {a: 1 | 2, b: 1 | 2, c: 1 | 2, d: 1 | 2, e: 1 | 2}\n' > other.cue
+corners 31 > wide.cue
+try '32 corners against 31 of them: compare' 0 'lines 1 breaking;{"a":2,"b":2,"c":2,"d":2,"e":2}' 'compare --root #A --old other.cue --new wide.cue'
+corners 32 > wide.cue
+try '32 corners against themselves: compare' 10000000 'lines 0 compatible' 'compare --root #A --old other.cue --new wide.cue'
 { printf '#A: {'; listed 1000 'a%d: int' ', '; printf '}\n'; } > wide.cue
 try '1,000 fields against themselves: compare' 100000000 'lines 0 compatible' 'compare --root #A --old wide.cue --new wide.cue'
 # By more than half of the steps that a comparison may take, and by more than all.
@@ -534,10 +654,14 @@ try '1,000 fields against themselves: compare' 100000000 'lines 0 compatible' 'c
 try '7,000 fields against themselves: compare' 100000000 'lines 0 compatible' 'compare --root #A --old other.cue --new other.cue'
 { printf '#A: {'; listed 9000 'a%d: int' ', '; printf '}\n'; } > other.cue
 try '9,000 fields against themselves: compare' 100000000 'error 17' 'compare --root #A --old other.cue --new other.cue'
+# Fields of which each asks another question: they are all asked before the value is looked at again.
+awk 'BEGIN { printf "#A: {"; for (i = 0; i < 1000; i++) printf "a%d: %d, ", i, i; print "}" }' > other.cue
+try '1,000 fields of other integers against themselves: compare' 100000000 'lines 0 compatible' 'compare --root #A --old other.cue --new other.cue'
+try '1,000 fields of other integers: samples' 100000000 'shows {"a0":0,"a1":1,"a10":10,' 'samples --root #A other.cue'
 try '1,000 fields: samples' 100000000 'shows {"a0":0,"a1":0,"a10":0,' 'samples --root #A wide.cue'
-try '1,000 fields: samples --invalid' 100000000 'shows {"a1":0,"a10":0,' 'samples --invalid --root #A wide.cue'
+try '1,000 fields: samples --invalid' 100000000 'leaves {"a1":0,"a10":0,' 'samples --invalid --root #A wide.cue'
 { printf '#A: ['; listed 2000 'int' ', '; printf ']\n'; } > wide.cue
-try '2,000 elements: samples --invalid' 100000000 'shows [null,0,0,' 'samples --invalid --root #A wide.cue'
+try '2,000 elements: samples --invalid' 100000000 'leaves [0,0,0,' 'samples --invalid --root #A wide.cue'
 awk 'BEGIN {
     for (i = 0; i < 1000; i++) {
         printf "#A%d: {", i
@@ -546,8 +670,33 @@ awk 'BEGIN {
         print "}"
     }
 }' > wide.cue
-try '1,000 definitions of 1 MiB: samples' 100000000 'shows "next":{"field_1_' 'samples --root #A0 wide.cue'
-try '1,000 definitions of 1 MiB: samples --invalid' 100000000 'shows null' 'samples --invalid --root #A0 wide.cue'
+try '1,000 definitions of 1 MiB: samples' 100000000 'leaves "next":{"field_1_' 'samples --root #A0 wide.cue'
+try '1,000 definitions of 1 MiB: samples --invalid' 100000000 'leaves null' 'samples --invalid --root #A0 wide.cue'
+# Documents that have twice as many values with each definition: the steps bound what is written, and so what is kept. They are given a
+# second, and 96 MiB, within which there are the documents so far.
+awk 'BEGIN { for (i = 0; i < 14; i++) printf "#A%d: {f0: #A%d, f1: #A%d}\n", i, i + 1, i + 1; print "#A14: int" }' > wide.cue
+memory=98304
+try 'a document of 32,767 values: samples' 10000000 'shows {"f0":{"f0":' 'samples --root #A0 wide.cue'
+try 'documents of 32,767 values: samples --invalid' 10000000 'leaves null' 'samples --invalid --root #A0 wide.cue'
+awk 'BEGIN { for (i = 0; i < 16; i++) printf "#A%d: {f0: #A%d, f1: #A%d}\n", i, i + 1, i + 1; print "#A16: int" }' > wide.cue
+try 'documents of 131,071 values: samples --invalid' 20000000 'leaves null' 'samples --invalid --root #A0 wide.cue'
+{ printf '#A: ['; many 100 '#B,'; printf ']\n#B: {'; listed 20 'a%d: int & >=1 & <=9' ', '; printf '}\n'; } > wide.cue
+try 'documents of 2,101 values: samples --invalid' 20000000 'leaves null' 'samples --invalid --root #A wide.cue'
+memory=1048576
+# Each definition gets its turn: one document for each, though there are 20 rules in each.
+awk 'BEGIN {
+    for (i = 0; i < 150; i++) {
+        printf "#A%d: {", i
+        for (j = 0; j < 10; j++) printf "k%d: int, ", j
+        for (j = 2 * i + 1; j < 2 * i + 3 && j < 150; j++) printf "a%d?: #A%d, ", j, j
+        print "}"
+    }
+}' > wide.cue
+try '150 definitions: samples --invalid' 100000000 'leaves {"a1":null,' 'samples --invalid --root #A0 --most 150 wide.cue'
+if is_asked_for '150 definitions: all of them'; then
+    if [ "$(grep -o '"a[0-9]*":null' "$room/out" | sort -u | wc -l)" -eq 149 ]; then touched=yes; else touched=no; fi
+    count '150 definitions: all of them' "$touched"
+fi
 awk 'BEGIN { for (i = 0; i < 64; i++) printf "#A%d: #A%d & #A%d\n", i, i + 1, i + 1; print "#A64: int" }' > wide.cue
 awk 'BEGIN { for (i = 0; i < 64; i++) printf "#A%d: #A%d | #A%d\n", i, i + 1, i + 1; print "#A64: int" }' > other.cue
 try '64 doublings by both: compare' 0 'lines 0 backward: compatible;forward: compatible' 'compare --both --root #A0 --old wide.cue --new other.cue'

@@ -4,7 +4,8 @@
 # print nothing, say `error 15` (or with `--format` print that as an object) and end with status 5, and the last one must give the whole answer. A line for each command says
 # how many growths it has, or what a run did instead; fails where there is such a run. Takes a minute on 4 processors.
 #
-# A run over many documents may answer 15 for one of them, and then it answers the others as they are wanted.
+# A run over many documents may answer 15 for one of them, and then it answers the others as they are wanted. One of `samples` may
+# write those that it found before, and say so.
 #
 # A step `again` makes a call twice in one process, on the same inputs: where a growth of one of them is refused, that one has to
 # answer 15, and the other one the whole answer.
@@ -50,7 +51,7 @@ run() {
             < "$room/in" > "$room/out" 2> "$room/said" 9> "$room/met" || status=$?
         if [ ! -s "$room/met" ]; then return; fi
         growths=$((growths + 1))
-        if ! is_refused && ! is_answered_once && ! is_refused_once; then return; fi
+        if ! is_refused && ! is_answered_once && ! is_refused_once && ! is_cut_short; then return; fi
     done
 }
 
@@ -89,6 +90,14 @@ is_refused_once() {
         $1 == $2 { refused++; next }
         { wrong++ }
         END { exit wrong || refused != 1 }'
+}
+
+# Whether a run wrote the documents that it had found when memory ran out, and said that there may be more.
+is_cut_short() {
+    case $wanted in 'lines 0 '*) ;; *) return 1 ;; esac
+    [ "$status" -eq 0 ] && [ -s "$room/out" ] && [ "$(head -n 1 "$room/said")" = 'maybe more; a limit was met' ] || return 1
+    printf '%s\n' "${wanted#lines 0 }" | tr ';' '\n' > "$room/wanted"
+    ! grep -qvxFf "$room/wanted" "$room/out"
 }
 
 # whether the last run met no refusal and did what is wanted

@@ -60,7 +60,7 @@ THINGS = (
         ("Or(", ".Or", "-Or", "…disjunction…"),
         (
             (("cs_instance", "cs_question"), ("Any(", "node.Any", "Some-Any")),
-            (("cs_instance", "cs_compile", "cs_warnings", "cs_question"), ("…any_of",)),
+            (("cs_instance", "cs_compile", "cs_question"), ("…any_of",)),
         ),
     ),
     Thing(

@@ -1,6 +1,7 @@
 #!/usr/bin/env python3
 """Has the program tell why documents are invalid, with `--most 1000000` and with smaller numbers, and compares: whatever is told with a
-smaller number is the beginning of the whole, and `more` is how many lines are left. A line for each difference, and a closing count.
+smaller number is the beginning of the whole, and `more` is how many lines are left. So it does with the documents of `samples`. A line
+for each difference, and a closing count.
 
     tools/prefixes.py PROGRAM
 
@@ -33,6 +34,8 @@ BY_SCHEMA = [("validate", ["lines", "json", "basic"])]
 COMMANDS = ("vet", "validate", "agree")
 REASON = re.compile(r" *-:(\d+):\d+: ")
 MORE = re.compile(r"(\d+) more; --most N tells more")
+MORE_SAMPLES = re.compile(r"(at least )?(\d+) more; --most N tells more|maybe more; --most N tells more")
+MOST_SAMPLES = 10_000
 OF_SCHEMAS = ("the document is not valid", "the subschema is not valid")
 TIMES = re.compile("⟨([0-9]+)×([^⟩]*)⟩")
 PATIENCE = int(os.environ.get("PATIENCE", "20"))
@@ -297,9 +300,35 @@ def compare(program: Program, command: str, formats: list[str], kind: str, repor
                 report.add(f"{where}, document {number}, {most}", differs(wholes.get(number, Told()), few, most, form))
 
 
+def samples_differ(whole: subprocess.CompletedProcess[str], few: subprocess.CompletedProcess[str], most: int) -> str:
+    """How fewer documents aren't the beginning of all of them, or are counted wrong, if they are."""
+    lines = whole.stdout.splitlines()
+    if few.stdout.splitlines() != lines[:most]:
+        return f"wrote {few.stdout!r}, and with {MOST_SAMPLES}: {lines[: most + 1]}"
+    more = MORE_SAMPLES.fullmatch((few.stderr.splitlines() or [""])[0])
+    left = len(lines) - most
+    if not more or (more[2] and (int(more[2]) > left or not more[1] and int(more[2]) != left)):
+        return f"said {few.stderr!r}, and with {MOST_SAMPLES} there are {left} more"
+    return ""
+
+
+def compare_samples(program: Program, report: Report) -> None:
+    """Compares the documents of a definition, and those that just fail."""
+    for kind in ([], ["--invalid"]):
+        by = [*kind, "--root", program.rules.root, "--", *program.files]
+        whole = program.run("samples", "--most", str(MOST_SAMPLES), *by)
+        for most in FEWER:
+            if whole.returncode == 0 and most < len(whole.stdout.splitlines()):
+                few = program.run("samples", "--most", str(most), *by)
+                report.add(f"{program.rules.name}: samples {' '.join(kind)}, {most}", samples_differ(whole, few, most))
+
+
 def try_rules(words: tuple[str, Rules]) -> Report:
     program, rules = words
     report = Report()
+    if rules.sources:
+        with tempfile.TemporaryDirectory() as room:
+            compare_samples(Program(program, rules, Path(room)), report)
     for it in [rules, *listed(rules)]:
         with tempfile.TemporaryDirectory() as room:
             run = Program(program, it, Path(room))

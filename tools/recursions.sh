@@ -9,8 +9,10 @@ set -eu
 cd "$(dirname "$0")/.."
 
 # The parser goes down by the brackets that are open, of which it refuses the 29th; the height of a body is followed 28 deep; a
-# document is read 127 levels deep. Literals are looked for 16 rules deep, and two edits are looked for between names.
+# document is read 127 levels deep. Literals are looked for 16 rules deep, and two edits are looked for between names. Why a definition
+# has no instance is looked for 64 parts deep.
 limited='crates/cs_doc/proofs/listing/Listing/+read
+crates/cs_findings/proofs/why_empty/Search/+why
 crates/cs_instance/proofs/near/literals/Search/+leading
 crates/cs_instance/proofs/near/names/+are_near
 crates/cs_report/proofs/wording/+are_near

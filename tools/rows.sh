@@ -217,13 +217,18 @@ edition() {
 }
 editions() { for_rows editions "$1" edition; } # folder
 
+# is_cut: whether nothing is said but what `samples` leaves
+is_cut() {
+    ! grep -qvE '^((at least )?[0-9]+|maybe) more; |^rules without a document: [0-9]+$' "$room/said"
+}
+
 # The rows of `instances`: a source, and an instance of its first definition or `none`.
 instance() {
     put_source source
     cut_cell
     if [ "$cell" = none ]; then without=yes; else without=no; fi
     run check source
-    if grep -qF "no document is an instance of $word:" "$room/out"; then warned=yes; else warned=no; fi
+    if sed 's/.*no document is an instance of //; s/:.*//' "$room/out" | grep -qxF "$word"; then warned=yes; else warned=no; fi
     if [ "$status $warned" = "0 $without" ]; then count "$label: check" yes; else count "$label: check" no; fi
     run samples --most 1 --root "$word" source
     if [ "$cell" = none ]; then
@@ -231,7 +236,8 @@ instance() {
         return
     fi
     cp "$room/out" document
-    judge "$label: samples" "prints 0 $(cat document)"
+    if [ "$status" -eq 0 ] && [ "$(wc -l < document)" -eq 1 ] && is_cut; then well=yes; else well=no; fi
+    count "$label: samples" "$well"
     is_among source "$word" valid
     printf '%s' "$cell" > document
     is_among source "$word" valid
@@ -239,15 +245,18 @@ instance() {
 instances() { for_rows instances "$1" instance; } # folder
 
 # has_lines COUNT TEXTS: whether the run wrote so many lines, any number of them where there is no count, all different, and these
-# texts among them; its status is 1 where there are none
+# texts among them; its status is 1 where there are none. Behind a `+` the count has how many more it says are left
 has_lines() {
-    [ ! -s "$room/said" ] && [ -z "$(sort "$room/out" | uniq -d)" ] || return 1
+    more=
+    case $1 in *+*) more="${1#*+} more; --most N tells more" ;; esac
+    is_text "$room/said" "$more" && [ -z "$(sort "$room/out" | uniq -d)" ] || return 1
     many=$(wc -l < "$room/out")
-    [ "$many" -eq "${1:-$many}" ] && [ "$status" -eq $((many == 0)) ] || return 1
+    wanted=${1%+*}
+    [ "$many" -eq "${wanted:-$many}" ] && [ "$status" -eq $((many == 0)) ] || return 1
     for text in $2; do grep -qxF -- "$text" "$room/out" || return 1; done
 }
 
-# The rows of `samples`: words, a source, how many lines are written, and lines that are among them.
+# The rows of `samples`: words, a source, how many lines are written and are left, and lines that are among them.
 sampled() {
     cut_cell
     words=$cell

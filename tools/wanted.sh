@@ -105,6 +105,7 @@ is_wanted() {
         'told '*) is_told_more "${1#told }" ;;
         usage) [ "$status" -eq 3 ] && [ ! -s "$room/out" ] && [ -s "$room/said" ] ;;
         'shows '*) [ "$status" -eq 0 ] && grep -qF -- "${1#shows }" "$room/out" && [ ! -s "$room/said" ] ;;
+        'leaves '*) [ "$status" -eq 0 ] && grep -qF -- "${1#leaves }" "$room/out" && grep -q ' more; ' "$room/said" ;;
         *) false ;;
     esac
 }

@@ -1,4 +1,5 @@
 // A line of a source, and the mark under a part of it.
+use cs_place::is_hidden;
 use memchr::{memchr, memrchr};
 use std::alloc::AllocError;
 use std::str;
@@ -78,13 +79,12 @@ fn put_side(text: &mut String, side: &str, left: usize, is_blank: bool) -> Resul
     Ok(())
 }
 
-/// A character of a line, with a blank for one that moves the cursor or that shows nothing, and for each where blanks are asked for. A
-/// tab stays.
+/// A character of a line, with a blank for one that isn't shown as it is, so that the mark stays below what it marks, and for each where
+/// blanks are asked for. A tab stays.
 fn shown(character: char, is_blank: bool) -> char {
     match character {
         '\t' => '\t',
-        '\u{0}'..='\u{1f}' | '\u{7f}'..='\u{9f}' | '\u{feff}' => ' ',
-        _ if is_blank => ' ',
+        _ if is_blank || is_hidden(character) => ' ',
         _ => character,
     }
 }

@@ -5,7 +5,7 @@ use cs_grammar::{Sort, SyntaxFault, Token};
 use cs_lexer::lex;
 use cs_place::Named;
 use std::alloc::{AllocError, Global};
-use std::collections::HashMap;
+use std::collections::BTreeMap;
 use std::str;
 
 /// A source with its tokens; none of them where it isn't cut.
@@ -34,7 +34,7 @@ impl<'t> Declaration<'_, '_, 't> {
 pub(crate) struct Declared<'s, 'n, 't> {
     pub(crate) all: Vec<Declaration<'s, 'n, 't>>,
     /// The places among them by their names.
-    pub(crate) places: HashMap<&'t str, usize>,
+    pub(crate) places: BTreeMap<&'t str, usize>,
 }
 
 impl<'s, 'n, 't> Declared<'s, 'n, 't> {
@@ -80,7 +80,7 @@ pub(crate) fn declared_in<'s, 'n, 't>(
 ) -> Result<Declared<'s, 'n, 't>, AllocError> {
     let mut declared = Declared {
         all: Vec::new(alloc),
-        places: HashMap::new(alloc),
+        places: BTreeMap::new(alloc),
     };
     for source in sources {
         declared.add_source(source)?;

@@ -3,7 +3,7 @@ use crate::graph::Graph;
 use crate::layout::{Inside, Layout, Part, layout_of};
 use cs_grammar::{Sort, Token};
 use std::alloc::{AllocError, Global};
-use std::collections::HashMap;
+use std::collections::BTreeMap;
 
 /// What is on the way from a definition to a part.
 #[derive(Clone, Copy, Drop)]
@@ -65,7 +65,7 @@ fn strong_at<'t>(
 pub(crate) fn add_strong(
     alloc: Global,
     tokens: &[Token<'_>],
-    places: &HashMap<&str, usize>,
+    places: &BTreeMap<&str, usize>,
     graph: &mut Graph,
 ) -> Result<(), AllocError> {
     let layout = layout_of(alloc, tokens)?;
@@ -86,7 +86,7 @@ pub(crate) fn add_strong(
 
 /// Adds a reference from one name to another one, where both are those of definitions.
 fn add_between(
-    places: &HashMap<&str, usize>,
+    places: &BTreeMap<&str, usize>,
     graph: &mut Graph,
     from: &str,
     to: &str,

@@ -1,5 +1,5 @@
 // Writing into texts.
-use cs_place::{Named, position_of};
+use cs_place::{Named, position_of, put_place, put_shown};
 use itoa::Buffer;
 use std::alloc::AllocError;
 
@@ -14,24 +14,7 @@ pub fn put_all(text: &mut String, parts: &[&str]) -> Result<(), AllocError> {
     Ok(())
 }
 
-/// Whether a character would not stay on its line, or would say something to a terminal.
-fn is_control(character: char) -> bool {
-    matches!(character, '\u{0}'..='\u{1f}' | '\u{7f}'..='\u{9f}')
-}
-
-/// Puts a text with a `?` for each control character.
-fn put_shown(text: &mut String, shown: &str) -> Result<(), AllocError> {
-    for character in shown.chars() {
-        text.push(if is_control(character) {
-            '?'
-        } else {
-            character
-        })?;
-    }
-    Ok(())
-}
-
-/// Puts these parts of a line, one after another, with a `?` for each control character in them.
+/// Puts these parts of a line, one after another, as they are shown.
 ///
 /// # Errors
 /// Memory ran out.
@@ -84,17 +67,8 @@ pub fn line_and_column(named: Named<'_>, offset: usize) -> (usize, usize) {
 /// Memory ran out.
 pub fn put_offset(text: &mut String, named: Named<'_>, offset: usize) -> Result<(), AllocError> {
     let (line, column) = line_and_column(named, offset);
-    put_line(
-        text,
-        &[
-            named.name,
-            ":",
-            Buffer::new().format(line),
-            ":",
-            Buffer::new().format(column),
-            ": ",
-        ],
-    )
+    put_place(text, named.name, line, column)?;
+    text.push_str(": ")
 }
 
 /// Puts words, and behind them a text as a string of JSON (RFC 8259, section 7).
@@ -102,19 +76,6 @@ pub fn put_offset(text: &mut String, named: Named<'_>, offset: usize) -> Result<
 /// # Errors
 /// Memory ran out.
 pub fn put_quoted(text: &mut String, words: &str, inside: &str) -> Result<(), AllocError> {
-    put_all(text, &[words, "\""])?;
-    for character in inside.chars() {
-        put_escaped(text, character)?;
-    }
-    text.push('"')
-}
-
-/// Puts a character of a string of JSON.
-fn put_escaped(text: &mut String, character: char) -> Result<(), AllocError> {
-    match character {
-        '"' => text.push_str("\\\""),
-        '\\' => text.push_str("\\\\"),
-        _ if is_control(character) => write!(text, "\\u{:04x}", character as u32),
-        _ => text.push(character),
-    }
+    text.push_str(words)?;
+    cs_place::put_quoted(text, inside)
 }

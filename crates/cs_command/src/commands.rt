@@ -4,7 +4,8 @@ use crate::words::{
     ALL, BOTH, DESCRIBE, DOCUMENT_OF_SCHEMA, DOCUMENT_OF_SOURCES, DOCUMENTS, FILES, FORMAT,
     FORMAT_OF_LIST, FORMAT_OF_SCHEMA, INPUT, INVALID, LINES, LINES_OF_SOURCES, MOST,
     MOST_DOCUMENTS, NEW, NEW_ROOT, NUMBER, OLD, OPENAPI, OPTIONAL_ROOT, OUTPUT, PRETTY, REASONS,
-    ROOT, ROOT_OF_EXPORT, SCHEMA, SCHEMA_IN_PLACE, STRICT, WHY, WHY_BROKEN, WHY_REFUSED,
+    ROOT, ROOT_OF_EXPORT, SCHEMA, SCHEMA_IN_PLACE, STRICT, STRICT_SAMPLES, WHY, WHY_BROKEN,
+    WHY_REFUSED,
 };
 
 /// All of them, in the order of the program's help. An array, since the prover gives up on a slice of so many tables within
@@ -108,7 +109,14 @@ const SAMPLES: Subcommand = Subcommand {
     name: "samples",
     about: "Writes documents of a definition, a line of JSON for each",
     example: "Example: cue2schema samples --root '#Port' port.cue",
-    words: &[ROOT, INVALID, MOST_DOCUMENTS, WHY_REFUSED, FILES],
+    words: &[
+        ROOT,
+        INVALID,
+        MOST_DOCUMENTS,
+        STRICT_SAMPLES,
+        WHY_REFUSED,
+        FILES,
+    ],
     groups: &[],
 };
 

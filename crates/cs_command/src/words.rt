@@ -13,8 +13,8 @@ const SCHEMA_FORMATS: &[&str] = &["json", "flag", "basic"];
 const MOST_REASONS: u64 = 1_000_000;
 /// How many documents may be asked for at most.
 const MOST_SAMPLES: u64 = 10_000;
-/// The greatest number of a refusal.
-const GREATEST_REFUSAL: u64 = 31;
+/// The greatest number of which it can be asked whether a refusal has it.
+const GREATEST_NUMBER: u64 = 4_294_967_295;
 
 /// What each word without a value is made of.
 const FLAG: Word = Word {
@@ -160,10 +160,16 @@ pub(crate) const STRICT: Word = Word {
     ..FLAG
 };
 
+/// What is left changes the status.
+pub(crate) const STRICT_SAMPLES: Word = Word {
+    help: "Ends with status 1 where there are more documents, or rules without one",
+    ..STRICT
+};
+
 pub(crate) const NUMBER: Word = Word {
     id: "NUMBER",
     help: "The number of a refusal, as `error 11` says it",
-    value_parser: ValueParser::Unsigned(1, GREATEST_REFUSAL),
+    value_parser: ValueParser::Unsigned(0, GREATEST_NUMBER),
     is_required: true,
     ..VALUE
 };

@@ -1,10 +1,12 @@
--- What is written of comparisons and of documents, worked by the definitions. A wrong expectation stops the check here.
-use Rattle.std.proofs.Common.{◌≡◌, [], ◌∷◌, map, true, false, codes, refl}
+-- What is written of comparisons and of texts, worked by the definitions. A wrong expectation stops the check here.
+use Rattle.std.proofs.Common.{◌≡◌, ℕ, [], ◌∷◌, map, true, false, codes, refl}
+use Rattle.std.specs.Prelude.{Vec}
+use Rattle.std.specs.declared.alloc.Global.{Global}
 use Rattle.cs_doc.proofs.OnLiterals.{cs_doc_on_literals}
 use Rattle.cs_document.specs.Document.{null, boolean}
 use Rattle.cs_document.specs.View.{doc_view}
 use Rattle.cs_document.specs.declared.doc.Doc.{Doc}
-use Rattle.cs_compare.specs.Written.{lines_of, object_of, comparison_text, both_text, documents_text, has_some}
+use Rattle.cs_compare.specs.Written.{lines_of, object_of, comparison_text, both_text, lines_text, has_some}
 use Rattle.cs_compare.specs.declared.comparison.Comparison.TheVariants.{Compatible, Breaking}
 use Rattle.cs_compare.specs.declared.written.Told.{Told}
 
@@ -29,10 +31,9 @@ both_directions : (t u : Told) → t.comparison ≡ Compatible → u.comparison 
     ≡ codes "{\"backward\":{\"compatible\":true},\"forward\":{\"compatible\":true}}\n" ∷ codes "backward: compatible\nforward: compatible\n" ∷ []
 both_directions t u is other = rw (is, other)
 
-documents : (d e : Doc) → doc_view d ≡ null → doc_view e ≡ boolean false
-    → map documents_text ([] ∷ (d ∷ e ∷ []) ∷ []) ≡ [] ∷ codes "null\nfalse\n" ∷ []
-unfolding cs_doc_on_literals
-documents d e is other = rw (is, other)
+texts : (t u : Vec ℕ Global) → t.items ≡ codes "null" → u.items ≡ []
+    → map lines_text ([] ∷ (t ∷ u ∷ []) ∷ []) ≡ [] ∷ codes "null\n\n" ∷ []
+texts t u is other = rw (is, other)
 
-some : (d : Doc) → map has_some ([] ∷ (d ∷ []) ∷ []) ≡ false ∷ true ∷ []
-some d = refl
+some : (t : Vec ℕ Global) → map has_some ([] ∷ (t ∷ []) ∷ []) ≡ false ∷ true ∷ []
+some t = refl

@@ -1,8 +1,8 @@
--- What is written of comparisons, and of documents.
-use Rattle.std.specs.Prelude.{ℕ, List, [], ◌∷◌, ◌++◌, flat_map, Bool, true, false, Option, codes}
+-- What is written of comparisons, and of the texts of documents.
+use Rattle.std.specs.Prelude.{ℕ, List, [], ◌∷◌, ◌++◌, flat_map, Bool, true, false, Option, Vec, codes}
+use Rattle.std.specs.declared.alloc.Global.{Global}
 use Rattle.std.specs.Io.KnownBytes.{Keeps}
 use Rattle.cs_document.specs.View.{doc_view}
-use Rattle.cs_document.specs.declared.doc.Doc.{Doc}
 use Rattle.cs_doc.specs.Texts.{text_of}
 use Rattle.cs_tool.specs.Runs.{line_of}
 use Rattle.cs_tool.specs.Streams.{AppendsFront}
@@ -43,16 +43,16 @@ abbrev pub both_text : Bool → Told → Told → List ℕ
 both_text true t u = codes "{\"backward\":" ++ answer_of true t ++ codes ",\"forward\":" ++ answer_of true u ++ codes "}\n"
 both_text false t u = codes "backward: " ++ answer_of false t ++ codes "forward: " ++ answer_of false u
 
--- ---- documents
+-- ---- texts
 
--- a line for each document
-abbrev pub documents_text : List Doc → List ℕ
-documents_text ds = flat_map (λ d. line_of (text_of (doc_view d))) ds
+-- a line for each text
+abbrev pub lines_text : List (Vec ℕ Global) → List ℕ
+lines_text ts = flat_map (λ t. line_of t.items) ts
 
--- there is a document
-abbrev pub has_some : List Doc → Bool
+-- there is a text
+abbrev pub has_some : List (Vec ℕ Global) → Bool
 has_some [] = false
-has_some (d ∷ ds) = true
+has_some (t ∷ ts) = true
 
 -- ---- refusals
 

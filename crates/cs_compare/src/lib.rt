@@ -7,6 +7,6 @@ mod refusal;
 mod written;
 
 pub use comparison::{Comparison, compare};
-pub use documents::write_documents;
+pub use documents::write_lines;
 pub use refusal::{CompareRefusal, Side};
 pub use written::{Told, write_both, write_comparison};

@@ -22,12 +22,21 @@ pub struct CompareRefusal {
 }
 
 impl From<Fault> for CompareRefusal {
+    ghost use Rattle.std.specs.Prelude.{◌≡◌, None};
+
+    ghost from_gives = { λ f r. (r.side ≡ None) × (r.fault ≡ f) };
+
     fn from(fault: Fault) -> CompareRefusal {
         CompareRefusal { side: None, fault }
     }
 }
 
 impl From<AllocError> for CompareRefusal {
+    ghost use Rattle.std.specs.Prelude.{◌≡◌, None};
+    ghost use Rattle.cs_tool.specs.declared.fault.Fault.TheVariants.{OutOfMemory};
+
+    ghost from_gives = { λ _ r. (r.side ≡ None) × (r.fault ≡ OutOfMemory) };
+
     fn from(_refused: AllocError) -> CompareRefusal {
         CompareRefusal {
             side: None,

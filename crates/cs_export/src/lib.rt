@@ -6,6 +6,8 @@ mod components;
 mod exports;
 mod layout;
 mod shaped;
+mod written;
 
 pub use exports::{export_all, export_root};
 pub use layout::Layout;
+pub use written::{write_all, write_root};

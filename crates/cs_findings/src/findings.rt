@@ -6,14 +6,12 @@ ghost use Rattle.cs_tool.specs.Given.{bytes_in};
 use crate::declared::declarations;
 use crate::faults::put_faults;
 use crate::found::warned;
-use crate::text::write_out;
 use crate::warnings::put_warning;
 use cs_check::check;
 use cs_guard::Guarded;
 use cs_place::Named;
 use cs_tool::{Fault, accepted_package};
 use std::alloc::{AllocError, Global};
-use std::io::Write;
 
 /// What came of a check.
 #[derive(Clone, Copy)]
@@ -26,36 +24,40 @@ pub enum Checked {
     Faulty,
 }
 
-/// Checks the sources, and writes a line for each fault, 50 at most; where there is none, one for each definition that is found to
-/// have no instance. `named` has the sources with their names, in their order.
+/// What was found, with a line for each finding.
+#[derive(Drop)]
+pub struct Findings {
+    pub checked: Checked,
+    pub lines: String,
+}
+
+/// What is found in the sources: a line for each fault, 50 at most; where there is none, one for each definition that is found to have
+/// no instance. `named` has the sources with their names, in their order.
 ///
 /// That what is told is so is proved where it is found: by `cs_check::check` and `warned`. The words and the places in lines are tested.
 ///
 /// # Errors
-/// `OutOfMemory` and `WriteFailed`.
-pub fn write_findings<W: Write>(
+/// Memory alone.
+pub fn source_findings(
     alloc: Global,
     sources: &[&[u8]],
     named: &[Named<'_>],
     root: Option<&str>,
-    output: &mut W,
-) -> Result<Checked, Fault>
+) -> Result<Findings, Fault>
     ensures accepted { IfOk result
-        (λ c. ¬ (c ≡ Checked.Faulty) → AreAccepted (bytes_in sources.now)) }
+        (λ f. ¬ (f.checked ≡ Checked.Faulty) → AreAccepted (bytes_in sources.now)) }
     ensures refused { root.entry ≡ None → IfOk result
-        (λ c. c ≡ Checked.Faulty → ¬ (AreAccepted (bytes_in sources.now))) }
+        (λ f. f.checked ≡ Checked.Faulty → ¬ (AreAccepted (bytes_in sources.now))) }
 {
     let faults = check(alloc, sources)?;
     if !faults.is_empty() {
-        write_faults(alloc, &faults, named, root, output)?;
-        return Ok(Checked::Faulty);
+        return faulty(alloc, &faults, named, root);
     }
     let package = accepted_package(alloc, sources)?;
     if is_undeclared(&package, root) {
-        write_faults(alloc, &[Fault::UnknownRoot], named, root, output)?;
-        return Ok(Checked::Faulty);
+        return faulty(alloc, &[Fault::UnknownRoot], named, root);
     }
-    write_warnings(alloc, &package, named, output)
+    unfaulty(alloc, &package, named)
 }
 
 /// Whether a root is asked for that the package doesn't declare.
@@ -68,17 +70,21 @@ fn is_undeclared(package: &Guarded, root: Option<&str>) -> bool
     }
 }
 
-/// Writes a line for each fault.
-fn write_faults<W: Write>(
+/// Faults, with a line for each.
+fn faulty(
     alloc: Global,
     faults: &[Fault],
     named: &[Named<'_>],
     root: Option<&str>,
-    output: &mut W,
-) -> Result<(), Fault> {
-    let mut text = String::new(alloc);
-    put_faults(alloc, faults, named, root.unwrap_or(""), &mut text)?;
-    write_out(text.as_bytes(), output)
+) -> Result<Findings, Fault>
+    ensures { IfOk result (λ f. f.checked ≡ Checked.Faulty) }
+{
+    let mut lines = String::new(alloc);
+    put_faults(alloc, faults, named, root.unwrap_or(""), &mut lines)?;
+    Ok(Findings {
+        checked: Checked::Faulty,
+        lines,
+    })
 }
 
 /// The lines of warnings; empty where there is none.
@@ -99,19 +105,19 @@ fn warning_lines(
     Ok(text)
 }
 
-/// Writes a line for each definition that is found to have no instance.
-fn write_warnings<W: Write>(
-    alloc: Global,
-    package: &Guarded,
-    named: &[Named<'_>],
-    output: &mut W,
-) -> Result<Checked, Fault>
-    ensures { IfOk result (λ c. ¬ (c ≡ Checked.Faulty)) }
+/// What is found where there are no faults.
+fn unfaulty(alloc: Global, package: &Guarded, named: &[Named<'_>]) -> Result<Findings, Fault>
+    ensures { IfOk result (λ f. ¬ (f.checked ≡ Checked.Faulty)) }
 {
-    let text = warning_lines(alloc, package, named)?;
-    if text.is_empty() {
-        return Ok(Checked::Well);
+    let lines = warning_lines(alloc, package, named)?;
+    if lines.is_empty() {
+        return Ok(Findings {
+            checked: Checked::Well,
+            lines,
+        });
     }
-    write_out(text.as_bytes(), output)?;
-    Ok(Checked::Warned)
+    Ok(Findings {
+        checked: Checked::Warned,
+        lines,
+    })
 }

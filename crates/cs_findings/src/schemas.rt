@@ -2,38 +2,36 @@
 ghost use Rattle.std.specs.Prelude.{◌≡◌, IfOk};
 ghost use Rattle.cs_tool.specs.CallRefusals.{IsSchemaText};
 
-use crate::Checked;
-use crate::text::write_out;
+use crate::findings::{Checked, Findings};
 use cs_check::check_schema;
 use cs_place::Named;
 use cs_refusals::put_finding;
 use cs_tool::Fault;
 use std::alloc::{AllocError, Global};
-use std::io::Write;
 
-/// Checks a schema, and writes a line for each fault, 50 at most.
+/// What is found in a schema: a line for each fault, 50 at most.
 ///
 /// That what is told is so is proved where it is found, by `cs_check::check_schema`. The words and the places in lines are tested.
 ///
 /// # Errors
-/// `OutOfMemory` and `WriteFailed`.
-pub fn write_schema_findings<W: Write>(
-    alloc: Global,
-    schema: Named<'_>,
-    output: &mut W,
-) -> Result<Checked, Fault>
+/// Memory alone.
+pub fn schema_findings(alloc: Global, schema: Named<'_>) -> Result<Findings, Fault>
     ensures accepted { IfOk result
-        (λ c. ¬ (c ≡ Checked.Faulty) → IsSchemaText schema.entry.text.now) }
+        (λ f. ¬ (f.checked ≡ Checked.Faulty) → IsSchemaText schema.entry.text.now) }
     ensures refused { IfOk result
-        (λ c. c ≡ Checked.Faulty → ¬ (IsSchemaText schema.entry.text.now)) }
+        (λ f. f.checked ≡ Checked.Faulty → ¬ (IsSchemaText schema.entry.text.now)) }
 {
     let faults = check_schema(alloc, schema.text)?;
     if faults.is_empty() {
-        return Ok(Checked::Well);
+        return Ok(Findings {
+            checked: Checked::Well,
+            lines: String::new(alloc),
+        });
     }
-    let text = lines(alloc, &faults, schema)?;
-    write_out(text.as_bytes(), output)?;
-    Ok(Checked::Faulty)
+    Ok(Findings {
+        checked: Checked::Faulty,
+        lines: lines(alloc, &faults, schema)?,
+    })
 }
 
 /// A line for each fault of a schema.

@@ -7,8 +7,8 @@ use crate::wants::{
 use cs_flat::{Flat, Item};
 use cs_instance::{InstanceCause, RootRules};
 use cs_package::{FieldMark, Part, Shape};
-use cs_place::Step;
-use cs_report::{Suggestion, put_counted, put_not_allowed, put_number, put_quoted};
+use cs_place::{Step, put_quoted};
+use cs_report::{Suggestion, put_counted, put_not_allowed, put_number};
 use std::alloc::{AllocError, Global};
 
 /// How many labels are compared with keys that aren't allowed, in all.

@@ -1,6 +1,6 @@
 // Reports of reasons.
 ghost use Rattle.std.specs.Prelude.{◌≡◌, ◌⊎◌, ◌++◌, OnOk, OnErr, is_none, string_bytes};
-ghost use Rattle.cs_report.specs.Valid.{flag_text, Reports};
+ghost use Rattle.cs_report.specs.Valid.{flag_text, HasLines, Reports};
 
 use crate::sources::sources_of;
 use crate::telling::words_of;
@@ -23,8 +23,9 @@ fn put_reasons(
     reasons: Option<&Reasons<InstanceCause>>,
     text: &mut String,
 ) -> Result<(), AllocError>
-    ensures { (form ≡ Form.Flag) ⊎ (form ≡ Form.Basic)
+    ensures flag { (form ≡ Form.Flag) ⊎ (form ≡ Form.Basic)
         → OnOk result (string_bytes text.new ≡ string_bytes text.old) }
+    ensures told { OnOk result (HasLines (is_none reasons.entry) form (string_bytes text.new)) }
 {
     let Some(reasons) = reasons else {
         return Ok(());

@@ -4,7 +4,8 @@ use crate::outline::Separator;
 use crate::sources::Sources;
 use cs_instance::InstanceCause;
 use cs_package::{FieldMark, Package, Part, Shape, ShapeEnd};
-use cs_report::{put_number, put_quoted};
+use cs_place::put_quoted;
+use cs_report::put_number;
 use std::alloc::{AllocError, Global};
 
 /// What a rule is in the package.

@@ -2,7 +2,8 @@
 use cs_flat::Item;
 use cs_instance::{Want, Wanted};
 use cs_package::{Kind, Relation, Shape};
-use cs_report::{MOST_WANTED, put_integer, put_number, put_quoted, put_shown};
+use cs_place::put_quoted;
+use cs_report::{MOST_WANTED, put_beginning, put_integer, put_number};
 use std::alloc::AllocError;
 
 fn kind_name(kind: Kind) -> &'static str {
@@ -144,7 +145,7 @@ pub(crate) fn put_found(text: &mut String, item: Item<'_>) -> Result<(), AllocEr
         Item::Null => text.push_str("null"),
         Item::Bool(value) => text.push_str(if value { "true" } else { "false" }),
         Item::Int(value) => put_integer(text, value),
-        Item::Text(value) => put_shown(text, value),
+        Item::Text(value) => put_beginning(text, value),
         Item::List(_) => text.push_str("a list"),
         Item::Object(_) => text.push_str("a struct"),
     }

@@ -2,6 +2,7 @@
 use Rattle.std.proofs.Common.{◌≡◌, ◌⊎◌, ℕ, ◌+◌, ◌-◌, ◌^◌, min, List, [], ◌∷◌, ◌++◌, length, Bool, true, false, not, Option, Result, Ok, Err, IfOk, IfErr, refl, inl, inr, sym, ap, subst, ◌∙◌, arith, append_assoc, length-append, codes}
 use Rattle.std.specs.Io.KnownBytes.{Appends}
 use Rattle.std.proofs.KnownBytes.{Appends-trans}
+use Rattle.cs_place.specs.Shown.{shown}
 use Rattle.cs_report.specs.Valid.{report_text, Says, Reports}
 use Rattle.cs_report.specs.declared.form.Form.{Form}
 use Rattle.cs_report.specs.declared.form.Form.TheVariants.{Lines, Json, Flag, Basic}
@@ -20,7 +21,7 @@ told_first form truth told h = subst (IsTold form truth) (sym h.1) h.2
 
 -- nothing was reported before
 pub first_report : (form : Form) (truth : Bool) (old new told : List ℕ) → old ≡ [] → told ≡ new → Reports form truth old new → Says form truth told
-first_report form truth old new told none same h = (h.2.0, same ∙ h.1 ∙ ap (λ o. o ++ h.0) none ∙ h.2.1)
+first_report form truth old new told none same h = (h.2.0, same ∙ h.1 ∙ ap (λ o. o ++ h.0) none ∙ h.2.1, h.2.2)
 
 -- where both sides say the same, the report says it, whichever side makes it
 pub one_side : (form : Form) (a b : Bool) (old mid new : List ℕ) → a ≡ b → ReportsIf (not (is_told_by_schema form)) form a old mid → ReportsIf (is_told_by_schema form) form b mid new → Reports form a old new
@@ -30,17 +31,17 @@ one_side Flag a b old mid new same root schema = subst (λ t. Reports Flag t old
 one_side Basic a b old mid new same root schema = subst (λ t. Reports Basic t old new) (sym same) (subst (λ m. Reports Basic b m new) root schema)
 
 -- what is told of a verdict follows the label
-pub labelled_told : (label : List ℕ) (truth : Bool) (told : List ℕ) → IsTold Lines truth told → IsLabelled label (Ok truth) (label ++ codes ": " ++ told)
-labelled_told label true told h = ap (λ t. label ++ codes ": " ++ t) h
-labelled_told label false told h = (h.0, ap (λ t. label ++ codes ": " ++ t) h.1 ∙ sym (append_assoc (label ++ codes ": ") (answer_line (Ok false)) h.0))
+pub labelled_told : (label : List ℕ) (truth : Bool) (told : List ℕ) → IsTold Lines truth told → IsLabelled label (Ok truth) (shown label ++ codes ": " ++ told)
+labelled_told label true told h = ap (λ t. shown label ++ codes ": " ++ t) h
+labelled_told label false told h = (h.0, ap (λ t. shown label ++ codes ": " ++ t) h.1 ∙ sym (append_assoc (shown label ++ codes ": ") (answer_line (Ok false)) h.0), h.2)
 
 -- three writes, one after the other
 pub three_parts : (a b c d : Option (List ℕ)) (first second third : List ℕ) → Appends a b first → Appends b c second → Appends c d third → Appends a d (first ++ second ++ third)
 three_parts a b c d first second third f s t = Appends-trans a c d (first ++ second) third (Appends-trans a b c first second f s) t
 
 -- that is written
-pub writes_told : (label told : List ℕ) (answer : Answer) (truth : Bool) (old new : Option (List ℕ)) → answer ≡ Ok truth → IfOk answer (λ b. IsTold Lines b told) → Appends old new (label ++ codes ": " ++ told) → WritesLabelled Lines label answer old new
-writes_told label told (Ok valid) truth old new is h w = (label ++ codes ": " ++ told, labelled_told label valid told h, w)
+pub writes_told : (label told : List ℕ) (answer : Answer) (truth : Bool) (old new : Option (List ℕ)) → answer ≡ Ok truth → IfOk answer (λ b. IsTold Lines b told) → Appends old new (shown label ++ codes ": " ++ told) → WritesLabelled Lines label answer old new
+writes_told label told (Ok valid) truth old new is h w = (shown label ++ codes ": " ++ told, labelled_told label valid told h, w)
 writes_told label told (Err e) truth old new is h w = absurd (cc is)
 
 -- the object of a document is written

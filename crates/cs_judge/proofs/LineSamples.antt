@@ -1,6 +1,8 @@
 -- Samples of a run over lines, worked by the definitions. A wrong expectation stops the check here.
 use Rattle.std.proofs.Common.{◌≡◌, ◌≢◌, ℕ, [], ◌∷◌, ◌++◌, map, true, false, Ok, Err, codes, refl, arith}
+use Rattle.std.proofs.Math.Utf8.{encode}
 use Rattle.std.specs.Fmt.{digits}
+use Rattle.std.specs.Str.{chars}
 use Rattle.std.proofs.lemmas.List.Elements.{All-nil, All-cons}
 use Rattle.cs_judge.specs.Explained.{IsLabelled}
 use Rattle.cs_judge.specs.Lines.{IsLine, AreLines, answer_line, labelled, outcome_of}
@@ -14,18 +16,25 @@ unfolding digits
 answer_lines = refl
 
 of_a_file : labelled (codes "a.json") (Err ReadFailed) ≡ codes "a.json: error 30" ++ 10 ∷ []
-unfolding digits
+unfolding digits chars encode
 of_a_file = refl
+
+-- a name that has a newline is on its line
+of_a_forger : labelled (codes "x: valid\nb") (Ok false) ≡ codes "x: valid\\nb: invalid\n"
+unfolding chars encode
+of_a_forger = refl
 
 -- reasons follow the line of a file that is invalid
 with_reasons : IsLabelled (codes "a") (Ok false) (codes "a: invalid\nb\n")
-with_reasons = (codes "b\n", refl)
+unfolding chars encode
+with_reasons = (codes "b\n", refl, record { front = []; last = 98; full = λ e. omega arith; ends = refl })
 
 without_reasons : IsLabelled (codes "a") (Ok true) (codes "a: valid\n")
+unfolding chars encode
 without_reasons = refl
 
 refused_with_reasons : IsLabelled (codes "a") (Err NotJson) (codes "a: error 25\n")
-unfolding digits
+unfolding digits chars encode
 refused_with_reasons = refl
 
 outcomes : map outcome_of ([] ∷ (Ok true ∷ Ok true ∷ []) ∷ (Ok false ∷ Ok true ∷ []) ∷ (Ok true ∷ Ok false ∷ []) ∷ (Err NotJson ∷ Ok false ∷ []) ∷ (Ok false ∷ Err NotJson ∷ Ok true ∷ []) ∷ [])

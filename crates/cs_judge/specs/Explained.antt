@@ -2,7 +2,7 @@
 use Rattle.std.specs.Prelude.{◌≡◌, ◌⊎◌, ℕ, ◌+◌, ◌-◌, ◌^◌, min, List, [], ◌∷◌, ◌++◌, length, drop, Bool, true, false, Option, Ok, Err, IfOk, codes, decimal}
 use Rattle.std.specs.Io.KnownBytes.{Appends, Keeps}
 use Rattle.json.specs.Print.{quoted}
-use Rattle.cs_report.specs.Valid.{Says, Reports}
+use Rattle.cs_report.specs.Valid.{EndsInLine, Says, Reports}
 use Rattle.cs_report.specs.declared.form.Form.{Form}
 use Rattle.cs_report.specs.declared.form.Form.TheVariants.{Lines, Json, Flag, Basic}
 use Rattle.cs_judge.specs.Judged.{call_on}
@@ -14,10 +14,10 @@ use Rattle.cs_tool.specs.declared.fault.Fault.{Fault}
 use Rattle.cs_tool.specs.declared.fault.Fault.TheVariants.{WriteFailed}
 use Rattle.cs_tool.specs.declared.rules.Rules.{Rules}
 
--- in lines the verdict's line comes first, and no other one follows `valid`; in the other forms an object says it
+-- in lines the verdict's line comes first, one at least follows `invalid`, and none `valid`; in the other forms an object says it
 abbrev pub IsTold : Form → Bool → List ℕ → Type 0
 IsTold Lines true text = text ≡ line_of (verdict_text true)
-IsTold Lines false text = (reasons : List ℕ) × (text ≡ line_of (verdict_text false) ++ reasons)
+IsTold Lines false text = (reasons : List ℕ) × (text ≡ line_of (verdict_text false) ++ reasons) × EndsInLine reasons
 IsTold Json truth text = Says Json truth text
 IsTold Flag truth text = Says Flag truth text
 IsTold Basic truth text = Says Basic truth text
@@ -45,9 +45,9 @@ abbrev pub LeavesTold : Rules → List ℕ → Form → Fault → Option (List �
 LeavesTold rules text form WriteFailed old new = (truth : Bool) × (told : List ℕ) × IsToldAnswer rules text form truth told × AppendsFront old new told
 LeavesTold rules text form fault old new = IsCallRefusal (call_on rules text) fault × Keeps old new
 
--- the line that tells the answer to a text of that label, and reasons behind `invalid`
+-- the line that tells the answer to a text of that label, and behind `invalid` one for a reason at least
 abbrev pub IsLabelled : List ℕ → Answer → List ℕ → Type 0
-IsLabelled label (Ok false) text = (reasons : List ℕ) × (text ≡ labelled label (Ok false) ++ reasons)
+IsLabelled label (Ok false) text = (reasons : List ℕ) × (text ≡ labelled label (Ok false) ++ reasons) × EndsInLine reasons
 IsLabelled label answer text = text ≡ labelled label answer
 
 -- ---- an object for each document, or for each line

@@ -2,6 +2,7 @@
 use Rattle.std.specs.Prelude.{◌≡◌, ◌≢◌, ℕ, ◌<◌, ◌≤◌, List, [], ◌∷◌, ◌++◌, length, Bool, true, false, Option, Result, Ok, Err, codes, decimal, IfSome}
 use Rattle.std.specs.List.{All, flat_map}
 use Rattle.std.specs.Io.KnownBytes.{Appends, Consumes}
+use Rattle.cs_place.specs.Shown.{shown}
 use Rattle.cs_tool.specs.declared.fault.Fault.{Fault}
 use Rattle.cs_tool.specs.declared.fault.Fault.TheVariants.{OutOfMemory, InputTooLong, ReadFailed, WriteFailed}
 use Rattle.cs_tool.specs.declared.rules.Rules.{Rules}
@@ -145,9 +146,9 @@ IsOfRules fault = Unit {0}
 
 -- ---- an answer for a file
 
--- the line that tells the answer to a text of that label
+-- the line that tells the answer to a text of that label, which is shown: no character of it ends the line
 abbrev pub labelled : List ℕ → Answer → List ℕ
-labelled label answer = label ++ codes ": " ++ answer_line answer
+labelled label answer = shown label ++ codes ": " ++ answer_line answer
 
 -- ---- on the way
 

@@ -5,6 +5,7 @@ ghost use Rattle.cs_tool.specs.Streams.{AppendsFront};
 ghost use Rattle.cs_judge.specs.Lines.{Answer, IsTextAnswer, answer_line, worse, outcome_of_answer, labelled};
 
 use crate::text_judge::TextJudge;
+use cs_place::Label;
 use cs_tool::{Fault, put, write_part, write_text};
 use itoa::Buffer;
 use std::io::Write;
@@ -67,14 +68,14 @@ pub(crate) fn put_answer(line: &mut [u8], at: usize, answer: &Result<bool, Fault
     }
 }
 
-/// Judges the text, and writes `LABEL: valid`, `LABEL: invalid` or `LABEL: error N` and a newline, where N is the number of
-/// the refusal; then flushes.
+/// Judges the text, and writes `LABEL: valid`, `LABEL: invalid` or `LABEL: error N` and a newline, where the label is shown and N is the
+/// number of the refusal; then flushes.
 ///
 /// `WriteFailed` alone: the writer took a front of that line.
 pub fn write_answer<W: Write>(
     judge: &mut TextJudge<'_>,
     text: &[u8],
-    label: &str,
+    label: &Label<'_>,
     output: &mut W,
 ) -> Result<LinesOutcome, Fault>
     ensures done { IfOk result (λ outcome. (answer : Answer)
@@ -96,7 +97,7 @@ pub fn write_answer<W: Write>(
 /// `WriteFailed` alone: the writer took a front of that line.
 pub fn write_unread<W: Write>(
     fault: Fault,
-    label: &str,
+    label: &Label<'_>,
     output: &mut W,
 ) -> Result<LinesOutcome, Fault>
     ensures done { IfOk result (λ outcome. (outcome ≡ LinesOutcome.SomeRefused)
@@ -113,7 +114,7 @@ pub fn write_unread<W: Write>(
 /// Writes the label, the answer and a newline, and flushes.
 pub(crate) fn write_labelled<W: Write>(
     answer: &Result<bool, Fault>,
-    label: &str,
+    label: &Label<'_>,
     output: &mut W,
 ) -> Result<(), Fault>
     ensures all { OnOk result (Appends (W.contents output.old) (W.contents output.new)
@@ -126,6 +127,6 @@ pub(crate) fn write_labelled<W: Write>(
     let line = &mut line[..];
     let start = put(line, 0, b": ");
     let end = put_answer(line, start, answer);
-    write_part(output, label.as_bytes())?;
+    write_part(output, label.shown().as_bytes())?;
     write_text(output, &line[..end])
 }

@@ -10,7 +10,7 @@ use crate::answers::{LinesOutcome, outcome_of, write_labelled};
 use crate::fronts::document_front;
 use crate::text_judge::TextJudge;
 use crate::why::Why;
-use cs_place::Named;
+use cs_place::{Label, Named};
 use cs_report::Form;
 use cs_tool::{Fault, MEMBER_ROOM, put, put_error, write_part, write_text};
 use std::alloc::{AllocError, Global};
@@ -42,29 +42,34 @@ pub fn run_explained<W: Write>(
     Ok(truth)
 }
 
-/// Judges the document, and writes what is told of it under its name; then flushes. In lines that is `NAME: valid`, or
-/// `NAME: invalid` and a line for each reason, or `NAME: error N`, where N is the number of the refusal; else one object, whose
-/// first member is `document`, with `error` for a refusal.
+/// Judges the text, and writes what is told of it under its label; then flushes. In lines that is `LABEL: valid`, or `LABEL: invalid` and a
+/// line for each reason, or `LABEL: error N`, where the label is shown and N is the number of the refusal; else one object, whose first
+/// member is `document`, the name itself, with `error` for a refusal.
 ///
 /// `WriteFailed` alone.
 pub fn write_explained<W: Write>(
     alloc: Global,
     judge: &mut TextJudge<'_>,
-    document: Named<'_>,
+    text: &[u8],
+    label: &Label<'_>,
     why: Why<'_>,
     output: &mut W,
 ) -> Result<LinesOutcome, Fault>
     ensures done { IfOk result (λ outcome. (answer : Answer)
-        × IsTextAnswer judge.old document.entry.text.now answer
-        × (outcome ≡ outcome_of_answer answer)
-        × WritesLabelled why.entry.form document.entry.name.now answer
+        × IsTextAnswer judge.old text.now answer × (outcome ≡ outcome_of_answer answer)
+        × WritesLabelled why.entry.form label.now answer
         (W.contents output.old) (W.contents output.new)) }
     ensures kind { OnErr result (result ≡ Err Fault.WriteFailed) }
     ensures same { judge.new ≡ judge.old }
 {
+    let document = Named {
+        name: label.name(),
+        text,
+        line: 1,
+    };
     let mut told = Vec::new(alloc);
     let answer = judge.explain(document, why, &mut told);
-    write_told(alloc, why.form, &answer, document.name, &told, output)?;
+    write_told(alloc, why.form, &answer, label, &told, output)?;
     Ok(outcome_of(&answer))
 }
 
@@ -72,19 +77,19 @@ pub fn write_explained<W: Write>(
 pub fn write_unexplained<W: Write>(
     alloc: Global,
     fault: Fault,
-    name: &str,
+    label: &Label<'_>,
     form: Form,
     output: &mut W,
 ) -> Result<LinesOutcome, Fault>
     ensures done { IfOk result (λ outcome. (outcome ≡ LinesOutcome.SomeRefused)
-        × WritesLabelled form name.now (Err fault)
+        × WritesLabelled form label.now (Err fault)
         (W.contents output.old) (W.contents output.new)) }
     ensures kind { OnErr result (result ≡ Err Fault.WriteFailed) }
 {
     match form {
-        Form::Lines => write_labelled(&Err(fault), name, output)?,
+        Form::Lines => write_labelled(&Err(fault), label, output)?,
         Form::Json | Form::Flag | Form::Basic => {
-            write_object(alloc, &Err(fault), name, b"", output)?;
+            write_object(alloc, &Err(fault), label.name(), b"", output)?;
         }
     }
     Ok(LinesOutcome::SomeRefused)
@@ -95,40 +100,42 @@ fn write_told<W: Write>(
     alloc: Global,
     form: Form,
     answer: &Result<bool, Fault>,
-    name: &str,
+    label: &Label<'_>,
     told: &[u8],
     output: &mut W,
 ) -> Result<(), Fault>
     ensures all { IfOk answer.now (λ b. IsTold form b told.now)
-        → OnOk result (WritesLabelled form name.now answer.now
+        → OnOk result (WritesLabelled form label.now answer.now
         (W.contents output.old) (W.contents output.new)) }
     ensures kind { OnErr result (result ≡ Err Fault.WriteFailed) }
 {
     match form {
-        Form::Lines => write_lines(answer, name, told, output),
-        Form::Json | Form::Flag | Form::Basic => write_object(alloc, answer, name, told, output),
+        Form::Lines => write_lines(answer, label, told, output),
+        Form::Json | Form::Flag | Form::Basic => {
+            write_object(alloc, answer, label.name(), told, output)
+        }
     }
 }
 
 /// Writes an answer under a name in lines, of which the last ones are told; then flushes.
 fn write_lines<W: Write>(
     answer: &Result<bool, Fault>,
-    name: &str,
+    label: &Label<'_>,
     told: &[u8],
     output: &mut W,
 ) -> Result<(), Fault>
     ensures all { IfOk answer.now (λ b. IsTold Form.Lines b told.now)
-        → OnOk result (WritesLabelled Form.Lines name.now answer.now
+        → OnOk result (WritesLabelled Form.Lines label.now answer.now
         (W.contents output.old) (W.contents output.new)) }
     ensures kind { OnErr result (result ≡ Err Fault.WriteFailed) }
 {
     match answer {
         Ok(_) => {
-            write_part(output, name.as_bytes())?;
+            write_part(output, label.shown().as_bytes())?;
             write_part(output, b": ")?;
             write_text(output, told)
         }
-        Err(_) => write_labelled(answer, name, output),
+        Err(_) => write_labelled(answer, label, output),
     }
 }
 

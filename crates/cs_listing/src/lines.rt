@@ -2,8 +2,7 @@
 use crate::Kinds;
 use crate::entries::{Entry, entries_of};
 use cs_guard::Guarded;
-use cs_place::Named;
-use itoa::Buffer;
+use cs_place::{Named, Position, put_place};
 use std::alloc::{AllocError, Global};
 
 /// The words of kinds, in the order in which they are told.
@@ -33,47 +32,41 @@ pub fn put_listing(
     text: &mut Vec<u8>,
 ) -> Result<(), AllocError> {
     let entries = entries_of(alloc, sources, package)?;
+    let mut lines = String::new(alloc);
     for entry in &entries {
-        put_line(entry, text)?;
+        put_line(entry, &mut lines)?;
     }
-    Ok(())
+    text.extend_from_slice(lines.as_bytes())
 }
 
 /// Puts the line of a definition.
-fn put_line(entry: &Entry<'_>, text: &mut Vec<u8>) -> Result<(), AllocError> {
-    text.extend_from_slice(entry.file.as_bytes())?;
-    text.extend_from_slice(b":")?;
-    put_number(entry.position.line, text)?;
-    text.extend_from_slice(b":")?;
-    put_number(entry.position.column, text)?;
-    text.extend_from_slice(b": ")?;
-    text.extend_from_slice(entry.name.as_bytes())?;
-    text.extend_from_slice(b": ")?;
+fn put_line(entry: &Entry<'_>, text: &mut String) -> Result<(), AllocError> {
+    let Position { line, column } = entry.position;
+    put_place(text, entry.file, line, column)?;
+    text.push_str(": ")?;
+    text.push_str(entry.name)?;
+    text.push_str(": ")?;
     put_kinds(entry.kinds, text)?;
-    text.extend_from_slice(b"\n")
-}
-
-fn put_number(number: usize, text: &mut Vec<u8>) -> Result<(), AllocError> {
-    text.extend_from_slice(Buffer::new().format(number).as_bytes())
+    text.push_str("\n")
 }
 
 /// Puts kinds as an expression of CUE has them, but for the words `list` and `struct`.
-fn put_kinds(kinds: Kinds, text: &mut Vec<u8>) -> Result<(), AllocError> {
+fn put_kinds(kinds: Kinds, text: &mut String) -> Result<(), AllocError> {
     let words = words(kinds);
     match words.iter().filter(|word| word.0).count() {
-        0 => text.extend_from_slice(b"_|_"),
-        6 => text.extend_from_slice(b"_"),
+        0 => text.push_str("_|_"),
+        6 => text.push_str("_"),
         _ => put_words(&words, text),
     }
 }
 
 /// Puts those words that count.
-fn put_words(words: &[(bool, &str)], text: &mut Vec<u8>) -> Result<(), AllocError> {
+fn put_words(words: &[(bool, &str)], text: &mut String) -> Result<(), AllocError> {
     let mut mark = "";
     for (counts, word) in words {
         if *counts {
-            text.extend_from_slice(mark.as_bytes())?;
-            text.extend_from_slice(word.as_bytes())?;
+            text.push_str(mark)?;
+            text.push_str(word)?;
             mark = " | ";
         }
     }

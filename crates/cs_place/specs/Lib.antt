@@ -1,2 +1,3 @@
--- Lines and columns of texts.
+-- Lines and columns of texts, and how texts are shown.
 pub mod Positions
+pub mod Shown

@@ -1,12 +1,15 @@
-// Places in texts: the line and the column of an offset, and the offsets of a document's values; and texts with their names.
+// Places in texts: the line and the column of an offset, and the offsets of a document's values; and texts with their names, and how they
+// are shown to people.
 #![tactic(auto)]
 
 mod named;
 mod position;
 mod positions;
+mod shown;
 mod values;
 
 pub use named::Named;
 pub use position::{Position, position_of};
 pub use positions::Positions;
+pub use shown::{Label, is_hidden, put_in_string, put_place, put_quoted, put_shown};
 pub use values::{Place, Step, ValuePath, places};

@@ -1,6 +1,8 @@
 -- What the proofs of this crate show: a table at rest says the truth of all documents (`no_document` in `Answered`), since what is asked of
 -- a document is asked of its parts.
 pub mod Some
+pub mod Said
+pub mod Between
 pub mod Loops
 pub mod Unfolded
 pub mod Seen

@@ -1,19 +1,18 @@
 -- The rules that a root reaches mean what the package says.
-use Rattle.std.proofs.Common.{◌≡◌, ℕ, zero, suc, Bool, true, false, List, [], ◌∷◌, ◌++◌, Some, None, map, codes, refl, sym, ap, ap₂, ◌∙◌, subst}
+use Rattle.std.proofs.Common.{◌≡◌, ℕ, zero, suc, Bool, true, false, List, [], ◌∷◌, Some, None, map, codes, refl, sym, ap, ◌∙◌}
 use Rattle.std.specs.Prelude.{slice_get, get_or}
 use Rattle.std.proofs.lemmas.List.{append_cancel_left}
 use Rattle.std.proofs.lemmas.Option.{same_Some}
 use Rattle.std.specs.List.{list_all}
 use Rattle.cs_document.specs.Document.{Document, IsDocument}
 use Rattle.cs_document.specs.Opened.{opened}
-use Rattle.cs_package.specs.Environment.{Environment, Names, written}
-use Rattle.cs_instance.specs.Constraint.{Constraint, is_satisfied}
+use Rattle.cs_package.specs.Environment.{Environment, Names}
+use Rattle.cs_instance.specs.Constraint.{is_satisfied}
 use Rattle.cs_instance.specs.Instance.{Rule, definition, node, constraint_of, IsInstance}
-use Rattle.cs_instance.specs.Numbering.{map_constraint, rule_at, IsNumbering}
+use Rattle.cs_instance.specs.Numbering.{rule_at, IsNumbering}
 use Rattle.cs_instance.specs.Steps.{numbered}
 use Rattle.cs_instance.specs.declared.rules.Rule.{Rule as Coded}
 use Rattle.cs_instance.proofs.Satisfied.{named}
-use Rattle.cs_question.specs.declared.literal.Side.{Side}
 use Rattle.cs_question.specs.declared.literal.Side.TheVariants.{Admitting, Refusing}
 use Rattle.cs_question.specs.declared.literal.Literal.{Literal}
 use Rattle.cs_question.specs.declared.table.Table.{Table}
@@ -21,14 +20,10 @@ use Rattle.cs_question.specs.Asked.{meets}
 use Rattle.cs_question.specs.Truth.{IsAtRest, IsShut}
 use Rattle.cs_question.proofs.Some.{beq_same}
 use Rattle.cs_question.proofs.Answered.{no_document}
+use Rattle.cs_question.proofs.Said.{got_mapped}
 use Rattle.cs_question.specs.declared.nodes.Node.{Node}
 use Rattle.cs_question.specs.declared.nodes.Nodes.{Nodes}
-use Rattle.cs_question.specs.Nodes.{Judgement, IsMeaning, asked_of}
-
-got_mapped : {X Y : Type 0} (f : X → Y) (xs : List X) (i : ℕ) (x : X) → slice_get xs i ≡ Some x → slice_get (map f xs) i ≡ Some (f x)
-got_mapped f [] i x e = cc
-got_mapped f (y ∷ xs) zero x e = ap (λ z. Some (f z)) (same_Some y x e)
-got_mapped f (y ∷ xs) (suc i) x e = got_mapped f xs i x e
+use Rattle.cs_question.specs.Nodes.{Judgement, IsMeaning, IsSide, Says, asked_of}
 
 got_is : {X : Type 0} (xs : List X) (i : ℕ) (x d : X) → slice_get xs i ≡ Some x → get_or xs i d ≡ x
 got_is [] i x d e = cc
@@ -39,7 +34,7 @@ got_is (y ∷ xs) (suc i) x d e = got_is xs i x d e
 pub same_name : (E : Environment) (t n m : List ℕ) → Names E t n → Names E t m → n ≡ m
 same_name E t n m a b = append_cancel_left (codes "#") n m (sym a.text ∙ b.text)
 
-module _ (E : Environment) (all : List Rule) (rules : List Coded) (inner : List ℕ) (numbering : IsNumbering E all (map (numbered inner) rules)) (nodes : List Node) (same : map asked_of nodes ≡ map (numbered inner) rules) (I : Rule → Document → Bool) (i : IsInstance E I) where
+module _ (E : Environment) (all : List Rule) (rules : List Coded) (inner : List ℕ) (numbering : IsNumbering E all (map (numbered inner) rules)) (nodes : List Node) (says : Says (map (numbered inner) rules) (map asked_of nodes)) (I : Rule → Document → Bool) (i : IsInstance E I) where
   pub judged : ℕ → Document → Bool
   judged p x = I (rule_at all p) x
 
@@ -47,14 +42,16 @@ module _ (E : Environment) (all : List Rule) (rules : List Coded) (inner : List 
   unfolding judged
   is_root n number root x = ap (λ (s : Rule). I s x) (got_is all number (definition n) _ root)
 
-  pub judged_is : (k : ℕ) (nd : Node) (x : Document) → slice_get nodes k ≡ Some nd → judged k x ≡ is_satisfied (λ p. judged p x) (λ y p. judged p y) (asked_of nd) (opened x)
+  side_is : IsSide (map (numbered inner) rules) judged
   unfolding judged
-  judged_is k nd x at =
-      let asked : slice_get (map (numbered inner) rules) k ≡ Some (asked_of nd) = ap (λ cs. slice_get cs k) (sym same) ∙ got_mapped asked_of nodes k nd at in
+  side_is k c x asked =
       i (rule_at all k) x
       ∙ sym (named (λ (part : Rule). part) node (λ part. I part x) (λ y part. I part y) (constraint_of E (rule_at all k)) (opened x))
-      ∙ ap (λ c. is_satisfied (λ part. I part x) (λ y part. I part y) c (opened x)) (numbering.asks k (asked_of nd) asked)
-      ∙ named (rule_at all) (rule_at all) (λ part. I part x) (λ y part. I part y) (asked_of nd) (opened x)
+      ∙ ap (λ d. is_satisfied (λ part. I part x) (λ y part. I part y) d (opened x)) (numbering.asks k c asked)
+      ∙ named (rule_at all) (rule_at all) (λ part. I part x) (λ y part. I part y) c (opened x)
+
+  pub judged_is : (k : ℕ) (nd : Node) (x : Document) → slice_get nodes k ≡ Some nd → judged k x ≡ is_satisfied (λ p. judged p x) (λ y p. judged p y) (asked_of nd) (opened x)
+  judged_is k nd x at = says judged side_is k (asked_of nd) x (got_mapped asked_of nodes k nd at)
 
 -- the judgements of both sides together
 abbrev pub both_judged : (ℕ → Document → Bool) → (ℕ → Document → Bool) → Judgement
@@ -70,7 +67,7 @@ both_meaning ns f g a b Refusing k nd x at = b k nd x at
 
 -- ---- what a table at rest says of roots
 
-module _ (E : Environment) (all : List Rule) (rules : List Coded) (inner : List ℕ) (numbering : IsNumbering E all (map (numbered inner) rules)) (I : Rule → Document → Bool) (i : IsInstance E I) (ns : Nodes) (table : Table) (ended : table.is_final ≡ true) (rest : IsAtRest ns table) (asked : List Literal) (shut : IsShut table.entries.items asked) (first : map asked_of ns.admitting.items ≡ map (numbered inner) rules)
+module _ (E : Environment) (all : List Rule) (rules : List Coded) (inner : List ℕ) (numbering : IsNumbering E all (map (numbered inner) rules)) (I : Rule → Document → Bool) (i : IsInstance E I) (ns : Nodes) (table : Table) (ended : table.is_final ≡ true) (rest : IsAtRest ns table) (asked : List Literal) (shut : IsShut table.entries.items asked) (first : Says (map (numbered inner) rules) (map asked_of ns.admitting.items))
     (n : List ℕ) (number : ℕ) (root : slice_get all number ≡ Some (definition n)) where
   met : (J : Judgement) (x : Document) → ((k : ℕ) (y : Document) → J Admitting k y ≡ judged E all rules inner numbering ns.admitting.items first I i k y) → I (definition n) x ≡ true → meets J x (record { side = Admitting; rule = number; holds = true }) ≡ true
   met J x same h = beq_same (J Admitting number x) true (same number x ∙ is_root E all rules inner numbering ns.admitting.items first I i n number root x ∙ h)
@@ -85,7 +82,7 @@ module _ (E : Environment) (all : List Rule) (rules : List Coded) (inner : List 
       none_got : {X Y : Type 0} {x : X} {a b : Y} → None ≡ Some x → a ≡ b
       none_got e = cc
 
-  pub no_separating : (F : Environment) (others : List Rule) (rules' : List Coded) (inner' : List ℕ) (numbering' : IsNumbering F others (map (numbered inner') rules')) (m : List ℕ) (number' : ℕ) (root' : slice_get others number' ≡ Some (definition m)) (K : Rule → Document → Bool) (k : IsInstance F K) (second : map asked_of ns.refusing.items ≡ map (numbered inner') rules')
+  pub no_separating : (F : Environment) (others : List Rule) (rules' : List Coded) (inner' : List ℕ) (numbering' : IsNumbering F others (map (numbered inner') rules')) (m : List ℕ) (number' : ℕ) (root' : slice_get others number' ≡ Some (definition m)) (K : Rule → Document → Bool) (k : IsInstance F K) (second : Says (map (numbered inner') rules') (map asked_of ns.refusing.items))
       → ((p : Literal → Bool) → p (record { side = Admitting; rule = number; holds = true }) ≡ true → p (record { side = Refusing; rule = number'; holds = false }) ≡ true → list_all p asked ≡ true) → (x : Document) → IsDocument x → I (definition n) x ≡ true → K (definition m) x ≡ false → ⊥
   no_separating F others rules' inner' numbering' m number' root' K k second covers x d h g =
       let f = judged E all rules inner numbering ns.admitting.items first I i in

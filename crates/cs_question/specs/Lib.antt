@@ -5,6 +5,7 @@ pub mod Faults
 pub mod NoInstance
 -- for contracts of private functions and proofs alone
 pub mod Nodes
+pub mod Between
 pub mod Asked
 pub mod Outlines
 pub mod Truth

@@ -4,7 +4,7 @@ use Rattle.cs_document.specs.Document.{Document}
 use Rattle.cs_document.specs.Opened.{opened}
 use Rattle.cs_package.specs.Expression.{Declaration}
 use Rattle.cs_package.specs.View.{expression_of, mark_of}
-use Rattle.cs_instance.specs.Constraint.{Rest, nothing, anything, each, Constraint, simple, all_of, any_of, object_of, list_of, is_satisfied}
+use Rattle.cs_instance.specs.Constraint.{Rest, nothing, anything, each, Outline, Constraint, simple, all_of, any_of, object_of, list_of, is_integer, is_within, is_satisfied}
 use Rattle.cs_instance.specs.Steps.{test_of}
 use Rattle.cs_question.specs.declared.literal.Side.{Side}
 use Rattle.cs_question.specs.declared.literal.Side.TheVariants.{Admitting, Refusing}
@@ -25,6 +25,7 @@ end_of (ending.Each p) = each p
 
 abbrev pub asked_of : Node → Constraint ℕ ℕ
 asked_of (node.Simple s) = simple (test_of (expression_of [] s.now))
+asked_of (node.Within least greatest) = simple (is_integer (is_within least greatest))
 asked_of (node.All v) = all_of v.items
 asked_of (node.Any v) = any_of v.items
 asked_of (node.Struct fs opened) = object_of (map field_of fs.items) opened
@@ -33,6 +34,19 @@ asked_of (node.List v end) = list_of v.items (end_of end)
 abbrev pub nodes_on : Nodes → Side → List Node
 nodes_on ns Admitting = ns.admitting.items
 nodes_on ns Refusing = ns.refusing.items
+
+-- which documents are instances of the rule of a number: those that meet what it asks
+abbrev pub IsSide : List (Constraint ℕ ℕ) → (ℕ → Document → Bool) → Type 0
+IsSide cs J = (r : ℕ) (c : Constraint ℕ ℕ) (x : Document) → slice_get cs r ≡ Some c → J r x ≡ is_satisfied (λ p. J p x) (λ y p. J p y) c (opened x)
+
+-- where the first ones are asked, the others are
+abbrev pub Says : List (Constraint ℕ ℕ) → List (Constraint ℕ ℕ) → Type 0
+Says cs ds = (J : ℕ → Document → Bool) → IsSide cs J → IsSide ds J
+
+-- the same is asked of each document, and nothing of its parts
+abbrev pub AreAlike : Constraint ℕ ℕ → Constraint ℕ ℕ → Type 0
+AreAlike (simple p) (simple q) = (o : Outline) → p o ≡ q o
+AreAlike _ _ = ⊥
 
 -- which documents are instances of the rule of a number, on each side
 abbrev pub Judgement : Type 0

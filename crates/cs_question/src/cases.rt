@@ -14,6 +14,7 @@ use crate::found::Found;
 use crate::leaves::document_of;
 use crate::literal::{Literal, add, are_same, part_of, without};
 use crate::nodes::{Node, Nodes};
+use crate::refused::Refused;
 use crate::table::Table;
 use cs_package::Shape;
 use std::alloc::{AllocError, Global};
@@ -66,7 +67,7 @@ fn is_at(cases: &[Case], place: usize, asked: &[Literal]) -> bool
 }
 
 /// Puts a case among the others, in order, unless it is there.
-fn put(nodes: &Nodes<'_>, cases: &mut Vec<Case>, asked: Vec<Literal>) -> Result<(), AllocError>
+fn put(nodes: &Nodes<'_>, cases: &mut Vec<Case>, asked: Vec<Literal>) -> Result<(), SearchFault>
     ensures kept { OnOk result (Continues cases.old.items cases.new.items) }
     ensures there { OnOk result (Covers asked.items cases.new.items) }
 {
@@ -95,7 +96,7 @@ fn put_all(
     mut asked: Vec<Literal>,
     literal: Literal,
     parts: &[usize],
-) -> Result<(), AllocError>
+) -> Result<(), SearchFault>
     ensures kept { OnOk result (Continues cases.old.items cases.new.items) }
     ensures there { OnOk result ((J : Judgement) (x : Document) → meets_all J x asked.items ≡ true
         → list_all (λ p. meets J x (record literal { rule = p })) parts.now ≡ true
@@ -111,27 +112,61 @@ fn put_all(
 }
 
 /// Puts a case for each part of a rule, in which that is as the rule is.
-fn put_each(
+fn put_each<'n>(
     alloc: Global,
-    nodes: &Nodes<'_>,
+    nodes: &Nodes<'n>,
     cases: &mut Vec<Case>,
     asked: &[Literal],
     literal: Literal,
     parts: &[usize],
-) -> Result<(), AllocError>
+    effort: &mut Effort,
+) -> Result<(), SearchFault>
     ensures kept { OnOk result (Continues cases.old.items cases.new.items) }
-    ensures there { OnOk result ((J : Judgement) (x : Document) → meets_all J x asked.now ≡ true
+    ensures there { OnOk result ((J : Judgement) (x : Document) → IsMeaning nodes.now J
+        → meets_all J x asked.now ≡ true
         → list_any (λ p. meets J x (record literal { rule = p })) parts.now ≡ true
         → IsCovered J x cases.new.items) }
 {
+    let refused = Refused::of(alloc, nodes, asked)?;
     for part in parts {
-        let mut one = Vec::from_slice(alloc, asked)?;
-        add(&mut one, part_of(literal, *part))?;
-        if !is_contrary(&one) {
-            put(nodes, cases, one)?;
-        }
+        put_with(
+            alloc,
+            nodes,
+            cases,
+            &refused,
+            asked,
+            part_of(literal, *part),
+            effort,
+        )?;
     }
     Ok(())
+}
+
+/// Puts the case in which one more is asked. There is none where that is a constant or a range that isn't to be met.
+fn put_with<'n>(
+    alloc: Global,
+    nodes: &Nodes<'n>,
+    cases: &mut Vec<Case>,
+    refused: &Refused<'n>,
+    asked: &[Literal],
+    literal: Literal,
+    effort: &mut Effort,
+) -> Result<(), SearchFault>
+    ensures kept { OnOk result (Continues cases.old.items cases.new.items) }
+    ensures there { OnOk result ((J : Judgement) (x : Document) → IsMeaning nodes.now J
+        → meets_all J x asked.now ≡ true → meets J x literal ≡ true
+        → IsCovered J x cases.new.items) }
+{
+    if refused.has(nodes, asked, literal) {
+        return Ok(());
+    }
+    effort.take(cost_of_copying(asked.len()))?;
+    let mut one = Vec::from_slice(alloc, asked)?;
+    add(&mut one, literal)?;
+    if is_contrary(&one) {
+        return Ok(());
+    }
+    put(nodes, cases, one)
 }
 
 /// Opens what is asked at a place.
@@ -142,7 +177,8 @@ fn open(
     asked: &[Literal],
     place: usize,
     literal: Literal,
-) -> Result<(), AllocError>
+    effort: &mut Effort,
+) -> Result<(), SearchFault>
     requires { slice_get asked.now place ≡ Some literal }
     ensures kept { OnOk result (Continues cases.old.items cases.new.items) }
     ensures there { OnOk result ((J : Judgement) (x : Document) → IsMeaning nodes.now J
@@ -151,14 +187,16 @@ fn open(
     let rest = without(alloc, asked, place)?;
     match nodes.of(literal) {
         Some(Node::All(parts)) if literal.holds => put_all(nodes, cases, rest, literal, parts),
-        Some(Node::All(parts)) => put_each(alloc, nodes, cases, &rest, literal, parts),
+        Some(Node::All(parts)) => put_each(alloc, nodes, cases, &rest, literal, parts, effort),
         Some(Node::Any(parts)) if literal.holds => {
-            put_each(alloc, nodes, cases, &rest, literal, parts)
+            put_each(alloc, nodes, cases, &rest, literal, parts, effort)
         }
         Some(Node::Any(parts)) => put_all(nodes, cases, rest, literal, parts),
-        Some(Node::Simple(_)) | Some(Node::Struct { .. }) | Some(Node::List { .. }) | None => {
-            put(nodes, cases, rest)
-        }
+        Some(Node::Simple(_))
+        | Some(Node::Within { .. })
+        | Some(Node::Struct { .. })
+        | Some(Node::List { .. })
+        | None => put(nodes, cases, rest),
     }
 }
 
@@ -166,7 +204,11 @@ fn open(
 fn count_parts(nodes: &Nodes<'_>, literal: Literal) -> usize {
     match nodes.of(literal) {
         Some(Node::All(parts)) | Some(Node::Any(parts)) => parts.len(),
-        Some(Node::Simple(_)) | Some(Node::Struct { .. }) | Some(Node::List { .. }) | None => 0,
+        Some(Node::Simple(_))
+        | Some(Node::Within { .. })
+        | Some(Node::Struct { .. })
+        | Some(Node::List { .. })
+        | None => 0,
     }
 }
 
@@ -175,6 +217,7 @@ fn count_fields(nodes: &Nodes<'_>, literal: Literal) -> usize {
     match nodes.of(literal) {
         Some(Node::Struct { fields, .. }) => fields.len(),
         Some(Node::Simple(_))
+        | Some(Node::Within { .. })
         | Some(Node::All(_))
         | Some(Node::Any(_))
         | Some(Node::List { .. })
@@ -188,11 +231,16 @@ fn cost_of_putting(cases: usize) -> usize {
     (cases / MOVES).saturating_add(1)
 }
 
-/// The steps for a rule of so many parts that is opened beside so many others, which are copied for each part.
+/// The steps for a rule of so many parts that is opened beside so many others, at which it looks.
 fn cost_of_opening(parts: usize, others: usize) -> usize {
+    const LOOKS: usize = 16;
+    (others / LOOKS).saturating_add(parts)
+}
+
+/// The steps for a case in which so many are asked.
+fn cost_of_copying(asked: usize) -> usize {
     const COPIES: usize = 4;
-    let copies = parts.saturating_mul(others);
-    (copies / COPIES).saturating_add(parts)
+    asked / COPIES
 }
 
 /// Whether a rule is met by one value alone.
@@ -243,7 +291,15 @@ pub(crate) fn found_for<'a>(
         match opened_at(nodes, &case.asked) {
             Some((place, literal)) => {
                 effort.take(cost_of_opening(count_parts(nodes, literal), case.asked.len()))?;
-                open(alloc, nodes, &mut cases, &case.asked, place, literal)?;
+                open(
+                    alloc,
+                    nodes,
+                    &mut cases,
+                    &case.asked,
+                    place,
+                    literal,
+                    effort,
+                )?;
             }
             None => {
                 effort.take(cost_of(nodes, &case.asked))?;

@@ -288,14 +288,10 @@ fn places_after<'a>(
     Ok(all)
 }
 
-/// The steps for a state: a look at all ways of all rules, and a copy of the places where ways were taken.
-fn cost_of(rules: &[Vec<Way<'_>>], places: usize, chosen: usize) -> usize {
-    const LOOKS: usize = 16;
-    let mut looks = places.saturating_add(chosen);
-    for rule in rules {
-        looks = looks.saturating_add(rule.len());
-    }
-    (looks / LOOKS).saturating_add(1)
+/// The steps for a state, beside the looks at questions: a copy of the places where ways were taken, and of these ways.
+fn cost_of(places: usize, chosen: usize) -> usize {
+    const COPIES: usize = 16;
+    (places.saturating_add(chosen) / COPIES).saturating_add(1)
 }
 
 /// A choice of one way for each rule, such that there can be values as all places ask.
@@ -327,7 +323,7 @@ pub(crate) fn choice<'a>(
         let Some(state) = states.pop() else {
             return Ok(None);
         };
-        effort.take(cost_of(rules, places.len(), state.chosen.len()))?;
+        effort.take(cost_of(places.len(), state.chosen.len()))?;
         let left = places_after(alloc, places, &state.chosen)?;
         let Some(place) = pick(alloc, table, &left, &state.left, further, rules, effort)? else {
             return Ok(Some(chosen_of(state, left)));

@@ -6,7 +6,8 @@ ghost use Rattle.cs_question.specs.Truth.{IsMetByNone};
 use crate::explore::explored_all;
 use crate::fault::QuestionFault;
 use crate::literal::met;
-use crate::nodes::{Nodes, nodes_of};
+use crate::nodes::Nodes;
+use crate::sides::side_of;
 use crate::table::Table;
 use cs_guard::Guarded;
 use cs_instance::{NumberedPackage, numbered_package};
@@ -52,7 +53,7 @@ pub fn without_instance(alloc: Global, package: &Guarded) -> Result<Vec<bool>, Q
 {
     let NumberedPackage { numbering, numbers } = numbered_package(alloc, package)?;
     let nodes = Nodes {
-        admitting: nodes_of(alloc, &numbering.rules, &numbering.children)?,
+        admitting: side_of(alloc, &numbering.rules, &numbering.children)?,
         refusing: Vec::new(alloc),
     };
     let table = explored_all(alloc, &nodes, &numbers)?;

@@ -66,6 +66,7 @@ fn mark(marks: &mut Vec<i64>, nodes: &Nodes<'_>, literal: Literal) -> Result<(),
 {
     match nodes.of(literal) {
         Some(Node::Simple(shape)) => mark_shape(marks, shape),
+        Some(Node::Within { least, greatest }) => mark_range(marks, *least, *greatest),
         _ => Ok(()),
     }
 }

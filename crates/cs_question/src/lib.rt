@@ -1,6 +1,7 @@
 // Whether there is a document that one definition admits and another one doesn't, and which definitions have no instance.
 #![tactic(auto)]
 
+mod alike;
 mod budget;
 mod cases;
 mod choice;
@@ -19,8 +20,11 @@ mod nodes;
 mod places;
 mod questions;
 mod queue;
+mod ranges;
 mod read_again;
+mod refused;
 mod scalars;
+mod sides;
 mod state;
 mod table;
 mod texts;

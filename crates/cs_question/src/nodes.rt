@@ -14,6 +14,11 @@ use std::alloc::{AllocError, Global};
 pub(crate) enum Node<'a> {
     /// That of an expression that looks at no part.
     Simple(&'a Shape),
+    /// The integers from `least` on, up to `greatest` where there is one.
+    Within {
+        least: i64,
+        greatest: Option<i64>,
+    },
     All(Vec<usize>),
     Any(Vec<usize>),
     Struct {

@@ -14,8 +14,9 @@ use crate::budget::Budget;
 use crate::explore::explored;
 use crate::fault::QuestionFault;
 use crate::literal::{Literal, Side, add, are_same, met};
-use crate::nodes::{Nodes, nodes_of};
+use crate::nodes::Nodes;
 use crate::read_again::is_read_again;
+use crate::sides::side_of;
 use crate::table::Table;
 use crate::witness::{Witness, witness_of};
 use cs_document::Doc;
@@ -64,8 +65,8 @@ pub fn separating(
     let first = numbered_root(alloc, admitting, admitting_root)?;
     let second = numbered_root(alloc, refusing, refusing_root)?;
     let nodes = Nodes {
-        admitting: nodes_of(alloc, &first.numbering.rules, &first.numbering.children)?,
-        refusing: nodes_of(alloc, &second.numbering.rules, &second.numbering.children)?,
+        admitting: side_of(alloc, &first.numbering.rules, &first.numbering.children)?,
+        refusing: side_of(alloc, &second.numbering.rules, &second.numbering.children)?,
     };
     budget.spend(nodes.count());
     let asked = both(alloc, first.number, second.number)?;
@@ -161,7 +162,7 @@ pub fn instance_of(
         ..
     } = numbered_root(alloc, package, root)?;
     let nodes = Nodes {
-        admitting: nodes_of(alloc, &numbering.rules, &numbering.children)?,
+        admitting: side_of(alloc, &numbering.rules, &numbering.children)?,
         refusing: Vec::new(alloc),
     };
     budget.spend(nodes.count());

@@ -90,6 +90,7 @@ impl<'a> Table<'a> {
         ensures { IfOk result (λ b. IsTrue b → self.now.is_final ≡ true
             → IsShut self.now.entries.items asked.items) }
     {
+        effort.look(asked.len());
         match self.places.get(&asked) {
             Some(place) => {
                 let is_shut = self.is_shut_at(*place, &asked);

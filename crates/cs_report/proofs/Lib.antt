@@ -1,1 +1,2 @@
 pub mod Pointers
+pub mod LineEnds

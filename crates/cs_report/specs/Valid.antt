@@ -1,5 +1,5 @@
 -- What is told of a verdict, and by the format `flag` nothing else (JSON Schema Core 2020-12, section 12.4.1).
-use Rattle.std.specs.Prelude.{◌≡◌, ℕ, Bool, true, false, List, [], ◌++◌, codes}
+use Rattle.std.specs.Prelude.{◌≡◌, ◌≢◌, ℕ, Bool, true, false, List, [], ◌∷◌, ◌++◌, codes}
 use Rattle.cs_report.specs.declared.form.Form.{Form}
 use Rattle.cs_report.specs.declared.form.Form.TheVariants.{Lines, Json, Flag, Basic}
 
@@ -31,9 +31,24 @@ abbrev pub report_text : Form → Bool → List ℕ → List ℕ
 report_text form true reasons = valid_text form
 report_text form false reasons = invalid_text form reasons
 
+-- its last line isn't empty, and a newline ends it
+pub record EndsInLine (text : List ℕ) : Type 0 where
+  pub front : List ℕ
+  pub last : ℕ
+  pub full : last ≢ 10
+  pub ends : text ≡ front ++ last ∷ codes "\n"
+
+-- what is told of the reasons of an invalid document is a line for people, or more
+abbrev pub HasLines : Bool → Form → List ℕ → Type 0
+HasLines true form reasons = Unit {0}
+HasLines false Lines reasons = EndsInLine reasons
+HasLines false Json reasons = Unit {0}
+HasLines false Flag reasons = Unit {0}
+HasLines false Basic reasons = Unit {0}
+
 -- the text tells that verdict, with some reasons
 abbrev pub Says : Form → Bool → List ℕ → Type 0
-Says form truth text = (reasons : List ℕ) × (text ≡ report_text form truth reasons)
+Says form truth text = (reasons : List ℕ) × (text ≡ report_text form truth reasons) × HasLines truth form reasons
 
 -- what was added to a text does
 abbrev pub Reports : Form → Bool → List ℕ → List ℕ → Type 0

@@ -1,6 +1,6 @@
 // Reasons in words.
 use crate::text::put_number;
-use cs_place::{Named, position_of};
+use cs_place::{Named, Positions};
 use std::alloc::AllocError;
 
 /// The disjunction whose alternative was followed last, by its place among the links from 1 on, and the alternative's own place; both
@@ -88,22 +88,14 @@ pub(crate) fn sort_entries(entries: &mut Vec<Entry<'_>>) -> Result<(), AllocErro
 
 /// Gives entries, which are sorted, the lines and columns of their offsets, by one walk over the text.
 pub fn place_entries(document: Named<'_>, entries: &mut Vec<Entry<'_>>) {
-    let mut from = 0;
-    let mut line = document.line;
-    let mut column = 1usize;
+    let mut positions = Positions::new(document.text);
     for entry in entries.iter_mut() {
-        if from <= entry.offset && entry.offset <= document.text.len() {
-            let step = position_of(&document.text[from..], entry.offset - from);
-            column = if step.line == 1 {
-                column.saturating_add(step.column).saturating_sub(1)
-            } else {
-                step.column
-            };
-            line = line.saturating_add(step.line).saturating_sub(1);
-            from = entry.offset;
-        }
-        entry.line = line;
-        entry.column = column;
+        let position = positions.at(entry.offset);
+        entry.line = position
+            .line
+            .saturating_add(document.line)
+            .saturating_sub(1);
+        entry.column = position.column;
     }
 }
 

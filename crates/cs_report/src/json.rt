@@ -1,6 +1,7 @@
 // Reasons as JSON for programs.
 use crate::entry::{Entry, SourcePlace};
-use crate::text::{put_number, put_quoted};
+use crate::text::put_number;
+use cs_place::put_quoted;
 use std::alloc::AllocError;
 
 /// Puts a member with a string behind others: its key needs no escape.

@@ -19,6 +19,6 @@ pub use json::{put_count, put_members, put_string};
 pub use lines::put_lines;
 pub use once::{Told, told_of};
 pub use pointer::put_steps;
-pub use text::{put_integer, put_number, put_quoted};
+pub use text::{put_integer, put_number};
 pub use verdicts::report_verdict;
-pub use wording::{MOST_WANTED, Suggestion, put_counted, put_not_allowed, put_shown};
+pub use wording::{MOST_WANTED, Suggestion, put_beginning, put_counted, put_not_allowed};

@@ -1,35 +1,38 @@
 // Reasons as lines for people.
+ghost use Rattle.std.specs.Prelude.{OnOk, string_bytes};
+ghost use Rattle.cs_report.specs.Valid.{EndsInLine};
+
 use crate::entry::Entry;
-use crate::text::{put_line, put_number};
-use cs_place::Named;
+use crate::text::put_number;
+use cs_place::{Named, put_place, put_shown};
 use std::alloc::AllocError;
 
-/// Puts `NAME:LINE:COLUMN`.
-fn put_place(text: &mut String, name: &str, line: usize, column: usize) -> Result<(), AllocError> {
-    put_line(text, name)?;
-    text.push(':')?;
-    put_number(text, line)?;
-    text.push(':')?;
-    put_number(text, column)
-}
-
-/// Puts what says no, in brackets: its place in the source, its path, and the alternative.
+/// Puts what says no: its place in the source, its path, and the alternative.
 fn put_rule(text: &mut String, entry: &Entry<'_>) -> Result<(), AllocError> {
-    text.push_str(" [")?;
     if let Some(place) = &entry.source {
         put_place(text, place.file, place.line, place.column)?;
         text.push(' ')?;
     }
-    put_line(text, entry.rule.as_str())?;
+    put_shown(text, entry.rule.as_str())?;
     if !entry.alternative.is_empty() {
         text.push_str(", ")?;
         text.push_str(entry.alternative.as_str())?;
     }
-    text.push(']')
+    Ok(())
 }
 
-/// Puts the line of an entry.
-fn put_entry(text: &mut String, name: &str, entry: &Entry<'_>) -> Result<(), AllocError> {
+/// Ends the line of an entry.
+fn end_entry(text: &mut String) -> Result<(), AllocError>
+    ensures { OnOk result (EndsInLine (string_bytes text.new)) }
+{
+    text.push_str("]\n")?;
+    Ok(())
+}
+
+/// Puts the line of an entry, with what says no in brackets.
+fn put_entry(text: &mut String, name: &str, entry: &Entry<'_>) -> Result<(), AllocError>
+    ensures { OnOk result (EndsInLine (string_bytes text.new)) }
+{
     for _ in 0..entry.depth {
         text.push_str("  ")?;
     }
@@ -38,27 +41,43 @@ fn put_entry(text: &mut String, name: &str, entry: &Entry<'_>) -> Result<(), All
     if entry.pointer.is_empty() {
         text.push_str("(root)")?;
     } else {
-        put_line(text, entry.pointer.as_str())?;
+        put_shown(text, entry.pointer.as_str())?;
     }
     text.push_str(": ")?;
     text.push_str(entry.text.as_str())?;
+    text.push_str(" [")?;
     put_rule(text, entry)?;
-    text.push('\n')
+    end_entry(text)
 }
 
-/// Puts a line for each entry, and one that says how many reasons are left out, if any are.
+/// Puts the line that says how many reasons are left out.
+fn put_more(text: &mut String, more: usize) -> Result<(), AllocError>
+    ensures { OnOk result (EndsInLine (string_bytes text.new)) }
+{
+    put_number(text, more)?;
+    text.push_str(" more; --most N tells more\n")?;
+    Ok(())
+}
+
+/// Puts a line for each entry, and one that says how many reasons are left out, if any are; where there is no entry, that is one at
+/// least.
 pub fn put_lines(
     text: &mut String,
     document: Named<'_>,
     entries: &[Entry<'_>],
     more: usize,
-) -> Result<(), AllocError> {
-    for entry in entries {
+) -> Result<(), AllocError>
+    ensures { OnOk result (EndsInLine (string_bytes text.new)) }
+{
+    let Some((last, others)) = entries.split_last() else {
+        return put_more(text, more.max(1));
+    };
+    for entry in others {
         put_entry(text, document.name, entry)?;
     }
-    if more > 0 {
-        put_number(text, more)?;
-        text.push_str(" more; --most N tells more\n")?;
+    put_entry(text, document.name, last)?;
+    if more == 0 {
+        return Ok(());
     }
-    Ok(())
+    put_more(text, more)
 }

@@ -1,7 +1,7 @@
 // What is told once, and what is left for a longer report.
 use crate::entry::{Branch, Entry, sort_entries};
 use std::alloc::{AllocError, Global};
-use std::collections::HashSet;
+use std::collections::BTreeSet;
 
 /// What is told of a document.
 #[derive(Drop)]
@@ -12,7 +12,7 @@ pub struct Told<'a> {
     pub more: usize,
 }
 
-/// What is said of a value by an alternative.
+/// What is said of a value by an alternative. Sets of it are sorted, since who writes a document could choose pointers of one hash.
 type Said<'e> = (&'e str, Branch, &'e str);
 
 /// The pointer of what a key is in.
@@ -37,8 +37,8 @@ fn said<'e>(entry: &'e Entry<'_>) -> Said<'e> {
 fn meant_keys<'e>(
     alloc: Global,
     entries: &'e [Entry<'_>],
-) -> Result<HashSet<Said<'e>>, AllocError> {
-    let mut meant = HashSet::new(alloc);
+) -> Result<BTreeSet<Said<'e>>, AllocError> {
+    let mut meant = BTreeSet::new(alloc);
     for entry in entries {
         if let Some(label) = entry.label
             && entry.reason == "extra"
@@ -50,7 +50,7 @@ fn meant_keys<'e>(
 }
 
 /// Whether an entry says that a key is missing of which another one is told to be a misspelling.
-fn is_meant(entry: &Entry<'_>, meant: &HashSet<Said<'_>>) -> bool {
+fn is_meant<'e>(entry: &'e Entry<'_>, meant: &BTreeSet<Said<'e>>) -> bool {
     match entry.label {
         None => false,
         Some(label) => {
@@ -63,7 +63,7 @@ fn is_meant(entry: &Entry<'_>, meant: &HashSet<Said<'_>>) -> bool {
 /// Which entries say what none before them says, and no misspelt key tells.
 fn are_new(alloc: Global, entries: &[Entry<'_>]) -> Result<Vec<bool>, AllocError> {
     let meant = meant_keys(alloc, entries)?;
-    let mut told = HashSet::new(alloc);
+    let mut told = BTreeSet::new(alloc);
     let mut kept = Vec::with_capacity(alloc, entries.len())?;
     for entry in entries {
         let is_new = told.insert(said(entry))? && !is_meant(entry, &meant);

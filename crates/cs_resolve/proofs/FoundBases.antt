@@ -1,9 +1,9 @@
 -- Where the search ends, exactly the closed bases are found.
 use Rattle.std.proofs.Common.{◌≡◌, ℕ, zero, suc, ◌+◌, ◌<◌, ◌≤◌, Bool, true, false, cond, List, [], ◌∷◌, ◌++◌, ◌⊎◌, inl, inr, Option, Some, None, is_some, length, slice_get, Vec, Global, refl, sym, ap, ◌∙◌, subst, arith}
 use Rattle.std.specs.Borrow.{Bor}
+use Rattle.std.specs.BTreeSet.{BTreeSet}
 use Rattle.std.specs.Cmp.{IsEquivalence}
 use Rattle.std.specs.HashMap.{HashMap, get_by, keys}
-use Rattle.std.specs.HashSet.{HashSet}
 use Rattle.std.specs.List.{list_any}
 use Rattle.std.specs.Map.{keys_of, lookup}
 use Rattle.std.specs.Option.{option_map, MatchOption}
@@ -69,7 +69,7 @@ listed_names r ds b m n classified f o is = subst (λ x. MatchOption x ⊥ (λ n
 
 -- ---- the end
 
-found_labels : {S : Type 0} (ds : List DefinitionTree) (n : List ℕ) (o : Option (HashSet (Bor (List ℕ)) S)) → MatchOption o ⊥ (HoldsBase ds n) → MatchOption o ⊥ (HoldsFound (bases ds n))
+found_labels : (ds : List DefinitionTree) (n : List ℕ) (o : Option (BTreeSet (Bor (List ℕ)))) → MatchOption o ⊥ (HoldsBase ds n) → MatchOption o ⊥ (HoldsFound (bases ds n))
 found_labels ds n None h = absurd h
 found_labels ds n (Some s) h = (h.0, (least ds n h.0).1 h.1, h.2)
 
@@ -78,7 +78,7 @@ module _ {S : Type 0} (m : HashMap (Bor (List ℕ)) (Option (Bor Expr)) S) (ds :
   declared n ls (by_literal {e = e} is lit) = let x = body_of m ds n e held is in ap is_some x.1
   declared n ls (by_refinement {e = e} is nar base fits) = let x = body_of m ds n e held is in ap is_some x.1
 
-  with_set : {T : Type 0} (n : List ℕ) (o : Option (HashSet (Bor (List ℕ)) T)) → MatchOption o ⊥ (HoldsBase ds n) → is_some (get_by (λ k. bytes_eq n k.now) m) ≡ true
+  with_set : (n : List ℕ) (o : Option (BTreeSet (Bor (List ℕ)))) → MatchOption o ⊥ (HoldsBase ds n) → is_some (get_by (λ k. bytes_eq n k.now) m) ≡ true
   with_set n None h = absurd h
   with_set n (Some s) h = declared n h.0 h.1
 

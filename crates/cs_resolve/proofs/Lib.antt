@@ -25,6 +25,7 @@ pub mod Made
 pub mod OpenedShapes
 pub mod NameTables
 pub mod LabelSets
+pub mod CountedNames
 -- faults of names, and which one is reported
 pub mod NameFaults
 pub mod Faults

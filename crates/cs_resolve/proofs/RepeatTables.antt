@@ -1,8 +1,10 @@
 -- Tables of the names whose values aren't plain.
 use Rattle.std.proofs.Common.{◌≡◌, ℕ, ◌+◌, Bool, true, false, cond, List, [], ◌∷◌, ◌++◌, Some, map, filter, count_by, unwrap_or, refl, sym, ap, ◌∙◌, subst, add-zero, zero-add}
 use Rattle.std.specs.Borrow.{Bor}
-use Rattle.std.specs.HashMap.{HashMap, get_by}
+use Rattle.std.specs.BTreeMap.{BTreeMap, get_by}
+use Rattle.std.specs.Cmp.Lexicographic.{slice_cmp}
 use Rattle.std.specs.Map.{update}
+use Rattle.std.specs.Ordering.{nat_cmp}
 use Rattle.std.specs.Str.{bytes_eq}
 use Rattle.std.proofs.lemmas.List.{map-append}
 use Rattle.std.proofs.lemmas.List.Elements.{filter-append}
@@ -28,11 +30,11 @@ count_push d n ns =
 plain_more : (o : Count) (k : ℕ) → CountsAs o k → CountsAs o (k + 0)
 plain_more o k h = subst (λ j. CountsAs o j) (sym (add-zero k)) h
 
-module _ {S : Type 0} (m : HashMap (Bor (List ℕ)) Count S) (ns : List Named) (name : List ℕ) (e : Tree) (told : Repeats m ns) where
+module _ (m : BTreeMap (Bor (List ℕ)) Count) (ns : List Named) (name : List ℕ) (e : Tree) (told : Repeats m ns) where
   -- one that isn't, put into the table
-  pub noted : has_literal_or_reference e ≡ true → (n : HashMap (Bor (List ℕ)) Count S) (more : Count) → CountsAs more (unplain (one name) ns + 1) → ((t : List ℕ) → get_by (λ k. bytes_eq t k.now) n ≡ update bytes_eq (λ ds. get_by (λ k. bytes_eq ds k.now) m) name (Some more) t) → Repeats n (ns ++ named name e ∷ [])
-  noted isnt n more counts after t = subst (λ k. CountsAs (unwrap_or (get_by (λ k. bytes_eq t k.now) n) count.None) k) (sym (count_push (one t) (named name e) ns)) (subst (λ o. CountsAs (unwrap_or o count.None) (unplain (one t) ns + cond (bytes_eq name t) (cond (has_literal_or_reference e) 1 0) 0)) (sym (after t)) (by (bytes_eq name t) refl))
+  pub noted : has_literal_or_reference e ≡ true → (n : BTreeMap (Bor (List ℕ)) Count) (more : Count) → CountsAs more (unplain (one name) ns + 1) → ((t : List ℕ) → get_by (λ k. slice_cmp nat_cmp t k.now) n ≡ update bytes_eq (λ ds. get_by (λ k. slice_cmp nat_cmp ds k.now) m) name (Some more) t) → Repeats n (ns ++ named name e ∷ [])
+  noted isnt n more counts after t = subst (λ k. CountsAs (unwrap_or (get_by (λ k. slice_cmp nat_cmp t k.now) n) count.None) k) (sym (count_push (one t) (named name e) ns)) (subst (λ o. CountsAs (unwrap_or o count.None) (unplain (one t) ns + cond (bytes_eq name t) (cond (has_literal_or_reference e) 1 0) 0)) (sym (after t)) (by (bytes_eq name t) refl))
     where
-      by : (b : Bool) → bytes_eq name t ≡ b → CountsAs (unwrap_or (cond b (Some more) (get_by (λ k. bytes_eq t k.now) m)) count.None) (unplain (one t) ns + cond b (cond (has_literal_or_reference e) 1 0) 0)
+      by : (b : Bool) → bytes_eq name t ≡ b → CountsAs (unwrap_or (cond b (Some more) (get_by (λ k. slice_cmp nat_cmp t k.now) m)) count.None) (unplain (one t) ns + cond b (cond (has_literal_or_reference e) 1 0) 0)
       by true same = rw isnt (subst (λ s. CountsAs more (unplain (one s) ns + 1)) ((bytes_eq-Decides name t).0 same) counts)
-      by false other = plain_more (unwrap_or (get_by (λ k. bytes_eq t k.now) m) count.None) (unplain (one t) ns) (told t)
+      by false other = plain_more (unwrap_or (get_by (λ k. slice_cmp nat_cmp t k.now) m) count.None) (unplain (one t) ns) (told t)

@@ -1,8 +1,8 @@
 -- The search for closed bases, step by step.
 use Rattle.std.proofs.Common.{◌≡◌, ℕ, zero, suc, ◌+◌, ◌<◌, Bool, true, false, ◌||◌, List, [], ◌∷◌, ◌++◌, ◌⊎◌, inl, inr, Option, Some, None, length, slice_get, get_or, take, Result, Ok, Err, OnOk, refl, sym, ap, ◌∙◌, subst, arith}
 use Rattle.std.specs.Borrow.{Bor}
+use Rattle.std.specs.BTreeSet.{BTreeSet}
 use Rattle.std.specs.HashMap.{HashMap, get_by, keys}
-use Rattle.std.specs.HashSet.{HashSet}
 use Rattle.std.specs.List.{list_any}
 use Rattle.std.specs.Option.{option_map, MatchOption}
 use Rattle.std.specs.Str.{bytes_eq}
@@ -78,7 +78,7 @@ module _ (ds : List DefinitionTree) (b : Bases) (sound : Sound ds b) (base : Lis
   pub some_set : slice_get b.sets.items number ≡ None → ⊥
   some_set none = subst (λ o. MatchOption o ⊥ (HoldsBase ds base)) none at_number
 
-  module _ (s : HashSet _ _) (there : slice_get b.sets.items number ≡ Some s) where
+  module _ (s : BTreeSet _) (there : slice_get b.sets.items number ≡ Some s) where
     pub its_set : HoldsBase ds base s
     its_set = subst (λ o. MatchOption o ⊥ (HoldsBase ds base)) there at_number
 

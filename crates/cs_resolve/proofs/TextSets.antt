@@ -1,7 +1,7 @@
 -- Sets of the labels of fields, as texts.
-use Rattle.std.proofs.Common.{◌≡◌, ℕ, ◌+◌, ◌<◌, Bool, true, false, ◌||◌, not, List, [], ◌∷◌, ◌++◌, take, length, get_or, refl, sym, ap, ap₂, ◌∙◌, string_bytes}
+use Rattle.std.proofs.Common.{◌≡◌, ℕ, ◌+◌, ◌<◌, Bool, true, false, ◌||◌, List, [], ◌∷◌, ◌++◌, take, length, get_or, refl, sym, ap, ap₂, ◌∙◌, string_bytes}
 use Rattle.std.specs.Borrow.{Bor}
-use Rattle.std.specs.HashSet.{HashSet, PutsKey}
+use Rattle.std.specs.BTreeSet.{BTreeSet}
 use Rattle.std.specs.Str.{bytes_eq}
 use Rattle.std.proofs.lemmas.List.Folds.{list_any-append}
 use Rattle.cs_grammar.specs.View.{field_view, fields_view}
@@ -9,21 +9,19 @@ use Rattle.cs_grammar.specs.declared.ast.Field.{Field}
 use Rattle.cs_grammar.proofs.Views.{view-text}
 use Rattle.cs_resolve.specs.Narrowed.{HoldsTexts}
 use Rattle.cs_resolve.specs.Refinement.{texts}
-use Rattle.cs_resolve.specs.Around.{has_text}
-use Rattle.cs_resolve.proofs.LabelSets.{has_text_put}
+use Rattle.cs_resolve.proofs.LabelSets.{Puts, has_text_put}
 use Rattle.cs_resolve.proofs.Trees.{take_at}
 
 or_nothing : (b : Bool) → (b || false) ≡ b
 or_nothing true = refl
 or_nothing false = refl
 
-module _ {S : Type 0} where
-  -- one more text
-  pub text_put : (s n : HashSet (Bor (List ℕ)) S) (ts : List (List ℕ)) (k : Bor (List ℕ)) (added : Bool) → HoldsTexts s ts → added ≡ not (has_text k.now s) → PutsKey s n k added → HoldsTexts n (ts ++ k.now ∷ [])
-  text_put s n ts k added held is put t =
-      has_text_put t s n k added is put
-      ∙ ap₂ (λ a b. a || b) (held t) (sym (or_nothing (bytes_eq t k.now)))
-      ∙ sym (list_any-append (bytes_eq t) ts (k.now ∷ []))
+-- one more text
+pub text_put : (s n : BTreeSet (Bor (List ℕ))) (ts : List (List ℕ)) (k : Bor (List ℕ)) → HoldsTexts s ts → Puts s n k → HoldsTexts n (ts ++ k.now ∷ [])
+text_put s n ts k held put t =
+    has_text_put t s n k put
+    ∙ ap₂ (λ a b. a || b) (held t) (sym (or_nothing (bytes_eq t k.now)))
+    ∙ sym (list_any-append (bytes_eq t) ts (k.now ∷ []))
 
 texts_push : (xs : List Field) (x : Field) → texts (fields_view (xs ++ x ∷ [])) ≡ texts (fields_view xs) ++ string_bytes x.label ∷ []
 texts_push [] x = ap (λ t. t ∷ []) (view-text x)

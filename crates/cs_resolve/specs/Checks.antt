@@ -1,9 +1,10 @@
 -- What the checks of a package answer.
 use Rattle.std.specs.Prelude.{◌≡◌, ℕ, ◌+◌, ◌<◌, Bool, true, false, not, ◌⊎◌, List, [], Option, Some, Result, Ok, Err, MatchOption, filter, count_by, slice_get, unwrap_or}
 use Rattle.std.specs.Borrow.{Bor}
-use Rattle.std.specs.HashMap.{HashMap, get_by}
+use Rattle.std.specs.BTreeMap.{BTreeMap, get_by}
+use Rattle.std.specs.Cmp.Lexicographic.{slice_cmp}
 use Rattle.std.specs.Option.{option_map}
-use Rattle.std.specs.Str.{bytes_eq}
+use Rattle.std.specs.Ordering.{nat_cmp}
 use Rattle.cs_grammar.specs.View.{field_view, fields_view}
 use Rattle.cs_grammar.specs.declared.ast.Field.{Field}
 use Rattle.cs_resolve.specs.declared.fault.ResolveFault.{ResolveFault}
@@ -44,8 +45,8 @@ abbrev pub unplain : Declared → List Named → ℕ
 unplain d ns = count_by has_literal_or_reference (values d ns)
 
 -- the table has each name that has a value that isn't plain, with how many it has
-abbrev pub Repeats : {S : Type 0} → HashMap (Bor (List ℕ)) Count S → List Named → Type 0
-Repeats m ns = (t : List ℕ) → CountsAs (unwrap_or (get_by (λ k. bytes_eq t k.now) m) count.None) (unplain (one t) ns)
+abbrev pub Repeats : BTreeMap (Bor (List ℕ)) Count → List Named → Type 0
+Repeats m ns = (t : List ℕ) → CountsAs (unwrap_or (get_by (λ k. slice_cmp nat_cmp t k.now) m) count.None) (unplain (one t) ns)
 
 -- ---- the fields of a struct literal
 

@@ -1,10 +1,12 @@
 -- What the table of closed bases says, for contracts of private functions.
 use Rattle.std.specs.Prelude.{◌≡◌, ℕ, ◌<◌, true, List, [], ◌∷◌, ◌++◌, Option, Some, None, is_some, slice_get, MatchOption, Vec}
 use Rattle.std.specs.Borrow.{Bor}
+use Rattle.std.specs.BTreeSet.{BTreeSet, contains_by}
+use Rattle.std.specs.Cmp.Lexicographic.{slice_cmp}
 use Rattle.std.specs.HashMap.{HashMap, get_by, keys}
-use Rattle.std.specs.HashSet.{HashSet, contains_by}
 use Rattle.std.specs.List.{list_any, IsDistinct}
 use Rattle.std.specs.Option.{option_map}
+use Rattle.std.specs.Ordering.{nat_cmp}
 use Rattle.std.specs.declared.alloc.Global.{Global}
 use Rattle.std.specs.Str.{bytes_eq}
 use Rattle.cs_grammar.specs.Tree.{Tree, Fields, DefinitionTree}
@@ -21,15 +23,15 @@ abbrev pub narrowing_view : Narrowing → Refinement.Narrowing
 narrowing_view n = (n.base.now, fields_view n.fields.now.items)
 
 -- the set has just these texts
-abbrev pub HoldsTexts : {S : Type 0} → HashSet (Bor (List ℕ)) S → List (List ℕ) → Type 0
-HoldsTexts s ts = (t : List ℕ) → contains_by (λ k. bytes_eq t k.now) s ≡ list_any (bytes_eq t) ts
+abbrev pub HoldsTexts : BTreeSet (Bor (List ℕ)) → List (List ℕ) → Type 0
+HoldsTexts s ts = (t : List ℕ) → contains_by (λ k. slice_cmp nat_cmp t k.now) s ≡ list_any (bytes_eq t) ts
 
 -- these are the labels that are found, and the set has just them
-abbrev pub HoldsFound : {S : Type 0} → Option (List (List ℕ)) → HashSet (Bor (List ℕ)) S → Type 0
+abbrev pub HoldsFound : Option (List (List ℕ)) → BTreeSet (Bor (List ℕ)) → Type 0
 HoldsFound found s = (ls : List (List ℕ)) × (found ≡ Some ls) × HoldsTexts s ls
 
 -- by the number of a set: these are the labels that are found, where a number is, and none where none is
-abbrev pub Numbers : {S : Type 0} → List (HashSet (Bor (List ℕ)) S) → Option ℕ → Option (List (List ℕ)) → Type 0
+abbrev pub Numbers : List (BTreeSet (Bor (List ℕ))) → Option ℕ → Option (List (List ℕ)) → Type 0
 Numbers sets number found = MatchOption number (found ≡ None) (λ i. MatchOption (slice_get sets i) ⊥ (HoldsFound found))
 
 -- the table says of each name what is given of it
@@ -65,7 +67,7 @@ abbrev pub Has : Bases → List ℕ → Type 0
 Has b n = is_some (get_by (λ k. bytes_eq n k.now) b.numbers) ≡ true
 
 -- the set has the labels of the closed base n
-abbrev pub HoldsBase : {S : Type 0} → List DefinitionTree → List ℕ → HashSet (Bor (List ℕ)) S → Type 0
+abbrev pub HoldsBase : List DefinitionTree → List ℕ → BTreeSet (Bor (List ℕ)) → Type 0
 HoldsBase ds n s = (ls : List (List ℕ)) × Refinement.IsBase ds n ls × HoldsTexts s ls
 
 -- all of the old stay

@@ -1,5 +1,7 @@
 -- What the steps from files to a package answer.
 use Rattle.std.specs.Prelude.{◌≡◌, ℕ, true, List, [], map, length, slice_get, Some, Result, Ok, Err, Vec}
+use Rattle.std.specs.Borrow.{Bor}
+use Rattle.std.specs.BTreeSet.{BTreeSet}
 use Rattle.std.specs.List.{AllByRecursion, flat_map, list_all}
 use Rattle.std.specs.declared.alloc.Global.{Global}
 use Rattle.cs_grammar.specs.Tree.{Tree, DefinitionTree, definitions}
@@ -7,8 +9,8 @@ use Rattle.cs_grammar.specs.View.{file_view}
 use Rattle.cs_grammar.specs.declared.ast.File.{File}
 use Rattle.cs_package.specs.Expression.{Expression}
 use Rattle.cs_resolve.specs.Scopes.{Place, NameFault, unknown, of_field, faults}
-use Rattle.cs_resolve.specs.Declarations.{bodies_of}
-use Rattle.cs_resolve.specs.Narrowed.{TellsRefinements}
+use Rattle.cs_resolve.specs.Declarations.{distinct, bodies_of}
+use Rattle.cs_resolve.specs.Narrowed.{HoldsTexts, TellsRefinements}
 use Rattle.cs_resolve.specs.Refinement.{Refinements}
 use Rattle.cs_resolve.specs.Resolved.{resolved}
 use Rattle.cs_package.specs.View as View
@@ -21,6 +23,11 @@ use Rattle.cs_resolve.specs.declared.fault.ResolveFault.TheVariants.{OutOfMemory
 -- the definitions of files
 abbrev pub declared_in : List File → List DefinitionTree
 declared_in fs = flat_map definitions (map file_view fs)
+
+-- the set has each of these names, once
+pub record HoldsNames (s : BTreeSet (Bor (List ℕ))) (ns : List (List ℕ)) : Type 0 where
+  pub texts : HoldsTexts s (distinct ns)
+  pub count : length s.keys ≡ length (distinct ns)
 
 -- the faults at places in the file of that number
 abbrev pub faults_in : ℕ → List (List ℕ) → List Place → List (ℕ × NameFault)

@@ -8,10 +8,10 @@ ghost use Rattle.cs_resolve.specs.Narrowed.{narrowing_view, HoldsTexts};
 
 use crate::plain::has_literal_or_reference;
 use cs_grammar::{Expr, Field, FieldMark};
-use std::collections::HashSet;
+use std::collections::BTreeSet;
 
 /// The labels of a struct literal.
-pub(crate) type FieldLabels<'a> = HashSet<&'a str>;
+pub(crate) type FieldLabels<'a> = BTreeSet<&'a str>;
 
 /// The name of the definition that is narrowed, and the fields that narrow it.
 #[derive(Clone, Copy)]

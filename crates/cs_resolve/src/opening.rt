@@ -16,8 +16,8 @@ use crate::ResolveFault;
 use crate::plain::has_literal_or_reference;
 use crate::refinement::{Bases, is_refinement};
 use cs_grammar::{Definition, Expr, Field, FieldMark, File, ListEnd};
-use indexmap::IndexMap;
 use std::alloc::{AllocError, Global};
+use std::collections::BTreeMap;
 
 /// How many values there are, as far as the rule asks.
 #[derive(Clone, Copy)]
@@ -49,7 +49,7 @@ impl Count {
 }
 
 /// The names that have a value that isn't plain, each with how many of them it has.
-type RepeatTable<'a> = IndexMap<&'a str, Count>;
+type RepeatTable<'a> = BTreeMap<&'a str, Count>;
 
 /// The table of a struct literal's labels, and how many values of `[string]` aren't plain.
 #[derive(Drop)]
@@ -138,7 +138,7 @@ fn note_label<'a>(repeats: &mut RepeatTable<'a>, field: &'a Field) -> Result<(),
 fn name_repeats(alloc: Global, fields: &Vec<Field>) -> Result<RepeatTable<'_>, AllocError>
     ensures { IfOk result (λ m. Repeats m (with_own_name (named_values fields.now.items))) }
 {
-    let mut repeats = IndexMap::new(alloc);
+    let mut repeats = BTreeMap::new(alloc);
     for field in fields {
         note_label(&mut repeats, field)?;
     }
@@ -244,7 +244,7 @@ fn note_bodies<'a>(
 fn body_repeats(alloc: Global, files: &Vec<File>) -> Result<RepeatTable<'_>, AllocError>
     ensures { IfOk result (λ m. Repeats m (named_bodies (declared_in files.now.items))) }
 {
-    let mut repeats = IndexMap::new(alloc);
+    let mut repeats = BTreeMap::new(alloc);
     for file in files {
         note_bodies(&mut repeats, &file.definitions)?;
     }

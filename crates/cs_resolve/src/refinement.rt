@@ -16,7 +16,7 @@ use crate::narrowing::{FieldLabels, body_narrowing, closed_literal, narrows, ope
 use cs_grammar::{Definition, Expr, Field, File};
 use indexmap::IndexMap;
 use std::alloc::{AllocError, Global};
-use std::collections::HashSet;
+use std::collections::BTreeSet;
 
 /// The closed bases by name, each with the number of the set of its labels. A refinement shares the set of its base.
 #[derive(Drop)]
@@ -99,7 +99,7 @@ fn sole_bodies(alloc: Global, files: &Vec<File>) -> Result<SoleBodies<'_>, Alloc
 fn texts_of(alloc: Global, fields: &Vec<Field>) -> Result<FieldLabels<'_>, AllocError>
     ensures { IfOk result (λ s. HoldsTexts s (Refinement.texts (fields_view fields.now.items))) }
 {
-    let mut labels = HashSet::new(alloc);
+    let mut labels = BTreeSet::new(alloc);
     for field in fields {
         labels.insert(field.label.as_str())?;
     }
@@ -270,7 +270,7 @@ fn find_refinements<'a>(
     Ok(())
 }
 
-/// The closed bases of files. Its time is linear in the files.
+/// The closed bases of files. Its time is that of putting their labels in order.
 ///
 /// # Errors
 /// `AllocError`, where memory runs out.

@@ -9,7 +9,7 @@ ghost use Rattle.cs_resolve.specs.Refinement.{Refinements};
 ghost use Rattle.cs_resolve.specs.Narrowed.{TellsRefinements};
 ghost use Rattle.cs_resolve.specs.Refusal.{AreSpelled, IsRefusal};
 ghost use Rattle.cs_resolve.specs.Resolved.{IsPackage};
-ghost use Rattle.cs_resolve.specs.Steps.{declared_in, known_names, AreBodiesOf, IsShapeOf, Resolves, ResolvesIn};
+ghost use Rattle.cs_resolve.specs.Steps.{declared_in, known_names, AreBodiesOf, HoldsNames, IsShapeOf, Resolves, ResolvesIn};
 ghost use Rattle.cs_package.specs.View.{names_of, IsTable};
 
 use crate::opening::check_opened;
@@ -22,6 +22,7 @@ use cs_grammar::{Definition, File};
 use cs_package::{NameTable, package_of};
 use indexmap::IndexMap;
 use std::alloc::{AllocError, Global};
+use std::collections::BTreeSet;
 
 /// The package that the files declare: each name, in order of first declaration, with its bodies, by file and
 /// then by text (CUE, definitions).
@@ -39,14 +40,40 @@ pub fn resolve(alloc: Global, files: Vec<File>) -> Result<Package, ResolveFault>
     if let Some(file) = differing_file(&files) {
         return Err(ResolveFault::PackageName { file });
     }
-    let names = declared_names(alloc, &files)?;
-    if names.len() > MOST_DEFINITIONS || !has_few_nodes(&files) {
+    let count = name_count(alloc, &files)?;
+    if count > MOST_DEFINITIONS || !has_few_nodes(&files) {
         return Err(ResolveFault::TooLarge);
     }
+    let names = declared_names(alloc, &files)?;
     let bases = bases_of(alloc, &files)?;
     let bodies = declared_bodies(alloc, &names, &bases, &files)?;
     check_opened(alloc, &bases, &files)?;
     Ok(package_of(names, bodies))
+}
+
+/// Puts the names of definitions among these.
+fn put_names<'a>(
+    names: &mut BTreeSet<&'a str>,
+    definitions: &'a Vec<Definition>,
+) -> Result<(), AllocError>
+    ensures { OnOk result ((ns : List (List ℕ)) → HoldsNames names.old ns → HoldsNames names.new
+        (ns ++ map defined_name (map definition_view definitions.now.items))) }
+{
+    for definition in definitions {
+        names.insert(definition.name.as_str())?;
+    }
+    Ok(())
+}
+
+/// How many names files declare. They are counted in order, since who writes them can give many of them one hash.
+fn name_count(alloc: Global, files: &Vec<File>) -> Result<usize, AllocError>
+    ensures { IfOk result (λ n. n ≡ length (names (declared_in files.now.items))) }
+{
+    let mut names = BTreeSet::new(alloc);
+    for file in files {
+        put_names(&mut names, &file.definitions)?;
+    }
+    Ok(names.len())
 }
 
 /// The names that files declare.

@@ -16,10 +16,10 @@ use crate::{Part, ResolveFault, Shape, ShapeEnd};
 use cs_grammar::{Expr, Field, FieldMark, ListEnd};
 use cs_package::NameTable;
 use std::alloc::{AllocError, Global};
-use std::collections::HashSet;
+use std::collections::BTreeSet;
 
 /// The labels of a struct literal that aren't quoted: a name can refer to these alone.
-type ScopeLabels<'a> = HashSet<&'a str>;
+type ScopeLabels<'a> = BTreeSet<&'a str>;
 
 /// What names are resolved by in a file: its number, and the names and the closed bases of the package.
 #[derive(Clone, Copy)]
@@ -44,7 +44,7 @@ fn put_label<'a>(labels: &mut ScopeLabels<'a>, field: &'a Field) -> Result<(), A
 fn labels_of(alloc: Global, fields: &Vec<Field>) -> Result<ScopeLabels<'_>, AllocError>
     ensures { IfOk result (λ s. HoldsLabels s (labels (fields_view fields.now.items))) }
 {
-    let mut labels = HashSet::new(alloc);
+    let mut labels = BTreeSet::new(alloc);
     for field in fields {
         put_label(&mut labels, field)?;
     }

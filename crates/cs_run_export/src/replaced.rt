@@ -1,36 +1,33 @@
 // Files that are written whole, or left as they were.
-use cs_tool::Fault;
-use std::alloc::Global;
+use crate::failure::Failure;
 use std::fs::{self, File, Metadata};
-use std::io::{ErrorKind, Write};
-
-/// How many names are tried for the file beside the one that is replaced.
-const MOST_NAMES: u8 = 100;
+use std::io::{self, ErrorKind, Write};
+use std::random::RandomSource;
 
 /// Writes a text into a file. A regular file, and one that isn't there, is written beside it under another name and renamed, so
 /// that whoever reads it finds the old text or the new one, and an error leaves the old one; it keeps its permissions.
-/// What is no regular file (a pipe, a device, a link) is written as it is.
-pub(crate) fn replace_file(rt: &HostRuntime, path: &str, text: &[u8]) -> Result<(), Fault> {
+/// What is no regular file (a pipe, a device, a link) is written as it is, and a link to a file that isn't there makes it.
+pub(crate) fn replace_file(rt: &HostRuntime, path: &str, text: &[u8]) -> Result<(), Failure> {
     match fs::symlink_metadata(rt, path) {
-        Ok(metadata) if metadata.is_file() => replaced(rt, path, text, Some(&metadata)),
+        Ok(old) if old.is_file() => {
+            // Renaming asks for no right on the old file: who may not write it may not replace it either.
+            File::options().write(true).open(rt, path)?;
+            replaced(rt, path, text, Some(&old))
+        }
         Ok(_) => written(rt, path, text),
         Err(error) if error.kind() == ErrorKind::NotFound => replaced(rt, path, text, None),
-        Err(_) => Err(Fault::WriteFailed),
+        Err(error) => Err(Failure::from(error)),
     }
 }
 
-/// Writes a text into what is there.
-fn written(rt: &HostRuntime, path: &str, text: &[u8]) -> Result<(), Fault> {
-    let Ok(mut file) = fs::OpenOptions::new()
+/// Writes a text into what is there, or what a link leads to.
+fn written(rt: &HostRuntime, path: &str, text: &[u8]) -> Result<(), Failure> {
+    let mut file = File::options()
         .write(true)
         .truncate(true)
-        .open(rt, path)
-    else {
-        return Err(Fault::WriteFailed);
-    };
-    if file.write_all(text).is_err() {
-        return Err(Fault::WriteFailed);
-    }
+        .create(true)
+        .open(rt, path)?;
+    file.write_all(text)?;
     Ok(())
 }
 
@@ -40,36 +37,40 @@ fn replaced(
     path: &str,
     text: &[u8],
     old: Option<&Metadata>,
-) -> Result<(), Fault> {
-    let (mut file, beside) = created_beside(rt, path)?;
-    let is_written = file.write_all(text).is_ok() && file.sync_all().is_ok();
+) -> Result<(), Failure> {
+    let beside = name_beside(rt, path)?;
+    let file = File::create_new(rt, beside.as_str())?;
+    let answer = put_in_place(rt, file, beside.as_str(), path, text, old);
+    if answer.is_err() {
+        // What can't be removed changes nothing.
+        let _ = fs::remove_file(rt, beside.as_str());
+    }
+    answer?;
+    Ok(())
+}
+
+/// Fills a new file, gives it the permissions of the old one, and renames it.
+fn put_in_place(
+    rt: &HostRuntime,
+    mut file: File,
+    beside: &str,
+    path: &str,
+    text: &[u8],
+    old: Option<&Metadata>,
+) -> io::Result<()> {
+    file.write_all(text)?;
+    file.sync_all()?;
     drop(file);
-    let is_kept = match old {
-        Some(old) => fs::set_permissions(rt, beside.as_str(), old.permissions()).is_ok(),
-        None => true,
-    };
-    if is_written && is_kept && fs::rename(rt, beside.as_str(), path).is_ok() {
-        return Ok(());
+    if let Some(old) = old {
+        fs::set_permissions(rt, beside, old.permissions())?;
     }
-    // What can't be removed changes nothing.
-    let _ = fs::remove_file(rt, beside.as_str());
-    Err(Fault::WriteFailed)
+    fs::rename(rt, beside, path)
 }
 
-/// A new file beside another one, with its name.
-fn created_beside(rt: &HostRuntime, path: &str) -> Result<(File, String), Fault> {
-    for number in 0..MOST_NAMES {
-        let name = beside(rt.alloc(), path, number)?;
-        match File::create_new(rt, name.as_str()) {
-            Ok(file) => return Ok((file, name)),
-            Err(error) if error.kind() == ErrorKind::AlreadyExists => {},
-            Err(_) => return Err(Fault::WriteFailed),
-        }
-    }
-    Err(Fault::WriteFailed)
-}
-
-/// A name beside a file's, by a number.
-fn beside(alloc: Global, path: &str, number: u8) -> Result<String, Fault> {
-    Ok(format!(in alloc; "{path}.{number}.new")?)
+/// A name beside a file's that nobody knows beforehand, so that no file that lies there stops a run.
+fn name_beside(rt: &HostRuntime, path: &str) -> Result<String, Failure> {
+    let mut bytes = [0; 8];
+    rt.fill_bytes(&mut bytes)?;
+    let number = u64::from_le_bytes(bytes);
+    Ok(format!(in rt.alloc(); "{path}.{number:016x}.new")?)
 }

@@ -1,13 +1,13 @@
 // Answers with their reasons.
 use crate::INVALID;
-use crate::many::{UNREAD, status_of};
+use crate::many::{UNREAD, labels_of, status_of};
 use crate::requests::rules_of;
 use clap::ArgMatches;
 use cs_judge::{
     LinesOutcome, Prepared, TextJudge, Why, explain_lines, prepare, run_explained, write_explained,
     write_unexplained,
 };
-use cs_place::Named;
+use cs_place::{Label, Named};
 use cs_refusals::About;
 use cs_report::Form;
 use cs_run_input::{
@@ -245,8 +245,9 @@ fn explain_files(
     why: Why<'_>,
     paths: &[&str],
 ) -> Result<u8, Fault> {
+    let labels = labels_of(rt.alloc(), paths)?;
     let prepared = prepare(rt.alloc(), rules)?;
-    explain_prepared_files(rt, &prepared, why, paths)
+    explain_prepared_files(rt, &prepared, why, &labels)
 }
 
 /// The same by prepared rules.
@@ -254,23 +255,23 @@ fn explain_prepared_files(
     rt: &HostRuntime,
     prepared: &Prepared<'_>,
     why: Why<'_>,
-    paths: &[&str],
+    labels: &[Label<'_>],
 ) -> Result<u8, Fault> {
     let mut judge = prepared.judge(rt.alloc())?;
-    explain_paths(rt, &mut judge, why, paths)
+    explain_labelled(rt, &mut judge, why, labels)
 }
 
-/// The status after these files, by a judge.
-fn explain_paths(
+/// The status after the files of these labels, by a judge.
+fn explain_labelled(
     rt: &HostRuntime,
     judge: &mut TextJudge<'_>,
     why: Why<'_>,
-    paths: &[&str],
+    labels: &[Label<'_>],
 ) -> Result<u8, Fault> {
     let mut outcome = LinesOutcome::AllValid;
     let mut is_unread = false;
-    for path in paths {
-        let answer = explain_file(rt, judge, why, path)?;
+    for label in labels {
+        let answer = explain_file(rt, judge, why, label)?;
         outcome = outcome.with(answer.unwrap_or(LinesOutcome::SomeRefused));
         is_unread |= answer.is_none();
     }
@@ -286,22 +287,15 @@ fn explain_file(
     rt: &HostRuntime,
     judge: &mut TextJudge<'_>,
     why: Why<'_>,
-    path: &str,
+    label: &Label<'_>,
 ) -> Result<Option<LinesOutcome>, Fault> {
     let (alloc, output) = (rt.alloc(), &mut rt.stdout());
-    match read_input(rt, path) {
-        Ok(text) => {
-            let document = Named {
-                name: path,
-                text: &text,
-                line: 1,
-            };
-            write_explained(alloc, judge, document, why, output).map(Some)
-        }
+    match read_input(rt, label.name()) {
+        Ok(text) => write_explained(alloc, judge, &text, label, why, output).map(Some),
         Err(Fault::ReadFailed) => {
-            write_unexplained(alloc, Fault::ReadFailed, path, why.form, output)?;
+            write_unexplained(alloc, Fault::ReadFailed, label, why.form, output)?;
             Ok(None)
         }
-        Err(fault) => write_unexplained(alloc, fault, path, why.form, output).map(Some),
+        Err(fault) => write_unexplained(alloc, fault, label, why.form, output).map(Some),
     }
 }

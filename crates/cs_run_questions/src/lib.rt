@@ -10,12 +10,16 @@ use crate::compared::compare;
 use crate::listed::list;
 use crate::sampled::write_samples;
 use clap::ArgMatches;
-use cs_findings::{Checked, write_findings, write_schema_findings};
+use cs_findings::{Checked, Findings, schema_findings, source_findings};
 use cs_place::Named;
 use cs_refusals::explained;
+use cs_report::Form;
 use cs_run_input::{named, print, read_input, sources_of};
+use cs_run_refusals::tell_unread;
 use cs_tool::{Fault, slices_of};
 
+/// The numbers that refusals have.
+const NUMBERS: &str = "the numbers are 1 to 17, 20 to 28, 30 and 31";
 /// The status of `breaking`, and of no sample.
 const INVALID: u8 = 1;
 /// The status of a faulty command line.
@@ -41,6 +45,12 @@ pub fn answer_of_sources(
     }
 }
 
+/// Writes what was found. The status of it, where warnings count and where they don't.
+fn write_findings(rt: &HostRuntime, findings: &Findings, is_strict: bool) -> Result<u8, Fault> {
+    print(rt, findings.lines.as_bytes())?;
+    Ok(status(findings.checked, is_strict))
+}
+
 /// The status of what was found, where warnings count and where they don't.
 fn status(checked: Checked, is_strict: bool) -> u8 {
     match checked {
@@ -51,8 +61,16 @@ fn status(checked: Checked, is_strict: bool) -> u8 {
     }
 }
 
-/// The status after all that is found in the sources, or in a schema.
+/// The status of `check`. Which file can't be read is told.
 fn check(rt: &HostRuntime, words: &ArgMatches<'_>) -> Result<u8, Fault> {
+    match checked(rt, words) {
+        Err(Fault::ReadFailed) => tell_unread(rt, Form::Lines, &Fault::ReadFailed, words),
+        status => status,
+    }
+}
+
+/// The status after all that is found in the sources, or in a schema.
+fn checked(rt: &HostRuntime, words: &ArgMatches<'_>) -> Result<u8, Fault> {
     if let Some(path) = words.get_str("schema") {
         return check_schema(rt, path);
     }
@@ -69,8 +87,8 @@ fn check_sources(
     let named = named(rt.alloc(), words.get_strs("FILE").unwrap_or(&[]), sources)?;
     let texts = slices_of(rt.alloc(), sources)?;
     let root = words.get_str("root");
-    let checked = write_findings(rt.alloc(), &texts, &named, root, &mut rt.stdout())?;
-    Ok(status(checked, words.get_flag("strict")))
+    let findings = source_findings(rt.alloc(), &texts, &named, root)?;
+    write_findings(rt, &findings, words.get_flag("strict"))
 }
 
 /// The status after all faults of a schema.
@@ -81,15 +99,14 @@ fn check_schema(rt: &HostRuntime, path: &str) -> Result<u8, Fault> {
         text: text.as_slice(),
         line: 1,
     };
-    let checked = write_schema_findings(rt.alloc(), schema, &mut rt.stdout())?;
-    Ok(status(checked, false))
+    write_findings(rt, &schema_findings(rt.alloc(), schema)?, false)
 }
 
 /// The status after what a number means.
 fn explain(rt: &HostRuntime, words: &ArgMatches<'_>) -> Result<u8, Fault> {
     let number = words.get_one("NUMBER").unwrap_or(0);
     let Some(text) = explained(rt.alloc(), number)? else {
-        let _ = eprintln!(rt; "error: no refusal has the number {number}");
+        let _ = eprintln!(rt; "error: no refusal has the number {number}; {NUMBERS}");
         return Ok(COMMAND_LINE);
     };
     print(rt, text.as_bytes())?;

@@ -66,7 +66,7 @@ pub(crate) fn tell_alone(
     )
 }
 
-/// Tells a refusal of files that weren't read, as it is asked for, and gives its status.
+/// Tells a refusal of files that weren't read, as it is asked for, and gives its status. Which file can't be read is told in any case.
 pub(crate) fn tell_unread_side(
     rt: &HostRuntime,
     reasons: Option<Reasons>,
@@ -77,14 +77,11 @@ pub(crate) fn tell_unread_side(
     let paths = paths_of(words, side).unwrap_or(&[]);
     let found = unread_among(rt, &fault, paths);
     let sizes = sizes_among(rt, &fault, found, paths)?;
-    tell(
-        rt,
-        reasons,
-        fault,
-        Some(side),
-        paths,
-        about_input(found, &sizes),
-    )
+    let about = about_input(found, &sizes);
+    if reasons.is_none() && matches!(fault, Fault::ReadFailed) {
+        return tell_lines(rt, &fault, Some(side), about);
+    }
+    tell(rt, reasons, fault, Some(side), paths, about)
 }
 
 /// Tells a refusal of a comparison, as it is asked for, and gives its status.

@@ -1,33 +1,39 @@
--- What questions answer, and which documents are kept. For private contracts and proofs alone.
-use Rattle.std.specs.Prelude.{◌≡◌, ◌⊎◌, ◌++◌, ℕ, List, [], ◌∷◌, map}
+-- What questions answer, and which texts are kept. For private contracts and proofs alone.
+use Rattle.std.specs.Prelude.{◌≡◌, ◌⊎◌, ◌++◌, ℕ, List, [], ◌∷◌, Vec, length}
 use Rattle.std.specs.BTreeSet.{BTreeSet, contains}
+use Rattle.std.specs.Cmp.Lexicographic.{slice_cmp}
 use Rattle.std.specs.List.{IsDistinct, list_any}
+use Rattle.std.specs.Ordering.{nat_cmp}
+use Rattle.std.specs.declared.alloc.Global.{Global}
 use Rattle.std.specs.declared.cmp.Ordering.{Ordering}
-use Rattle.cs_document.specs.Document.{document_eq}
-use Rattle.cs_document.specs.Order.{document_cmp}
+use Rattle.cs_doc.specs.Texts.{text_of}
+use Rattle.cs_document.specs.Document.{Document}
 use Rattle.cs_document.specs.View.{doc_view}
-use Rattle.cs_document.specs.declared.doc.Doc.{Doc}
 use Rattle.cs_package.specs.Environment.{Environment}
 use Rattle.cs_variants.specs.declared.sampled.Sampled.{Sampled}
 use Rattle.cs_samples.specs.declared.asking.Answer.{Answer}
-use Rattle.cs_samples.specs.declared.asking.Answer.TheVariants.{Document, Nothing, TooManyCases}
-use Rattle.cs_samples.specs.Sample.{IsSample}
+use Rattle.cs_samples.specs.declared.asking.Answer.TheVariants.{Document as Found, Nothing, TooManyCases}
+use Rattle.cs_samples.specs.Sample.{IsSample, same_text}
 
 -- a document that is answered is a sample
 abbrev pub IsAnswer : Environment → List ℕ → Sampled → Answer → Type 0
-IsAnswer E root which (Document d) = IsSample E root which (doc_view d)
+IsAnswer E root which (Found d) = IsSample E root which (doc_view d)
 IsAnswer E root which Nothing = Unit {0}
 IsAnswer E root which TooManyCases = Unit {0}
 
--- the document is behind the others, or nothing is new
-abbrev pub IsPut : Doc → List Doc → List Doc → Type 0
-IsPut d old new = (new ≡ old) ⊎ (new ≡ old ++ d ∷ [])
+-- the document's text is behind the others, or nothing is new
+abbrev pub IsPut : Document → List (Vec ℕ Global) → List (Vec ℕ Global) → Type 0
+IsPut x old new = (new ≡ old) ⊎ ((t : Vec ℕ Global) × (t.items ≡ text_of x) × (new ≡ old ++ t ∷ []))
 
--- the order by which the code looks documents up
-abbrev pub doc_cmp : Doc → Doc → Ordering
-doc_cmp a b = document_cmp (doc_view a) (doc_view b)
+-- the order by which the code looks texts up
+abbrev pub text_cmp : Vec ℕ Global → Vec ℕ Global → Ordering
+text_cmp t u = slice_cmp nat_cmp t.items u.items
 
--- the set has these documents alone, and no two of them are alike
-pub record AreKept (seen : BTreeSet Doc) (ds : List Doc) : Type 0 where
-  pub same : (q : Doc) → contains doc_cmp seen q ≡ list_any (document_eq (doc_view q)) (map doc_view ds)
-  pub distinct : IsDistinct document_eq (map doc_view ds)
+-- the set has these texts alone, and no two of them are alike
+pub record AreKept (seen : BTreeSet (Vec ℕ Global)) (ts : List (Vec ℕ Global)) : Type 0 where
+  pub same : (q : Vec ℕ Global) → contains text_cmp seen q ≡ list_any (same_text q) ts
+  pub distinct : IsDistinct same_text ts
+
+-- these are the first ones, and so many others follow
+abbrev pub IsSplit : List (Vec ℕ Global) → List (Vec ℕ Global) → ℕ → Type 0
+IsSplit all first count = (rest : List (Vec ℕ Global)) × (length rest ≡ count) × (first ++ rest ≡ all)

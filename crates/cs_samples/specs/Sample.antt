@@ -1,9 +1,10 @@
--- Which documents are samples of a root.
-use Rattle.std.specs.Prelude.{◌≡◌, ℕ, Bool, false, List}
-use Rattle.std.specs.List.{AllByRecursion}
+-- Which texts are samples of a root.
+use Rattle.std.specs.Prelude.{◌≡◌, ◌++◌, ℕ, Bool, false, List, Vec, length}
+use Rattle.std.specs.List.{AllByRecursion, IsDistinct}
+use Rattle.std.specs.Str.{bytes_eq}
+use Rattle.std.specs.declared.alloc.Global.{Global}
+use Rattle.cs_doc.specs.Texts.{text_of}
 use Rattle.cs_document.specs.Document.{Document, IsDocument}
-use Rattle.cs_document.specs.View.{doc_view}
-use Rattle.cs_document.specs.declared.doc.Doc.{Doc}
 use Rattle.cs_package.specs.Environment.{Environment, Names}
 use Rattle.cs_instance.specs.Instance.{Rule, definition, IsInstance}
 use Rattle.cs_question.specs.ReadAgain.{IsReadAgain}
@@ -18,8 +19,20 @@ IsAsAsked E root which x = (I : Rule → Document → Bool) (n : List ℕ) → I
 abbrev pub IsSample : Environment → List ℕ → Sampled → Document → Type 0
 IsSample E root which x = IsReadAgain x × IsAsAsked E root which x
 
-abbrev pub AreSamples : Environment → List ℕ → Sampled → List Doc → Type 0
-AreSamples E root which ds = AllByRecursion (λ d. IsSample E root which (doc_view d)) ds
+-- the text is that of a sample
+abbrev pub IsSampleText : Environment → List ℕ → Sampled → List ℕ → Type 0
+IsSampleText E root which bytes = (x : Document) × IsSample E root which x × (bytes ≡ text_of x)
+
+abbrev pub AreSamples : Environment → List ℕ → Sampled → List (Vec ℕ Global) → Type 0
+AreSamples E root which ts = AllByRecursion (λ t. IsSampleText E root which t.items) ts
+
+-- both texts are the same
+abbrev pub same_text : Vec ℕ Global → Vec ℕ Global → Bool
+same_text t u = bytes_eq t.items u.items
+
+-- so many samples were found beside these, no two of all of them alike
+abbrev pub HasMore : Environment → List ℕ → Sampled → List (Vec ℕ Global) → ℕ → Type 0
+HasMore E root which ts count = (rest : List (Vec ℕ Global)) × (length rest ≡ count) × AreSamples E root which rest × IsDistinct same_text (ts ++ rest)
 
 -- no document is an instance of the root
 abbrev pub HasNoInstance : Environment → List ℕ → Type 0

@@ -4,7 +4,6 @@ ghost use Rattle.cs_document.specs.View.{doc_view};
 ghost use Rattle.cs_question.specs.ReadAgain.{IsReadAgain};
 ghost use Rattle.cs_samples.specs.Sample.{IsAsAsked};
 
-use crate::costs::cost_of;
 use cs_document::Doc;
 use cs_guard::Guarded;
 use cs_instance::{InstanceFault, is_instance};
@@ -19,6 +18,8 @@ pub(crate) struct Asking<'a> {
     pub(crate) package: &'a Guarded,
     pub(crate) root: &'a str,
     pub(crate) which: Sampled,
+    /// The steps for making a package and numbering its rules.
+    pub(crate) cost: usize,
 }
 
 /// What a question answers.
@@ -45,10 +46,6 @@ impl Asking<'_> {
     ) -> Result<Answer, QuestionFault>
         ensures { IfOk result (IsAnswer self.now.package.now self.now.root.now self.now.which) }
     {
-        budget.spend(cost_of(variant.package()));
-        if budget.steps == 0 {
-            return Ok(Answer::TooManyCases);
-        }
         match self.found(variant, budget) {
             Ok(Some(doc)) => self.judged(doc),
             Ok(None) | Err(QuestionFault::UnknownRoot) => Ok(Answer::Nothing),

@@ -4,12 +4,14 @@ use cs_package::{Package, Part, Shape, ShapeEnd};
 /// How many pairs of declarations of a struct are a step: a question looks at all of them for each label.
 const PAIRS_OF_STEP: usize = 32;
 
-/// The steps for making a package and numbering its rules, which the search doesn't count: one for each definition and expression, and
-/// those for the labels of each struct.
-pub(crate) fn cost_of(package: &Package) -> usize {
+/// The steps for making a package with these definitions and numbering its rules, which the search doesn't count: one for each
+/// definition and expression, and those for the labels of each struct.
+pub(crate) fn cost_of(package: &Package, is_reached: &[bool]) -> usize {
     let mut cost = package.count();
     for definition in 0..package.count() {
-        cost = cost.saturating_add(cost_of_shapes(package.bodies(definition)));
+        if is_reached.get(definition) == Some(&true) {
+            cost = cost.saturating_add(cost_of_shapes(package.bodies(definition)));
+        }
     }
     cost
 }

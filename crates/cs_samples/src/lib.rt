@@ -3,8 +3,12 @@
 
 mod asking;
 mod costs;
+mod found;
 mod sampling;
+mod tally;
+mod texts;
 
 pub use cs_question::QuestionFault;
 pub use cs_variants::Sampled;
 pub use sampling::samples;
+pub use texts::SampleTexts;

@@ -2,9 +2,9 @@
 use crate::walk::{LastStep, Walk};
 use crate::words;
 use cs_flat::{Flat, Item};
-use cs_place::Step;
+use cs_place::{Step, put_quoted};
 use cs_profile::{JsonKind, Keyword, Keywords, Schema};
-use cs_report::{Suggestion, put_integer, put_not_allowed, put_quoted};
+use cs_report::{Suggestion, put_integer, put_not_allowed};
 use cs_validate::{SchemaRules, ValidCause};
 use std::alloc::{AllocError, Global};
 

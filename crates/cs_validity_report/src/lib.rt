@@ -4,6 +4,7 @@
 mod causes;
 mod finding;
 mod leaves;
+mod location;
 mod reports;
 mod targets;
 mod units;

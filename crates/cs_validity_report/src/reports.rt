@@ -1,6 +1,6 @@
 // Reports of why documents aren't valid against schema documents.
-ghost use Rattle.std.specs.Prelude.{◌≡◌, OnOk, OnErr};
-ghost use Rattle.cs_report.specs.Valid.{Reports};
+ghost use Rattle.std.specs.Prelude.{◌≡◌, false, OnOk, OnErr, string_bytes};
+ghost use Rattle.cs_report.specs.Valid.{HasLines, Reports};
 ghost use Rattle.cs_validate.specs.WhyTold.{says_valid};
 
 use crate::finding::Findings;
@@ -30,15 +30,30 @@ pub fn report_validity(
     ensures kept { OnErr result (output.new.items ≡ output.old.items) }
 {
     let mut text = String::new(alloc);
+    let findings = Findings::new(alloc, rules, flat);
+    put_explanation(&mut text, form, telling, findings, document, explanation)?;
+    report_verdict(alloc, form, explanation.is_valid(), text.as_str(), output)
+}
+
+/// Puts what is told of the reasons, if there are any.
+fn put_explanation<'t>(
+    text: &mut String,
+    form: Form,
+    telling: Telling,
+    findings: Findings<'t>,
+    document: Named<'_>,
+    explanation: &Explanation<'t>,
+) -> Result<(), AllocError>
+    ensures { OnOk result
+        (HasLines (says_valid explanation.now) form (string_bytes text.new)) }
+{
     match explanation {
-        Explanation::Valid => {}
-        Explanation::Untold => text.push_str(untold_words(form))?,
+        Explanation::Valid => Ok(()),
+        Explanation::Untold => put_untold(text, form),
         Explanation::Invalid(reasons) => {
-            let findings = Findings::new(alloc, rules, flat);
-            put_reasons(&mut text, form, telling, findings, document, reasons)?;
+            put_reasons(text, form, telling, findings, document, reasons)
         }
     }
-    report_verdict(alloc, form, explanation.is_valid(), text.as_str(), output)
 }
 
 /// That the reasons of a document aren't told: for people, and the members for programs and in the output format `basic` (JSON
@@ -50,13 +65,18 @@ const UNTOLD_MEMBERS: &str = ",\"errors\":[],\"more\":1";
 
 const UNTOLD_BASIC: &str = ",\"errors\":[]";
 
-/// What is told of the reasons of a document that isn't valid, where they aren't told. There is one at least.
-fn untold_words(form: Form) -> &'static str {
+/// Puts what is told of the reasons of a document that isn't valid, where they aren't told. There is one at least.
+fn put_untold(text: &mut String, form: Form) -> Result<(), AllocError>
+    ensures { OnOk result (HasLines false form (string_bytes text.new)) }
+{
     match form {
-        Form::Lines => UNTOLD_LINE,
-        Form::Json => UNTOLD_MEMBERS,
-        Form::Flag => "",
-        Form::Basic => UNTOLD_BASIC,
+        Form::Lines => {
+            text.push_str(UNTOLD_LINE)?;
+            Ok(())
+        }
+        Form::Json => text.push_str(UNTOLD_MEMBERS),
+        Form::Flag => Ok(()),
+        Form::Basic => text.push_str(UNTOLD_BASIC),
     }
 }
 
@@ -68,7 +88,9 @@ fn put_reasons<'t>(
     findings: Findings<'t>,
     document: Named<'_>,
     reasons: &Reasons<ValidCause<'t>>,
-) -> Result<(), AllocError> {
+) -> Result<(), AllocError>
+    ensures { OnOk result (HasLines false form (string_bytes text.new)) }
+{
     match form {
         Form::Flag => Ok(()),
         Form::Basic => put_units(text, telling, findings, document, reasons),

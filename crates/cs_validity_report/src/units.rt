@@ -1,23 +1,42 @@
 // The output format `basic` (JSON Schema Core 2020-12, section 12.4.2).
+use crate::location::Location;
 use crate::targets::Targets;
 use crate::walk::Walk;
-use cs_place::{Named, Position, Positions};
+use cs_place::{Named, Position, Positions, put_quoted};
 use cs_profile::{Schema, SchemaDoc};
 use cs_reasons::{Link, Reasons};
-use cs_report::{Entry, put_count, put_quoted, put_string};
+use cs_report::{Entry, put_count, put_string};
 use cs_validate::ValidCause;
 use std::alloc::{AllocError, Global};
+
+/// How many bytes the units of schemas take at most, all together, and how many more for each reason that is told.
+const MOST_BYTES: usize = 1_048_576;
+
+const MOST_FOR_REASON: usize = 4096;
+
+/// What a unit takes beside its places.
+const UNIT_BYTES: usize = 128;
 
 /// An output unit (Core, section 12.3).
 #[derive(Drop)]
 pub(crate) struct Unit {
     /// The path of keywords, through references.
     keywords: String,
+    /// Where that path is cut, the place of the keyword in the schema document, as a fragment.
+    keyword: Option<String>,
     /// The place of the value.
     pointer: String,
     error: String,
     /// The offset in the document's text.
     offset: usize,
+}
+
+impl Unit {
+    /// How many bytes it takes, or some more.
+    fn bytes(&self) -> usize {
+        let places = self.keywords.len().saturating_add(self.pointer.len());
+        places.saturating_add(UNIT_BYTES)
+    }
 }
 
 /// Which links are on the chains to the reasons of entries. What leads to a link is behind it.
@@ -50,8 +69,21 @@ fn mark_above(link: &Link<ValidCause<'_>>, place: usize, on: &mut Vec<bool>) {
     }
 }
 
+/// Whether the link at a place is marked, and so is the one that leads to it, if there is one.
+fn is_led_to(links: &[Link<ValidCause<'_>>], place: usize, on: &[bool]) -> bool {
+    let Some(link) = links.get(place) else {
+        return false;
+    };
+    let is_above = match &link.up {
+        None => true,
+        Some(up) => on.get(up.link).copied() == Some(true),
+    };
+    is_above && on.get(place).copied() == Some(true)
+}
+
 /// The units of the root and of the schemas on the chains to the reasons of entries, by their places in the text, and at one place by
-/// their paths: a schema comes before those inside it. One that is `false` has that of its reason.
+/// their paths: a schema comes before those inside it. One that is `false` has that of its reason. One whose path is too long to be told
+/// has none, nor have those that it leads to; and they end where they take too much together.
 pub(crate) fn link_units<'t>(
     alloc: Global,
     schema: &'t SchemaDoc,
@@ -59,45 +91,72 @@ pub(crate) fn link_units<'t>(
     reasons: &Reasons<ValidCause<'t>>,
     entries: &[Entry<'_>],
 ) -> Result<Vec<Unit>, AllocError> {
-    let on = on_chains(alloc, reasons, entries)?;
+    let mut on = on_chains(alloc, reasons, entries)?;
     let targets = Targets::new(alloc, &reasons.links)?;
     let found = targets.find(alloc, document.text)?;
-    let mut units = Vec::new(alloc);
-    for (place, is_on) in on.iter().enumerate().rev() {
-        if *is_on {
-            let offset = targets.of_link(place).offset(&found);
-            add_unit(alloc, schema, &reasons.links, place, offset, &mut units)?;
+    let mut units = Units {
+        all: Vec::new(alloc),
+        room: MOST_FOR_REASON
+            .saturating_mul(entries.len())
+            .saturating_add(MOST_BYTES),
+    };
+    for place in (0..on.len()).rev() {
+        let offset = targets.of_link(place).offset(&found);
+        let is_told = is_led_to(&reasons.links, place, &on)
+            && units.add_schema(alloc, schema, &reasons.links, place, offset)?;
+        if let Some(slot) = on.get_mut(place) {
+            *slot = is_told;
         }
     }
-    sort_units(&mut units)?;
-    Ok(units)
+    sort_units(&mut units.all)?;
+    Ok(units.all)
 }
 
-/// Adds the unit of the link at a place, whose value has an offset.
-fn add_unit<'t>(
-    alloc: Global,
-    schema: &'t SchemaDoc,
-    links: &[Link<ValidCause<'t>>],
-    place: usize,
-    offset: usize,
-    units: &mut Vec<Unit>,
-) -> Result<(), AllocError> {
-    let walk = Walk::along(alloc, schema, links, place)?;
-    if matches!(walk.schema, Some(Schema::Always(false))) {
-        return Ok(());
+/// Units of schemas, and how many bytes more they may take.
+#[derive(Drop)]
+struct Units {
+    all: Vec<Unit>,
+    room: usize,
+}
+
+impl Units {
+    /// Adds the unit of the link at a place, whose value has an offset. Whether it has one.
+    fn add_schema<'t>(
+        &mut self,
+        alloc: Global,
+        schema: &'t SchemaDoc,
+        links: &[Link<ValidCause<'t>>],
+        place: usize,
+        offset: usize,
+    ) -> Result<bool, AllocError> {
+        if self.room == 0 {
+            return Ok(false);
+        }
+        let walk = Walk::along(alloc, schema, links, place)?;
+        if walk.keywords.is_cut() || matches!(walk.schema, Some(Schema::Always(false))) {
+            return Ok(false);
+        }
+        let unit = schema_unit(alloc, walk, offset)?;
+        self.room = self.room.saturating_sub(unit.bytes());
+        self.all.push(unit)?;
+        Ok(true)
     }
+}
+
+/// The unit of the schema at the end of a walk, whose value has an offset.
+fn schema_unit(alloc: Global, walk: Walk<'_>, offset: usize) -> Result<Unit, AllocError> {
     let error = if walk.steps == 0 {
         "the document is not valid"
     } else {
         "the subschema is not valid"
     };
-    units.push(Unit {
-        keywords: walk.keywords,
+    Ok(Unit {
+        keywords: walk.keywords.pointer()?,
+        keyword: None,
         pointer: walk.pointer,
         error: String::from_str(alloc, error)?,
         offset,
-    })?;
-    Ok(())
+    })
 }
 
 fn sort_units(units: &mut Vec<Unit>) -> Result<(), AllocError> {
@@ -107,19 +166,40 @@ fn sort_units(units: &mut Vec<Unit>) -> Result<(), AllocError> {
     })
 }
 
-/// The path of keywords to the one that refuses a value by the reason at a place (Core, section 12.3.1).
+/// The path of keywords to the one that refuses a value by the reason at a place.
 fn keywords_of<'t>(
     alloc: Global,
     schema: &'t SchemaDoc,
     reasons: &Reasons<ValidCause<'t>>,
     number: usize,
-) -> Result<String, AllocError> {
+) -> Result<Location, AllocError> {
     let Some(reason) = reasons.told.get(number) else {
-        return Ok(String::new(alloc));
+        return Ok(Location::new(alloc));
     };
     let mut walk = Walk::along(alloc, schema, &reasons.links, reason.link)?;
     walk.put_keyword(&reason.cause)?;
     Ok(walk.keywords)
+}
+
+/// A place in the schema document as the fragment of a URI, where that is asked for (RFC 6901, section 6).
+fn fragment_of(alloc: Global, is_asked: bool, rule: &str) -> Result<Option<String>, AllocError> {
+    if !is_asked {
+        return Ok(None);
+    }
+    let mut fragment = String::from_str(alloc, "#")?;
+    for byte in rule.bytes().skip(1) {
+        if is_in_fragments(byte) {
+            fragment.push(byte as char)?;
+        } else {
+            write!(fragment, "%{:02X}", byte)?;
+        }
+    }
+    Ok(Some(fragment))
+}
+
+/// Whether a byte stands for itself in a fragment (RFC 3986, section 3.5).
+fn is_in_fragments(byte: u8) -> bool {
+    byte.is_ascii_alphanumeric() || b"-._~!$&'()*+,;=:@/?".contains(&byte)
 }
 
 /// The units of the reasons of entries, in their order.
@@ -132,8 +212,10 @@ pub(crate) fn leaf_units<'t>(
     let mut units = Vec::with_capacity(alloc, entries.len())?;
     for entry in entries {
         let keywords = keywords_of(alloc, schema, reasons, entry.number)?;
+        let keyword = fragment_of(alloc, keywords.is_cut(), entry.rule.as_str())?;
         units.push(Unit {
-            keywords,
+            keywords: keywords.pointer()?,
+            keyword,
             offset: entry.offset,
             pointer: entry.pointer,
             error: entry.text,
@@ -152,6 +234,9 @@ fn put_unit(
     let line = position.line.saturating_add(first_line).saturating_sub(1);
     text.push_str("{\"valid\":false,\"keywordLocation\":")?;
     put_quoted(text, unit.keywords.as_str())?;
+    if let Some(keyword) = &unit.keyword {
+        put_string(text, "absoluteKeywordLocation", keyword.as_str())?;
+    }
     put_string(text, "instanceLocation", unit.pointer.as_str())?;
     put_string(text, "error", unit.error.as_str())?;
     put_count(text, "line", line)?;

@@ -2,6 +2,7 @@
 ghost use Rattle.std.specs.Prelude.{◌<◌, length, IfSome};
 
 use crate::causes::{keyword_of, part_step, reference_of, schema_inside, value_step};
+use crate::location::Location;
 use cs_place::Step;
 use cs_profile::{Keyword, Schema, SchemaDoc};
 use cs_reasons::Link;
@@ -26,8 +27,8 @@ pub(crate) struct Walk<'t> {
     pub(crate) last: Option<LastStep<'t>>,
     /// The place of the value (RFC 6901).
     pub(crate) pointer: String,
-    /// The path of keywords from the root, through references (Core, section 12.3.1).
-    pub(crate) keywords: String,
+    /// The path of keywords from the root, through references.
+    pub(crate) keywords: Location,
     /// The place of the schema in the schema document, as a fragment.
     pub(crate) rule: String,
     /// Which alternative was followed last; empty where none was.
@@ -84,7 +85,7 @@ impl<'t> Walk<'t> {
             schema: Some(document.root()),
             last: None,
             pointer: String::new(alloc),
-            keywords: String::new(alloc),
+            keywords: Location::new(alloc),
             rule: String::from_str(alloc, "#")?,
             alternative: String::new(alloc),
             branch: (0, 0),
@@ -157,10 +158,11 @@ impl<'t> Walk<'t> {
     fn put_rule(&mut self, cause: &ValidCause<'t>) -> Result<(), AllocError> {
         self.put_keyword(cause)?;
         if let Some(step) = part_step(cause) {
-            put_steps(&mut self.keywords, &[step])?;
+            self.keywords.put(step)?;
             put_steps(&mut self.rule, &[step])?;
         }
         if let (ValidCause::Reference { .. }, Some(name)) = (cause, reference_of(self.schema)) {
+            self.keywords.follow()?;
             self.rule.truncate(0);
             self.rule.push_str("#")?;
             put_steps(
@@ -174,7 +176,7 @@ impl<'t> Walk<'t> {
     /// Leads the place of the rule on to the keyword of a cause.
     pub(crate) fn put_keyword(&mut self, cause: &ValidCause<'t>) -> Result<(), AllocError> {
         if let Some(keyword) = keyword_of(cause) {
-            put_steps(&mut self.keywords, &[Step::Key(keyword.name())])?;
+            self.keywords.put(Step::Key(keyword.name()))?;
             put_steps(&mut self.rule, &[Step::Key(keyword.name())])?;
         }
         Ok(())

@@ -2,7 +2,7 @@
 use cs_document::Doc;
 use cs_flat::Item;
 use cs_profile::{JsonKind, Keywords};
-use cs_report::{MOST_WANTED, put_counted, put_integer, put_number, put_shown};
+use cs_report::{MOST_WANTED, put_beginning, put_counted, put_integer, put_number};
 use cs_validate::{Want, Wanted};
 use std::alloc::{AllocError, Global};
 use std::collections::BTreeSet;
@@ -26,7 +26,7 @@ pub(crate) fn put_found(text: &mut String, item: Item<'_>) -> Result<(), AllocEr
         Item::Null => text.push_str("null"),
         Item::Bool(value) => text.push_str(if value { "true" } else { "false" }),
         Item::Int(value) => put_integer(text, value),
-        Item::Text(value) => put_shown(text, value),
+        Item::Text(value) => put_beginning(text, value),
         Item::List(_) => text.push_str("an array"),
         Item::Object(_) => text.push_str("an object"),
     }

@@ -1,15 +1,15 @@
 // Copies of bodies by which every document has what stands at a place.
 use crate::changes::{changed, further_part};
-use crate::copies::{copy_end, copy_part, copy_shape};
+use crate::copies::{Copying, copy_end, copy_part, copy_shape};
 use crate::places::Change;
 use crate::sampled::Sampled;
 use cs_package::{FieldMark, Part, Shape, ShapeEnd};
-use std::alloc::{AllocError, Global};
+use std::alloc::AllocError;
 
 /// How a body is copied: what is put at the place, and for which documents.
 #[derive(Clone, Copy)]
 pub(crate) struct Forcing<'a> {
-    pub(crate) alloc: Global,
+    pub(crate) how: Copying,
     pub(crate) which: Sampled,
     pub(crate) change: Change<'a>,
 }
@@ -20,7 +20,7 @@ impl Forcing<'_> {
     #[cycle(forced)]
     pub(crate) fn forced(&self, shape: &Shape, steps: &[usize]) -> Result<Shape, AllocError> {
         let Some((step, further)) = steps.split_first() else {
-            return changed(self.alloc, shape, self.change);
+            return changed(self.how, shape, self.change);
         };
         match shape {
             Shape::And(operands) => {
@@ -36,11 +36,11 @@ impl Forcing<'_> {
                         copied.push(element)?;
                     }
                 }
-                let end = copy_end(self.alloc, end)?;
+                let end = copy_end(self.how, end)?;
                 Ok(Shape::List { front: copied, end })
             }
             // The others have no parts.
-            _ => copy_shape(self.alloc, shape),
+            _ => copy_shape(self.how, shape),
         }
     }
 
@@ -68,12 +68,12 @@ impl Forcing<'_> {
         step: usize,
         further: &[usize],
     ) -> Result<Vec<Shape>, AllocError> {
-        let mut copies = Vec::with_capacity(self.alloc, shapes.len())?;
+        let mut copies = Vec::with_capacity(self.how.alloc, shapes.len())?;
         for (i, shape) in shapes.iter().enumerate() {
             if i == step {
                 copies.push(self.forced(shape, further)?)?;
             } else {
-                copies.push(copy_shape(self.alloc, shape)?)?;
+                copies.push(copy_shape(self.how, shape)?)?;
             }
         }
         Ok(copies)
@@ -100,14 +100,14 @@ impl Forcing<'_> {
         step: usize,
         further: &[usize],
     ) -> Result<Shape, AllocError> {
-        let mut copied = Vec::with_capacity(self.alloc, parts.len())?;
+        let mut copied = Vec::with_capacity(self.how.alloc, parts.len())?;
         let mut every = None;
         for (i, part) in parts.iter().enumerate() {
             if i == step {
                 let value = self.forced(&part.value, further)?;
                 every = self.put_forced(&mut copied, parts, part, value)?;
             } else {
-                copied.push(copy_part(self.alloc, part)?)?;
+                copied.push(copy_part(self.how, part)?)?;
             }
         }
         self.joined(copied, opened, every)
@@ -128,13 +128,13 @@ impl Forcing<'_> {
                 Ok(None)
             }
             (FieldMark::Every { .. }, Sampled::Valid) => {
-                copied.push(further_part(self.alloc, parts, value)?)?;
-                copied.push(copy_part(self.alloc, part)?)?;
+                copied.push(further_part(self.how.alloc, parts, value)?)?;
+                copied.push(copy_part(self.how, part)?)?;
                 Ok(None)
             }
             (FieldMark::Every { .. }, Sampled::Invalid) => {
                 let every = with_value(part, part.mark, value)?;
-                copied.push(further_part(self.alloc, parts, Shape::Top)?)?;
+                copied.push(further_part(self.how.alloc, parts, Shape::Top)?)?;
                 Ok(Some(every))
             }
         }
@@ -150,9 +150,9 @@ impl Forcing<'_> {
         let Some(part) = every else {
             return Ok(Shape::Struct { parts, opened });
         };
-        let mut alone = Vec::new(self.alloc);
+        let mut alone = Vec::new(self.how.alloc);
         alone.push(part)?;
-        let mut operands = Vec::new(self.alloc);
+        let mut operands = Vec::new(self.how.alloc);
         operands.push(Shape::Struct {
             parts,
             opened: false,

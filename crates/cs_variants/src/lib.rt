@@ -8,6 +8,7 @@ mod forced;
 mod names;
 mod places;
 mod sampled;
+mod turns;
 mod variants;
 mod walks;
 mod whole;

@@ -29,13 +29,18 @@ pub enum Change<'a> {
 
 /// A place in a body of a definition that the root reaches: the number of the definition among those that were reached, the
 /// body's number, and the steps from the body's expression on. A step is the number of an operand, an alternative, a
-/// declaration or a fixed element; what follows the fixed elements has the next number.
+/// declaration or a fixed element; what follows the fixed elements has the next number. A rule has a place for each change that is
+/// made for it.
 #[derive(Drop)]
 pub struct Place<'a> {
     pub(crate) entry: usize,
     pub(crate) body: usize,
     pub(crate) steps: Vec<usize>,
     pub(crate) change: Change<'a>,
+    /// The number of its rule.
+    pub rule: usize,
+    /// The number of the change among those of its rule.
+    pub(crate) turn: usize,
 }
 
 /// A definition that the root reaches, and the place of a reference to it; the root itself has none.

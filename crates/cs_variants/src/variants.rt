@@ -2,7 +2,7 @@
 ghost use Rattle.std.specs.Prelude.{◌<◌, IfOk, OnOk, length};
 ghost use Rattle.cs_package.specs.View.{IsTable};
 
-use crate::copies::{copy_shape, copy_shapes};
+use crate::copies::{Copying, copy_shape, copy_shapes};
 use crate::forced::Forcing;
 use crate::names::{copy_names, put_copy};
 use crate::places::{Change, Place, Reached};
@@ -23,6 +23,8 @@ pub struct Making<'b, 'a> {
     pub is_shared: &'b [bool],
     pub reached: &'b [Reached<'a>],
     pub which: Sampled,
+    /// Whether what a document may lack is left out, but for what is on the way to a place.
+    pub is_least: bool,
 }
 
 /// The names of a package's definitions, and their bodies.
@@ -32,7 +34,22 @@ struct Draft {
     bodies: Vec<Vec<Shape>>,
 }
 
-impl Making<'_, '_> {
+impl<'b, 'a> Making<'b, 'a> {
+    /// The same, where what a document may lack is left out. Its questions lead to far fewer others.
+    pub fn least(&self) -> Making<'b, 'a> {
+        Making {
+            is_least: true,
+            ..*self
+        }
+    }
+
+    fn how(&self) -> Copying {
+        Copying {
+            alloc: self.alloc,
+            is_least: self.is_least,
+        }
+    }
+
     /// The package with copies of the definitions on the way to a place, the root's last, where each step of the way is forced and
     /// the change is made at the place; none where such a package isn't guarded. What the root doesn't reach has no bodies there.
     ///
@@ -119,7 +136,7 @@ impl Making<'_, '_> {
         let mut bodies = Vec::with_capacity(self.alloc, self.package.count())?;
         for definition in 0..self.package.count() {
             if self.is_reached.get(definition) == Some(&true) {
-                bodies.push(copy_shapes(self.alloc, self.package.bodies(definition))?)?;
+                bodies.push(copy_shapes(self.how(), self.package.bodies(definition))?)?;
             } else {
                 bodies.push(Vec::new(self.alloc))?;
             }
@@ -215,7 +232,7 @@ impl Making<'_, '_> {
     {
         let bodies = self.package.bodies(definition);
         let forcing = Forcing {
-            alloc: self.alloc,
+            how: self.how(),
             which: self.which,
             change,
         };
@@ -224,7 +241,7 @@ impl Making<'_, '_> {
             if body == place.body {
                 copies.push(forcing.forced(shape, &place.steps)?)?;
             } else {
-                copies.push(copy_shape(self.alloc, shape)?)?;
+                copies.push(copy_shape(self.how(), shape)?)?;
             }
         }
         Ok(copies)

@@ -3,18 +3,22 @@
 use crate::ends::{behind_end, end_of};
 use crate::places::{Change, Place, Reached};
 use crate::sampled::Sampled;
+use crate::turns::in_turns;
 use cs_package::{FieldMark, Kind, Package, Part, Shape, ShapeEnd};
 use std::alloc::{AllocError, Global};
 
 /// The walk over the bodies of what the root reaches: the definitions that were reached, each once, the places that were found,
-/// as many as are asked for at most, and the place where the walk is.
+/// and the place where the walk is.
 #[derive(Drop)]
 pub struct Walk<'a> {
     alloc: Global,
     which: Sampled,
-    most: usize,
     pub reached: Vec<Reached<'a>>,
     pub places: Vec<Place<'a>>,
+    /// How many rules the places are of.
+    pub rules: usize,
+    /// How many places the last rule has so far.
+    turn: usize,
     /// Whether each definition of the package is referred to more than once, the root once at least.
     pub is_shared: Vec<bool>,
     seen: Vec<bool>,
@@ -23,20 +27,23 @@ pub struct Walk<'a> {
     steps: Vec<usize>,
 }
 
-/// The places of what the root reaches, as many as are asked for at most.
+/// The places of what the root reaches.
+///
+/// # Errors
+/// Where memory runs out.
 pub fn walk_of(
     alloc: Global,
     package: &Package,
     root: usize,
     which: Sampled,
-    most: usize,
 ) -> Result<Walk<'_>, AllocError> {
     let mut walk = Walk {
         alloc,
         which,
-        most,
         reached: Vec::new(alloc),
         places: Vec::new(alloc),
+        rules: 0,
+        turn: 0,
         is_shared: vec![in alloc; false; package.count()]?,
         seen: vec![in alloc; false; package.count()]?,
         entry: 0,
@@ -58,7 +65,15 @@ pub fn walk_of(
 }
 
 impl<'a> Walk<'a> {
-    /// Visits the definition that comes next, if there is one: also where no place is asked for any more, for its references.
+    /// The numbers of the places, in the order in which they get their turns.
+    ///
+    /// # Errors
+    /// Where memory runs out.
+    pub fn in_turns(&self) -> Result<Vec<usize>, AllocError> {
+        in_turns(self.alloc, &self.places)
+    }
+
+    /// Visits the definition that comes next, if there is one.
     fn visit_entry(&mut self, package: &'a Package) -> Result<(), AllocError> {
         let Some(reached) = self.reached.get(self.entry) else {
             return Ok(());
@@ -74,37 +89,58 @@ impl<'a> Walk<'a> {
         Ok(())
     }
 
-    /// Here is a place where that is put.
+    /// Here is a further rule, which has no place yet.
+    fn begin(&mut self) {
+        self.rules = self.rules.saturating_add(1);
+        self.turn = 0;
+    }
+
+    /// Here is a place of the last rule, where that is put.
     fn put(&mut self, change: Change<'a>) -> Result<(), AllocError> {
-        if self.places.len() < self.most {
-            let steps = Vec::from_slice(self.alloc, &self.steps)?;
-            self.places.push(Place {
-                entry: self.entry,
-                body: self.body,
-                steps,
-                change,
-            })?;
-        }
+        let steps = Vec::from_slice(self.alloc, &self.steps)?;
+        self.places.push(Place {
+            entry: self.entry,
+            body: self.body,
+            steps,
+            change,
+            rule: self.rules.saturating_sub(1),
+            turn: self.turn,
+        })?;
+        self.turn = self.turn.saturating_add(1);
         Ok(())
     }
 
-    /// The same, for instances alone.
+    /// Here is a further rule, for instances alone, with a place where that is put.
     fn put_valid(&mut self, change: Change<'a>) -> Result<(), AllocError> {
+        match self.which {
+            Sampled::Valid => {
+                self.begin();
+                self.put(change)
+            }
+            Sampled::Invalid => Ok(()),
+        }
+    }
+
+    /// Here is a further place of the last rule, for instances alone.
+    fn put_valid_too(&mut self, change: Change<'a>) -> Result<(), AllocError> {
         match self.which {
             Sampled::Valid => self.put(change),
             Sampled::Invalid => Ok(()),
         }
     }
 
-    /// The same, for documents that are no instances.
+    /// Here is a further rule, for documents that are no instances.
     fn put_invalid(&mut self, change: Change<'a>) -> Result<(), AllocError> {
         match self.which {
             Sampled::Valid => Ok(()),
-            Sampled::Invalid => self.put(change),
+            Sampled::Invalid => {
+                self.begin();
+                self.put(change)
+            }
         }
     }
 
-    /// The same of an integer, where there is one.
+    /// Here is a place of the last rule where an integer is put, where there is one.
     fn put_integer(&mut self, integer: Option<i64>) -> Result<(), AllocError> {
         match integer {
             Some(n) => self.put(Change::Int(n)),
@@ -130,6 +166,8 @@ impl<'a> Walk<'a> {
             body: self.body,
             steps,
             change: Change::Definition(definition),
+            rule: 0,
+            turn: 0,
         };
         self.reached.push(Reached {
             definition,
@@ -150,10 +188,7 @@ impl<'a> Walk<'a> {
                 self.visit_end(front.len(), end)
             }
             // The others have no parts.
-            _ => match self.which {
-                Sampled::Valid => self.put_ends(shape),
-                Sampled::Invalid => self.put_outside(shape),
-            },
+            _ => self.visit_leaf(shape),
         }
     }
 
@@ -202,10 +237,12 @@ impl<'a> Walk<'a> {
         for (i, part) in parts.iter().enumerate() {
             self.visit_part(i, part)?;
         }
-        match (self.which, opened) {
-            (Sampled::Valid, true) => self.put(Change::FurtherKey),
-            (Sampled::Invalid, false) if !has_every(parts) => self.put(Change::FurtherKey),
-            (Sampled::Valid, false) | (Sampled::Invalid, _) => Ok(()),
+        if opened {
+            self.put_valid(Change::FurtherKey)
+        } else if has_every(parts) {
+            Ok(())
+        } else {
+            self.put_invalid(Change::FurtherKey)
         }
     }
 
@@ -214,8 +251,8 @@ impl<'a> Walk<'a> {
         match part.mark {
             FieldMark::Regular | FieldMark::Required => self.put_invalid(Change::Without(i))?,
             FieldMark::Optional => {
-                self.put_valid(Change::Without(i))?;
                 self.put_behind(i)?;
+                self.put_valid_too(Change::Without(i))?;
             }
             FieldMark::Every { .. } => self.put_behind(i)?,
         }
@@ -246,7 +283,23 @@ impl<'a> Walk<'a> {
     /// The least length of a list and the next one.
     fn put_lengths(&mut self) -> Result<(), AllocError> {
         self.put_valid(Change::Shortest)?;
-        self.put_valid(Change::Longer)
+        self.put_valid_too(Change::Longer)
+    }
+
+    /// The rule of what has no parts. What has no ends is no rule for instances.
+    fn visit_leaf(&mut self, shape: &'a Shape) -> Result<(), AllocError> {
+        match (self.which, shape) {
+            (Sampled::Invalid, _) => {
+                self.begin();
+                self.put_outside(shape)
+            }
+            (Sampled::Valid, Shape::Kind(Kind::Bool) | Shape::Range { .. } | Shape::Bound { .. }) =>
+                {
+                    self.begin();
+                    self.put_ends(shape)
+                }
+            (Sampled::Valid, _) => Ok(()),
+        }
     }
 
     /// The ends of what has no parts.

@@ -3,14 +3,16 @@
 
 use clap::ArgMatches;
 use clap::error::ErrorKind;
+use cs_place::put_shown;
 use cs_run_export::{export_or_tell, export_shaped, is_shaped};
 use cs_run_input::{are_at_odds, reasons_of};
 use cs_run_judge::{answer as answer_request, answer_with_reasons};
 use cs_run_questions::answer_of_sources;
 use cs_tool::{Fault, command, write_fault};
-use std::alloc::Global;
+use std::alloc::{AllocError, Global};
 use std::env::Args;
 use std::io;
+use std::io::Write;
 use std::process::ExitCode;
 
 /// The status of a faulty command line.
@@ -80,16 +82,28 @@ fn shown(rt: &HostRuntime, error: &clap::Error) -> Result<u8, Fault> {
     if error.kind() == ErrorKind::OutOfMemory {
         return Err(Fault::OutOfMemory);
     }
-    let is_printed = error.print(rt).is_ok();
     if error.use_stderr() {
+        let text = fault_text(rt.alloc(), error)?;
         // A fault that can't be printed changes no status.
+        let _ = rt.stderr().write_all(text.as_bytes());
         return Ok(COMMAND_LINE);
     }
-    if is_printed {
-        Ok(0)
-    } else {
-        Err(Fault::WriteFailed)
+    match error.print(rt) {
+        Ok(()) => Ok(0),
+        Err(_) => Err(Fault::WriteFailed),
     }
+}
+
+/// What `clap` says of a fault of the command line, whose words stand in it: each line as it is shown.
+fn fault_text(alloc: Global, error: &clap::Error) -> Result<String, AllocError> {
+    let mut said = String::new(alloc);
+    write!(said, "{error}")?;
+    let mut text = String::new(alloc);
+    for line in said.lines() {
+        put_shown(&mut text, line)?;
+        text.push('\n')?;
+    }
+    Ok(text)
 }
 
 /// The status where the words of the process can't be read: memory ran out, or a word isn't UTF-8.

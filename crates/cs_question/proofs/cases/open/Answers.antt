@@ -1,4 +1,4 @@
-use Rattle.std.proofs.Common.{◌≡◌, true, Some, sym, ap, ◌∙◌}
+use Rattle.std.proofs.Common.{Some, ap, ◌∙◌}
 use Rattle.std.specs.List.{list_all, list_any}
 use Rattle.std.proofs.lemmas.Result.{on_ok_weaker}
 use Rattle.cs_question.specs.Asked.{meets, meets_all}
@@ -17,14 +17,14 @@ pub returns-in-Some-All-2-clause-there : goal.returns-in-Some-All-2-clause-there
 returns-in-Some-All-2-clause-there c =
     let s = c.in-Some-All in
     on_ok_weaker c.put_each.result (λ f J x m h.
-    f J x (ap (meets_all J x) c.deref-in-Some-All-2.ensures.value ∙ c.in_ok-rest.ensures (meets J x) h) (ap (list_any (λ p. meets J x (record c.args.literal { rule = p }))) c.deref-in-Some-All-2-2.ensures.value ∙ all_unmet c.args.nodes.now J m c.args.literal x (all_placed (meets J x) c.args.asked.now c.args.place c.args.literal h c.requires) s.parts (c.in-Some-All.ensures ∙ ap Some s.field-0-is) c.if-literal.false))
+    f J x m (ap (meets_all J x) c.deref-in-Some-All-2.ensures.value ∙ c.in_ok-rest.ensures (meets J x) h) (ap (list_any (λ p. meets J x (record c.args.literal { rule = p }))) c.deref-in-Some-All-2-2.ensures.value ∙ all_unmet c.args.nodes.now J m c.args.literal x (all_placed (meets J x) c.args.asked.now c.args.place c.args.literal h c.requires) s.parts (c.in-Some-All.ensures ∙ ap Some s.field-0-is) c.if-literal.false))
     c.put_each.ensures.there
 
 pub returns-in-Some-Any-clause-there : goal.returns-in-Some-Any-clause-there
 returns-in-Some-Any-clause-there c =
     let s = c.in-Some-Any in
     on_ok_weaker c.put_each-in-Some-Any.result (λ f J x m h.
-    f J x (ap (meets_all J x) c.deref-in-Some-Any.ensures.value ∙ c.in_ok-rest.ensures (meets J x) h) (ap (list_any (λ p. meets J x (record c.args.literal { rule = p }))) c.deref-in-Some-Any-2.ensures.value ∙ any_met c.args.nodes.now J m c.args.literal x (all_placed (meets J x) c.args.asked.now c.args.place c.args.literal h c.requires) s.parts (s.ensures ∙ ap Some s.field-0-is) c.if-literal-2.true))
+    f J x m (ap (meets_all J x) c.deref-in-Some-Any.ensures.value ∙ c.in_ok-rest.ensures (meets J x) h) (ap (list_any (λ p. meets J x (record c.args.literal { rule = p }))) c.deref-in-Some-Any-2.ensures.value ∙ any_met c.args.nodes.now J m c.args.literal x (all_placed (meets J x) c.args.asked.now c.args.place c.args.literal h c.requires) s.parts (s.ensures ∙ ap Some s.field-0-is) c.if-literal-2.true))
     c.put_each-in-Some-Any.ensures.there
 
 pub returns-in-Some-Any-2-clause-there : goal.returns-in-Some-Any-2-clause-there

@@ -1,8 +1,9 @@
-use Rattle.std.proofs.Common.{◌≡◌, true, map, sym, ap, ap₂, ◌∙◌, subst}
+use Rattle.std.proofs.Common.{map, ap, ap₂, ◌∙◌, subst}
 use Rattle.cs_guard.specs.Numbered.{name_of}
 use Rattle.cs_instance.specs.Instance.{definition}
 use Rattle.cs_instance.specs.Steps.{numbered}
 use Rattle.cs_question.specs.declared.nodes.Nodes.{Nodes}
+use Rattle.cs_question.specs.Nodes.{asked_of, Says}
 use Rattle.cs_question.specs.Truth.{IsShut}
 use Rattle.cs_question.proofs.Rooted.{same_name, no_separating}
 use Rattle.cs_question.proofs.questions.separating.Goals as goal
@@ -15,11 +16,11 @@ returns-then-has_none-clause-none c = λ e I J n m x i j named other d sep.
     let two = c.in_ok-second.second in
     let name = name_of E one.definition in
     let name' = name_of F two.definition in
-    let ns : Nodes = record { admitting = c.in_ok-nodes_of.field-0; refusing = c.in_ok-nodes_of-2.field-0 } in
+    let ns : Nodes = record { admitting = c.in_ok-side_of.field-0; refusing = c.in_ok-side_of-2.field-0 } in
     let table = c.in_ok-table.table in
     let asked = c.in_ok-asked.asked.items in
-    let first = c.in_ok-nodes_of.ensures ∙ ap₂ (λ inner rules. map (numbered inner) rules) c.deref-2.ensures.value c.deref.ensures.value in
-    let second = c.in_ok-nodes_of-2.ensures ∙ ap₂ (λ inner rules. map (numbered inner) rules) c.deref-4.ensures.value c.deref-3.ensures.value in
+    let first : Says (map (numbered one.numbering.children.items) one.numbering.rules.items) (map asked_of ns.admitting.items) = subst (λ cs. Says cs (map asked_of ns.admitting.items)) (ap₂ (λ inner rules. map (numbered inner) rules) c.deref-2.ensures.value c.deref.ensures.value) c.in_ok-side_of.ensures in
+    let second : Says (map (numbered two.numbering.children.items) two.numbering.rules.items) (map asked_of ns.refusing.items) = subst (λ cs. Says cs (map asked_of ns.refusing.items)) (ap₂ (λ inner rules. map (numbered inner) rules) c.deref-4.ensures.value c.deref-3.ensures.value) c.in_ok-side_of-2.ensures in
     let shut = subst (IsShut table.entries.items) c.deref-6.ensures.value (c.has_none.ensures c.if-has_none.true) in
     let r = c.in_ok-first.ensures.rooted in
     let q = c.in_ok-second.ensures.rooted in

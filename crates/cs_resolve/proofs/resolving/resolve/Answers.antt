@@ -1,4 +1,4 @@
-use Rattle.std.proofs.Common.{◌≡◌, ◌<◌, ◌≤◌, ◌↔◌, Bool, true, false, List, map, length, Some, None, IsTrue, String, Global, sym, ap, ◌∙◌, subst, arith}
+use Rattle.std.proofs.Common.{◌≡◌, ℕ, ◌<◌, ◌≤◌, ◌↔◌, Bool, true, false, List, map, length, Some, None, IsTrue, sym, ap, ◌∙◌, subst, arith}
 use Rattle.std.specs.List.{AllByRecursion, flat_map, list_all}
 use Rattle.std.proofs.lemmas.Result.{err_from_is_err_and}
 use Rattle.cs_grammar.specs.Tree.{FileTree, definitions}
@@ -21,7 +21,7 @@ use Rattle.cs_resolve.proofs.JoinedTrees.{joined-gathered}
 use Rattle.cs_resolve.proofs.OnePackage.{one_package}
 use Rattle.cs_resolve.proofs.OpeningRule.{opened_law}
 use Rattle.cs_resolve.proofs.resolving.resolve.Goals as goal
-use Rattle.cs_resolve.proofs.resolving.resolve.Goals.{then-len-gt-MOST_DEFINITIONS-via-then-len-gt-MOST_DEFINITIONS, then-len-gt-MOST_DEFINITIONS-via-else-len-gt-MOST_DEFINITIONS+then-not-has_few_nodes}
+use Rattle.cs_resolve.proofs.resolving.resolve.Goals.{then-count-gt-MOST_DEFINITIONS-via-then-count-gt-MOST_DEFINITIONS, then-count-gt-MOST_DEFINITIONS-via-else-count-gt-MOST_DEFINITIONS+then-not-has_few_nodes}
 
 -- the plain refinements of files, by their closed bases
 abbrev refinements : List File → Refinements
@@ -36,15 +36,12 @@ tells b fs held rs are =
     let ds = flat_map definitions (map file_view fs) in
     record { labels = bases ds; held = held; same = one_refinements ds (refinements fs) rs (are_refinements fs) are }
 
-module _ (fs : List FileTree) (es : List (String Global × String Global)) (found : names_of es ≡ names (flat_map definitions fs)) where
-  count : length (names (flat_map definitions fs)) ≡ length es
-  count = sym (ap length found) ∙ length-names es
+module _ (fs : List FileTree) (count : ℕ) (counted : count ≡ length (names (flat_map definitions fs))) where
+  is_small : (few : Bool) → count ≤ most_definitions → (IsTrue few ↔ (nodes_of_files fs ≤ most_nodes)) → few ≡ true → IsSmall fs
+  is_small few le nodes is = record { definitions = omega (arith, le, counted); nodes = nodes.0 is }
 
-  is_small : (few : Bool) → length es ≤ most_definitions → (IsTrue few ↔ (nodes_of_files fs ≤ most_nodes)) → few ≡ true → IsSmall fs
-  is_small few le nodes is = record { definitions = omega (arith, le, count); nodes = nodes.0 is }
-
-  many_names : most_definitions < length es → ¬ IsSmall fs
-  many_names l h = omega (arith, l, count, h.definitions)
+  many_names : most_definitions < count → ¬ IsSmall fs
+  many_names l h = omega (arith, l, counted, h.definitions)
 
   many_nodes : (few : Bool) → (IsTrue few ↔ (nodes_of_files fs ≤ most_nodes)) → few ≡ false → ¬ IsSmall fs
   many_nodes few nodes is h = let yes : few ≡ true = nodes.1 h.nodes in cc
@@ -55,27 +52,26 @@ returns-in-Some-clause-only c E h =
     let both : None ≡ Some c.in-Some.file = sym none ∙ c.in-Some.is in
     cc
 
-pub returns-then-len-gt-MOST_DEFINITIONS-clause-refused : goal.returns-then-len-gt-MOST_DEFINITIONS-clause-refused
-returns-then-len-gt-MOST_DEFINITIONS-clause-refused c =
+pub returns-then-count-gt-MOST_DEFINITIONS-clause-refused : goal.returns-then-count-gt-MOST_DEFINITIONS-clause-refused
+returns-then-count-gt-MOST_DEFINITIONS-clause-refused c =
     let fs = map file_view c.args.files.items in
-    let es = c.in_ok-names.names.entries in
-    let found = c.in_ok-names.ensures.found in (
+    let count = c.in_ok-count.count in
+    let counted = c.in_ok-count.ensures in (
       (one_package fs).0 (sym c.differing_file.ensures ∙ c.in_default.is),
-      elim c.then-len-gt-MOST_DEFINITIONS.branch [
-        | then-len-gt-MOST_DEFINITIONS-via-then-len-gt-MOST_DEFINITIONS w ↦ many_names fs es found (omega (arith, w.if-len-gt-MOST_DEFINITIONS.true, c.len.ensures.len))
-        | then-len-gt-MOST_DEFINITIONS-via-else-len-gt-MOST_DEFINITIONS+then-not-has_few_nodes w ↦ many_nodes fs es found w.has_few_nodes.result w.has_few_nodes.ensures w.if-not-has_few_nodes.true
+      elim c.then-count-gt-MOST_DEFINITIONS.branch [
+        | then-count-gt-MOST_DEFINITIONS-via-then-count-gt-MOST_DEFINITIONS w ↦ many_names fs count counted (omega (arith, w.if-count-gt-MOST_DEFINITIONS.true))
+        | then-count-gt-MOST_DEFINITIONS-via-else-count-gt-MOST_DEFINITIONS+then-not-has_few_nodes w ↦ many_nodes fs count counted w.has_few_nodes.result w.has_few_nodes.ensures w.if-not-has_few_nodes.true
       ],
     )
 
 pub returns-in_err-bodies-clause-refused : goal.returns-in_err-bodies-clause-refused
 returns-in_err-bodies-clause-refused c =
     let fs = map file_view c.args.files.items in
-    let es = c.in_ok-names.names.entries in
     let found = c.in_ok-names.ensures.found in
     let e = c.in_err-bodies.field-0.0 in
     let p = err_from_is_err_and c.from_residual-in_err-bodies.result c.from_residual-in_err-bodies.ensures.1 in
     let one = (one_package fs).0 (sym c.differing_file.ensures ∙ c.in_default.is) in
-    let small = is_small fs es found c.has_few_nodes.result (omega (arith, c.if-len-gt-MOST_DEFINITIONS.false, c.len.ensures.len)) c.has_few_nodes.ensures c.if-not-has_few_nodes.false in
+    let small = is_small fs c.in_ok-count.count c.in_ok-count.ensures c.has_few_nodes.result (omega (arith, c.if-count-gt-MOST_DEFINITIONS.false)) c.has_few_nodes.ensures c.if-not-has_few_nodes.false in
     rw (p.1, p.2) (name-refusal e fs one small (refusal-same e _ _ (ap (λ ns. faults_from 0 ns fs) found) (c.in_err-bodies.ensures (refinements c.args.files.items) (tells c.in_ok-bases.bases c.args.files.items c.in_ok-bases.ensures (refinements c.args.files.items) (are_refinements c.args.files.items)))))
 
 pub returns-in_err-bodies-clause-only : goal.returns-in_err-bodies-clause-only
@@ -90,11 +86,10 @@ returns-in_err-check_opened-clause-refused c =
     let fs = map file_view c.args.files.items in
     let rs = refinements c.args.files.items in
     let are = are_refinements c.args.files.items in
-    let es = c.in_ok-names.names.entries in
     let found = c.in_ok-names.ensures.found in
     let p = err_from_is_err_and c.from_residual-in_err-check_opened.result c.from_residual-in_err-check_opened.ensures.1 in
     let one = (one_package fs).0 (sym c.differing_file.ensures ∙ c.in_default.is) in
-    let small = is_small fs es found c.has_few_nodes.result (omega (arith, c.if-len-gt-MOST_DEFINITIONS.false, c.len.ensures.len)) c.has_few_nodes.ensures c.if-not-has_few_nodes.false in
+    let small = is_small fs c.in_ok-count.count c.in_ok-count.ensures c.has_few_nodes.result (omega (arith, c.if-count-gt-MOST_DEFINITIONS.false)) c.has_few_nodes.ensures c.if-not-has_few_nodes.false in
     let resolved = sym (ap (λ ns. faults_from 0 ns fs) found) ∙ (c.in_ok-bodies.ensures (refinements c.args.files.items) (tells c.in_ok-bases.bases c.args.files.items c.in_ok-bases.ensures (refinements c.args.files.items) (are_refinements c.args.files.items))).1 in
     rw (p.1, p.2) (opening-refusal c.in_err-check_opened.field-0.0 fs rs are one small resolved (c.in_err-check_opened.ensures rs (tells c.in_ok-bases.bases c.args.files.items c.in_ok-bases.ensures rs are)))
 
@@ -127,7 +122,7 @@ returns-clause-found c =
     let shaped = c.in_ok-bodies.ensures rs told in
     record {
       agree = (one_package fs).0 (sym c.differing_file.ensures ∙ c.in_default.is);
-      small = is_small fs es found c.has_few_nodes.result (omega (arith, c.if-len-gt-MOST_DEFINITIONS.false, c.len.ensures.len)) c.has_few_nodes.ensures c.if-not-has_few_nodes.false;
+      small = is_small fs c.in_ok-count.count c.in_ok-count.ensures c.has_few_nodes.result (omega (arith, c.if-count-gt-MOST_DEFINITIONS.false)) c.has_few_nodes.ensures c.if-not-has_few_nodes.false;
       resolved = sym (ap (λ ns. faults_from 0 ns fs) found) ∙ shaped.1;
       refinements = rs;
       are_refinements = are;

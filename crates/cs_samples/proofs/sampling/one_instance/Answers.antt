@@ -1,13 +1,13 @@
-use Rattle.std.proofs.Common.{◌≡◌, ℕ, List, [], ◌∷◌, ◌++◌, Bool, true, false, map, refl, sym, ap, ◌∙◌, subst}
+use Rattle.std.proofs.Common.{◌≡◌, ℕ, List, [], ◌∷◌, ◌++◌, Bool, true, false, refl, sym, ap, ◌∙◌, subst}
 use Rattle.std.specs.List.{IsDistinct}
 use Rattle.std.specs.Option.{is_some}
-use Rattle.cs_document.specs.Document.{Document, document_eq}
+use Rattle.cs_document.specs.Document.{Document}
 use Rattle.cs_document.specs.View.{doc_view}
 use Rattle.cs_instance.specs.Instance.{Rule, definition, IsInstance}
 use Rattle.cs_package.specs.Environment.{Names}
 use Rattle.cs_question.specs.ReadAgain.{IsReadAgain}
 use Rattle.cs_question.specs.Separates.{Separates}
-use Rattle.cs_samples.specs.Sample.{AreSamples}
+use Rattle.cs_samples.specs.Sample.{AreSamples, same_text}
 use Rattle.cs_variants.specs.declared.sampled.Sampled.TheVariants.{Valid}
 use Rattle.cs_samples.proofs.Kept.{distinct-none, distinct-one}
 use Rattle.cs_samples.proofs.sampling.one_instance.Goals as goal
@@ -17,14 +17,11 @@ is_false true h = absurd (h refl)
 is_false false h = refl
 
 pub returns-in-None-clause-distinct : goal.returns-in-None-clause-distinct
-returns-in-None-clause-distinct c = subst (λ ds. IsDistinct document_eq (map doc_view ds)) (sym c.new.ensures.items) distinct-none
+returns-in-None-clause-distinct c = subst (λ ts. IsDistinct same_text ts) (sym (ap (λ v. v.items) c.alone.ensures.texts ∙ c.new.ensures.items)) distinct-none
 
 pub returns-in-None-clause-none : goal.returns-in-None-clause-none
 returns-in-None-clause-none c = λ e I n x is named fits.
     is_false (I (definition n) x) (λ holds. c.in_ok-instance_of.ensures.none (ap is_some c.in-None.is) I n x is named fits ((holds, tt), tt))
-
-only_one : (c : goal.In_ok-push-in-Some) → c.push.new.self.items ≡ c.in-Some.doc ∷ []
-only_one c = c.in_ok-push-in-Some.ensures.items ∙ ap (λ ds. ds ++ c.in-Some.doc ∷ []) c.new-docs.ensures.items
 
 pub returns-in_ok-push-in-Some-clause-samples : goal.returns-in_ok-push-in-Some-clause-samples
 returns-in_ok-push-in-Some-clause-samples c =
@@ -32,7 +29,10 @@ returns-in_ok-push-in-Some-clause-samples c =
     let root = c.args.asking.now.root.now in
     let one : (I : Rule → Document → Bool) (n : List ℕ) → IsInstance E I → Names E root n → Separates (I (definition n) ∷ []) [] (doc_view c.in-Some.doc) = rw c.in-Some.is at c.in_ok-instance_of.ensures.one in
     let read : IsReadAgain (doc_view c.in-Some.doc) = rw c.in-Some.is at c.in_ok-instance_of.ensures.read in
-    subst (AreSamples E root Valid) (sym (only_one c)) ((read, λ I n is named. (one I n is named).0.0), tt)
+    let alone = ap (λ v. v.items) c.alone-in-Some.ensures.texts ∙ c.in_ok-push-in-Some.ensures.items ∙ ap (λ ts. ts ++ c.in_ok-text-in-Some.text ∷ []) c.new-texts.ensures.items in
+    subst (AreSamples E root Valid) (sym alone) ((doc_view c.in-Some.doc, (read, λ I n is named. (one I n is named).0.0), c.in_ok-text-in-Some.ensures.text), tt)
 
 pub returns-in_ok-push-in-Some-clause-distinct : goal.returns-in_ok-push-in-Some-clause-distinct
-returns-in_ok-push-in-Some-clause-distinct c = subst (λ ds. IsDistinct document_eq (map doc_view ds)) (sym (only_one c)) (distinct-one (doc_view c.in-Some.doc))
+returns-in_ok-push-in-Some-clause-distinct c =
+    let alone = ap (λ v. v.items) c.alone-in-Some.ensures.texts ∙ c.in_ok-push-in-Some.ensures.items ∙ ap (λ ts. ts ++ c.in_ok-text-in-Some.text ∷ []) c.new-texts.ensures.items in
+    subst (λ ts. IsDistinct same_text ts) (sym alone) (distinct-one c.in_ok-text-in-Some.text)

@@ -1,0 +1,189 @@
+// How texts that users wrote are shown to people: on their line, with nothing that a terminal obeys or that changes how what is
+// around them looks.
+ghost use Rattle.std.specs.Prelude.{◌≡◌, ◌++◌, ◌/◌, OnOk, string_bytes, encode_utf8, encode_utf8_all};
+ghost use Rattle.cs_place.specs.Shown.{is_hidden, last_digit, letter_or_digits, shown_by, quoted_by, shown, quoted, place_text};
+
+use itoa::Buffer;
+use std::alloc::{AllocError, Global};
+use std::marker::Model;
+
+/// Whether a character isn't shown as it is: a control character, one that changes the direction of what is around it, a separator of
+/// lines or paragraphs, or one without a width.
+pub fn is_hidden(character: char) -> bool
+    ensures { result ≡ is_hidden character }
+{
+    matches!(
+        character,
+        '\u{0}'..='\u{1f}'
+            | '\u{7f}'..='\u{9f}'
+            | '\u{61c}'
+            | '\u{200b}'..='\u{200f}'
+            | '\u{2028}'..='\u{202e}'
+            | '\u{2060}'
+            | '\u{2066}'..='\u{2069}'
+            | '\u{feff}'
+    )
+}
+
+/// The digit of a number's last four bits.
+fn hex_digit(number: u32) -> char
+    ensures { result ≡ last_digit number }
+{
+    char::from_digit(number % 16, 16).unwrap_or('0')
+}
+
+/// Puts what follows the backslash of an escape (RFC 8259, section 7).
+fn put_escape(text: &mut String, hidden: char) -> Result<(), AllocError>
+    ensures { OnOk result (string_bytes text.new
+        ≡ string_bytes text.old ++ encode_utf8_all (letter_or_digits hidden)) }
+{
+    match hidden {
+        '\n' => text.push('n'),
+        '\r' => text.push('r'),
+        '\t' => text.push('t'),
+        _ => put_digits(text, hidden as u32),
+    }
+}
+
+/// Puts the number of a character in four digits.
+fn put_digits(text: &mut String, number: u32) -> Result<(), AllocError>
+    ensures { OnOk result (string_bytes text.new ≡ string_bytes text.old
+        ++ encode_utf8 117
+        ++ encode_utf8 (last_digit (number / 4096))
+        ++ encode_utf8 (last_digit (number / 256))
+        ++ encode_utf8 (last_digit (number / 16))
+        ++ encode_utf8 (last_digit number)) }
+{
+    text.push('u')?;
+    text.push(hex_digit(number / 4096))?;
+    text.push(hex_digit(number / 256))?;
+    text.push(hex_digit(number / 16))?;
+    text.push(hex_digit(number))
+}
+
+/// Puts a character as it is shown.
+fn put_character(text: &mut String, character: char) -> Result<(), AllocError>
+    ensures { OnOk result (string_bytes text.new
+        ≡ string_bytes text.old ++ encode_utf8_all (shown_by character)) }
+{
+    if !is_hidden(character) {
+        return text.push(character);
+    }
+    text.push('\\')?;
+    put_escape(text, character)
+}
+
+/// Puts a text as it is shown: each of its characters that isn't shown as it is in its escape (RFC 8259, section 7).
+///
+/// # Errors
+/// Memory ran out.
+pub fn put_shown(text: &mut String, inside: &str) -> Result<(), AllocError>
+    ensures { OnOk result (string_bytes text.new ≡ string_bytes text.old ++ shown inside.now) }
+{
+    for character in inside.chars() {
+        put_character(text, character)?;
+    }
+    Ok(())
+}
+
+/// Puts a character as it is shown in a string of JSON (RFC 8259, section 7).
+///
+/// # Errors
+/// Memory ran out.
+pub fn put_in_string(text: &mut String, character: char) -> Result<(), AllocError>
+    ensures { OnOk result (string_bytes text.new
+        ≡ string_bytes text.old ++ encode_utf8_all (quoted_by character)) }
+{
+    if character == '"' || character == '\\' {
+        text.push('\\')?;
+        return text.push(character);
+    }
+    put_character(text, character)
+}
+
+/// Puts a text as a string of JSON that is shown.
+///
+/// # Errors
+/// Memory ran out.
+pub fn put_quoted(text: &mut String, inside: &str) -> Result<(), AllocError>
+    ensures { OnOk result (string_bytes text.new ≡ string_bytes text.old ++ quoted inside.now) }
+{
+    text.push_str("\"")?;
+    for character in inside.chars() {
+        put_in_string(text, character)?;
+    }
+    text.push_str("\"")
+}
+
+/// Puts a place in a text of that name: `NAME:LINE:COLUMN`.
+///
+/// # Errors
+/// Memory ran out.
+pub fn put_place(
+    text: &mut String,
+    name: &str,
+    line: usize,
+    column: usize,
+) -> Result<(), AllocError>
+    ensures { OnOk result (string_bytes text.new
+        ≡ string_bytes text.old ++ place_text name.now line column) }
+{
+    put_shown(text, name)?;
+    text.push_str(":")?;
+    text.push_str(Buffer::new().format(line))?;
+    text.push_str(":")?;
+    text.push_str(Buffer::new().format(column))
+}
+
+/// A name that lines for people begin with. Contracts see the bytes of the name.
+#[derive(Drop)]
+pub struct Label<'a> {
+    name: &'a str,
+    /// The name as it is shown.
+    line: String,
+}
+
+impl<'a> Model for Label<'a> {
+    ghost use Rattle.std.specs.Prelude.{◌≡◌, ℕ, List, string_bytes};
+    ghost use Rattle.cs_place.specs.Shown.{shown};
+
+    ghost Value = { List ℕ };
+
+    ghost view = { λ l. l.name.now };
+
+    ghost invariant = { λ l. string_bytes l.line ≡ shown l.name.now };
+}
+
+impl<'a> Label<'a> {
+    ghost use Rattle.std.specs.Prelude.{◌≡◌, IfOk};
+    ghost use Rattle.std.specs.Str.{NoCharPasses};
+    ghost use Rattle.cs_place.specs.Shown.{is_hidden, shown};
+
+    /// The label of a name.
+    ///
+    /// # Errors
+    /// Memory ran out.
+    pub fn of(alloc: Global, name: &'a str) -> Result<Label<'a>, AllocError>
+        ensures { IfOk result (λ l. l ≡ name.now) }
+    {
+        let mut line = String::new(alloc);
+        put_shown(&mut line, name)?;
+        Ok(Label { name, line })
+    }
+
+    /// The name itself.
+    pub fn name(&self) -> &str
+        ensures { result.now ≡ self.now }
+    {
+        self.name
+    }
+
+    /// The name as it is shown: no character in it is a control character, changes the direction of what is around it, ends a line, or
+    /// has no width.
+    pub fn shown(&self) -> &str
+        ensures text { result.now ≡ shown self.now }
+        ensures plain { NoCharPasses is_hidden result.now }
+    {
+        self.line.as_str()
+    }
+}
