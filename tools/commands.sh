@@ -596,6 +596,21 @@ printf '"\342\201\246a\357\273\277\177"' > turned.json
 try_run 1 'invalid
 turned.json:1:1: (root): found "\u2066a\ufeff\u007f", want int [turned.cue:1:5 #A]' '' \
     'echo "#A: int" > turned.cue; run vet --why --root "#A" --doc turned.json turned.cue'
+# Nor can labels and texts of sources, in the documents that are the answer: these are read as what they stand for.
+printf '#A: {"\302\205a\177": "\342\200\256b\342\200\213\342\200\251", n: int}\n' > hidden.cue
+printf '#A: {"\302\205a\177": "b", n: int}\n' > other.cue
+hidden='{"n":0,"\u0085a\u007f":"\u202eb\u200b\u2029"}'
+try_run 0 "$hidden" '' 'run samples --root "#A" hidden.cue'
+try valid 'run samples --root "#A" hidden.cue > hidden.json; run vet --root "#A" --doc hidden.json hidden.cue'
+try_run 0 5 '' 'run samples --invalid --root "#A" hidden.cue | LC_ALL=C grep -v "[^ -~]" | grep -c u0085'
+try_run 1 "breaking
+$hidden" '' 'run compare --root "#A" --old hidden.cue --new other.cue'
+try_run 1 "breaking
+$hidden
+document:1:24: /\u0085a\u007f: found \"\u202eb\u200b\u2029\", want \"b\" [other.cue:1:13 #A.\"\u0085a\u007f\"]" '' \
+    'run compare --why --root "#A" --old hidden.cue --new other.cue'
+try_run 1 "{\"compatible\":false,\"document\":$hidden,\"report\":" '' \
+    'run compare --format json --root "#A" --old hidden.cue --new other.cue | sed "s/\(\"report\":\).*/\1/"'
 
 # A schema in a file: written beside it and renamed, so that a refused run leaves the old file. Nothing is left beside it.
 try_run 0 "$port_text" '' 'run export --root "#P" -o new.json port.cue; cat new.json; find . -name "new.json.*"'

@@ -59,8 +59,8 @@ THINGS = (
         "|",
         ("Or(", ".Or", "-Or", "…disjunction…"),
         (
-            (("cs_instance", "cs_question"), ("Any(", "node.Any", "Some-Any")),
-            (("cs_instance", "cs_compile", "cs_question"), ("…any_of",)),
+            (("cs_instance", "cs_instance_reasons", "cs_question"), ("Any(", "node.Any", "Some-Any")),
+            (("cs_instance", "cs_instance_reasons", "cs_compile", "cs_question"), ("…any_of",)),
         ),
     ),
     Thing(

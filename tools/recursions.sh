@@ -11,13 +11,13 @@ cd "$(dirname "$0")/.."
 # The parser goes down by the brackets that are open, of which it refuses the 29th; the height of a body is followed 28 deep; a
 # document is read 127 levels deep. Literals are looked for 16 rules deep, and two edits are looked for between names. Why a definition
 # has no instance is looked for 64 parts deep.
-limited='crates/cs_doc/proofs/listing/Listing/+read
-crates/cs_findings/proofs/why_empty/Search/+why
-crates/cs_instance/proofs/near/literals/Search/+leading
-crates/cs_instance/proofs/near/names/+are_near
-crates/cs_report/proofs/wording/+are_near
+limited='crates/cs_check/proofs/warnings/why_empty/Search/+why
+crates/cs_doc/proofs/listing/Listing/+read
+crates/cs_instance_reasons/proofs/near/literals/Search/+leading
+crates/cs_instance_reasons/proofs/near/names/+are_near
 crates/cs_syntax/proofs/parser/height/+height
-crates/cs_syntax/proofs/parser/place/Parser/+parse'
+crates/cs_syntax/proofs/parser/place/Parser/+parse
+crates/cs_text/proofs/near/+are_near'
 
 # The proofs of a recursion are in a folder whose name begins with `+`. The measure of the function f is `decreases-f` there, and
 # that of a loop in it has a further part.

@@ -6,11 +6,11 @@ use crate::labels::{Labelled, field_of, value_without};
 use crate::sentences::{
     sentence_of_character, sentence_of_comparison, sentence_of_number, sentence_of_package,
 };
-use crate::sources::Source;
 use crate::text::{put_line, put_spelled};
 use crate::unknown::{put_field_reference, put_kind, put_unknown};
-use cs_forms::{Form, Found, Near, follows_label};
+use cs_forms::{Form, Found};
 use cs_grammar::{Sort, Token};
+use cs_sources::{Near, Source, follows_label};
 use std::alloc::{AllocError, Global};
 use std::str;
 
@@ -30,8 +30,8 @@ pub(crate) fn text_of(bytes: Option<&[u8]>) -> &str {
 pub fn put_advice(
     alloc: Global,
     text: &mut String,
-    source: &Source<'_, '_>,
-    sources: &[Source<'_, '_>],
+    source: &Source<'_>,
+    sources: &[Source<'_>],
     found: Found,
 ) -> Result<(), AllocError> {
     let shown = text_of(source.named.text.get(found.start..found.end));
@@ -42,8 +42,8 @@ pub fn put_advice(
         Form::StrayCharacter => text.push_str(sentence_of_character(shown)),
         Form::UnknownKind => put_kind(text, shown),
         Form::UnknownName | Form::UnknownDefinition => put_unknown(alloc, text, shown, sources),
-        _ => match Near::at(&source.tokens, found.start) {
-            Some(near) => put_advice_near(alloc, text, source, sources, near, found.form),
+        _ => match Near::at(source, found.start) {
+            Some(near) => put_advice_near(alloc, text, sources, near, found.form),
             None => text.push_str(sentence_of(found.form)),
         },
     }
@@ -66,33 +66,32 @@ fn said_of(form: Form, shown: &str) -> Option<(&'static str, &'static str)> {
 fn put_advice_near(
     alloc: Global,
     text: &mut String,
-    source: &Source<'_, '_>,
-    sources: &[Source<'_, '_>],
+    sources: &[Source<'_>],
     near: Near<'_, '_>,
     form: Form,
 ) -> Result<(), AllocError> {
     match form {
-        Form::DefaultMark => put_default(text, source.named.text, near),
+        Form::DefaultMark => put_default(text, near),
         Form::Let => put_let(text, near),
         Form::HiddenName => put_hidden(text, near),
-        Form::EmbeddedDefinition => put_embedded_definition(text, source.named.text, near),
+        Form::EmbeddedDefinition => put_embedded_definition(text, near),
         Form::EmbeddedStruct => put_embedded_struct(alloc, text, near),
         Form::Limit => put_limit(text, near, "a literal"),
         Form::LimitKind => put_limit(text, near, limits_of(near.before(1))),
         Form::TopLevelField => put_field_at_top(text, near.here()),
-        Form::FieldReference => put_field_reference(text, source.named.text, near),
+        Form::FieldReference => put_field_reference(alloc, text, near),
         Form::NotOpened => put_not_opened(alloc, text, sources, near),
         _ => text.push_str(sentence_of(form)),
     }
 }
 
 /// Puts that a default mark is left out, and what to write.
-fn put_default(text: &mut String, source: &[u8], near: Near<'_, '_>) -> Result<(), AllocError> {
+fn put_default(text: &mut String, near: Near<'_, '_>) -> Result<(), AllocError> {
     text.push_str("default marks are left out; ")?;
     match field_of(near) {
         // Behind a `!` a default is never filled in: documents have to have the field.
         Some(field) if field.label.sort != Sort::Definition && !field.is_required => {
-            put_optional(text, source, field, near.here())
+            put_optional(text, near, field)
         }
         _ => text.push_str("take it out"),
     }
@@ -101,11 +100,10 @@ fn put_default(text: &mut String, source: &[u8], near: Near<'_, '_>) -> Result<(
 /// Puts that a field may be left out, with the rest of its value, in place of a default mark.
 fn put_optional(
     text: &mut String,
-    source: &[u8],
+    mark: Near<'_, '_>,
     field: Labelled<'_>,
-    mark: Token<'_>,
 ) -> Result<(), AllocError> {
-    let (before, behind) = match value_without(source, field, mark) {
+    let (before, behind) = match value_without(mark, field) {
         Some((before, behind)) => (
             text_of(Some(before)).trim_ascii_start(),
             text_of(Some(behind)),

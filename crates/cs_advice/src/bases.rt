@@ -1,9 +1,8 @@
 // What is said of struct literals that have to end with `...` (11).
-use crate::labels::{depth_before, depth_behind, group_len, labels_named, separates};
-use crate::sources::{Declared, Source, declared_in};
+use crate::labels::labels_named;
 use crate::text::put_line;
-use cs_forms::Near;
 use cs_grammar::{Sort, Token};
+use cs_sources::{Declared, Near, Source, declared_in, separates};
 use std::alloc::{AllocError, Global};
 
 /// How many operands are looked at on each side.
@@ -17,7 +16,7 @@ const MOST_NAMED: usize = 3;
 pub(crate) fn put_not_opened(
     alloc: Global,
     text: &mut String,
-    sources: &[Source<'_, '_>],
+    sources: &[Source<'_>],
     near: Near<'_, '_>,
 ) -> Result<(), AllocError> {
     if near.before(1).text == ":" && put_repeated(alloc, text, sources, near)? {
@@ -31,7 +30,7 @@ pub(crate) fn put_not_opened(
 fn put_joined(
     alloc: Global,
     text: &mut String,
-    sources: &[Source<'_, '_>],
+    sources: &[Source<'_>],
     bases: &[&str],
 ) -> Result<(), AllocError> {
     if bases.is_empty() {
@@ -62,10 +61,10 @@ fn put_bases(text: &mut String, bases: &[&str]) -> Result<(), AllocError> {
 }
 
 /// Whether each of these definitions is one struct literal that ends with `...`, where it is declared first.
-fn are_opened(declared: &Declared<'_, '_, '_>, bases: &[&str]) -> bool {
+fn are_opened(declared: &Declared<'_, '_>, bases: &[&str]) -> bool {
     for base in bases {
         match declared.of(base) {
-            Some(declaration) if is_opened(declaration.label) => {}
+            Some(definition) if is_opened(definition) => {}
             _ => return false,
         }
     }
@@ -74,14 +73,21 @@ fn are_opened(declared: &Declared<'_, '_, '_>, bases: &[&str]) -> bool {
 
 /// The same for the definition of a label.
 fn is_opened(label: Near<'_, '_>) -> bool {
-    let Some(bracket) = label.moved(2) else {
-        return false;
-    };
-    let len = group_len(bracket).unwrap_or(0);
-    // A comma may be behind the `...`.
-    let last = bracket.behind(len.saturating_sub(2));
-    let before = bracket.behind(len.saturating_sub(3));
-    bracket.here().text == "{" && (last.text == "..." || before.text == "...")
+    match literal_end(label) {
+        // A comma may be behind the `...`.
+        Some(end) => end.before(1).text == "..." || end.before(2).text == "...",
+        None => false,
+    }
+}
+
+/// The bracket that closes the struct literal at the front of a definition.
+fn literal_end<'s, 'a>(label: Near<'s, 'a>) -> Option<Near<'s, 'a>> {
+    let end = label.moved(2)?.closing()?;
+    if end.here().text == "}" {
+        Some(end)
+    } else {
+        None
+    }
 }
 
 /// The definitions that the struct at a token is joined with, in the innermost conjunction that has any.
@@ -133,16 +139,15 @@ fn add_token<'a>(
 /// Adds the definitions that are joined before an operand, the nearest first.
 fn add_before<'a>(operand: Near<'_, 'a>, bases: &mut Vec<&'a str>) -> Result<(), AllocError> {
     let mut operands = 0;
-    let mut depth = 0;
-    for steps in 1..usize::MAX {
-        let token = operand.before(steps);
-        if depth == 0 && !add_token(token, &mut operands, bases)? {
+    let mut before = operand.previous();
+    for _ in 0..operand.place {
+        let Some(near) = before else {
+            return Ok(());
+        };
+        if !add_token(near.here(), &mut operands, bases)? {
             return Ok(());
         }
-        match depth_before(token, depth) {
-            Some(deeper) => depth = deeper,
-            None => return Ok(()),
-        }
+        before = near.previous();
     }
     Ok(())
 }
@@ -150,16 +155,15 @@ fn add_before<'a>(operand: Near<'_, 'a>, bases: &mut Vec<&'a str>) -> Result<(),
 /// Adds the definitions that are joined behind an operand.
 fn add_behind<'a>(operand: Near<'_, 'a>, bases: &mut Vec<&'a str>) -> Result<(), AllocError> {
     let mut operands = 0;
-    let mut depth = depth_behind(operand.here(), 0).unwrap_or(0);
-    for steps in 1..usize::MAX {
-        let token = operand.behind(steps);
-        if depth == 0 && !add_token(token, &mut operands, bases)? {
+    let mut behind = operand.next();
+    for _ in operand.place..operand.source.tokens.len() {
+        let Some(near) = behind else {
+            return Ok(());
+        };
+        if !add_token(near.here(), &mut operands, bases)? {
             return Ok(());
         }
-        match depth_behind(token, depth) {
-            Some(deeper) => depth = deeper,
-            None => return Ok(()),
-        }
+        behind = near.next();
     }
     Ok(())
 }
@@ -168,7 +172,7 @@ fn add_behind<'a>(operand: Near<'_, 'a>, bases: &mut Vec<&'a str>) -> Result<(),
 fn put_repeated(
     alloc: Global,
     text: &mut String,
-    sources: &[Source<'_, '_>],
+    sources: &[Source<'_>],
     near: Near<'_, '_>,
 ) -> Result<bool, AllocError> {
     let label = near.before(2);
@@ -177,17 +181,18 @@ fn put_repeated(
             let labels = labels_named(alloc, bracket, label.text)?;
             put_repeated_field(text, label.text, &labels)
         }
-        None => put_repeated_definition(text, sources, label),
+        None => put_repeated_definition(alloc, text, sources, label),
     }
 }
 
 /// Puts that a definition is declared several times, if it is.
 fn put_repeated_definition(
+    alloc: Global,
     text: &mut String,
-    sources: &[Source<'_, '_>],
+    sources: &[Source<'_>],
     label: Token<'_>,
 ) -> Result<bool, AllocError> {
-    let times = times_declared(sources, label.text);
+    let times = declared_in(alloc, sources)?.times(label.text);
     if label.sort != Sort::Definition || times < 2 {
         return Ok(false);
     }
@@ -246,18 +251,4 @@ fn are_short(labels: &[Near<'_, '_>]) -> bool {
         }
     }
     true
-}
-
-/// How often the sources declare a definition.
-fn times_declared(sources: &[Source<'_, '_>], name: &str) -> usize {
-    let mut times = 0usize;
-    for source in sources {
-        for pair in source.tokens.windows(2) {
-            if let [token, colon] = pair {
-                let is_declared = token.text == name && colon.text == ":";
-                times = times.saturating_add(usize::from(is_declared));
-            }
-        }
-    }
-    times
 }

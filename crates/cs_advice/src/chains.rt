@@ -1,84 +1,47 @@
 // Chains of references that are too long (16).
-use crate::cycles::put_declaration;
-use crate::graph::{Graph, Node};
-use crate::sources::{Declaration, Declared, Source, declared_in};
+use crate::cycles::put_named;
 use crate::spot::Spot;
-use crate::strong::add_strong;
 use crate::text::put_line;
+use cs_sources::{Declared, Source, declared_in};
 use itoa::Buffer;
 use std::alloc::{AllocError, Global};
 
-/// How many references a chain may have.
-const MOST_REFERENCES: usize = 64;
 /// How many definitions are named at the beginning of a chain.
 const MOST_NAMED: usize = 4;
 
-/// The chains of the definitions.
-fn graph_of(
-    alloc: Global,
-    sources: &[Source<'_, '_>],
-    declared: &Declared<'_, '_, '_>,
-) -> Result<Graph, AllocError> {
-    let mut graph = Graph::new(alloc, declared.all.len())?;
-    for source in sources {
-        add_strong(alloc, &source.tokens, &declared.places, &mut graph)?;
-    }
-    graph.find(alloc)?;
-    Ok(graph)
-}
-
-/// Puts the first chain of references that is too long (16), and gives the place of its first definition; nothing and no place where
-/// the tokens of the sources show none.
+/// Puts a chain of definitions by their names, each of which refers to the next (16), and gives the place of the first one; nothing
+/// and no place where the sources don't declare that.
 ///
 /// # Errors
 /// Memory ran out.
 pub fn put_chain<'a>(
     alloc: Global,
     text: &mut String,
-    sources: &[Source<'a, '_>],
+    sources: &[Source<'a>],
+    names: &[String],
 ) -> Result<Spot<'a>, AllocError> {
     let declared = declared_in(alloc, sources)?;
-    let graph = graph_of(alloc, sources, &declared)?;
-    match first_too_long(&graph.nodes) {
-        Some(first) => put_chain_from(text, &declared.all, &graph.nodes, first, sources.len() > 1),
-        None => Ok(Spot::nowhere()),
-    }
-}
-
-/// The place of the first definition with a chain that is too long.
-fn first_too_long(nodes: &[Node]) -> Option<usize> {
-    for (place, node) in nodes.iter().enumerate() {
-        if node.height > MOST_REFERENCES {
-            return Some(place);
-        }
-    }
-    None
-}
-
-/// Puts the longest chain from a definition, and gives the place of that.
-fn put_chain_from<'n>(
-    text: &mut String,
-    declared: &[Declaration<'_, 'n, '_>],
-    nodes: &[Node],
-    first: usize,
-    shows_files: bool,
-) -> Result<Spot<'n>, AllocError> {
-    let (Some(declaration), Some(node)) = (declared.get(first), nodes.get(first)) else {
+    let (Some(first), Some(last)) = (names.first(), names.last()) else {
         return Ok(Spot::nowhere());
     };
-    put_links(text, declared, nodes, first, node.height, shows_files)?;
-    Ok(Spot::at_token(declaration.named, declaration.label.here()))
+    let Some(declaration) = declared.of(first.as_str()) else {
+        return Ok(Spot::nowhere());
+    };
+    let shows_files = sources.len() > 1;
+    put_front(text, &declared, names, shows_files)?;
+    let remedy = ": nest less deeply, or write one of the references as an alternative to `_|_`";
+    put_named(text, &declared, last.as_str(), shows_files, remedy)?;
+    Ok(Spot::near(declaration))
 }
 
-/// Puts a chain of so many references: its first definitions, how many more, and the last one.
-fn put_links(
+/// Puts how many references a chain has, its first definitions, and how many more there are before the last one.
+fn put_front(
     text: &mut String,
-    declared: &[Declaration<'_, '_, '_>],
-    nodes: &[Node],
-    first: usize,
-    count: usize,
+    declared: &Declared<'_, '_>,
+    names: &[String],
     shows_files: bool,
 ) -> Result<(), AllocError> {
+    let count = names.len().saturating_sub(1);
     put_line(
         text,
         &[
@@ -86,43 +49,9 @@ fn put_links(
             " references in a chain, and 64 may be: ",
         ],
     )?;
-    let mut place = first;
-    for _ in 0..MOST_NAMED {
-        put_link(text, declared, place, shows_files, " -> ")?;
-        place = next_of(nodes, place);
+    for name in names.iter().take(MOST_NAMED) {
+        put_named(text, declared, name.as_str(), shows_files, " -> ")?;
     }
     let left = count.saturating_sub(MOST_NAMED);
-    put_line(text, &[Buffer::new().format(left), " more -> "])?;
-    for _ in 0..left {
-        place = next_of(nodes, place);
-    }
-    put_link(
-        text,
-        declared,
-        place,
-        shows_files,
-        ": nest less deeply, or write one of the references as an alternative to `_|_`",
-    )
-}
-
-/// Puts the definition at a place, and words behind it.
-fn put_link(
-    text: &mut String,
-    declared: &[Declaration<'_, '_, '_>],
-    place: usize,
-    shows_file: bool,
-    words: &str,
-) -> Result<(), AllocError> {
-    match declared.get(place) {
-        Some(declaration) => put_declaration(text, *declaration, shows_file, words),
-        None => Ok(()),
-    }
-}
-
-/// The next definition in the longest chain from one; itself at the end.
-fn next_of(nodes: &[Node], place: usize) -> usize {
-    match nodes.get(place) {
-        Some(node) => node.next.unwrap_or(place),
-        None => place,
-    }
+    put_line(text, &[Buffer::new().format(left), " more -> "])
 }

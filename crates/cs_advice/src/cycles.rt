@@ -1,9 +1,9 @@
 // Cycles of definitions (12).
 use crate::labels::field_with;
-use crate::sources::{Declaration, Declared, Source, declared_in};
 use crate::spot::Spot;
 use crate::text::put_line;
 use cs_place::position_of;
+use cs_sources::{Declared, Near, Source, declared_in};
 use itoa::Buffer;
 use std::alloc::{AllocError, Global};
 
@@ -18,7 +18,7 @@ const MOST_IN_CYCLE: usize = 16;
 pub fn put_cycle<'a>(
     alloc: Global,
     text: &mut String,
-    sources: &[Source<'a, '_>],
+    sources: &[Source<'a>],
     names: &[String],
 ) -> Result<Spot<'a>, AllocError> {
     let declared = declared_in(alloc, sources)?;
@@ -29,22 +29,20 @@ pub fn put_cycle<'a>(
         return Ok(Spot::nowhere());
     };
     put_places(text, &declared, names, sources.len() > 1)?;
-    put_way_out(text, &declared, names, first.as_str())?;
-    Ok(Spot::at_token(declaration.named, declaration.label.here()))
+    let field = field_of_last(alloc, &declared, names, first.as_str())?;
+    put_way_out(text, field, first.as_str())?;
+    Ok(Spot::near(declaration))
 }
 
 /// Puts the names of a cycle with their places, the first ones of many.
 fn put_places(
     text: &mut String,
-    declared: &Declared<'_, '_, '_>,
+    declared: &Declared<'_, '_>,
     names: &[String],
     shows_files: bool,
 ) -> Result<(), AllocError> {
     for name in names.iter().take(MOST_IN_CYCLE) {
-        match declared.of(name.as_str()) {
-            Some(declaration) => put_declaration(text, declaration, shows_files, " -> ")?,
-            None => put_line(text, &["`", name.as_str(), "` -> "])?,
-        }
+        put_named(text, declared, name.as_str(), shows_files, " -> ")?;
     }
     put_left(text, names)
 }
@@ -75,13 +73,8 @@ fn put_left(text: &mut String, names: &[String]) -> Result<(), AllocError> {
 
 /// Puts the first name of a cycle again, and how the cycle is ended: by the field of its last definition that has the first one as
 /// its value, where there is one.
-fn put_way_out(
-    text: &mut String,
-    declared: &Declared<'_, '_, '_>,
-    names: &[String],
-    first: &str,
-) -> Result<(), AllocError> {
-    match field_of_last(declared, names, first) {
+fn put_way_out(text: &mut String, field: Option<&str>, first: &str) -> Result<(), AllocError> {
+    match field {
         Some(label) => put_line(
             text,
             &[
@@ -109,29 +102,47 @@ fn put_way_out(
 
 /// The label in the last definition of some whose value is a reference to another one.
 fn field_of_last<'a>(
-    declared: &Declared<'_, '_, 'a>,
+    alloc: Global,
+    declared: &Declared<'_, 'a>,
     names: &[String],
     first: &str,
-) -> Option<&'a str> {
+) -> Result<Option<&'a str>, AllocError> {
     let [.., last] = names else {
-        return None;
+        return Ok(None);
     };
-    field_with(declared.of(last.as_str())?.label, first)
+    match declared.of(last.as_str()) {
+        Some(definition) => field_with(alloc, definition, first),
+        None => Ok(None),
+    }
 }
 
-/// Puts the name of a definition with the line that declares it, and maybe the file, and words behind it.
-pub(crate) fn put_declaration(
+/// Puts the name of a definition, with its place where the sources declare it, and words behind it.
+pub(crate) fn put_named(
     text: &mut String,
-    declaration: Declaration<'_, '_, '_>,
+    declared: &Declared<'_, '_>,
+    name: &str,
     shows_file: bool,
     words: &str,
 ) -> Result<(), AllocError> {
-    let Declaration { named, label } = declaration;
-    let place = position_of(named.text, label.here().start);
+    match declared.of(name) {
+        Some(declaration) => put_declaration(text, declaration, shows_file, words),
+        None => put_line(text, &["`", name, "`", words]),
+    }
+}
+
+/// Puts the name of a definition with the line that declares it, and maybe the file, and words behind it.
+fn put_declaration(
+    text: &mut String,
+    declaration: Near<'_, '_>,
+    shows_file: bool,
+    words: &str,
+) -> Result<(), AllocError> {
+    let (named, name) = (declaration.source.named, declaration.here());
+    let place = position_of(named.text, name.start);
     if shows_file {
-        put_line(text, &["`", label.here().text, "` (", named.name, ":"])?;
+        put_line(text, &["`", name.text, "` (", named.name, ":"])?;
     } else {
-        put_line(text, &["`", label.here().text, "` ("])?;
+        put_line(text, &["`", name.text, "` ("])?;
     }
     put_line(text, &[Buffer::new().format(place.line), ")", words])
 }

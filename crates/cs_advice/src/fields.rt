@@ -1,8 +1,8 @@
 // What is said of values that are embedded in structs.
 use crate::advice::text_of;
-use crate::labels::{group_len, labels_inside, separates};
+use crate::labels::labels_inside;
 use crate::text::put_line;
-use cs_forms::{Near, end_of};
+use cs_sources::{Near, end_of, separates};
 use std::alloc::{AllocError, Global};
 
 /// How many bytes of the other fields are shown.
@@ -11,14 +11,16 @@ const MOST_SHOWN: usize = 60;
 const MOST_NAMED: usize = 3;
 
 /// The other fields of the struct in which a definition is embedded first, where they are few and on one line.
-fn other_fields<'a>(source: &'a [u8], near: Near<'_, '_>) -> Option<&'a str> {
+fn other_fields<'a>(near: Near<'_, 'a>) -> Option<&'a str> {
     let bracket = near.bracket()?;
     let next = near.behind(1);
     if near.before(1).start != bracket.here().start || !separates(next) {
         return None;
     }
-    let closing = bracket.behind(group_len(bracket)?.saturating_sub(1));
-    shown_fields(text_of(source.get(end_of(next)..closing.start)))
+    let closing = bracket.closing()?.here();
+    let source = near.source;
+    let text = source.named.text;
+    shown_fields(text_of(text.get(end_of(next)..closing.start)))
 }
 
 /// Fields as they are shown, where they are few, on one line, and not open.
@@ -36,7 +38,6 @@ fn shown_fields(fields: &str) -> Option<&str> {
 /// Puts what to write for an embedded definition.
 pub(crate) fn put_embedded_definition(
     text: &mut String,
-    source: &[u8],
     near: Near<'_, '_>,
 ) -> Result<(), AllocError> {
     let name = near.here().text;
@@ -46,7 +47,7 @@ pub(crate) fn put_embedded_definition(
             "an embedded definition: write its fields out, or `",
             name,
             " & {",
-            other_fields(source, near).unwrap_or(".."),
+            other_fields(near).unwrap_or(".."),
             ", ...}` with `...` in `",
             name,
             "` too",

@@ -1,6 +1,6 @@
 // Labels, and the values under them.
-use cs_forms::{Near, end_of, ends_value, follows_label};
 use cs_grammar::{Sort, Token};
+use cs_sources::{Near, Part, Separator, end_of, ends_value, follows_label, separates};
 use std::alloc::{AllocError, Global};
 
 /// How many bytes of a value are shown.
@@ -15,96 +15,34 @@ pub(crate) struct Labelled<'a> {
     /// Whether a `!` is behind the label.
     pub(crate) is_required: bool,
     /// Where the value begins and ends.
-    pub(crate) start: usize,
-    pub(crate) end: usize,
-}
-
-/// How deep brackets are behind a token, by how deep they are before it; none where it closes one that was open before.
-pub(crate) fn depth_behind(token: Token<'_>, depth: usize) -> Option<usize> {
-    match token.text.as_bytes() {
-        [b'{' | b'[' | b'('] => depth.checked_add(1),
-        [b'}' | b']' | b')'] => depth.checked_sub(1),
-        _ => Some(depth),
-    }
-}
-
-/// The same, from behind a token to before it.
-pub(crate) fn depth_before(token: Token<'_>, depth: usize) -> Option<usize> {
-    match token.text.as_bytes() {
-        [b'}' | b']' | b')'] => depth.checked_add(1),
-        [b'{' | b'[' | b'('] => depth.checked_sub(1),
-        _ => Some(depth),
-    }
-}
-
-/// Whether a token is between two declarations, or two elements.
-pub(crate) fn separates(token: Token<'_>) -> bool {
-    token.sort == Sort::Inserted || token.sort == Sort::End || token.text == ","
-}
-
-/// How many tokens before there is the colon of the value that a token is in.
-fn colon_before(near: Near<'_, '_>) -> Option<usize> {
-    let mut depth = 0;
-    for steps in 1..usize::MAX {
-        let token = near.before(steps);
-        if depth == 0 && token.text == ":" {
-            return Some(steps);
-        }
-        if depth == 0 && separates(token) || token.sort == Sort::End {
-            return None;
-        }
-        depth = depth_before(token, depth)?;
-    }
-    None
-}
-
-/// The place behind the last token of the value that a token is in.
-fn value_end(near: Near<'_, '_>) -> usize {
-    let mut depth = 0;
-    let mut end = end_of(near.here());
-    for steps in 0..usize::MAX {
-        let token = near.behind(steps);
-        if depth == 0 && separates(token) || token.sort == Sort::End {
-            return end;
-        }
-        match depth_behind(token, depth) {
-            Some(deeper) => depth = deeper,
-            None => return end,
-        }
-        end = end_of(token);
-    }
-    end
+    start: usize,
+    end: usize,
 }
 
 /// The field or the definition that a token is in the value of.
 pub(crate) fn field_of<'a>(near: Near<'_, 'a>) -> Option<Labelled<'a>> {
-    let colon = colon_before(near)?;
-    let marked = colon.saturating_add(1);
-    let mark = near.before(marked);
-    let label = if mark.text == "?" || mark.text == "!" {
-        near.before(marked.saturating_add(1))
-    } else {
-        mark
-    };
+    let colon = near.colon()?;
+    let label = near.source.token(near.source.label_before(colon.place)?);
     if !ends_value(label) || label.sort == Sort::Mark {
         return None;
     }
     Some(Labelled {
         label,
-        is_required: mark.text == "!",
-        start: end_of(near.before(colon)),
-        end: value_end(near),
+        is_required: colon.before(1).text == "!",
+        start: end_of(colon.here()),
+        end: near.part().end(),
     })
 }
 
 /// What of a value is before a mark in it, and behind; none where that is long or has several lines.
 pub(crate) fn value_without<'a>(
-    source: &'a [u8],
+    mark: Near<'_, 'a>,
     value: Labelled<'_>,
-    mark: Token<'_>,
 ) -> Option<(&'a [u8], &'a [u8])> {
-    let before = source.get(value.start..mark.start)?;
-    let behind = source.get(end_of(mark)..value.end)?;
+    let source = mark.source;
+    let text = source.named.text;
+    let before = text.get(value.start..mark.here().start)?;
+    let behind = text.get(end_of(mark.here())..value.end)?;
     let is_long = before.len().saturating_add(behind.len()) > MOST_SHOWN;
     if is_long || before.contains(&b'\n') || behind.contains(&b'\n') {
         return None;
@@ -112,127 +50,94 @@ pub(crate) fn value_without<'a>(
     Some((before, behind))
 }
 
-/// The next label of a struct behind a token in it, by how deep brackets are there, and whether a declaration begins there.
-fn label_behind<'t, 'a>(near: Near<'t, 'a>, depth: usize, begins: bool) -> Option<Near<'t, 'a>> {
-    let mut depth = depth;
-    let mut is_first = begins;
-    for steps in 1..usize::MAX {
-        let next = near.moved(steps)?;
-        if depth == 0 && is_first && follows_label(next.behind(1)) {
-            return Some(next);
-        }
-        is_first = separates(next.here());
-        depth = depth_behind(next.here(), depth)?;
+/// The label that a declaration begins with, if that is one token.
+fn label_of<'s, 'a>(declaration: Part<'s, 'a>) -> Option<Near<'s, 'a>> {
+    let first = declaration.first()?;
+    if follows_label(first.behind(1)) {
+        Some(first)
+    } else {
+        None
     }
-    None
-}
-
-/// The first label of the struct that a bracket opens.
-fn first_label<'t, 'a>(bracket: Near<'t, 'a>) -> Option<Near<'t, 'a>> {
-    label_behind(bracket, 0, true)
-}
-
-/// The label behind another one in its struct.
-fn next_label<'t, 'a>(label: Near<'t, 'a>) -> Option<Near<'t, 'a>> {
-    let depth = depth_behind(label.here(), 0)?;
-    label_behind(label, depth, separates(label.here()))
-}
-
-/// The label of the same text as a name that it names, in a struct around it.
-pub(crate) fn field_named<'t, 'a>(near: Near<'t, 'a>) -> Option<Token<'a>> {
-    let mut inner = near;
-    for _ in 0..MOST_AROUND {
-        inner = inner.bracket()?;
-        if let Some(label) = label_inside(inner, near.here().text) {
-            return Some(label);
-        }
-    }
-    None
-}
-
-/// The first label of a text in the struct that a bracket opens; none where it opens something else.
-fn label_inside<'a>(bracket: Near<'_, 'a>, name: &str) -> Option<Token<'a>> {
-    if bracket.here().text != "{" {
-        return None;
-    }
-    let mut label = first_label(bracket)?;
-    for _ in 0..usize::MAX {
-        if label.here().text == name {
-            return Some(label.here());
-        }
-        label = next_label(label)?;
-    }
-    None
 }
 
 /// The labels of the struct that a bracket opens, in their order; one that it has twice is there twice.
-pub(crate) fn labels_inside<'t, 'a>(
+pub(crate) fn labels_inside<'s, 'a>(
     alloc: Global,
-    bracket: Near<'t, 'a>,
-) -> Result<Vec<Near<'t, 'a>>, AllocError> {
+    bracket: Near<'s, 'a>,
+) -> Result<Vec<Near<'s, 'a>>, AllocError> {
     let mut labels = Vec::new(alloc);
-    let mut next = first_label(bracket);
-    for _ in 0..usize::MAX {
-        let Some(label) = next else {
+    let Some(held) = bracket.held() else {
+        return Ok(labels);
+    };
+    for place in 0..held.source.tokens.len() {
+        let Some(declaration) = held.part(Separator::Comma, place) else {
             break;
         };
-        labels.push(label)?;
-        next = next_label(label);
+        if let Some(label) = label_of(declaration) {
+            labels.push(label)?;
+        }
     }
     Ok(labels)
 }
 
 /// The labels of a name in the struct that a bracket opens.
-pub(crate) fn labels_named<'t, 'a>(
+pub(crate) fn labels_named<'s, 'a>(
     alloc: Global,
-    bracket: Near<'t, 'a>,
+    bracket: Near<'s, 'a>,
     name: &str,
-) -> Result<Vec<Near<'t, 'a>>, AllocError> {
-    let mut labels = Vec::new(alloc);
-    let mut next = first_label(bracket);
-    for _ in 0..usize::MAX {
-        let Some(label) = next else {
-            break;
-        };
-        if label.here().text == name {
-            labels.push(label)?;
-        }
-        next = next_label(label);
-    }
+) -> Result<Vec<Near<'s, 'a>>, AllocError> {
+    let mut labels = labels_inside(alloc, bracket)?;
+    labels.retain(|label| label.here().text == name);
     Ok(labels)
 }
 
-/// How many tokens there are from an opening bracket to the one that closes it; none where it isn't closed.
-pub(crate) fn group_len(bracket: Near<'_, '_>) -> Option<usize> {
-    let mut depth = 0;
-    for steps in 0..usize::MAX {
-        let token = bracket.behind(steps);
-        if token.sort == Sort::End {
-            return None;
+/// The label of the same text as a name that it names, in a struct around it.
+pub(crate) fn field_named<'a>(
+    alloc: Global,
+    near: Near<'_, 'a>,
+) -> Result<Option<Token<'a>>, AllocError> {
+    let mut inner = near;
+    for _ in 0..MOST_AROUND {
+        let Some(bracket) = inner.bracket() else {
+            break;
+        };
+        if bracket.here().text == "{" {
+            if let [label, ..] = labels_named(alloc, bracket, near.here().text)?.as_slice() {
+                return Ok(Some(label.here()));
+            }
         }
-        depth = depth_behind(token, depth)?;
-        if depth == 0 {
-            return steps.checked_add(1);
-        }
+        inner = bracket;
     }
-    None
+    Ok(None)
 }
 
 /// The label of the field whose value is a reference, where a definition is one struct literal that has it; an optional field is
 /// none.
-pub(crate) fn field_with<'a>(definition: Near<'_, 'a>, reference: &str) -> Option<&'a str> {
-    let bracket = definition.moved(2)?;
-    if bracket.here().text != "{" || !separates(bracket.behind(group_len(bracket)?)) {
-        return None;
-    }
-    let mut label = first_label(bracket)?;
-    for _ in 0..usize::MAX {
+pub(crate) fn field_with<'a>(
+    alloc: Global,
+    definition: Near<'_, 'a>,
+    reference: &str,
+) -> Result<Option<&'a str>, AllocError> {
+    let Some(bracket) = literal_of(definition) else {
+        return Ok(None);
+    };
+    for label in labels_inside(alloc, bracket)? {
         if label.behind(2).text == reference && is_whole_value(label) {
-            return Some(label.here().text);
+            return Ok(Some(label.here().text));
         }
-        label = next_label(label)?;
     }
-    None
+    Ok(None)
+}
+
+/// The bracket that opens the struct literal that a definition is.
+fn literal_of<'s, 'a>(definition: Near<'s, 'a>) -> Option<Near<'s, 'a>> {
+    let bracket = definition.moved(2)?;
+    let behind = bracket.closing()?.behind(1);
+    if bracket.here().text == "{" && separates(behind) {
+        Some(bracket)
+    } else {
+        None
+    }
 }
 
 /// Whether the value of a label is one token, and the field has to be there.

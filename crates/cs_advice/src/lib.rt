@@ -8,16 +8,12 @@ mod cycles;
 mod excerpt;
 mod fields;
 mod form_words;
-mod graph;
 mod labels;
-mod layout;
+mod levels;
 mod nearest;
 mod packages;
-mod parts;
 mod sentences;
-mod sources;
 mod spot;
-mod strong;
 mod text;
 mod unknown;
 
@@ -27,6 +23,7 @@ pub use cycles::{put_cycle, put_names_of_loop};
 pub use excerpt::put_excerpt;
 pub use form_words::form_name;
 pub use packages::{put_no_root, put_package_name, put_too_high, put_too_large};
-pub use sources::{Source, cut_sources, sources_of};
 pub use spot::{Span, Spot};
-pub use text::{line_and_column, put_all, put_grouped, put_line, put_offset, put_quoted};
+pub use text::{
+    line_and_column, put_all, put_count, put_grouped, put_line, put_offset, put_quoted, put_string,
+};

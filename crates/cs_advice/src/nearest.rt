@@ -1,13 +1,10 @@
 // The declared name that may have been meant by another one.
-use crate::sources::Declaration;
 use crate::text::put_line;
+use cs_sources::Near;
+use cs_text::few_edits;
 use itoa::Buffer;
 use std::alloc::{AllocError, Global};
 
-/// How long a name is at most that another one is suggested for.
-const MOST_COMPARED: usize = 64;
-/// How many edits a name is away at most from one that is suggested.
-const MOST_EDITS: usize = 2;
 /// How many names are listed.
 const MOST_LISTED: usize = 8;
 
@@ -17,30 +14,27 @@ fn bare(name: &str) -> &str {
 }
 
 /// How many edits lead from a name to another, `#` aside, if they are few for names of that length.
-fn few_edits(alloc: Global, from: &str, to: &str) -> Result<Option<usize>, AllocError> {
-    let (from, to) = (bare(from), bare(to));
-    let most = MOST_EDITS.min(from.len() / 3);
-    let is_long = from.len() > MOST_COMPARED || to.len() > MOST_COMPARED;
-    if is_long || from.len().abs_diff(to.len()) > 4 * MOST_EDITS {
-        return Ok(None);
-    }
-    let edits = strsim::levenshtein(alloc, from, to)?;
-    Ok(if edits <= most { Some(edits) } else { None })
+fn edits_between(alloc: Global, from: &str, to: &str) -> Result<Option<usize>, AllocError> {
+    let from = bare(from);
+    Ok(match few_edits(alloc, from, bare(to))? {
+        Some(edits) if edits <= from.len() / 3 => Some(edits),
+        Some(_) | None => None,
+    })
 }
 
 /// The declared name that is the fewest edits away from another one, if any is near.
 pub(crate) fn nearest<'a>(
     alloc: Global,
     name: &str,
-    declared: &[Declaration<'_, '_, 'a>],
+    declared: &[Near<'_, 'a>],
 ) -> Result<Option<&'a str>, AllocError> {
     let mut best = None;
     let mut fewest = usize::MAX;
     for declaration in declared {
-        match few_edits(alloc, name, declaration.name())? {
+        match edits_between(alloc, name, declaration.here().text)? {
             Some(edits) if edits < fewest => {
                 fewest = edits;
-                best = Some(declaration.name());
+                best = Some(declaration.here().text);
             }
             _ => {}
         }
@@ -49,17 +43,14 @@ pub(crate) fn nearest<'a>(
 }
 
 /// Puts the names, and how many are left.
-pub(crate) fn put_names(
-    text: &mut String,
-    declared: &[Declaration<'_, '_, '_>],
-) -> Result<(), AllocError> {
+pub(crate) fn put_names(text: &mut String, declared: &[Near<'_, '_>]) -> Result<(), AllocError> {
     let mut front = "`";
     for (at, declaration) in declared.iter().enumerate() {
         if at >= MOST_LISTED {
             let left = declared.len().saturating_sub(at);
             return put_line(text, &[" and ", Buffer::new().format(left), " more"]);
         }
-        put_line(text, &[front, declaration.name(), "`"])?;
+        put_line(text, &[front, declaration.here().text, "`"])?;
         front = ", `";
     }
     Ok(())

@@ -1,16 +1,12 @@
 // What is told of faults of whole files and packages.
-use crate::labels::depth_behind;
-use crate::layout::{Inside, layout_of};
+use crate::levels::{first_too_deep, first_too_high, nodes_of};
 use crate::nearest::{nearest, put_names};
-use crate::parts::first_too_high;
-use crate::sources::{Declaration, Source, declared_in};
 use crate::spot::Spot;
 use crate::text::{put_grouped, put_line, put_offset};
 use cs_grammar::Token;
+use cs_sources::{Near, Source, declared_in};
 use std::alloc::{AllocError, Global};
 
-/// How deep brackets may nest.
-const MOST_NESTED: usize = 28;
 /// What makes levels, and what to do where there are too many.
 const LEVELS: &str =
     ": brackets, short fields, `&`, `|` and the value inside make 28 at most; give an inner part a definition";
@@ -25,58 +21,40 @@ const MOST_DEFINITIONS: usize = 1_000;
 pub fn put_too_high<'a>(
     alloc: Global,
     text: &mut String,
-    source: Option<&Source<'a, '_>>,
+    source: Option<&Source<'a>>,
 ) -> Result<Spot<'a>, AllocError> {
     let Some(source) = source else {
         return Ok(Spot::nowhere());
     };
-    match level_too_deep(alloc, &source.tokens)? {
-        Some((token, level, remedy)) => {
+    match level_too_deep(alloc, source)? {
+        Some((near, level, remedy)) => {
             put_line(text, &[level, remedy])?;
-            Ok(Spot::at_token(source.named, token))
+            Ok(Spot::near(near))
         }
         None => Ok(Spot::in_file(source.named)),
     }
 }
 
 /// The bracket or the definition with the first level that is too deep, which level that is, and what to do.
-fn level_too_deep<'a>(
+fn level_too_deep<'s, 'a>(
     alloc: Global,
-    tokens: &[Token<'a>],
-) -> Result<Option<(Token<'a>, &'static str, &'static str)>, AllocError> {
-    if let Some(token) = too_deep(tokens) {
+    source: &'s Source<'a>,
+) -> Result<Option<(Near<'s, 'a>, &'static str, &'static str)>, AllocError> {
+    if let Some(bracket) = first_too_deep(alloc, source)? {
         let level = "this is the 29th bracket that is open; 28 may be";
-        return Ok(Some((token, level, ": give an inner part a definition")));
+        return Ok(Some((bracket, level, ": give an inner part a definition")));
     }
-    let layout = layout_of(alloc, tokens)?;
-    let Some(part) = first_too_high(alloc, &layout.parts)? else {
-        return Ok(None);
-    };
-    let level = if part.inside == Inside::Top {
-        "level 29 is in this definition"
-    } else {
-        "level 29 is in this bracket"
-    };
-    Ok(match tokens.get(part.opening) {
-        Some(token) => Some((*token, level, LEVELS)),
+    Ok(match first_too_high(alloc, source)? {
+        Some(opening) if opening.held().is_some() => {
+            Some((opening, "level 29 is in this bracket", LEVELS))
+        }
+        Some(definition) => Some((definition, "level 29 is in this definition", LEVELS)),
         None => None,
     })
 }
 
-/// The first bracket that is nested too deep.
-fn too_deep<'a>(tokens: &[Token<'a>]) -> Option<Token<'a>> {
-    let mut depth = 0;
-    for token in tokens {
-        depth = depth_behind(*token, depth).unwrap_or(0);
-        if depth > MOST_NESTED {
-            return Some(*token);
-        }
-    }
-    None
-}
-
 /// The name in the package clause of a source.
-fn clause_of<'a>(source: &Source<'_, 'a>) -> Option<Token<'a>> {
+fn clause_of<'a>(source: &Source<'a>) -> Option<Token<'a>> {
     match source.tokens.as_slice() {
         [word, name, ..] if word.text == "package" => Some(*name),
         _ => None,
@@ -90,7 +68,7 @@ fn clause_of<'a>(source: &Source<'_, 'a>) -> Option<Token<'a>> {
 /// Memory ran out.
 pub fn put_package_name<'a>(
     text: &mut String,
-    sources: &[Source<'a, '_>],
+    sources: &[Source<'a>],
     file: usize,
 ) -> Result<Spot<'a>, AllocError> {
     let Some(source) = sources.get(file) else {
@@ -106,7 +84,7 @@ pub fn put_package_name<'a>(
 }
 
 /// Puts the first package clause of the sources, with its place.
-fn put_first_clause(text: &mut String, sources: &[Source<'_, '_>]) -> Result<(), AllocError> {
+fn put_first_clause(text: &mut String, sources: &[Source<'_>]) -> Result<(), AllocError> {
     for source in sources {
         if let Some(name) = clause_of(source) {
             text.push_str(", and ")?;
@@ -125,12 +103,12 @@ fn put_first_clause(text: &mut String, sources: &[Source<'_, '_>]) -> Result<(),
 pub fn put_no_root<'a>(
     alloc: Global,
     text: &mut String,
-    sources: &[Source<'a, '_>],
+    sources: &[Source<'a>],
     root: &str,
 ) -> Result<Spot<'a>, AllocError> {
     let declared = declared_in(alloc, sources)?;
-    let meant = nearest(alloc, root, &declared.all)?;
-    put_undeclared(text, root, meant, &declared.all)?;
+    let meant = nearest(alloc, root, &declared.firsts)?;
+    put_undeclared(text, root, meant, &declared.firsts)?;
     Ok(Spot::nowhere())
 }
 
@@ -139,7 +117,7 @@ fn put_undeclared<'a>(
     text: &mut String,
     root: &'a str,
     meant: Option<&'a str>,
-    declared: &[Declaration<'_, '_, '_>],
+    declared: &[Near<'_, '_>],
 ) -> Result<(), AllocError> {
     if declared.is_empty() {
         return put_line(text, &["no `", root, "`; no definition is declared"]);
@@ -152,33 +130,22 @@ fn put_undeclared<'a>(
     put_names(text, declared)
 }
 
-/// Puts how many definitions or nodes the sources have, where these are too many (14). It has no place.
+/// Puts how many definitions or nodes the sources have, where these are too many (14): so many definitions there are, and the nodes
+/// are counted where these are few enough. It has no place.
 ///
 /// # Errors
 /// Memory ran out.
 pub fn put_too_large<'a>(
-    alloc: Global,
     text: &mut String,
-    sources: &[Source<'a, '_>],
+    definitions: usize,
+    sources: &[Source<'a>],
 ) -> Result<Spot<'a>, AllocError> {
-    let definitions = declared_in(alloc, sources)?.all.len();
     let (count, noun) = if definitions > MOST_DEFINITIONS {
         (definitions, " definitions, and 1,000")
     } else {
-        let nodes = nodes_of(alloc, sources)?;
-        (nodes, " nodes of expressions, and 50,000")
+        (nodes_of(sources), " nodes of expressions, and 50,000")
     };
     let remedy = " may be: split the package by roots";
     put_grouped(text, count, &[noun, remedy])?;
     Ok(Spot::nowhere())
-}
-
-/// How many nodes the expressions of the sources have.
-fn nodes_of(alloc: Global, sources: &[Source<'_, '_>]) -> Result<usize, AllocError> {
-    let mut nodes = 0usize;
-    for source in sources {
-        let layout = layout_of(alloc, &source.tokens)?;
-        nodes = nodes.saturating_add(layout.nodes);
-    }
-    Ok(nodes)
 }

@@ -1,7 +1,8 @@
 // Where refusals have their places.
-use cs_forms::{Form, end_of};
+use cs_forms::Form;
 use cs_grammar::Token;
 use cs_place::Named;
+use cs_sources::{Near, end_of};
 
 /// A part of a text, from `start` up to `end`, which is behind its last byte.
 #[derive(Clone, Copy)]
@@ -50,5 +51,10 @@ impl<'a> Spot<'a> {
     /// A token of a file.
     pub(crate) fn at_token(named: Named<'a>, token: Token<'_>) -> Spot<'a> {
         Spot::at(named, token.start, end_of(token))
+    }
+
+    /// A token of a source.
+    pub(crate) fn near(near: Near<'_, 'a>) -> Spot<'a> {
+        Spot::at_token(near.source.named, near.here())
     }
 }

@@ -1,29 +1,7 @@
 // Writing into texts.
-use cs_place::{Named, position_of, put_place, put_shown};
-use itoa::Buffer;
+use cs_place::{Named, position_of, put_place};
+pub use cs_text::{put_all, put_count, put_grouped, put_line, put_string};
 use std::alloc::AllocError;
-
-/// Puts these parts as they are, one after another.
-///
-/// # Errors
-/// Memory ran out.
-pub fn put_all(text: &mut String, parts: &[&str]) -> Result<(), AllocError> {
-    for part in parts {
-        text.push_str(part)?;
-    }
-    Ok(())
-}
-
-/// Puts these parts of a line, one after another, as they are shown.
-///
-/// # Errors
-/// Memory ran out.
-pub fn put_line(text: &mut String, parts: &[&str]) -> Result<(), AllocError> {
-    for part in parts {
-        put_shown(text, part)?;
-    }
-    Ok(())
-}
 
 /// Puts how something is spelled, and what is said of it.
 pub(crate) fn put_spelled(
@@ -33,23 +11,6 @@ pub(crate) fn put_spelled(
     more: &str,
 ) -> Result<(), AllocError> {
     put_line(text, &["`", spelled, "`: ", said, more])
-}
-
-/// Puts a number with a comma before each three digits, and words behind it.
-///
-/// # Errors
-/// Memory ran out.
-pub fn put_grouped(text: &mut String, number: usize, words: &[&str]) -> Result<(), AllocError> {
-    let mut buffer = Buffer::new();
-    let digits = buffer.format(number);
-    let len = digits.len();
-    for (at, digit) in digits.chars().enumerate() {
-        if at > 0 && len.saturating_sub(at) % 3 == 0 {
-            text.push(',')?;
-        }
-        text.push(digit)?;
-    }
-    put_all(text, words)
 }
 
 /// The line and the column of an offset of a text, in what the text was taken from.

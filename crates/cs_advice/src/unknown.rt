@@ -1,10 +1,9 @@
 // What is said of names that aren't declared, and of those of fields.
 use crate::labels::field_named;
 use crate::nearest::nearest;
-use crate::sources::{Source, declared_in};
 use crate::text::{put_line, put_spelled};
-use cs_forms::Near;
 use cs_place::position_of;
+use cs_sources::{Near, Source, declared_in};
 use itoa::Buffer;
 use std::alloc::{AllocError, Global};
 
@@ -69,30 +68,44 @@ fn is_kind(name: &str) -> bool {
 
 /// Puts that a name names a field, and where that is.
 pub(crate) fn put_field_reference(
+    alloc: Global,
     text: &mut String,
-    source: &[u8],
     near: Near<'_, '_>,
 ) -> Result<(), AllocError> {
     let name = near.here().text;
+    let source = near.source;
     let remedy = if is_kind(name) {
         ", which hides this kind: put its label in double quotes"
     } else {
         ": give its value a definition and name it in both"
     };
-    match field_named(near) {
-        Some(label) => put_line(
-            text,
-            &[
-                "`",
-                name,
-                "` is a field (line ",
-                Buffer::new().format(position_of(source, label.start).line),
-                ")",
-                remedy,
-            ],
-        ),
+    match field_named(alloc, near)? {
+        Some(label) => {
+            let line = position_of(source.named.text, label.start).line;
+            put_field_on(text, name, line, remedy)
+        }
         None => put_line(text, &["`", name, "` is a field", remedy]),
     }
+}
+
+/// Puts that a name names a field on that line, and what to do.
+fn put_field_on(
+    text: &mut String,
+    name: &str,
+    line: usize,
+    remedy: &str,
+) -> Result<(), AllocError> {
+    put_line(
+        text,
+        &[
+            "`",
+            name,
+            "` is a field (line ",
+            Buffer::new().format(line),
+            ")",
+            remedy,
+        ],
+    )
 }
 
 /// Puts that a name isn't declared, and the nearest one that is.
@@ -100,10 +113,10 @@ pub(crate) fn put_unknown(
     alloc: Global,
     text: &mut String,
     name: &str,
-    sources: &[Source<'_, '_>],
+    sources: &[Source<'_>],
 ) -> Result<(), AllocError> {
     let declared = declared_in(alloc, sources)?;
-    let meant = nearest(alloc, name, &declared.all)?;
+    let meant = nearest(alloc, name, &declared.firsts)?;
     put_meant(text, name, meant.or(row_of(MEANT, name)))
 }
 

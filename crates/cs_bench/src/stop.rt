@@ -24,7 +24,7 @@ impl From<DocFault> for Stop {
     fn from(fault: DocFault) -> Stop {
         match fault {
             DocFault::OutOfMemory => Stop::OutOfMemory,
-            DocFault::NotJson | DocFault::NotInteger => Stop::Refused,
+            DocFault::NotJson { .. } | DocFault::NotInteger { .. } => Stop::Refused,
         }
     }
 }
@@ -50,7 +50,7 @@ impl From<ResolveFault> for Stop {
             | ResolveFault::UnknownName { .. }
             | ResolveFault::FieldReference { .. }
             | ResolveFault::NotOpened { .. }
-            | ResolveFault::TooLarge => Stop::Refused,
+            | ResolveFault::TooLarge { .. } => Stop::Refused,
         }
     }
 }
@@ -59,7 +59,7 @@ impl From<GuardFault> for Stop {
     fn from(fault: GuardFault) -> Stop {
         match fault {
             GuardFault::OutOfMemory => Stop::OutOfMemory,
-            GuardFault::Cycle { .. } | GuardFault::ChainTooLong => Stop::Refused,
+            GuardFault::Cycle { .. } | GuardFault::ChainTooLong { .. } => Stop::Refused,
         }
     }
 }
@@ -89,7 +89,7 @@ impl From<TableFault> for Stop {
     fn from(fault: TableFault) -> Stop {
         match fault {
             TableFault::OutOfMemory => Stop::OutOfMemory,
-            TableFault::TooManyPairs => Stop::Refused,
+            TableFault::TooManyPairs { .. } => Stop::Refused,
         }
     }
 }

@@ -1,3 +1,5 @@
 mod Samples
+pub mod FlawLists
+mod FlawSamples
 pub mod SchemaFaults
 mod SchemaSamples

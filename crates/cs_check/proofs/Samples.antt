@@ -14,5 +14,5 @@ two sources f g h = h
 first_of_two : (sources : List (List ℕ)) (f g : Fault) → BeginsWithFirst sources (f ∷ g ∷ []) → SourcesFault sources f
 first_of_two sources f g h = h
 
-too_long : BeginsWith SourcesTooLong (SourcesTooLong ∷ TooLarge ∷ [])
-too_long = (TooLarge ∷ [], refl)
+too_long : BeginsWith SourcesTooLong (SourcesTooLong ∷ TooLarge 1001 ∷ [])
+too_long = (TooLarge 1001 ∷ [], refl)

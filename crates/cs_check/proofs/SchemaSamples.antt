@@ -1,7 +1,7 @@
 -- Want of memory is no fault of a schema, and each flaw is the fault of its number.
-use Rattle.std.proofs.Common.{◌≡◌, ℕ, List, [], ◌∷◌, refl, String}
+use Rattle.std.proofs.Common.{◌≡◌, ℕ, true, List, [], ◌∷◌, refl, String}
 use Rattle.std.specs.declared.alloc.Global.{Global}
-use Rattle.cs_flaws.specs.declared.flaw.Flaw.TheVariants as flaw
+use Rattle.cs_check.specs.declared.schema.flaw.Flaw.TheVariants as flaw
 use Rattle.cs_tool.specs.Refusals.{number_of}
 use Rattle.cs_tool.specs.declared.fault.Fault.{Fault}
 use Rattle.cs_tool.specs.declared.fault.Fault.TheVariants.{OutOfMemory}
@@ -16,7 +16,7 @@ none text = tt
 first_of_two : (text : List ℕ) (f g : Fault) → BeginsWithSchemaFault text (f ∷ g ∷ []) → IsSchemaRefusal text f
 first_of_two text f g h = h
 
-numbers : (number_of (of_flaw flaw.NotJson) ≡ 20) × (number_of (of_flaw flaw.NotInteger) ≡ 26)
+numbers : (number_of (of_flaw (flaw.NotJson 3 true)) ≡ 20) × (number_of (of_flaw (flaw.NotInteger 3)) ≡ 26)
 numbers = (refl, refl)
 
 places : (p n : String Global) → (number_of (of_flaw (flaw.Keyword p n)) ≡ 21) × (number_of (of_flaw (flaw.Shape p n)) ≡ 22) × (number_of (of_flaw (flaw.Reference p n)) ≡ 23)

@@ -1,3 +1,4 @@
 -- What is told of sources, and of a schema.
 pub mod Told
 pub mod SchemaFaults
+pub mod Flaws

@@ -1,17 +1,17 @@
 -- What a list of the faults of a schema's text tells (own rules).
-use Rattle.std.specs.Prelude.{◌≡◌, ℕ, List, [], ◌∷◌, map}
+use Rattle.std.specs.Prelude.{◌≡◌, ℕ, true, List, [], ◌∷◌, map}
 use Rattle.std.specs.List.{IsDistinct}
-use Rattle.cs_flaws.specs.Told.{is_same}
-use Rattle.cs_flaws.specs.declared.flaw.Flaw.{Flaw}
-use Rattle.cs_flaws.specs.declared.flaw.Flaw.TheVariants as flaw
+use Rattle.cs_check.specs.Flaws.{is_same}
+use Rattle.cs_check.specs.declared.schema.flaw.Flaw.{Flaw}
+use Rattle.cs_check.specs.declared.schema.flaw.Flaw.TheVariants as flaw
 use Rattle.cs_tool.specs.CallRefusals.{ValidateRefusal}
 use Rattle.cs_tool.specs.declared.fault.Fault.{Fault}
 use Rattle.cs_tool.specs.declared.fault.Fault.TheVariants.{SchemaNotJson, NotInteger, Keyword, Shape, Reference, Loop, OutOfMemory}
 
 -- the fault that a flaw is
 abbrev pub of_flaw : Flaw → Fault
-of_flaw flaw.NotJson = SchemaNotJson
-of_flaw flaw.NotInteger = NotInteger
+of_flaw (flaw.NotJson offset is_cut) = SchemaNotJson offset is_cut
+of_flaw (flaw.NotInteger offset) = NotInteger offset true
 of_flaw (flaw.Keyword place name) = Keyword place name
 of_flaw (flaw.Shape place name) = Shape place name
 of_flaw (flaw.Reference place name) = Reference place name

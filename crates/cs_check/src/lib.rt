@@ -1,21 +1,16 @@
-// All faults of sources, or of a schema, in one run.
+// What `check` tells: all faults of sources, or of a schema, in one run, and the definitions that have no instance; in lines for people and
+// for problem matchers.
 #![tactic(auto)]
 
-mod coarse;
-mod cutting;
-mod draft;
-mod faults;
-mod forms;
-mod front;
-mod labels;
-mod layout;
-mod lexemes;
-mod names;
-mod operands;
-mod pieces;
+mod findings;
 mod schema;
-mod texts;
-mod told;
+mod sources;
+mod warnings;
 
-pub use faults::{MOST_FAULTS, check};
+pub use findings::{Checked, Findings, schema_findings, source_findings};
 pub use schema::check_schema;
+pub use sources::check;
+pub use warnings::{Warning, warned};
+
+/// The most faults that are told.
+const MOST_FAULTS: usize = 50;

@@ -3,7 +3,16 @@ ghost use Rattle.std.specs.Prelude.{◌≡◌, ◌≤◌, ◌↔◌, [], length,
 ghost use Rattle.cs_tool.specs.CallRefusals.{IsSchemaText};
 ghost use Rattle.cs_check.specs.SchemaFaults.{of_flaw, BeginsWithSchemaFault, AreDistinctFaults};
 
-use cs_flaws::Flaw;
+mod cutting;
+mod flaw;
+mod flaws;
+mod mending;
+mod places;
+mod reading;
+mod told;
+
+use crate::schema::flaw::Flaw;
+use crate::schema::flaws::flaws_in;
 use cs_tool::Fault;
 use std::alloc::{AllocError, Global};
 
@@ -19,7 +28,7 @@ pub fn check_schema(alloc: Global, text: &[u8]) -> Result<Vec<Fault>, Fault>
     ensures distinct { IfOk result (λ faults. AreDistinctFaults faults.items) }
     ensures memory { IsOkUnless result Fault.OutOfMemory }
 {
-    let flaws = cs_flaws::check_schema(alloc, text)?;
+    let flaws = flaws_in(alloc, text)?;
     Ok(faults_of(alloc, flaws)?)
 }
 
@@ -39,8 +48,11 @@ fn fault_of(flaw: Flaw) -> Fault
     ensures { result ≡ of_flaw flaw }
 {
     match flaw {
-        Flaw::NotJson => Fault::SchemaNotJson,
-        Flaw::NotInteger => Fault::NotInteger,
+        Flaw::NotJson { offset, is_cut } => Fault::SchemaNotJson { offset, is_cut },
+        Flaw::NotInteger { offset } => Fault::NotInteger {
+            offset,
+            in_schema: true,
+        },
         Flaw::Keyword { place, name } => Fault::Keyword { place, name },
         Flaw::Shape { place, name } => Fault::Shape { place, name },
         Flaw::Reference { place, name } => Fault::Reference { place, name },

@@ -8,7 +8,6 @@ mod packages;
 mod texts;
 mod values;
 
-pub use labels::{Label, labels_of};
 pub use lines::{Line, lines_of};
 pub use packages::notes_of;
-pub use texts::{text_at, texts_of};
+pub use texts::text_at;

@@ -3,16 +3,16 @@ use crate::declared::Declarations;
 use crate::texts::texts_of;
 use crate::values::{Texts, notes_of_value};
 use cs_describe::Notes;
-use cs_grammar::SyntaxFault;
-use cs_lexer::lex;
-use cs_syntax::parse_file;
+use cs_place::Named;
+use cs_sources::Source;
+use cs_syntax::{File, SyntaxFault, parse_file};
 use std::alloc::{AllocError, Global};
 use std::collections::BTreeMap;
 
-/// What was read of a source; nothing where it is refused.
-fn if_accepted<T: Drop>(read: Result<T, SyntaxFault>) -> Result<Option<T>, AllocError> {
-    match read {
-        Ok(found) => Ok(Some(found)),
+/// The file that a source spells; none where it is refused.
+fn file_of(alloc: Global, source: &str) -> Result<Option<File>, AllocError> {
+    match parse_file(alloc, source) {
+        Ok(file) => Ok(Some(file)),
         Err(SyntaxFault::OutOfMemory) => Err(AllocError),
         Err(
             SyntaxFault::NoToken { .. }
@@ -28,15 +28,18 @@ fn if_accepted<T: Drop>(read: Result<T, SyntaxFault>) -> Result<Option<T>, Alloc
 fn add_source(
     alloc: Global,
     declarations: &mut Declarations,
-    source: &str,
+    text: &str,
 ) -> Result<(), AllocError> {
-    let Some(tokens) = if_accepted(lex(alloc, source))? else {
+    let Some(file) = file_of(alloc, text)? else {
         return Ok(());
     };
-    let Some(file) = if_accepted(parse_file(alloc, source))? else {
-        return Ok(());
+    let named = Named {
+        name: "",
+        text: text.as_bytes(),
+        line: 1,
     };
-    let mut texts = Texts::new(texts_of(alloc, source, &tokens)?);
+    let source = Source::new(alloc, named, 0)?;
+    let mut texts = Texts::new(texts_of(alloc, text, &source)?);
     for definition in &file.definitions {
         let text = texts.take();
         let value = notes_of_value(alloc, &definition.body, &mut texts)?;

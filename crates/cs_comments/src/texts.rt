@@ -7,7 +7,7 @@ ghost use Rattle.cs_comments.specs.Views.{each_text, texts_of};
 
 use crate::labels::labels_of;
 use crate::lines::{Line, lines_of};
-use cs_grammar::Token;
+use cs_sources::Source;
 use std::alloc::{AllocError, Global};
 
 /// The comments of the lines that are alone right above a place, which are the last ones.
@@ -92,14 +92,14 @@ pub fn text_at(alloc: Global, lines: &[Line<'_>], line: usize) -> Result<Option<
 ///
 /// # Errors
 /// Memory ran out.
-pub fn texts_of(
+pub(crate) fn texts_of(
     alloc: Global,
-    source: &str,
-    tokens: &[Token<'_>],
+    text: &str,
+    source: &Source<'_>,
 ) -> Result<Vec<Option<String>>, AllocError> {
-    let lines = lines_of(alloc, source, tokens)?;
+    let lines = lines_of(alloc, text, &source.tokens)?;
     let mut texts = Vec::new(alloc);
-    for label in labels_of(alloc, source, tokens)? {
+    for label in labels_of(alloc, source)? {
         if label.is_first {
             texts.push(text_at(alloc, &lines, label.line)?)?;
         } else {

@@ -2,24 +2,18 @@
 use Rattle.std.proofs.Common.{◌≡◌, ℕ, [], ◌∷◌, map, true, false, codes, refl}
 use Rattle.std.specs.Prelude.{Vec}
 use Rattle.std.specs.declared.alloc.Global.{Global}
-use Rattle.cs_doc.proofs.OnLiterals.{cs_doc_on_literals}
-use Rattle.cs_document.specs.Document.{null, boolean}
-use Rattle.cs_document.specs.View.{doc_view}
-use Rattle.cs_document.specs.declared.doc.Doc.{Doc}
 use Rattle.cs_compare.specs.Written.{lines_of, object_of, comparison_text, both_text, lines_text, has_some}
 use Rattle.cs_compare.specs.declared.comparison.Comparison.TheVariants.{Compatible, Breaking}
 use Rattle.cs_compare.specs.declared.written.Told.{Told}
 
 -- reasons are lines of their own, and there may be none
-lines : (d : Doc) → doc_view d ≡ boolean true
-    → map (λ reasons. lines_of (Breaking d) reasons) ([] ∷ codes "why\n" ∷ []) ≡ codes "breaking\ntrue\n" ∷ codes "breaking\ntrue\nwhy\n" ∷ []
-unfolding cs_doc_on_literals
-lines d is = rw is
+lines : (t : Vec ℕ Global) → t.items ≡ codes "true"
+    → map (λ reasons. lines_of (Breaking t) reasons) ([] ∷ codes "why\n" ∷ []) ≡ codes "breaking\ntrue\n" ∷ codes "breaking\ntrue\nwhy\n" ∷ []
+lines t is = rw is
 
-an_object : (d : Doc) → doc_view d ≡ null
-    → object_of (Breaking d) (codes "{\"valid\":false}") ≡ codes "{\"compatible\":false,\"document\":null,\"report\":{\"valid\":false}}"
-unfolding cs_doc_on_literals
-an_object d is = rw is
+an_object : (t : Vec ℕ Global) → t.items ≡ codes "null"
+    → object_of (Breaking t) (codes "{\"valid\":false}") ≡ codes "{\"compatible\":false,\"document\":null,\"report\":{\"valid\":false}}"
+an_object t is = rw is
 
 -- lines have their newlines, and an object gets one
 one_direction : (t : Told) → t.comparison ≡ Compatible

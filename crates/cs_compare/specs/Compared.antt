@@ -1,9 +1,9 @@
 -- What a comparison of two editions answers: the documents of the old root, and those of the new one.
 use Rattle.std.specs.Prelude.{◌≡◌, ℕ, List, Bool, true, false}
 use Rattle.cs_document.specs.Document.{Document, IsDocument}
-use Rattle.cs_document.specs.View.{doc_view}
 use Rattle.cs_package.specs.Environment.{Environment}
 use Rattle.cs_instance.specs.Instance.{Rule, definition, IsInstance, OneMeaning}
+use Rattle.cs_pretty.specs.Shown.{IsShown}
 use Rattle.cs_question.specs.ReadAgain.{IsReadAgain}
 use Rattle.cs_tool.specs.Accepted.{DeclaresRoot}
 use Rattle.cs_compare.specs.declared.comparison.Comparison.{Comparison}
@@ -26,9 +26,14 @@ abbrev pub Breaks : {old : List (List ℕ)} → {old_root : List ℕ} → {new :
 Breaks before after x = IsReadAgain x × ((I J : Rule → Document → Bool) → IsInstance before.environment I → IsInstance after.environment J
     → (I (definition before.name) x ≡ true) × (J (definition after.name) x ≡ false))
 
+-- the answer has the text of the document, as it is shown, which is read as the document
+abbrev pub ShowsDocument : Document → Comparison → Type 0
+ShowsDocument x Compatible = ⊥
+ShowsDocument x (Breaking t) = IsShown x t.items
+
 abbrev pub IsAnswer : {old : List (List ℕ)} → {old_root : List ℕ} → {new : List (List ℕ)} → {new_root : List ℕ} → Edition old old_root → Edition new new_root → Comparison → Type 0
 IsAnswer before after Compatible = Keeps before after
-IsAnswer before after (Breaking d) = Breaks before after (doc_view d)
+IsAnswer before after (Breaking t) = (x : Document) × IsShown x t.items × Breaks before after x
 
 -- both editions are accepted, and that is what the comparison says of them
 pub record IsComparison (old : List (List ℕ)) (old_root : List ℕ) (new : List (List ℕ)) (new_root : List ℕ) (answer : Comparison) : Type 0 where

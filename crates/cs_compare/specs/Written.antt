@@ -2,8 +2,6 @@
 use Rattle.std.specs.Prelude.{ℕ, List, [], ◌∷◌, ◌++◌, flat_map, Bool, true, false, Option, Vec, codes}
 use Rattle.std.specs.declared.alloc.Global.{Global}
 use Rattle.std.specs.Io.KnownBytes.{Keeps}
-use Rattle.cs_document.specs.View.{doc_view}
-use Rattle.cs_doc.specs.Texts.{text_of}
 use Rattle.cs_tool.specs.Runs.{line_of}
 use Rattle.cs_tool.specs.Streams.{AppendsFront}
 use Rattle.cs_tool.specs.declared.fault.Fault.{Fault}
@@ -16,17 +14,17 @@ use Rattle.cs_compare.specs.declared.written.Told.{Told}
 
 abbrev pub is_compatible : Comparison → Bool
 is_compatible Compatible = true
-is_compatible (Breaking d) = false
+is_compatible (Breaking t) = false
 
--- in lines: the word, and below `breaking` the document and the reasons
+-- in lines: the word, and below `breaking` the text of the document and the reasons
 abbrev pub lines_of : Comparison → List ℕ → List ℕ
 lines_of Compatible reasons = codes "compatible\n"
-lines_of (Breaking d) reasons = codes "breaking\n" ++ text_of (doc_view d) ++ codes "\n" ++ reasons
+lines_of (Breaking t) reasons = codes "breaking\n" ++ t.items ++ codes "\n" ++ reasons
 
 -- an object: the truth value, and where it is false the document and the reasons
 abbrev pub object_of : Comparison → List ℕ → List ℕ
 object_of Compatible reasons = codes "{\"compatible\":true}"
-object_of (Breaking d) reasons = codes "{\"compatible\":false,\"document\":" ++ text_of (doc_view d) ++ codes ",\"report\":" ++ reasons ++ codes "}"
+object_of (Breaking t) reasons = codes "{\"compatible\":false,\"document\":" ++ t.items ++ codes ",\"report\":" ++ reasons ++ codes "}"
 
 -- as an object, or in lines
 abbrev pub answer_of : Bool → Told → List ℕ

@@ -1,16 +1,18 @@
 // The comparison of two editions.
-ghost use Rattle.std.specs.Prelude.{◌≡◌, ◌⊎◌, ℕ, List, Some, IfOk, IfErr};
+ghost use Rattle.std.specs.Prelude.{◌≡◌, ◌⊎◌, ℕ, List, Some, None, IfOk, IfErr};
+ghost use Rattle.cs_document.specs.View.{doc_view};
 ghost use Rattle.cs_tool.specs.Given.{bytes_in};
 ghost use Rattle.cs_tool.specs.Accepted.{DeclaresRoot};
 ghost use Rattle.cs_tool.specs.CallRefusals.{ExportRefusal};
 ghost use Rattle.cs_tool.specs.Ready.{IsReady};
-ghost use Rattle.cs_compare.specs.Compared.{IsComparison};
+ghost use Rattle.cs_compare.specs.Compared.{IsComparison, ShowsDocument};
 ghost use Rattle.cs_compare.specs.Refused.{IsRefusal};
 
 use crate::refusal::{CompareRefusal, Side, of_question};
 use cs_document::Doc;
 use cs_guard::Guarded;
 use cs_instance::one_meaning;
+use cs_pretty::shown_text;
 use cs_question::{Budget, separating};
 use cs_tool::{Fault, read_root};
 use std::alloc::Global;
@@ -20,8 +22,8 @@ use std::alloc::Global;
 pub enum Comparison {
     /// Each document of the old definition is one of the new definition.
     Compatible,
-    /// A document of the old definition that isn't one of the new definition.
-    Breaking(Doc),
+    /// The text of a document of the old definition that isn't one of the new definition, with nothing hidden in it.
+    Breaking(Vec<u8>),
 }
 
 /// Whether each document of the old sources' root is one of the new sources' root, each a definition named with its `#`.
@@ -48,10 +50,29 @@ pub fn compare(
     let mut budget = Budget::new();
     match separating(alloc, &before, old_root, &after, new_root, &mut budget) {
         Ok(None) => Ok(Comparison::Compatible),
-        Ok(Some(doc)) => Ok(Comparison::Breaking(doc)),
+        Ok(Some(doc)) => breaking(alloc, &doc),
         Err(fault) => Err(CompareRefusal {
             side: None,
             fault: of_question(fault),
+        }),
+    }
+}
+
+/// The answer that a document breaks. Its text can be read, so there is one: a limit is met where there isn't.
+fn breaking(alloc: Global, doc: &Doc) -> Result<Comparison, CompareRefusal>
+    ensures shown { IfOk result (ShowsDocument (doc_view doc.now)) }
+    ensures side { IfErr result (λ r. r.side ≡ None) }
+    ensures fault { IfErr result (λ r. (r.fault ≡ Fault.OutOfMemory) ⊎ (r.fault ≡ Fault.TooManyCases)) }
+{
+    match shown_text(alloc, doc) {
+        Ok(Some(text)) => Ok(Comparison::Breaking(text)),
+        Ok(None) => Err(CompareRefusal {
+            side: None,
+            fault: Fault::TooManyCases,
+        }),
+        Err(_) => Err(CompareRefusal {
+            side: None,
+            fault: Fault::OutOfMemory,
         }),
     }
 }

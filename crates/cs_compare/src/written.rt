@@ -4,7 +4,6 @@ ghost use Rattle.std.specs.Io.KnownBytes.{Appends};
 ghost use Rattle.cs_compare.specs.Written.{is_compatible, answer_of, comparison_text, both_text, LeavesText};
 
 use crate::comparison::Comparison;
-use cs_doc::write_doc;
 use cs_tool::{Fault, write_text};
 use std::alloc::{AllocError, Global};
 use std::io::Write;
@@ -34,16 +33,12 @@ impl Told {
         match &self.comparison {
             Comparison::Compatible if is_json => b"{\"compatible\":true}".to_vec(alloc),
             Comparison::Compatible => b"compatible\n".to_vec(alloc),
-            Comparison::Breaking(doc) => {
-                let Ok(shown) = write_doc(alloc, doc) else {
-                    return Err(AllocError);
-                };
-                if is_json {
-                    let front = b"{\"compatible\":false,\"document\":";
-                    framed(alloc, front, &shown, b",\"report\":", &self.reasons, b"}")
-                } else {
-                    framed(alloc, b"breaking\n", &shown, b"\n", &self.reasons, b"")
-                }
+            Comparison::Breaking(shown) if is_json => {
+                let front = b"{\"compatible\":false,\"document\":";
+                framed(alloc, front, shown, b",\"report\":", &self.reasons, b"}")
+            }
+            Comparison::Breaking(shown) => {
+                framed(alloc, b"breaking\n", shown, b"\n", &self.reasons, b"")
             }
         }
     }

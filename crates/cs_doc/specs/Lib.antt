@@ -10,6 +10,7 @@ pub use Rattle.cs_flat.specs.Listed
 pub use Rattle.cs_flat.specs.View as FlatView
 pub mod Texts
 pub mod ReadAs
+pub mod Refusal
 -- for contracts of private functions and proofs alone
 pub use Rattle.cs_document.specs.Equality
 pub mod Listings

@@ -1,6 +1,7 @@
 // From the text of a document to the document, in the form that a judge reads fastest.
-ghost use Rattle.std.specs.Prelude.{◌≡◌, IfOk, IsErrOf};
-ghost use Rattle.cs_doc.specs.Texts.{Reads, IsJson, HasOtherNumber};
+ghost use Rattle.std.specs.Prelude.{◌≡◌, IfOk, IfErr};
+ghost use Rattle.cs_doc.specs.Texts.{Reads};
+ghost use Rattle.cs_doc.specs.Refusal.{IsRefusal};
 ghost use Rattle.cs_doc.specs.ReadAs.{read_as};
 ghost use Rattle.cs_document.specs.Document.{IsDocument};
 
@@ -28,8 +29,7 @@ pub fn read_document<'a>(
 ) -> Result<Document<'a>, DocFault>
     ensures found { IfOk result (λ d. Reads text.now (read_as d)) }
     ensures document { IfOk result (λ d. IsDocument (read_as d)) }
-    ensures not_json { IsErrOf result DocFault.NotJson → ¬ (IsJson text.now) }
-    ensures not_integer { IsErrOf result DocFault.NotInteger → HasOtherNumber text.now }
+    ensures refused { IfErr result (λ e. IsRefusal e text.now) }
 {
     if let Some(flat) = read_flat(alloc, text, scratch)? {
         let _count = flat.len(); // for the proof: its values are those of a document

@@ -4,6 +4,7 @@
 
 mod document;
 mod listing;
+mod numbers;
 mod read;
 mod write;
 

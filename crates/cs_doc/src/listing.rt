@@ -204,7 +204,7 @@ fn add_scalar<'a>(items: &mut Builder<'a>, token: Token<'a>) -> Result<usize, St
 }
 
 /// The integer that a number of JSON is, where it has neither a point nor an exponent, fits 64 bits, and isn't `-0`.
-fn integer(text: &str) -> Option<i64>
+pub(crate) fn integer(text: &str) -> Option<i64>
     ensures { IfSome result (λ z. option_and_then as_i64 (number_of text.now) ≡ Some z) }
 {
     let bytes = text.as_bytes();

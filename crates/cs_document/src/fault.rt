@@ -11,18 +11,18 @@ pub enum DocFault {
     /// Memory ran out.
     OutOfMemory,
     /// `serde_json` reads no value from the text: it isn't JSON or isn't UTF-8, nests deeper than 127, or has
-    /// a number that is too large.
-    NotJson,
-    /// The text has a number that isn't an integer, or doesn't fit in 64 signed bits.
-    NotInteger,
+    /// a number that is too large. That shows at the offset, in bytes; a text that is cut off ends there.
+    NotJson { offset: usize, is_cut: bool },
+    /// The text has a number that isn't an integer, or doesn't fit in 64 signed bits. The first one is at the offset.
+    NotInteger { offset: usize },
 }
 
 impl fmt::Display for DocFault {
     fn fmt<W: fmt::Write>(&self, f: &mut fmt::Formatter<W>) -> fmt::Result {
         f.write_str(meaning(match self {
             DocFault::OutOfMemory => 15,
-            DocFault::NotJson => 25,
-            DocFault::NotInteger => 26,
+            DocFault::NotJson { .. } => 25,
+            DocFault::NotInteger { .. } => 26,
         }))
     }
 }

@@ -1,4 +1,6 @@
 // Forms of CUE that are refused.
+use cs_grammar::Token;
+use cs_sources::{Near, end_of};
 
 /// A form that is refused: one of CUE that the profile leaves out, or a mistake.
 #[derive(Clone, Copy)]
@@ -132,4 +134,30 @@ pub struct Found {
     pub form: Form,
     pub start: usize,
     pub end: usize,
+}
+
+impl Found {
+    /// A form that the tokens from one up to another show.
+    fn between(form: Form, first: Token<'_>, last: Token<'_>) -> Found {
+        Found {
+            form,
+            start: first.start,
+            end: end_of(last),
+        }
+    }
+
+    /// A form that a token shows.
+    pub fn at(near: Near<'_, '_>, form: Form) -> Found {
+        Found::between(form, near.here(), near.here())
+    }
+
+    /// A form that the token before one shows.
+    pub(crate) fn before(near: Near<'_, '_>, form: Form) -> Found {
+        Found::between(form, near.before(1), near.before(1))
+    }
+
+    /// A form that the tokens from the one before up to the one behind show.
+    pub(crate) fn around(near: Near<'_, '_>, form: Form) -> Found {
+        Found::between(form, near.before(1), near.behind(1))
+    }
 }

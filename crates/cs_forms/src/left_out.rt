@@ -1,13 +1,13 @@
 // Forms that begin with a token which only forms outside the profile have (5).
 use crate::forms::{Form, Found};
-use crate::near::{Near, ends_value};
 use cs_grammar::Sort;
+use cs_sources::{Inside, Near, ends_value};
 
 /// The form at a token that the profile leaves out, wherever it stands.
 pub fn form_left_out(near: Near<'_, '_>) -> Found {
     match near.here().sort {
-        Sort::Hidden => near.shows(Form::HiddenName),
-        Sort::Name => near.shows(form_of_word(near.here().text)),
+        Sort::Hidden => Found::at(near, Form::HiddenName),
+        Sort::Name => Found::at(near, form_of_word(near.here().text)),
         _ => form_of_mark(near),
     }
 }
@@ -24,32 +24,32 @@ fn form_of_word(word: &str) -> Form {
 
 fn form_of_mark(near: Near<'_, '_>) -> Found {
     match near.here().text {
-        "*" if !ends_value(near.before(1)) => near.shows(Form::DefaultMark),
+        "*" if !ends_value(near.before(1)) => Found::at(near, Form::DefaultMark),
         "." => form_of_dot(near),
-        "=" if near.is_in_label() => near.shows(Form::AliasLabel),
-        "=" => near.shows(Form::Alias),
-        "=~" | "!~" if near.is_in_label() => near.shows(Form::Pattern),
-        "=~" | "!~" => near.shows(Form::RegularExpression),
-        "==" | "&&" | "||" => near.shows(Form::Comparison),
-        _ => near.shows(Form::Arithmetic),
+        "=" if near.inside() == Inside::Label => Found::at(near, Form::AliasLabel),
+        "=" => Found::at(near, Form::Alias),
+        "=~" | "!~" if near.inside() == Inside::Label => Found::at(near, Form::Pattern),
+        "=~" | "!~" => Found::at(near, Form::RegularExpression),
+        "==" | "&&" | "||" => Found::at(near, Form::Comparison),
+        _ => Found::at(near, Form::Arithmetic),
     }
 }
 
 fn form_of_dot(near: Near<'_, '_>) -> Found {
     if !ends_value(near.before(1)) {
-        return near.shows(Form::Float);
+        return Found::at(near, Form::Float);
     }
     if near.behind(1).sort != Sort::Name {
-        return near.shows(Form::Selector);
+        return Found::at(near, Form::Selector);
     }
     let is_name = near.before(1).sort == Sort::Name;
     if is_name && near.behind(2).text == "(" {
-        return near.both_show(Form::PackageCall);
+        return Found::around(near, Form::PackageCall);
     }
     if is_name && (is_package(near.before(1).text) || is_exported(near.behind(1).text)) {
-        return near.both_show(Form::PackageValue);
+        return Found::around(near, Form::PackageValue);
     }
-    near.both_show(Form::Selector)
+    Found::around(near, Form::Selector)
 }
 
 /// Whether a name begins with a capital letter, as what packages give does.

@@ -1,31 +1,11 @@
-// Forms whose tokens are well spelled and in their place: integers that are too large (6), and names that aren't declared (9).
+// Forms of names that are well spelled and in their place, but aren't declared (9).
 use crate::forms::{Form, Found};
-use crate::near::Near;
 use cs_grammar::{Sort, Token};
-
-/// The integer that begins at an offset of a source, as one that is too large. The source needn't be cut into tokens.
-pub fn form_too_large(source: &[u8], offset: usize) -> Found {
-    let rest = source.get(offset..).unwrap_or(&[]);
-    Found {
-        form: Form::LargeInteger,
-        start: offset,
-        end: offset.saturating_add(integer_len(rest)),
-    }
-}
-
-/// The length of the run of an integer.
-fn integer_len(bytes: &[u8]) -> usize {
-    for (at, byte) in bytes.iter().enumerate() {
-        if !byte.is_ascii_alphanumeric() && *byte != b'_' {
-            return at;
-        }
-    }
-    bytes.len()
-}
+use cs_sources::Near;
 
 /// The form of a name that isn't declared.
 pub fn form_unknown(near: Near<'_, '_>) -> Found {
-    near.shows(form_of_name(near.here()))
+    Found::at(near, form_of_name(near.here()))
 }
 
 fn form_of_name(name: Token<'_>) -> Form {

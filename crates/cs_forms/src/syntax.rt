@@ -1,14 +1,14 @@
 // Forms at a token that is out of place, and that the profile has elsewhere (4).
 use crate::forms::{Form, Found};
-use crate::near::{Around, Near, begins_value, ends_value, follows_label};
 use cs_grammar::{Sort, Token};
+use cs_sources::{Inside, Near, begins_value, ends_value, follows_label};
 
 /// The form at a token that is out of place, though the profile has it elsewhere.
 pub fn form_out_of_place(near: Near<'_, '_>) -> Found {
     if let Some(found) = after_word(near) {
         return found;
     }
-    if near.is_in_label() {
+    if near.inside() == Inside::Label {
         return form_in_label(near);
     }
     if near.begins_declaration() {
@@ -24,9 +24,9 @@ pub fn form_out_of_place(near: Near<'_, '_>) -> Found {
 fn after_word(near: Near<'_, '_>) -> Option<Found> {
     let before = near.before(1);
     match before.text {
-        "if" => Some(near.before_shows(Form::If)),
-        "for" => Some(near.before_shows(Form::For)),
-        "let" => Some(near.before_shows(Form::Let)),
+        "if" => Some(Found::before(near, Form::If)),
+        "for" => Some(Found::before(near, Form::For)),
+        "let" => Some(Found::before(near, Form::Let)),
         _ if begins_value(near.here()) => form_after_mark(near),
         _ => None,
     }
@@ -36,10 +36,10 @@ fn after_word(near: Near<'_, '_>) -> Option<Found> {
 fn form_after_mark(near: Near<'_, '_>) -> Option<Found> {
     let before = near.before(1);
     if is_relation(before) {
-        return Some(near.shows(form_of_limit(near.here())));
+        return Some(Found::at(near, form_of_limit(near.here())));
     }
     if before.text == "-" && is_relation(near.before(2)) {
-        return Some(near.shows(Form::Limit));
+        return Some(Found::at(near, Form::Limit));
     }
     None
 }
@@ -60,22 +60,22 @@ fn form_of_limit(token: Token<'_>) -> Form {
 /// The form inside of the brackets of a label.
 fn form_in_label(near: Near<'_, '_>) -> Found {
     if near.behind(1).text == "=" {
-        return near.shows(Form::AliasLabel);
+        return Found::at(near, Form::AliasLabel);
     }
-    near.shows(Form::Pattern)
+    Found::at(near, Form::Pattern)
 }
 
 /// The form at the first token of a declaration.
 fn form_of_declaration(near: Near<'_, '_>) -> Found {
     if near.before(2).text == "..." {
-        return near.shows(Form::EarlyEllipsis);
+        return Found::at(near, Form::EarlyEllipsis);
     }
     match near.here().text.as_bytes() {
-        [b'&' | b'|'] if near.before(1).sort == Sort::Inserted => near.shows(Form::BrokenLine),
+        [b'&' | b'|'] if near.before(1).sort == Sort::Inserted => Found::at(near, Form::BrokenLine),
         [b'}' | b']' | b')'] => closing(near),
         [] | [b',' | b'&' | b'|' | b':' | b'?' | b'!'] => plain(near),
-        _ if near.around() == Around::Top => near.shows(form_at_top(near)),
-        _ => near.shows(form_in_struct(near)),
+        _ if near.inside() == Inside::File => Found::at(near, form_at_top(near)),
+        _ => Found::at(near, form_in_struct(near)),
     }
 }
 
@@ -117,13 +117,13 @@ fn in_expression(near: Near<'_, '_>) -> Option<Found> {
 fn behind_value(near: Near<'_, '_>) -> Option<Found> {
     let (before, here) = (near.before(1), near.here());
     match here.text {
-        "(" if before.text == "close" => Some(near.before_shows(Form::Close)),
-        "(" if before.sort == Sort::Name => Some(near.before_shows(Form::Call)),
-        "[" if before.text != "}" => Some(near.shows(Form::Index)),
-        ":" if before.sort == Sort::Definition => Some(near.before_shows(Form::NestedDefinition)),
-        _ if is_relation(here) => Some(near.shows(Form::Comparison)),
+        "(" if before.text == "close" => Some(Found::before(near, Form::Close)),
+        "(" if before.sort == Sort::Name => Some(Found::before(near, Form::Call)),
+        "[" if before.text != "}" => Some(Found::at(near, Form::Index)),
+        ":" if before.sort == Sort::Definition => Some(Found::before(near, Form::NestedDefinition)),
+        _ if is_relation(here) => Some(Found::at(near, Form::Comparison)),
         _ if ["-", "div", "mod", "quo", "rem"].contains(&here.text) => {
-            Some(near.shows(Form::Arithmetic))
+            Some(Found::at(near, Form::Arithmetic))
         }
         _ => None,
     }
@@ -133,19 +133,19 @@ fn behind_value(near: Near<'_, '_>) -> Option<Found> {
 fn behind_mark(near: Near<'_, '_>) -> Option<Found> {
     let (before, here) = (near.before(1), near.here());
     match here.text.as_bytes() {
-        [b'!'] => Some(near.shows(Form::Negation)),
-        [b'&' | b'|'] if before.sort == Sort::Inserted => Some(near.shows(Form::BrokenLine)),
+        [b'!'] => Some(Found::at(near, Form::Negation)),
+        [b'&' | b'|'] if before.sort == Sort::Inserted => Some(Found::at(near, Form::BrokenLine)),
         _ if before.text == "-" && begins_value(here) => {
-            Some(near.before_shows(Form::Arithmetic))
+            Some(Found::before(near, Form::Arithmetic))
         }
-        _ if before.text == "..." && near.around() == Around::Struct => {
+        _ if before.text == "..." && near.inside() == Inside::Struct => {
             let is_typed = begins_value(here);
             let form = if is_typed {
                 Form::TypedEllipsis
             } else {
                 Form::EarlyEllipsis
             };
-            Some(near.shows(form))
+            Some(Found::at(near, form))
         }
         _ => None,
     }
@@ -155,21 +155,21 @@ fn behind_mark(near: Near<'_, '_>) -> Option<Found> {
 fn plain(near: Near<'_, '_>) -> Found {
     let (before, here) = (near.before(1), near.here());
     if is_label_before(near) {
-        return near.before_shows(Form::MissingColon);
+        return Found::before(near, Form::MissingColon);
     }
     if begins_value(here) && ends_value(before) {
-        return near.shows(Form::MissingComma);
+        return Found::at(near, Form::MissingComma);
     }
-    if begins_value(here) && before.sort == Sort::Inserted && near.around() == Around::List {
-        return near.shows(Form::NewLineInList);
+    if begins_value(here) && before.sort == Sort::Inserted && near.inside() == Inside::List {
+        return Found::at(near, Form::NewLineInList);
     }
     if is_end(here) && wants_value(before) {
-        return near.shows(Form::MissingValue);
+        return Found::at(near, Form::MissingValue);
     }
     match here.text.as_bytes() {
         [b'}' | b']' | b')'] => closing(near),
         [] if is_at_end(near) => closing(near),
-        _ => near.shows(Form::Misplaced),
+        _ => Found::at(near, Form::Misplaced),
     }
 }
 
@@ -177,10 +177,10 @@ fn plain(near: Near<'_, '_>) -> Found {
 fn is_label_before(near: Near<'_, '_>) -> bool {
     let before = near.before(1);
     let is_label = matches!(before.sort, Sort::Name | Sort::Text | Sort::Definition);
-    let (around, first) = (near.around(), near.before(2));
+    let (inside, first) = (near.inside(), near.before(2));
     let is_first = match first.sort {
-        Sort::Mark => first.text == "{" || first.text == "," && around != Around::List,
-        Sort::Inserted | Sort::End => around != Around::List,
+        Sort::Mark => first.text == "{" || first.text == "," && inside != Inside::List,
+        Sort::Inserted | Sort::End => inside != Inside::List,
         _ => false,
     };
     is_label && is_first && near.here().text != ":"
@@ -210,8 +210,8 @@ fn wants_value(token: Token<'_>) -> bool {
 /// The form at the end of a source, or at a closing bracket that closes nothing.
 fn closing(near: Near<'_, '_>) -> Found {
     match near.bracket() {
-        Some(bracket) => bracket.shows(Form::Unclosed),
-        None if near.here().text.is_empty() => near.shows(Form::Misplaced),
-        None => near.shows(Form::StrayBracket),
+        Some(bracket) => Found::at(bracket, Form::Unclosed),
+        None if near.here().text.is_empty() => Found::at(near, Form::Misplaced),
+        None => Found::at(near, Form::StrayBracket),
     }
 }

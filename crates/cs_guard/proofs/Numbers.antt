@@ -142,15 +142,11 @@ module _ (E : Environment) (G : Graph) (is : IsGraphOf E G) (once : IsDistinct b
     heights = λ i n at. height_by_name i n (get_or hs i 0) at (h.each i (let l = named_within E i n at in omega (arith, is.long)));
   }
 
-  pub too_deep_by_name : IsTooDeep (Refers G) → IsTooDeep (RefersStrongly E)
-  too_deep_by_name d = (
+  pub too_deep_by_name : (js : List ℕ) → IsTooDeep (Refers G) js → IsTooDeep (RefersStrongly E) (map (name_of E) js)
+  too_deep_by_name [] d = absurd d.1
+  too_deep_by_name (i ∷ js) d = (
     no_cycle_by_name d.0,
-    record {
-      start = name_of E d.1.start;
-      steps = map (name_of E) d.1.steps;
-      chain = chain_along (RefersStrongly E) G (name_of E) stands_for d.1.start d.1.steps d.1.chain;
-      long = let l = d.1.long in omega (arith, length-map d.1.steps (name_of E));
-    },
+    (chain_along (RefersStrongly E) G (name_of E) stands_for i js d.1.0, (let l = d.1.1 in omega (arith, l, length-map js (name_of E)))),
   )
 
   -- ---- a cycle
@@ -182,5 +178,6 @@ module _ (E : Environment) (G : Graph) (is : IsGraphOf E G) (once : IsDistinct b
 pub guarded_no_cycle : (E : Environment) (ns : List (List ℕ)) → IsGuarded (RefersStrongly E) → refused.IsCycle E ns → ⊥
 guarded_no_cycle E ns g c = none_closed (RefersStrongly E) g.no_cycle ns c.closed
 
-pub guarded_not_deep : (E : Environment) → IsGuarded (RefersStrongly E) → IsTooDeep (RefersStrongly E) → ⊥
-guarded_not_deep E g d = let c = d.1 in let most = g.short c.start c.steps c.chain in let long = c.long in omega arith
+pub guarded_not_deep : (E : Environment) (ns : List (List ℕ)) → IsGuarded (RefersStrongly E) → IsTooDeep (RefersStrongly E) ns → ⊥
+guarded_not_deep E [] g d = d.1
+guarded_not_deep E (n ∷ ns) g d = let most = g.short n ns d.1.0 in let long = d.1.1 in omega (arith, most, long)

@@ -238,11 +238,16 @@ chain_of_64 = record { no_cycle = no_cycle_up_to 64; short = short }
 chain_of_65 : limits.IsGuarded (ToNext 65) → ⊥
 chain_of_65 h = let l = h.short 0 (up_from 0 65) (climbing 65 0 65 (omega arith)) in omega (arith, l)
 
-too_deep_at_65 : IsTooDeep (ToNext 65)
-too_deep_at_65 = (no_cycle_up_to 65, record { start = 0; steps = up_from 0 65; chain = climbing 65 0 65 (omega arith); long = omega arith })
+too_deep_at_65 : IsTooDeep (ToNext 65) (0 ∷ up_from 0 65)
+too_deep_at_65 = (no_cycle_up_to 65, (climbing 65 0 65 (omega arith), omega arith))
 
-not_too_deep_at_64 : IsTooDeep (ToNext 64) → ⊥
-not_too_deep_at_64 h = let c = h.1 in let l = chain_of_64.short c.start c.steps c.chain in omega (arith, l, c.long)
+not_too_deep_at_64 : (xs : List ℕ) → IsTooDeep (ToNext 64) xs → ⊥
+not_too_deep_at_64 [] h = h.1
+not_too_deep_at_64 (x ∷ xs) h = let l = chain_of_64.short x xs h.1.0 in let over = h.1.1 in omega (arith, l, over)
+
+-- a chain is told with its last number
+told_without_its_last : IsTooDeep (ToNext 65) (0 ∷ up_from 0 64) → ⊥
+told_without_its_last h = let over = h.1.1 in omega (arith, over)
 
 -- ---- cycles
 
@@ -366,8 +371,8 @@ bare_names texts is h = by h.0 (sym is ∙ h.1)
     by (n ∷ ns) e = omega (arith, ap (λ ts. first_byte (get_or ts 0 [])) e)
 
 -- where there is a cycle, no chain is told to be too long
-cycle_comes_first : IsRefusal ChainTooLong itself → ⊥
-cycle_comes_first h = h.0 A [] (first_of A [], tt)
+cycle_comes_first : (texts : Vec (String Global) Global) → IsRefusal (ChainTooLong texts) itself → ⊥
+cycle_comes_first texts h = h.2.0 A [] (first_of A [], tt)
 
 -- ---- heights
 

@@ -21,12 +21,12 @@ pub record IsCycle (E : Environment) (ns : List (List ℕ)) : Type 0 where
   pub distinct : IsDistinct bytes_eq ns
   pub earliest : IsEarliestFirst E ns
 
--- there is no cycle, and a chain of more strong references than may be
-abbrev pub IsTooDeep : Environment → Type 0
+-- there is no cycle, and the names are a chain of more strong references than may be: each refers strongly to the next
+abbrev pub IsTooDeep : Environment → List (List ℕ) → Type 0
 IsTooDeep E = limits.IsTooDeep (RefersStrongly E)
 
--- what is refused: a cycle, told by its names as CUE writes them, or a chain that is too long where there is no cycle
+-- what is refused: a cycle, or a chain that is too long where there is no cycle, both told by their names as CUE writes them
 abbrev pub IsRefusal : GuardFault → Environment → Type 0
 IsRefusal OutOfMemory E = Unit {0}
 IsRefusal (Cycle texts) E = (ns : List (List ℕ)) × (map string_bytes texts.items ≡ map written ns) × IsCycle E ns
-IsRefusal ChainTooLong E = IsTooDeep E
+IsRefusal (ChainTooLong texts) E = (ns : List (List ℕ)) × (map string_bytes texts.items ≡ map written ns) × IsTooDeep E ns

@@ -11,3 +11,4 @@ pub mod Ranks
 pub mod Pushed
 pub mod Taken
 pub mod Found
+pub mod Descent

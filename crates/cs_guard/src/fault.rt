@@ -11,8 +11,8 @@ pub enum GuardFault {
     OutOfMemory,
     /// A cycle of strong references: each name refers strongly to the next, and the last to the first.
     Cycle { names: Vec<String> },
-    /// A chain of more than 64 strong references.
-    ChainTooLong,
+    /// A chain of more than 64 strong references: each name refers strongly to the next.
+    ChainTooLong { names: Vec<String> },
 }
 
 impl fmt::Display for GuardFault {
@@ -20,7 +20,7 @@ impl fmt::Display for GuardFault {
         f.write_str(meaning(match self {
             GuardFault::OutOfMemory => 15,
             GuardFault::Cycle { .. } => 12,
-            GuardFault::ChainTooLong => 16,
+            GuardFault::ChainTooLong { .. } => 16,
         }))
     }
 }

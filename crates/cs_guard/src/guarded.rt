@@ -1,21 +1,18 @@
 // A guarded package.
-ghost use Rattle.std.specs.Prelude.{◌≡◌, ◌<◌, ◌≤◌, ◌↔◌, ℕ, List, map, length, string_bytes, All, Contains, IsTrue, IfOk, IfErr, OnOk, IfSome, IsOkUnless};
+ghost use Rattle.std.specs.Prelude.{◌≡◌, ◌<◌, ℕ, List, map, length, string_bytes, All, Contains, IfOk, IfErr, OnOk, IfSome, IsOkUnless};
 ghost use Rattle.cs_package.specs.Environment.{name_at, written};
 ghost use Rattle.cs_guard.specs.Numbered.{name_of};
 ghost use Rattle.cs_guard.specs.Cycles.{IsRefusal};
 ghost use Rattle.cs_guard.specs.References.{strong_of};
-ghost use Rattle.cs_guard.specs.Limits.{most_references};
 ghost use Rattle.cs_guard.specs.Guarded.{IsGuarded, IsHeight};
 
 use crate::GuardFault;
+use crate::chain::{first_too_long, long_chain};
 use crate::references::graph_of_package;
 use cs_graph::{GraphFault, heights};
 use cs_package::Package;
 use std::alloc::{AllocError, Global};
 use std::marker::Model;
-
-/// The most references that a chain may have.
-const MOST_REFERENCES: usize = 64;
 
 /// A package without a cycle of strong references and without a chain of more than 64 of them.
 #[derive(Drop)]
@@ -64,7 +61,9 @@ impl Guarded {
 ///
 /// # Errors
 /// `Cycle`, with the names of a cycle as CUE writes them: each refers strongly to the next and the last to the first,
-/// no name comes twice, and the one that is declared first comes first. `ChainTooLong`, only where there is no cycle.
+/// no name comes twice, and the one that is declared first comes first. `ChainTooLong`, only where there is no cycle, with
+/// the names of a chain, each of which refers strongly to the next: the longest one from the first definition from which one
+/// is too long.
 pub fn guard(alloc: Global, package: Package) -> Result<Guarded, GuardFault>
     ensures found { IfOk result (λ g. g ≡ «package») }
     ensures guarded { OnOk result (IsGuarded «package») }
@@ -73,12 +72,10 @@ pub fn guard(alloc: Global, package: Package) -> Result<Guarded, GuardFault>
 {
     let graph = graph_of_package(alloc, &package)?;
     match heights(alloc, &graph) {
-        Ok(ranks) => {
-            if !are_within_limit(&ranks) {
-                return Err(GuardFault::ChainTooLong);
-            }
-            Ok(Guarded { package, ranks })
-        }
+        Ok(ranks) => match first_too_long(&ranks) {
+            None => Ok(Guarded { package, ranks }),
+            Some(first) => Err(long_chain(alloc, &package, &graph, &ranks, first)?),
+        },
         Err(GraphFault::OutOfMemory) => Err(GuardFault::OutOfMemory),
         Err(GraphFault::Cycle { numbers }) => {
             let names = names_of(alloc, &package, &numbers)?;
@@ -87,15 +84,12 @@ pub fn guard(alloc: Global, package: Package) -> Result<Guarded, GuardFault>
     }
 }
 
-/// Whether each chain is as short as it has to be, by the lengths of the longest ones.
-fn are_within_limit(ranks: &[usize]) -> bool
-    ensures { IsTrue result ↔ All (λ r. r ≤ most_references) ranks.now }
-{
-    ranks.iter().all(|rank| *rank <= MOST_REFERENCES)
-}
-
 /// The names of definitions, as CUE writes them.
-fn names_of(alloc: Global, package: &Package, numbers: &[usize]) -> Result<Vec<String>, AllocError>
+pub(crate) fn names_of(
+    alloc: Global,
+    package: &Package,
+    numbers: &[usize],
+) -> Result<Vec<String>, AllocError>
     requires { All (λ i. i < length «package».now) numbers.now }
     ensures { IfOk result (λ v. map string_bytes v.items
         ≡ map (λ i. written (name_of «package».now i)) numbers.now) }

@@ -1,6 +1,7 @@
 // Packages whose recursion is guarded, and what is reachable in a package.
 #![tactic(auto)]
 
+mod chain;
 mod fault;
 mod guarded;
 mod reaching;

@@ -26,27 +26,11 @@ pub mod Counted
 pub mod Wholes
 -- the table
 pub mod Verdicts
--- why a document is no instance
-pub mod Leaves
-pub mod Refusals
-pub mod Caused
-pub mod Carried
-pub mod Whys
-pub mod Reached
-pub mod Traced
-pub mod Told
-pub mod Seen
-pub mod Closest
-pub mod Explained
--- causes, one after another
-pub mod Tellings
-pub mod Labelled
-pub mod AllCauses
-pub mod Refused
+-- maps whose keys ascend
+pub mod Members
 -- samples
-mod Rows
+pub mod Rows
 mod Samples
 mod EarlierSamples
-mod WhySamples
 mod Doubling
 mod RuleRows

@@ -1,5 +1,5 @@
 -- The instance relation is the table of its judge.
-use Rattle.std.proofs.Common.{◌≡◌, ℕ, suc, ◌*◌, ◌<◌, ◌≤◌, Bool, List, map, length, slice_index, refl, sym, ap, ap₂, ◌∙◌, subst, arith}
+use Rattle.std.proofs.Common.{◌≡◌, ℕ, suc, ◌*◌, ◌<◌, ◌≤◌, Bool, List, map, length, slice_index, refl, sym, ap, ap₂, ◌∙◌, subst, subst₂, arith}
 use Rattle.std.specs.Prelude.{Some, slice_get}
 use Rattle.std.proofs.lemmas.List.{length-map}
 use Rattle.std.proofs.lemmas.Option.{slice_get_within}
@@ -23,7 +23,7 @@ use Rattle.cs_instance.specs.Instance.{Rule, definition, node, constraint_of, Is
 use Rattle.cs_instance.specs.Numbering.{map_constraint, rule_at}
 use Rattle.cs_instance.specs.Rules.{rules_of, HasManyPairs}
 use Rattle.cs_instance.specs.Judging.{IsJudge, IsTable}
-use Rattle.cs_instance.specs.Refusal.{IsRefusal}
+use Rattle.cs_instance.specs.Refusal.{IsRefusal, AreManyPairs}
 use Rattle.cs_instance.specs.Faults.{fault_of}
 use Rattle.cs_instance.specs.declared.fault.InstanceFault.TheVariants as instance
 use Rattle.cs_instance.specs.declared.rules.Rule.{Rule as Coded}
@@ -84,16 +84,28 @@ module _ (E : Environment) (n : List ℕ) (xs : List (Opened ℕ)) (root ic rc :
       let many : most_pairs < ic * rc = subst (λ k. most_pairs < k) same h.many in
       omega (arith, l, many)
 
-  pub many_pairs : most_pairs < ic * rc → HasManyPairs E n (document_in xs)
-  many_pairs l = record { names = j.are.names; reachable = j.are.reachable; many = subst (λ k. most_pairs < k) pairs l }
+  many_pairs : most_pairs < ic * rc → AreManyPairs E n (document_in xs) ic rc
+  many_pairs l = record {
+    names = j.are.names;
+    reachable = j.are.reachable;
+    items = j.item_count ∙ whole;
+    rules = j.rule_count ∙ length_permutation (rules_of E j.are.names) j.all j.are.same;
+    many = l;
+  }
 
-  pub many_where : (e : TableFault) → limits.IsRefusal ic rc e → fault_of e ≡ instance.TooManyPairs → HasManyPairs E n (document_in xs)
-  many_where table.OutOfMemory h is = cc
-  many_where table.TooManyPairs h is = many_pairs h
+  told_pairs : (items rules : ℕ) → limits.IsRefusal ic rc (table.TooManyPairs items rules) → AreManyPairs E n (document_in xs) items rules
+  told_pairs items rules h = subst₂ (AreManyPairs E n (document_in xs)) (sym h.0) (sym h.1) (many_pairs h.2)
+
+  pub many_where : (e : TableFault) → limits.IsRefusal ic rc e → (items rules : ℕ) → fault_of e ≡ instance.TooManyPairs items rules → AreManyPairs E n (document_in xs) items rules
+  many_where table.OutOfMemory h items rules is = cc
+  many_where (table.TooManyPairs i r) h items rules is =
+      let same_items : i ≡ items = cc in
+      let same_rules : r ≡ rules = cc in
+      subst₂ (AreManyPairs E n (document_in xs)) same_items same_rules (told_pairs i r h)
 
   pub refused : (root : List ℕ) → Names E root n → (e : TableFault) → limits.IsRefusal ic rc e → IsRefusal (fault_of e) E root (document_in xs)
   refused root names table.OutOfMemory h = tt
-  refused root names table.TooManyPairs h = (n, names, many_pairs h)
+  refused root names (table.TooManyPairs items rules) h = (n, names, told_pairs items rules h)
 
 -- the verdict on the last value by the root's rule is the one on the document
 pub last_verdict : (E : Environment) (n : List ℕ) (xs : List (Opened ℕ)) (root : ℕ) (t : Table) → IsTable E n xs root t → (last : ℕ) → last ≡ inside (document_in xs) → length xs ≡ suc (inside (document_in xs)) → node_at (values xs) (inside (document_in xs)) ≡ document_in xs

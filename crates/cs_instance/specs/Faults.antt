@@ -6,4 +6,4 @@ use Rattle.cs_instance.specs.declared.fault.InstanceFault.TheVariants as instanc
 
 abbrev pub fault_of : TableFault → InstanceFault
 fault_of table.OutOfMemory = instance.OutOfMemory
-fault_of table.TooManyPairs = instance.TooManyPairs
+fault_of (table.TooManyPairs items rules) = instance.TooManyPairs items rules

@@ -5,13 +5,7 @@ pub mod Numbering
 pub mod Rules
 pub mod Judging
 pub mod Refusal
-pub mod Causes
-pub mod Why
-pub mod NumberedCauses
-pub mod SeenCauses
-pub mod WhyTold
-pub mod Closest
-pub mod Meanings
+pub mod Rooted
 pub mod Earlier
 -- for contracts of private functions and proofs alone
 pub mod Steps
@@ -22,8 +16,4 @@ pub mod Told
 pub mod Keys
 pub mod Placing
 pub mod Ranked
-pub mod Rooted
 pub mod Faults
-pub mod Led
-pub mod CauseLists
-pub mod Leads

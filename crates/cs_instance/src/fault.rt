@@ -11,8 +11,8 @@ pub enum InstanceFault {
     OutOfMemory,
     /// The package doesn't declare the root.
     UnknownRoot,
-    /// The values of the document and the rules that the root reaches make more than 67,108,864 pairs.
-    TooManyPairs,
+    /// The document has so many values and the root reaches so many rules, which make more than 67,108,864 pairs.
+    TooManyPairs { items: usize, rules: usize },
 }
 
 impl fmt::Display for InstanceFault {
@@ -20,7 +20,7 @@ impl fmt::Display for InstanceFault {
         f.write_str(meaning(match self {
             InstanceFault::OutOfMemory => 15,
             InstanceFault::UnknownRoot => 13,
-            InstanceFault::TooManyPairs => 27,
+            InstanceFault::TooManyPairs { .. } => 27,
         }))
     }
 }
@@ -47,7 +47,9 @@ impl From<TableFault> for InstanceFault {
     fn from(fault: TableFault) -> InstanceFault {
         match fault {
             TableFault::OutOfMemory => InstanceFault::OutOfMemory,
-            TableFault::TooManyPairs => InstanceFault::TooManyPairs,
+            TableFault::TooManyPairs { items, rules } => {
+                InstanceFault::TooManyPairs { items, rules }
+            }
         }
     }
 }

@@ -35,19 +35,9 @@ impl<'a> Fields<'a> {
         Ok(Fields { all, labels, every })
     }
 
-    /// A declaration that asks for a key, if there is one: that of the key as its label.
-    pub(crate) fn asking_for(&self, key: &str) -> Option<&Field<'a>> {
-        for field in &self.all {
-            if field.label == key && is_asked_for(field.mark) {
-                return Some(field);
-            }
-        }
-        None
-    }
-
     /// Whether some declaration allows a key: that of its label, or `[string]`. The label is looked for at the next place
     /// first, where keys that are asked for in their order mostly have it.
-    pub(crate) fn allow(&self, key: &str, next: &mut usize) -> bool
+    pub fn allow(&self, key: &str, next: &mut usize) -> bool
         ensures { result ≡ list_any (λ d. allows d key.now) (map field_of self.now.all.items) }
     {
         if self.every {
@@ -72,19 +62,13 @@ ghost use Rattle.std.specs.List.{list_any};
 ghost use Rattle.cs_package.specs.Expression.{is_every};
 ghost use Rattle.cs_package.specs.View.{mark_of};
 
-pub(crate) fn is_for_every_key(mark: FieldMark) -> bool
+/// Whether a declaration with this mark is for every key: that of `[string]`.
+pub fn is_for_every_key(mark: FieldMark) -> bool
     ensures { result ≡ is_every (mark_of mark) }
 {
     match mark {
         FieldMark::Every { .. } => true,
         FieldMark::Regular | FieldMark::Optional | FieldMark::Required => false,
-    }
-}
-
-fn is_asked_for(mark: FieldMark) -> bool {
-    match mark {
-        FieldMark::Regular | FieldMark::Required => true,
-        FieldMark::Optional | FieldMark::Every { .. } => false,
     }
 }
 

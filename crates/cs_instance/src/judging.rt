@@ -33,7 +33,7 @@ pub fn instance_judge<'a>(
         × IsJudge «package».now n flat.now t.1 (⟦<InstanceJudge<'a> as Judge>⟧.item_count t.0)
         (⟦<InstanceJudge<'a> as Judge>⟧.rule_count t.0) (⟦<InstanceJudge<'a> as Judge>⟧.answer t.0)) }
     ensures refused { IfErr result (λ e. IsRefusal e «package».now root.now (document_in flat.now)) }
-    ensures fits { IsErrOf result InstanceFault.TooManyPairs → ⊥ }
+    ensures fits { (i r : ℕ) → IsErrOf result (InstanceFault.TooManyPairs i r) → ⊥ }
 {
     let rooted = numbered_root(alloc, package, root)?;
     let judge = RuleJudge::over(alloc, rooted.numbering, flat)?;

@@ -39,7 +39,7 @@ pub fn numbered_root<'a>(
         r.numbering.rules.items r.numbering.children.items r.number) }
     ensures unknown { IsErrOf result InstanceFault.UnknownRoot
         → (n : List ℕ) → ¬ Names «package».now root.now n }
-    ensures fits { IsErrOf result InstanceFault.TooManyPairs → ⊥ }
+    ensures fits { (i r : ℕ) → IsErrOf result (InstanceFault.TooManyPairs i r) → ⊥ }
 {
     let Some(definition) = package.package().find(root) else {
         return Err(InstanceFault::UnknownRoot);
@@ -79,12 +79,12 @@ pub fn numbered_package<'a>(
 /// their bodies.
 #[derive(Drop)]
 pub struct RootRules<'a> {
-    pub(crate) package: &'a Guarded,
+    package: &'a Guarded,
     /// The root's number among the definitions.
-    pub(crate) root: usize,
-    pub(crate) book: Rulebook<rules::Rule<'a>>,
+    root: usize,
+    book: Rulebook<rules::Rule<'a>>,
     /// The number of the root's rule in the book.
-    pub(crate) number: usize,
+    number: usize,
 }
 
 impl<'a> Model for RootRules<'a> {
@@ -119,7 +119,7 @@ pub fn root_rules<'a>(
     ensures named { IfOk result (λ r. Names «package».now root.now r.1) }
     ensures unknown { IsErrOf result InstanceFault.UnknownRoot
         → (n : List ℕ) → ¬ Names «package».now root.now n }
-    ensures fits { IsErrOf result InstanceFault.TooManyPairs → ⊥ }
+    ensures fits { (i r : ℕ) → IsErrOf result (InstanceFault.TooManyPairs i r) → ⊥ }
 {
     let NumberedRoot {
         definition,
@@ -136,11 +136,30 @@ pub fn root_rules<'a>(
 }
 
 impl RootRules<'_> {
-    ghost use Rattle.std.specs.Prelude.{◌≡◌, Bool, IfOk, OnOk, IsErrOf};
+    ghost use Rattle.std.specs.Prelude.{◌≡◌, ℕ, Bool, IfOk, OnOk, IsErrOf};
     ghost use Rattle.cs_document.specs.Document.{Document};
     ghost use Rattle.cs_flat.specs.Listed.{document_in};
+    ghost use Rattle.cs_guard.specs.Numbered.{name_of};
     ghost use Rattle.cs_instance.specs.Instance.{Rule, definition, IsInstance, OneMeaning};
+    ghost use Rattle.cs_instance.specs.Refusal.{AreManyPairs};
+    ghost use Rattle.cs_instance.specs.Rooted.{IsRooted};
     ghost use Rattle.cs_instance.specs.Rules.{HasManyPairs};
+
+    /// The package, and the number of the root among its definitions.
+    pub fn root(&self) -> (&Guarded, usize)
+        ensures package_kept { result.0.now ≡ self.now.0 }
+        ensures named { name_of self.now.0 result.1 ≡ self.now.1 }
+    {
+        (self.package, self.root)
+    }
+
+    /// The rules, and the number of the root's.
+    pub fn book(&self) -> (&Rulebook<rules::Rule<'_>>, usize)
+        ensures { IsRooted self.now.0 self.now.1 result.0.now.numbering.rules.items
+            result.0.now.numbering.children.items result.1 }
+    {
+        (&self.book, self.number)
+    }
 
     /// Whether a document, as the list of its values, is an instance of the root (CUE, values). The table's memory is used
     /// again.
@@ -154,8 +173,8 @@ impl RootRules<'_> {
             → b ≡ I (definition self.now.1) (document_in flat.now)) }
         ensures within { OnOk result
             (¬ HasManyPairs self.now.0 self.now.1 (document_in flat.now)) }
-        ensures many { IsErrOf result InstanceFault.TooManyPairs
-            → HasManyPairs self.now.0 self.now.1 (document_in flat.now) }
+        ensures many { (i r : ℕ) → IsErrOf result (InstanceFault.TooManyPairs i r)
+            → AreManyPairs self.now.0 self.now.1 (document_in flat.now) i r }
         ensures known { IsErrOf result InstanceFault.UnknownRoot → ⊥ }
     {
         let _package = self.package.package(); // for the proof: the package is guarded

@@ -17,7 +17,8 @@ use cs_flat::{Item, number_under};
 use cs_package::FieldMark;
 use cs_rules::Known;
 
-pub(crate) fn may_be_absent(mark: FieldMark) -> bool
+/// Whether the label of a declaration with this mark may be no key.
+pub fn may_be_absent(mark: FieldMark) -> bool
     ensures { result ≡ constraint.may_be_absent (mark_of mark) }
 {
     match mark {

@@ -1,14 +1,15 @@
 // What is wrong with a value, by a cause that leads nowhere.
-use crate::expression::Located;
 use crate::walk::{Walk, put_label};
 use crate::wants::{
     admitted_kind, mismatch_word, none_taken_word, put_found, put_mismatch, put_none_taken,
 };
 use cs_flat::{Flat, Item};
-use cs_instance::{InstanceCause, RootRules};
+use cs_instance::RootRules;
+use cs_instance_reasons::{InstanceCause, wanted_by};
 use cs_package::{FieldMark, Part, Shape};
 use cs_place::{Step, put_quoted};
 use cs_report::{Suggestion, put_counted, put_not_allowed, put_number};
+use cs_sources::Part as SourcePart;
 use std::alloc::{AllocError, Global};
 
 /// How many labels are compared with keys that aren't allowed, in all.
@@ -116,7 +117,10 @@ pub(crate) fn missing_of(cause: &InstanceCause) -> Option<usize> {
 }
 
 /// Where an expression in the sources begins, or the label of a declaration in it.
-pub(crate) fn source_offset(source: Located<'_, '_>, declaration: Option<usize>) -> Option<usize> {
+pub(crate) fn source_offset(
+    source: SourcePart<'_, '_>,
+    declaration: Option<usize>,
+) -> Option<usize> {
     match declaration {
         None => source.offset(),
         Some(place) => source.declaration(place)?.offset(),
@@ -250,7 +254,7 @@ impl<'t> Findings<'t> {
 
     /// That none of the alternatives takes a value, or the one under the key that tells them apart.
     fn none_taken(&self, item: usize, rule: usize) -> Result<Finding<'t>, AllocError> {
-        let wanted = self.rules.wanted(self.alloc, self.flat, item, rule)?;
+        let wanted = wanted_by(self.rules, self.alloc, self.flat, item, rule)?;
         let (step, at) = match wanted.key {
             None => (None, item),
             Some((key, under)) => (Some(Step::Key(key)), under),

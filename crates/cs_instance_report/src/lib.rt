@@ -1,9 +1,7 @@
 // Why a document is no instance of a definition, in words, with the places in the sources.
 #![tactic(auto)]
 
-mod expression;
 mod finding;
-mod outline;
 mod reports;
 mod sources;
 mod targets;

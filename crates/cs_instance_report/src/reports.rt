@@ -2,13 +2,14 @@
 ghost use Rattle.std.specs.Prelude.{◌≡◌, ◌⊎◌, ◌++◌, OnOk, OnErr, is_none, string_bytes};
 ghost use Rattle.cs_report.specs.Valid.{flag_text, HasLines, Reports};
 
-use crate::sources::sources_of;
 use crate::telling::words_of;
 use cs_flat::Flat;
-use cs_instance::{InstanceCause, RootRules};
+use cs_instance::RootRules;
+use cs_instance_reasons::InstanceCause;
 use cs_place::Named;
 use cs_reasons::{Reasons, Telling};
 use cs_report::{Form, put_lines, put_members, report_verdict};
+use cs_sources::{declared_in, sources_of};
 use std::alloc::{AllocError, Global};
 
 /// Puts what is told of the reasons, if there are any: in the output formats of JSON Schema nothing.
@@ -34,12 +35,14 @@ fn put_reasons(
         Form::Flag | Form::Basic => Ok(()),
         Form::Lines => {
             let cut = sources_of(alloc, sources)?;
-            let told = words_of(alloc, rules, &cut, telling, document, flat, reasons)?;
+            let declared = declared_in(alloc, &cut)?;
+            let told = words_of(alloc, rules, &declared, telling, document, flat, reasons)?;
             put_lines(text, document, &told.entries, told.more)
         }
         Form::Json => {
             let cut = sources_of(alloc, sources)?;
-            let told = words_of(alloc, rules, &cut, telling, document, flat, reasons)?;
+            let declared = declared_in(alloc, &cut)?;
+            let told = words_of(alloc, rules, &declared, telling, document, flat, reasons)?;
             put_members(text, &told.entries, told.more)
         }
     }

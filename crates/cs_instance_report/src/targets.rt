@@ -1,7 +1,7 @@
 // The values of a document whose places are told.
 use crate::finding::key_at;
 use cs_flat::Flat;
-use cs_instance::InstanceCause;
+use cs_instance_reasons::InstanceCause;
 use cs_place::{Named, Step, ValuePath, places};
 use cs_reasons::Link;
 use cs_report::Entry;

@@ -1,16 +1,18 @@
 // From the reasons of a refused document to their entries.
 use crate::finding::{Finding, Findings, missing_of, source_offset};
-use crate::sources::Sources;
+use crate::sources::{place_in, place_rules};
 use crate::targets::{Targets, step_of};
 use crate::walk::{Followed, Walk, definition_name};
 use cs_flat::Flat;
-use cs_instance::{InstanceCause, RootRules};
+use cs_instance::RootRules;
+use cs_instance_reasons::InstanceCause;
 use cs_package::Package;
 use cs_place::{Named, Step};
 use cs_reasons::{Link, Reason, Reasons, Telling};
 use cs_report::{
     Branch, Effort, Entry, SourcePlace, Told, place_entries, put_alternative, put_steps, told_of,
 };
+use cs_sources::Declared;
 use std::alloc::{AllocError, Global};
 use std::collections::HashMap;
 
@@ -53,7 +55,7 @@ struct Teller<'t, 'a> {
     flat: &'t Flat<'t>,
     package: &'t Package,
     root: usize,
-    sources: &'t Sources<'a>,
+    sources: &'t Declared<'t, 'a>,
     /// The places in the sources that were looked for.
     places: HashMap<PlaceKey, Option<SourcePlace<'a>>>,
     links: &'t Vec<Link<InstanceCause>>,
@@ -69,7 +71,7 @@ impl<'t, 'a> Teller<'t, 'a> {
     fn walk_to(
         &self,
         link: usize,
-        sources: Option<&'t Sources<'a>>,
+        sources: Option<&'t Declared<'t, 'a>>,
         steps: &mut Vec<Step<'t>>,
     ) -> Result<Walk<'t, 'a>, AllocError> {
         let chain = chain_of(self.alloc, self.links, link)?;
@@ -102,7 +104,7 @@ impl<'t, 'a> Teller<'t, 'a> {
             None => None,
             Some(found) => match source_offset(found, key.1) {
                 None => None,
-                Some(offset) => self.sources.place(found.file, offset),
+                Some(offset) => Some(place_in(found.source, offset)),
             },
         };
         drop(self.places.insert(key, place)?);
@@ -182,7 +184,7 @@ impl<'t, 'a> Teller<'t, 'a> {
 pub(crate) fn words_of<'t>(
     alloc: Global,
     rules: &'t RootRules<'t>,
-    sources: &'t Sources<'t>,
+    sources: &'t Declared<'t, 't>,
     telling: Telling,
     document: Named<'_>,
     flat: &'t Flat<'t>,
@@ -215,6 +217,6 @@ pub(crate) fn words_of<'t>(
     let further = reasons.count.saturating_sub(teller.effort.seen);
     let mut told = told_of(alloc, entries, telling.most, further)?;
     place_entries(document, &mut told.entries);
-    sources.place_rules(alloc, &mut told.entries)?;
+    place_rules(alloc, sources.sources, &mut told.entries)?;
     Ok(told)
 }

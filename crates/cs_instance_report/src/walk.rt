@@ -1,11 +1,10 @@
 // From a root to a rule along a chain of causes: the rule's expression in the package and in the sources, and its path.
-use crate::expression::Located;
-use crate::outline::Separator;
-use crate::sources::Sources;
-use cs_instance::InstanceCause;
+use crate::sources::body;
+use cs_instance_reasons::InstanceCause;
 use cs_package::{FieldMark, Package, Part, Shape, ShapeEnd};
 use cs_place::put_quoted;
 use cs_report::put_number;
+use cs_sources::{Declared, Part as SourcePart, Separator};
 use std::alloc::{AllocError, Global};
 
 /// What a rule is in the package.
@@ -35,10 +34,10 @@ pub(crate) struct Followed {
 pub(crate) struct Walk<'t, 'a> {
     pub(crate) package: &'t Package,
     /// The sources, if the walk goes through them too.
-    pub(crate) sources: Option<&'t Sources<'a>>,
+    pub(crate) sources: Option<&'t Declared<'t, 'a>>,
     pub(crate) node: Node<'t>,
     /// Its expression in the sources, where that was found.
-    pub(crate) source: Option<Located<'t, 'a>>,
+    pub(crate) source: Option<SourcePart<'t, 'a>>,
     /// The number of the last definition on the way.
     pub(crate) definition: usize,
     /// Its name, and the path from there.
@@ -113,7 +112,7 @@ impl<'t, 'a> Walk<'t, 'a> {
     pub(crate) fn new(
         alloc: Global,
         package: &'t Package,
-        sources: Option<&'t Sources<'a>>,
+        sources: Option<&'t Declared<'t, 'a>>,
         root: usize,
     ) -> Result<Self, AllocError> {
         let rule = String::from_str(alloc, definition_name(package, root))?;
@@ -159,7 +158,7 @@ impl<'t, 'a> Walk<'t, 'a> {
             self.node = body_of(self.package, definition, place);
             self.source = match self.sources {
                 None => None,
-                Some(sources) => sources.body(definition_name(self.package, definition), place),
+                Some(sources) => body(sources, definition_name(self.package, definition), place),
             };
             return Ok(());
         }

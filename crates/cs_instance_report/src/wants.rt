@@ -1,6 +1,6 @@
 // What is found, and what expressions of CUE ask for, as CUE spells it.
 use cs_flat::Item;
-use cs_instance::{Want, Wanted};
+use cs_instance_reasons::{Want, Wanted};
 use cs_package::{Kind, Relation, Shape};
 use cs_place::put_quoted;
 use cs_report::{MOST_WANTED, put_beginning, put_integer, put_number};

@@ -1,7 +1,8 @@
--- What a run with reasons answers, writes and leaves.
-use Rattle.std.proofs.Common.{◌≡◌, ◌⊎◌, ℕ, ◌+◌, ◌-◌, ◌^◌, min, List, [], ◌∷◌, ◌++◌, length, Bool, true, false, not, Option, Result, Ok, Err, IfOk, IfErr, refl, inl, inr, sym, ap, subst, ◌∙◌, arith, append_assoc, length-append, codes}
+-- What is told of answers, written and left.
+use Rattle.std.proofs.Common.{◌≡◌, ◌⊎◌, ℕ, ◌+◌, ◌-◌, ◌^◌, min, List, [], ◌∷◌, ◌++◌, length, Bool, true, false, not, Option, None, Some, Result, Ok, Err, IfOk, IfErr, refl, inl, inr, sym, ap, subst, ◌∙◌, arith, append_assoc, length-append, codes}
 use Rattle.std.specs.Io.KnownBytes.{Appends}
 use Rattle.std.proofs.KnownBytes.{Appends-trans}
+use Rattle.cs_tool.specs.Streams.{AppendsFront}
 use Rattle.cs_place.specs.Shown.{shown}
 use Rattle.cs_report.specs.Valid.{report_text, Says, Reports}
 use Rattle.cs_report.specs.declared.form.Form.{Form}
@@ -9,14 +10,14 @@ use Rattle.cs_report.specs.declared.form.Form.TheVariants.{Lines, Json, Flag, Ba
 use Rattle.cs_tool.specs.declared.rules.Rules.{Rules}
 use Rattle.cs_judge.specs.Answering.{AreAnswered}
 use Rattle.cs_judge.specs.declared.lines.LineRun.{LineRun}
-use Rattle.cs_judge.specs.Explained.{IsTold, Tells, is_told_by_schema, ReportsIf, IsLabelled, members_text, IsObject, input_member, IsDocumentFront, WritesObject, WritesLabelled, line_number, AreObjects, no_object, one_object, AreTold, IsWritten, AreToldTo}
+use Rattle.cs_judge.specs.Explained.{IsTold, Tells, is_told_by_schema, ReportsIf, IsLabelled, members_text, IsObject, input_member, document_member, IsDocumentFront, IsDocumentObject, IsWrittenOf, behind, WritesLabelled, LeavesLabelled, line_number, AreObjects, no_object, one_object, AreTold, IsWritten, AreToldTo}
 use Rattle.cs_judge.specs.Judged.{call_on}
-use Rattle.cs_judge.specs.Lines.{Answer, IsTextAnswer, answer_line}
+use Rattle.cs_judge.specs.Lines.{Answer, IsTextAnswer, answer_line, labelled}
 use Rattle.cs_tool.specs.Runs.{IsCallAnswer, IsCallRefusal, verdict_text}
 use Rattle.cs_judge.proofs.LineRuns.{line_told, weaker}
 
 -- nothing was told before
-pub told_first : (form : Form) (truth : Bool) (told : List ℕ) → Tells form truth [] told → IsTold form truth told
+pub told_first : (form : Option Form) (truth : Bool) (told : List ℕ) → Tells form truth [] told → IsTold form truth told
 told_first form truth told h = subst (IsTold form truth) (sym h.1) h.2
 
 -- nothing was reported before
@@ -31,46 +32,50 @@ one_side Flag a b old mid new same root schema = subst (λ t. Reports Flag t old
 one_side Basic a b old mid new same root schema = subst (λ t. Reports Basic t old new) (sym same) (subst (λ m. Reports Basic b m new) root schema)
 
 -- what is told of a verdict follows the label
-pub labelled_told : (label : List ℕ) (truth : Bool) (told : List ℕ) → IsTold Lines truth told → IsLabelled label (Ok truth) (shown label ++ codes ": " ++ told)
-labelled_told label true told h = ap (λ t. shown label ++ codes ": " ++ t) h
-labelled_told label false told h = (h.0, ap (λ t. shown label ++ codes ": " ++ t) h.1 ∙ sym (append_assoc (shown label ++ codes ": ") (answer_line (Ok false)) h.0), h.2)
+pub labelled_told : (label : List ℕ) (truth : Bool) (told : List ℕ) → IsTold (Some Lines) truth told → IsLabelled label (Ok truth) (behind label told)
+labelled_told label true told h = ap (behind label) h
+labelled_told label false told h = (h.0, ap (behind label) h.1 ∙ sym (append_assoc (shown label ++ codes ": ") (answer_line (Ok false)) h.0), h.2)
+
+-- that is written of an answer with a verdict
+pub written_behind : (label told : List ℕ) (answer : Answer) (truth : Bool) → answer ≡ Ok truth → IfOk answer (λ b. IsTold (Some Lines) b told) → IsWrittenOf (Some Lines) label answer (behind label told)
+written_behind label told (Ok valid) truth is h = labelled_told label valid told h
+written_behind label told (Err e) truth is h = absurd (cc is)
+
+-- of a refusal there is the line alone
+pub written_refused : (label : List ℕ) (answer : Answer) (e : _) → answer ≡ Err e → IsWrittenOf (Some Lines) label answer (labelled label answer)
+written_refused label (Ok valid) e is = absurd (cc is)
+written_refused label (Err f) e is = refl
+
+-- the object of a document
+pub written_object : (form : Form) (label told : List ℕ) (answer : Answer) (front : List ℕ) → (form ≡ Json) ⊎ ((form ≡ Flag) ⊎ (form ≡ Basic)) → IfOk answer (λ b. IsTold (Some form) b told) → IsDocumentFront label front → IsWrittenOf (Some form) label answer (front ++ members_text answer told)
+written_object Lines label told answer front (inl is) h f = absurd (cc is)
+written_object Lines label told answer front (inr (inl is)) h f = absurd (cc is)
+written_object Lines label told answer front (inr (inr is)) h f = absurd (cc is)
+written_object Json label told answer front is h f = (front, f, (told, h, refl))
+written_object Flag label told answer front is h f = (front, f, (told, h, refl))
+written_object Basic label told answer front is h f = (front, f, (told, h, refl))
 
 -- three writes, one after the other
 pub three_parts : (a b c d : Option (List ℕ)) (first second third : List ℕ) → Appends a b first → Appends b c second → Appends c d third → Appends a d (first ++ second ++ third)
 three_parts a b c d first second third f s t = Appends-trans a c d (first ++ second) third (Appends-trans a b c first second f s) t
 
--- that is written
-pub writes_told : (label told : List ℕ) (answer : Answer) (truth : Bool) (old new : Option (List ℕ)) → answer ≡ Ok truth → IfOk answer (λ b. IsTold Lines b told) → Appends old new (shown label ++ codes ": " ++ told) → WritesLabelled Lines label answer old new
-writes_told label told (Ok valid) truth old new is h w = (shown label ++ codes ": " ++ told, labelled_told label valid told h, w)
-writes_told label told (Err e) truth old new is h w = absurd (cc is)
-
--- the object of a document is written
-pub writes_object : (form : Form) (label told : List ℕ) (answer : Answer) (old new : Option (List ℕ)) → IfOk answer (λ b. IsTold form b told) → (front : List ℕ) × IsDocumentFront label front × Appends old new (front ++ members_text answer told) → WritesObject form label answer old new
-writes_object form label told answer old new h w = (w.0, w.0 ++ members_text answer told, w.1, (told, h, refl), w.2)
-
-pub object_labelled : (form : Form) (label : List ℕ) (answer : Answer) (old new : Option (List ℕ)) → (form ≡ Json) ⊎ ((form ≡ Flag) ⊎ (form ≡ Basic)) → WritesObject form label answer old new → WritesLabelled form label answer old new
-object_labelled Lines label answer old new (inl is) h = absurd (cc is)
-object_labelled Lines label answer old new (inr (inl is)) h = absurd (cc is)
-object_labelled Lines label answer old new (inr (inr is)) h = absurd (cc is)
-object_labelled Json label answer old new is h = h
-object_labelled Flag label answer old new is h = h
-object_labelled Basic label answer old new is h = h
-
 -- ---- the objects of lines
 
 -- no line is answered
-pub told_none : (form : Form) → AreTold form [] []
-told_none Lines = refl
-told_none Json = no_object
-told_none Flag = no_object
-told_none Basic = no_object
+pub told_none : (form : Option Form) → AreTold form [] []
+told_none None = refl
+told_none (Some Lines) = refl
+told_none (Some Json) = no_object
+told_none (Some Flag) = no_object
+told_none (Some Basic) = no_object
 
 -- one more is
-told_more : (form : Form) (answers : List Answer) (text : List ℕ) (answer : Answer) (more : List ℕ) → AreTold form answers text → IsWritten form (line_number answers) answer more → AreTold form (answers ++ answer ∷ []) (text ++ more)
-told_more Lines answers text answer more h w = ap (λ m. text ++ m) w ∙ line_told answer answers text h
-told_more Json answers text answer more h w = one_object answer more h w
-told_more Flag answers text answer more h w = one_object answer more h w
-told_more Basic answers text answer more h w = one_object answer more h w
+told_more : (form : Option Form) (answers : List Answer) (text : List ℕ) (answer : Answer) (more : List ℕ) → AreTold form answers text → IsWritten form (line_number answers) answer more → AreTold form (answers ++ answer ∷ []) (text ++ more)
+told_more None answers text answer more h w = ap (λ m. text ++ m) w ∙ line_told answer answers text h
+told_more (Some Lines) answers text answer more h w = ap (λ m. text ++ m) w ∙ line_told answer answers text h
+told_more (Some Json) answers text answer more h w = one_object answer more h w
+told_more (Some Flag) answers text answer more h w = one_object answer more h w
+told_more (Some Basic) answers text answer more h w = one_object answer more h w
 
 next : (n m most : ℕ) → m ≡ min (n + 1) most → min (m + 1) most ≡ min (n + 1 + 1) most
 next n m most is = omega arith
@@ -78,7 +83,7 @@ next n m most is = omega arith
 next_number : (answers : List Answer) (answer : Answer) (number : ℕ) → number ≡ line_number answers → min (number + 1) (2 ^ 64 - 1) ≡ line_number (answers ++ answer ∷ [])
 next_number answers answer number is = next (length answers) number (2 ^ 64 - 1) is ∙ ap (λ n. min (n + 1) (2 ^ 64 - 1)) (sym (length-append answers (answer ∷ [])))
 
-module _ (form : Form) (number : ℕ) (answer : Answer) (more : List ℕ) (w : IsWritten form number answer more) (answers : List Answer) (text : List ℕ) (h : AreToldTo form number answers text) where
+module _ (form : Option Form) (number : ℕ) (answer : Answer) (more : List ℕ) (w : IsWritten form number answer more) (answers : List Answer) (text : List ℕ) (h : AreToldTo form number answers text) where
   pub written : AreTold form (answers ++ answer ∷ []) (text ++ more)
   written = told_more form answers text answer more h.0 (subst (λ n. IsWritten form n answer more) h.1 w)
 
@@ -86,15 +91,16 @@ module _ (form : Form) (number : ℕ) (answer : Answer) (more : List ℕ) (w : I
   written_to = (written, next_number answers answer number h.1)
 
 -- whatever the number of the next line is
-pub at_any_line : (form : Form) (number : ℕ) (rules : Rules) (start now : Option (List ℕ)) (lines : List (List ℕ)) (run : LineRun) → AreAnswered (AreToldTo form number) rules start now lines run → AreAnswered (AreTold form) rules start now lines run
+pub at_any_line : (form : Option Form) (number : ℕ) (rules : Rules) (start now : Option (List ℕ)) (lines : List (List ℕ)) (run : LineRun) → AreAnswered (AreToldTo form number) rules start now lines run → AreAnswered (AreTold form) rules start now lines run
 at_any_line form number rules start now lines run = weaker rules start now lines run (λ answers text told. told.0)
 
 -- something is written of each answer
-pub some_written : (form : Form) (number : ℕ) (answer : Answer) (told : List ℕ) → IfOk answer (λ b. IsTold form b told) → (more : List ℕ) × IsWritten form number answer more
-some_written Lines number answer told h = (answer_line answer, refl)
-some_written Json number answer told h = (input_member number ++ members_text answer told, (told, h, refl))
-some_written Flag number answer told h = (input_member number ++ members_text answer told, (told, h, refl))
-some_written Basic number answer told h = (input_member number ++ members_text answer told, (told, h, refl))
+pub some_written : (form : Option Form) (number : ℕ) (answer : Answer) (told : List ℕ) → IfOk answer (λ b. IsTold form b told) → (more : List ℕ) × IsWritten form number answer more
+some_written None number answer told h = (answer_line answer, refl)
+some_written (Some Lines) number answer told h = (answer_line answer, refl)
+some_written (Some Json) number answer told h = (input_member number ++ members_text answer told, (told, h, refl))
+some_written (Some Flag) number answer told h = (input_member number ++ members_text answer told, (told, h, refl))
+some_written (Some Basic) number answer told h = (input_member number ++ members_text answer told, (told, h, refl))
 
 -- ---- the answer to a text
 
@@ -103,6 +109,6 @@ text_answer rules text (Ok truth) found refused = found
 text_answer rules text (Err e) found refused = refused
 
 -- what is told of it, where nothing was told before
-pub all_told : (form : Form) (answer : Answer) (before after told : List ℕ) → before ≡ [] → told ≡ after → IfOk answer (λ b. Tells form b before after) → IfOk answer (λ b. IsTold form b told)
+pub all_told : (form : Option Form) (answer : Answer) (before after told : List ℕ) → before ≡ [] → told ≡ after → IfOk answer (λ b. Tells form b before after) → IfOk answer (λ b. IsTold form b told)
 all_told form (Ok truth) before after told none same h = subst (IsTold form truth) (sym same) (told_first form truth after (subst (λ t. Tells form truth t after) none h))
 all_told form (Err e) before after told none same h = tt

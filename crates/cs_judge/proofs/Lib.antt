@@ -8,7 +8,6 @@ pub mod LineLists
 pub mod LineRuns
 pub mod Newlines
 pub mod OneSplit
-pub mod CallFaults
 pub mod RulesRefused
 -- documents with what is told of them
 pub mod ExplainedRuns

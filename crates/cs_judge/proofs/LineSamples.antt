@@ -10,7 +10,7 @@ use Rattle.cs_judge.specs.declared.answers.LinesOutcome.TheVariants.{AllValid, S
 use Rattle.cs_tool.specs.declared.fault.Fault.TheVariants.{Syntax, NotJson, OutOfMemory, InputTooLong, ReadFailed}
 
 -- each answer is a line, and a refusal tells its number alone
-answer_lines : map answer_line (Ok true ∷ Ok false ∷ Err NotJson ∷ Err OutOfMemory ∷ Err InputTooLong ∷ Err (Syntax 0 21) ∷ [])
+answer_lines : map answer_line (Ok true ∷ Ok false ∷ Err (NotJson 3 true) ∷ Err OutOfMemory ∷ Err InputTooLong ∷ Err (Syntax 0 21) ∷ [])
     ≡ (codes "valid" ++ 10 ∷ []) ∷ (codes "invalid" ++ 10 ∷ []) ∷ (codes "error 25" ++ 10 ∷ []) ∷ (codes "error 15" ++ 10 ∷ []) ∷ (codes "error 28" ++ 10 ∷ []) ∷ (codes "error 4" ++ 10 ∷ []) ∷ []
 unfolding digits
 answer_lines = refl
@@ -33,11 +33,11 @@ without_reasons : IsLabelled (codes "a") (Ok true) (codes "a: valid\n")
 unfolding chars encode
 without_reasons = refl
 
-refused_with_reasons : IsLabelled (codes "a") (Err NotJson) (codes "a: error 25\n")
+refused_with_reasons : IsLabelled (codes "a") (Err (NotJson 3 true)) (codes "a: error 25\n")
 unfolding digits chars encode
 refused_with_reasons = refl
 
-outcomes : map outcome_of ([] ∷ (Ok true ∷ Ok true ∷ []) ∷ (Ok false ∷ Ok true ∷ []) ∷ (Ok true ∷ Ok false ∷ []) ∷ (Err NotJson ∷ Ok false ∷ []) ∷ (Ok false ∷ Err NotJson ∷ Ok true ∷ []) ∷ [])
+outcomes : map outcome_of ([] ∷ (Ok true ∷ Ok true ∷ []) ∷ (Ok false ∷ Ok true ∷ []) ∷ (Ok true ∷ Ok false ∷ []) ∷ (Err (NotJson 3 true) ∷ Ok false ∷ []) ∷ (Ok false ∷ Err (NotJson 3 true) ∷ Ok true ∷ []) ∷ [])
     ≡ AllValid ∷ AllValid ∷ SomeInvalid ∷ SomeInvalid ∷ SomeRefused ∷ SomeRefused ∷ []
 outcomes = refl
 

@@ -1,10 +1,12 @@
 -- What is told of a document beside its verdict.
-use Rattle.std.specs.Prelude.{◌≡◌, ◌⊎◌, ℕ, ◌+◌, ◌-◌, ◌^◌, min, List, [], ◌∷◌, ◌++◌, length, drop, Bool, true, false, Option, Ok, Err, IfOk, codes, decimal}
+use Rattle.std.specs.Prelude.{◌≡◌, ◌⊎◌, ℕ, ◌+◌, ◌-◌, ◌^◌, min, List, [], ◌∷◌, ◌++◌, length, drop, Bool, true, false, Option, None, Some, Ok, Err, IfOk, codes, decimal}
 use Rattle.std.specs.Io.KnownBytes.{Appends, Keeps}
 use Rattle.json.specs.Print.{quoted}
+use Rattle.cs_place.specs.Shown.{shown}
 use Rattle.cs_report.specs.Valid.{EndsInLine, Says, Reports}
 use Rattle.cs_report.specs.declared.form.Form.{Form}
 use Rattle.cs_report.specs.declared.form.Form.TheVariants.{Lines, Json, Flag, Basic}
+use Rattle.cs_judge.specs.declared.why.Why.{Why}
 use Rattle.cs_judge.specs.Judged.{call_on}
 use Rattle.cs_judge.specs.Lines.{Answer, AreAnswerLines, answer_line, labelled, Hands}
 use Rattle.cs_tool.specs.Objects.{error_member}
@@ -14,16 +16,22 @@ use Rattle.cs_tool.specs.declared.fault.Fault.{Fault}
 use Rattle.cs_tool.specs.declared.fault.Fault.TheVariants.{WriteFailed}
 use Rattle.cs_tool.specs.declared.rules.Rules.{Rules}
 
--- in lines the verdict's line comes first, one at least follows `invalid`, and none `valid`; in the other forms an object says it
-abbrev pub IsTold : Form → Bool → List ℕ → Type 0
-IsTold Lines true text = text ≡ line_of (verdict_text true)
-IsTold Lines false text = (reasons : List ℕ) × (text ≡ line_of (verdict_text false) ++ reasons) × EndsInLine reasons
-IsTold Json truth text = Says Json truth text
-IsTold Flag truth text = Says Flag truth text
-IsTold Basic truth text = Says Basic truth text
+-- the form in which reasons are asked for, if they are
+abbrev pub asked_form : Option Why → Option Form
+asked_form None = None
+asked_form (Some why) = Some why.form
+
+-- the verdict's line, and in lines one at least behind `invalid`, and none behind `valid`; in the other forms an object says the verdict
+abbrev pub IsTold : Option Form → Bool → List ℕ → Type 0
+IsTold None truth text = text ≡ line_of (verdict_text truth)
+IsTold (Some Lines) true text = text ≡ line_of (verdict_text true)
+IsTold (Some Lines) false text = (reasons : List ℕ) × (text ≡ line_of (verdict_text false) ++ reasons) × EndsInLine reasons
+IsTold (Some Json) truth text = Says Json truth text
+IsTold (Some Flag) truth text = Says Flag truth text
+IsTold (Some Basic) truth text = Says Basic truth text
 
 -- what is told of the verdict was added
-abbrev pub Tells : Form → Bool → List ℕ → List ℕ → Type 0
+abbrev pub Tells : Option Form → Bool → List ℕ → List ℕ → Type 0
 Tells form truth old new = (text : List ℕ) × (new ≡ old ++ text) × IsTold form truth text
 
 -- where a document is judged on both sides, the schema tells the reasons in the output formats of JSON Schema
@@ -36,12 +44,12 @@ is_told_by_schema Basic = true
 -- ---- what is written of a document
 
 -- the truth value is that of the call on the text, and this is told of it
-abbrev pub IsToldAnswer : Rules → List ℕ → Form → Bool → List ℕ → Type 0
+abbrev pub IsToldAnswer : Rules → List ℕ → Option Form → Bool → List ℕ → Type 0
 IsToldAnswer rules text form truth told = IsCallAnswer (call_on rules text) truth (verdict_text truth) × IsTold form truth told
 
 -- what a refusal says of the call, and of what the writer has: nothing was written but a front of what is told where a
 -- write failed
-abbrev pub LeavesTold : Rules → List ℕ → Form → Fault → Option (List ℕ) → Option (List ℕ) → Type 0
+abbrev pub LeavesTold : Rules → List ℕ → Option Form → Fault → Option (List ℕ) → Option (List ℕ) → Type 0
 LeavesTold rules text form WriteFailed old new = (truth : Bool) × (told : List ℕ) × IsToldAnswer rules text form truth told × AppendsFront old new told
 LeavesTold rules text form fault old new = IsCallRefusal (call_on rules text) fault × Keeps old new
 
@@ -59,7 +67,7 @@ members_text (Err fault) told = error_member fault ++ codes "}\n"
 
 -- the object has that front, and tells the answer as it is told of the text alone
 abbrev pub IsObject : Form → List ℕ → Answer → List ℕ → Type 0
-IsObject form front answer text = (told : List ℕ) × IfOk answer (λ truth. IsTold form truth told) × (text ≡ front ++ members_text answer told)
+IsObject form front answer text = (told : List ℕ) × IfOk answer (λ truth. IsTold (Some form) truth told) × (text ≡ front ++ members_text answer told)
 
 -- what an object that tells of a line begins with: its number
 abbrev pub input_member : ℕ → List ℕ
@@ -73,16 +81,25 @@ document_member name = codes "{\"document\":" ++ quoted name ++ codes ","
 abbrev pub IsDocumentFront : List ℕ → List ℕ → Type 0
 IsDocumentFront name front = (front ≡ document_member name) ⊎ (front ≡ codes "{")
 
--- the writer took the object of a document of that label
-abbrev pub WritesObject : Form → List ℕ → Answer → Option (List ℕ) → Option (List ℕ) → Type 0
-WritesObject form label answer old new = (front : List ℕ) × (text : List ℕ) × IsDocumentFront label front × IsObject form front answer text × Appends old new text
+-- the object of a document of that label
+abbrev pub IsDocumentObject : Form → List ℕ → Answer → List ℕ → Type 0
+IsDocumentObject form label answer text = (front : List ℕ) × IsDocumentFront label front × IsObject form front answer text
 
--- in lines the writer took the line of that label, and else the object
-abbrev pub WritesLabelled : Form → List ℕ → Answer → Option (List ℕ) → Option (List ℕ) → Type 0
-WritesLabelled Lines label answer old new = (text : List ℕ) × IsLabelled label answer text × Appends old new text
-WritesLabelled Json label answer old new = WritesObject Json label answer old new
-WritesLabelled Flag label answer old new = WritesObject Flag label answer old new
-WritesLabelled Basic label answer old new = WritesObject Basic label answer old new
+-- what is written of a document of that label: the line of its answer, in lines with reasons behind it, and in the other forms the object
+abbrev pub IsWrittenOf : Option Form → List ℕ → Answer → List ℕ → Type 0
+IsWrittenOf None label answer text = text ≡ labelled label answer
+IsWrittenOf (Some Lines) label answer text = IsLabelled label answer text
+IsWrittenOf (Some Json) label answer text = IsDocumentObject Json label answer text
+IsWrittenOf (Some Flag) label answer text = IsDocumentObject Flag label answer text
+IsWrittenOf (Some Basic) label answer text = IsDocumentObject Basic label answer text
+
+-- the writer took it
+abbrev pub WritesLabelled : Option Form → List ℕ → Answer → Option (List ℕ) → Option (List ℕ) → Type 0
+WritesLabelled form label answer old new = (text : List ℕ) × IsWrittenOf form label answer text × Appends old new text
+
+-- the writer took a front of it
+abbrev pub LeavesLabelled : Option Form → List ℕ → Answer → Option (List ℕ) → Option (List ℕ) → Type 0
+LeavesLabelled form label answer old new = (text : List ℕ) × IsWrittenOf form label answer text × AppendsFront old new text
 
 -- ---- the lines of an input
 
@@ -95,14 +112,19 @@ pub data AreObjects (form : Form) : List Answer → List ℕ → Type 0 where
   no_object : AreObjects form [] []
   one_object : {answers : List Answer} {text : List ℕ} (answer : Answer) (object : List ℕ) → AreObjects form answers text → IsObject form (input_member (line_number answers)) answer object → AreObjects form (answers ++ answer ∷ []) (text ++ object)
 
--- what a run with reasons writes of the answers: their lines, or their objects
-abbrev pub AreTold : Form → List Answer → List ℕ → Type 0
-AreTold Lines answers text = AreAnswerLines answers text
-AreTold Json answers text = AreObjects Json answers text
-AreTold Flag answers text = AreObjects Flag answers text
-AreTold Basic answers text = AreObjects Basic answers text
+-- what a run writes of the answers: their lines, or their objects
+abbrev pub AreTold : Option Form → List Answer → List ℕ → Type 0
+AreTold None answers text = AreAnswerLines answers text
+AreTold (Some Lines) answers text = AreAnswerLines answers text
+AreTold (Some Json) answers text = AreObjects Json answers text
+AreTold (Some Flag) answers text = AreObjects Flag answers text
+AreTold (Some Basic) answers text = AreObjects Basic answers text
 
 -- ---- on the way
+
+-- a text behind a label
+abbrev pub behind : List ℕ → List ℕ → List ℕ
+behind label text = shown label ++ codes ": " ++ text
 
 -- what one side adds to the report of a document that is judged on both: all, or nothing
 abbrev pub ReportsIf : Bool → Form → Bool → List ℕ → List ℕ → Type 0
@@ -110,20 +132,21 @@ ReportsIf true form truth old new = Reports form truth old new
 ReportsIf false form truth old new = new ≡ old
 
 -- what is written of the answer to a line of that number
-abbrev pub IsWritten : Form → ℕ → Answer → List ℕ → Type 0
-IsWritten Lines number answer text = text ≡ answer_line answer
-IsWritten Json number answer text = IsObject Json (input_member number) answer text
-IsWritten Flag number answer text = IsObject Flag (input_member number) answer text
-IsWritten Basic number answer text = IsObject Basic (input_member number) answer text
+abbrev pub IsWritten : Option Form → ℕ → Answer → List ℕ → Type 0
+IsWritten None number answer text = text ≡ answer_line answer
+IsWritten (Some Lines) number answer text = text ≡ answer_line answer
+IsWritten (Some Json) number answer text = IsObject Json (input_member number) answer text
+IsWritten (Some Flag) number answer text = IsObject Flag (input_member number) answer text
+IsWritten (Some Basic) number answer text = IsObject Basic (input_member number) answer text
 
 -- it is held behind what was held
-abbrev pub HoldsWritten : Form → ℕ → Answer → Option (List ℕ) → Option (List ℕ) → List ℕ → List ℕ → Type 0
+abbrev pub HoldsWritten : Option Form → ℕ → Answer → Option (List ℕ) → Option (List ℕ) → List ℕ → List ℕ → Type 0
 HoldsWritten form number answer start now before after = (text : List ℕ) × IsWritten form number answer text × Hands start now (before ++ text) after
 
 -- the writer took a front of both
-abbrev pub LeavesWritten : Form → ℕ → Answer → Option (List ℕ) → Option (List ℕ) → List ℕ → Type 0
+abbrev pub LeavesWritten : Option Form → ℕ → Answer → Option (List ℕ) → Option (List ℕ) → List ℕ → Type 0
 LeavesWritten form number answer start now before = (text : List ℕ) × IsWritten form number answer text × AppendsFront start now (before ++ text)
 
 -- what is written of the answers, up to the line of that number
-abbrev pub AreToldTo : Form → ℕ → List Answer → List ℕ → Type 0
+abbrev pub AreToldTo : Option Form → ℕ → List Answer → List ℕ → Type 0
 AreToldTo form number answers text = AreTold form answers text × (number ≡ line_number answers)

@@ -1,10 +1,9 @@
 // Answers to texts, and the lines that tell them.
-ghost use Rattle.std.specs.Prelude.{◌≡◌, ◌+◌, ◌≤◌, ◌++◌, length, take, Ok, Err, OnOk, OnErr, IfOk, IfErr};
+ghost use Rattle.std.specs.Prelude.{◌≡◌, ◌+◌, ◌≤◌, ◌++◌, length, take, Err, OnOk, OnErr};
 ghost use Rattle.std.specs.Io.KnownBytes.{Appends};
 ghost use Rattle.cs_tool.specs.Streams.{AppendsFront};
-ghost use Rattle.cs_judge.specs.Lines.{Answer, IsTextAnswer, answer_line, worse, outcome_of_answer, labelled};
+ghost use Rattle.cs_judge.specs.Lines.{answer_line, worse, outcome_of_answer, labelled};
 
-use crate::text_judge::TextJudge;
 use cs_place::Label;
 use cs_tool::{Fault, put, write_part, write_text};
 use itoa::Buffer;
@@ -66,49 +65,6 @@ pub(crate) fn put_answer(line: &mut [u8], at: usize, answer: &Result<bool, Fault
             put(line, end, b"\n")
         }
     }
-}
-
-/// Judges the text, and writes `LABEL: valid`, `LABEL: invalid` or `LABEL: error N` and a newline, where the label is shown and N is the
-/// number of the refusal; then flushes.
-///
-/// `WriteFailed` alone: the writer took a front of that line.
-pub fn write_answer<W: Write>(
-    judge: &mut TextJudge<'_>,
-    text: &[u8],
-    label: &Label<'_>,
-    output: &mut W,
-) -> Result<LinesOutcome, Fault>
-    ensures done { IfOk result (λ outcome. (answer : Answer)
-        × IsTextAnswer judge.old text.now answer × (outcome ≡ outcome_of_answer answer)
-        × Appends (W.contents output.old) (W.contents output.new) (labelled label.now answer)) }
-    ensures refused { IfErr result (λ e. (e ≡ Fault.WriteFailed) × (answer : Answer)
-        × IsTextAnswer judge.old text.now answer
-        × AppendsFront (W.contents output.old) (W.contents output.new)
-        (labelled label.now answer)) }
-    ensures same { judge.new ≡ judge.old }
-{
-    let answer = judge.judge(text);
-    write_labelled(&answer, label, output)?;
-    Ok(outcome_of(&answer))
-}
-
-/// Writes `LABEL: error N` and a newline for a text that couldn't be read, where N is the number of the fault; then flushes.
-///
-/// `WriteFailed` alone: the writer took a front of that line.
-pub fn write_unread<W: Write>(
-    fault: Fault,
-    label: &Label<'_>,
-    output: &mut W,
-) -> Result<LinesOutcome, Fault>
-    ensures done { IfOk result (λ outcome. (outcome ≡ LinesOutcome.SomeRefused)
-        × Appends (W.contents output.old) (W.contents output.new)
-        (labelled label.now (Err fault))) }
-    ensures refused { IfErr result (λ e. (e ≡ Fault.WriteFailed)
-        × AppendsFront (W.contents output.old) (W.contents output.new)
-        (labelled label.now (Err fault))) }
-{
-    write_labelled(&Err(fault), label, output)?;
-    Ok(LinesOutcome::SomeRefused)
 }
 
 /// Writes the label, the answer and a newline, and flushes.

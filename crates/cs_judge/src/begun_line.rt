@@ -1,9 +1,12 @@
 // A line that is read in pieces.
-ghost use Rattle.std.specs.Prelude.{◌≡◌, ◌↔◌, ℕ, List, [], ◌++◌, IsTrue};
+ghost use Rattle.std.specs.Prelude.{◌≡◌, ◌↔◌, ℕ, List, [], ◌++◌, IfOk, IsTrue};
 ghost use Rattle.cs_judge.specs.Begun.{HoldsFront};
+ghost use Rattle.cs_judge.specs.Explained.{asked_form, Tells};
 ghost use Rattle.cs_judge.specs.Lines.{IsLineAnswer};
 
 use crate::text_judge::TextJudge;
+use crate::why::Why;
+use cs_place::Named;
 use cs_tool::{Fault, MOST_INPUT_BYTES};
 use std::alloc::Global;
 
@@ -62,33 +65,58 @@ impl BegunLine {
         }
     }
 
-    /// Answers the line that ends with the piece, and begins the next one. A line that is one piece is judged where it is.
-    pub(crate) fn finish(&mut self, judge: &mut TextJudge<'_>, piece: &[u8]) -> Result<bool, Fault>
+    /// Answers the line that ends with the piece, adds what is told of it under its name and number, and begins the next one. A line that
+    /// is one piece is judged where it is.
+    pub(crate) fn finish(
+        &mut self,
+        judge: &mut TextJudge<'_>,
+        piece: &[u8],
+        line: Named<'_>,
+        why: Option<Why<'_>>,
+        told: &mut Vec<u8>,
+    ) -> Result<bool, Fault>
         ensures answer { (front : List ℕ) → HoldsFront self.old front
             → IsLineAnswer judge.old (front ++ piece.now) result }
         ensures empty { HoldsFront self.new [] }
+        ensures told { IfOk result
+            (λ b. Tells (asked_form why.entry) b told.old.items told.new.items) }
         ensures same { judge.new ≡ judge.old }
     {
         if self.is_empty() && piece.len() <= MOST_INPUT_BYTES {
-            return judge.judge(piece);
+            return judge.explain(with_text(line, piece), why, told);
         }
         self.add(piece);
-        let answer = self.judged(judge);
+        let answer = self.answered(judge, line, why, told);
         self.bytes.clear();
         self.kept = Kept::All;
         answer
     }
 
-    /// The answer to the line.
-    fn judged(&self, judge: &mut TextJudge<'_>) -> Result<bool, Fault>
+    /// The answer to the line, with what is told of it.
+    fn answered(
+        &self,
+        judge: &mut TextJudge<'_>,
+        line: Named<'_>,
+        why: Option<Why<'_>>,
+        told: &mut Vec<u8>,
+    ) -> Result<bool, Fault>
         ensures answer { (line : List ℕ) → HoldsFront self.now line
             → IsLineAnswer judge.old line result }
+        ensures told { IfOk result
+            (λ b. Tells (asked_form why.entry) b told.old.items told.new.items) }
         ensures same { judge.new ≡ judge.old }
     {
         match self.kept {
-            Kept::All => judge.judge(&self.bytes),
+            Kept::All => judge.explain(with_text(line, &self.bytes), why, told),
             Kept::TooLong => Err(Fault::InputTooLong),
             Kept::OutOfMemory => Err(Fault::OutOfMemory),
         }
     }
+}
+
+/// The line of that name and number with its text.
+fn with_text<'a>(line: Named<'a>, text: &'a [u8]) -> Named<'a>
+    ensures { result.text.now ≡ text.now }
+{
+    Named { text, ..line }
 }

@@ -1,6 +1,6 @@
 // Judging the document of a text by numbered rules, and telling why it is invalid. The memory of `scratch` and `table` is used
 // again.
-ghost use Rattle.std.specs.Prelude.{◌≡◌, ℕ, List, IfOk, IfErr, OnOk, OnErr, IsOkUnless};
+ghost use Rattle.std.specs.Prelude.{◌≡◌, ℕ, List, Some, IfOk, IfErr, OnOk, OnErr, IsOkUnless};
 ghost use Rattle.cs_tool.specs.Accepted.{DeclaresRoot};
 ghost use Rattle.cs_tool.specs.Agreement.{IsAgreement};
 ghost use Rattle.cs_tool.specs.CallRefusals.{VetRefusal, ValidateRefusal, AgreeRefusal};
@@ -39,7 +39,8 @@ pub(crate) fn explain_root(
     ensures only { (sources : List (List ℕ)) (root : List ℕ)
         → DeclaresRoot sources root rules.now.0 rules.now.1
         → IsReadyToVet sources root document.entry.text.now → IsOkUnless result Fault.OutOfMemory }
-    ensures told { IfOk result (λ b. Tells why.entry.form b output.old.items output.new.items) }
+    ensures told { IfOk result
+        (λ b. Tells (Some why.entry.form) b output.old.items output.new.items) }
     ensures kept { OnErr result (output.new.items ≡ output.old.items) }
 {
     let doc = read_document(alloc, document.text, scratch)?;
@@ -65,7 +66,8 @@ pub(crate) fn explain_schema(
         → IfErr result (λ e. ValidateRefusal schema document.entry.text.now e) }
     ensures only { (schema : List ℕ) → IsSchemaOf schema rules.now
         → IsReadyToValidate schema document.entry.text.now → IsOkUnless result Fault.OutOfMemory }
-    ensures told { IfOk result (λ b. Tells why.entry.form b output.old.items output.new.items) }
+    ensures told { IfOk result
+        (λ b. Tells (Some why.entry.form) b output.old.items output.new.items) }
     ensures kept { OnErr result (output.new.items ≡ output.old.items) }
 {
     let doc = read_document(alloc, document.text, scratch)?;
@@ -98,7 +100,8 @@ pub(crate) fn explain_both(
         → IsReadyToAgree sources root document.entry.text.now → IsOkUnless result Fault.OutOfMemory }
     ensures told { (sources : List (List ℕ)) (root : List ℕ)
         → AreSidesOf sources root root_side.now.0 root_side.now.1 schema_side.now
-        → IfOk result (λ b. Tells why.entry.form b output.old.items output.new.items) }
+        → IfOk result
+        (λ b. Tells (Some why.entry.form) b output.old.items output.new.items) }
     ensures kept { OnErr result (output.new.items ≡ output.old.items) }
 {
     let doc = read_document(alloc, document.text, scratch)?;

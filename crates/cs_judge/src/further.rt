@@ -1,23 +1,26 @@
 // Reasons beyond those that are asked for: what several of them say is one line, so lines are counted by all of them.
-ghost use Rattle.std.specs.Prelude.{◌≡◌, Bool, IfOk, IfErr, OnOk, IsErrOf, is_none};
+ghost use Rattle.std.specs.Prelude.{◌≡◌, ℕ, Bool, IfOk, IfErr, OnOk, IsErrOf, is_none};
 ghost use Rattle.cs_document.specs.Document.{Document as TheDocument};
 ghost use Rattle.cs_flat.specs.Listed.{document_in};
 ghost use Rattle.cs_instance.specs.Instance as instance;
 ghost use Rattle.cs_instance.specs.Instance.{Rule, definition, IsInstance};
+ghost use Rattle.cs_instance.specs.Refusal as unjudged;
 ghost use Rattle.cs_instance.specs.Rules as by_root;
 ghost use Rattle.cs_profile.specs.Validity as validity;
 ghost use Rattle.cs_profile.specs.Validity.{IsValidity};
 ghost use Rattle.cs_validate.specs.Refusal.{IsRefusal};
 ghost use Rattle.cs_validate.specs.Rules as by_schema;
-ghost use Rattle.cs_validate.specs.WhyTold.{says_valid};
+ghost use Rattle.cs_validity_reasons.specs.WhyTold.{says_valid};
 
 use crate::why::Why;
 use cs_flat::{Flat, Item};
-use cs_instance::{InstanceCause, InstanceFault, RootRules};
+use cs_instance::{InstanceFault, RootRules};
+use cs_instance_reasons::{InstanceCause, explain_instance};
 use cs_reasons::{Reasons, Telling};
 use cs_report::Form;
 use cs_table::Verdicts;
-use cs_validate::{Explanation, SchemaRules, ValidateFault};
+use cs_validate::{SchemaRules, ValidateFault};
+use cs_validity_reasons::{Explanation, explain_validity};
 use std::alloc::{AllocError, Global};
 
 /// Where there are more reasons than so many, none is looked at but those that are asked for.
@@ -93,7 +96,7 @@ fn asked_again<C: Drop>(
     }))
 }
 
-/// As [`RootRules::explained`], with further reasons, all of them where they are few.
+/// As [`explain_instance`], with further reasons, all of them where they are few.
 pub(crate) fn explained_by_root<'b>(
     rules: &'b RootRules<'_>,
     alloc: Global,
@@ -106,11 +109,11 @@ pub(crate) fn explained_by_root<'b>(
         → is_none o ≡ I (definition rules.now.1) (document_in flat.now)) }
     ensures within { OnOk result
         (¬ by_root.HasManyPairs rules.now.0 rules.now.1 (document_in flat.now)) }
-    ensures many { IsErrOf result InstanceFault.TooManyPairs
-        → by_root.HasManyPairs rules.now.0 rules.now.1 (document_in flat.now) }
+    ensures many { (i r : ℕ) → IsErrOf result (InstanceFault.TooManyPairs i r)
+        → unjudged.AreManyPairs rules.now.0 rules.now.1 (document_in flat.now) i r }
     ensures known { IsErrOf result InstanceFault.UnknownRoot → ⊥ }
 {
-    let asked = rules.explained(alloc, flat, table, why.telling)?;
+    let asked = explain_instance(rules, alloc, flat, table, why.telling)?;
     let again = match &asked {
         None => None,
         Some(reasons) => asked_again(alloc, flat, table, why, reasons)?,
@@ -119,12 +122,12 @@ pub(crate) fn explained_by_root<'b>(
         None => Ok(asked),
         Some(telling) => {
             drop(asked);
-            rules.explained(alloc, flat, table, telling)
+            explain_instance(rules, alloc, flat, table, telling)
         }
     }
 }
 
-/// As [`SchemaRules::explained`], with further reasons, all of them where they are few.
+/// As [`explain_validity`], with further reasons, all of them where they are few.
 pub(crate) fn explained_by_schema<'b>(
     rules: &'b SchemaRules<'_>,
     alloc: Global,
@@ -138,7 +141,7 @@ pub(crate) fn explained_by_schema<'b>(
     ensures within { OnOk result (¬ by_schema.HasManyPairs rules.now (document_in flat.now)) }
     ensures refused { IfErr result (λ e. IsRefusal e rules.now (document_in flat.now)) }
 {
-    let asked = rules.explained(alloc, flat, table, why.telling)?;
+    let asked = explain_validity(rules, alloc, flat, table, why.telling)?;
     let again = match &asked {
         Explanation::Valid | Explanation::Untold => None,
         Explanation::Invalid(reasons) => asked_again(alloc, flat, table, why, reasons)?,
@@ -147,7 +150,7 @@ pub(crate) fn explained_by_schema<'b>(
         None => Ok(asked),
         Some(telling) => {
             drop(asked);
-            rules.explained(alloc, flat, table, telling)
+            explain_validity(rules, alloc, flat, table, telling)
         }
     }
 }

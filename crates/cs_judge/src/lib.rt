@@ -2,10 +2,8 @@
 #![tactic(auto)]
 
 mod answers;
-mod begun_explained;
 mod begun_line;
-mod explained_lines;
-mod explained_runs;
+mod documents;
 mod explanations;
 mod fronts;
 mod further;
@@ -16,12 +14,11 @@ mod telling;
 mod text_judge;
 mod why;
 
-pub use answers::{LinesOutcome, write_answer, write_unread};
+pub use answers::LinesOutcome;
 pub use cs_place::Named;
 pub use cs_reasons::Telling;
 pub use cs_report::Form;
-pub use explained_lines::explain_lines;
-pub use explained_runs::{run_explained, write_explained, write_unexplained};
+pub use documents::{run_document, write_document, write_unread};
 pub use lines::run_lines;
 pub use text_judge::{Prepared, TextJudge, prepare};
 pub use why::Why;

@@ -1,26 +1,30 @@
 // A run over the lines of an input.
-ghost use Rattle.std.specs.Prelude.{◌≡◌, ◌+◌, ◌⊎◌, ℕ, List, ◌∷◌, [], ◌++◌, ◌<◌, length, Option, Some, OnOk, OnErr, IfOk, IfErr, Err};
-ghost use Rattle.cs_judge.specs.Judged.{AreReadable};
+ghost use Rattle.std.specs.Prelude.{◌≡◌, ◌⊎◌, ℕ, ◌+◌, ◌-◌, ◌^◌, min, List, ◌∷◌, [], ◌++◌, ◌<◌, length, Option, Some, OnOk, OnErr, IfOk, IfErr, Err};
 ghost use Rattle.cs_judge.specs.Begun.{HoldsFront};
-ghost use Rattle.cs_judge.specs.Explained.{Tells};
-ghost use Rattle.cs_judge.specs.Lines.{AreAnswerLines, IsLineAnswer, worse, outcome_of_answer, IsDone, IsCutOff, LeavesLines, IsOfRules};
+ghost use Rattle.cs_judge.specs.Explained.{asked_form, IsTold, Tells, input_member, members_text, AreTold, AreToldTo, HoldsWritten, LeavesWritten};
+ghost use Rattle.cs_judge.specs.Lines.{IsLineAnswer, worse, outcome_of_answer, IsDone, IsCutOff, LeavesLines, IsOfRules, Hands};
 ghost use Rattle.cs_judge.specs.Answering.{AreAnswered, IsAnswered, AreCutOff, IsCutOffIn};
+ghost use Rattle.cs_tool.specs.Streams.{AppendsFront};
 
 use crate::answers::{LinesOutcome, outcome_of};
 use crate::begun_line::BegunLine;
+use crate::documents::members_of;
+use crate::fronts::put_input;
 use crate::held_answers::HeldAnswers;
-use crate::text_judge::{Prepared, TextJudge, prepare};
-use crate::why::Why;
+use crate::telling::verdict_line;
+use crate::text_judge::TextJudge;
+use crate::why::{Why, form_of};
 use cs_place::Named;
-use cs_tool::{Fault, Rules};
+use cs_report::Form;
+use cs_tool::{Fault, MEMBER_ROOM, put_error};
 use memchr::memchr;
 use std::alloc::{AllocError, Global};
 use std::io::{Read, Write};
 
 /// How many bytes are asked for at a time.
-pub(crate) const CHUNK: usize = 65_536;
+const CHUNK: usize = 65_536;
 
-/// A run between two reads.
+/// The answers of a run between two reads.
 #[derive(Drop)]
 pub(crate) struct LineRun {
     pub(crate) begun: BegunLine,
@@ -28,68 +32,65 @@ pub(crate) struct LineRun {
     pub(crate) outcome: LinesOutcome,
 }
 
-/// Judges each line of the input by the rules, and writes for it one line: `valid`, `invalid`, or `error N` with the number
-/// of the refusal that the single call has for the line's text. A line ends before a newline or at the input's end, where it
-/// has a byte; a line of more than 67,108,864 bytes is `error 28`. The answers are written and flushed before the next read.
+/// A run between two reads, with what is told of its lines.
+#[derive(Drop)]
+struct ToldRun<'a> {
+    run: LineRun,
+    /// The name of the input, and the number of the line that is begun.
+    line: Named<'a>,
+    /// What is told of the line before.
+    told: Vec<u8>,
+    /// The reasons in lines that aren't written yet.
+    notes: HeldAnswers,
+}
+
+/// Judges each line of the input by the judge's rules, and writes for it one line to `output`: `valid`, `invalid`, or `error N` with the
+/// number of the refusal that the single call has for the line's text. A line ends before a newline or at the input's end, where it has a
+/// byte; a line of more than 67,108,864 bytes is `error 28`. Where reasons are asked for in lines, they go to `notes`, each with the name of
+/// the input and the number of its line. In the other forms there is in place of the line one object, whose first member is `input`, that
+/// number: behind it what is told of the line alone, or `error` for a refusal. Both are flushed before the next read.
 ///
-/// A refusal of a line is its answer, want of memory too. One of the rules is handed on, with nothing read or written;
-/// `OutOfMemory` comes only then.
-/// `ReadFailed`: the answers to the lines that end before that read are written, and no more. `WriteFailed`: the writer took a
-/// front of the answers.
+/// A refusal of a line is its answer, want of memory too. `OutOfMemory` comes only before the first read.
+/// `ReadFailed`: the answers to the lines that end before that read are written, and no more. `WriteFailed`: the writer took a front of the
+/// answers, or `notes` failed.
 ///
 /// What the clauses say of bytes, they say of a reader and a writer whose bytes are known. That 30 and 31 come only where a
 /// read, a write or a flush failed, and when the answers are flushed, is tested.
-pub fn run_lines<R: Read, W: Write>(
+pub fn run_lines<R: Read, W: Write, E: Write>(
     alloc: Global,
-    rules: &Rules,
+    mut judge: TextJudge<'_>,
+    name: &str,
+    why: Option<Why<'_>>,
     input: &mut R,
     output: &mut W,
+    notes: &mut E,
 ) -> Result<LinesOutcome, Fault>
-    ensures done { IfOk result (IsDone AreAnswerLines rules.now (R.remaining input.old)
-        (W.contents output.old) (W.contents output.new)) }
-    ensures refused { IfErr result (λ e. LeavesLines AreAnswerLines rules.now e
+    ensures done { IfOk result (IsDone (AreTold (asked_form why.entry)) judge.entry
+        (R.remaining input.old) (W.contents output.old) (W.contents output.new)) }
+    ensures refused { IfErr result (λ e. LeavesLines (AreTold (asked_form why.entry)) judge.entry e
         (R.remaining input.old) (R.remaining input.new)
         (W.contents output.old) (W.contents output.new)) }
     ensures unread { IfErr result (λ e. IsOfRules e
         → (input.new ≡ input.old) × (output.new ≡ output.old)) }
-    ensures only { AreReadable rules.now → IfErr result (λ e. (e ≡ Fault.OutOfMemory)
+    ensures only { IfErr result (λ e. (e ≡ Fault.OutOfMemory)
         ⊎ (e ≡ Fault.ReadFailed) ⊎ (e ≡ Fault.WriteFailed)) }
 {
-    let prepared = prepare(alloc, rules)?;
-    run_prepared(alloc, &prepared, input, output)
-}
-
-/// The same by prepared rules.
-fn run_prepared<R: Read, W: Write>(
-    alloc: Global,
-    prepared: &Prepared<'_>,
-    input: &mut R,
-    output: &mut W,
-) -> Result<LinesOutcome, Fault>
-    ensures done { IfOk result (IsDone AreAnswerLines prepared.now (R.remaining input.old)
-        (W.contents output.old) (W.contents output.new)) }
-    ensures refused { IfErr result (λ e. LeavesLines AreAnswerLines prepared.now e
-        (R.remaining input.old) (R.remaining input.new)
-        (W.contents output.old) (W.contents output.new)) }
-    ensures unread { IfErr result (λ e. IsOfRules e
-        → (input.new ≡ input.old) × (output.new ≡ output.old)) }
-    ensures kind { IfErr result (λ e. (e ≡ Fault.OutOfMemory)
-        ⊎ (e ≡ Fault.ReadFailed) ⊎ (e ≡ Fault.WriteFailed)) }
-{
-    let mut judge = prepared.judge(alloc)?;
-    answer_input(alloc, &mut judge, input, output)
+    answer_input(alloc, &mut judge, name, why, input, output, notes)
 }
 
 /// Answers the lines of the input, which is read in chunks.
-fn answer_input<R: Read, W: Write>(
+fn answer_input<R: Read, W: Write, E: Write>(
     alloc: Global,
     judge: &mut TextJudge<'_>,
+    name: &str,
+    why: Option<Why<'_>>,
     input: &mut R,
     output: &mut W,
+    notes: &mut E,
 ) -> Result<LinesOutcome, Fault>
-    ensures done { IfOk result (IsDone AreAnswerLines judge.old (R.remaining input.old)
-        (W.contents output.old) (W.contents output.new)) }
-    ensures refused { IfErr result (λ e. LeavesLines AreAnswerLines judge.old e
+    ensures done { IfOk result (IsDone (AreTold (asked_form why.entry)) judge.old
+        (R.remaining input.old) (W.contents output.old) (W.contents output.new)) }
+    ensures refused { IfErr result (λ e. LeavesLines (AreTold (asked_form why.entry)) judge.old e
         (R.remaining input.old) (R.remaining input.new)
         (W.contents output.old) (W.contents output.new)) }
     ensures unread { IfErr result (λ e. IsOfRules e
@@ -97,26 +98,28 @@ fn answer_input<R: Read, W: Write>(
     ensures kind { IfErr result (λ e. (e ≡ Fault.OutOfMemory)
         ⊎ (e ≡ Fault.ReadFailed) ⊎ (e ≡ Fault.WriteFailed)) }
 {
-    let mut run = LineRun::new(alloc)?;
+    let mut run = ToldRun::new(alloc, name)?;
     let mut chunk = vec![in alloc; 0u8; CHUNK]?;
-    answer_chunks(judge, &mut run, &mut chunk, input, output)
+    answer_chunks(judge, &mut run, why, &mut chunk, input, output, notes)
 }
 
 /// Answers the lines of the input, as many bytes at a time as the chunk has.
-fn answer_chunks<R: Read, W: Write>(
+fn answer_chunks<R: Read, W: Write, E: Write>(
     judge: &mut TextJudge<'_>,
-    run: &mut LineRun,
+    run: &mut ToldRun<'_>,
+    why: Option<Why<'_>>,
     chunk: &mut [u8],
     input: &mut R,
     output: &mut W,
+    notes: &mut E,
 ) -> Result<LinesOutcome, Fault>
     requires room { 0 < length chunk.old }
-    requires start { IsAnswered AreAnswerLines judge.old
-        (W.contents output.old) (W.contents output.old) [] run.old }
-    requires none { run.old.held ≡ [] }
-    ensures done { IfOk result (IsDone AreAnswerLines judge.old (R.remaining input.old)
-        (W.contents output.old) (W.contents output.new)) }
-    ensures refused { IfErr result (λ e. LeavesLines AreAnswerLines judge.old e
+    requires start { IsAnswered (AreToldTo (asked_form why) run.old.line.line) judge.old
+        (W.contents output.old) (W.contents output.old) [] run.old.run }
+    requires none { run.old.run.held ≡ [] }
+    ensures done { IfOk result (IsDone (AreTold (asked_form why.entry)) judge.old
+        (R.remaining input.old) (W.contents output.old) (W.contents output.new)) }
+    ensures refused { IfErr result (λ e. LeavesLines (AreTold (asked_form why.entry)) judge.old e
         (R.remaining input.old) (R.remaining input.new)
         (W.contents output.old) (W.contents output.new)) }
     ensures kind { IfErr result (λ e. (e ≡ Fault.ReadFailed) ⊎ (e ≡ Fault.WriteFailed)) }
@@ -126,18 +129,19 @@ fn answer_chunks<R: Read, W: Write>(
             return Err(Fault::ReadFailed);
         };
         if count == 0 {
-            run.finish(judge, output)?;
-            return Ok(run.outcome);
+            run.finish(judge, why, output, notes)?;
+            return Ok(run.run.outcome);
         }
-        run.answer_chunk(judge, &chunk[..count], output)?;
-        run.held.write_out(output)?;
+        run.answer_chunk(judge, why, &chunk[..count], output, notes)?;
+        run.notes.write_out(notes)?;
+        run.run.held.write_out(output)?;
     }
     Err(Fault::ReadFailed)
 }
 
 impl LineRun {
     /// A run before its first line.
-    pub(crate) fn new(alloc: Global) -> Result<LineRun, AllocError>
+    fn new(alloc: Global) -> Result<LineRun, AllocError>
         ensures begun { IfOk result (λ r. HoldsFront r.begun []) }
         ensures held { IfOk result (λ r. r.held ≡ []) }
         ensures outcome { IfOk result (λ r. r.outcome ≡ LinesOutcome.AllValid) }
@@ -150,65 +154,13 @@ impl LineRun {
         })
     }
 
-    /// Answers each line that ends in the chunk, and keeps the front of the line after them.
-    fn answer_chunk<W: Write>(
-        &mut self,
-        judge: &mut TextJudge<'_>,
-        chunk: &[u8],
-        output: &mut W,
-    ) -> Result<(), Fault>
-        ensures all { (start : Option (List ℕ)) (bytes : List ℕ)
-            → IsAnswered AreAnswerLines judge.old start (W.contents output.old) bytes self.old
-            → OnOk result (IsAnswered AreAnswerLines judge.old start (W.contents output.new)
-            (bytes ++ chunk.now) self.new) }
-        ensures front { (start : Option (List ℕ)) (bytes : List ℕ)
-            → IsAnswered AreAnswerLines judge.old start (W.contents output.old) bytes self.old
-            → OnErr result (IsCutOffIn AreAnswerLines judge.old (bytes ++ chunk.now)
-            start (W.contents output.new)) }
-        ensures kind { OnErr result (result ≡ Err Fault.WriteFailed) }
-        ensures same { judge.new ≡ judge.old }
-    {
-        let mut at = 0;
-        while let Some(count) = memchr(b'\n', &chunk[at..]) {
-            self.answer_line(judge, &chunk[at..at + count], output)?;
-            at += count + 1;
-        }
-        self.begun.add(&chunk[at..]);
-        Ok(())
-    }
-
-    /// Answers the line that ends with the piece.
-    fn answer_line<W: Write>(
-        &mut self,
-        judge: &mut TextJudge<'_>,
-        piece: &[u8],
-        output: &mut W,
-    ) -> Result<(), Fault>
-        ensures all { (start : Option (List ℕ)) (lines : List (List ℕ)) (front : List ℕ)
-            → AreAnswered AreAnswerLines judge.old start (W.contents output.old) lines self.old
-            → HoldsFront self.old.begun front
-            → OnOk result (AreAnswered AreAnswerLines judge.old start (W.contents output.new)
-            (lines ++ (front ++ piece.now) ∷ []) self.new) }
-        ensures begun { HoldsFront self.new.begun [] }
-        ensures front { (start : Option (List ℕ)) (lines : List (List ℕ))
-            → AreAnswered AreAnswerLines judge.old start (W.contents output.old) lines self.old
-            → OnErr result (AreCutOff AreAnswerLines judge.old lines
-            start (W.contents output.new)) }
-        ensures kind { OnErr result (result ≡ Err Fault.WriteFailed) }
-        ensures same { judge.new ≡ judge.old }
-    {
-        let answer = self.begun.finish(judge, piece);
-        self.outcome = self.outcome.with(outcome_of(&answer));
-        self.held.hold(&answer, output)
-    }
-
     /// Answers the line that ends with the piece, of which nothing is held yet, and adds what is told of it.
-    pub(crate) fn explain(
+    fn answer(
         &mut self,
         judge: &mut TextJudge<'_>,
         piece: &[u8],
         line: Named<'_>,
-        why: Why<'_>,
+        why: Option<Why<'_>>,
         told: &mut Vec<u8>,
     ) -> Result<bool, Fault>
         ensures answer { (front : List ℕ) → HoldsFront self.old.begun front
@@ -217,30 +169,229 @@ impl LineRun {
         ensures outcome { self.new.outcome ≡ worse self.old.outcome (outcome_of_answer result) }
         ensures held { self.new.held ≡ self.old.held }
         ensures told { IfOk result
-            (λ b. Tells why.entry.form b told.old.items told.new.items) }
+            (λ b. Tells (asked_form why.entry) b told.old.items told.new.items) }
         ensures same { judge.new ≡ judge.old }
     {
-        let answer = self.begun.explain(judge, piece, line, why, told);
+        let answer = self.begun.finish(judge, piece, line, why, told);
         let outcome = outcome_of(&answer);
         self.outcome = self.outcome.with(outcome);
         answer
     }
+}
+
+impl<'a> ToldRun<'a> {
+    /// A run before its first line.
+    fn new(alloc: Global, name: &'a str) -> Result<ToldRun<'a>, AllocError>
+        ensures begun { IfOk result (λ r. HoldsFront r.run.begun []) }
+        ensures held { IfOk result (λ r. r.run.held ≡ []) }
+        ensures outcome { IfOk result (λ r. r.run.outcome ≡ LinesOutcome.AllValid) }
+        ensures first { IfOk result (λ r. r.line.line ≡ 1) }
+    {
+        let run = LineRun::new(alloc)?;
+        let notes = HeldAnswers::new(alloc)?;
+        let line = Named {
+            name,
+            text: b"",
+            line: 1,
+        };
+        Ok(ToldRun {
+            run,
+            line,
+            told: Vec::new(alloc),
+            notes,
+        })
+    }
+}
+
+impl ToldRun<'_> {
+    /// Answers each line that ends in the chunk, and keeps the front of the line after them.
+    fn answer_chunk<W: Write, E: Write>(
+        &mut self,
+        judge: &mut TextJudge<'_>,
+        why: Option<Why<'_>>,
+        chunk: &[u8],
+        output: &mut W,
+        notes: &mut E,
+    ) -> Result<(), Fault>
+        ensures all { (start : Option (List ℕ)) (bytes : List ℕ)
+            → IsAnswered (AreToldTo (asked_form why.entry) self.old.line.line) judge.old
+            start (W.contents output.old) bytes self.old.run
+            → OnOk result (IsAnswered (AreToldTo (asked_form why.entry) self.new.line.line) judge.old
+            start (W.contents output.new) (bytes ++ chunk.now) self.new.run) }
+        ensures front { (start : Option (List ℕ)) (bytes : List ℕ)
+            → IsAnswered (AreToldTo (asked_form why.entry) self.old.line.line) judge.old
+            start (W.contents output.old) bytes self.old.run
+            → OnErr result (IsCutOffIn (AreTold (asked_form why.entry)) judge.old (bytes ++ chunk.now)
+            start (W.contents output.new)) }
+        ensures kind { OnErr result (result ≡ Err Fault.WriteFailed) }
+        ensures same { judge.new ≡ judge.old }
+    {
+        let mut at = 0;
+        while let Some(count) = memchr(b'\n', &chunk[at..]) {
+            self.answer_line(judge, why, &chunk[at..at + count], output, notes)?;
+            at += count + 1;
+        }
+        self.run.begun.add(&chunk[at..]);
+        Ok(())
+    }
+
+    /// Answers the line that ends with the piece.
+    fn answer_line<W: Write, E: Write>(
+        &mut self,
+        judge: &mut TextJudge<'_>,
+        why: Option<Why<'_>>,
+        piece: &[u8],
+        output: &mut W,
+        notes: &mut E,
+    ) -> Result<(), Fault>
+        ensures all { (start : Option (List ℕ)) (lines : List (List ℕ)) (front : List ℕ)
+            → AreAnswered (AreToldTo (asked_form why.entry) self.old.line.line) judge.old
+            start (W.contents output.old) lines self.old.run
+            → HoldsFront self.old.run.begun front
+            → OnOk result (AreAnswered (AreToldTo (asked_form why.entry) self.new.line.line) judge.old
+            start (W.contents output.new) (lines ++ (front ++ piece.now) ∷ []) self.new.run) }
+        ensures begun { HoldsFront self.new.run.begun [] }
+        ensures front { (start : Option (List ℕ)) (lines : List (List ℕ)) (front : List ℕ)
+            → AreAnswered (AreToldTo (asked_form why.entry) self.old.line.line) judge.old
+            start (W.contents output.old) lines self.old.run
+            → HoldsFront self.old.run.begun front
+            → OnErr result (AreCutOff (AreTold (asked_form why.entry)) judge.old
+            (lines ++ (front ++ piece.now) ∷ []) start (W.contents output.new)) }
+        ensures kind { OnErr result (result ≡ Err Fault.WriteFailed) }
+        ensures same { judge.new ≡ judge.old }
+    {
+        self.told.clear();
+        let answer = self
+            .run
+            .answer(judge, piece, self.line, why, &mut self.told);
+        let form = form_of(why);
+        note(&mut self.notes, form, &self.told, notes)?;
+        let number = self.line.line;
+        self.line.line = number.saturating_add(1);
+        hold_told(
+            &mut self.run.held,
+            form,
+            number,
+            &answer,
+            &self.told,
+            output,
+        )
+    }
 
     /// Answers the line without a newline, where the input ends in one, and writes what is held.
-    fn finish<W: Write>(&mut self, judge: &mut TextJudge<'_>, output: &mut W) -> Result<(), Fault>
+    fn finish<W: Write, E: Write>(
+        &mut self,
+        judge: &mut TextJudge<'_>,
+        why: Option<Why<'_>>,
+        output: &mut W,
+        notes: &mut E,
+    ) -> Result<(), Fault>
         ensures all { (start : Option (List ℕ)) (bytes : List ℕ)
-            → IsAnswered AreAnswerLines judge.old start (W.contents output.old) bytes self.old
-            → OnOk result (IsDone AreAnswerLines judge.old (Some bytes)
-            start (W.contents output.new) self.new.outcome) }
+            → IsAnswered (AreToldTo (asked_form why.entry) self.old.line.line) judge.old
+            start (W.contents output.old) bytes self.old.run
+            → OnOk result (IsDone (AreTold (asked_form why.entry)) judge.old (Some bytes)
+            start (W.contents output.new) self.new.run.outcome) }
         ensures front { (start : Option (List ℕ)) (bytes : List ℕ)
-            → IsAnswered AreAnswerLines judge.old start (W.contents output.old) bytes self.old
-            → OnErr result (IsCutOff AreAnswerLines judge.old (Some bytes)
+            → IsAnswered (AreToldTo (asked_form why.entry) self.old.line.line) judge.old
+            start (W.contents output.old) bytes self.old.run
+            → OnErr result (IsCutOff (AreTold (asked_form why.entry)) judge.old (Some bytes)
             start (W.contents output.new)) }
         ensures kind { OnErr result (result ≡ Err Fault.WriteFailed) }
     {
-        if !self.begun.is_empty() {
-            self.answer_line(judge, &[], output)?;
+        if !self.run.begun.is_empty() {
+            self.answer_line(judge, why, &[], output, notes)?;
         }
-        self.held.write_out(output)
+        self.notes.write_out(notes)?;
+        self.run.held.write_out(output)
+    }
+}
+
+/// Holds the reasons of a line, in lines.
+fn note<E: Write>(
+    held: &mut HeldAnswers,
+    form: Option<Form>,
+    told: &[u8],
+    notes: &mut E,
+) -> Result<(), Fault>
+    ensures kind { OnErr result (result ≡ Err Fault.WriteFailed) }
+{
+    match form {
+        Some(Form::Lines) => {
+            let reasons = told.strip_prefix(verdict_line(false));
+            held.hold_text(reasons.unwrap_or(b""), notes)
+        }
+        None | Some(Form::Json | Form::Flag | Form::Basic) => Ok(()),
+    }
+}
+
+/// Holds what is written of the answer to a line of that number: its line, or in the forms for programs its object.
+fn hold_told<W: Write>(
+    held: &mut HeldAnswers,
+    form: Option<Form>,
+    number: usize,
+    answer: &Result<bool, Fault>,
+    told: &[u8],
+    output: &mut W,
+) -> Result<(), Fault>
+    ensures all { IfOk answer.now (λ b. IsTold form b told.now)
+        → OnOk result (HoldsWritten form number answer.now
+        (W.contents output.old) (W.contents output.new) held.old held.new) }
+    ensures front { IfOk answer.now (λ b. IsTold form b told.now)
+        → OnErr result (LeavesWritten form number answer.now
+        (W.contents output.old) (W.contents output.new) held.old) }
+    ensures kind { OnErr result (result ≡ Err Fault.WriteFailed) }
+{
+    match form {
+        None => held.hold(answer, output),
+        Some(form) => hold_in_form(held, form, number, answer, told, output),
+    }
+}
+
+/// The same where reasons are asked for in that form.
+fn hold_in_form<W: Write>(
+    held: &mut HeldAnswers,
+    form: Form,
+    number: usize,
+    answer: &Result<bool, Fault>,
+    told: &[u8],
+    output: &mut W,
+) -> Result<(), Fault>
+    ensures all { IfOk answer.now (λ b. IsTold (Some form) b told.now)
+        → OnOk result (HoldsWritten (Some form) number answer.now
+        (W.contents output.old) (W.contents output.new) held.old held.new) }
+    ensures front { IfOk answer.now (λ b. IsTold (Some form) b told.now)
+        → OnErr result (LeavesWritten (Some form) number answer.now
+        (W.contents output.old) (W.contents output.new) held.old) }
+    ensures kind { OnErr result (result ≡ Err Fault.WriteFailed) }
+{
+    match form {
+        Form::Lines => held.hold(answer, output),
+        Form::Json | Form::Flag | Form::Basic => hold_object(held, number, answer, told, output),
+    }
+}
+
+/// Holds the object of the answer to a line of that number.
+fn hold_object<W: Write>(
+    held: &mut HeldAnswers,
+    number: usize,
+    answer: &Result<bool, Fault>,
+    told: &[u8],
+    output: &mut W,
+) -> Result<(), Fault>
+    ensures all { OnOk result (Hands (W.contents output.old) (W.contents output.new)
+        (held.old ++ (input_member number ++ members_text answer.now told.now)) held.new) }
+    ensures front { OnErr result (AppendsFront (W.contents output.old) (W.contents output.new)
+        (held.old ++ (input_member number ++ members_text answer.now told.now))) }
+    ensures kind { OnErr result (result ≡ Err Fault.WriteFailed) }
+{
+    let mut front = [0u8; 2 * MEMBER_ROOM];
+    let front = &mut front[..];
+    let end = put_input(front, number);
+    match answer {
+        Ok(_) => held.hold_both(&front[..end], members_of(told), output),
+        Err(fault) => {
+            let end = put_error(front, end, fault);
+            held.hold_both(&front[..end], b"}\n", output)
+        }
     }
 }

@@ -1,10 +1,11 @@
 // The verdicts on documents that were read from texts, with reports of their reasons.
-ghost use Rattle.std.specs.Prelude.{◌≡◌, Bool, not, IfOk, IfErr, OnOk, IsErrOf};
+ghost use Rattle.std.specs.Prelude.{◌≡◌, ℕ, Bool, not, IfOk, IfErr, OnOk, IsErrOf};
 ghost use Rattle.cs_doc.specs.ReadAs.{read_as};
 ghost use Rattle.cs_document.specs.Document.{Document as TheDocument};
 ghost use Rattle.cs_flat.specs.Listed.{document_in};
 ghost use Rattle.cs_instance.specs.Instance as instance;
 ghost use Rattle.cs_instance.specs.Instance.{Rule, definition, IsInstance};
+ghost use Rattle.cs_instance.specs.Refusal as unjudged;
 ghost use Rattle.cs_instance.specs.Rules as by_root;
 ghost use Rattle.cs_judge.specs.Explained.{is_told_by_schema, ReportsIf};
 ghost use Rattle.cs_profile.specs.Validity as validity;
@@ -41,8 +42,8 @@ pub(crate) fn instance_report(
         → b ≡ I (definition rules.now.1) (read_as read.now)) }
     ensures within { OnOk result
         (¬ by_root.HasManyPairs rules.now.0 rules.now.1 (read_as read.now)) }
-    ensures many { IsErrOf result InstanceFault.TooManyPairs
-        → by_root.HasManyPairs rules.now.0 rules.now.1 (read_as read.now) }
+    ensures many { (i r : ℕ) → IsErrOf result (InstanceFault.TooManyPairs i r)
+        → unjudged.AreManyPairs rules.now.0 rules.now.1 (read_as read.now) i r }
     ensures known { IsErrOf result InstanceFault.UnknownRoot → ⊥ }
     ensures says { IfOk result
         (λ b. Reports why.entry.form b report.old.items report.new.items) }
@@ -71,8 +72,8 @@ fn listed_instance(
         → b ≡ I (definition rules.now.1) (document_in flat.now)) }
     ensures within { OnOk result
         (¬ by_root.HasManyPairs rules.now.0 rules.now.1 (document_in flat.now)) }
-    ensures many { IsErrOf result InstanceFault.TooManyPairs
-        → by_root.HasManyPairs rules.now.0 rules.now.1 (document_in flat.now) }
+    ensures many { (i r : ℕ) → IsErrOf result (InstanceFault.TooManyPairs i r)
+        → unjudged.AreManyPairs rules.now.0 rules.now.1 (document_in flat.now) i r }
     ensures known { IsErrOf result InstanceFault.UnknownRoot → ⊥ }
     ensures says { IfOk result
         (λ b. Reports why.entry.form b report.old.items report.new.items) }
@@ -179,8 +180,8 @@ pub(crate) fn instance_side(
         → b ≡ I (definition rules.now.1) (read_as read.now)) }
     ensures within { OnOk result
         (¬ by_root.HasManyPairs rules.now.0 rules.now.1 (read_as read.now)) }
-    ensures many { IsErrOf result InstanceFault.TooManyPairs
-        → by_root.HasManyPairs rules.now.0 rules.now.1 (read_as read.now) }
+    ensures many { (i r : ℕ) → IsErrOf result (InstanceFault.TooManyPairs i r)
+        → unjudged.AreManyPairs rules.now.0 rules.now.1 (read_as read.now) i r }
     ensures known { IsErrOf result InstanceFault.UnknownRoot → ⊥ }
     ensures says { IfOk result (λ b. ReportsIf (not (is_told_by_schema why.entry.form))
         why.entry.form b report.old.items report.new.items) }

@@ -1,5 +1,5 @@
 // What is told of a verdict.
-ghost use Rattle.std.specs.Prelude.{◌≡◌, ◌++◌, OnOk, OnErr};
+ghost use Rattle.std.specs.Prelude.{◌≡◌, ◌++◌, Some, OnOk, OnErr};
 ghost use Rattle.cs_judge.specs.Explained.{Tells};
 ghost use Rattle.cs_report.specs.Valid.{Says};
 ghost use Rattle.cs_tool.specs.Runs.{verdict_text, line_of};
@@ -22,7 +22,7 @@ pub(crate) fn tell(
     output: &mut Vec<u8>,
 ) -> Result<(), AllocError>
     ensures told { Says form truth report.now
-        → OnOk result (Tells form truth output.old.items output.new.items) }
+        → OnOk result (Tells (Some form) truth output.old.items output.new.items) }
     ensures kept { OnErr result (output.new.items ≡ output.old.items) }
 {
     match form {

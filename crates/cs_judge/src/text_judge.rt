@@ -1,5 +1,6 @@
 // Judging texts one after another by the same rules.
 use crate::explanations::{explain_both, explain_root, explain_schema};
+use crate::telling::verdict_line;
 use crate::why::Why;
 use cs_doc::Scratch;
 use cs_guard::Guarded;
@@ -151,10 +152,10 @@ fn number_rules<'a>(
 }
 
 impl TextJudge<'_> {
-    ghost use Rattle.std.specs.Prelude.{◌≡◌, IfOk, IfErr, OnErr, IsOkUnless};
-    ghost use Rattle.cs_judge.specs.Explained.{Tells};
+    ghost use Rattle.std.specs.Prelude.{◌≡◌, ◌++◌, Some, IfOk, IfErr, OnErr, IsOkUnless};
+    ghost use Rattle.cs_judge.specs.Explained.{asked_form, Tells};
     ghost use Rattle.cs_judge.specs.Judged.{call_on};
-    ghost use Rattle.cs_tool.specs.Runs.{IsCallAnswer, IsCallRefusal, IsReadyCall, verdict_text};
+    ghost use Rattle.cs_tool.specs.Runs.{IsCallAnswer, IsCallRefusal, IsReadyCall, verdict_text, line_of};
 
     /// What the call on the text answers: `vet`, `validate` or `agree`.
     ///
@@ -179,13 +180,54 @@ impl TextJudge<'_> {
         }
     }
 
-    /// What the call on the document's text answers: `vet`, `validate` or `agree`. Adds what is told of it in the form that is
-    /// asked for: in lines the verdict's line, and behind `invalid` a line for each reason; else one line, the object of JSON.
-    /// `agree` takes the reasons of the definition, and in the output formats of JSON Schema those of the schema.
+    /// What the call on the document's text answers: `vet`, `validate` or `agree`. Adds the verdict's line, where no reasons are asked for.
+    /// Else it adds what is told in the form that is asked for: in lines the verdict's line, and behind `invalid` a line for each reason;
+    /// in the others one line, the object of JSON. `agree` takes the reasons of the definition, and in the output formats of JSON Schema
+    /// those of the schema.
     ///
     /// # Errors
     /// Those of that call; nothing is added then. The next text is judged all the same.
     pub fn explain(
+        &mut self,
+        document: Named<'_>,
+        why: Option<Why<'_>>,
+        output: &mut Vec<u8>,
+    ) -> Result<bool, Fault>
+        ensures found { IfOk result
+            (λ b. IsCallAnswer (call_on self.old document.entry.text.now) b (verdict_text b)) }
+        ensures refused { IfErr result (IsCallRefusal (call_on self.old document.entry.text.now)) }
+        ensures only { IsReadyCall (call_on self.old document.entry.text.now)
+            → IsOkUnless result Fault.OutOfMemory }
+        ensures same { self.new ≡ self.old }
+        ensures told { IfOk result
+            (λ b. Tells (asked_form why.entry) b output.old.items output.new.items) }
+        ensures kept { OnErr result (output.new.items ≡ output.old.items) }
+    {
+        match why {
+            None => self.tell(document.text, output),
+            Some(why) => self.tell_why(document, why, output),
+        }
+    }
+
+    /// What the call on the text answers; adds the verdict's line.
+    fn tell(&mut self, text: &[u8], output: &mut Vec<u8>) -> Result<bool, Fault>
+        ensures found { IfOk result
+            (λ b. IsCallAnswer (call_on self.old text.now) b (verdict_text b)) }
+        ensures refused { IfErr result (IsCallRefusal (call_on self.old text.now)) }
+        ensures only { IsReadyCall (call_on self.old text.now)
+            → IsOkUnless result Fault.OutOfMemory }
+        ensures same { self.new ≡ self.old }
+        ensures told { IfOk result
+            (λ b. output.new.items ≡ output.old.items ++ line_of (verdict_text b)) }
+        ensures kept { OnErr result (output.new.items ≡ output.old.items) }
+    {
+        let truth = self.judge(text)?;
+        output.extend_from_slice(verdict_line(truth))?;
+        Ok(truth)
+    }
+
+    /// What the call on the document's text answers; adds what is told of it.
+    fn tell_why(
         &mut self,
         document: Named<'_>,
         why: Why<'_>,
@@ -197,7 +239,8 @@ impl TextJudge<'_> {
         ensures only { IsReadyCall (call_on self.old document.entry.text.now)
             → IsOkUnless result Fault.OutOfMemory }
         ensures same { self.new ≡ self.old }
-        ensures told { IfOk result (λ b. Tells why.entry.form b output.old.items output.new.items) }
+        ensures told { IfOk result
+            (λ b. Tells (Some why.entry.form) b output.old.items output.new.items) }
         ensures kept { OnErr result (output.new.items ≡ output.old.items) }
     {
         let alloc = self.alloc;

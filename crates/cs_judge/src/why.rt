@@ -1,4 +1,7 @@
 // What is asked about the reasons of verdicts.
+ghost use Rattle.std.specs.Prelude.{◌≡◌};
+ghost use Rattle.cs_judge.specs.Explained.{asked_form};
+
 use cs_place::Named;
 use cs_reasons::Telling;
 use cs_report::Form;
@@ -10,4 +13,14 @@ pub struct Why<'a> {
     pub sources: &'a [Named<'a>],
     pub form: Form,
     pub telling: Telling,
+}
+
+/// The form in which reasons are told; none where none are asked for.
+pub(crate) fn form_of(why: Option<Why<'_>>) -> Option<Form>
+    ensures { result ≡ asked_form why.entry }
+{
+    match why {
+        None => None,
+        Some(why) => Some(why.form),
+    }
 }

@@ -1,4 +1,4 @@
-// Places in texts: the line and the column of an offset, and the offsets of a document's values; and texts with their names, and how they
+// Places in texts: the line and the column of an offset, the offsets of a document's values, and the pointer of one at an offset; and texts with their names, and how they
 // are shown to people.
 #![tactic(auto)]
 
@@ -12,4 +12,4 @@ pub use named::Named;
 pub use position::{Position, position_of};
 pub use positions::Positions;
 pub use shown::{Label, is_hidden, put_in_string, put_place, put_quoted, put_shown};
-pub use values::{Place, Step, ValuePath, places};
+pub use values::{Place, Step, ValuePath, places, pointer_at};

@@ -2,10 +2,12 @@
 ghost use Rattle.std.specs.Prelude.{◌≡◌, ◌+◌, length, vec_len, IfOk};
 
 mod keys;
+mod pointer;
 mod skip;
 mod tree;
 mod walk;
 
+pub use pointer::pointer_at;
 use std::alloc::{AllocError, Global};
 use tree::Tree;
 

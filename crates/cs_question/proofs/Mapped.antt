@@ -9,8 +9,7 @@ use Rattle.std.proofs.lemmas.Slice.Eq.{bytes_eq-Decides}
 use Rattle.cs_document.specs.Document.{Document, Members, no_members, member, object, Entry, entries, under, depth, members_depth, KeysAbove, IsDocument, AreMembers}
 use Rattle.cs_question.specs.Spread.{SomeOf, is_among, others}
 use Rattle.cs_question.specs.Truth.{IsInner}
-use Rattle.cs_instance.proofs.Leaves.{under_at}
-use Rattle.cs_instance.proofs.Refusals.{ascends}
+use Rattle.cs_instance.proofs.Members.{under_at, ascends}
 use Rattle.cs_question.proofs.Some.{some_true, some_map}
 
 -- ---- what is under a key

@@ -21,4 +21,4 @@ fault_of_search search.TooManyCases = TooManyCases
 abbrev pub fault_of_judging : InstanceFault → QuestionFault
 fault_of_judging instance.OutOfMemory = OutOfMemory
 fault_of_judging instance.UnknownRoot = UnknownRoot
-fault_of_judging instance.TooManyPairs = TooManyCases
+fault_of_judging (instance.TooManyPairs items rules) = TooManyCases

@@ -112,7 +112,7 @@ impl From<InstanceFault> for QuestionFault {
         match fault {
             InstanceFault::OutOfMemory => QuestionFault::OutOfMemory,
             InstanceFault::UnknownRoot => QuestionFault::UnknownRoot,
-            InstanceFault::TooManyPairs => QuestionFault::TooManyCases,
+            InstanceFault::TooManyPairs { .. } => QuestionFault::TooManyCases,
         }
     }
 }

@@ -139,50 +139,50 @@ fn extents_of(
     Ok(extents)
 }
 
-fn mark(table: &Table<'_>, is_needed: &mut Vec<bool>, asked: &Vec<Literal>) {
+fn count(table: &Table<'_>, uses: &mut Vec<usize>, asked: &Vec<Literal>) {
     if let Some(place) = table.place(asked) {
-        if place < is_needed.len() {
-            is_needed[place] = true;
+        if let Some(times) = uses.get_mut(place) {
+            *times = times.saturating_add(1);
         }
     }
 }
 
-fn mark_parts(table: &Table<'_>, is_needed: &mut Vec<bool>, found: &Found<'_>) {
+fn count_parts(table: &Table<'_>, uses: &mut Vec<usize>, found: &Found<'_>) {
     match found {
         Found::Null | Found::Bool(_) | Found::Int(_) | Found::Text(_) => {}
-        Found::List(parts) => mark_all(table, is_needed, parts),
+        Found::List(parts) => count_all(table, uses, parts),
         Found::Map {
             members,
             further,
             ..
         } => {
             for (_label, part) in members {
-                mark(table, is_needed, part);
+                count(table, uses, part);
             }
-            mark_all(table, is_needed, further);
+            count_all(table, uses, further);
         }
     }
 }
 
-fn mark_all(table: &Table<'_>, is_needed: &mut Vec<bool>, parts: &[Vec<Literal>]) {
+fn count_all(table: &Table<'_>, uses: &mut Vec<usize>, parts: &[Vec<Literal>]) {
     for part in parts {
-        mark(table, is_needed, part);
+        count(table, uses, part);
     }
 }
 
-/// The questions of whose documents the first question's one is made.
-fn needed_of(
+/// How many times the document of each question is used for the first question's one, which is itself used once.
+fn uses_of(
     alloc: Global,
     table: &Table<'_>,
     order: &[(usize, usize)],
-) -> Result<Vec<bool>, AllocError> {
-    let mut is_needed = vec![in alloc; false; table.entries.len()]?;
-    if !is_needed.is_empty() {
-        is_needed[0] = true;
+) -> Result<Vec<usize>, AllocError> {
+    let mut uses = vec![in alloc; 0usize; table.entries.len()]?;
+    if !uses.is_empty() {
+        uses[0] = 1;
     }
     for i in 0..order.len() {
         let (_turn, place) = order[order.len() - 1 - i];
-        if is_needed.get(place) == Some(&true) {
+        if is_used(&uses, place) {
             if let Some(
                 Entry {
                     found: Some(found),
@@ -190,38 +190,84 @@ fn needed_of(
                 },
             ) = table.entries.get(place)
             {
-                mark_parts(table, &mut is_needed, found);
+                count_parts(table, &mut uses, found);
             }
         }
     }
-    Ok(is_needed)
+    Ok(uses)
 }
 
-/// A copy of the document that was made for a question.
+fn is_used(uses: &[usize], place: usize) -> bool {
+    match uses.get(place) {
+        Some(times) => *times > 0,
+        None => false,
+    }
+}
+
+/// The documents that were made so far, and how many times each is still used. One that isn't used any more is kept no longer, so that
+/// what is kept beside a document is no larger than its parts.
+#[derive(Drop)]
+struct Making {
+    docs: Vec<Option<Doc>>,
+    uses: Vec<usize>,
+}
+
+impl Making {
+    /// The document that was made for the question at a place: itself at its last use, and before that a copy.
+    fn take(&mut self, alloc: Global, place: usize) -> Result<Doc, SearchFault> {
+        let is_last = self.use_up(place);
+        let Some(made) = self.docs.get_mut(place) else {
+            return Err(SearchFault::TooManyCases);
+        };
+        let doc = if is_last {
+            made.take()
+        } else {
+            copy_of(alloc, made)?
+        };
+        doc.ok_or(SearchFault::TooManyCases)
+    }
+
+    /// Counts a use of the document at a place, and answers whether it is the last one.
+    fn use_up(&mut self, place: usize) -> bool {
+        match self.uses.get_mut(place) {
+            Some(times) => {
+                *times = times.saturating_sub(1);
+                *times == 0
+            }
+            None => true,
+        }
+    }
+}
+
+fn copy_of(alloc: Global, made: &Option<Doc>) -> Result<Option<Doc>, SearchFault> {
+    match made {
+        Some(doc) => Ok(Some(doc.copy(alloc)?)),
+        None => Ok(None),
+    }
+}
+
+/// The document that was made for a question.
 fn made(
     alloc: Global,
     table: &Table<'_>,
-    docs: &[Option<Doc>],
+    making: &mut Making,
     asked: &Vec<Literal>,
 ) -> Result<Doc, SearchFault> {
-    let Some(place) = table.place(asked) else {
-        return Err(SearchFault::TooManyCases);
-    };
-    match docs.get(place) {
-        Some(Some(doc)) => Ok(doc.copy(alloc)?),
-        _ => Err(SearchFault::TooManyCases),
+    match table.place(asked) {
+        Some(place) => making.take(alloc, place),
+        None => Err(SearchFault::TooManyCases),
     }
 }
 
 fn list_made(
     alloc: Global,
     table: &Table<'_>,
-    docs: &[Option<Doc>],
+    making: &mut Making,
     parts: &[Vec<Literal>],
 ) -> Result<Doc, SearchFault> {
     let mut elements = Vec::with_capacity(alloc, parts.len())?;
     for part in parts {
-        elements.push(made(alloc, table, docs, part)?)?;
+        elements.push(made(alloc, table, making, part)?)?;
     }
     Ok(Doc::List(elements))
 }
@@ -248,18 +294,18 @@ fn further_key(alloc: Global, labels: &[&str], number: usize) -> Result<String, 
 fn map_made(
     alloc: Global,
     table: &Table<'_>,
-    docs: &[Option<Doc>],
+    making: &mut Making,
     members: &[(&str, Vec<Literal>)],
     further: &[Vec<Literal>],
     labels: &[&str],
 ) -> Result<Doc, SearchFault> {
     let mut map = BTreeMap::new(alloc);
     for (label, part) in members {
-        let doc = made(alloc, table, docs, part)?;
+        let doc = made(alloc, table, making, part)?;
         let _ = map.insert(String::from_str(alloc, *label)?, doc)?;
     }
     for (number, part) in further.iter().enumerate() {
-        let doc = made(alloc, table, docs, part)?;
+        let doc = made(alloc, table, making, part)?;
         let _ = map.insert(further_key(alloc, labels, number)?, doc)?;
     }
     Ok(Doc::Object(map))
@@ -268,7 +314,7 @@ fn map_made(
 fn doc_of(
     alloc: Global,
     table: &Table<'_>,
-    docs: &[Option<Doc>],
+    making: &mut Making,
     found: &Found<'_>,
 ) -> Result<Doc, SearchFault> {
     match found {
@@ -276,12 +322,12 @@ fn doc_of(
         Found::Bool(value) => Ok(Doc::Bool(*value)),
         Found::Int(integer) => Ok(Doc::Int(*integer)),
         Found::Text(text) => Ok(Doc::Text(String::from_str(alloc, text)?)),
-        Found::List(parts) => list_made(alloc, table, docs, parts),
+        Found::List(parts) => list_made(alloc, table, making, parts),
         Found::Map {
             members,
             further,
             labels,
-        } => map_made(alloc, table, docs, members, further, labels),
+        } => map_made(alloc, table, making, members, further, labels),
     }
 }
 
@@ -304,10 +350,12 @@ pub(crate) fn witness_of(alloc: Global, table: &Table<'_>) -> Result<Witness, Se
     if extent.values > MOST_VALUES || extent.depth > MOST_DEPTH {
         return Err(SearchFault::TooManyCases);
     }
-    let is_needed = needed_of(alloc, table, &order)?;
-    let mut docs = none_made(alloc, table.entries.len())?;
+    let mut making = Making {
+        docs: none_made(alloc, table.entries.len())?,
+        uses: uses_of(alloc, table, &order)?,
+    };
     for (_turn, place) in &order {
-        if is_needed.get(*place) == Some(&true) {
+        if is_used(&making.uses, *place) {
             if let Some(
                 Entry {
                     found: Some(found),
@@ -315,18 +363,15 @@ pub(crate) fn witness_of(alloc: Global, table: &Table<'_>) -> Result<Witness, Se
                 },
             ) = table.entries.get(*place)
             {
-                let doc = doc_of(alloc, table, &docs, found)?;
-                if *place < docs.len() {
-                    docs[*place] = Some(doc);
+                let doc = doc_of(alloc, table, &mut making, found)?;
+                if let Some(made) = making.docs.get_mut(*place) {
+                    *made = Some(doc);
                 }
             }
         }
     }
-    match docs.into_iter().next() {
-        Some(Some(doc)) => Ok(Witness {
-            doc,
-            values: extent.values,
-        }),
-        _ => Err(SearchFault::TooManyCases),
-    }
+    Ok(Witness {
+        doc: making.take(alloc, 0)?,
+        values: extent.values,
+    })
 }

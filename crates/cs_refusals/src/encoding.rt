@@ -1,12 +1,13 @@
 // What is told of sources that aren't UTF-8.
-use cs_advice::{Source, Spot};
+use cs_advice::Spot;
+use cs_sources::Source;
 use simdutf8::compat::from_utf8;
 use std::alloc::AllocError;
 
 /// Where a source isn't UTF-8 (2).
 pub(crate) fn put_not_utf8<'a>(
     text: &mut String,
-    source: Option<&Source<'a, '_>>,
+    source: Option<&Source<'a>>,
 ) -> Result<Spot<'a>, AllocError> {
     let Some(source) = source else {
         return Ok(Spot::nowhere());

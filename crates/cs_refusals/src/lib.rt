@@ -4,7 +4,6 @@
 mod documents;
 mod encoding;
 mod forms;
-mod keys;
 mod lines;
 mod numbers;
 mod objects;
@@ -13,7 +12,6 @@ mod schemas;
 mod told;
 mod words;
 
-pub use forms::{form_among, form_of};
 pub use lines::{put_finding, why_refused};
 pub use numbers::explained;
 pub use objects::write_refusal_json;

@@ -1,8 +1,9 @@
 // Refusals in lines, for people and for problem matchers.
 use crate::told::{About, put_told, put_told_about};
 use crate::words::{Words, no_words};
-use cs_advice::{Source, Span, Spot, put_all, put_excerpt, put_line, put_offset};
+use cs_advice::{Span, Spot, put_all, put_excerpt, put_line, put_offset};
 use cs_place::Named;
+use cs_sources::Source;
 use cs_tool::Fault;
 use itoa::Buffer;
 use std::alloc::{AllocError, Global};
@@ -40,7 +41,7 @@ pub fn put_finding<'a>(
     fault: &Fault,
     root: &str,
     schema: Option<Named<'a>>,
-    sources: &[Source<'a, '_>],
+    sources: &[Source<'a>],
 ) -> Result<(), AllocError> {
     let mut words = no_words(alloc);
     let spot = put_told(

@@ -2,7 +2,9 @@
 use crate::lines::place_of;
 use crate::told::{About, put_told_about};
 use crate::words::{Words, no_words};
-use cs_advice::{Span, Spot, form_name, line_and_column, put_all, put_quoted};
+use cs_advice::{
+    Span, Spot, form_name, line_and_column, put_all, put_count, put_quoted, put_string,
+};
 use cs_place::Named;
 use cs_tool::{Fault, write_fault_json};
 use itoa::Buffer;
@@ -84,35 +86,28 @@ fn put_file(text: &mut String, fault: &Fault, spot: Spot<'_>) -> Result<(), Allo
         return Ok(());
     };
     match fault {
-        Fault::ReadFailed | Fault::InputTooLong => put_quoted(text, ",\"path\":", named.name),
+        Fault::ReadFailed | Fault::InputTooLong => put_string(text, "path", named.name),
         _ if fault.file().is_some() => Ok(()),
-        _ => put_quoted(text, ",\"file\":", named.name),
+        _ => put_string(text, "file", named.name),
     }
 }
 
 /// Puts the line and the column of a place.
 fn put_position(text: &mut String, named: Named<'_>, span: Span) -> Result<(), AllocError> {
     let (line, column) = line_and_column(named, span.start);
-    put_all(
-        text,
-        &[
-            ",\"line\":",
-            Buffer::new().format(line),
-            ",\"column\":",
-            Buffer::new().format(column),
-        ],
-    )
+    put_count(text, "line", line)?;
+    put_count(text, "column", column)
 }
 
 /// Puts the form, the pointer and what to do.
 fn put_words(text: &mut String, spot: Spot<'_>, words: &Words) -> Result<(), AllocError> {
     if let Some(form) = spot.form {
-        put_quoted(text, ",\"form\":", form_name(form))?;
+        put_string(text, "form", form_name(form))?;
     }
     if let Some(pointer) = &words.pointer {
-        put_quoted(text, ",\"pointer\":", pointer)?;
+        put_string(text, "pointer", pointer)?;
     }
-    put_quoted(text, ",\"hint\":", &words.hint)
+    put_string(text, "hint", &words.hint)
 }
 
 /// Puts the files with their bytes, if there are any.

@@ -1,20 +1,19 @@
 // What is told of a refusal.
 use crate::documents::{put_not_integer, put_not_json};
 use crate::encoding::put_not_utf8;
-use crate::forms::form_among;
+use crate::forms::form_of;
 use crate::numbers::put_meaning;
 use crate::pairs::put_too_many_pairs;
 use crate::schemas::{put_loop, put_schema_fault};
 use crate::words::Words;
 use cs_advice::{
-    Source, Spot, put_advice, put_chain, put_cycle, put_line, put_no_root, put_package_name,
-    put_too_high, put_too_large, sources_of,
+    Spot, put_advice, put_chain, put_cycle, put_line, put_no_root, put_package_name, put_too_high,
+    put_too_large,
 };
-use cs_forms::Found;
 use cs_place::Named;
+use cs_sources::{Source, sources_of};
 use cs_tool::Fault;
 use std::alloc::{AllocError, Global};
-use std::str;
 
 /// What a call was given, as far as it is known.
 #[derive(Clone, Copy)]
@@ -40,7 +39,7 @@ pub(crate) fn put_told<'a>(
     fault: &Fault,
     about: About<'a>,
     root: &str,
-    sources: &[Source<'a, '_>],
+    sources: &[Source<'a>],
 ) -> Result<Spot<'a>, AllocError> {
     let mut spot = put_at_token(alloc, words, fault, sources)?;
     if words.hint.is_empty() {
@@ -85,12 +84,12 @@ fn put_at_token<'a>(
     alloc: Global,
     words: &mut Words,
     fault: &Fault,
-    sources: &[Source<'a, '_>],
+    sources: &[Source<'a>],
 ) -> Result<Spot<'a>, AllocError> {
     let Some(source) = source_of(fault, sources) else {
         return Ok(Spot::nowhere());
     };
-    match form_in(source, fault) {
+    match form_of(source, fault) {
         Some(found) => {
             put_advice(alloc, &mut words.hint, source, sources, found)?;
             Ok(Spot {
@@ -103,19 +102,8 @@ fn put_at_token<'a>(
 }
 
 /// The source that a fault names.
-fn source_of<'s, 'n, 't>(
-    fault: &Fault,
-    sources: &'s [Source<'n, 't>],
-) -> Option<&'s Source<'n, 't>> {
+fn source_of<'s, 'a>(fault: &Fault, sources: &'s [Source<'a>]) -> Option<&'s Source<'a>> {
     sources.get(fault.file()?)
-}
-
-/// The form at the place of a fault in its source; none in a source that isn't UTF-8.
-fn form_in(source: &Source<'_, '_>, fault: &Fault) -> Option<Found> {
-    match str::from_utf8(source.named.text) {
-        Ok(text) => form_among(text, &source.tokens, fault),
-        Err(_) => None,
-    }
 }
 
 /// Puts what is told of another fault, if anything is known of it.
@@ -125,7 +113,7 @@ fn put_by_kind<'a>(
     fault: &Fault,
     about: About<'a>,
     root: &str,
-    sources: &[Source<'a, '_>],
+    sources: &[Source<'a>],
 ) -> Result<Spot<'a>, AllocError> {
     let text = &mut words.hint;
     match fault {
@@ -133,13 +121,26 @@ fn put_by_kind<'a>(
         Fault::TooHigh { file } => put_too_high(alloc, text, sources.get(*file)),
         Fault::PackageName { file } => put_package_name(text, sources, *file),
         Fault::Cycle { names } => put_cycle(alloc, text, sources, names),
-        Fault::ChainTooLong => put_chain(alloc, text, sources),
+        Fault::ChainTooLong { names } => put_chain(alloc, text, sources, names),
         Fault::UnknownRoot => put_no_root(alloc, text, sources, root),
-        Fault::TooLarge => put_too_large(alloc, text, sources),
-        Fault::TooManyPairs => put_too_many_pairs(alloc, text, about),
-        Fault::SchemaNotJson => put_not_json(alloc, text, about.schema),
-        Fault::NotJson => put_not_json(alloc, text, about.document),
-        Fault::NotInteger => put_other_number(alloc, words, about),
+        Fault::TooLarge { definitions } => put_too_large(text, *definitions, sources),
+        Fault::TooManyPairs {
+            items,
+            rules,
+            by_schema,
+        } => put_too_many_pairs(text, about, *items, *rules, *by_schema),
+        Fault::SchemaNotJson { offset, is_cut } => {
+            put_not_json(text, about.schema, *offset, *is_cut)
+        }
+        Fault::NotJson { offset, is_cut } => put_not_json(text, about.document, *offset, *is_cut),
+        Fault::NotInteger { offset, in_schema } => {
+            let named = if *in_schema {
+                about.schema
+            } else {
+                about.document
+            };
+            put_not_integer(alloc, words, named, *offset)
+        }
         Fault::Loop { names } => put_loop(alloc, words, about.schema, names),
         Fault::Keyword { .. } | Fault::Shape { .. } | Fault::Reference { .. } => {
             put_schema_fault(alloc, words, about.schema, fault)
@@ -159,17 +160,4 @@ fn put_by_kind<'a>(
         | Fault::ReadFailed
         | Fault::WriteFailed => Ok(Spot::nowhere()),
     }
-}
-
-/// Puts which number of the schema or the document isn't an integer.
-fn put_other_number<'a>(
-    alloc: Global,
-    words: &mut Words,
-    about: About<'a>,
-) -> Result<Spot<'a>, AllocError> {
-    let spot = put_not_integer(alloc, words, about.schema)?;
-    if words.hint.is_empty() {
-        return put_not_integer(alloc, words, about.document);
-    }
-    Ok(spot)
 }

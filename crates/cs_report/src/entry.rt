@@ -1,6 +1,6 @@
 // Reasons in words.
-use crate::text::put_number;
 use cs_place::{Named, Positions};
+use cs_text::put_number;
 use std::alloc::AllocError;
 
 /// The disjunction whose alternative was followed last, by its place among the links from 1 on, and the alternative's own place; both

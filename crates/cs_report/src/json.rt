@@ -1,24 +1,7 @@
 // Reasons as JSON for programs.
 use crate::entry::{Entry, SourcePlace};
-use crate::text::put_number;
-use cs_place::put_quoted;
+use cs_text::{put_count, put_string};
 use std::alloc::AllocError;
-
-/// Puts a member with a string behind others: its key needs no escape.
-pub fn put_string(text: &mut String, key: &str, value: &str) -> Result<(), AllocError> {
-    text.push_str(",\"")?;
-    text.push_str(key)?;
-    text.push_str("\":")?;
-    put_quoted(text, value)
-}
-
-/// Puts a member with a number behind others: its key needs no escape.
-pub fn put_count(text: &mut String, key: &str, value: usize) -> Result<(), AllocError> {
-    text.push_str(",\"")?;
-    text.push_str(key)?;
-    text.push_str("\":")?;
-    put_number(text, value)
-}
 
 fn put_source(text: &mut String, place: &SourcePlace<'_>) -> Result<(), AllocError> {
     put_string(text, "file", place.file)?;

@@ -3,8 +3,8 @@ ghost use Rattle.std.specs.Prelude.{OnOk, string_bytes};
 ghost use Rattle.cs_report.specs.Valid.{EndsInLine};
 
 use crate::entry::Entry;
-use crate::text::put_number;
 use cs_place::{Named, put_place, put_shown};
+use cs_text::put_number;
 use std::alloc::AllocError;
 
 /// Puts what says no: its place in the source, its path, and the alternative.

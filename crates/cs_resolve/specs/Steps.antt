@@ -43,7 +43,7 @@ IsNameRefusal OutOfMemory faults = Unit {0}
 IsNameRefusal (UnknownName f o) faults = slice_get faults 0 ≡ Some (f, unknown o)
 IsNameRefusal (FieldReference f o) faults = slice_get faults 0 ≡ Some (f, of_field o)
 IsNameRefusal (PackageName f) faults = ⊥
-IsNameRefusal TooLarge faults = ⊥
+IsNameRefusal (TooLarge count) faults = ⊥
 IsNameRefusal (NotOpened f o) faults = ⊥
 
 -- what is answered is so, and no name is at fault; or it is refused for the first that is

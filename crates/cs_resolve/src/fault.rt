@@ -17,8 +17,8 @@ pub enum ResolveFault {
     FieldReference { file: usize, offset: usize },
     /// The struct literal at the offset has to end with `...`, and doesn't.
     NotOpened { file: usize, offset: usize },
-    /// The package has more than 1,000 definitions, or more than 50,000 nodes of expressions.
-    TooLarge,
+    /// The package has more than 1,000 definitions, or more than 50,000 nodes of expressions. So many definitions it has.
+    TooLarge { definitions: usize },
 }
 
 impl fmt::Display for ResolveFault {
@@ -29,7 +29,7 @@ impl fmt::Display for ResolveFault {
             ResolveFault::UnknownName { .. } => 9,
             ResolveFault::FieldReference { .. } => 10,
             ResolveFault::NotOpened { .. } => 11,
-            ResolveFault::TooLarge => 14,
+            ResolveFault::TooLarge { .. } => 14,
         }))
     }
 }

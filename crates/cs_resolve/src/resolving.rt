@@ -42,7 +42,7 @@ pub fn resolve(alloc: Global, files: Vec<File>) -> Result<Package, ResolveFault>
     }
     let count = name_count(alloc, &files)?;
     if count > MOST_DEFINITIONS || !has_few_nodes(&files) {
-        return Err(ResolveFault::TooLarge);
+        return Err(ResolveFault::TooLarge { definitions: count });
     }
     let names = declared_names(alloc, &files)?;
     let bases = bases_of(alloc, &files)?;

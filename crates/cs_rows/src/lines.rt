@@ -1,10 +1,10 @@
 // `run_lines`, with the first, the second, the third read or write failing and so on, until a run meets none; and how often it flushes.
 use crate::fakes::{Input, Output};
 use crate::tables::{Row, cell, check};
-use cs_judge::{LinesOutcome, run_lines};
+use cs_judge::{LinesOutcome, Prepared, prepare, run_lines};
 use cs_tool::{Fault, Rules};
 use std::alloc::{AllocError, Global};
-use std::io::ErrorKind;
+use std::io::{ErrorKind, sink};
 use std::test::Fail;
 
 /// The call that judges, its source or its schema, the input, and the answers, or the number of a refusal. A `;` is a newline,
@@ -51,7 +51,29 @@ fn answer(
     output: &mut Output,
 ) -> Result<LinesOutcome, Fault> {
     let rules = rules_of(alloc, case.call, case.text)?;
-    run_lines(alloc, &rules, input, output)
+    run(alloc, &rules, input, output)
+}
+
+/// The run over that input by the rules.
+fn run(
+    alloc: Global,
+    rules: &Rules,
+    input: &mut Input<'_>,
+    output: &mut Output,
+) -> Result<LinesOutcome, Fault> {
+    let prepared = prepare(alloc, rules)?;
+    run_prepared(alloc, &prepared, input, output)
+}
+
+/// The same by prepared rules.
+fn run_prepared(
+    alloc: Global,
+    prepared: &Prepared<'_>,
+    input: &mut Input<'_>,
+    output: &mut Output,
+) -> Result<LinesOutcome, Fault> {
+    let judge = prepared.judge(alloc)?;
+    run_lines(alloc, judge, "", None, input, output, &mut sink())
 }
 
 /// The outcome of the answers.
@@ -182,7 +204,7 @@ pub(crate) fn is_flushed(alloc: Global, row: &str) -> Result<bool, AllocError> {
     let mut input = Input::new(text.as_bytes(), a_call, 1000, ErrorKind::Other);
     let mut output = Output::new(alloc, 1000, 1000, None);
     let rules = rules_of(alloc, "vet", "#P: int")?;
-    let answer = run_lines(alloc, &rules, &mut input, &mut output);
+    let answer = run(alloc, &rules, &mut input, &mut output);
     Ok(answer.is_ok() && wanted.trim().parse::<usize>() == Ok(output.flushes))
 }
 

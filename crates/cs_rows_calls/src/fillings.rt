@@ -40,7 +40,10 @@ pub(crate) fn is_filled(alloc: Global, row: &str) -> Result<bool, Fail> {
     let judge = judge_of(number_of(items), number_of(rules), number_of(classes));
     match fill(alloc, &judge) {
         Ok(table) => Ok(has_thirds(&table, &judge, wanted)),
-        Err(TableFault::TooManyPairs) => Ok(wanted == "too many pairs" && judge.asked.get() == 0),
+        Err(TableFault::TooManyPairs { items, rules }) => {
+            let is_told = items == judge.items && rules == judge.rules;
+            Ok(wanted == "too many pairs" && is_told && judge.asked.get() == 0)
+        }
         Err(fault) => Err(Fail::from(fault)),
     }
 }

@@ -81,7 +81,7 @@ fn is_told_thrice(
 fn is_told(alloc: Global, schema: &SchemaDoc, flat: &Flat<'_>, wanted: &str) -> Result<bool, Fail> {
     match valid_table(alloc, schema, flat) {
         Ok((table, rule)) => Ok(says(&table, rule, wanted)),
-        Err(ValidateFault::TooManyPairs) => Ok(wanted == "too many pairs"),
+        Err(ValidateFault::TooManyPairs { .. }) => Ok(wanted == "too many pairs"),
         Err(fault) => Err(Fail::from(fault)),
     }
 }

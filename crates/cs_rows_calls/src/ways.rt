@@ -86,8 +86,8 @@ fn refusal(is_listed: bool, fault: &DocFault) -> &'static str {
         return "a refused document";
     }
     match fault {
-        DocFault::NotJson => "no JSON",
-        DocFault::NotInteger => "another number",
+        DocFault::NotJson { .. } => "no JSON",
+        DocFault::NotInteger { .. } => "another number",
         DocFault::OutOfMemory => "no memory",
     }
 }

@@ -97,7 +97,7 @@ pub(crate) fn rows_of<R: Asks>(alloc: Global, rules: &[R]) -> Result<Option<Rows
     let table = match fill(alloc, &KindJudge { known: &known }) {
         Ok(table) => table,
         Err(TableFault::OutOfMemory) => return Err(AllocError),
-        Err(TableFault::TooManyPairs) => return Ok(None),
+        Err(TableFault::TooManyPairs { .. }) => return Ok(None),
     };
     let left = open_by_kind(alloc, &known)?;
     Ok(Some(Rows { table, left }))

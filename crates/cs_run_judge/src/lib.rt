@@ -22,7 +22,7 @@ pub fn answer(rt: &HostRuntime, matches: &ArgMatches<'_>) -> Result<Option<u8>, 
     };
     if let Some(documents) = documents_of(words) {
         return match rules_of(rt, command, words)? {
-            Some(rules) => answer_many(rt, &rules, documents).map(Some),
+            Some(rules) => answer_many(rt, &rules, None, documents).map(Some),
             None => Ok(None),
         };
     }

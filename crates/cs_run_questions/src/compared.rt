@@ -6,8 +6,6 @@ use cs_compare::{
     CompareRefusal, Comparison, Side, Told, compare as compare_sources, write_both,
     write_comparison,
 };
-use cs_doc::write_doc;
-use cs_document::Doc;
 use cs_judge::{Prepared, Why, prepare};
 use cs_place::Named;
 use cs_report::Form;
@@ -136,7 +134,7 @@ fn told_answer(
 ) -> Result<Told, CompareRefusal> {
     let comparison = comparison(alloc, from, to)?;
     let reasons = match (&comparison, reasons) {
-        (Comparison::Breaking(doc), Some(reasons)) => reasons_told(alloc, doc, to, reasons)?,
+        (Comparison::Breaking(shown), Some(reasons)) => reasons_told(alloc, shown, to, reasons)?,
         _ => Vec::new(alloc),
     };
     Ok(Told {
@@ -156,16 +154,15 @@ fn comparison(
     compare_sources(alloc, &admitting, from.root, &refusing, to.root)
 }
 
-/// What an edition tells of a document that it refuses: the lines below the verdict, or the object without its newline.
+/// What an edition tells of the text of a document that it refuses: the lines below the verdict, or the object without its newline.
 fn reasons_told(
     alloc: Global,
-    doc: &Doc,
+    shown: &[u8],
     to: Edition<'_>,
     reasons: Reasons,
 ) -> Result<Vec<u8>, Fault> {
-    let shown = write_doc(alloc, doc)?;
     let mut told = Vec::new(alloc);
-    let _is_instance = explain(alloc, &shown, to, reasons, &mut told)?;
+    let _is_instance = explain(alloc, shown, to, reasons, &mut told)?;
     let bare = match reasons.form {
         Form::Json => told.trim_ascii_end(),
         Form::Lines | Form::Flag | Form::Basic => {
@@ -206,5 +203,5 @@ fn explain_prepared(
         line: 1,
     };
     let mut judge = prepared.judge(alloc)?;
-    judge.explain(document, why, told)
+    judge.explain(document, Some(why), told)
 }

@@ -10,7 +10,7 @@ use crate::compared::compare;
 use crate::listed::list;
 use crate::sampled::write_samples;
 use clap::ArgMatches;
-use cs_findings::{Checked, Findings, schema_findings, source_findings};
+use cs_check::{Checked, Findings, schema_findings, source_findings};
 use cs_place::Named;
 use cs_refusals::explained;
 use cs_report::Form;

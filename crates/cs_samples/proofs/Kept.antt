@@ -12,13 +12,11 @@ use Rattle.std.proofs.lemmas.List.{append-nil}
 use Rattle.std.proofs.lemmas.List.Folds.{list_any-append}
 use Rattle.std.proofs.lemmas.Map.Keys.{IsDistinct-push}
 use Rattle.std.proofs.lemmas.Map.Text.{is_eq-slice_cmp}
-use Rattle.cs_doc.specs.Texts.{text_of}
 use Rattle.cs_document.proofs.Each.{each_append, each_front, each_back}
-use Rattle.cs_document.specs.Document.{Document}
 use Rattle.cs_package.specs.Environment.{Environment}
 use Rattle.cs_variants.specs.declared.sampled.Sampled.{Sampled}
 use Rattle.cs_samples.specs.Answers.{text_cmp, AreKept, IsPut, IsSplit}
-use Rattle.cs_samples.specs.Sample.{IsSample, AreSamples, HasMore, same_text}
+use Rattle.cs_samples.specs.Sample.{IsSampleText, AreSamples, HasMore, same_text}
 
 pub texts_equal : IsEquivalence same_text
 texts_equal = on_equiv (λ t. t.items) nat_list_eq_equiv
@@ -56,9 +54,9 @@ kept-none s ts none empty = subst (AreKept s) (sym empty) (record {
 })
 
 -- what was found already, and the text of one more sample
-pub samples-put : (E : Environment) (root : List ℕ) (which : Sampled) (x : Document) (old new : List (Vec ℕ Global)) → IsPut x old new → AreSamples E root which old → IsSample E root which x → AreSamples E root which new
-samples-put E root which x old new (inl is) h one = subst (AreSamples E root which) (sym is) h
-samples-put E root which x old new (inr (t, text, is)) h one = subst (AreSamples E root which) (sym is) (each_append _ old (t ∷ []) h ((x, one, text), tt))
+pub samples-put : (E : Environment) (root : List ℕ) (which : Sampled) (t : Vec ℕ Global) (old new : List (Vec ℕ Global)) → IsPut t old new → AreSamples E root which old → IsSampleText E root which t.items → AreSamples E root which new
+samples-put E root which t old new (inl is) h one = subst (AreSamples E root which) (sym is) h
+samples-put E root which t old new (inr is) h one = subst (AreSamples E root which) (sym is) (each_append _ old (t ∷ []) h (one, tt))
 
 -- the first ones of samples, and the others
 pub samples-first : (E : Environment) (root : List ℕ) (which : Sampled) (all first : List (Vec ℕ Global)) (count : ℕ) → IsSplit all first count → AreSamples E root which all → AreSamples E root which first

@@ -6,24 +6,21 @@ use Rattle.std.specs.List.{IsDistinct, list_any}
 use Rattle.std.specs.Ordering.{nat_cmp}
 use Rattle.std.specs.declared.alloc.Global.{Global}
 use Rattle.std.specs.declared.cmp.Ordering.{Ordering}
-use Rattle.cs_doc.specs.Texts.{text_of}
-use Rattle.cs_document.specs.Document.{Document}
-use Rattle.cs_document.specs.View.{doc_view}
 use Rattle.cs_package.specs.Environment.{Environment}
 use Rattle.cs_variants.specs.declared.sampled.Sampled.{Sampled}
 use Rattle.cs_samples.specs.declared.asking.Answer.{Answer}
-use Rattle.cs_samples.specs.declared.asking.Answer.TheVariants.{Document as Found, Nothing, TooManyCases}
-use Rattle.cs_samples.specs.Sample.{IsSample, same_text}
+use Rattle.cs_samples.specs.declared.asking.Answer.TheVariants.{Text, Nothing, TooManyCases}
+use Rattle.cs_samples.specs.Sample.{IsSampleText, same_text}
 
--- a document that is answered is a sample
+-- a text that is answered is that of a sample
 abbrev pub IsAnswer : Environment → List ℕ → Sampled → Answer → Type 0
-IsAnswer E root which (Found d) = IsSample E root which (doc_view d)
+IsAnswer E root which (Text t) = IsSampleText E root which t.items
 IsAnswer E root which Nothing = Unit {0}
 IsAnswer E root which TooManyCases = Unit {0}
 
--- the document's text is behind the others, or nothing is new
-abbrev pub IsPut : Document → List (Vec ℕ Global) → List (Vec ℕ Global) → Type 0
-IsPut x old new = (new ≡ old) ⊎ ((t : Vec ℕ Global) × (t.items ≡ text_of x) × (new ≡ old ++ t ∷ []))
+-- the text is behind the others, or nothing is new
+abbrev pub IsPut : Vec ℕ Global → List (Vec ℕ Global) → List (Vec ℕ Global) → Type 0
+IsPut t old new = (new ≡ old) ⊎ (new ≡ old ++ t ∷ [])
 
 -- the order by which the code looks texts up
 abbrev pub text_cmp : Vec ℕ Global → Vec ℕ Global → Ordering

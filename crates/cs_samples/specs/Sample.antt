@@ -3,10 +3,10 @@ use Rattle.std.specs.Prelude.{◌≡◌, ◌++◌, ℕ, Bool, false, List, Vec, 
 use Rattle.std.specs.List.{AllByRecursion, IsDistinct}
 use Rattle.std.specs.Str.{bytes_eq}
 use Rattle.std.specs.declared.alloc.Global.{Global}
-use Rattle.cs_doc.specs.Texts.{text_of}
 use Rattle.cs_document.specs.Document.{Document, IsDocument}
 use Rattle.cs_package.specs.Environment.{Environment, Names}
 use Rattle.cs_instance.specs.Instance.{Rule, definition, IsInstance}
+use Rattle.cs_pretty.specs.Shown.{IsShown}
 use Rattle.cs_question.specs.ReadAgain.{IsReadAgain}
 use Rattle.cs_variants.specs.declared.sampled.Sampled.{Sampled}
 use Rattle.cs_variants.specs.Sampled.{is_valid}
@@ -19,9 +19,9 @@ IsAsAsked E root which x = (I : Rule → Document → Bool) (n : List ℕ) → I
 abbrev pub IsSample : Environment → List ℕ → Sampled → Document → Type 0
 IsSample E root which x = IsReadAgain x × IsAsAsked E root which x
 
--- the text is that of a sample
+-- the text is that of a sample, as it is shown, and is read as the sample
 abbrev pub IsSampleText : Environment → List ℕ → Sampled → List ℕ → Type 0
-IsSampleText E root which bytes = (x : Document) × IsSample E root which x × (bytes ≡ text_of x)
+IsSampleText E root which bytes = (x : Document) × IsSample E root which x × IsShown x bytes
 
 abbrev pub AreSamples : Environment → List ℕ → Sampled → List (Vec ℕ Global) → Type 0
 AreSamples E root which ts = AllByRecursion (λ t. IsSampleText E root which t.items) ts

@@ -2,11 +2,12 @@
 ghost use Rattle.std.specs.Prelude.{IfOk, IfSome, IsTrue};
 ghost use Rattle.cs_document.specs.View.{doc_view};
 ghost use Rattle.cs_question.specs.ReadAgain.{IsReadAgain};
-ghost use Rattle.cs_samples.specs.Sample.{IsAsAsked};
+ghost use Rattle.cs_samples.specs.Sample.{IsAsAsked, IsSample};
 
 use cs_document::Doc;
 use cs_guard::Guarded;
 use cs_instance::{InstanceFault, is_instance};
+use cs_pretty::shown_text;
 use cs_question::{Budget, QuestionFault, instance_of, separating};
 use cs_variants::Sampled;
 use std::alloc::Global;
@@ -25,7 +26,8 @@ pub(crate) struct Asking<'a> {
 /// What a question answers.
 #[derive(Drop)]
 pub(crate) enum Answer {
-    Document(Doc),
+    /// The text of a sample.
+    Text(Vec<u8>),
     Nothing,
     /// A limit was met.
     TooManyCases,
@@ -34,8 +36,8 @@ pub(crate) enum Answer {
 impl Asking<'_> {
     ghost use Rattle.cs_samples.specs.Answers.{IsAnswer};
 
-    /// A document of the last definition of a variant: an instance of it that is one of the root too, or one that isn't. What this
-    /// takes is taken from the budget.
+    /// The text of a document of the last definition of a variant: of an instance of it that is one of the root too, or of one that
+    /// isn't. What this takes is taken from the budget.
     ///
     /// # Errors
     /// `OutOfMemory`.
@@ -47,7 +49,7 @@ impl Asking<'_> {
         ensures { IfOk result (IsAnswer self.now.package.now self.now.root.now self.now.which) }
     {
         match self.found(variant, budget) {
-            Ok(Some(doc)) => self.judged(doc),
+            Ok(Some(doc)) => self.judged(&doc),
             Ok(None) | Err(QuestionFault::UnknownRoot) => Ok(Answer::Nothing),
             Err(QuestionFault::TooManyCases) => Ok(Answer::TooManyCases),
             Err(QuestionFault::OutOfMemory) => Err(QuestionFault::OutOfMemory),
@@ -71,16 +73,28 @@ impl Asking<'_> {
         }
     }
 
-    /// The document, where it is a sample.
-    fn judged(&self, doc: Doc) -> Result<Answer, QuestionFault>
-        requires { IsReadAgain (doc_view doc) }
+    /// The text of the document, where it is a sample.
+    fn judged(&self, doc: &Doc) -> Result<Answer, QuestionFault>
+        requires { IsReadAgain (doc_view doc.now) }
         ensures { IfOk result (IsAnswer self.now.package.now self.now.root.now self.now.which) }
     {
-        match self.is_sample(&doc) {
-            Ok(true) => Ok(Answer::Document(doc)),
+        match self.is_sample(doc) {
+            Ok(true) => self.shown(doc),
             Ok(false) | Err(InstanceFault::UnknownRoot) => Ok(Answer::Nothing),
-            Err(InstanceFault::TooManyPairs) => Ok(Answer::TooManyCases),
+            Err(InstanceFault::TooManyPairs { .. }) => Ok(Answer::TooManyCases),
             Err(InstanceFault::OutOfMemory) => Err(QuestionFault::OutOfMemory),
+        }
+    }
+
+    /// The text of a sample. There is one: a limit is met where there isn't.
+    fn shown(&self, doc: &Doc) -> Result<Answer, QuestionFault>
+        requires { IsSample self.now.package.now self.now.root.now self.now.which
+            (doc_view doc.now) }
+        ensures { IfOk result (IsAnswer self.now.package.now self.now.root.now self.now.which) }
+    {
+        match shown_text(self.alloc, doc)? {
+            Some(text) => Ok(Answer::Text(text)),
+            None => Ok(Answer::TooManyCases),
         }
     }
 

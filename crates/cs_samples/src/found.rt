@@ -1,18 +1,15 @@
 // The documents that the questions found.
 ghost use Rattle.std.specs.Prelude.{◌≡◌, ◌<◌, IfOk, OnOk, OnErr, [], length};
 ghost use Rattle.std.specs.List.{IsDistinct};
-ghost use Rattle.cs_document.specs.View.{doc_view};
 ghost use Rattle.cs_samples.specs.Answers.{IsAnswer, IsPut, AreKept};
 ghost use Rattle.cs_samples.specs.Sample.{AreSamples, same_text};
 
 use crate::asking::{Answer, Asking};
 use crate::tally::Tally;
-use cs_doc::write_doc;
-use cs_document::Doc;
 use cs_guard::Guarded;
 use cs_question::{Budget, QuestionFault};
 use cs_variants::{Making, Place, Sampled, Walk};
-use std::alloc::Global;
+use std::alloc::{AllocError, Global};
 use std::collections::BTreeSet;
 
 /// The steps for each byte of a document's text: the document is built, judged and written, some ten microseconds a value.
@@ -124,7 +121,7 @@ impl Found {
         }
     }
 
-    /// Puts the document that is answered, if there is one, and counts what it took.
+    /// Puts the text that is answered, if there is one, and counts what it took.
     fn take(
         &mut self,
         asking: &Asking<'_>,
@@ -142,29 +139,26 @@ impl Found {
         ensures kept { OnOk result (AreKept self.new.seen self.new.texts.items) }
     {
         match answer {
-            Answer::Document(doc) => {
-                let bytes = self.put(asking.alloc, &doc)?;
-                budget.spend(bytes.saturating_mul(STEPS_OF_BYTE));
-                Ok(())
+            Answer::Text(text) => {
+                budget.spend(text.len().saturating_mul(STEPS_OF_BYTE));
+                self.put(asking.alloc, text)
             }
             Answer::Nothing | Answer::TooManyCases => Ok(()),
         }
     }
 
-    /// Puts a document's text behind the others, unless it is one of them. Gives how many bytes it has.
-    fn put(&mut self, alloc: Global, doc: &Doc) -> Result<usize, QuestionFault>
-        ensures put { IsPut (doc_view doc.now) self.old.texts.items self.new.texts.items }
+    /// Puts a text behind the others, unless it is one of them.
+    fn put(&mut self, alloc: Global, text: Vec<u8>) -> Result<(), QuestionFault>
+        ensures put { IsPut text self.old.texts.items self.new.texts.items }
         ensures refused { OnErr result (self.new.texts.items ≡ self.old.texts.items) }
         ensures kept { OnOk result (AreKept self.old.seen self.old.texts.items
             → AreKept self.new.seen self.new.texts.items) }
     {
-        let text = write_doc(alloc, doc)?;
-        let bytes = text.len();
         let copy = Vec::from_slice(alloc, &text)?;
         if self.seen.insert(copy)? {
             self.texts.push(text)?;
         }
-        Ok(bytes)
+        Ok(())
     }
 }
 
@@ -177,41 +171,47 @@ fn asked(
 ) -> Result<Answer, QuestionFault>
     ensures { IfOk result (IsAnswer asking.now.package.now asking.now.root.now asking.now.which) }
 {
-    match asked_once(asking, making, place, budget)? {
+    match asked_where(asking, making, place, Where::Once, budget)? {
         Answer::Nothing if making.is_asked_again(place) => {
-            asked_everywhere(asking, making, place, budget)
+            asked_where(asking, making, place, Where::Everywhere, budget)
         }
         answer => Ok(answer),
     }
 }
 
-/// What the question of a place answers for one reference: without what a document may lack, and where that has no answer, with it.
-fn asked_once(
+/// Where a change is made: at one reference, or at all of them.
+#[derive(Clone, Copy)]
+enum Where {
+    Once,
+    Everywhere,
+}
+
+/// What the question of a place answers for a change that is made there: without what a document may lack, and where that has no
+/// answer, with it.
+fn asked_where(
     asking: &Asking<'_>,
     making: &Making<'_, '_>,
     place: &Place<'_>,
+    at: Where,
     budget: &mut Budget,
 ) -> Result<Answer, QuestionFault>
     ensures { IfOk result (IsAnswer asking.now.package.now asking.now.root.now asking.now.which) }
 {
-    match answered(asking, making.least().variant(place)?, budget)? {
-        Answer::Nothing => answered(asking, making.variant(place)?, budget),
+    match answered(asking, variant_of(&making.least(), place, at)?, budget)? {
+        Answer::Nothing => answered(asking, variant_of(making, place, at)?, budget),
         answer => Ok(answer),
     }
 }
 
-/// The same for all references.
-fn asked_everywhere(
-    asking: &Asking<'_>,
+/// The package with the change of a place made there, if it can be.
+fn variant_of(
     making: &Making<'_, '_>,
     place: &Place<'_>,
-    budget: &mut Budget,
-) -> Result<Answer, QuestionFault>
-    ensures { IfOk result (IsAnswer asking.now.package.now asking.now.root.now asking.now.which) }
-{
-    match answered(asking, making.least().changed_everywhere(place)?, budget)? {
-        Answer::Nothing => answered(asking, making.changed_everywhere(place)?, budget),
-        answer => Ok(answer),
+    at: Where,
+) -> Result<Option<Guarded>, AllocError> {
+    match at {
+        Where::Once => making.variant(place),
+        Where::Everywhere => making.changed_everywhere(place),
     }
 }
 

@@ -10,15 +10,15 @@ use crate::costs::cost_of;
 use crate::found::Found;
 use crate::tally::Tally;
 use crate::texts::SampleTexts;
-use cs_doc::write_doc;
 use cs_guard::{Guarded, reachable};
 use cs_package::Package;
+use cs_pretty::shown_text;
 use cs_question::{Budget, QuestionFault, instance_of};
 use cs_variants::{Making, Sampled, walk_of};
 use std::alloc::{AllocError, Global};
 
 /// The texts of documents of the root, a definition of the package named with its `#`, or of documents that just fail, no two alike,
-/// and at most as many as are asked for; and how many others were found.
+/// and at most as many as are asked for; and how many others were found. Hidden characters stand in them as escapes.
 ///
 /// Valid ones: an instance first, and then one for each alternative, each optional key with and without, each end of a range, the
 /// least length of a list and the next one, and a further key where one is allowed. Invalid ones: for each kind, literal and bound,
@@ -112,15 +112,15 @@ fn one_instance(asking: &Asking<'_>, budget: &mut Budget) -> Result<SampleTexts,
     ensures unknown { IsErrOf result QuestionFault.UnknownRoot
         → (n : List ℕ) → ¬ Names asking.now.package.now asking.now.root.now n }
 {
-    match instance_of(asking.alloc, asking.package, asking.root, budget)? {
-        None => Ok(SampleTexts::alone(Vec::new(asking.alloc))),
-        Some(doc) => {
-            let text = write_doc(asking.alloc, &doc)?;
-            let mut texts = Vec::new(asking.alloc);
-            texts.push(text)?;
-            Ok(SampleTexts::alone(texts))
-        }
-    }
+    let Some(doc) = instance_of(asking.alloc, asking.package, asking.root, budget)? else {
+        return Ok(SampleTexts::alone(Vec::new(asking.alloc)));
+    };
+    let Some(text) = shown_text(asking.alloc, &doc)? else {
+        return Err(QuestionFault::TooManyCases);
+    };
+    let mut texts = Vec::new(asking.alloc);
+    texts.push(text)?;
+    Ok(SampleTexts::alone(texts))
 }
 
 /// Asks the questions of all places, in turns, and where no document just fails, for any that the root refuses.

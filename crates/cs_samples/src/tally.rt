@@ -39,7 +39,7 @@ impl Tally {
     pub(crate) fn note(&mut self, rule: usize, answer: &Answer) {
         self.asked = self.asked.saturating_add(1);
         match answer {
-            Answer::Document(_) => self.close(rule),
+            Answer::Text(_) => self.close(rule),
             Answer::Nothing => {
                 self.missed = self.missed.saturating_add(1);
                 self.close(rule);
@@ -51,7 +51,7 @@ impl Tally {
     /// Notes the answer to the question about the root as a whole. Where there is no document, no limit kept one from being found.
     pub(crate) fn note_any(&mut self, answer: &Answer) {
         match answer {
-            Answer::Document(_) => {}
+            Answer::Text(_) => {}
             Answer::Nothing => self.limited = 0,
             Answer::TooManyCases => self.limited = self.limited.saturating_add(1),
         }

@@ -5,6 +5,8 @@ use Rattle.cs_table.specs.Decided.{IsNoneOf, HasDecided, IsDecided}
 use Rattle.cs_table.specs.Judged.{AllVerdicts, Judgement, IsEarlier, LooksBack, IsJudged, Table, verdicts}
 use Rattle.cs_table.specs.Kept.{width_of, is_yes, kept}
 use Rattle.cs_table.specs.Limit.{most_pairs}
+use Rattle.cs_table.specs.Refused.{IsRefusal}
+use Rattle.cs_table.specs.declared.fault.TableFault.TheVariants.{TooManyPairs}
 use Rattle.cs_table.specs.declared.judging.Row.{Row}
 
 -- ---- the order of pairs: by item, then by rule
@@ -187,3 +189,13 @@ row_of_no_item d = let l : 1 < 1 = d.item in absurd (omega arith)
 
 limit : most_pairs ≡ 8192 * 8192
 limit = refl
+
+-- what is told of too many pairs are the items and the rules, and not one for the other
+told : IsRefusal 8192 8193 (TooManyPairs 8192 8193)
+told = (refl, refl, omega arith)
+
+told_turned : IsRefusal 8192 8193 (TooManyPairs 8193 8192) → ⊥
+told_turned h = let e = h.0 in omega (arith, e)
+
+told_of_few : IsRefusal 8192 8192 (TooManyPairs 8192 8192) → ⊥
+told_of_few h = let l = h.2 in omega (arith, l)

@@ -8,15 +8,15 @@ use std::fmt;
 pub enum TableFault {
     /// Memory ran out.
     OutOfMemory,
-    /// There are more than 67,108,864 pairs of an item and a rule.
-    TooManyPairs,
+    /// So many items and rules were to be judged, which make more than 67,108,864 pairs.
+    TooManyPairs { items: usize, rules: usize },
 }
 
 impl fmt::Display for TableFault {
     fn fmt<W: fmt::Write>(&self, f: &mut fmt::Formatter<W>) -> fmt::Result {
         f.write_str(meaning(match self {
             TableFault::OutOfMemory => 15,
-            TableFault::TooManyPairs => 27,
+            TableFault::TooManyPairs { .. } => 27,
         }))
     }
 }

@@ -15,7 +15,7 @@ use std::alloc::Global;
 /// for each pair that isn't decided beforehand.
 ///
 /// # Errors
-/// `TooManyPairs` exactly where items times rules exceed 67,108,864.
+/// `TooManyPairs`, with how many items and rules there are, exactly where these make more than 67,108,864 pairs.
 pub fn fill<J: Judge>(alloc: Global, judge: &J) -> Result<Verdicts, TableFault>
     ensures judged { IfOk result (λ t. IsJudged (J.item_count judge.now) (J.rule_count judge.now)
         (J.answer judge.now) (verdicts t)) }
@@ -39,7 +39,7 @@ pub fn fill<J: Judge>(alloc: Global, judge: &J) -> Result<Verdicts, TableFault>
 /// filled again.
 ///
 /// # Errors
-/// `TooManyPairs` exactly where items times rules exceed 67,108,864.
+/// `TooManyPairs`, with how many items and rules there are, exactly where these make more than 67,108,864 pairs.
 pub fn refill<J: Judge>(judge: &J, done: &mut Verdicts) -> Result<(), TableFault>
     ensures judged { OnOk result (IsJudged (J.item_count judge.now) (J.rule_count judge.now)
         (J.answer judge.now) (verdicts done.new)) }

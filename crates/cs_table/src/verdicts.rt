@@ -133,10 +133,10 @@ impl Verdicts {
         (self.items, self.rules, self.width) = (0, 0, 0);
         self.bytes.clear();
         let Some(pairs) = items.checked_mul(rules) else {
-            return Err(TableFault::TooManyPairs);
+            return Err(TableFault::TooManyPairs { items, rules });
         };
         if pairs > MOST_PAIRS {
-            return Err(TableFault::TooManyPairs);
+            return Err(TableFault::TooManyPairs { items, rules });
         }
         let firsts = none_of(&mut self.firsts, classes)?;
         let width = rules.div_ceil(8);

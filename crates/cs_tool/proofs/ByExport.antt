@@ -1,5 +1,5 @@
 -- What refuses an export refuses the calls that judge by the root.
-use Rattle.std.proofs.Common.{◌≡◌, ℕ, List, inl, inr}
+use Rattle.std.proofs.Common.{◌≡◌, ℕ, true, false, List, inl, inr}
 use Rattle.cs_tool.specs.First.{SourcesFault, First}
 use Rattle.cs_tool.specs.CallRefusals.{ExportRefusal, VetRefusal, AgreeRefusal}
 use Rattle.cs_tool.specs.declared.fault.Fault.{Fault}
@@ -12,14 +12,15 @@ module _ (sources : List (List ℕ)) (root : List ℕ) where
 
   pub vet_by_export : (text : List ℕ) (e : Fault) → ExportRefusal sources root e → VetRefusal sources root text e
   vet_by_export text OutOfMemory h = tt
-  vet_by_export text NotJson h = absurd (not_first NotJson (λ x. x) (λ is. cc) h)
-  vet_by_export text NotInteger h = absurd (not_first NotInteger (λ x. x) (λ is. cc) h)
-  vet_by_export text TooManyPairs h = absurd (not_first TooManyPairs (λ x. x) (λ is. cc) h)
+  vet_by_export text (NotJson o c) h = absurd (not_first (NotJson o c) (λ x. x) (λ is. cc) h)
+  vet_by_export text (NotInteger o false) h = absurd (not_first (NotInteger o false) (λ x. x) (λ is. cc) h)
+  vet_by_export text (TooManyPairs i r false) h = absurd (not_first (TooManyPairs i r false) (λ x. x) (λ is. cc) h)
   vet_by_export text _ h = h
 
   pub agree_by_export : (text : List ℕ) (e : Fault) → ExportRefusal sources root e → AgreeRefusal sources root text e
   agree_by_export text OutOfMemory h = tt
-  agree_by_export text NotJson h = absurd (not_first NotJson (λ x. x) (λ is. cc) h)
-  agree_by_export text NotInteger h = absurd (not_first NotInteger (λ x. x) (λ is. cc) h)
-  agree_by_export text TooManyPairs h = absurd (not_first TooManyPairs (λ x. x) (λ is. cc) h)
+  agree_by_export text (NotJson o c) h = absurd (not_first (NotJson o c) (λ x. x) (λ is. cc) h)
+  agree_by_export text (NotInteger o false) h = absurd (not_first (NotInteger o false) (λ x. x) (λ is. cc) h)
+  agree_by_export text (TooManyPairs i r false) h = absurd (not_first (TooManyPairs i r false) (λ x. x) (λ is. cc) h)
+  agree_by_export text (TooManyPairs i r true) h = absurd (not_first (TooManyPairs i r true) (λ x. x) (λ is. cc) h)
   agree_by_export text _ h = h

@@ -1,6 +1,6 @@
 -- Samples, worked by the definitions: the table of refusals, the line of one, what each crate's refusals become, and
 -- what stands at the ends of each limit. A wrong expectation stops the check here.
-use Rattle.std.proofs.Common.{◌≡◌, ℕ, ◌+◌, ◌≤◌, List, [], ◌∷◌, ◌++◌, map, length, Option, Some, None, Vec, Global, String, codes, refl, arith}
+use Rattle.std.proofs.Common.{◌≡◌, ℕ, ◌+◌, ◌≤◌, true, false, List, [], ◌∷◌, ◌++◌, map, length, Option, Some, None, Vec, Global, String, codes, refl, arith}
 use Rattle.std.specs.Fmt.{digits}
 use Rattle.cs_grammar.specs.declared.fault.SyntaxFault.TheVariants as syntax
 use Rattle.cs_resolve.specs.declared.fault.ResolveFault.TheVariants as resolve
@@ -11,7 +11,7 @@ use Rattle.cs_profile.specs.declared.fault.SchemaFault.TheVariants as schema
 use Rattle.cs_validate.specs.declared.fault.ValidateFault.TheVariants as validate
 use Rattle.cs_document.specs.declared.fault.DocFault.TheVariants as doc
 use Rattle.cs_tool.specs.Accepted.{most_bytes, bytes_of}
-use Rattle.cs_tool.specs.Conversions.{of_syntax, of_resolve, of_guard, of_instance, of_compile, of_schema, of_validate, of_document}
+use Rattle.cs_tool.specs.Conversions.{of_syntax, of_resolve, of_guard, of_instance, of_compile, of_schema, of_validate, of_document, of_schema_text}
 use Rattle.cs_tool.specs.Refusals.{number_of, offset_of, file_of, status_of, fault_line}
 use Rattle.cs_tool.specs.Runs.{line_of}
 use Rattle.cs_tool.specs.Streams.{IsLonger, LosesAtMost, chunk_bytes}
@@ -44,18 +44,20 @@ module _ (names : Vec (String Global) Global) (place name : String Global) where
       ∷ (NotOpened 3 21, (11, Some 21, Some 3, 2))
       ∷ (Cycle names, (12, None, None, 2))
       ∷ (UnknownRoot, (13, None, None, 2))
-      ∷ (TooLarge, (14, None, None, 2))
+      ∷ (TooLarge 1001, (14, None, None, 2))
       ∷ (OutOfMemory, (15, None, None, 5))
-      ∷ (ChainTooLong, (16, None, None, 2))
+      ∷ (ChainTooLong names, (16, None, None, 2))
       ∷ (TooManyCases, (17, None, None, 2))
-      ∷ (SchemaNotJson, (20, None, None, 2))
+      ∷ (SchemaNotJson 21 true, (20, None, None, 2))
       ∷ (Keyword place name, (21, None, None, 2))
       ∷ (Shape place name, (22, None, None, 2))
       ∷ (Reference place name, (23, None, None, 2))
       ∷ (Loop names, (24, None, None, 2))
-      ∷ (NotJson, (25, None, None, 2))
-      ∷ (NotInteger, (26, None, None, 2))
-      ∷ (TooManyPairs, (27, None, None, 2))
+      ∷ (NotJson 21 false, (25, None, None, 2))
+      ∷ (NotInteger 21 true, (26, None, None, 2))
+      ∷ (NotInteger 21 false, (26, None, None, 2))
+      ∷ (TooManyPairs 8192 8193 true, (27, None, None, 2))
+      ∷ (TooManyPairs 8192 8193 false, (27, None, None, 2))
       ∷ (InputTooLong, (28, None, None, 2))
       ∷ (ReadFailed, (30, None, None, 4))
       ∷ (WriteFailed, (31, None, None, 4))
@@ -69,22 +71,25 @@ module _ (names : Vec (String Global) Global) (place name : String Global) where
       ≡ OutOfMemory ∷ NoToken 3 21 ∷ Syntax 3 21 ∷ LeftOut 3 21 ∷ IntegerRange 3 21 ∷ TooHigh 3 ∷ []
   by_syntax = refl
 
-  by_package : map of_resolve (resolve.OutOfMemory ∷ resolve.PackageName 3 ∷ resolve.UnknownName 3 21 ∷ resolve.FieldReference 3 21 ∷ resolve.NotOpened 3 21 ∷ resolve.TooLarge ∷ [])
-      ≡ OutOfMemory ∷ PackageName 3 ∷ UnknownName 3 21 ∷ FieldReference 3 21 ∷ NotOpened 3 21 ∷ TooLarge ∷ []
+  by_package : map of_resolve (resolve.OutOfMemory ∷ resolve.PackageName 3 ∷ resolve.UnknownName 3 21 ∷ resolve.FieldReference 3 21 ∷ resolve.NotOpened 3 21 ∷ resolve.TooLarge 1001 ∷ [])
+      ≡ OutOfMemory ∷ PackageName 3 ∷ UnknownName 3 21 ∷ FieldReference 3 21 ∷ NotOpened 3 21 ∷ TooLarge 1001 ∷ []
   by_package = refl
 
-  by_recursion : map of_guard (guard.OutOfMemory ∷ guard.Cycle names ∷ guard.ChainTooLong ∷ []) ≡ OutOfMemory ∷ Cycle names ∷ ChainTooLong ∷ []
+  by_recursion : map of_guard (guard.OutOfMemory ∷ guard.Cycle names ∷ guard.ChainTooLong names ∷ []) ≡ OutOfMemory ∷ Cycle names ∷ ChainTooLong names ∷ []
   by_recursion = refl
 
-  by_root : (map of_instance (instance.OutOfMemory ∷ instance.UnknownRoot ∷ instance.TooManyPairs ∷ []) ≡ OutOfMemory ∷ UnknownRoot ∷ TooManyPairs ∷ []) × (map of_compile (compile.OutOfMemory ∷ compile.UnknownRoot ∷ []) ≡ OutOfMemory ∷ UnknownRoot ∷ [])
+  by_root : (map of_instance (instance.OutOfMemory ∷ instance.UnknownRoot ∷ instance.TooManyPairs 8192 8193 ∷ []) ≡ OutOfMemory ∷ UnknownRoot ∷ TooManyPairs 8192 8193 false ∷ []) × (map of_compile (compile.OutOfMemory ∷ compile.UnknownRoot ∷ []) ≡ OutOfMemory ∷ UnknownRoot ∷ [])
   by_root = (refl, refl)
 
   by_schema : map of_schema (schema.OutOfMemory ∷ schema.Keyword place name ∷ schema.Shape place name ∷ schema.Reference place name ∷ schema.Loop names ∷ [])
       ≡ OutOfMemory ∷ Keyword place name ∷ Shape place name ∷ Reference place name ∷ Loop names ∷ []
   by_schema = refl
 
-  by_document : (map of_document (doc.OutOfMemory ∷ doc.NotJson ∷ doc.NotInteger ∷ []) ≡ OutOfMemory ∷ NotJson ∷ NotInteger ∷ []) × (map of_validate (validate.OutOfMemory ∷ validate.TooManyPairs ∷ []) ≡ OutOfMemory ∷ TooManyPairs ∷ [])
+  by_document : (map of_document (doc.OutOfMemory ∷ doc.NotJson 21 true ∷ doc.NotInteger 21 ∷ []) ≡ OutOfMemory ∷ NotJson 21 true ∷ NotInteger 21 false ∷ []) × (map of_validate (validate.OutOfMemory ∷ validate.TooManyPairs 8192 8193 ∷ []) ≡ OutOfMemory ∷ TooManyPairs 8192 8193 true ∷ [])
   by_document = (refl, refl)
+
+  by_schema_text : map of_schema_text (doc.OutOfMemory ∷ doc.NotJson 21 true ∷ doc.NotInteger 21 ∷ []) ≡ OutOfMemory ∷ SchemaNotJson 21 true ∷ NotInteger 21 true ∷ []
+  by_schema_text = refl
 
 -- ---- lines
 

@@ -1,7 +1,9 @@
 -- Which refusal of a call comes when; memory may run out at any time.
-use Rattle.std.specs.Prelude.{ℕ, ◌⊎◌, List}
+use Rattle.std.specs.Prelude.{ℕ, true, false, List}
 use Rattle.cs_document.specs.Document.{Document}
-use Rattle.cs_doc.specs.Texts.{Reads, IsJson, HasOtherNumber}
+use Rattle.cs_doc.specs.Refusal as unread
+use Rattle.cs_doc.specs.Texts.{Reads}
+use Rattle.cs_document.specs.declared.fault.DocFault.TheVariants as doc
 use Rattle.cs_schema.specs.Profile.{IsSchema}
 use Rattle.cs_schema.specs.Refusal as schema
 use Rattle.cs_profile.specs.declared.fault.SchemaFault.{SchemaFault}
@@ -15,12 +17,12 @@ abbrev pub ExportRefusal : List (List ℕ) → List ℕ → Fault → Type 0
 ExportRefusal sources root OutOfMemory = Unit {0}
 ExportRefusal sources root f = First sources root f
 
--- the document's text comes after the sources and the root, and the pairs come last
+-- the document's text comes after the sources and the root, and its pairs with the rules of the root come last
 abbrev pub VetRefusal : List (List ℕ) → List ℕ → List ℕ → Fault → Type 0
 VetRefusal sources root text OutOfMemory = Unit {0}
-VetRefusal sources root text NotJson = IsReady sources root × ¬ (IsJson text)
-VetRefusal sources root text NotInteger = IsReady sources root × HasOtherNumber text
-VetRefusal sources root text TooManyPairs = RootHasManyPairs sources root text
+VetRefusal sources root text (NotJson offset is_cut) = IsReady sources root × unread.IsRefusal (doc.NotJson offset is_cut) text
+VetRefusal sources root text (NotInteger offset false) = IsReady sources root × unread.IsRefusal (doc.NotInteger offset) text
+VetRefusal sources root text (TooManyPairs items rules false) = RootHasManyPairs sources root text items rules
 VetRefusal sources root text f = First sources root f
 
 -- the schema's text is read as a document, which is no schema of the profile by this fault
@@ -38,21 +40,23 @@ pub record IsSchemaText (schema_text : List ℕ) : Type 0 where
 -- the document's text comes after the schema's, and the pairs come last
 abbrev pub ValidateRefusal : List ℕ → List ℕ → Fault → Type 0
 ValidateRefusal schema_text text OutOfMemory = Unit {0}
-ValidateRefusal schema_text text SchemaNotJson = ¬ (IsJson schema_text)
+ValidateRefusal schema_text text (SchemaNotJson offset is_cut) = unread.IsRefusal (doc.NotJson offset is_cut) schema_text
 ValidateRefusal schema_text text (Keyword place name) = IsNoSchema schema_text (schema_fault.Keyword place name)
 ValidateRefusal schema_text text (Shape place name) = IsNoSchema schema_text (schema_fault.Shape place name)
 ValidateRefusal schema_text text (Reference place name) = IsNoSchema schema_text (schema_fault.Reference place name)
 ValidateRefusal schema_text text (Loop names) = IsNoSchema schema_text (schema_fault.Loop names)
-ValidateRefusal schema_text text NotInteger = HasOtherNumber schema_text ⊎ (IsSchemaText schema_text × HasOtherNumber text)
-ValidateRefusal schema_text text NotJson = IsSchemaText schema_text × ¬ (IsJson text)
-ValidateRefusal schema_text text TooManyPairs = SchemaHasManyPairs schema_text text
+ValidateRefusal schema_text text (NotInteger offset true) = unread.IsRefusal (doc.NotInteger offset) schema_text
+ValidateRefusal schema_text text (NotInteger offset false) = IsSchemaText schema_text × unread.IsRefusal (doc.NotInteger offset) text
+ValidateRefusal schema_text text (NotJson offset is_cut) = IsSchemaText schema_text × unread.IsRefusal (doc.NotJson offset is_cut) text
+ValidateRefusal schema_text text (TooManyPairs items rules true) = SchemaHasManyPairs schema_text text items rules
 ValidateRefusal schema_text text _ = ⊥
 
 -- the conditions of an export come first, then the document's text, and last its pairs with the rules of the root or of the
 -- exported schema
 abbrev pub AgreeRefusal : List (List ℕ) → List ℕ → List ℕ → Fault → Type 0
 AgreeRefusal sources root text OutOfMemory = Unit {0}
-AgreeRefusal sources root text NotJson = IsReady sources root × ¬ (IsJson text)
-AgreeRefusal sources root text NotInteger = IsReady sources root × HasOtherNumber text
-AgreeRefusal sources root text TooManyPairs = IsReady sources root × (RootHasManyPairs sources root text ⊎ ExportHasManyPairs sources root text)
+AgreeRefusal sources root text (NotJson offset is_cut) = IsReady sources root × unread.IsRefusal (doc.NotJson offset is_cut) text
+AgreeRefusal sources root text (NotInteger offset false) = IsReady sources root × unread.IsRefusal (doc.NotInteger offset) text
+AgreeRefusal sources root text (TooManyPairs items rules false) = IsReady sources root × RootHasManyPairs sources root text items rules
+AgreeRefusal sources root text (TooManyPairs items rules true) = IsReady sources root × ExportHasManyPairs sources root text items rules
 AgreeRefusal sources root text f = First sources root f

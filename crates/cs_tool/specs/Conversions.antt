@@ -1,7 +1,7 @@
 -- What the refusals of each crate are among those of the tool.
-use Rattle.std.specs.Prelude.{ℕ}
+use Rattle.std.specs.Prelude.{ℕ, true, false}
 use Rattle.cs_tool.specs.declared.fault.Fault.{Fault}
-use Rattle.cs_tool.specs.declared.fault.Fault.TheVariants.{NoToken, Syntax, LeftOut, IntegerRange, TooHigh, PackageName, UnknownName, FieldReference, NotOpened, Cycle, UnknownRoot, TooLarge, OutOfMemory, ChainTooLong, Keyword, Shape, Reference, Loop, NotJson, NotInteger, TooManyPairs}
+use Rattle.cs_tool.specs.declared.fault.Fault.TheVariants.{NoToken, Syntax, LeftOut, IntegerRange, TooHigh, PackageName, UnknownName, FieldReference, NotOpened, Cycle, UnknownRoot, TooLarge, OutOfMemory, ChainTooLong, SchemaNotJson, Keyword, Shape, Reference, Loop, NotJson, NotInteger, TooManyPairs}
 use Rattle.cs_grammar.specs.declared.fault.SyntaxFault.{SyntaxFault}
 use Rattle.cs_grammar.specs.declared.fault.SyntaxFault.TheVariants as syntax
 use Rattle.cs_resolve.specs.declared.fault.ResolveFault.{ResolveFault}
@@ -34,17 +34,17 @@ of_resolve (resolve.PackageName file) = PackageName file
 of_resolve (resolve.UnknownName file offset) = UnknownName file offset
 of_resolve (resolve.FieldReference file offset) = FieldReference file offset
 of_resolve (resolve.NotOpened file offset) = NotOpened file offset
-of_resolve resolve.TooLarge = TooLarge
+of_resolve (resolve.TooLarge definitions) = TooLarge definitions
 
 abbrev pub of_guard : GuardFault → Fault
 of_guard guard.OutOfMemory = OutOfMemory
 of_guard (guard.Cycle names) = Cycle names
-of_guard guard.ChainTooLong = ChainTooLong
+of_guard (guard.ChainTooLong names) = ChainTooLong names
 
 abbrev pub of_instance : InstanceFault → Fault
 of_instance instance.OutOfMemory = OutOfMemory
 of_instance instance.UnknownRoot = UnknownRoot
-of_instance instance.TooManyPairs = TooManyPairs
+of_instance (instance.TooManyPairs items rules) = TooManyPairs items rules false
 
 abbrev pub of_compile : CompileFault → Fault
 of_compile compile.OutOfMemory = OutOfMemory
@@ -59,10 +59,16 @@ of_schema (schema.Loop names) = Loop names
 
 abbrev pub of_validate : ValidateFault → Fault
 of_validate validate.OutOfMemory = OutOfMemory
-of_validate validate.TooManyPairs = TooManyPairs
+of_validate (validate.TooManyPairs items rules) = TooManyPairs items rules true
 
 -- the fault of a document's text
 abbrev pub of_document : DocFault → Fault
 of_document doc.OutOfMemory = OutOfMemory
-of_document doc.NotJson = NotJson
-of_document doc.NotInteger = NotInteger
+of_document (doc.NotJson offset is_cut) = NotJson offset is_cut
+of_document (doc.NotInteger offset) = NotInteger offset false
+
+-- the fault of a schema's text
+abbrev pub of_schema_text : DocFault → Fault
+of_schema_text doc.OutOfMemory = OutOfMemory
+of_schema_text (doc.NotJson offset is_cut) = SchemaNotJson offset is_cut
+of_schema_text (doc.NotInteger offset) = NotInteger offset true

@@ -76,12 +76,12 @@ SourcesFault sources (IntegerRange number offset) = IsMisspelled sources (Intege
 SourcesFault sources (TooHigh number) = IsMisspelled sources (TooHigh number)
 SourcesFault sources (LeftOut number offset) = IsMisspelled sources (LeftOut number offset)
 SourcesFault sources (PackageName number) = IsNoPackage sources (PackageName number)
-SourcesFault sources TooLarge = IsNoPackage sources TooLarge
+SourcesFault sources (TooLarge definitions) = IsNoPackage sources (TooLarge definitions)
 SourcesFault sources (UnknownName number offset) = IsNoPackage sources (UnknownName number offset)
 SourcesFault sources (FieldReference number offset) = IsNoPackage sources (FieldReference number offset)
 SourcesFault sources (NotOpened number offset) = IsNoPackage sources (NotOpened number offset)
 SourcesFault sources (Cycle names) = IsUnguarded sources (Cycle names)
-SourcesFault sources ChainTooLong = IsUnguarded sources ChainTooLong
+SourcesFault sources (ChainTooLong names) = IsUnguarded sources (ChainTooLong names)
 SourcesFault sources _ = ⊥
 
 -- the fault tells the first condition that the sources and the root fail: the root comes after the sources

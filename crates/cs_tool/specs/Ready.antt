@@ -3,8 +3,10 @@ use Rattle.std.specs.Prelude.{ℕ, List}
 use Rattle.cs_document.specs.Document.{Document}
 use Rattle.cs_doc.specs.Texts.{Reads}
 use Rattle.cs_package.specs.Environment.{Environment}
+use Rattle.cs_instance.specs.Refusal.{AreManyPairs}
 use Rattle.cs_instance.specs.Rules.{HasManyPairs}
 use Rattle.cs_schema.specs.Profile.{IsSchema}
+use Rattle.cs_validate.specs.Refusal as invalid
 use Rattle.cs_validate.specs.Rules as validate
 use Rattle.cs_tool.specs.Accepted.{DeclaresRoot}
 use Rattle.cs_tool.specs.Headline.{IsExport}
@@ -32,22 +34,22 @@ pub record ValidateInput (schema_text text : List ℕ) : Type 0 where
 
 -- ---- too many pairs
 
--- the document has more pairs with the rules of the root than a table may have
-pub record RootHasManyPairs (sources : List (List ℕ)) (root text : List ℕ) : Type 0 where
+-- the document has so many values and the root so many rules, which make more pairs than a table may have
+pub record RootHasManyPairs (sources : List (List ℕ)) (root text : List ℕ) (items rules : ℕ) : Type 0 where
   pub input : VetInput sources root text
-  pub many : HasManyPairs input.environment input.name input.document
+  pub many : AreManyPairs input.environment input.name input.document items rules
 
--- the document has more pairs with the schema's rules than a table may have
-pub record SchemaHasManyPairs (schema_text text : List ℕ) : Type 0 where
+-- the document has so many values and the schema so many rules, which make more pairs than a table may have
+pub record SchemaHasManyPairs (schema_text text : List ℕ) (items rules : ℕ) : Type 0 where
   pub input : ValidateInput schema_text text
-  pub many : validate.HasManyPairs input.schema input.document
+  pub many : invalid.AreManyPairs input.schema input.document items rules
 
--- the text is read as a document that has more pairs with the exported schema's rules than a table may have
-pub record ExportHasManyPairs (sources : List (List ℕ)) (root text : List ℕ) : Type 0 where
+-- the same of the document that the text is read as, and the exported schema
+pub record ExportHasManyPairs (sources : List (List ℕ)) (root text : List ℕ) (items rules : ℕ) : Type 0 where
   pub schema_text : List ℕ
   pub exported : IsExport sources root schema_text
   pub translated : IsTranslated sources root schema_text
-  pub many : SchemaHasManyPairs schema_text text
+  pub many : SchemaHasManyPairs schema_text text items rules
 
 -- ---- what is answered, unless memory runs out
 
@@ -64,4 +66,4 @@ pub record IsReadyToValidate (schema_text text : List ℕ) : Type 0 where
 -- `vet` can judge, and the document has no more pairs with the exported schema's rules than a table may have
 pub record IsReadyToAgree (sources : List (List ℕ)) (root text : List ℕ) : Type 0 where
   pub vetted : IsReadyToVet sources root text
-  pub within : ¬ (ExportHasManyPairs sources root text)
+  pub within : (items rules : ℕ) → ¬ (ExportHasManyPairs sources root text items rules)

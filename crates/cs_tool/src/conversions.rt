@@ -1,6 +1,6 @@
 // What the refusals of each crate are among those of the tool.
 ghost use Rattle.std.specs.Prelude.{◌≡◌};
-ghost use Rattle.cs_tool.specs.Conversions.{of_syntax};
+ghost use Rattle.cs_tool.specs.Conversions.{of_syntax, of_schema_text};
 
 use crate::Fault;
 use cs_compile::CompileFault;
@@ -38,7 +38,7 @@ impl From<ResolveFault> for Fault {
             ResolveFault::UnknownName { file, offset } => Fault::UnknownName { file, offset },
             ResolveFault::FieldReference { file, offset } => Fault::FieldReference { file, offset },
             ResolveFault::NotOpened { file, offset } => Fault::NotOpened { file, offset },
-            ResolveFault::TooLarge => Fault::TooLarge,
+            ResolveFault::TooLarge { definitions } => Fault::TooLarge { definitions },
         }
     }
 }
@@ -52,7 +52,7 @@ impl From<GuardFault> for Fault {
         match fault {
             GuardFault::OutOfMemory => Fault::OutOfMemory,
             GuardFault::Cycle { names } => Fault::Cycle { names },
-            GuardFault::ChainTooLong => Fault::ChainTooLong,
+            GuardFault::ChainTooLong { names } => Fault::ChainTooLong { names },
         }
     }
 }
@@ -66,7 +66,11 @@ impl From<InstanceFault> for Fault {
         match fault {
             InstanceFault::OutOfMemory => Fault::OutOfMemory,
             InstanceFault::UnknownRoot => Fault::UnknownRoot,
-            InstanceFault::TooManyPairs => Fault::TooManyPairs,
+            InstanceFault::TooManyPairs { items, rules } => Fault::TooManyPairs {
+                items,
+                rules,
+                by_schema: false,
+            },
         }
     }
 }
@@ -108,12 +112,30 @@ impl From<ValidateFault> for Fault {
     fn from(fault: ValidateFault) -> Fault {
         match fault {
             ValidateFault::OutOfMemory => Fault::OutOfMemory,
-            ValidateFault::TooManyPairs => Fault::TooManyPairs,
+            ValidateFault::TooManyPairs { items, rules } => Fault::TooManyPairs {
+                items,
+                rules,
+                by_schema: true,
+            },
         }
     }
 }
 
-/// The fault of a document's text; `read_schema_text` reports that of a schema's.
+/// What a fault of a schema's text is.
+pub(crate) fn of_schema_text(fault: DocFault) -> Fault
+    ensures { result ≡ of_schema_text fault }
+{
+    match fault {
+        DocFault::OutOfMemory => Fault::OutOfMemory,
+        DocFault::NotJson { offset, is_cut } => Fault::SchemaNotJson { offset, is_cut },
+        DocFault::NotInteger { offset } => Fault::NotInteger {
+            offset,
+            in_schema: true,
+        },
+    }
+}
+
+/// The fault of a document's text.
 impl From<DocFault> for Fault {
     ghost use Rattle.cs_tool.specs.Conversions.{of_document};
 
@@ -122,8 +144,11 @@ impl From<DocFault> for Fault {
     fn from(fault: DocFault) -> Fault {
         match fault {
             DocFault::OutOfMemory => Fault::OutOfMemory,
-            DocFault::NotJson => Fault::NotJson,
-            DocFault::NotInteger => Fault::NotInteger,
+            DocFault::NotJson { offset, is_cut } => Fault::NotJson { offset, is_cut },
+            DocFault::NotInteger { offset } => Fault::NotInteger {
+                offset,
+                in_schema: false,
+            },
         }
     }
 }

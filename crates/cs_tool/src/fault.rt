@@ -11,57 +11,119 @@ pub enum Fault {
     /// 1: the sources have more than 1,048,576 bytes together.
     SourcesTooLong,
     /// 2: the source is the first that isn't UTF-8.
-    NotUtf8 { file: usize },
+    NotUtf8 {
+        file: usize,
+    },
     /// 3: no token of the profile begins at the offset.
-    NoToken { file: usize, offset: usize },
+    NoToken {
+        file: usize,
+        offset: usize,
+    },
     /// 4: the tokens of the source don't spell a file of the grammar. They nest at most 28 deep, and the offset is that of
     /// one of them; that it is the first one out of place is tested.
-    Syntax { file: usize, offset: usize },
+    Syntax {
+        file: usize,
+        offset: usize,
+    },
     /// 5: the same, where that token begins a form of CUE that the profile leaves out.
-    LeftOut { file: usize, offset: usize },
+    LeftOut {
+        file: usize,
+        offset: usize,
+    },
     /// 6: the integer at the offset doesn't fit in 64 signed bits.
-    IntegerRange { file: usize, offset: usize },
+    IntegerRange {
+        file: usize,
+        offset: usize,
+    },
     /// 7: the tokens of the source nest deeper than 28, or a body in it is higher than that.
-    TooHigh { file: usize },
+    TooHigh {
+        file: usize,
+    },
     /// 8: the source is the first whose package name differs from the first one named.
-    PackageName { file: usize },
+    PackageName {
+        file: usize,
+    },
     /// 9: the name at the offset isn't declared, and is the first at fault.
-    UnknownName { file: usize, offset: usize },
+    UnknownName {
+        file: usize,
+        offset: usize,
+    },
     /// 10: the name at the offset names a field, and is the first at fault.
-    FieldReference { file: usize, offset: usize },
+    FieldReference {
+        file: usize,
+        offset: usize,
+    },
     /// 11: the struct literal at the offset has to end with `...`, and is the first that doesn't.
-    NotOpened { file: usize, offset: usize },
+    NotOpened {
+        file: usize,
+        offset: usize,
+    },
     /// 12: a cycle of definitions, by their names with `#`: each refers strongly to the next, and the last to the
     /// first. The one that is declared first comes first, and no name comes twice.
-    Cycle { names: Vec<String> },
+    Cycle {
+        names: Vec<String>,
+    },
     /// 13: the package doesn't declare the root.
     UnknownRoot,
-    /// 14: more than 1,000 names of definitions, or more than 50,000 nodes of expressions, in all sources together.
-    TooLarge,
+    /// 14: more than 1,000 names of definitions, or more than 50,000 nodes of expressions, in all sources together, which
+    /// have so many names.
+    TooLarge {
+        definitions: usize,
+    },
     /// 15: memory ran out, at any time.
     OutOfMemory,
-    /// 16: a chain of more than 64 strong references, where there is no cycle.
-    ChainTooLong,
+    /// 16: a chain of more than 64 strong references, where there is no cycle, by the names of its definitions with `#`: each
+    /// refers strongly to the next.
+    ChainTooLong {
+        names: Vec<String>,
+    },
     /// 17: whether every document of one definition is one of another was not found within the limits: 100,000 questions,
     /// 5,000,000 steps of search, and in a document 100,000 values and 127 levels.
     TooManyCases,
-    /// 20: the schema's text isn't JSON that `serde_json` reads.
-    SchemaNotJson,
+    /// 20: the schema's text isn't JSON that `serde_json` reads, as shows at the byte of that offset; whether it is cut off
+    /// there.
+    SchemaNotJson {
+        offset: usize,
+        is_cut: bool,
+    },
     /// 21: the profile doesn't have the keyword of that name.
-    Keyword { place: String, name: String },
+    Keyword {
+        place: String,
+        name: String,
+    },
     /// 22: the value of the keyword of that name doesn't have its shape; with the empty name, the value at the place
     /// isn't a schema.
-    Shape { place: String, name: String },
+    Shape {
+        place: String,
+        name: String,
+    },
     /// 23: a `$ref` to a definition of that name, which the schema doesn't have.
-    Reference { place: String, name: String },
+    Reference {
+        place: String,
+        name: String,
+    },
     /// 24: definitions of a schema that reach themselves: each refers directly to the next, and the last to the first.
-    Loop { names: Vec<String> },
-    /// 25: the document's text isn't JSON that `serde_json` reads.
-    NotJson,
-    /// 26: a number in a document's or a schema's text isn't an integer, or doesn't fit in 64 signed bits.
-    NotInteger,
-    /// 27: more than 67,108,864 pairs of a value of the document and a rule.
-    TooManyPairs,
+    Loop {
+        names: Vec<String>,
+    },
+    /// 25: the same of the document's text.
+    NotJson {
+        offset: usize,
+        is_cut: bool,
+    },
+    /// 26: a number in a document's or a schema's text isn't an integer, or doesn't fit in 64 signed bits. The first one is at
+    /// the byte of that offset.
+    NotInteger {
+        offset: usize,
+        in_schema: bool,
+    },
+    /// 27: more than 67,108,864 pairs of a value of the document and a rule of the root or, by a schema, a schema in it: there
+    /// are so many values, and so many rules.
+    TooManyPairs {
+        items: usize,
+        rules: usize,
+        by_schema: bool,
+    },
     /// 28: an input other than sources of more than 67,108,864 bytes.
     InputTooLong,
     /// 30: a read of the input failed, where the input is read.
@@ -122,18 +184,18 @@ impl Fault {
             Fault::NotOpened { .. } => 11,
             Fault::Cycle { .. } => 12,
             Fault::UnknownRoot => 13,
-            Fault::TooLarge => 14,
+            Fault::TooLarge { .. } => 14,
             Fault::OutOfMemory => 15,
-            Fault::ChainTooLong => 16,
+            Fault::ChainTooLong { .. } => 16,
             Fault::TooManyCases => 17,
-            Fault::SchemaNotJson => 20,
+            Fault::SchemaNotJson { .. } => 20,
             Fault::Keyword { .. } => 21,
             Fault::Shape { .. } => 22,
             Fault::Reference { .. } => 23,
             Fault::Loop { .. } => 24,
-            Fault::NotJson => 25,
-            Fault::NotInteger => 26,
-            Fault::TooManyPairs => 27,
+            Fault::NotJson { .. } => 25,
+            Fault::NotInteger { .. } => 26,
+            Fault::TooManyPairs { .. } => 27,
             Fault::InputTooLong => 28,
             Fault::ReadFailed => 30,
             Fault::WriteFailed => 31,

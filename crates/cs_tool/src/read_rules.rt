@@ -8,9 +8,10 @@ ghost use Rattle.cs_tool.specs.CallRefusals.{ExportRefusal, ValidateRefusal, IsS
 ghost use Rattle.cs_tool.specs.Sides.{IsSchemaOf, AreSidesOf};
 
 use crate::Fault;
+use crate::conversions::of_schema_text;
 use crate::exports::exported;
 use crate::packages::accepted_package;
-use cs_doc::{DocFault, read_doc};
+use cs_doc::read_doc;
 use cs_guard::Guarded;
 use cs_schema::{SchemaDoc, read_schema};
 use std::alloc::Global;
@@ -37,8 +38,7 @@ pub fn read_schema_text(alloc: Global, text: &[u8]) -> Result<SchemaDoc, Fault>
 {
     match read_doc(alloc, text) {
         Ok(doc) => Ok(read_schema(alloc, &doc)?),
-        Err(DocFault::NotJson) => Err(Fault::SchemaNotJson),
-        Err(fault) => Err(Fault::from(fault)),
+        Err(fault) => Err(of_schema_text(fault)),
     }
 }
 

@@ -1,9 +1,10 @@
 // The verdicts on documents that were read from texts.
-ghost use Rattle.std.specs.Prelude.{◌≡◌, Bool, IfOk, IfErr, OnOk, IsErrOf};
+ghost use Rattle.std.specs.Prelude.{◌≡◌, ℕ, Bool, IfOk, IfErr, OnOk, IsErrOf};
 ghost use Rattle.cs_doc.specs.ReadAs.{read_as};
 ghost use Rattle.cs_document.specs.Document.{Document as TheDocument};
 ghost use Rattle.cs_instance.specs.Instance as instance;
 ghost use Rattle.cs_instance.specs.Instance.{Rule, definition, IsInstance};
+ghost use Rattle.cs_instance.specs.Refusal as unjudged;
 ghost use Rattle.cs_instance.specs.Rules as by_root;
 ghost use Rattle.cs_profile.specs.Validity as validity;
 ghost use Rattle.cs_profile.specs.Validity.{IsValidity};
@@ -28,8 +29,8 @@ pub fn is_instance(
         → b ≡ I (definition rules.now.1) (read_as document.now)) }
     ensures within { OnOk result
         (¬ by_root.HasManyPairs rules.now.0 rules.now.1 (read_as document.now)) }
-    ensures many { IsErrOf result InstanceFault.TooManyPairs
-        → by_root.HasManyPairs rules.now.0 rules.now.1 (read_as document.now) }
+    ensures many { (i r : ℕ) → IsErrOf result (InstanceFault.TooManyPairs i r)
+        → unjudged.AreManyPairs rules.now.0 rules.now.1 (read_as document.now) i r }
     ensures known { IsErrOf result InstanceFault.UnknownRoot → ⊥ }
 {
     match document {

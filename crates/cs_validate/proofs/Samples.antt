@@ -1,6 +1,6 @@
 -- What each keyword asks, over small lists of numbers, worked by the definitions. A wrong expectation stops the check here.
 use Rattle.std.proofs.Common.{◌≡◌, ◌+◌, ◌*◌, ℕ, ℤ, pos, negsuc, Bool, true, false, List, [], ◌∷◌, Some, None, map, length, codes, nat_eq, nat_lt, nat_le, refl, arith}
-use Rattle.std.specs.Prelude.{String, sum_by}
+use Rattle.std.specs.Prelude.{String}
 use Rattle.std.specs.declared.alloc.Global.{Global}
 use Rattle.cs_document.specs.Document.{Document, null, boolean, text}
 use Rattle.cs_document.specs.Opened.{Opened, a_null, a_boolean, an_integer, a_text, a_list, an_object}
@@ -9,14 +9,14 @@ use Rattle.cs_document.specs.declared.doc.Doc.{Doc}
 use Rattle.cs_document.proofs.SampleDocuments.{number, array, map_of}
 use Rattle.cs_flat.specs.Nodes.{nodes}
 use Rattle.cs_profile.specs.Keywords as keyword
-use Rattle.cs_profile.specs.Constraint.{texts_in, Assertion, nothing, valid_by, has_kind, equals, is_among, at_least, at_most, above, below, has_keys, at_keys, at_other_keys, in_front, behind, at_least_long, valid_by_all, valid_by_any, not_valid_by, always, never, conjunction, constraint_of}
+use Rattle.cs_profile.specs.Constraint.{texts_in, Assertion, nothing, valid_by, has_kind, equals, is_among, at_least, at_most, above, below, has_keys, at_keys, at_other_keys, in_front, behind, at_least_long, valid_by_all, valid_by_any, not_valid_by, always, never, conjunction}
 use Rattle.cs_profile.specs.Validity.{holds}
 use Rattle.cs_profile.specs.Numbered.{numbered as numbers_from}
 use Rattle.cs_profile.specs.declared.schema.Schema.{Schema}
 use Rattle.cs_profile.specs.declared.schema.JsonKind.TheVariants as kind
 use Rattle.cs_validate.specs.declared.rules.Conjunction.{Conjunction}
 use Rattle.cs_validate.specs.Numbering.{map_constraint, said, PartsBelow}
-use Rattle.cs_validate.specs.Rules.{rules_of, HasManyPairs, names_claimed, names_required, HasManyNames}
+use Rattle.cs_validate.specs.Rules.{rules_of, HasManyPairs}
 use Rattle.cs_validate.specs.Steps.{kind_of, unless_empty, of_count, places_from, items_place, prefix_place, properties_place}
 use Rattle.cs_validate.specs.Asked.{if_count}
 use Rattle.cs_validate.specs.Kinds.{equals_by_kind, among_by_kind, any_by_kind, reference_by_kind, negation_by_kind}
@@ -285,31 +285,3 @@ module _ (R d : Document) where
 
   past_the_bound : length (nodes d) * length (rules_of R) ≡ 67108865 → HasManyPairs R d
   past_the_bound e = omega (arith, e)
-
--- ---- names that are required (Validation, section 6.5.3)
-
-names_of_claims : map (names_claimed {H = ℕ} {I = ℕ}) (has_keys [] ∷ has_keys (A ∷ []) ∷ has_keys (A ∷ B ∷ []) ∷ at_keys ((A, 0) ∷ []) ∷ valid_by_all (0 ∷ 1 ∷ []) ∷ []) ≡ 0 ∷ 1 ∷ 2 ∷ 0 ∷ 0 ∷ []
-names_of_claims = refl
-
-names_of_constraints : map (names_required {H = ℕ} {I = ℕ}) (always ∷ never ∷ conjunction [] ∷ conjunction (not_valid_by 0 ∷ has_keys (A ∷ B ∷ []) ∷ []) ∷ []) ≡ 0 ∷ 0 ∷ 0 ∷ 2 ∷ []
-names_of_constraints = refl
-
-abbrev requires : List (List ℕ) → Document
-requires names = map_of ((codes "required", array (map text names)) ∷ [])
-
--- two at the root, and one in each of two schemas that are equal
-abbrev requires_four : Document
-requires_four = map_of ((codes "allOf", array (requires (A ∷ []) ∷ requires (A ∷ []) ∷ [])) ∷ (codes "required", array (text A ∷ text B ∷ [])) ∷ [])
-
-each_name_counts : sum_by (λ s. names_required (constraint_of requires_four s)) (rules_of requires_four) ≡ 4
-each_name_counts = refl
-
-module _ (R d : Document) where
-  abbrev names : ℕ
-  names = sum_by (λ s. names_required (constraint_of R s)) (rules_of R)
-
-  names_at_the_bound : length (nodes d) * names ≡ 67108864 → HasManyNames R d → ⊥
-  names_at_the_bound e h = omega (arith, e, h)
-
-  names_past_the_bound : length (nodes d) * names ≡ 67108865 → HasManyNames R d
-  names_past_the_bound e = omega (arith, e)

@@ -14,6 +14,7 @@ use Rattle.cs_profile.specs.Values.{value_trims}
 use Rattle.cs_profile.specs.declared.keyword.Form.{Form}
 use Rattle.cs_profile.specs.declared.keyword.Form.TheVariants as form
 use Rattle.cs_validate.specs.Rules.{in_value, subschemas, member_schemas, list_schemas, element_schemas, map_schemas, named_schemas, rules_of, HasManyPairs}
+use Rattle.cs_validate.specs.Refusal.{AreManyPairs}
 
 -- the schemas in a keyword's value, by the way that it may hold them
 abbrev value_schemas : Document → BySchemas (List Document)
@@ -146,8 +147,8 @@ pub rules_trimmed : (d : Document) → length (rules_of (trim d)) ≡ length (ru
 rules_trimmed d = dialect_count (trimmed true d) ∙ count true d
 
 -- so a schema and the trimmed one have the same pairs with a document
-pub many_untrimmed : (d x : Document) → HasManyPairs (trim d) x → HasManyPairs d x
-many_untrimmed d x h = subst (λ n. most_pairs < length (nodes x) * n) (rules_trimmed d) h
+pub many_untrimmed : (d x : Document) (items rules : ℕ) → AreManyPairs (trim d) x items rules → AreManyPairs d x items rules
+many_untrimmed d x items rules h = record { items = h.items; rules = h.rules ∙ rules_trimmed d; many = h.many }
 
 pub many_trimmed : (d x : Document) → HasManyPairs d x → HasManyPairs (trim d) x
 many_trimmed d x h = subst (λ n. most_pairs < length (nodes x) * n) (sym (rules_trimmed d)) h

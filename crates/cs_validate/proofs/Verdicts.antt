@@ -1,5 +1,5 @@
 -- The validity of a schema document's schemas is the table of its judge.
-use Rattle.std.proofs.Common.{◌≡◌, ℕ, ◌*◌, ◌<◌, ◌≤◌, Bool, List, map, length, slice_index, refl, sym, ap, ap₂, ◌∙◌, subst, arith}
+use Rattle.std.proofs.Common.{◌≡◌, ℕ, ◌*◌, ◌<◌, ◌≤◌, Bool, List, map, length, slice_index, refl, sym, ap, ap₂, ◌∙◌, subst, subst₂, arith}
 use Rattle.std.specs.Prelude.{Some, slice_get}
 use Rattle.std.proofs.lemmas.List.{length-map}
 use Rattle.std.proofs.lemmas.List.Sorted.{length_permutation}
@@ -21,7 +21,7 @@ use Rattle.cs_profile.specs.Validity.{is_satisfied, IsValidity}
 use Rattle.cs_validate.specs.Numbering.{map_constraint, said, schema_at}
 use Rattle.cs_validate.specs.Rules.{rules_of, HasManyPairs}
 use Rattle.cs_validate.specs.Judging.{IsJudge, IsTable}
-use Rattle.cs_validate.specs.Refusal.{IsRefusal}
+use Rattle.cs_validate.specs.Refusal.{IsRefusal, AreManyPairs}
 use Rattle.cs_validate.specs.Faults.{fault_of}
 use Rattle.cs_validate.specs.declared.rules.Rule.{Rule as Coded}
 use Rattle.cs_validate.specs.Steps.{asked_of, numbered, step}
@@ -84,9 +84,13 @@ module _ (R : Document) (xs : List (Opened ℕ)) (root ic rc : ℕ) (judge : Jud
   pub few_pairs : ic * rc ≤ most_pairs → HasManyPairs R (document_in xs) → ⊥
   few_pairs l h = let many : most_pairs < ic * rc = subst (λ k. most_pairs < k) (sym pairs) h in omega (arith, l, many)
 
-  pub many_pairs : most_pairs < ic * rc → HasManyPairs R (document_in xs)
-  many_pairs l = subst (λ k. most_pairs < k) pairs l
+  many_pairs : most_pairs < ic * rc → AreManyPairs R (document_in xs) ic rc
+  many_pairs l = record {
+    items = j.item_count ∙ whole;
+    rules = j.rule_count ∙ length_permutation (rules_of R) j.all j.are;
+    many = l;
+  }
 
   pub refused : (e : TableFault) → limits.IsRefusal ic rc e → IsRefusal (fault_of e) R (document_in xs)
   refused table.OutOfMemory h = tt
-  refused table.TooManyPairs h = many_pairs h
+  refused (table.TooManyPairs items rules) h = subst₂ (AreManyPairs R (document_in xs)) (sym h.0) (sym h.1) (many_pairs h.2)

@@ -6,4 +6,4 @@ use Rattle.cs_validate.specs.declared.fault.ValidateFault.TheVariants as validat
 
 abbrev pub fault_of : TableFault → ValidateFault
 fault_of table.OutOfMemory = validate.OutOfMemory
-fault_of table.TooManyPairs = validate.TooManyPairs
+fault_of (table.TooManyPairs items rules) = validate.TooManyPairs items rules

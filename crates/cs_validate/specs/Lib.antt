@@ -3,11 +3,7 @@ pub mod Numbering
 pub mod Rules
 pub mod Judging
 pub mod Refusal
-pub mod Causes
-pub mod Why
-pub mod NumberedCauses
-pub mod Closest
-pub mod WhyTold
+pub mod Rooted
 -- for contracts of private functions and proofs alone
 pub mod Steps
 pub mod Asked
@@ -17,13 +13,4 @@ pub mod Looks
 pub mod Marked
 pub mod Placing
 pub mod Ranked
-pub mod Rooted
 pub mod Faults
-pub mod Led
-pub mod PlacedCauses
-pub mod PlacedTold
-pub mod CauseLists
-pub mod Untold
-pub mod EarlierPairs
-pub mod Refused
-pub mod Renamed

@@ -1,11 +1,10 @@
 -- The rules by which documents are judged: a schema document, its definitions, and every schema inside them
 -- (JSON Schema Core 2020-12, section 4.3.5: subschemas).
-use Rattle.std.specs.Prelude.{ℕ, ◌<◌, ◌*◌, List, [], ◌∷◌, ◌++◌, Bool, true, false, Option, Some, None, length, sum_by}
+use Rattle.std.specs.Prelude.{◌<◌, ◌*◌, List, [], ◌∷◌, ◌++◌, Bool, true, false, Option, Some, None, length}
 use Rattle.std.specs.List.Sorted.{IsPermutation}
 use Rattle.cs_document.specs.Document.{Document, null, boolean, integer, text, list, object, Documents, no_documents, document, Members, no_members, member}
 use Rattle.cs_flat.specs.Nodes.{nodes}
 use Rattle.cs_table.specs.Limit.{most_pairs}
-use Rattle.cs_profile.specs.Constraint.{Assertion, has_keys, Constraint, conjunction, constraint_of}
 use Rattle.cs_profile.specs.Shapes.{form_at, BySchemas, by_form}
 use Rattle.cs_profile.specs.declared.keyword.Form.{Form}
 
@@ -56,18 +55,3 @@ AreRules R rules = IsPermutation (rules_of R) rules
 -- the values of the document d and these rules make more pairs than a table may have
 abbrev pub HasManyPairs : Document → Document → Type 0
 HasManyPairs R d = most_pairs < length (nodes d) * length (rules_of R)
-
--- how many names an assertion requires, and a schema that was opened once (Validation 2020-12, section 6.5.3)
-module _ {H I : Type 0} where
-  abbrev pub names_claimed : Assertion H I → ℕ
-  names_claimed (has_keys ks) = length ks
-  names_claimed _ = 0
-
-  abbrev pub names_required : Constraint H I → ℕ
-  names_required (conjunction claims) = sum_by names_claimed claims
-  names_required _ = 0
-
--- the values of the document d and the names that these rules require, each counted for each rule that requires it, make more
--- pairs than a table may have
-abbrev pub HasManyNames : Document → Document → Type 0
-HasManyNames R d = most_pairs < length (nodes d) * sum_by (λ s. names_required (constraint_of R s)) (rules_of R)

@@ -10,15 +10,15 @@ use std::fmt;
 pub enum ValidateFault {
     /// Memory ran out.
     OutOfMemory,
-    /// The values of the document and the schemas make more than 67,108,864 pairs.
-    TooManyPairs,
+    /// The document has so many values, and so many schemas judge them, which make more than 67,108,864 pairs.
+    TooManyPairs { items: usize, rules: usize },
 }
 
 impl fmt::Display for ValidateFault {
     fn fmt<W: fmt::Write>(&self, f: &mut fmt::Formatter<W>) -> fmt::Result {
         f.write_str(meaning(match self {
             ValidateFault::OutOfMemory => 15,
-            ValidateFault::TooManyPairs => 27,
+            ValidateFault::TooManyPairs { .. } => 27,
         }))
     }
 }
@@ -45,7 +45,9 @@ impl From<TableFault> for ValidateFault {
     fn from(fault: TableFault) -> ValidateFault {
         match fault {
             TableFault::OutOfMemory => ValidateFault::OutOfMemory,
-            TableFault::TooManyPairs => ValidateFault::TooManyPairs,
+            TableFault::TooManyPairs { items, rules } => {
+                ValidateFault::TooManyPairs { items, rules }
+            }
         }
     }
 }

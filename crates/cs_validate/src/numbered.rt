@@ -4,6 +4,7 @@ ghost use Rattle.cs_document.specs.Document.{Document};
 ghost use Rattle.cs_flat.specs.Listed.{document_in};
 ghost use Rattle.cs_profile.specs.SchemaDocument.{document_of};
 ghost use Rattle.cs_profile.specs.Validity.{IsValidity, OneMeaning};
+ghost use Rattle.cs_validate.specs.Rooted.{IsRooted};
 ghost use Rattle.cs_validate.specs.Rules.{HasManyPairs};
 ghost use Rattle.cs_validate.specs.Refusal.{IsRefusal};
 
@@ -20,10 +21,10 @@ use std::marker::Model;
 /// The rules of a schema document, numbered once for any number of documents.
 #[derive(Drop)]
 pub struct SchemaRules<'a> {
-    pub(crate) schema: &'a SchemaDoc,
-    pub(crate) book: Rulebook<Rule<'a>>,
+    schema: &'a SchemaDoc,
+    book: Rulebook<Rule<'a>>,
     /// The number of the root.
-    pub(crate) root: usize,
+    root: usize,
 }
 
 impl<'a> Model for SchemaRules<'a> {
@@ -57,6 +58,21 @@ pub fn schema_rules<'a>(
 }
 
 impl SchemaRules<'_> {
+    /// The schema document.
+    pub fn schema(&self) -> &SchemaDoc
+        ensures { document_of result.now ≡ self.now }
+    {
+        self.schema
+    }
+
+    /// The rules, and the number of the root.
+    pub fn book(&self) -> (&Rulebook<Rule<'_>>, usize)
+        ensures { IsRooted self.now result.0.now.numbering.rules.items
+            result.0.now.numbering.children.items result.1 }
+    {
+        (&self.book, self.root)
+    }
+
     /// Whether a document, as the list of its values, is valid against the schema document: its root validates it (Core,
     /// sections 4.3 and 7; Validation 2020-12, section 6). The table is filled anew, in the memory that it has.
     ///

@@ -5,7 +5,6 @@ ghost use Rattle.std.proofs.lemmas.Map.Keys.{IsStrictlySortedBy-prop};
 
 use cs_flat::{DocSet, Names};
 use cs_profile::Keywords;
-use cs_rules::Rulebook;
 
 /// What a schema asks of a document. A schema asked of the same document is named by its number, and one asked of a
 /// document inside by its place in a list of such schemas.
@@ -19,33 +18,22 @@ pub enum Rule<'a> {
 #[derive(Drop)]
 pub struct Conjunction<'a> {
     /// The keywords; those that hold no schema are asked as they are.
-    pub(crate) keywords: &'a Keywords,
+    pub keywords: &'a Keywords,
     /// `required`
     pub(crate) required: Names<'a>,
     /// `enum`
-    pub(crate) one_of: Option<DocSet<'a>>,
+    pub one_of: Option<DocSet<'a>>,
     /// The number of the definition that `$ref` names, if it is defined.
-    pub(crate) reference: Option<usize>,
+    pub reference: Option<usize>,
     /// `allOf`
-    pub(crate) all_of: Vec<usize>,
+    pub all_of: Vec<usize>,
     /// `anyOf`
-    pub(crate) any_of: Vec<usize>,
+    pub any_of: Vec<usize>,
     /// `not`
-    pub(crate) negated: Option<usize>,
+    pub negated: Option<usize>,
     /// The place of the first schema that is asked of documents inside: those of `additionalProperties`, `items`,
     /// `prefixItems` and `properties` are one after another.
-    pub(crate) first: usize,
-    ghost names: { required ≡ map string_bytes keywords.now.required.items },
-    ghost ordered: { IsOrdered string_cmp keywords.now.properties } by { Prim.hlevel IsStrictlySortedBy-prop },
-}
-
-/// The rules of a schema document.
-pub(crate) type Book<'a> = Rulebook<Rule<'a>>;
-
-/// What the rule at a place asks, if it is one of an object.
-pub(crate) fn conjunction_at<'a>(book: &'a Book<'_>, rule: usize) -> Option<&'a Conjunction<'a>> {
-    match book.numbering.rules.get(rule)? {
-        Rule::Truth(_) => None,
-        Rule::Object(conjunction) => Some(conjunction),
-    }
+    pub first: usize,
+    pub ghost names: { required ≡ map string_bytes keywords.now.required.items },
+    pub ghost ordered: { IsOrdered string_cmp keywords.now.properties } by { Prim.hlevel IsStrictlySortedBy-prop },
 }

@@ -137,7 +137,7 @@ fn take_name(names: &mut Keys<'_, String, Schema>, key: &str) -> bool
 }
 
 /// Whether a member's key is a declared name, or its value is valid by the schema at a place.
-pub(crate) fn other_holds(
+pub fn other_holds(
     properties: &BTreeMap<String, Schema>,
     member: &(&str, usize),
     part: usize,
@@ -177,7 +177,7 @@ fn others_hold(
 // ---- all keywords
 
 /// The place behind that of a schema, if it is there.
-pub(crate) fn behind(place: usize, schema: &Option<Schema>) -> usize
+pub fn behind(place: usize, schema: &Option<Schema>) -> usize
     requires { IfSome schema.now (λ s. place + 1 < 2 ^ 64) }
     ensures { result ≡ place + one_if schema.now }
 {

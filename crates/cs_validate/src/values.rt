@@ -29,7 +29,7 @@ fn is_of_kind(kind: JsonKind, value: &Item<'_>) -> bool
 }
 
 /// Whether a value has the kind that `type` names, if it is there.
-pub(crate) fn has_kind(kind: Option<JsonKind>, value: &Item<'_>) -> bool
+pub fn has_kind(kind: Option<JsonKind>, value: &Item<'_>) -> bool
     ensures { result ≡ asks_type kind (item_view value.now) }
 {
     match kind {
@@ -39,7 +39,7 @@ pub(crate) fn has_kind(kind: Option<JsonKind>, value: &Item<'_>) -> bool
 }
 
 /// Whether a value equals that of `const`, if it is there (Validation, section 6.1.3).
-pub(crate) fn is_equal(value: &Option<Doc>, flat: &Flat<'_>, item: usize) -> bool
+pub fn is_equal(value: &Option<Doc>, flat: &Flat<'_>, item: usize) -> bool
     requires { item < length flat.now }
     ensures { result ≡ asks_const value.now (node_at (documents_in flat.now) item) }
 {
@@ -50,7 +50,7 @@ pub(crate) fn is_equal(value: &Option<Doc>, flat: &Flat<'_>, item: usize) -> boo
 }
 
 /// Whether a value is one of those of `enum`, if it is there (Validation, section 6.1.2).
-pub(crate) fn is_listed(values: &Option<DocSet<'_>>, flat: &Flat<'_>, item: usize) -> bool
+pub fn is_listed(values: &Option<DocSet<'_>>, flat: &Flat<'_>, item: usize) -> bool
     requires { item < length flat.now }
     ensures { result ≡ asks_enum values.now (node_at (documents_in flat.now) item) }
 {
@@ -96,7 +96,7 @@ pub(crate) fn integer_holds(keywords: &Keywords, n: i64) -> bool
 }
 
 /// Whether a list isn't shorter than `minItems`, if it is there (Validation, section 6.4.5).
-pub(crate) fn length_holds(least: Option<i64>, length: usize) -> bool
+pub fn length_holds(least: Option<i64>, length: usize) -> bool
     ensures { result ≡ if_there (if_count (λ l. nat_le l length)) least }
 {
     match least {

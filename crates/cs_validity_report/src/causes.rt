@@ -1,7 +1,7 @@
 // Where causes lead: to which keyword, to which schema, and to which value.
 use cs_place::Step;
 use cs_profile::{Keyword, Schema, SchemaDoc};
-use cs_validate::ValidCause;
+use cs_validity_reasons::ValidCause;
 
 /// The keyword that a cause is of; none where a schema is `false`.
 pub(crate) fn keyword_of(cause: &ValidCause<'_>) -> Option<Keyword> {

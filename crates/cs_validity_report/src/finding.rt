@@ -5,7 +5,8 @@ use cs_flat::{Flat, Item};
 use cs_place::{Step, put_quoted};
 use cs_profile::{JsonKind, Keyword, Keywords, Schema};
 use cs_report::{Suggestion, put_integer, put_not_allowed};
-use cs_validate::{SchemaRules, ValidCause};
+use cs_validate::SchemaRules;
+use cs_validity_reasons::{ValidCause, wanted_by};
 use std::alloc::{AllocError, Global};
 
 /// How many declared keys are looked through for one that may have been meant.
@@ -180,7 +181,7 @@ impl<'t> Findings<'t> {
 
     /// That none of the alternatives takes a value, or the one under the key that tells them apart.
     fn none_taken(&self, item: usize, rule: usize) -> Result<Finding<'t>, AllocError> {
-        let wanted = self.rules.wanted(self.alloc, self.flat, item, rule)?;
+        let wanted = wanted_by(self.rules, self.alloc, self.flat, item, rule)?;
         let (step, at) = match wanted.key {
             None => (None, item),
             Some((key, under)) => (Some(Step::Key(key)), under),

@@ -5,7 +5,7 @@ use crate::walk::Walk;
 use cs_place::Named;
 use cs_reasons::{Reason, Reasons, Telling};
 use cs_report::{Effort, Entry, Told, place_entries, put_steps, told_of};
-use cs_validate::ValidCause;
+use cs_validity_reasons::ValidCause;
 use std::alloc::AllocError;
 
 /// Reasons in words, with no place in the text yet.

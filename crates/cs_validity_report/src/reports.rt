@@ -1,7 +1,7 @@
 // Reports of why documents aren't valid against schema documents.
 ghost use Rattle.std.specs.Prelude.{◌≡◌, false, OnOk, OnErr, string_bytes};
 ghost use Rattle.cs_report.specs.Valid.{HasLines, Reports};
-ghost use Rattle.cs_validate.specs.WhyTold.{says_valid};
+ghost use Rattle.cs_validity_reasons.specs.WhyTold.{says_valid};
 
 use crate::finding::Findings;
 use crate::leaves::words_of;
@@ -10,7 +10,8 @@ use cs_flat::Flat;
 use cs_place::Named;
 use cs_reasons::{Reasons, Telling};
 use cs_report::{Form, put_lines, put_members, report_verdict};
-use cs_validate::{Explanation, SchemaRules, ValidCause};
+use cs_validate::SchemaRules;
+use cs_validity_reasons::{Explanation, ValidCause};
 use std::alloc::{AllocError, Global};
 
 /// Writes why a document isn't valid against a schema document behind `output`, or in the forms of JSON that it is valid, where there

@@ -2,7 +2,7 @@
 use crate::causes::value_step;
 use cs_place::{Place, Step, ValuePath, places};
 use cs_reasons::Link;
-use cs_validate::ValidCause;
+use cs_validity_reasons::ValidCause;
 use std::alloc::{AllocError, Global};
 
 /// A value whose place is told.

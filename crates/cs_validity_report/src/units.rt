@@ -6,7 +6,7 @@ use cs_place::{Named, Position, Positions, put_quoted};
 use cs_profile::{Schema, SchemaDoc};
 use cs_reasons::{Link, Reasons};
 use cs_report::{Entry, put_count, put_string};
-use cs_validate::ValidCause;
+use cs_validity_reasons::ValidCause;
 use std::alloc::{AllocError, Global};
 
 /// How many bytes the units of schemas take at most, all together, and how many more for each reason that is told.

@@ -7,7 +7,7 @@ use cs_place::Step;
 use cs_profile::{Keyword, Schema, SchemaDoc};
 use cs_reasons::Link;
 use cs_report::{Branch, put_alternative, put_steps};
-use cs_validate::ValidCause;
+use cs_validity_reasons::ValidCause;
 use std::alloc::{AllocError, Global};
 
 /// The last step of a chain, and what it begins at.

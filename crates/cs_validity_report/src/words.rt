@@ -3,7 +3,7 @@ use cs_document::Doc;
 use cs_flat::Item;
 use cs_profile::{JsonKind, Keywords};
 use cs_report::{MOST_WANTED, put_beginning, put_counted, put_integer, put_number};
-use cs_validate::{Want, Wanted};
+use cs_validity_reasons::{Want, Wanted};
 use std::alloc::{AllocError, Global};
 use std::collections::BTreeSet;
 

@@ -124,7 +124,7 @@ impl<'b, 'a> Making<'b, 'a> {
         match guard(self.alloc, package) {
             Ok(guarded) => Ok(Some(guarded)),
             Err(GuardFault::OutOfMemory) => Err(AllocError),
-            Err(GuardFault::Cycle { .. } | GuardFault::ChainTooLong) => Ok(None),
+            Err(GuardFault::Cycle { .. } | GuardFault::ChainTooLong { .. }) => Ok(None),
         }
     }
 

@@ -1,11 +1,12 @@
 use Rattle.std.proofs.Common.{map, get_or, sym, ◌∙◌, subst}
 use Rattle.std.proofs.lemmas.Simd.{map-map}
 use Rattle.cs_package.specs.Environment.{written}
-use Rattle.cs_graph.specs.Graph.{graph_of, IsRefusal, IsLowestCycle}
+use Rattle.cs_graph.specs.Chains.{NoCycle}
+use Rattle.cs_graph.specs.Graph.{graph_of, Refers, AreHeights, IsRefusal, IsLowestCycle}
 use Rattle.cs_graph.proofs.Places.{on_get}
 use Rattle.cs_guard.specs.Numbered.{IsGraphOf, name_of}
-use Rattle.cs_guard.proofs.Heights.{ranks_of, package_too_deep}
-use Rattle.cs_guard.proofs.Numbers.{cycle_inside, cycle_by_name, guarded_no_cycle, guarded_not_deep}
+use Rattle.cs_guard.proofs.Heights.{ranks_of}
+use Rattle.cs_guard.proofs.Numbers.{cycle_inside, cycle_by_name, guarded_no_cycle}
 use Rattle.cs_guard.proofs.guarded.guard.Goals as goal
 
 pub heights-requires : goal.heights-requires
@@ -13,29 +14,23 @@ heights-requires c =
     let is = subst (λ vs. IsGraphOf c.args.package (graph_of vs)) (sym c.deref.ensures.value) c.in_ok-graph.ensures.graph in
     is.within
 
-pub returns-then-not-are_within_limit-clause-refused : goal.returns-then-not-are_within_limit-clause-refused
-returns-then-not-are_within_limit-clause-refused c =
-    let G = graph_of c.deref.result.now in
-    let is = subst (λ vs. IsGraphOf c.args.package (graph_of vs)) (sym c.deref.ensures.value) c.in_ok-graph.ensures.graph in
-    package_too_deep c.args.package G is c.graph_of_package.ensures.distinct c.in-Ok.ranks.items c.deref-in-Ok.result.now c.deref-in-Ok.ensures.value c.in-Ok.ensures.found c.in-Ok.ensures.acyclic c.are_within_limit.result c.are_within_limit.ensures c.if-not-are_within_limit.true
-
-pub returns-then-not-are_within_limit-clause-only : goal.returns-then-not-are_within_limit-clause-only
-returns-then-not-are_within_limit-clause-only c =
-    let G = graph_of c.deref.result.now in
-    let is = subst (λ vs. IsGraphOf c.args.package (graph_of vs)) (sym c.deref.ensures.value) c.in_ok-graph.ensures.graph in
-    λ g. absurd (guarded_not_deep c.args.package g (package_too_deep c.args.package G is c.graph_of_package.ensures.distinct c.in-Ok.ranks.items c.deref-in-Ok.result.now c.deref-in-Ok.ensures.value c.in-Ok.ensures.found c.in-Ok.ensures.acyclic c.are_within_limit.result c.are_within_limit.ensures c.if-not-are_within_limit.true))
-
 pub invariant_of-result : goal.invariant_of-result
 invariant_of-result c =
     let G = graph_of c.deref.result.now in
     let is = subst (λ vs. IsGraphOf c.args.package (graph_of vs)) (sym c.deref.ensures.value) c.in_ok-graph.ensures.graph in
-    ranks_of c.args.package G is c.graph_of_package.ensures.distinct c.in-Ok.ranks.items c.deref-in-Ok.result.now c.deref-in-Ok.ensures.value c.in-Ok.ensures.found c.in-Ok.ensures.acyclic c.are_within_limit.result c.are_within_limit.ensures c.if-not-are_within_limit.false
+    ranks_of c.args.package G is c.graph_of_package.ensures.distinct c.in-Ok.ranks.items c.in-Ok.ensures.found c.in-Ok.ensures.acyclic c.in-None.ensures
 
-pub returns-in-Ok-clause-guarded : goal.returns-in-Ok-clause-guarded
-returns-in-Ok-clause-guarded c =
+pub returns-in-None-clause-guarded : goal.returns-in-None-clause-guarded
+returns-in-None-clause-guarded c =
     let G = graph_of c.deref.result.now in
     let is = subst (λ vs. IsGraphOf c.args.package (graph_of vs)) (sym c.deref.ensures.value) c.in_ok-graph.ensures.graph in
-    (ranks_of c.args.package G is c.graph_of_package.ensures.distinct c.in-Ok.ranks.items c.deref-in-Ok.result.now c.deref-in-Ok.ensures.value c.in-Ok.ensures.found c.in-Ok.ensures.acyclic c.are_within_limit.result c.are_within_limit.ensures c.if-not-are_within_limit.false).guarded
+    (ranks_of c.args.package G is c.graph_of_package.ensures.distinct c.in-Ok.ranks.items c.in-Ok.ensures.found c.in-Ok.ensures.acyclic c.in-None.ensures).guarded
+
+pub long_chain-requires-clause-heights : goal.long_chain-requires-clause-heights
+long_chain-requires-clause-heights c = subst (λ vs. AreHeights (graph_of vs) c.in-Ok.ranks.items) c.deref.ensures.value c.in-Ok.ensures.found
+
+pub long_chain-requires-clause-acyclic : goal.long_chain-requires-clause-acyclic
+long_chain-requires-clause-acyclic c = subst (λ vs. NoCycle (Refers (graph_of vs))) c.deref.ensures.value c.in-Ok.ensures.acyclic
 
 pub names_of-requires : goal.names_of-requires
 names_of-requires c =

@@ -62,6 +62,7 @@ returns-then-count-gt-MOST_DEFINITIONS-clause-refused c =
         | then-count-gt-MOST_DEFINITIONS-via-then-count-gt-MOST_DEFINITIONS w ↦ many_names fs count counted (omega (arith, w.if-count-gt-MOST_DEFINITIONS.true))
         | then-count-gt-MOST_DEFINITIONS-via-else-count-gt-MOST_DEFINITIONS+then-not-has_few_nodes w ↦ many_nodes fs count counted w.has_few_nodes.result w.has_few_nodes.ensures w.if-not-has_few_nodes.true
       ],
+      counted,
     )
 
 pub returns-in_err-bodies-clause-refused : goal.returns-in_err-bodies-clause-refused

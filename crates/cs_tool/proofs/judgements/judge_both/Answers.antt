@@ -1,47 +1,41 @@
-use Rattle.std.proofs.Common.{◌≡◌, ◌⊎◌, ℕ, Bool, List, inl, inr, sym, subst, ◌∙◌}
+use Rattle.std.proofs.Common.{◌≡◌, ℕ, Bool, true, false, List, sym, subst, ◌∙◌}
 use Rattle.std.proofs.lemmas.Result.{err_from_is_err_and}
 use Rattle.cs_doc.specs.ReadAs.{read_as}
 use Rattle.cs_document.specs.Document.{Document}
 use Rattle.cs_package.specs.Environment.{Environment}
 use Rattle.cs_tool.specs.Headline.{IsExport, IsVerdict, IsValidated}
 use Rattle.cs_tool.specs.Agreement.{IsAgreement}
-use Rattle.cs_tool.specs.Ready.{IsReady, RootHasManyPairs, ExportHasManyPairs, SchemaHasManyPairs, IsReadyToAgree}
+use Rattle.cs_tool.specs.Ready.{IsReady, ExportHasManyPairs, SchemaHasManyPairs, IsReadyToAgree}
 use Rattle.cs_tool.specs.CallRefusals.{AgreeRefusal}
 use Rattle.cs_tool.specs.Sides.{AreSidesOf}
 use Rattle.cs_tool.specs.Translated.{IsTranslated}
 use Rattle.cs_tool.specs.declared.fault.Fault.{Fault}
 use Rattle.cs_tool.specs.declared.fault.Fault.TheVariants.{OutOfMemory, NotJson, NotInteger, TooManyPairs}
-use Rattle.cs_tool.proofs.Judging.{Refuses, memory_alone, by_text, by_root, by_schema, few_of_root, verdict, validated}
+use Rattle.cs_tool.proofs.Judging.{Refuses, ManyOfBoth, memory_alone, by_text, by_root, by_schema, few_of_agree, verdict, validated}
 use Rattle.cs_tool.proofs.BothSides.{vet-and-validate-agree}
 use Rattle.cs_tool.proofs.judgements.judge_both.Goals.{then-is_instance, else-is_instance}
 use Rattle.cs_tool.proofs.judgements.judge_both.Goals as goal
 
 module _ (sources : List (List ℕ)) (root text : List ℕ) where
-  abbrev Many : Type 0
-  Many = RootHasManyPairs sources root text ⊎ ExportHasManyPairs sources root text
-
-  refused : IsReady sources root → (e : Fault) → Refuses text Many e → AgreeRefusal sources root text e
+  refused : IsReady sources root → (e : Fault) → Refuses text (ManyOfBoth sources root text) e → AgreeRefusal sources root text e
   refused ready OutOfMemory h = tt
-  refused ready NotJson h = (ready, h)
-  refused ready NotInteger h = (ready, h)
-  refused ready TooManyPairs h = (ready, h)
+  refused ready (NotJson o c) h = (ready, h)
+  refused ready (NotInteger o false) h = (ready, h)
+  refused ready (TooManyPairs i r false) h = (ready, h)
+  refused ready (TooManyPairs i r true) h = (ready, h)
   refused ready _ h = absurd h
 
-  few : IsReadyToAgree sources root text → ¬ Many
-  few ready (inl h) = few_of_root sources root text ready.vetted h
-  few ready (inr h) = ready.within h
+  only : IsReadyToAgree sources root text → (e : Fault) → Refuses text (ManyOfBoth sources root text) e → e ≡ OutOfMemory
+  only ready = memory_alone text _ ready.vetted.input.document ready.vetted.input.read (few_of_agree sources root text ready)
 
-  only : IsReadyToAgree sources root text → (e : Fault) → Refuses text Many e → e ≡ OutOfMemory
-  only ready = memory_alone text Many ready.vetted.input.document ready.vetted.input.read (few ready)
-
-  by_export : {E : Environment} {n : List ℕ} {S : Document} (is : AreSidesOf sources root E n S) → SchemaHasManyPairs is.schema_text text → Many
-  by_export is many = inr (record { schema_text = is.schema_text; exported = is.exported; translated = is.translated; many = many })
+  by_export : {E : Environment} {n : List ℕ} {S : Document} (is : AreSidesOf sources root E n S) (i r : ℕ) → SchemaHasManyPairs is.schema_text text i r → ExportHasManyPairs sources root text i r
+  by_export is i r many = record { schema_text = is.schema_text; exported = is.exported; translated = is.translated; many = many }
 
 pub returns-in_err-doc : goal.returns-in_err-doc
 returns-in_err-doc c =
     let t = c.args.text.now in
     let p = err_from_is_err_and c.from_residual.result c.from_residual.ensures.1 in
-    let told = λ (ss : List (List ℕ)) (r : List ℕ). by_text t (Many ss r t) c.in_err-doc.field-0.0 c.in_err-doc.ensures.not_json c.in_err-doc.ensures.not_integer in
+    let told = λ (ss : List (List ℕ)) (r : List ℕ). by_text t (ManyOfBoth ss r t) c.in_err-doc.field-0.0 c.in_err-doc.ensures.refused in
     rw (p.1, p.2) (record {
       found = λ ss r is. tt;
       refused = λ ss r is. refused ss r t (_, _, is.declares) _ (told ss r);
@@ -54,7 +48,7 @@ returns-in_err-is_instance c =
     let judged = c.in_err-is_instance.ensures in
     let p = err_from_is_err_and c.from_residual-in_err-is_instance.result c.from_residual-in_err-is_instance.ensures.1 in
     let told = λ (ss : List (List ℕ)) (r : List ℕ) (is : AreSidesOf ss r c.args.root_side.now.0 c.args.root_side.now.1 c.args.schema_side.now).
-    by_root t (Many ss r t) ss r _ _ is.declares _ c.in_ok-doc.ensures.found inl c.in_err-is_instance.field-0.0 judged.known judged.many in
+    by_root t (ManyOfBoth ss r t) ss r _ _ is.declares _ c.in_ok-doc.ensures.found (λ i k many. many) c.in_err-is_instance.field-0.0 judged.known judged.many in
     rw (p.1, p.2) (record {
       found = λ ss r is. tt;
       refused = λ ss r is. refused ss r t (_, _, is.declares) _ (told ss r is);
@@ -66,7 +60,7 @@ returns-in_err-is_valid c =
     let t = c.args.text.now in
     let p = err_from_is_err_and c.from_residual-in_err-is_valid.result c.from_residual-in_err-is_valid.ensures.1 in
     let told = λ (ss : List (List ℕ)) (r : List ℕ) (is : AreSidesOf ss r c.args.root_side.now.0 c.args.root_side.now.1 c.args.schema_side.now).
-    by_schema t (Many ss r t) is.schema_text _ is.read _ c.in_ok-doc.ensures.found (by_export ss r t is) c.in_err-is_valid.field-0.0 c.in_err-is_valid.ensures.refused in
+    by_schema t (ManyOfBoth ss r t) is.schema_text _ is.read _ c.in_ok-doc.ensures.found (by_export ss r t is) c.in_err-is_valid.field-0.0 c.in_err-is_valid.ensures.refused in
     rw (p.1, p.2) (record {
       found = λ ss r is. tt;
       refused = λ ss r is. refused ss r t (_, _, is.declares) _ (told ss r is);

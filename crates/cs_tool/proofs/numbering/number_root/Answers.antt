@@ -14,10 +14,10 @@ unnumbered e = Err e
 
 -- a declared root isn't told as unknown
 memory : (E : Environment) (root n : List ℕ) → Names E root n → (e : InstanceFault) → (IsErrOf (unnumbered e) instance.UnknownRoot → (m : List ℕ) → ¬ (Names E root m))
-    → (IsErrOf (unnumbered e) instance.TooManyPairs → ⊥) → of_instance e ≡ OutOfMemory
+    → ((i r : ℕ) → IsErrOf (unnumbered e) (instance.TooManyPairs i r) → ⊥) → of_instance e ≡ OutOfMemory
 memory E root n named instance.OutOfMemory unknown many = refl
 memory E root n named instance.UnknownRoot unknown many = absurd (unknown refl n named)
-memory E root n named instance.TooManyPairs unknown many = absurd (many refl)
+memory E root n named (instance.TooManyPairs i r) unknown many = absurd (many i r refl)
 
 declared : (sources : List (List ℕ)) (root : List ℕ) (E F : Environment) (m : List ℕ) → F ≡ E → Names E root m → IsAccepted sources E → DeclaresRoot sources root F m
 declared sources root E F m kept named accepted = record { accepted = subst (IsAccepted sources) (sym kept) accepted; named = subst (λ G. Names G root m) (sym kept) named }

@@ -41,7 +41,7 @@ module _ (sources : List (List ℕ)) (texts : AreTexts sources) (files : List Fi
   by_guard : (fault : GuardFault) → IsRefusal fault P → SourcesRefusal sources (of_guard fault)
   by_guard guard.OutOfMemory h = tt
   by_guard (guard.Cycle names) h = unguarded _ (guard.Cycle names) refl h
-  by_guard guard.ChainTooLong h = unguarded _ guard.ChainTooLong refl h
+  by_guard (guard.ChainTooLong names) h = unguarded _ (guard.ChainTooLong names) refl h
 
 -- what is accepted has the files that the sources spell, and the environment of their package
 module _ (sources : List (List ℕ)) (files : List FileTree) (spelled : AreFiles sources files) (E : Environment) (accepted : IsAccepted sources E) where

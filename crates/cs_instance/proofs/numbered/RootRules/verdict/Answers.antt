@@ -17,7 +17,7 @@ pub returns-clause-one_meaning : goal.returns-clause-one_meaning
 returns-clause-one_meaning c = meaning.one_meaning c.args.self.now.0 (subst (λ q. IsGuarded q.0) c.self.view_is c.package-package.ensures.guarded)
 
 pub returns-in_err-refill-clause-many : goal.returns-in_err-refill-clause-many
-returns-in_err-refill-clause-many c = λ is.
+returns-in_err-refill-clause-many c = λ items rules is.
     let p = c.args.self.now in
     let s = c.self.inside in
     let d = c.args.flat.now in
@@ -27,7 +27,7 @@ returns-in_err-refill-clause-many c = λ is.
     let e = err_from_is_err_and c.from_residual.result c.from_residual.ensures.1 in
     let same = sym e.1 ∙ is in
     let from = e.2 in
-    many_where p.0 p.1 d s.number _ _ _ judge c.len-last.ensures.items c.len-last.ensures.whole c.in_err-refill.field-0.0 c.in_err-refill.ensures.refused cc
+    many_where p.0 p.1 d s.number _ _ _ judge c.len-last.ensures.items c.len-last.ensures.whole c.in_err-refill.field-0.0 c.in_err-refill.ensures.refused items rules cc
 
 pub get-requires-clause-rule : goal.get-requires-clause-rule
 get-requires-clause-rule c =

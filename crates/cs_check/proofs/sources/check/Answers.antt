@@ -1,0 +1,33 @@
+use Rattle.std.proofs.Common.{◌≡◌, ℕ, List, [], ◌∷◌, refl, sym, ap, subst, ◌∙◌}
+use Rattle.cs_tool.specs.First.{SourcesFault, SourcesRefusal}
+use Rattle.cs_tool.specs.Refusals.{number_of}
+use Rattle.cs_tool.specs.Given.{bytes_in}
+use Rattle.cs_tool.specs.declared.fault.Fault.{Fault}
+use Rattle.cs_tool.specs.declared.fault.Fault.TheVariants.{OutOfMemory}
+use Rattle.cs_check.specs.Told.{BeginsWithFirst, BeginsWith}
+use Rattle.cs_check.proofs.sources.check.Goals as goal
+
+-- a refusal of the sources for another reason than memory tells what they fail first
+fails : (sources : List (List ℕ)) (first : Fault) → ¬ (first ≡ OutOfMemory) → SourcesRefusal sources first → SourcesFault sources first
+fails sources OutOfMemory other h = absurd (other refl)
+fails sources _ other h = h
+
+begins : (sources : List (List ℕ)) (first : Fault) (faults : List Fault) → SourcesFault sources first → BeginsWith first faults → BeginsWithFirst sources faults
+begins sources first faults h b = subst (BeginsWithFirst sources) (sym b.1) h
+
+some : (first : Fault) (faults : List Fault) → BeginsWith first faults → ¬ (faults ≡ [])
+some first faults b none = let e : first ∷ b.0 ≡ [] = sym b.1 ∙ none in absurd (cc e)
+
+pub returns : goal.returns
+returns c =
+    let sources = bytes_in c.args.sources.now in
+    let first = c.in-Err.first in
+    let faults = c.in_ok-faults_from-in-Err.field-0.items in
+    let b : BeginsWith first faults = c.in_ok-faults_from-in-Err.ensures.begins in
+    let other : ¬ (first ≡ OutOfMemory) = λ e. c.if-number.false (c.number.ensures ∙ ap number_of e ∙ sym c.number-in-Err.ensures) in
+    record {
+      first = begins sources first faults (fails sources first other c.in-Err.ensures.refused) b;
+      none = (λ none. absurd (some first faults b none), λ all. absurd (other (c.in-Err.ensures.only all.0 all.1)));
+      most = c.in_ok-faults_from-in-Err.ensures.most;
+      memory = tt;
+    }

@@ -1,0 +1,88 @@
+// The faults of sources: the first one as they are, and then those that mending one after another meets.
+ghost use Rattle.std.specs.Prelude.{◌≡◌, ◌≤◌, ◌↔◌, [], length, IfOk, IsOkUnless};
+ghost use Rattle.cs_tool.specs.Given.{bytes_in};
+ghost use Rattle.cs_check.specs.Told.{AreAccepted, BeginsWithFirst, BeginsWith};
+
+mod cycles;
+mod draft;
+mod mends;
+mod names;
+mod texts;
+mod told;
+
+use crate::MOST_FAULTS;
+use crate::sources::draft::drafts_of;
+use crate::sources::names::{mend_fault, taken_words, tell_package};
+use crate::sources::texts::tell_texts;
+use crate::sources::told::Told;
+use cs_tool::{Fault, accepted_package};
+use std::alloc::{AllocError, Global};
+
+/// The faults of sources, 50 at most. The first one is what the sources fail first, and each further one is what they fail
+/// first once those before it are mended, by their offsets in the sources as they are; these are in the order of the sources and of
+/// their places.
+///
+/// A mend takes a label, an operand or a declaration out, so what else is wrong in it is told once its author has mended it. Names are
+/// also told where a source was mended until it spells a file, but for those that stand in what was taken out; structs that have to
+/// be opened, and recursion, where all sources spell files as they are.
+pub fn check(alloc: Global, sources: &[&[u8]]) -> Result<Vec<Fault>, Fault>
+    ensures first { IfOk result (λ faults. BeginsWithFirst (bytes_in sources.now) faults.items) }
+    ensures none { IfOk result
+        (λ faults. (faults.items ≡ []) ↔ AreAccepted (bytes_in sources.now)) }
+    ensures most { IfOk result (λ faults. length faults.items ≤ 50) }
+    ensures memory { IsOkUnless result Fault.OutOfMemory }
+{
+    match accepted_package(alloc, sources) {
+        Ok(_) => Ok(Vec::new(alloc)),
+        Err(first) => {
+            if first.number() == Fault::OutOfMemory.number() {
+                return Err(Fault::OutOfMemory);
+            }
+            Ok(faults_from(alloc, sources, first)?)
+        }
+    }
+}
+
+/// The first fault and those behind it.
+fn faults_from(alloc: Global, sources: &[&[u8]], first: Fault) -> Result<Vec<Fault>, AllocError>
+    ensures begins { IfOk result (λ faults. BeginsWith first faults.items) }
+    ensures most { IfOk result (λ faults. length faults.items ≤ 50) }
+{
+    let mut faults = further_faults(alloc, sources, &first)?;
+    faults.truncate(MOST_FAULTS - 1);
+    faults.insert(0, first)?;
+    Ok(faults)
+}
+
+/// The faults behind the first one.
+fn further_faults(
+    alloc: Global,
+    sources: &[&[u8]],
+    first: &Fault,
+) -> Result<Vec<Fault>, AllocError> {
+    let mut told = Told::new(alloc, first);
+    let mut drafts = drafts_of(alloc, sources)?;
+    match first {
+        Fault::NoToken { .. }
+        | Fault::Syntax { .. }
+        | Fault::LeftOut { .. }
+        | Fault::IntegerRange { .. }
+        | Fault::TooHigh { .. } => {
+            if tell_texts(alloc, &mut told, &mut drafts)? {
+                let taken = taken_words(alloc, &drafts)?;
+                tell_package(alloc, &mut told, &mut drafts, Some(&taken))?;
+            }
+        }
+        Fault::UnknownName { .. }
+        | Fault::FieldReference { .. }
+        | Fault::NotOpened { .. }
+        | Fault::Cycle { .. } => {
+            if mend_fault(alloc, &mut drafts, first)? {
+                tell_package(alloc, &mut told, &mut drafts, None)?;
+            }
+        }
+        // What these are about isn't a place that can be mended.
+        _ => {}
+    }
+    told.in_order()
+}

@@ -1,2 +1,0 @@
--- What is told of a schema's text.
-pub mod Told

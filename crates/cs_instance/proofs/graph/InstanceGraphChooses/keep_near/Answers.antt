@@ -1,6 +1,0 @@
-use Rattle.std.proofs.Common.{subst}
-use Rattle.cs_instance.proofs.Tellings.{AreSomeOf}
-use Rattle.cs_instance.proofs.graph.InstanceGraphChooses.keep_near.Goals as goal
-
-pub returns : goal.returns
-returns c = subst (λ xs. AreSomeOf xs c.in_ok-alternatives.field-0.items) c.deref.ensures.value c.in_ok-alternatives.ensures

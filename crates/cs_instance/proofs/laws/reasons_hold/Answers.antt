@@ -1,5 +1,0 @@
-use Rattle.cs_instance.proofs.Refusals as refusals
-use Rattle.cs_instance.proofs.laws.reasons_hold.Goals as goal
-
-pub returns : goal.returns
-returns c = refusals.reasons_hold c.args.«package».now

@@ -1,5 +1,0 @@
-use Rattle.cs_instance.proofs.Labelled.{some_of_some}
-use Rattle.cs_instance.proofs.near.alternatives.near.Goals as goal
-
-pub returns-in-Some : goal.returns-in-Some
-returns-in-Some c = some_of_some c.args.alternatives.now c.deref-in-Some.result.now c.in_ok-left.left.items c.tagged.result c.deref-in-Some.ensures.value c.in_ok-left.ensures c.tagged.ensures

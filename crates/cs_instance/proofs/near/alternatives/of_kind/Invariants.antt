@@ -1,6 +1,0 @@
-use Rattle.std.proofs.Common.{Contains}
-use Rattle.cs_instance.specs.declared.cause.InstanceCause.{InstanceCause}
-use Rattle.cs_instance.proofs.near.alternatives.of_kind.Given as goal
-
-abbrev pub invariant-loop-cause : goal.invariant-loop-cause
-invariant-loop-cause l = (c : InstanceCause) → Contains l.left.items c → Contains l.alternatives c

@@ -1,0 +1,150 @@
+// A part of a source, and its parts.
+use crate::near::Near;
+use crate::outline::Separator;
+use crate::source::Source;
+use crate::tokens::{end_of, is_mark};
+use cs_grammar::{Sort, Token};
+
+/// A part of a source: its tokens from one place up to another, which are in one bracket. Each part of it is found by the outline of the
+/// source, without a look at the other parts.
+#[derive(Clone, Copy)]
+pub struct Part<'s, 'a> {
+    pub source: &'s Source<'a>,
+    pub from: usize,
+    pub to: usize,
+}
+
+impl<'s, 'a> Part<'s, 'a> {
+    /// The tokens of the same source from one place up to another.
+    pub fn between(self, from: usize, to: usize) -> Part<'s, 'a> {
+        Part {
+            source: self.source,
+            from,
+            to,
+        }
+    }
+
+    /// Its first token; none where it has no tokens.
+    pub fn first(self) -> Option<Near<'s, 'a>> {
+        if self.from < self.to {
+            Some(Near {
+                source: self.source,
+                place: self.from,
+            })
+        } else {
+            None
+        }
+    }
+
+    /// The offset behind its last token.
+    pub fn end(self) -> usize {
+        match self.to.checked_sub(1) {
+            Some(last) => end_of(self.source.token(last)),
+            None => 0,
+        }
+    }
+
+    /// What is behind its first token, if that is this mark.
+    fn behind_mark(self, mark: &str) -> Option<Part<'s, 'a>> {
+        if is_mark(self.first()?.here(), mark) {
+            Some(self.between(self.from.checked_add(1)?, self.to))
+        } else {
+            None
+        }
+    }
+
+    /// The place of its separator with so many of the same sort before it.
+    pub fn separator(self, separator: Separator, before: usize) -> Option<usize> {
+        self.source.separator(separator, self.from, self.to, before)
+    }
+
+    /// How many separators of a sort it has.
+    pub fn count(self, separator: Separator) -> usize {
+        self.source.count(separator, self.from, self.to)
+    }
+
+    /// Its part at a place, where separators are between the parts.
+    pub fn part(self, separator: Separator, place: usize) -> Option<Part<'s, 'a>> {
+        let from = match place.checked_sub(1) {
+            None => self.from,
+            Some(before) => self.separator(separator, before)?.checked_add(1)?,
+        };
+        let to = self.separator(separator, place).unwrap_or(self.to);
+        Some(self.between(from, to))
+    }
+
+    /// What the bracket at its front has inside, if it closes at the end.
+    fn inside(self, open: &str) -> Option<Part<'s, 'a>> {
+        let first = self.first()?;
+        let held = first.held()?;
+        let closing = first.closing()?;
+        if is_mark(first.here(), open) && closing.place.checked_add(1)? == self.to {
+            Some(held)
+        } else {
+            None
+        }
+    }
+
+    /// It without an inserted comma at the end.
+    fn without_comma(self) -> Part<'s, 'a> {
+        match self.to.checked_sub(1) {
+            Some(last) if self.source.token(last).sort == Sort::Inserted => {
+                self.between(self.from, last)
+            }
+            _ => self,
+        }
+    }
+
+    /// It without the parentheses around, which say nothing.
+    fn unwrapped(self) -> Part<'s, 'a> {
+        let mut left = self;
+        for _ in self.from..self.to {
+            match left.inside("(") {
+                None => return left,
+                Some(inner) => left = inner.without_comma(),
+            }
+        }
+        left
+    }
+
+    /// Its operand at a place.
+    pub fn operand(self, separator: Separator, place: usize) -> Option<Part<'s, 'a>> {
+        self.unwrapped().part(separator, place)
+    }
+
+    /// Its declaration at a place, which begins with the label: of a struct literal, or the one field of a short form.
+    pub fn declaration(self, place: usize) -> Option<Part<'s, 'a>> {
+        let whole = self.unwrapped();
+        match whole.inside("{") {
+            Some(inner) => inner.part(Separator::Comma, place),
+            None if place == 0 => Some(whole),
+            None => None,
+        }
+    }
+
+    /// What is declared by this declaration: what is behind its first colon.
+    pub fn declared(self) -> Option<Part<'s, 'a>> {
+        let colon = self.separator(Separator::Colon, 0)?;
+        Some(self.between(colon.checked_add(1)?, self.to))
+    }
+
+    /// What its declaration at a place declares.
+    pub fn member(self, place: usize) -> Option<Part<'s, 'a>> {
+        self.declaration(place)?.declared()
+    }
+
+    /// Its fixed element at a place.
+    pub fn element(self, place: usize) -> Option<Part<'s, 'a>> {
+        self.unwrapped().inside("[")?.part(Separator::Comma, place)
+    }
+
+    /// What is asked behind so many fixed elements.
+    pub fn list_end(self, fixed: usize) -> Option<Part<'s, 'a>> {
+        self.element(fixed)?.behind_mark("...")
+    }
+
+    /// Where it begins, without parentheses.
+    pub fn offset(self) -> Option<usize> {
+        Some(self.unwrapped().first()?.here().start)
+    }
+}

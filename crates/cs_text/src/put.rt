@@ -1,0 +1,59 @@
+// Writing into texts.
+use cs_place::put_shown;
+use itoa::Buffer;
+use std::alloc::AllocError;
+
+/// Puts these parts as they are, one after another.
+///
+/// # Errors
+/// Memory ran out.
+pub fn put_all(text: &mut String, parts: &[&str]) -> Result<(), AllocError> {
+    for part in parts {
+        text.push_str(part)?;
+    }
+    Ok(())
+}
+
+/// Puts these parts of a line, one after another, as they are shown.
+///
+/// # Errors
+/// Memory ran out.
+pub fn put_line(text: &mut String, parts: &[&str]) -> Result<(), AllocError> {
+    for part in parts {
+        put_shown(text, part)?;
+    }
+    Ok(())
+}
+
+/// Puts a number.
+///
+/// # Errors
+/// Memory ran out.
+pub fn put_number(text: &mut String, number: usize) -> Result<(), AllocError> {
+    text.push_str(Buffer::new().format(number))
+}
+
+/// Puts an integer.
+///
+/// # Errors
+/// Memory ran out.
+pub fn put_integer(text: &mut String, integer: i64) -> Result<(), AllocError> {
+    text.push_str(Buffer::new().format(integer))
+}
+
+/// Puts a number with a comma before each three digits, and words behind it.
+///
+/// # Errors
+/// Memory ran out.
+pub fn put_grouped(text: &mut String, number: usize, words: &[&str]) -> Result<(), AllocError> {
+    let mut buffer = Buffer::new();
+    let digits = buffer.format(number);
+    let len = digits.len();
+    for (at, digit) in digits.chars().enumerate() {
+        if at > 0 && len.saturating_sub(at) % 3 == 0 {
+            text.push(',')?;
+        }
+        text.push(digit)?;
+    }
+    put_all(text, words)
+}

@@ -1,0 +1,139 @@
+// Which alternatives are close to what a value was meant to be: those that take its kind, and of these, for a map, those whose
+// tag it has. What is chosen is no claim.
+ghost use Rattle.std.specs.Prelude.{Contains, OnOk};
+ghost use Rattle.cs_validity_reasons.specs.declared.placed_cause.PlacedCause.{PlacedCause};
+
+pub(crate) mod constants;
+pub(crate) mod leaves;
+pub(crate) mod tags;
+
+use crate::book::Book;
+use crate::graph::ValidGraph;
+use crate::nearness::constants::constants_of;
+use crate::nearness::leaves::{Leaf, all_leaves};
+use crate::nearness::tags::{Tag, find_tag};
+use crate::placed_cause::PlacedCause;
+use cs_flat::Flat;
+use cs_reasons::Cause;
+use cs_rules::RulebookJudge;
+use cs_table::{Judge, Row};
+use std::alloc::{AllocError, Global};
+
+/// Whether a kind that has these verdicts leaves it open that a rule holds, or decides that it does.
+fn is_taken(row: &Row<'_>, rule: usize) -> bool {
+    let is_there = row.item < row.table.items() && rule < row.table.rules();
+    is_there && row.table.get(row.item, rule) || row.left.binary_search(&rule).is_ok()
+}
+
+/// The rules that take the kind of a value, of these.
+pub(crate) fn of_kind(
+    alloc: Global,
+    book: &Book<'_>,
+    flat: &Flat<'_>,
+    item: usize,
+    rules: &[usize],
+) -> Result<Vec<usize>, AllocError> {
+    let mut taking = Vec::with_capacity(alloc, rules.len())?;
+    if item >= flat.len() {
+        return Ok(taking);
+    }
+    let judge = book.over(flat);
+    let row = judge.decided(item);
+    for rule in rules {
+        if row.as_ref().is_none_or(|row| is_taken(row, *rule)) {
+            taking.push(*rule)?;
+        }
+    }
+    Ok(taking)
+}
+
+/// Whether all of these rules ask for constants alone.
+fn are_constants(alloc: Global, book: &Book<'_>, rules: &[usize]) -> Result<bool, AllocError> {
+    for rule in rules {
+        if constants_of(alloc, book, *rule)?.is_none() {
+            return Ok(false);
+        }
+    }
+    Ok(true)
+}
+
+/// Whether the value under the tag's key is valid by what an alternative asks of it.
+fn has_tag(graph: &ValidGraph<'_, '_>, child: usize, rules: &[usize]) -> bool {
+    for rule in rules {
+        let is_there = child < graph.table.items() && *rule < graph.table.rules();
+        if is_there && !graph.table.get(child, *rule) {
+            return false;
+        }
+    }
+    true
+}
+
+/// The alternatives whose tag the value has.
+fn of_tag(
+    alloc: Global,
+    graph: &ValidGraph<'_, '_>,
+    leaves: &[Leaf],
+    tag: &Tag<'_>,
+) -> Result<Vec<usize>, AllocError> {
+    let mut near = Vec::new(alloc);
+    for (leaf, asked) in leaves.iter().zip(&tag.asked) {
+        if has_tag(graph, tag.child, &asked.rules) {
+            near.push(leaf.alternative)?;
+        }
+    }
+    Ok(near)
+}
+
+/// Of these alternatives those that may have been meant.
+fn near_rules(
+    alloc: Global,
+    graph: &ValidGraph<'_, '_>,
+    item: usize,
+    rules: &[usize],
+) -> Result<Vec<usize>, AllocError> {
+    let taking = of_kind(alloc, graph.book, graph.flat, item, rules)?;
+    if are_constants(alloc, graph.book, &taking)? {
+        return Ok(Vec::new(alloc));
+    }
+    let leaves = all_leaves(alloc, graph.book, &taking)?;
+    match find_tag(alloc, graph.book, graph.flat, item, &leaves)? {
+        Some(tag) => of_tag(alloc, graph, &leaves, &tag),
+        None => Ok(taking),
+    }
+}
+
+/// The rules that causes lead to.
+fn rules_of(alloc: Global, causes: &[PlacedCause]) -> Result<Vec<usize>, AllocError> {
+    let mut rules = Vec::with_capacity(alloc, causes.len())?;
+    for cause in causes {
+        if let Some((_item, rule)) = cause.leads_to() {
+            rules.push(rule)?;
+        }
+    }
+    Ok(rules)
+}
+
+/// Whether a cause leads to one of these rules, which ascend.
+fn leads_to_one(cause: &PlacedCause, rules: &[usize]) -> bool {
+    match cause.leads_to() {
+        Some((_item, rule)) => rules.binary_search(&rule).is_ok(),
+        None => false,
+    }
+}
+
+/// Leaves of the alternatives of a value those that may have been meant.
+pub(crate) fn keep_near(
+    graph: &ValidGraph<'_, '_>,
+    item: usize,
+    alternatives: &mut Vec<PlacedCause>,
+) -> Result<(), AllocError>
+    ensures { OnOk result ((c : PlacedCause) → Contains alternatives.new.items c
+        → Contains alternatives.old.items c) }
+{
+    let alloc = *alternatives.allocator();
+    let rules = rules_of(alloc, alternatives)?;
+    let mut near = near_rules(alloc, graph, item, &rules)?;
+    near.sort_unstable();
+    alternatives.retain(|cause| leads_to_one(cause, &near));
+    Ok(())
+}

@@ -1,0 +1,174 @@
+// What values would have to be by alternatives, for wording.
+use crate::book::{Book, conjunction_at};
+use crate::explaining::{Want, Wanted};
+use crate::nearness::leaves::{Leaf, all_leaves};
+use crate::nearness::of_kind;
+use crate::nearness::tags::{Tag, conjuncts_of, find_tag};
+use cs_document::Doc;
+use cs_flat::Flat;
+use cs_profile::Keywords;
+use std::alloc::{AllocError, Global};
+
+/// How many alternatives are told.
+const MOST_WANTED: usize = 64;
+
+fn has_limits(keywords: &Keywords) -> bool {
+    keywords.minimum.is_some()
+        || keywords.maximum.is_some()
+        || keywords.above.is_some()
+        || keywords.below.is_some()
+}
+
+fn are_same_limits(limits: &Keywords, others: &Keywords) -> bool {
+    limits.minimum == others.minimum
+        && limits.maximum == others.maximum
+        && limits.above == others.above
+        && limits.below == others.below
+}
+
+fn is_same(want: &Want<'_>, other: &Want<'_>) -> bool {
+    match (want, other) {
+        (Want::Kind(kind), Want::Kind(another)) => kind == another,
+        (Want::Value(value), Want::Value(another)) => **value == **another,
+        (Want::Limits(limits), Want::Limits(others)) => are_same_limits(limits, others),
+        (Want::Kind(_) | Want::Value(_) | Want::Limits(_), _) => false,
+    }
+}
+
+/// Adds what is asked, unless it is asked already.
+fn add_want<'a>(wants: &mut Vec<Want<'a>>, want: Want<'a>) -> Result<(), AllocError> {
+    if !wants.iter().any(|other| is_same(other, &want)) {
+        wants.push(want)?;
+    }
+    Ok(())
+}
+
+fn are_same(wants: &[Want<'_>], others: &[Want<'_>]) -> bool {
+    wants.len() == others.len()
+        && wants
+            .iter()
+            .zip(others)
+            .all(|(want, other)| is_same(want, other))
+}
+
+/// Adds what one alternative asks, unless it asks nothing that has a wording, or another asks the same.
+fn add_alternative<'a>(
+    alternatives: &mut Vec<Vec<Want<'a>>>,
+    wants: Vec<Want<'a>>,
+) -> Result<(), AllocError> {
+    let is_told = alternatives.len() >= MOST_WANTED
+        || wants.is_empty()
+        || alternatives.iter().any(|other| are_same(other, &wants));
+    if !is_told {
+        alternatives.push(wants)?;
+    }
+    Ok(())
+}
+
+/// Adds each of these values as an alternative.
+fn add_values<'a>(
+    alternatives: &mut Vec<Vec<Want<'a>>>,
+    values: &'a [Doc],
+) -> Result<(), AllocError> {
+    for value in values {
+        if alternatives.len() >= MOST_WANTED {
+            return Ok(());
+        }
+        add_value(alternatives, value)?;
+    }
+    Ok(())
+}
+
+fn add_value<'a>(alternatives: &mut Vec<Vec<Want<'a>>>, value: &'a Doc) -> Result<(), AllocError> {
+    let mut wants = Vec::new(*alternatives.allocator());
+    wants.push(Want::Value(value))?;
+    add_alternative(alternatives, wants)
+}
+
+/// Adds what keywords ask by the value's kind and by limits.
+fn add_keywords<'a>(keywords: &'a Keywords, wants: &mut Vec<Want<'a>>) -> Result<(), AllocError> {
+    if let Some(kind) = keywords.kind {
+        add_want(wants, Want::Kind(kind))?;
+    }
+    if has_limits(keywords) {
+        add_want(wants, Want::Limits(keywords))?;
+    }
+    Ok(())
+}
+
+/// Adds what an alternative asks: its constants where it has such, and otherwise kinds and limits together.
+fn add_leaf<'a>(
+    alloc: Global,
+    book: &'a Book<'_>,
+    rule: usize,
+    alternatives: &mut Vec<Vec<Want<'a>>>,
+) -> Result<(), AllocError> {
+    let mut wants = Vec::new(alloc);
+    for conjunct in conjuncts_of(alloc, book, rule)? {
+        if let Some(conjunction) = conjunction_at(book, conjunct) {
+            let keywords = conjunction.keywords;
+            if let Some(value) = &keywords.equal {
+                return add_value(alternatives, value);
+            }
+            if let Some(values) = &keywords.one_of {
+                return add_values(alternatives, values);
+            }
+            add_keywords(keywords, &mut wants)?;
+        }
+    }
+    add_alternative(alternatives, wants)
+}
+
+/// What the alternatives ask of the value itself.
+fn by_value<'a>(
+    alloc: Global,
+    book: &'a Book<'_>,
+    leaves: &[Leaf],
+) -> Result<Wanted<'a>, AllocError> {
+    let mut alternatives = Vec::new(alloc);
+    for leaf in leaves {
+        if alternatives.len() < MOST_WANTED {
+            add_leaf(alloc, book, leaf.rule, &mut alternatives)?;
+        }
+    }
+    Ok(Wanted {
+        key: None,
+        alternatives,
+    })
+}
+
+/// What the alternatives ask of the value under a tag's key.
+fn by_tag<'a>(alloc: Global, tag: &Tag<'a>) -> Result<Wanted<'a>, AllocError> {
+    let mut alternatives = Vec::new(alloc);
+    for asked in &tag.asked {
+        for value in &asked.values {
+            add_value(&mut alternatives, value)?;
+        }
+    }
+    Ok(Wanted {
+        key: Some((tag.key, tag.child)),
+        alternatives,
+    })
+}
+
+/// What a value would have to be by the alternatives of a rule: the constants of their tag, where they have one, and otherwise
+/// what they ask of the value itself. At most 64 are told.
+pub(crate) fn wanted_of<'a>(
+    alloc: Global,
+    book: &'a Book<'_>,
+    flat: &'a Flat<'a>,
+    item: usize,
+    rule: usize,
+) -> Result<Wanted<'a>, AllocError> {
+    let none: &[usize] = &[];
+    let any_of = match conjunction_at(book, rule) {
+        Some(conjunction) => &conjunction.any_of,
+        None => none,
+    };
+    let taking = of_kind(alloc, book, flat, item, any_of)?;
+    let leaves = all_leaves(alloc, book, &taking)?;
+    match find_tag(alloc, book, flat, item, &leaves)? {
+        Some(tag) => by_tag(alloc, &tag),
+        None => by_value(alloc, book, &all_leaves(alloc, book, any_of)?),
+    }
+}
