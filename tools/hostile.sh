@@ -221,6 +221,11 @@ missing=$(awk 'BEGIN {
 }')
 try '20,000 keys declared on a line, none there: vet --why' 2020002 "prints 1 invalid$missing" \
     'vet --why --most 1000000 --root #A --doc empty wide.cue'
+# Keys that may be meant by others: names are compared up to a limit of steps.
+{ printf '#A: {'; listed 8000 'field%d?: int' ', '; printf '}'; } > wide.cue
+{ printf '{'; listed 8000 '"fieldx%d": 1'; printf '}'; } > keys
+try '8,000 keys with a letter too many: vet --why' 64000000 \
+    'shows keys:1:2: /fieldx0: this key is not allowed, did you mean "field0"? [wide.cue:1:5 #A]' 'vet --why --most 1000000 --root #A --doc keys wide.cue'
 awk 'BEGIN { for (i = 0; i < 1000; i++) printf "#a%d: {x: #a%d}\n", i, (i + 1) % 1000 }' > wide.cue
 try 'cycle of 1,000 definitions: export --why' 0 'told error 12' 'export --why --root #a0 wide.cue'
 # Names of one hash. The seed of the standard library's hashes is fixed, so the number that they make of a name's first 16 bytes is
@@ -600,6 +605,18 @@ try '1,024 cases without a reason: check' 10000000 'lines 0 wide.cue:3:1: warnin
 try '999 definitions without an instance: check' 10000000 'shows none of its alternatives has an instance' 'check wide.cue'
 { printf '#A: {'; listed 40000 'a%d: int' ', '; printf '}'; } > wide.cue
 try '40,000 fields: check' 10000000 'lines 0' 'check wide.cue'
+{ printf '#A: {'; listed 40000 'a: >%d' ', '; printf '}'; } > wide.cue
+try '40,000 fields of one name: check' 10000000 'lines 0' 'check wide.cue'
+{ printf '#A: {'; listed 5000 'a%d: int' ', '; printf '}'; } > wide.cue
+try '5,000 fields: check' 1000000 'lines 0' 'check wide.cue'
+awk 'BEGIN { printf "#A: "; for (i = 0; i < 8000; i++) printf "%s>=%d & <=%d", i ? " | " : "", 4 * i, 4 * i + 2 }' > wide.cue
+try '8,000 ranges: check' 1000000 'lines 0' 'check wide.cue'
+{ printf '#A: {'; listed 8000 'a%d: int & string' ', '; printf '}'; } > wide.cue
+try '8,000 fields that clash: check' 5000000 \
+    'lines 0 wide.cue:1:1: warning: no document is an instance of #A: nothing may stand under its key "a0"' 'check wide.cue'
+# Each of the 50 faults that are told is mended, and the rest read again.
+{ printf '#A: {'; listed 4000 'a%d: {x: 1} & {y: 1}' ', '; printf '}'; } > wide.cue
+try '4,000 fields whose structs are joined: check' 20000000 'shows wide.cue:1:10: error 11: this struct is joined with others' 'check wide.cue'
 # Comparisons and documents: an answer, or 17 where a limit is met.
 awk 'BEGIN {
     for (i = 0; i < 999; i++) print "#A" i ": {x: null | #A" i + 1 "}"
@@ -630,13 +647,13 @@ try 'int against 64 ranges that part it: compare' 0 'lines 0 compatible' 'compar
 try '64 ranges that part int: samples --invalid' 5000000 'shows null' 'samples --invalid --root #A wide.cue'
 awk 'BEGIN { printf "#A: "; for (i = 0; i < 3000; i++) printf "%sint & >=%d & <=%d", i ? " | " : "", i * 10, i * 10 + 8; print "" }' > wide.cue
 try '3,000 ranges against themselves: compare' 1000000 'lines 0 compatible' 'compare --root #A --old wide.cue --new wide.cue'
-# corners COUNT: so many of the 32 structs with 1 or 2 under each of five keys
+# corners COUNT [KEYS FORM]: so many of the structs with 1 or 2 under each of five keys, or of so many, or what the form makes of these
 corners() {
-    awk -v count="$1" 'BEGIN {
+    awk -v count="$1" -v keys="${2-5}" -v form="${3-%d}" 'BEGIN {
         printf "#A: "
         for (i = 0; i < count; i++) {
             printf "%s{", i ? " | " : ""
-            for (k = 0; k < 5; k++) printf "%s%c: %d", k ? ", " : "", 97 + k, int(i / 2 ^ k) % 2 + 1
+            for (k = 0; k < keys; k++) printf "%s%c: " form, k ? ", " : "", 97 + k, int(i / 2 ^ k) % 2 + 1
             printf "}"
         }
         print ""
@@ -647,13 +664,16 @@ corners 31 > wide.cue
 try '32 corners against 31 of them: compare' 0 'lines 1 breaking;{"a":2,"b":2,"c":2,"d":2,"e":2}' 'compare --root #A --old other.cue --new wide.cue'
 corners 32 > wide.cue
 try '32 corners against themselves: compare' 10000000 'lines 0 compatible' 'compare --root #A --old other.cue --new wide.cue'
+# Lists and structs that are the same are one rule, as integers are.
+for form in '[%d]' '{x: %d}'; do
+    corners 64 6 "$form" > wide.cue
+    awk -v form="$form" 'BEGIN { printf "#A: {"; for (k = 0; k < 6; k++) printf "%c: " form " | " form ", ", 97 + k, 1, 2; print "}" }' > other.cue
+    try "64 corners of $form against themselves: compare" 10000000 'lines 0 compatible' 'compare --root #A --old other.cue --new wide.cue'
+done
 { printf '#A: {'; listed 1000 'a%d: int' ', '; printf '}\n'; } > wide.cue
 try '1,000 fields against themselves: compare' 100000000 'lines 0 compatible' 'compare --root #A --old wide.cue --new wide.cue'
-# By more than half of the steps that a comparison may take, and by more than all.
-{ printf '#A: {'; listed 7000 'a%d: int' ', '; printf '}\n'; } > other.cue
-try '7,000 fields against themselves: compare' 100000000 'lines 0 compatible' 'compare --root #A --old other.cue --new other.cue'
 { printf '#A: {'; listed 9000 'a%d: int' ', '; printf '}\n'; } > other.cue
-try '9,000 fields against themselves: compare' 100000000 'error 17' 'compare --root #A --old other.cue --new other.cue'
+try '9,000 fields against themselves: compare' 5000000 'lines 0 compatible' 'compare --root #A --old other.cue --new other.cue'
 # Fields of which each asks another question: they are all asked before the value is looked at again.
 awk 'BEGIN { printf "#A: {"; for (i = 0; i < 1000; i++) printf "a%d: %d, ", i, i; print "}" }' > other.cue
 try '1,000 fields of other integers against themselves: compare' 100000000 'lines 0 compatible' 'compare --root #A --old other.cue --new other.cue'

@@ -1,179 +1,91 @@
 // What is said of a form at its place, with the names that the source has there.
 use crate::bases::put_not_opened;
-use crate::fields::{put_embedded_definition, put_embedded_struct};
-use crate::form_words::sentence_of;
-use crate::labels::{Labelled, field_of, value_without};
-use crate::sentences::{
-    sentence_of_character, sentence_of_comparison, sentence_of_number, sentence_of_package,
-};
-use crate::text::{put_line, put_spelled};
-use crate::unknown::{put_field_reference, put_kind, put_unknown};
-use cs_forms::{Form, Found};
+use crate::labels::{field_without, labels_inside, text_between};
+use crate::names::{put_field_reference, put_unknown};
+use crate::text::{put_around, put_filled, put_tokens};
+use cs_forms::{Form, Found, said_of_form, said_of_shown};
 use cs_grammar::{Sort, Token};
-use cs_sources::{Near, Source, follows_label};
-use std::alloc::{AllocError, Global};
-use std::str;
+use cs_sources::{Near, Source, declared_in, end_of, follows_label, separates};
+use std::alloc::AllocError;
 
-/// The bytes of a source as a text, or none of them.
-pub(crate) fn text_of(bytes: Option<&[u8]>) -> &str {
-    match str::from_utf8(bytes.unwrap_or(&[])) {
-        Ok(text) => text,
-        Err(_) => "",
-    }
-}
+/// How many bytes of the other fields are shown.
+const MOST_SHOWN: usize = 60;
+/// How many labels are named.
+const MOST_NAMED: usize = 3;
 
 /// Puts what is said of a form that was found in a source, which is one of these: what it is, and what to write instead, with the
-/// names that the sources have there.
-///
-/// # Errors
-/// Memory ran out.
+/// names that the sources have there. Only memory can run out.
 pub fn put_advice(
-    alloc: Global,
     text: &mut String,
     source: &Source<'_>,
     sources: &[Source<'_>],
     found: Found,
 ) -> Result<(), AllocError> {
-    let shown = text_of(source.named.text.get(found.start..found.end));
-    if let Some((said, more)) = said_of(found.form, shown) {
-        return put_spelled(text, shown, said, more);
-    }
+    let shown = text_between(source, found.start, found.end);
+    let said = said_of_form(found.form);
+    let Some(near) = Near::at(source, found.start) else {
+        return put_filled(text, said, &[shown]);
+    };
     match found.form {
-        Form::StrayCharacter => text.push_str(sentence_of_character(shown)),
-        Form::UnknownKind => put_kind(text, shown),
-        Form::UnknownName | Form::UnknownDefinition => put_unknown(alloc, text, shown, sources),
-        _ => match Near::at(source, found.start) {
-            Some(near) => put_advice_near(alloc, text, sources, near, found.form),
-            None => text.push_str(sentence_of(found.form)),
-        },
-    }
-}
-
-/// What is said of a form that is shown as it is spelled, and more of it.
-fn said_of(form: Form, shown: &str) -> Option<(&'static str, &'static str)> {
-    match form {
-        Form::PackageValue | Form::PackageCall => {
-            Some((sentence_of(form), sentence_of_package(shown)))
-        }
-        Form::Selector | Form::Call | Form::LargeInteger => Some((sentence_of(form), "")),
-        Form::NumberSpelling => Some((sentence_of_number(shown), "")),
-        Form::Comparison => Some((sentence_of_comparison(shown), "")),
-        _ => None,
-    }
-}
-
-/// Puts what is said of a form that a token shows.
-fn put_advice_near(
-    alloc: Global,
-    text: &mut String,
-    sources: &[Source<'_>],
-    near: Near<'_, '_>,
-    form: Form,
-) -> Result<(), AllocError> {
-    match form {
         Form::DefaultMark => put_default(text, near),
-        Form::Let => put_let(text, near),
-        Form::HiddenName => put_hidden(text, near),
-        Form::EmbeddedDefinition => put_embedded_definition(text, near),
-        Form::EmbeddedStruct => put_embedded_struct(alloc, text, near),
-        Form::Limit => put_limit(text, near, "a literal"),
-        Form::LimitKind => put_limit(text, near, limits_of(near.before(1))),
-        Form::TopLevelField => put_field_at_top(text, near.here()),
-        Form::FieldReference => put_field_reference(alloc, text, near),
-        Form::NotOpened => put_not_opened(alloc, text, sources, near),
-        _ => text.push_str(sentence_of(form)),
-    }
-}
-
-/// Puts that a default mark is left out, and what to write.
-fn put_default(text: &mut String, near: Near<'_, '_>) -> Result<(), AllocError> {
-    text.push_str("default marks are left out; ")?;
-    match field_of(near) {
-        // Behind a `!` a default is never filled in: documents have to have the field.
-        Some(field) if field.label.sort != Sort::Definition && !field.is_required => {
-            put_optional(text, near, field)
+        Form::Let => {
+            let more = "; write `#{}: ..` at the top of a file, and `#{}` for `{}`";
+            put_with_name(text, said, near.behind(1), more)
         }
-        _ => text.push_str("take it out"),
+        Form::TopLevelField => put_with_name(text, said, near.here(), ", so write `#{}: ..`"),
+        Form::HiddenName => put_hidden(text, near),
+        Form::Limit | Form::LimitKind => put_limit(text, said, near),
+        Form::EmbeddedDefinition => {
+            let others = other_fields(near).unwrap_or("..");
+            put_around(text, said, shown, others)
+        }
+        Form::EmbeddedStruct => put_embedded_struct(text, near),
+        Form::FieldReference => put_field_reference(text, near),
+        Form::NotOpened => put_not_opened(text, sources, near),
+        Form::UnknownName | Form::UnknownDefinition => put_unknown(text, shown, said, sources),
+        Form::StrayCharacter => text.push_str(said_of_shown(found.form, shown)),
+        form => put_around(text, said, shown, said_of_shown(form, shown)),
     }
 }
 
-/// Puts that a field may be left out, with the rest of its value, in place of a default mark.
-fn put_optional(
-    text: &mut String,
-    mark: Near<'_, '_>,
-    field: Labelled<'_>,
-) -> Result<(), AllocError> {
-    let (before, behind) = match value_without(mark, field) {
-        Some((before, behind)) => (
-            text_of(Some(before)).trim_ascii_start(),
-            text_of(Some(behind)),
-        ),
-        None => ("", ".."),
-    };
-    let behind = if before.is_empty() {
-        behind.trim_ascii_start()
-    } else {
-        behind
-    };
-    put_line(
-        text,
-        &[
-            "a document may leave the field out, so write `",
-            field.label.text,
-            "?: ",
-            before,
-            behind,
-            "`",
-        ],
-    )
+/// Puts that a default mark is left out, and what to write: that its field may be left out, with the rest of its value.
+fn put_default(text: &mut String, mark: Near<'_, '_>) -> Result<(), AllocError> {
+    text.push_str(said_of_form(Form::DefaultMark))?;
+    let said = "; a document may leave the field out, so write `{}?: {}{}`";
+    match field_without(mark) {
+        Some(field) => put_filled(text, said, &[field.label, field.before, field.behind]),
+        None => text.push_str("; take it out"),
+    }
 }
 
-/// Puts that `let` is left out, with the name behind the word.
-fn put_let(text: &mut String, near: Near<'_, '_>) -> Result<(), AllocError> {
-    let name = near.behind(1);
-    match name.sort {
-        Sort::Name => put_line(
-            text,
-            &[
-                "`let` is left out; write `#",
-                name.text,
-                ": ..` at the top of a file, and `#",
-                name.text,
-                "` for `",
-                name.text,
-                "`",
-            ],
-        ),
-        _ => text.push_str("`let` is left out"),
+/// Puts what is said of a form, and behind it more, where a token is a name, which that names.
+fn put_with_name(
+    text: &mut String,
+    said: &str,
+    token: Token<'_>,
+    more: &str,
+) -> Result<(), AllocError> {
+    text.push_str(said)?;
+    match token.sort {
+        Sort::Name => put_filled(text, more, &[token.text; 3]),
+        _ => Ok(()),
     }
 }
 
 /// Puts what to write for a hidden name.
 fn put_hidden(text: &mut String, near: Near<'_, '_>) -> Result<(), AllocError> {
     let name = near.here().text;
-    if name.starts_with("_#") {
-        return text.push_str(
-            "hidden definitions are left out: drop the `_`; only what the root reaches is exported anyway",
-        );
-    }
     let is_label = follows_label(near.behind(1));
-    if is_label && near.bracket().is_some() {
-        return text.push_str(
+    let said = match near.bracket() {
+        _ if name.starts_with("_#") =>
+            "hidden definitions are left out: drop the `_`; only what the root reaches is exported anyway",
+        Some(_) if is_label =>
             "hidden fields are left out: documents don't have them, so take it out",
-        );
-    }
-    let (said, end) = if is_label {
-        (
-            "a hidden field at the top of a file: a root is a definition, so write `#",
-            ": ..`",
-        )
-    } else {
-        (
-            "hidden fields are left out: give the value a definition and name it: `#",
-            "`",
-        )
+        None if is_label =>
+            "a hidden field at the top of a file: a root is a definition, so write `#{}: ..`",
+        Some(_) | None => said_of_form(Form::HiddenName),
     };
-    put_line(text, &[said, shown_name(name), end])
+    put_filled(text, said, &[shown_name(name)])
 }
 
 /// A hidden name without the `_` before it, unless no letter follows, as it has to behind a `#`.
@@ -185,30 +97,47 @@ fn shown_name(name: &str) -> &str {
     }
 }
 
-/// What the limit of a relation may be.
-fn limits_of(relation: Token<'_>) -> &'static str {
-    if relation.text == "!=" {
-        "an integer, a text or `null`"
-    } else {
-        "an integer"
-    }
-}
-
 /// Puts what a limit has to be, with its relation.
-fn put_limit(text: &mut String, near: Near<'_, '_>, wanted: &str) -> Result<(), AllocError> {
-    let (before, first) = (near.before(1), near.before(2));
-    let relation = if before.text == "-" { first } else { before };
-    put_line(
-        text,
-        &["the limit of `", relation.text, "` has to be ", wanted],
-    )
+fn put_limit(text: &mut String, said: &str, near: Near<'_, '_>) -> Result<(), AllocError> {
+    let relation = match near.before(1).text {
+        "-" => near.before(2).text,
+        relation => relation,
+    };
+    let limits = match relation {
+        "!=" => "an integer, a text or `null`",
+        _ => "an integer",
+    };
+    put_filled(text, said, &[relation, limits])
 }
 
-/// Puts that a field is no definition.
-fn put_field_at_top(text: &mut String, label: Token<'_>) -> Result<(), AllocError> {
-    let said = "a field at the top of a file: a root is a definition";
-    match label.sort {
-        Sort::Name => put_line(text, &[said, ", so write `#", label.text, ": ..`"]),
-        _ => text.push_str(said),
+/// The other fields of the struct in which a definition is embedded first, where they are few, on one line, and not open.
+fn other_fields<'a>(near: Near<'_, 'a>) -> Option<&'a str> {
+    let bracket = near.bracket()?;
+    let next = near.behind(1);
+    if near.before(1).start != bracket.here().start || !separates(next) {
+        return None;
     }
+    let closing = bracket.closing()?.here();
+    let fields = text_between(near.source, end_of(next), closing.start).trim_ascii();
+    let fields = fields.strip_suffix(",").unwrap_or(fields);
+    let is_few = !fields.is_empty() && fields.len() <= MOST_SHOWN;
+    if is_few && !fields.contains('\n') && !fields.ends_with("...") {
+        Some(fields)
+    } else {
+        None
+    }
+}
+
+/// Puts what to write for an embedded struct: the labels around it, where they are few.
+fn put_embedded_struct(text: &mut String, near: Near<'_, '_>) -> Result<(), AllocError> {
+    let alloc = *text.allocator();
+    let labels = match near.bracket() {
+        Some(bracket) => labels_inside(alloc, bracket)?,
+        None => Vec::new(alloc),
+    };
+    if labels.is_empty() || labels.len() > MOST_NAMED {
+        return text.push_str(said_of_form(Form::EmbeddedStruct));
+    }
+    put_tokens(text, "an embedded struct: put ", &labels, " and ")?;
+    text.push_str(" into each alternative")
 }

@@ -1,148 +1,130 @@
-// Cycles of definitions (12).
+// Cycles of definitions (12, 24), and chains of references that are too long (16).
 use crate::labels::field_with;
-use crate::spot::Spot;
-use crate::text::put_line;
+use crate::text::{put_filled, put_left};
+use crate::told::Told;
 use cs_place::position_of;
 use cs_sources::{Declared, Near, Source, declared_in};
 use itoa::Buffer;
-use std::alloc::{AllocError, Global};
+use std::alloc::AllocError;
 
-/// How many definitions of a cycle are named.
+/// How many definitions of a cycle are named, and how many at the beginning of a chain.
 const MOST_IN_CYCLE: usize = 16;
 
-/// Puts a cycle of definitions by their names, each with its place, and what ends it (12), and gives the place of the first one;
-/// nothing and no place where the sources don't declare that.
-///
-/// # Errors
-/// Memory ran out.
-pub fn put_cycle<'a>(
-    alloc: Global,
-    text: &mut String,
+const MOST_IN_CHAIN: usize = 4;
+
+/// Tells a chain of definitions by their names, each of which refers to the next (16), at the first one; nothing where the sources
+/// don't declare that. Only memory can run out.
+pub fn tell_chain<'a>(
+    told: &mut Told<'a>,
     sources: &[Source<'a>],
     names: &[String],
-) -> Result<Spot<'a>, AllocError> {
-    let declared = declared_in(alloc, sources)?;
-    let [first, ..] = names else {
-        return Ok(Spot::nowhere());
+) -> Result<(), AllocError> {
+    let declared = declared_in(told.alloc(), sources)?;
+    let (Some(first), [front @ .., last]) = (first_of(&declared, names), names) else {
+        return Ok(());
     };
-    let Some(declaration) = declared.of(first.as_str()) else {
-        return Ok(Spot::nowhere());
-    };
-    put_places(text, &declared, names, sources.len() > 1)?;
-    let field = field_of_last(alloc, &declared, names, first.as_str())?;
-    put_way_out(text, field, first.as_str())?;
-    Ok(Spot::near(declaration))
+    told.place_at(first);
+    let text = &mut told.hint;
+    let said = "{} references in a chain, and 64 may be: ";
+    put_filled(text, said, &[Buffer::new().format(front.len())])?;
+    put_way(text, &declared, front, MOST_IN_CHAIN)?;
+    put_named(text, &declared, last.as_str())?;
+    text.push_str(": nest less deeply, or write one of the references as an alternative to `_|_`")
 }
 
-/// Puts the names of a cycle with their places, the first ones of many.
-fn put_places(
+/// Tells a cycle of definitions by their names, each with its place, and what ends it (12), at the first one; nothing where the sources
+/// don't declare that. Only memory can run out.
+pub fn tell_cycle<'a>(
+    told: &mut Told<'a>,
+    sources: &[Source<'a>],
+    names: &[String],
+) -> Result<(), AllocError> {
+    let declared = declared_in(told.alloc(), sources)?;
+    let (Some(first), [.., last]) = (first_of(&declared, names), names) else {
+        return Ok(());
+    };
+    told.place_at(first);
+    let text = &mut told.hint;
+    put_way(text, &declared, names, MOST_IN_CYCLE)?;
+    put_way_out(text, first.here().text, declared.of(last.as_str()))
+}
+
+/// Puts a loop of definitions of a schema by their names, of which this is the first, and what ends it (24). Only memory can run out.
+pub fn put_loop(text: &mut String, names: &[String], first: &str) -> Result<(), AllocError> {
+    for name in names.iter().take(MOST_IN_CYCLE) {
+        put_filled(text, "`{}` -> ", &[name.as_str()])?;
+    }
+    put_left(
+        text,
+        "{} more -> ",
+        names.len().saturating_sub(MOST_IN_CYCLE),
+    )?;
+    let said =
+        "`{}`: put a reference under `properties`, `additionalProperties`, `prefixItems` or `items`, or take it out";
+    put_filled(text, said, &[first])
+}
+
+/// Where the first of some definitions is declared.
+fn first_of<'s, 'a>(declared: &Declared<'s, 'a>, names: &[String]) -> Option<Near<'s, 'a>> {
+    declared.of(names.first()?.as_str())
+}
+
+/// Puts names of definitions, the first ones of many, with an arrow behind each.
+fn put_way(
     text: &mut String,
     declared: &Declared<'_, '_>,
     names: &[String],
-    shows_files: bool,
+    most: usize,
 ) -> Result<(), AllocError> {
-    for name in names.iter().take(MOST_IN_CYCLE) {
-        put_named(text, declared, name.as_str(), shows_files, " -> ")?;
+    for name in names.iter().take(most) {
+        put_named(text, declared, name.as_str())?;
+        text.push_str(" -> ")?;
     }
-    put_left(text, names)
+    put_left(text, "{} more -> ", names.len().saturating_sub(most))
 }
 
-/// Puts the names of a loop, the first ones of many, and the first one again behind them.
-///
-/// # Errors
-/// Memory ran out.
-pub fn put_names_of_loop(
+/// Puts the name of a definition, with its place where the sources declare it: the line that declares it, and of several files which.
+fn put_named(text: &mut String, declared: &Declared<'_, '_>, name: &str) -> Result<(), AllocError> {
+    let Some(declaration) = declared.of(name) else {
+        return put_filled(text, "`{}`", &[name]);
+    };
+    let named = declaration.source.named;
+    let (file, colon) = match declared.sources {
+        [_] => ("", ""),
+        _ => (named.name, ":"),
+    };
+    let place = position_of(named.text, declaration.here().start);
+    let mut buffer = Buffer::new();
+    let line = buffer.format(place.line);
+    put_declared(text, name, file, colon, line)
+}
+
+/// Puts the name of a definition, with the file and the line that declare it.
+fn put_declared<'x>(
     text: &mut String,
-    names: &[String],
-    first: &str,
+    name: &'x str,
+    file: &'x str,
+    colon: &'x str,
+    line: &'x str,
 ) -> Result<(), AllocError> {
-    for name in names.iter().take(MOST_IN_CYCLE) {
-        put_line(text, &["`", name.as_str(), "` -> "])?;
-    }
-    put_left(text, names)?;
-    put_line(text, &["`", first, "`"])
-}
-
-/// Puts how many definitions of a cycle aren't named, if there are any.
-fn put_left(text: &mut String, names: &[String]) -> Result<(), AllocError> {
-    match names.len().checked_sub(MOST_IN_CYCLE) {
-        Some(left) if left > 0 => put_line(text, &[Buffer::new().format(left), " more -> "]),
-        _ => Ok(()),
-    }
+    put_filled(text, "`{}` ({}{}{})", &[name, file, colon, line])
 }
 
 /// Puts the first name of a cycle again, and how the cycle is ended: by the field of its last definition that has the first one as
 /// its value, where there is one.
-fn put_way_out(text: &mut String, field: Option<&str>, first: &str) -> Result<(), AllocError> {
-    match field {
-        Some(label) => put_line(
-            text,
-            &[
-                "`",
-                first,
-                "`: write `",
-                label,
-                ": ",
-                first,
-                " | _|_`, which keeps the meaning",
-            ],
-        ),
-        None => put_line(
-            text,
-            &[
-                "`",
-                first,
-                "`: to keep the meaning, add `| _|_` to one of these references in a field or an element, as `",
-                first,
-                " | _|_`; where none is in one, take it out",
-            ],
-        ),
-    }
-}
-
-/// The label in the last definition of some whose value is a reference to another one.
-fn field_of_last<'a>(
-    alloc: Global,
-    declared: &Declared<'_, 'a>,
-    names: &[String],
+fn put_way_out(
+    text: &mut String,
     first: &str,
-) -> Result<Option<&'a str>, AllocError> {
-    let [.., last] = names else {
-        return Ok(None);
+    last: Option<Near<'_, '_>>,
+) -> Result<(), AllocError> {
+    let field = match last {
+        Some(last) => field_with(*text.allocator(), last, first)?,
+        None => None,
     };
-    match declared.of(last.as_str()) {
-        Some(definition) => field_with(alloc, definition, first),
-        None => Ok(None),
-    }
-}
-
-/// Puts the name of a definition, with its place where the sources declare it, and words behind it.
-pub(crate) fn put_named(
-    text: &mut String,
-    declared: &Declared<'_, '_>,
-    name: &str,
-    shows_file: bool,
-    words: &str,
-) -> Result<(), AllocError> {
-    match declared.of(name) {
-        Some(declaration) => put_declaration(text, declaration, shows_file, words),
-        None => put_line(text, &["`", name, "`", words]),
-    }
-}
-
-/// Puts the name of a definition with the line that declares it, and maybe the file, and words behind it.
-fn put_declaration(
-    text: &mut String,
-    declaration: Near<'_, '_>,
-    shows_file: bool,
-    words: &str,
-) -> Result<(), AllocError> {
-    let (named, name) = (declaration.source.named, declaration.here());
-    let place = position_of(named.text, name.start);
-    if shows_file {
-        put_line(text, &["`", name.text, "` (", named.name, ":"])?;
-    } else {
-        put_line(text, &["`", name.text, "` ("])?;
-    }
-    put_line(text, &[Buffer::new().format(place.line), ")", words])
+    let said = match field {
+        Some(_) => "`{}`: write `{}: {} | _|_`, which keeps the meaning",
+        None =>
+            "`{}`: to keep the meaning, add `| _|_` to one of these references in a field or an element, as `{} | _|_`; where none is in one, take it out",
+    };
+    put_filled(text, said, &[first, field.unwrap_or(first), first])
 }

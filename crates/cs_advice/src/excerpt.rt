@@ -15,17 +15,12 @@ fn sides(text: &[u8], offset: usize) -> (&[u8], &[u8]) {
         None => 0,
     };
     let len = memchr(b'\n', behind).unwrap_or(behind.len());
-    (
-        before.get(start..).unwrap_or(&[]),
-        behind.get(..len).unwrap_or(&[]),
-    )
+    let (front, end) = (before.get(start..), behind.get(..len));
+    (front.unwrap_or(&[]), end.unwrap_or(&[]))
 }
 
 /// Puts the line of an offset, and below it a mark under the characters up to another offset; nothing where the line is empty or
-/// isn't UTF-8.
-///
-/// # Errors
-/// Memory ran out.
+/// isn't UTF-8. Only memory can run out.
 pub fn put_excerpt(
     text: &mut String,
     source: &[u8],
@@ -34,32 +29,19 @@ pub fn put_excerpt(
 ) -> Result<(), AllocError> {
     let (before, behind) = sides(source, start);
     let marked = behind.get(..end.saturating_sub(start)).unwrap_or(behind);
-    let (Ok(before), Ok(behind), Ok(marked)) = (
-        str::from_utf8(before),
-        str::from_utf8(behind),
-        str::from_utf8(marked),
-    ) else {
+    let sides = (str::from_utf8(before), str::from_utf8(behind));
+    let ((Ok(before), Ok(behind)), Ok(marked)) = (sides, str::from_utf8(marked)) else {
         return Ok(());
     };
     if before.is_empty() && behind.is_empty() {
         return Ok(());
     }
-    put_marked(text, before, behind, marked.chars().count())
-}
-
-/// Puts a line by its two sides, and below it a mark under so many characters of the second one.
-fn put_marked(
-    text: &mut String,
-    before: &str,
-    behind: &str,
-    marked: usize,
-) -> Result<(), AllocError> {
     let left = before.chars().count().saturating_sub(MOST_BESIDE);
     put_side(text, before, left, false)?;
     put_side(text, behind, 0, false)?;
     text.push('\n')?;
     put_side(text, before, left, true)?;
-    for _ in 0..marked.min(MOST_BESIDE).max(1) {
+    for _ in 0..marked.chars().count().min(MOST_BESIDE).max(1) {
         text.push('^')?;
     }
     text.push('\n')

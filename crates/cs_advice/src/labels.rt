@@ -1,63 +1,62 @@
 // Labels, and the values under them.
-use cs_grammar::{Sort, Token};
-use cs_sources::{Near, Part, Separator, end_of, ends_value, follows_label, separates};
+use cs_grammar::Sort;
+use cs_sources::{Near, Separator, Source, end_of, ends_value, follows_label, separates};
 use std::alloc::{AllocError, Global};
+use std::str;
 
 /// How many bytes of a value are shown.
 const MOST_SHOWN: usize = 80;
 /// How many structs around a name are looked at for a field that it names.
 const MOST_AROUND: usize = 64;
 
-/// A field or a definition, and where its value is.
+/// The text of a source from one offset up to another.
+pub(crate) fn text_between<'a>(source: &Source<'a>, start: usize, end: usize) -> &'a str {
+    str::from_utf8(source.named.text.get(start..end).unwrap_or(&[])).unwrap_or("")
+}
+
+/// A field with a mark in its value.
 #[derive(Clone, Copy)]
-pub(crate) struct Labelled<'a> {
-    pub(crate) label: Token<'a>,
-    /// Whether a `!` is behind the label.
-    pub(crate) is_required: bool,
-    /// Where the value begins and ends.
-    start: usize,
-    end: usize,
+pub(crate) struct Marked<'a> {
+    pub(crate) label: &'a str,
+    /// What of the value is before the mark.
+    pub(crate) before: &'a str,
+    /// What of it is behind the mark; `..` for both where they are long or have several lines.
+    pub(crate) behind: &'a str,
 }
 
-/// The field or the definition that a token is in the value of.
-pub(crate) fn field_of<'a>(near: Near<'_, 'a>) -> Option<Labelled<'a>> {
-    let colon = near.colon()?;
-    let label = near.source.token(near.source.label_before(colon.place)?);
-    if !ends_value(label) || label.sort == Sort::Mark {
+/// The field that a mark is in the value of. None where no field can be left out there.
+pub(crate) fn field_without<'a>(mark: Near<'_, 'a>) -> Option<Marked<'a>> {
+    let (source, here, colon) = (mark.source, mark.here(), mark.colon()?);
+    let name = source.token(source.label_before(colon.place)?);
+    let is_field = ends_value(name) && !matches!(name.sort, Sort::Mark | Sort::Definition);
+    // Behind a `!` a default is never filled in: documents have to have the field.
+    if !is_field || colon.before(1).text == "!" {
         return None;
     }
-    Some(Labelled {
-        label,
-        is_required: colon.before(1).text == "!",
-        start: end_of(colon.here()),
-        end: near.part().end(),
-    })
-}
-
-/// What of a value is before a mark in it, and behind; none where that is long or has several lines.
-pub(crate) fn value_without<'a>(
-    mark: Near<'_, 'a>,
-    value: Labelled<'_>,
-) -> Option<(&'a [u8], &'a [u8])> {
-    let source = mark.source;
-    let text = source.named.text;
-    let before = text.get(value.start..mark.here().start)?;
-    let behind = text.get(end_of(mark.here())..value.end)?;
+    let label = name.text;
+    let before = text_between(source, end_of(colon.here()), here.start);
+    let behind = text_between(source, end_of(here), mark.part().end());
     let is_long = before.len().saturating_add(behind.len()) > MOST_SHOWN;
-    if is_long || before.contains(&b'\n') || behind.contains(&b'\n') {
-        return None;
+    if is_long || before.contains('\n') || behind.contains('\n') {
+        return Some(Marked {
+            label,
+            before: "",
+            behind: "..",
+        });
     }
-    Some((before, behind))
-}
-
-/// The label that a declaration begins with, if that is one token.
-fn label_of<'s, 'a>(declaration: Part<'s, 'a>) -> Option<Near<'s, 'a>> {
-    let first = declaration.first()?;
-    if follows_label(first.behind(1)) {
-        Some(first)
-    } else {
-        None
-    }
+    let trimmed = behind.trim_ascii_start();
+    Some(match before.trim_ascii_start() {
+        "" => Marked {
+            label,
+            before: "",
+            behind: trimmed,
+        },
+        before => Marked {
+            label,
+            before,
+            behind,
+        },
+    })
 }
 
 /// The labels of the struct that a bracket opens, in their order; one that it has twice is there twice.
@@ -73,8 +72,10 @@ pub(crate) fn labels_inside<'s, 'a>(
         let Some(declaration) = held.part(Separator::Comma, place) else {
             break;
         };
-        if let Some(label) = label_of(declaration) {
-            labels.push(label)?;
+        // A label is one token here.
+        match declaration.first() {
+            Some(label) if follows_label(label.behind(1)) => labels.push(label)?,
+            _ => {}
         }
     }
     Ok(labels)
@@ -92,21 +93,19 @@ pub(crate) fn labels_named<'s, 'a>(
 }
 
 /// The label of the same text as a name that it names, in a struct around it.
-pub(crate) fn field_named<'a>(
+pub(crate) fn field_named<'s, 'a>(
     alloc: Global,
-    near: Near<'_, 'a>,
-) -> Result<Option<Token<'a>>, AllocError> {
-    let mut inner = near;
+    near: Near<'s, 'a>,
+) -> Result<Option<Near<'s, 'a>>, AllocError> {
+    let mut around = near.bracket();
     for _ in 0..MOST_AROUND {
-        let Some(bracket) = inner.bracket() else {
-            break;
-        };
+        let Some(bracket) = around else { break };
         if bracket.here().text == "{" {
             if let [label, ..] = labels_named(alloc, bracket, near.here().text)?.as_slice() {
-                return Ok(Some(label.here()));
+                return Ok(Some(*label));
             }
         }
-        inner = bracket;
+        around = bracket.bracket();
     }
     Ok(None)
 }
@@ -118,10 +117,13 @@ pub(crate) fn field_with<'a>(
     definition: Near<'_, 'a>,
     reference: &str,
 ) -> Result<Option<&'a str>, AllocError> {
-    let Some(bracket) = literal_of(definition) else {
+    let Some((opening, closing)) = literal_of(definition) else {
         return Ok(None);
     };
-    for label in labels_inside(alloc, bracket)? {
+    if !separates(closing.behind(1)) {
+        return Ok(None);
+    }
+    for label in labels_inside(alloc, opening)? {
         if label.behind(2).text == reference && is_whole_value(label) {
             return Ok(Some(label.here().text));
         }
@@ -129,12 +131,12 @@ pub(crate) fn field_with<'a>(
     Ok(None)
 }
 
-/// The bracket that opens the struct literal that a definition is.
-fn literal_of<'s, 'a>(definition: Near<'s, 'a>) -> Option<Near<'s, 'a>> {
-    let bracket = definition.moved(2)?;
-    let behind = bracket.closing()?.behind(1);
-    if bracket.here().text == "{" && separates(behind) {
-        Some(bracket)
+/// The brackets that open and close the struct literal at the front of a definition.
+pub(crate) fn literal_of<'s, 'a>(definition: Near<'s, 'a>) -> Option<(Near<'s, 'a>, Near<'s, 'a>)> {
+    let opening = definition.moved(2)?;
+    let closing = opening.closing()?;
+    if opening.here().text == "{" {
+        Some((opening, closing))
     } else {
         None
     }

@@ -1,29 +1,25 @@
 // How deep brackets nest, how high expressions are, and how many nodes they have.
 use cs_grammar::Sort;
-use cs_sources::{Bracket, Inside, Near, Part, Separator, Source, follows_label};
+use cs_sources::{Bracket, Inside, Near, Part, Separator, Source, ends_value, follows_label};
 use std::alloc::{AllocError, Global};
 
 /// How deep brackets may nest, and how high an expression may be.
 const MOST_LEVELS: usize = 28;
 
 /// The first bracket that is nested too deep.
-pub(crate) fn first_too_deep<'s, 'a>(
-    alloc: Global,
-    source: &'s Source<'a>,
-) -> Result<Option<Near<'s, 'a>>, AllocError> {
-    let mut depths: Vec<usize> = Vec::new(alloc);
-    for bracket in source.brackets() {
-        // The file comes first and has no depth.
-        let depth = match depths.get(bracket.around) {
-            Some(outer) => outer.saturating_add(1),
-            None => 0,
-        };
-        if depth > MOST_LEVELS {
-            return Ok(opening_of(source, bracket));
-        }
-        depths.push(depth)?;
+pub(crate) fn first_too_deep<'s, 'a>(source: &'s Source<'a>) -> Option<Near<'s, 'a>> {
+    let mut brackets = source.brackets().iter();
+    let bracket = brackets.find(|bracket| is_too_deep(source, *bracket))?;
+    opening_of(source, bracket)
+}
+
+/// Whether so many brackets are around a bracket.
+fn is_too_deep(source: &Source<'_>, bracket: &Bracket) -> bool {
+    let mut around = bracket.around;
+    for _ in 1..MOST_LEVELS {
+        around = source.bracket(around).around;
     }
-    Ok(None)
+    around != 0
 }
 
 /// The token that opens a bracket.
@@ -43,14 +39,13 @@ pub(crate) fn first_too_high<'s, 'a>(
     let mut first = usize::MAX;
     let mut found = None;
     for (number, bracket) in source.brackets().iter().enumerate() {
+        let around = heights.get(bracket.around).copied().unwrap_or(0);
         let opening = opening_of(source, bracket);
-        let outer = match opening {
-            Some(near) => {
-                let outer = heights.get(bracket.around).copied().unwrap_or(0);
-                outer.saturating_add(own_height(near.part(), near.inside()))
-            }
+        let own = match opening {
+            Some(near) => own_height(near.part(), near.inside()),
             None => 0,
         };
+        let outer = around.saturating_add(own);
         heights.push(outer)?;
         match too_high_in(source.held(number), bracket.inside, outer) {
             Some(part) if part.from < first => {
@@ -67,7 +62,7 @@ pub(crate) fn first_too_high<'s, 'a>(
 fn too_high_in<'s, 'a>(held: Part<'s, 'a>, inside: Inside, outer: usize) -> Option<Part<'s, 'a>> {
     for place in 0..held.source.tokens.len() {
         let part = held.part(Separator::Comma, place)?;
-        let leaf = usize::from(leaves_in(part, inside) > 0);
+        let leaf = leaves_in(part, inside).min(1);
         let height = own_height(part, inside).saturating_add(leaf);
         if outer.saturating_add(height) > MOST_LEVELS {
             return Some(part);
@@ -109,37 +104,18 @@ fn leaves_in(part: Part<'_, '_>, inside: Inside) -> usize {
 
 /// Whether a token is an expression without parts, or the literal of a limit.
 fn is_leaf(near: Near<'_, '_>) -> bool {
-    let is_label = follows_label(near.behind(1));
-    match near.here().sort {
-        Sort::Name
-        | Sort::Definition
-        | Sort::Hidden
-        | Sort::Top
-        | Sort::Bottom
-        | Sort::Integer
-        | Sort::Text => !is_label,
-        Sort::Mark | Sort::LeftOut | Sort::Inserted | Sort::End => false,
-    }
-}
-
-/// How many nodes the expressions of sources have.
-pub(crate) fn nodes_of(sources: &[Source<'_>]) -> usize {
-    let mut nodes = 0usize;
-    for source in sources {
-        nodes = nodes.saturating_add(nodes_in(source));
-    }
-    nodes
+    let token = near.here();
+    token.sort != Sort::Mark && ends_value(token) && !follows_label(near.behind(1))
 }
 
 /// How many nodes the expressions of a source have.
-fn nodes_in(source: &Source<'_>) -> usize {
+pub(crate) fn nodes_of(source: &Source<'_>) -> usize {
     let mut nodes = 0usize;
     for (number, bracket) in source.brackets().iter().enumerate() {
         let is_node = matches!(bracket.inside, Inside::Struct | Inside::List);
-        let inside = nodes_inside(source.held(number), bracket.inside);
         nodes = nodes
             .saturating_add(usize::from(is_node))
-            .saturating_add(inside);
+            .saturating_add(nodes_inside(source.held(number), bracket.inside));
     }
     nodes
 }
@@ -162,11 +138,8 @@ fn nodes_inside(held: Part<'_, '_>, inside: Inside) -> usize {
 
 /// How many alternatives of a part are conjunctions.
 fn conjunctions_in(part: Part<'_, '_>) -> usize {
-    let mut count = 0usize;
-    for place in 0..part.count(Separator::Bar).saturating_add(1) {
-        if let Some(alternative) = part.part(Separator::Bar, place) {
-            count = count.saturating_add(alternative.count(Separator::Amp).min(1));
-        }
-    }
-    count
+    (0..part.count(Separator::Bar).saturating_add(1))
+        .filter_map(|place| part.part(Separator::Bar, place))
+        .filter(|alternative| alternative.count(Separator::Amp) > 0)
+        .count()
 }

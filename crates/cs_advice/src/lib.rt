@@ -3,27 +3,19 @@
 
 mod advice;
 mod bases;
-mod chains;
 mod cycles;
 mod excerpt;
-mod fields;
-mod form_words;
 mod labels;
 mod levels;
-mod nearest;
+mod names;
 mod packages;
-mod sentences;
-mod spot;
 mod text;
-mod unknown;
+mod told;
 
 pub use advice::put_advice;
-pub use chains::put_chain;
-pub use cycles::{put_cycle, put_names_of_loop};
+pub use cs_text::{put_all, put_count, put_grouped, put_string};
+pub use cycles::{put_loop, tell_chain, tell_cycle};
 pub use excerpt::put_excerpt;
-pub use form_words::form_name;
-pub use packages::{put_no_root, put_package_name, put_too_high, put_too_large};
-pub use spot::{Span, Spot};
-pub use text::{
-    line_and_column, put_all, put_count, put_grouped, put_line, put_offset, put_quoted, put_string,
-};
+pub use packages::{put_no_root, put_too_large, tell_package_name, tell_too_high};
+pub use text::{line_and_column, put_filled, put_offset, put_quoted};
+pub use told::Told;

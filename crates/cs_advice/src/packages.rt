@@ -1,151 +1,118 @@
 // What is told of faults of whole files and packages.
 use crate::levels::{first_too_deep, first_too_high, nodes_of};
-use crate::nearest::{nearest, put_names};
-use crate::spot::Spot;
-use crate::text::{put_grouped, put_line, put_offset};
-use cs_grammar::Token;
+use crate::names::nearest;
+use crate::text::{put_filled, put_left, put_offset, put_tokens};
+use crate::told::Told;
 use cs_sources::{Near, Source, declared_in};
-use std::alloc::{AllocError, Global};
+use cs_text::put_grouped;
+use std::alloc::AllocError;
 
-/// What makes levels, and what to do where there are too many.
-const LEVELS: &str =
-    ": brackets, short fields, `&`, `|` and the value inside make 28 at most; give an inner part a definition";
 /// How many definitions a package may have.
 const MOST_DEFINITIONS: usize = 1_000;
+/// How many of them are listed.
+const MOST_LISTED: usize = 8;
 
-/// Puts where a source nests too deep (7), and gives the place of the bracket or the definition with the first level that is too
-/// deep; nothing and the file where its tokens show none, and no place without a source.
-///
-/// # Errors
-/// Memory ran out.
-pub fn put_too_high<'a>(
-    alloc: Global,
-    text: &mut String,
+/// Tells where a source nests too deep (7), at the bracket or the definition with the first level that is too deep; the file alone
+/// where its tokens show none, and nothing without a source. Only memory can run out.
+pub fn tell_too_high<'a>(
+    told: &mut Told<'a>,
     source: Option<&Source<'a>>,
-) -> Result<Spot<'a>, AllocError> {
-    let Some(source) = source else {
-        return Ok(Spot::nowhere());
+) -> Result<(), AllocError> {
+    let Some(source) = source else { return Ok(()) };
+    told.named = Some(source.named);
+    if let Some(bracket) = first_too_deep(source) {
+        told.place_at(bracket);
+        let said =
+            "this is the 29th bracket that is open; 28 may be: give an inner part a definition";
+        return told.hint.push_str(said);
+    }
+    let Some(near) = first_too_high(told.alloc(), source)? else {
+        return Ok(());
     };
-    match level_too_deep(alloc, source)? {
-        Some((near, level, remedy)) => {
-            put_line(text, &[level, remedy])?;
-            Ok(Spot::near(near))
-        }
-        None => Ok(Spot::in_file(source.named)),
-    }
-}
-
-/// The bracket or the definition with the first level that is too deep, which level that is, and what to do.
-fn level_too_deep<'s, 'a>(
-    alloc: Global,
-    source: &'s Source<'a>,
-) -> Result<Option<(Near<'s, 'a>, &'static str, &'static str)>, AllocError> {
-    if let Some(bracket) = first_too_deep(alloc, source)? {
-        let level = "this is the 29th bracket that is open; 28 may be";
-        return Ok(Some((bracket, level, ": give an inner part a definition")));
-    }
-    Ok(match first_too_high(alloc, source)? {
-        Some(opening) if opening.held().is_some() => {
-            Some((opening, "level 29 is in this bracket", LEVELS))
-        }
-        Some(definition) => Some((definition, "level 29 is in this definition", LEVELS)),
-        None => None,
-    })
+    told.place_at(near);
+    let part = match near.held() {
+        Some(_) => "bracket",
+        None => "definition",
+    };
+    let said =
+        "level 29 is in this {}: brackets, short fields, `&`, `|` and the value inside make 28 at most; give an inner part a definition";
+    put_filled(&mut told.hint, said, &[part])
 }
 
 /// The name in the package clause of a source.
-fn clause_of<'a>(source: &Source<'a>) -> Option<Token<'a>> {
-    match source.tokens.as_slice() {
-        [word, name, ..] if word.text == "package" => Some(*name),
+fn clause_of<'s, 'a>(source: &'s Source<'a>) -> Option<Near<'s, 'a>> {
+    let first = Near::at(source, 0)?;
+    match first.here().text {
+        "package" => first.moved(1),
         _ => None,
     }
 }
 
-/// Puts the package clause of a file and the first one of the sources, where they name different packages (8), and gives the place of
-/// the name in this file; nothing and the file where it has no clause, and no place without a source.
-///
-/// # Errors
-/// Memory ran out.
-pub fn put_package_name<'a>(
-    text: &mut String,
+/// Tells the package clause of a source and the first one of all sources, where they name different packages (8), at the name in this
+/// source; the file alone where it has no clause, and nothing without a source. Only memory can run out.
+pub fn tell_package_name<'a>(
+    told: &mut Told<'a>,
+    source: Option<&Source<'a>>,
     sources: &[Source<'a>],
-    file: usize,
-) -> Result<Spot<'a>, AllocError> {
-    let Some(source) = sources.get(file) else {
-        return Ok(Spot::nowhere());
-    };
-    let Some(name) = clause_of(source) else {
-        return Ok(Spot::in_file(source.named));
-    };
-    put_line(text, &["this file is of the package `", name.text, "`"])?;
-    put_first_clause(text, sources)?;
-    text.push_str("; give the files of one package, or correct the clause")?;
-    Ok(Spot::at_token(source.named, name))
-}
-
-/// Puts the first package clause of the sources, with its place.
-fn put_first_clause(text: &mut String, sources: &[Source<'_>]) -> Result<(), AllocError> {
-    for source in sources {
-        if let Some(name) = clause_of(source) {
-            text.push_str(", and ")?;
-            put_offset(text, source.named, name.start)?;
-            return put_line(text, &["`", name.text, "`"]);
-        }
-    }
-    Ok(())
-}
-
-/// Puts the names that the sources declare, where the root is none of them (13), and the one that may have been meant. It has no
-/// place.
-///
-/// # Errors
-/// Memory ran out.
-pub fn put_no_root<'a>(
-    alloc: Global,
-    text: &mut String,
-    sources: &[Source<'a>],
-    root: &str,
-) -> Result<Spot<'a>, AllocError> {
-    let declared = declared_in(alloc, sources)?;
-    let meant = nearest(alloc, root, &declared.firsts)?;
-    put_undeclared(text, root, meant, &declared.firsts)?;
-    Ok(Spot::nowhere())
-}
-
-/// Puts that a root isn't declared, what may have been meant by it, and what is declared.
-fn put_undeclared<'a>(
-    text: &mut String,
-    root: &'a str,
-    meant: Option<&'a str>,
-    declared: &[Near<'_, '_>],
 ) -> Result<(), AllocError> {
-    if declared.is_empty() {
-        return put_line(text, &["no `", root, "`; no definition is declared"]);
-    }
-    let (front, meant, end) = match meant {
-        Some(meant) => ("`; did you mean `", meant, "`?"),
-        None => ("`;", "", ""),
+    let Some(source) = source else { return Ok(()) };
+    told.named = Some(source.named);
+    let Some(name) = clause_of(source) else {
+        return Ok(());
     };
-    put_line(text, &["no `", root, front, meant, end, " declared: "])?;
-    put_names(text, declared)
+    told.place_at(name);
+    let text = &mut told.hint;
+    let said = "this file is of the package `{}`";
+    put_filled(text, said, &[name.here().text])?;
+    if let Some(first) = sources.iter().find_map(|other| clause_of(other)) {
+        text.push_str(", and ")?;
+        put_offset(text, first.source.named, first.here().start)?;
+        put_filled(text, "`{}`", &[first.here().text])?;
+    }
+    text.push_str("; give the files of one package, or correct the clause")
+}
+
+/// Puts the names that the sources declare, where the root is none of them (13), and the one that may have been meant. Only memory can run
+/// out.
+pub fn put_no_root(
+    text: &mut String,
+    sources: &[Source<'_>],
+    root: &str,
+) -> Result<(), AllocError> {
+    let alloc = *text.allocator();
+    let declared = declared_in(alloc, sources)?;
+    put_filled(text, "no `{}`;", &[root])?;
+    if declared.firsts.is_empty() {
+        return text.push_str(" no definition is declared");
+    }
+    if let Some(meant) = nearest(alloc, root, &declared)? {
+        put_filled(text, " did you mean `{}`?", &[meant])?;
+    }
+    text.push_str(" declared: ")?;
+    let names = declared.firsts.as_slice();
+    let listed = names.get(..MOST_LISTED).unwrap_or(names);
+    put_tokens(text, "", listed, ", ")?;
+    put_left(
+        text,
+        " and {} more",
+        names.len().saturating_sub(listed.len()),
+    )
 }
 
 /// Puts how many definitions or nodes the sources have, where these are too many (14): so many definitions there are, and the nodes
-/// are counted where these are few enough. It has no place.
-///
-/// # Errors
-/// Memory ran out.
-pub fn put_too_large<'a>(
+/// are counted where these are few enough. Only memory can run out.
+pub fn put_too_large(
     text: &mut String,
     definitions: usize,
-    sources: &[Source<'a>],
-) -> Result<Spot<'a>, AllocError> {
-    let (count, noun) = if definitions > MOST_DEFINITIONS {
-        (definitions, " definitions, and 1,000")
-    } else {
-        (nodes_of(sources), " nodes of expressions, and 50,000")
-    };
+    sources: &[Source<'_>],
+) -> Result<(), AllocError> {
     let remedy = " may be: split the package by roots";
-    put_grouped(text, count, &[noun, remedy])?;
-    Ok(Spot::nowhere())
+    if definitions > MOST_DEFINITIONS {
+        return put_grouped(text, definitions, &[" definitions, and 1,000", remedy]);
+    }
+    let nodes = sources.iter().fold(
+        0usize,
+        |nodes, source| nodes.saturating_add(nodes_of(source)),
+    );
+    put_grouped(text, nodes, &[" nodes of expressions, and 50,000", remedy])
 }

@@ -1,16 +1,60 @@
 // Writing into texts.
 use cs_place::{Named, position_of, put_place};
-pub use cs_text::{put_all, put_count, put_grouped, put_line, put_string};
+use cs_sources::Near;
+use cs_text::put_line;
+use itoa::Buffer;
 use std::alloc::AllocError;
 
-/// Puts how something is spelled, and what is said of it.
-pub(crate) fn put_spelled(
+/// Puts words as they are shown, with these parts in place of each `{}` in them, in their order. Only memory can run out.
+pub fn put_filled(text: &mut String, words: &str, parts: &[&str]) -> Result<(), AllocError> {
+    for (at, piece) in words.split("{}").enumerate() {
+        if at > 0
+            && let Some(part) = parts.get(at - 1)
+        {
+            put_line(text, &[*part])?;
+        }
+        put_line(text, &[piece])?;
+    }
+    Ok(())
+}
+
+/// Puts words with these two parts and the first one again in place of the `{}`, of which there are three at most. Only memory can run out.
+pub(crate) fn put_around<'x>(
     text: &mut String,
-    spelled: &str,
-    said: &str,
-    more: &str,
+    words: &str,
+    part: &'x str,
+    other: &'x str,
 ) -> Result<(), AllocError> {
-    put_line(text, &["`", spelled, "`: ", said, more])
+    put_filled(text, words, &[part, other, part])
+}
+
+/// Puts tokens in backquotes: before the first one these words, before the last one of several others, and before the rest a comma.
+pub(crate) fn put_tokens<'x>(
+    text: &mut String,
+    first: &'x str,
+    tokens: &[Near<'_, '_>],
+    last: &'x str,
+) -> Result<(), AllocError> {
+    for (at, token) in tokens.iter().enumerate() {
+        let front = if at == 0 {
+            first
+        } else if at.saturating_add(1) == tokens.len() {
+            last
+        } else {
+            ", "
+        };
+        put_line(text, &[front])?;
+        put_filled(text, "`{}`", &[token.here().text])?;
+    }
+    Ok(())
+}
+
+/// Puts how many are left in place of the `{}` in words, if there are any.
+pub(crate) fn put_left(text: &mut String, words: &str, left: usize) -> Result<(), AllocError> {
+    match left {
+        0 => Ok(()),
+        _ => put_filled(text, words, &[Buffer::new().format(left)]),
+    }
 }
 
 /// The line and the column of an offset of a text, in what the text was taken from.
@@ -22,20 +66,14 @@ pub fn line_and_column(named: Named<'_>, offset: usize) -> (usize, usize) {
     (line, place.column)
 }
 
-/// Puts the place of an offset of a text, and words behind it: `NAME:LINE:COLUMN: `.
-///
-/// # Errors
-/// Memory ran out.
+/// Puts the place of an offset of a text, and words behind it: `NAME:LINE:COLUMN: `. Only memory can run out.
 pub fn put_offset(text: &mut String, named: Named<'_>, offset: usize) -> Result<(), AllocError> {
     let (line, column) = line_and_column(named, offset);
     put_place(text, named.name, line, column)?;
     text.push_str(": ")
 }
 
-/// Puts words, and behind them a text as a string of JSON (RFC 8259, section 7).
-///
-/// # Errors
-/// Memory ran out.
+/// Puts words, and behind them a text as a string of JSON (RFC 8259, section 7). Only memory can run out.
 pub fn put_quoted(text: &mut String, words: &str, inside: &str) -> Result<(), AllocError> {
     text.push_str(words)?;
     cs_place::put_quoted(text, inside)

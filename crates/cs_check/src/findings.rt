@@ -1,5 +1,5 @@
 // What a check of sources or of a schema finds, in lines.
-ghost use Rattle.std.specs.Prelude.{◌≡◌, IfOk, None, false};
+ghost use Rattle.std.specs.Prelude.{◌≡◌, IfOk, None};
 ghost use Rattle.cs_check.specs.Told.{AreAccepted};
 ghost use Rattle.cs_tool.specs.CallRefusals.{IsSchemaText};
 ghost use Rattle.cs_tool.specs.Given.{bytes_in};
@@ -7,12 +7,12 @@ ghost use Rattle.cs_tool.specs.Given.{bytes_in};
 use crate::schema::check_schema;
 use crate::sources::check;
 use crate::warnings::{put_warning, warned};
+use cs_fault_words::put_finding;
 use cs_guard::Guarded;
 use cs_place::Named;
-use cs_refusals::put_finding;
 use cs_sources::{declared_in, sources_of};
 use cs_tool::{Fault, accepted_package};
-use std::alloc::{AllocError, Global};
+use std::alloc::Global;
 
 /// What came of a check.
 #[derive(Clone, Copy)]
@@ -52,13 +52,15 @@ pub fn source_findings(
 {
     let faults = check(alloc, sources)?;
     if !faults.is_empty() {
-        return faulty(alloc, &faults, named, root);
+        return faulty(alloc, &faults, root.unwrap_or(""), None, named);
     }
     let package = accepted_package(alloc, sources)?;
-    if is_undeclared(&package, root) {
-        return faulty(alloc, &[Fault::UnknownRoot], named, root);
+    match root {
+        Some(root) if package.package().find(root).is_none() => {
+            faulty(alloc, &[Fault::UnknownRoot], root, None, named)
+        }
+        Some(_) | None => unfaulty(alloc, &package, named),
     }
-    unfaulty(alloc, &package, named)
 }
 
 /// What is found in a schema: a line for each fault, 50 at most.
@@ -74,100 +76,47 @@ pub fn schema_findings(alloc: Global, schema: Named<'_>) -> Result<Findings, Fau
         (λ f. f.checked ≡ Checked.Faulty → ¬ (IsSchemaText schema.entry.text.now)) }
 {
     let faults = check_schema(alloc, schema.text)?;
-    let lines = schema_lines(alloc, &faults, schema)?;
     if faults.is_empty() {
-        return Ok(Findings {
-            checked: Checked::Well,
-            lines,
-        });
+        let (checked, lines) = (Checked::Well, String::new(alloc));
+        return Ok(Findings { checked, lines });
     }
-    Ok(Findings {
-        checked: Checked::Faulty,
-        lines,
-    })
+    faulty(alloc, &faults, "", Some(schema), &[])
 }
 
-/// Whether a root is asked for that the package doesn't declare.
-fn is_undeclared(package: &Guarded, root: Option<&str>) -> bool
-    ensures { root.entry ≡ None → result ≡ false }
-{
-    match root {
-        Some(root) => package.package().find(root).is_none(),
-        None => false,
-    }
-}
-
-/// Faults, with a line for each.
-fn faulty(
+/// Faults of a schema, or of sources and the root that was asked for, with a line for each.
+fn faulty<'a>(
     alloc: Global,
     faults: &[Fault],
-    named: &[Named<'_>],
-    root: Option<&str>,
+    root: &str,
+    schema: Option<Named<'a>>,
+    named: &[Named<'a>],
 ) -> Result<Findings, Fault>
     ensures { IfOk result (λ f. f.checked ≡ Checked.Faulty) }
 {
-    Ok(Findings {
-        checked: Checked::Faulty,
-        lines: fault_lines(alloc, faults, named, root.unwrap_or(""))?,
-    })
-}
-
-/// A line for each fault of these sources, and of the root that was asked for.
-fn fault_lines(
-    alloc: Global,
-    faults: &[Fault],
-    named: &[Named<'_>],
-    root: &str,
-) -> Result<String, AllocError> {
-    let mut text = String::new(alloc);
+    let mut lines = String::new(alloc);
     let sources = sources_of(alloc, named)?;
     for fault in faults {
-        put_finding(alloc, &mut text, fault, root, None, &sources)?;
+        put_finding(alloc, &mut lines, fault, root, schema, &sources)?;
     }
-    Ok(text)
-}
-
-/// A line for each fault of a schema.
-fn schema_lines(alloc: Global, faults: &[Fault], schema: Named<'_>) -> Result<String, AllocError> {
-    let mut text = String::new(alloc);
-    for fault in faults {
-        put_finding(alloc, &mut text, fault, "", Some(schema), &[])?;
-    }
-    Ok(text)
-}
-
-/// The lines of warnings; empty where there is none.
-fn warning_lines(
-    alloc: Global,
-    package: &Guarded,
-    named: &[Named<'_>],
-) -> Result<String, AllocError> {
-    let mut text = String::new(alloc);
-    let found = warned(alloc, package)?;
-    if found.is_empty() {
-        return Ok(text);
-    }
-    let sources = sources_of(alloc, named)?;
-    let declared = declared_in(alloc, &sources)?;
-    for warning in &found {
-        put_warning(package, warning, &declared, &mut text)?;
-    }
-    Ok(text)
+    let checked = Checked::Faulty;
+    Ok(Findings { checked, lines })
 }
 
 /// What is found where there are no faults.
 fn unfaulty(alloc: Global, package: &Guarded, named: &[Named<'_>]) -> Result<Findings, Fault>
     ensures { IfOk result (λ f. ¬ (f.checked ≡ Checked.Faulty)) }
 {
-    let lines = warning_lines(alloc, package, named)?;
-    if lines.is_empty() {
-        return Ok(Findings {
-            checked: Checked::Well,
-            lines,
-        });
+    let warnings = warned(alloc, package)?;
+    let mut lines = String::new(alloc);
+    if warnings.is_empty() {
+        let checked = Checked::Well;
+        return Ok(Findings { checked, lines });
     }
-    Ok(Findings {
-        checked: Checked::Warned,
-        lines,
-    })
+    let sources = sources_of(alloc, named)?;
+    let declared = declared_in(alloc, &sources)?;
+    for warning in &warnings {
+        put_warning(package, warning, &declared, &mut lines)?;
+    }
+    let checked = Checked::Warned;
+    Ok(Findings { checked, lines })
 }

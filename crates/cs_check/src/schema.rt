@@ -3,13 +3,9 @@ ghost use Rattle.std.specs.Prelude.{◌≡◌, ◌≤◌, ◌↔◌, [], length,
 ghost use Rattle.cs_tool.specs.CallRefusals.{IsSchemaText};
 ghost use Rattle.cs_check.specs.SchemaFaults.{of_flaw, BeginsWithSchemaFault, AreDistinctFaults};
 
-mod cutting;
 mod flaw;
 mod flaws;
 mod mending;
-mod places;
-mod reading;
-mod told;
 
 use crate::schema::flaw::Flaw;
 use crate::schema::flaws::flaws_in;

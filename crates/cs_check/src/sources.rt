@@ -3,18 +3,13 @@ ghost use Rattle.std.specs.Prelude.{◌≡◌, ◌≤◌, ◌↔◌, [], length,
 ghost use Rattle.cs_tool.specs.Given.{bytes_in};
 ghost use Rattle.cs_check.specs.Told.{AreAccepted, BeginsWithFirst, BeginsWith};
 
-mod cycles;
 mod draft;
 mod mends;
-mod names;
-mod texts;
-mod told;
+mod reading;
 
 use crate::MOST_FAULTS;
-use crate::sources::draft::drafts_of;
-use crate::sources::names::{mend_fault, taken_words, tell_package};
-use crate::sources::texts::tell_texts;
-use crate::sources::told::Told;
+use crate::sources::draft::{drafts_of, mend_fault};
+use crate::sources::reading::{Told, is_of_text};
 use cs_tool::{Fault, accepted_package};
 use std::alloc::{AllocError, Global};
 
@@ -61,24 +56,15 @@ fn further_faults(
     first: &Fault,
 ) -> Result<Vec<Fault>, AllocError> {
     let mut told = Told::new(alloc, first);
-    let mut drafts = drafts_of(alloc, sources)?;
     match first {
-        Fault::NoToken { .. }
-        | Fault::Syntax { .. }
-        | Fault::LeftOut { .. }
-        | Fault::IntegerRange { .. }
-        | Fault::TooHigh { .. } => {
-            if tell_texts(alloc, &mut told, &mut drafts)? {
-                let taken = taken_words(alloc, &drafts)?;
-                tell_package(alloc, &mut told, &mut drafts, Some(&taken))?;
-            }
-        }
+        fault if is_of_text(fault) => told.tell_texts(&mut drafts_of(alloc, sources)?)?,
         Fault::UnknownName { .. }
         | Fault::FieldReference { .. }
         | Fault::NotOpened { .. }
         | Fault::Cycle { .. } => {
-            if mend_fault(alloc, &mut drafts, first)? {
-                tell_package(alloc, &mut told, &mut drafts, None)?;
+            let mut drafts = drafts_of(alloc, sources)?;
+            if mend_fault(&mut drafts, first)? {
+                told.tell_package(&mut drafts, None)?;
             }
         }
         // What these are about isn't a place that can be mended.

@@ -4,8 +4,6 @@ ghost use Rattle.std.specs.List.{AllByRecursion};
 ghost use Rattle.cs_question.specs.NoInstance.{HasNoDocument};
 
 mod clashes;
-mod keys;
-mod lines;
 mod operands;
 mod reason;
 mod why_empty;
@@ -15,7 +13,7 @@ use crate::warnings::why_empty::Search;
 use cs_guard::Guarded;
 use cs_package::Package;
 use cs_question::{QuestionFault, without_instance};
-pub(crate) use lines::put_warning;
+pub(crate) use reason::put_warning;
 use std::alloc::{AllocError, Global};
 
 /// A definition that no document is an instance of, by its number, and why, where a reason was found.

@@ -1,12 +1,10 @@
-// The command line: the program, above the tables of its commands and of their words.
+// The command line: the program, above the table of its commands and their words.
 #![tactic(auto)]
 
-mod commands;
-mod subcommand;
-mod word;
+mod row;
 mod words;
 
-use crate::commands::COMMANDS;
+use crate::words::COMMANDS;
 use clap::Command;
 use std::alloc::{AllocError, Global};
 

@@ -1,5 +1,5 @@
-// The words of the commands. One that differs little from a word of another command is made of it.
-use crate::word::{Group, Word};
+// The commands of the program and their words. A word that differs little from one of another command is made of it.
+use crate::row::{Group, Subcommand, Word};
 use clap::ArgAction;
 use clap::builder::ValueParser;
 
@@ -20,6 +20,7 @@ const GREATEST_NUMBER: u64 = 4_294_967_295;
 const FLAG: Word = Word {
     id: "",
     long: None,
+    is_positional: false,
     short: None,
     help: "",
     value_names: &[],
@@ -52,9 +53,8 @@ const VALUES: Word = Word {
     ..VALUE
 };
 
-pub(crate) const ROOT: Word = Word {
+const ROOT: Word = Word {
     id: "root",
-    long: Some("root"),
     help: "The root definition with its #, quoted for the shell",
     value_names: &["'#NAME'"],
     takes_hyphens: true,
@@ -63,57 +63,51 @@ pub(crate) const ROOT: Word = Word {
 };
 
 /// The same word for a command that can do without it.
-pub(crate) const OPTIONAL_ROOT: Word = Word {
+const OPTIONAL_ROOT: Word = Word {
     is_required: false,
     ..ROOT
 };
 
 /// The root of a schema; the words for every definition can take its place.
-pub(crate) const ROOT_OF_EXPORT: Word = Word {
+const ROOT_OF_EXPORT: Word = Word {
     required_unless: &["all", "openapi"],
     ..OPTIONAL_ROOT
 };
 
-pub(crate) const NEW_ROOT: Word = Word {
-    id: "new_root",
-    long: Some("new-root"),
+const NEW_ROOT: Word = Word {
+    id: "new-root",
     help: "The root definition of the new files, where it has another name there",
     ..OPTIONAL_ROOT
 };
 
-pub(crate) const ALL: Word = Word {
+const ALL: Word = Word {
     id: "all",
-    long: Some("all"),
     help: "Writes every definition, and none as the root",
     conflicts_with: &["root"],
     ..FLAG
 };
 
-pub(crate) const OPENAPI: Word = Word {
+const OPENAPI: Word = Word {
     id: "openapi",
-    long: Some("openapi"),
     help: "Writes the schemas as components of OpenAPI: every definition, or with a root those that it needs",
     ..FLAG
 };
 
-pub(crate) const DESCRIBE: Word = Word {
+const DESCRIBE: Word = Word {
     id: "describe",
-    long: Some("describe"),
     help: "Writes the comments of definitions and fields as their descriptions",
     ..FLAG
 };
 
-pub(crate) const PRETTY: Word = Word {
+const PRETTY: Word = Word {
     id: "pretty",
-    long: Some("pretty"),
     help: "Writes a line for each member and element, indented by two blanks",
     ..FLAG
 };
 
 /// A run that is refused leaves the file as it was.
-pub(crate) const OUTPUT: Word = Word {
+const OUTPUT: Word = Word {
     id: "output",
-    long: Some("output"),
     short: Some('o'),
     help: "The file that the schema is written to; standard output where it isn't given",
     value_names: &["FILE"],
@@ -121,9 +115,8 @@ pub(crate) const OUTPUT: Word = Word {
 };
 
 /// The files of one side of a comparison: the words after it, up to the next word of the command.
-pub(crate) const OLD: Word = Word {
+const OLD: Word = Word {
     id: "old",
-    long: Some("old"),
     help: "The files of CUE before the change",
     value_names: &["FILE"],
     is_required: true,
@@ -131,73 +124,68 @@ pub(crate) const OLD: Word = Word {
 };
 
 /// Those of the other side.
-pub(crate) const NEW: Word = Word {
+const NEW: Word = Word {
     id: "new",
-    long: Some("new"),
     help: "The files of CUE after the change",
     ..OLD
 };
 
-pub(crate) const BOTH: Word = Word {
+const BOTH: Word = Word {
     id: "both",
-    long: Some("both"),
     help: "Says too whether each document of the new definition is one of the old definition",
     ..FLAG
 };
 
-pub(crate) const INVALID: Word = Word {
+const INVALID: Word = Word {
     id: "invalid",
-    long: Some("invalid"),
     help: "Writes documents that aren't instances of the definition, each for one rule that it breaks",
     ..FLAG
 };
 
 /// Warnings change the status.
-pub(crate) const STRICT: Word = Word {
+const STRICT: Word = Word {
     id: "strict",
-    long: Some("strict"),
     help: "Ends with status 1 where there are warnings alone",
     ..FLAG
 };
 
 /// What is left changes the status.
-pub(crate) const STRICT_SAMPLES: Word = Word {
+const STRICT_SAMPLES: Word = Word {
     help: "Ends with status 1 where there are more documents, or rules without one",
     ..STRICT
 };
 
-pub(crate) const NUMBER: Word = Word {
+const NUMBER: Word = Word {
     id: "NUMBER",
+    is_positional: true,
     help: "The number of a refusal, as `error 11` says it",
     value_parser: ValueParser::Unsigned(0, GREATEST_NUMBER),
     is_required: true,
     ..VALUE
 };
 
-pub(crate) const DOCUMENT: Word = Word {
+const DOCUMENT: Word = Word {
     id: "doc",
-    long: Some("doc"),
     help: "The file of the JSON document",
     value_names: &["DOCUMENT"],
     ..VALUE
 };
 
 /// The document of a command with sources. Documents come by one of three words.
-pub(crate) const DOCUMENT_OF_SOURCES: Word = Word {
+const DOCUMENT_OF_SOURCES: Word = Word {
     required_unless: &["docs", "lines"],
     ..DOCUMENT
 };
 
 /// The document of a command without sources.
-pub(crate) const DOCUMENT_OF_SCHEMA: Word = Word {
+const DOCUMENT_OF_SCHEMA: Word = Word {
     help: "The file of the JSON document; standard input where there is none",
     ..DOCUMENT
 };
 
 /// The words after it are files, whatever they look like, so that another program can append them.
-pub(crate) const DOCUMENTS: Word = Word {
+const DOCUMENTS: Word = Word {
     id: "docs",
-    long: Some("docs"),
     help: "The files of JSON documents, all words after it: a line for each",
     value_names: &["DOCUMENT"],
     takes_hyphens: true,
@@ -205,30 +193,28 @@ pub(crate) const DOCUMENTS: Word = Word {
     ..VALUES
 };
 
-pub(crate) const LINES: Word = Word {
+const LINES: Word = Word {
     id: "lines",
-    long: Some("lines"),
     help: "Judges a document a line, and prints a line for each",
     ..FLAG
 };
 
 /// Standard input has the lines, or the source, and not both.
-pub(crate) const LINES_OF_SOURCES: Word = Word {
+const LINES_OF_SOURCES: Word = Word {
     needs: &["input"],
     ..LINES
 };
 
 /// What is a named file, the document or a source.
-pub(crate) const INPUT: Group = Group {
+const INPUT: Group = Group {
     id: "input",
     words: &["doc", "FILE"],
 };
 
 /// The reasons of the closest alternatives, or with `=all` of all. A word after it is no value, so that it can stand before
 /// files.
-pub(crate) const WHY: Word = Word {
+const WHY: Word = Word {
     id: "why",
-    long: Some("why"),
     help: "Says why a document is invalid, a line for each reason: of alternatives the closest, or all; and why a call is refused",
     value_names: &["ALTERNATIVES"],
     least_values: 0,
@@ -239,22 +225,21 @@ pub(crate) const WHY: Word = Word {
 };
 
 /// Why the other definition refuses the document that is shown.
-pub(crate) const WHY_BROKEN: Word = Word {
+const WHY_BROKEN: Word = Word {
     help: "Says why the document that is shown is refused, a line for each reason: of alternatives the closest, or all; and why a call is refused",
     ..WHY
 };
 
 /// `--why` of a command that judges no document.
-pub(crate) const WHY_REFUSED: Word = Word {
+const WHY_REFUSED: Word = Word {
     id: "why_refused",
     long: Some("why"),
     help: "Says why a call is refused, with the place and what to do",
     ..FLAG
 };
 
-pub(crate) const MOST: Word = Word {
+const MOST: Word = Word {
     id: "most",
-    long: Some("most"),
     help: "How many reasons are told at most; 20 where it isn't given",
     value_names: &["NUMBER"],
     value_parser: ValueParser::Unsigned(1, MOST_REASONS),
@@ -263,7 +248,7 @@ pub(crate) const MOST: Word = Word {
 };
 
 /// The same word for documents that are written.
-pub(crate) const MOST_DOCUMENTS: Word = Word {
+const MOST_DOCUMENTS: Word = Word {
     help: "How many documents are written at most; 100 where it isn't given",
     value_parser: ValueParser::Unsigned(1, MOST_SAMPLES),
     needs: &[],
@@ -271,9 +256,8 @@ pub(crate) const MOST_DOCUMENTS: Word = Word {
 };
 
 /// In one of these formats an answer tells the reasons too.
-pub(crate) const FORMAT: Word = Word {
+const FORMAT: Word = Word {
     id: "format",
-    long: Some("format"),
     help: "Prints an object of JSON in place of the answer, with the reasons",
     value_names: &["FORMAT"],
     value_parser: ValueParser::Names(FORMATS),
@@ -281,26 +265,25 @@ pub(crate) const FORMAT: Word = Word {
 };
 
 /// The same word for a command that judges by a schema.
-pub(crate) const FORMAT_OF_SCHEMA: Word = Word {
+const FORMAT_OF_SCHEMA: Word = Word {
     value_parser: ValueParser::Names(SCHEMA_FORMATS),
     ..FORMAT
 };
 
 /// The same word for a command that judges nothing.
-pub(crate) const FORMAT_OF_LIST: Word = Word {
+const FORMAT_OF_LIST: Word = Word {
     help: "Prints an object of JSON in place of the lines",
     ..FORMAT
 };
 
 /// What asks for reasons.
-pub(crate) const REASONS: Group = Group {
+const REASONS: Group = Group {
     id: "reasons",
     words: &["why", "format"],
 };
 
-pub(crate) const SCHEMA: Word = Word {
+const SCHEMA: Word = Word {
     id: "schema",
-    long: Some("schema"),
     help: "The file of the JSON Schema",
     value_names: &["SCHEMA"],
     is_required: true,
@@ -308,7 +291,7 @@ pub(crate) const SCHEMA: Word = Word {
 };
 
 /// A schema in the place of sources.
-pub(crate) const SCHEMA_IN_PLACE: Word = Word {
+const SCHEMA_IN_PLACE: Word = Word {
     help: "The file of a JSON Schema, whose faults are told in the place of those of CUE files",
     is_required: false,
     conflicts_with: &["root", "FILE"],
@@ -316,9 +299,130 @@ pub(crate) const SCHEMA_IN_PLACE: Word = Word {
 };
 
 /// Each file is a use of its own.
-pub(crate) const FILES: Word = Word {
+const FILES: Word = Word {
     id: "FILE",
+    is_positional: true,
     help: "The files of CUE; standard input where there is none",
     action: ArgAction::Append,
     ..VALUE
+};
+
+/// All of them, in the order of the program's help. An array, since the prover gives up on a slice of so many tables within
+/// tables.
+pub(crate) const COMMANDS: [Subcommand; 9] = [
+    EXPORT, LIST, VET, VALIDATE, AGREE, CHECK, COMPARE, SAMPLES, EXPLAIN,
+];
+
+const EXPORT: Subcommand = Subcommand {
+    name: "export",
+    about: "Writes the JSON Schema of a definition",
+    example: "Example: cue2schema export --root '#Port' port.cue > port.schema.json",
+    words: &[
+        ROOT_OF_EXPORT,
+        ALL,
+        OPENAPI,
+        DESCRIBE,
+        PRETTY,
+        OUTPUT,
+        WHY_REFUSED,
+        FILES,
+    ],
+    groups: &[],
+};
+
+const LIST: Subcommand = Subcommand {
+    name: "list",
+    about: "Lists the definitions of CUE files, a line for each",
+    example: "Example: cue2schema list port.cue",
+    words: &[FORMAT_OF_LIST, WHY_REFUSED, FILES],
+    groups: &[],
+};
+
+const VET: Subcommand = Subcommand {
+    name: "vet",
+    about: "Says whether a JSON document is an instance of a definition",
+    example: "Example: cue2schema vet --root '#Port' --doc port.json port.cue",
+    words: &[
+        ROOT,
+        DOCUMENT_OF_SOURCES,
+        DOCUMENTS,
+        LINES_OF_SOURCES,
+        WHY,
+        MOST,
+        FORMAT,
+        FILES,
+    ],
+    groups: &[INPUT, REASONS],
+};
+
+const VALIDATE: Subcommand = Subcommand {
+    name: "validate",
+    about: "Says whether a JSON document is valid against a schema",
+    example: "Example: cue2schema validate --schema port.schema.json --doc port.json",
+    words: &[
+        SCHEMA,
+        DOCUMENT_OF_SCHEMA,
+        DOCUMENTS,
+        LINES,
+        WHY,
+        MOST,
+        FORMAT_OF_SCHEMA,
+    ],
+    groups: &[REASONS],
+};
+
+const AGREE: Subcommand = Subcommand {
+    name: "agree",
+    about: "Says what `vet` says, judged by the exported schema too",
+    example: "Example: cue2schema agree --root '#Port' --doc port.json port.cue",
+    words: &[
+        ROOT,
+        DOCUMENT_OF_SOURCES,
+        DOCUMENTS,
+        LINES_OF_SOURCES,
+        WHY,
+        MOST,
+        FORMAT_OF_SCHEMA,
+        FILES,
+    ],
+    groups: &[INPUT, REASONS],
+};
+
+const CHECK: Subcommand = Subcommand {
+    name: "check",
+    about: "Tells all faults of CUE files or of a schema, and the definitions that nothing is an instance of",
+    example: "Example: cue2schema check port.cue",
+    words: &[OPTIONAL_ROOT, SCHEMA_IN_PLACE, STRICT, FILES],
+    groups: &[],
+};
+
+const COMPARE: Subcommand = Subcommand {
+    name: "compare",
+    about: "Says whether each document of an old definition is one of the new definition, and shows one that isn't",
+    example: "Example: cue2schema compare --root '#Port' --old v1/port.cue --new port.cue",
+    words: &[ROOT, NEW_ROOT, OLD, NEW, BOTH, WHY_BROKEN, MOST, FORMAT],
+    groups: &[REASONS],
+};
+
+const SAMPLES: Subcommand = Subcommand {
+    name: "samples",
+    about: "Writes documents of a definition, a line of JSON for each",
+    example: "Example: cue2schema samples --root '#Port' port.cue",
+    words: &[
+        ROOT,
+        INVALID,
+        MOST_DOCUMENTS,
+        STRICT_SAMPLES,
+        WHY_REFUSED,
+        FILES,
+    ],
+    groups: &[],
+};
+
+const EXPLAIN: Subcommand = Subcommand {
+    name: "explain",
+    about: "Says what the number of a refusal means, and what to do",
+    example: "Example: cue2schema explain 11",
+    words: &[NUMBER],
+    groups: &[],
 };

@@ -2,7 +2,6 @@
 #![tactic(auto)]
 
 mod declared;
-mod labels;
 mod lines;
 mod packages;
 mod texts;

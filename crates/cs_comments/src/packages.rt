@@ -1,7 +1,7 @@
 // The notes of the definitions of some sources.
 use crate::declared::Declarations;
 use crate::texts::texts_of;
-use crate::values::{Texts, notes_of_value};
+use crate::values::notes_of_value;
 use cs_describe::Notes;
 use cs_place::Named;
 use cs_sources::Source;
@@ -39,9 +39,9 @@ fn add_source(
         line: 1,
     };
     let source = Source::new(alloc, named, 0)?;
-    let mut texts = Texts::new(texts_of(alloc, text, &source)?);
+    let mut texts = texts_of(alloc, text, &source)?.into_iter();
     for definition in &file.definitions {
-        let text = texts.take();
+        let text = texts.next().flatten();
         let value = notes_of_value(alloc, &definition.body, &mut texts)?;
         declarations.add(alloc, definition.name.clone()?, text, value)?;
     }

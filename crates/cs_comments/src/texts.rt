@@ -5,9 +5,9 @@ ghost use Rattle.std.specs.Option.{option_copied, option_map};
 ghost use Rattle.cs_comments.specs.Comments.{above, comment_on, comments_at, is_newline, some_text, text_at};
 ghost use Rattle.cs_comments.specs.Views.{each_text, texts_of};
 
-use crate::labels::labels_of;
 use crate::lines::{Line, lines_of};
-use cs_sources::Source;
+use cs_place::Positions;
+use cs_sources::{Source, is_mark};
 use std::alloc::{AllocError, Global};
 
 /// The comments of the lines that are alone right above a place, which are the last ones.
@@ -88,7 +88,8 @@ pub fn text_at(alloc: Global, lines: &[Line<'_>], line: usize) -> Result<Option<
 }
 
 /// The text of each definition and each field, where it has one, in the order of their colons: a definition, then the fields in
-/// it, depth first. Of those whose labels begin on one line only the first has a text. It reads the source once.
+/// it, depth first. In a source that spells a file a colon ends the label of a definition or a field and is nothing else. Of those
+/// whose labels begin on one line only the first has a text. It reads the source once.
 ///
 /// # Errors
 /// Memory ran out.
@@ -98,12 +99,19 @@ pub(crate) fn texts_of(
     source: &Source<'_>,
 ) -> Result<Vec<Option<String>>, AllocError> {
     let lines = lines_of(alloc, text, &source.tokens)?;
+    let mut positions = Positions::new(text.as_bytes());
     let mut texts = Vec::new(alloc);
-    for label in labels_of(alloc, source)? {
-        if label.is_first {
-            texts.push(text_at(alloc, &lines, label.line)?)?;
-        } else {
-            texts.push(None)?;
+    let mut before = None;
+    for (place, token) in source.tokens.iter().enumerate() {
+        if is_mark(*token, ":") {
+            let label = source.token(source.label_before(place).unwrap_or(0));
+            let line = positions.at(label.start).line - 1;
+            texts.push(if before == Some(line) {
+                None
+            } else {
+                text_at(alloc, &lines, line)?
+            })?;
+            before = Some(line);
         }
     }
     Ok(texts)

@@ -5,24 +5,8 @@ use cs_grammar::{Expr, Field, FieldMark, ListEnd};
 use std::alloc::{AllocError, Global};
 use std::vec::IntoIter;
 
-/// The texts of the definitions and fields of a source that are still to come, in its order.
-#[derive(Drop)]
-pub(crate) struct Texts {
-    left: IntoIter<Option<String>>,
-}
-
-impl Texts {
-    pub(crate) fn new(texts: Vec<Option<String>>) -> Texts {
-        Texts {
-            left: texts.into_iter(),
-        }
-    }
-
-    /// The text of the next definition or field.
-    pub(crate) fn take(&mut self) -> Option<String> {
-        self.left.next()?
-    }
-}
+/// The texts of the definitions and fields of a source that are still to come, in its order; none where one has no text.
+pub(crate) type Texts = IntoIter<Option<String>>;
 
 /// The notes of a value; the texts to come are those of the fields in it.
 #[cycle(values)]
@@ -97,7 +81,7 @@ fn notes_of_fields(
     let mut notes = Notes::new(alloc);
     let mut labels = Declarations::new(alloc);
     for field in fields {
-        let text = texts.take();
+        let text = texts.next().flatten();
         let value = notes_of_value(alloc, &field.value, texts)?;
         match field.mark {
             FieldMark::Every { .. } => {

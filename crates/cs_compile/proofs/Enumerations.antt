@@ -12,16 +12,48 @@ use Rattle.cs_document.specs.Document.{Document, null, boolean, integer, text, D
 use Rattle.cs_document.specs.Equality.{document_eq-true}
 use Rattle.cs_document.specs.View.{documents_of}
 use Rattle.cs_guard.specs.References.{direct, direct_all}
+use Rattle.cs_grammar.specs.Atom.{Atom}
 use Rattle.cs_package.specs.Expression as cue
 use Rattle.cs_package.specs.Expression.{Expression, Expressions, operands}
+use Rattle.cs_package.specs.Inside as inside
+use Rattle.cs_package.specs.Inside.{atom_of}
 use Rattle.cs_package.specs.View.{expressions_of}
+use Rattle.cs_package.specs.declared.inside.Literal.{Literal}
+use Rattle.cs_package.specs.declared.inside.Literal.TheVariants as variant
 use Rattle.cs_profile.specs.Validity.{IsValidity}
 use Rattle.cs_instance.proofs.Placed.{operands_of}
 use Rattle.cs_compile.proofs.Asserted.{elements_back, valid_any_of}
 use Rattle.cs_compile.proofs.Firsts.{any_firsts, each_firsts}
+use Rattle.cs_compile.specs.Literals.{literal_view}
 use Rattle.cs_compile.specs.Translation.{schema_of, schemas_of, constant, literal, literals, firsts, enumeration, any_of, disjunction_schema}
 
 -- ---- a literal
+
+-- the document of an atom that is a literal
+abbrev document_of : Atom → Document
+document_of cue.null = null
+document_of (cue.boolean b) = boolean b
+document_of (cue.integer n) = integer n
+document_of (cue.text s) = text s
+document_of _ = null
+
+seen-document : (o : Option Literal) → option_map literal_view o ≡ option_map document_of (option_map atom_of o)
+seen-document None = refl
+seen-document (Some variant.Null) = refl
+seen-document (Some (variant.Bool b)) = refl
+seen-document (Some (variant.Int n)) = refl
+seen-document (Some (variant.Text s)) = refl
+
+literal-document : (e : Expression) → option_map document_of (inside.literal e) ≡ literal e
+literal-document (cue.atom cue.null) = refl
+literal-document (cue.atom (cue.boolean b)) = refl
+literal-document (cue.atom (cue.integer n)) = refl
+literal-document (cue.atom (cue.text s)) = refl
+literal-document _ = refl
+
+-- the document of the literal that the code finds
+pub literal_seen : (o : Option Literal) (e : Expression) → option_map atom_of o ≡ inside.literal e → option_map literal_view o ≡ literal e
+literal_seen o e h = seen-document o ∙ ap (option_map document_of) h ∙ literal-document e
 
 literal-constant : (e : Expression) (v : Document) → literal e ≡ Some v → schema_of e ≡ constant v
 literal-constant (cue.atom cue.null) v is = ap constant (same_Some null v is)

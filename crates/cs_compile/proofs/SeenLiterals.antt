@@ -9,9 +9,9 @@ use Rattle.std.proofs.lemmas.Map.Text.{is_eq-slice_cmp}
 use Rattle.cs_document.specs.Document.{Document, document_eq}
 use Rattle.cs_document.specs.Equality.{document_eq-laws}
 use Rattle.cs_compile.specs.Literals.{literal_view}
-use Rattle.cs_compile.specs.contracts.literals.LiteralOrd.TheImpl as literal_ord
-use Rattle.cs_compile.specs.declared.literals.Literal.{Literal}
-use Rattle.cs_compile.specs.declared.literals.Literal.TheVariants as variant
+use Rattle.cs_package.specs.contracts.inside.LiteralOrd.TheImpl as literal_ord
+use Rattle.cs_package.specs.declared.inside.Literal.{Literal}
+use Rattle.cs_package.specs.declared.inside.Literal.TheVariants as variant
 
 -- the order by which the code looks literals up
 abbrev pub literal_cmp : Literal → Literal → Ordering

@@ -1,7 +1,7 @@
--- The literals of the code; for private contracts and proofs alone.
+-- The documents of literals; for private contracts and proofs alone.
 use Rattle.cs_document.specs.Document.{Document, null, boolean, integer, text}
-use Rattle.cs_compile.specs.declared.literals.Literal.{Literal}
-use Rattle.cs_compile.specs.declared.literals.Literal.TheVariants as variant
+use Rattle.cs_package.specs.declared.inside.Literal.{Literal}
+use Rattle.cs_package.specs.declared.inside.Literal.TheVariants as variant
 
 -- the document that a literal is
 abbrev pub literal_view : Literal → Document

@@ -2,26 +2,17 @@
 ghost use Rattle.std.specs.Prelude.{◌≡◌, ℕ, List, IfOk, map, option_map};
 ghost use Rattle.cs_document.specs.Document.{document_eq};
 ghost use Rattle.cs_document.specs.View.{doc_view};
-ghost use Rattle.cs_package.specs.View.{expression_of, expressions_at};
+ghost use Rattle.cs_package.specs.View.{expressions_at};
 ghost use Rattle.cs_profile.specs.SchemaDocument.{schema_view};
 ghost use Rattle.cs_compile.specs.Literals.{literal_view};
-ghost use Rattle.cs_compile.specs.Translation.{enumeration, firsts, literal, literals};
+ghost use Rattle.cs_compile.specs.Translation.{enumeration, firsts, literals};
 
 use crate::keywords::{object, untyped};
 use cs_document::Doc;
-use cs_package::Shape;
+use cs_package::{Literal, Shape};
 use cs_profile::{Keyword, KeywordValue, Schema};
 use std::alloc::{AllocError, Global};
 use std::collections::BTreeSet;
-
-/// A literal.
-#[derive(Clone, Copy, PartialEq, Eq, PartialOrd, Ord)]
-enum Literal<'a> {
-    Null,
-    Bool(bool),
-    Int(i64),
-    Text(&'a str),
-}
 
 /// The schema of a disjunction of literals: `enum`, with each literal where it comes first. `None` where some operand
 /// is no literal.
@@ -47,38 +38,12 @@ fn literals<'a>(
 {
     let mut literals = Vec::with_capacity(alloc, operands.len())?;
     for operand in operands {
-        let Some(literal) = literal_of(operand) else {
+        let Some(literal) = operand.literal() else {
             return Ok(None);
         };
         literals.push(literal)?;
     }
     Ok(Some(literals))
-}
-
-/// The literal that an expression is, if it is one.
-fn literal_of<'a>(shape: &'a Shape) -> Option<Literal<'a>>
-    ensures { (ns : List (List ℕ))
-        → option_map literal_view result ≡ literal (expression_of ns shape.now) }
-{
-    match shape {
-        Shape::Null => Some(Literal::Null),
-        Shape::Bool(b) => Some(Literal::Bool(*b)),
-        Shape::Int(n) => Some(Literal::Int(*n)),
-        Shape::Text(text) => Some(Literal::Text(text.as_str())),
-        Shape::Top
-        | Shape::Bottom
-        | Shape::Kind(_)
-        | Shape::Range { .. }
-        | Shape::Definition(_)
-        | Shape::Bound { .. }
-        | Shape::NotInt(_)
-        | Shape::NotText(_)
-        | Shape::NotNull
-        | Shape::And(_)
-        | Shape::Or(_)
-        | Shape::Struct { .. }
-        | Shape::List { .. } => None,
-    }
 }
 
 /// The documents of some literals, each where it comes first.

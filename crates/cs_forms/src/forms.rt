@@ -138,7 +138,7 @@ pub struct Found {
 
 impl Found {
     /// A form that the tokens from one up to another show.
-    fn between(form: Form, first: Token<'_>, last: Token<'_>) -> Found {
+    pub(crate) fn between(form: Form, first: Token<'_>, last: Token<'_>) -> Found {
         Found {
             form,
             start: first.start,
@@ -154,10 +154,5 @@ impl Found {
     /// A form that the token before one shows.
     pub(crate) fn before(near: Near<'_, '_>, form: Form) -> Found {
         Found::between(form, near.before(1), near.before(1))
-    }
-
-    /// A form that the tokens from the one before up to the one behind show.
-    pub(crate) fn around(near: Near<'_, '_>, form: Form) -> Found {
-        Found::between(form, near.before(1), near.behind(1))
     }
 }

@@ -1,47 +1,34 @@
 // Forms at a token that is out of place, and that the profile has elsewhere (4).
 use crate::forms::{Form, Found};
 use cs_grammar::{Sort, Token};
-use cs_sources::{Inside, Near, begins_value, ends_value, follows_label};
+use cs_sources::{Inside, Near, begins_value, ends_value, follows_label, separates};
 
 /// The form at a token that is out of place, though the profile has it elsewhere.
 pub fn form_out_of_place(near: Near<'_, '_>) -> Found {
     if let Some(found) = after_word(near) {
         return found;
     }
-    if near.inside() == Inside::Label {
-        return form_in_label(near);
+    match near.inside() {
+        Inside::Label if near.behind(1).text == "=" => Found::at(near, Form::AliasLabel),
+        Inside::Label => Found::at(near, Form::Pattern),
+        _ if near.begins_declaration() => form_of_declaration(near),
+        _ if ends_value(near.before(1)) => behind_value(near),
+        _ => behind_mark(near),
     }
-    if near.begins_declaration() {
-        return form_of_declaration(near);
-    }
-    if let Some(found) = in_expression(near) {
-        return found;
-    }
-    plain(near)
 }
 
-/// The form after a word that begins a clause, or after the mark of a limit.
+/// The form after a word that begins a clause, or of a value after the mark of a limit, or after its sign.
 fn after_word(near: Near<'_, '_>) -> Option<Found> {
-    let before = near.before(1);
+    let (first, before, here) = (near.before(2), near.before(1), near.here());
     match before.text {
         "if" => Some(Found::before(near, Form::If)),
         "for" => Some(Found::before(near, Form::For)),
         "let" => Some(Found::before(near, Form::Let)),
-        _ if begins_value(near.here()) => form_after_mark(near),
+        _ if !begins_value(here) => None,
+        "-" if is_relation(first) => Some(Found::at(near, Form::Limit)),
+        _ if is_relation(before) => Some(Found::at(near, form_of_limit(here))),
         _ => None,
     }
-}
-
-/// The form of a value after the mark of a limit, or after its sign.
-fn form_after_mark(near: Near<'_, '_>) -> Option<Found> {
-    let before = near.before(1);
-    if is_relation(before) {
-        return Some(Found::at(near, form_of_limit(near.here())));
-    }
-    if before.text == "-" && is_relation(near.before(2)) {
-        return Some(Found::at(near, Form::Limit));
-    }
-    None
 }
 
 fn is_relation(token: Token<'_>) -> bool {
@@ -57,20 +44,10 @@ fn form_of_limit(token: Token<'_>) -> Form {
     }
 }
 
-/// The form inside of the brackets of a label.
-fn form_in_label(near: Near<'_, '_>) -> Found {
-    if near.behind(1).text == "=" {
-        return Found::at(near, Form::AliasLabel);
-    }
-    Found::at(near, Form::Pattern)
-}
-
 /// The form at the first token of a declaration.
 fn form_of_declaration(near: Near<'_, '_>) -> Found {
-    if near.before(2).text == "..." {
-        return Found::at(near, Form::EarlyEllipsis);
-    }
     match near.here().text.as_bytes() {
+        _ if near.before(2).text == "..." => Found::at(near, Form::EarlyEllipsis),
         [b'&' | b'|'] if near.before(1).sort == Sort::Inserted => Found::at(near, Form::BrokenLine),
         [b'}' | b']' | b')'] => closing(near),
         [] | [b',' | b'&' | b'|' | b':' | b'?' | b'!'] => plain(near),
@@ -80,93 +57,62 @@ fn form_of_declaration(near: Near<'_, '_>) -> Found {
 }
 
 fn form_at_top(near: Near<'_, '_>) -> Form {
-    if near.here().text == "package" {
-        return Form::LatePackage;
+    let here = near.here();
+    match here.sort {
+        _ if here.text == "package" => Form::LatePackage,
+        Sort::Name | Sort::Text if follows_label(near.behind(1)) => Form::TopLevelField,
+        _ => Form::TopLevelValue,
     }
-    let is_label = matches!(near.here().sort, Sort::Name | Sort::Text);
-    if is_label && follows_label(near.behind(1)) {
-        return Form::TopLevelField;
-    }
-    Form::TopLevelValue
 }
 
 fn form_in_struct(near: Near<'_, '_>) -> Form {
-    let here = near.here();
+    let (here, behind) = (near.here(), near.behind(1));
     match here.sort {
-        Sort::Definition if follows_label(near.behind(1)) => Form::NestedDefinition,
+        Sort::Definition if follows_label(behind) => Form::NestedDefinition,
         Sort::Definition => Form::EmbeddedDefinition,
-        Sort::Integer if near.behind(1).text == ":" => Form::DigitLabel,
-        _ => match here.text {
-            "{" => Form::EmbeddedStruct,
-            "(" => Form::DynamicLabel,
-            _ => Form::EmbeddedValue,
-        },
-    }
-}
-
-/// The form inside of an expression, where it is left out.
-fn in_expression(near: Near<'_, '_>) -> Option<Found> {
-    if ends_value(near.before(1)) {
-        behind_value(near)
-    } else {
-        behind_mark(near)
+        Sort::Integer if behind.text == ":" => Form::DigitLabel,
+        _ if here.text == "{" => Form::EmbeddedStruct,
+        _ if here.text == "(" => Form::DynamicLabel,
+        _ => Form::EmbeddedValue,
     }
 }
 
 /// The form inside of an expression, behind the end of a value.
-fn behind_value(near: Near<'_, '_>) -> Option<Found> {
+fn behind_value(near: Near<'_, '_>) -> Found {
     let (before, here) = (near.before(1), near.here());
     match here.text {
-        "(" if before.text == "close" => Some(Found::before(near, Form::Close)),
-        "(" if before.sort == Sort::Name => Some(Found::before(near, Form::Call)),
-        "[" if before.text != "}" => Some(Found::at(near, Form::Index)),
-        ":" if before.sort == Sort::Definition => Some(Found::before(near, Form::NestedDefinition)),
-        _ if is_relation(here) => Some(Found::at(near, Form::Comparison)),
-        _ if ["-", "div", "mod", "quo", "rem"].contains(&here.text) => {
-            Some(Found::at(near, Form::Arithmetic))
-        }
-        _ => None,
+        "(" if before.text == "close" => Found::before(near, Form::Close),
+        "(" if before.sort == Sort::Name => Found::before(near, Form::Call),
+        "[" if before.text != "}" => Found::at(near, Form::Index),
+        ":" if before.sort == Sort::Definition => Found::before(near, Form::NestedDefinition),
+        _ if is_relation(here) => Found::at(near, Form::Comparison),
+        "-" | "div" | "mod" | "quo" | "rem" => Found::at(near, Form::Arithmetic),
+        _ => plain(near),
     }
 }
 
 /// The form inside of an expression, where no value ends before the token.
-fn behind_mark(near: Near<'_, '_>) -> Option<Found> {
+fn behind_mark(near: Near<'_, '_>) -> Found {
     let (before, here) = (near.before(1), near.here());
     match here.text.as_bytes() {
-        [b'!'] => Some(Found::at(near, Form::Negation)),
-        [b'&' | b'|'] if before.sort == Sort::Inserted => Some(Found::at(near, Form::BrokenLine)),
-        _ if before.text == "-" && begins_value(here) => {
-            Some(Found::before(near, Form::Arithmetic))
-        }
-        _ if before.text == "..." && near.inside() == Inside::Struct => {
-            let is_typed = begins_value(here);
-            let form = if is_typed {
-                Form::TypedEllipsis
-            } else {
-                Form::EarlyEllipsis
-            };
-            Some(Found::at(near, form))
-        }
-        _ => None,
+        [b'!'] => Found::at(near, Form::Negation),
+        [b'&' | b'|'] if before.sort == Sort::Inserted => Found::at(near, Form::BrokenLine),
+        _ if before.text == "-" && begins_value(here) => Found::before(near, Form::Arithmetic),
+        _ if before.text != "..." || near.inside() != Inside::Struct => plain(near),
+        _ if begins_value(here) => Found::at(near, Form::TypedEllipsis),
+        _ => Found::at(near, Form::EarlyEllipsis),
     }
 }
 
 /// A mistake of plain syntax.
 fn plain(near: Near<'_, '_>) -> Found {
     let (before, here) = (near.before(1), near.here());
-    if is_label_before(near) {
-        return Found::before(near, Form::MissingColon);
-    }
-    if begins_value(here) && ends_value(before) {
-        return Found::at(near, Form::MissingComma);
-    }
-    if begins_value(here) && before.sort == Sort::Inserted && near.inside() == Inside::List {
-        return Found::at(near, Form::NewLineInList);
-    }
-    if is_end(here) && wants_value(before) {
-        return Found::at(near, Form::MissingValue);
-    }
+    let is_parted = before.sort == Sort::Inserted && near.inside() == Inside::List;
     match here.text.as_bytes() {
+        _ if is_label_before(near) => Found::before(near, Form::MissingColon),
+        _ if begins_value(here) && ends_value(before) => Found::at(near, Form::MissingComma),
+        _ if begins_value(here) && is_parted => Found::at(near, Form::NewLineInList),
+        _ if is_end(here) && wants_value(before) => Found::at(near, Form::MissingValue),
         [b'}' | b']' | b')'] => closing(near),
         [] if is_at_end(near) => closing(near),
         _ => Found::at(near, Form::Misplaced),
@@ -175,14 +121,9 @@ fn plain(near: Near<'_, '_>) -> Found {
 
 /// Whether the token before is a label, with or without its mark, that a colon would have to follow.
 fn is_label_before(near: Near<'_, '_>) -> bool {
-    let before = near.before(1);
+    let (first, before) = (near.before(2), near.before(1));
     let is_label = matches!(before.sort, Sort::Name | Sort::Text | Sort::Definition);
-    let (inside, first) = (near.inside(), near.before(2));
-    let is_first = match first.sort {
-        Sort::Mark => first.text == "{" || first.text == "," && inside != Inside::List,
-        Sort::Inserted | Sort::End => inside != Inside::List,
-        _ => false,
-    };
+    let is_first = first.text == "{" || separates(first) && near.inside() != Inside::List;
     is_label && is_first && near.here().text != ":"
 }
 
@@ -193,13 +134,11 @@ fn is_at_end(near: Near<'_, '_>) -> bool {
 
 /// Whether an expression ends before a token.
 fn is_end(token: Token<'_>) -> bool {
-    match token.sort {
-        Sort::Inserted | Sort::End => true,
-        _ => matches!(
-            token.text.as_bytes(),
-            [b',' | b'}' | b']' | b')' | b'&' | b'|' | b':']
-        ),
-    }
+    let is_mark = matches!(
+        token.text.as_bytes(),
+        [b'}' | b']' | b')' | b'&' | b'|' | b':']
+    );
+    is_mark || separates(token)
 }
 
 /// Whether a value has to follow a token.

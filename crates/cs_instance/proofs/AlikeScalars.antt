@@ -1,5 +1,5 @@
 -- Tests and rules give the same for scalars that no mark tells apart, where what they compare with is marked.
-use Rattle.std.proofs.Common.{◌≡◌, ℕ, ℤ, int_lt, int_le, Bool, true, not, ◌&&◌, List, [], ◌∷◌, ◌++◌, Some, None, cond, refl, sym, ap, ap₂, subst, ◌∙◌, inl, inr, ◌⊎◌, String, Global, string_bytes, arith, rules}
+use Rattle.std.proofs.Common.{◌≡◌, ℕ, ℤ, int_lt, int_le, Bool, true, not, ◌&&◌, List, [], ◌∷◌, ◌++◌, Option, Some, None, cond, refl, sym, ap, ap₂, subst, ◌∙◌, arith}
 use Rattle.std.specs.List.{AllByRecursion as Each}
 use Rattle.std.specs.Ordering.{is_eq, int_eq}
 use Rattle.std.specs.Str.{bytes_eq}
@@ -8,12 +8,10 @@ use Rattle.std.proofs.lemmas.Int.{ints}
 use Rattle.std.proofs.lemmas.List.{append_assoc, append-nil}
 use Rattle.cs_document.specs.Opened.{Opened, a_null, a_boolean, an_integer, a_text}
 use Rattle.cs_document.proofs.Each.{each_front, each_back}
-use Rattle.cs_package.specs.Expression.{atom, integer, text, not_integer, not_text, Relation, less, at_most, more, at_least}
-use Rattle.cs_package.specs.View.{expression_of}
-use Rattle.cs_package.specs.declared.shape.Shape.{Shape, the_lemmas}
-use Rattle.cs_package.specs.declared.shape.Shape as shape
+use Rattle.cs_package.specs.Expression.{Expression, atom, kind, range, integer, text, bound, not_integer, not_text, Relation, less, at_most, more, at_least, int, number, string, bool}
+use Rattle.cs_package.specs.Inside.{compared_with, with_nothing, with_text, with_integer, with_range}
 use Rattle.cs_rules.specs.Alike.{Compared, AreAlike, HasMore}
-use Rattle.cs_instance.specs.Constraint.{outline, is_integer, is_text, is_within, is_related}
+use Rattle.cs_instance.specs.Constraint.{Outline, outline, is_integer, is_text, is_within, is_related}
 use Rattle.cs_instance.specs.Steps.{test_of}
 use Rattle.cs_instance.specs.Told.{IsTold}
 
@@ -117,16 +115,40 @@ text_told u m' m e = texts_told (bytes_eq u) m (text_last u m'.texts m e.0)
 pub not_text_told : (u : List ℕ) (m' m : Compared) → AfterText u m' m → IsTold (is_text (λ s. not (bytes_eq u s))) m
 not_text_told u m' m e = texts_told (λ s. not (bytes_eq u s)) m (λ s t h. ap not (text_last u m'.texts m e.0 s t h))
 
--- ---- the same of shapes
+-- ---- the same of expressions, by what they compare values with
 
-pub integer_marked : (s : Shape) (k : ℤ) (m' m : Compared) → (s ≡ shape.Int k) ⊎ (s ≡ shape.NotInt k) → AfterInteger k m' m → IsTold (test_of (expression_of [] s)) m
-integer_marked s k m' m (inl e) h = let is : expression_of [] s ≡ atom (integer k) = search (rules, the_lemmas) in rw is (integer_told k m' m h)
-integer_marked s k m' m (inr e) h = let is : expression_of [] s ≡ atom (not_integer k) = search (rules, the_lemmas) in rw is (not_integer_told k m' m h)
+-- a test that tells no two integers apart, and no two texts
+alike_told : (test : Outline → Bool) (m : Compared) → ((z w : ℤ) → test (an_integer z) ≡ test (an_integer w)) → ((s t : List ℕ) → test (a_text s) ≡ test (a_text t)) → IsTold test m
+alike_told test m i t = each_pair m (λ x x'. test (outline x) ≡ test (outline x')) refl (λ _. refl) (λ z w _. i z w) (λ u v _. t u v)
 
-pub text_marked : (s : Shape) (u : String Global) (m' m : Compared) → (s ≡ shape.Text u) ⊎ (s ≡ shape.NotText u) → AfterText (string_bytes u) m' m
-    → IsTold (test_of (expression_of [] s)) m
-text_marked s u m' m (inl e) h = let is : expression_of [] s ≡ atom (text (string_bytes u)) = search (rules, the_lemmas) in rw is (text_told (string_bytes u) m' m h)
-text_marked s u m' m (inr e) h = let is : expression_of [] s ≡ atom (not_text (string_bytes u)) = search (rules, the_lemmas) in rw is (not_text_told (string_bytes u) m' m h)
+pub nothing_compared : (e : Expression) (m : Compared) → with_nothing ≡ compared_with e → IsTold (test_of e) m
+nothing_compared (atom (integer n)) m h = cc
+nothing_compared (atom (text s)) m h = cc
+nothing_compared (atom (bound r n)) m h = cc
+nothing_compared (atom (not_integer n)) m h = cc
+nothing_compared (atom (not_text s)) m h = cc
+nothing_compared (range least greatest) m h = cc
+nothing_compared (kind int) m h = alike_told (test_of (kind int)) m (λ _ _. refl) (λ _ _. refl)
+nothing_compared (kind number) m h = alike_told (test_of (kind number)) m (λ _ _. refl) (λ _ _. refl)
+nothing_compared (kind string) m h = alike_told (test_of (kind string)) m (λ _ _. refl) (λ _ _. refl)
+nothing_compared (kind bool) m h = alike_told (test_of (kind bool)) m (λ _ _. refl) (λ _ _. refl)
+nothing_compared e m h = alike_told (test_of e) m (λ _ _. refl) (λ _ _. refl)
+
+pub integer_compared : (e : Expression) (k : ℤ) (m' m : Compared) → with_integer k ≡ compared_with e → AfterInteger k m' m → IsTold (test_of e) m
+integer_compared (atom (integer n)) k m' m h a = let is : k ≡ n = cc in integer_told n m' m (subst (λ j. AfterInteger j m' m) is a)
+integer_compared (atom (not_integer n)) k m' m h a = let is : k ≡ n = cc in not_integer_told n m' m (subst (λ j. AfterInteger j m' m) is a)
+integer_compared (atom (bound r n)) k m' m h a = let is : k ≡ n = cc in bound_told r n m' m (subst (λ j. AfterInteger j m' m) is a)
+integer_compared _ k m' m h a = cc
+
+pub text_compared : (e : Expression) (u : List ℕ) (m' m : Compared) → with_text u ≡ compared_with e → AfterText u m' m → IsTold (test_of e) m
+text_compared (atom (text s)) u m' m h a = let is : u ≡ s = cc in text_told s m' m (subst (λ v. AfterText v m' m) is a)
+text_compared (atom (not_text s)) u m' m h a = let is : u ≡ s = cc in not_text_told s m' m (subst (λ v. AfterText v m' m) is a)
+text_compared _ u m' m h a = cc
+
+pub range_compared : (e : Expression) (least : ℤ) (greatest : Option ℤ) → with_range least greatest ≡ compared_with e → range least greatest ≡ e
+range_compared (range l g) least greatest h = cc
+range_compared (atom (integer n)) least greatest h = cc
+range_compared _ least greatest h = cc
 
 -- ---- more marks
 

@@ -23,7 +23,10 @@ impl<'a> Fields<'a> {
     ghost use Rattle.cs_instance.specs.Steps.{field_of};
 
     /// Takes memory for a reference to each label, and the time to sort them.
-    pub(crate) fn new(alloc: Global, all: Vec<Field<'a>>) -> Result<Fields<'a>, AllocError>
+    ///
+    /// # Errors
+    /// Where memory runs out.
+    pub fn new(alloc: Global, all: Vec<Field<'a>>) -> Result<Fields<'a>, AllocError>
         ensures { IfOk result (λ f. f.all ≡ all.entry) }
     {
         let mut labels = Vec::with_capacity(alloc, all.len())?;

@@ -7,7 +7,7 @@ ghost use Rattle.cs_instance.specs.Steps.{step, test_of};
 ghost use Rattle.cs_instance.specs.Told.{IsTold};
 
 use crate::rules::Rule;
-use cs_package::Shape;
+use cs_package::{Comparison, Shape};
 use cs_rules::Marks;
 use std::alloc::AllocError;
 
@@ -29,22 +29,11 @@ fn mark_test(shape: &Shape, marks: &mut Marks) -> Result<(), AllocError>
     ensures told { OnOk result (IsTold (test_of (expression_of [] shape.now)) marks.new) }
     ensures more { OnOk result (HasMore marks.old marks.new) }
 {
-    match shape {
-        Shape::Int(n) | Shape::NotInt(n) => marks.integer(*n),
-        Shape::Text(text) | Shape::NotText(text) => marks.text(text),
-        Shape::Range { least, greatest } => mark_range(*least, *greatest, marks),
-        Shape::Bound { limit, .. } => marks.integer(*limit),
-        Shape::Top
-        | Shape::Bottom
-        | Shape::Null
-        | Shape::Bool(_)
-        | Shape::Kind(_)
-        | Shape::NotNull
-        | Shape::Definition(_)
-        | Shape::And(_)
-        | Shape::Or(_)
-        | Shape::Struct { .. }
-        | Shape::List { .. } => Ok(()),
+    match shape.comparison() {
+        Comparison::Nothing => Ok(()),
+        Comparison::Text(text) => marks.text(text),
+        Comparison::Integer(integer) => marks.integer(integer),
+        Comparison::Range { least, greatest } => mark_range(least, greatest, marks),
     }
 }
 

@@ -1,11 +1,8 @@
 // Why a document is no instance of a definition, in words, with the places in the sources.
 #![tactic(auto)]
 
-mod finding;
+mod definitions;
 mod reports;
-mod sources;
-mod targets;
-mod telling;
 mod walk;
 mod wants;
 

@@ -1,79 +1,46 @@
-// From a root to a rule along a chain of causes: the rule's expression in the package and in the sources, and its path.
-use crate::sources::body;
-use cs_instance_reasons::InstanceCause;
+// Steps from a rule to what it is made of: in the package and in the sources, with the path.
 use cs_package::{FieldMark, Package, Part, Shape, ShapeEnd};
 use cs_place::put_quoted;
-use cs_report::put_number;
+use cs_reason_words::{SourcePlace, put_number};
 use cs_sources::{Declared, Part as SourcePart, Separator};
-use std::alloc::{AllocError, Global};
+use std::alloc::AllocError;
 
-/// What a rule is in the package.
-#[derive(Clone, Copy)]
-pub(crate) enum Node<'a> {
-    Definition(usize),
-    Expression(&'a Shape),
-    /// It wasn't found.
-    Lost,
-}
-
-/// An alternative that was followed.
-#[derive(Clone, Copy)]
-pub(crate) struct Followed {
-    /// Its place among the operands.
-    pub(crate) place: usize,
-    /// How many operands there are.
-    pub(crate) count: usize,
-    /// How many others were as close.
-    pub(crate) as_close: usize,
-    /// The place among the links of the rule that it is an alternative of.
-    pub(crate) link: usize,
-}
-
-/// Where a chain has led to so far.
-#[derive(Drop)]
-pub(crate) struct Walk<'t, 'a> {
-    pub(crate) package: &'t Package,
-    /// The sources, if the walk goes through them too.
-    pub(crate) sources: Option<&'t Declared<'t, 'a>>,
-    pub(crate) node: Node<'t>,
-    /// Its expression in the sources, where that was found.
-    pub(crate) source: Option<SourcePart<'t, 'a>>,
+/// What a rule is.
+#[derive(Clone, Copy, Drop)]
+pub(crate) struct Node<'t> {
     /// The number of the last definition on the way.
     pub(crate) definition: usize,
-    /// Its name, and the path from there.
-    pub(crate) rule: String,
-    /// The innermost alternative on the way.
-    pub(crate) followed: Option<Followed>,
-    /// How many alternatives are on the way.
-    pub(crate) depth: usize,
-    /// How many steps the way has.
-    pub(crate) steps: usize,
+    /// The expression in it; none for the definition itself.
+    pub(crate) shape: Option<&'t Shape>,
+    /// The expression in the sources, where that was found.
+    pub(crate) source: Option<SourcePart<'t, 't>>,
 }
 
-/// The name of a definition, if the package has it.
-pub(crate) fn definition_name(package: &Package, definition: usize) -> &str {
+/// The name of a definition and its bodies, if the package has it.
+fn declared(package: &Package, definition: usize) -> (&str, &[Shape]) {
     if definition < package.count() {
-        package.name(definition)
+        (package.name(definition), package.bodies(definition))
     } else {
-        ""
+        ("", &[])
     }
 }
 
-fn body_of(package: &Package, definition: usize, place: usize) -> Node<'_> {
-    if definition >= package.count() {
-        return Node::Lost;
-    }
-    match package.bodies(definition).get(place) {
-        Some(shape) => Node::Expression(shape),
-        None => Node::Lost,
-    }
+/// The name of a definition.
+pub(crate) fn name_of(package: &Package, definition: usize) -> &str {
+    declared(package, definition).0
 }
 
-fn operand_of<'t>(operands: &'t Vec<Shape>, place: usize) -> Node<'t> {
-    match operands.get(place) {
-        Some(shape) => Node::Expression(shape),
-        None => Node::Lost,
-    }
+/// Where a part of the sources begins. The line and the column aren't looked for yet.
+pub(crate) fn place_of<'t>(part: Option<SourcePart<'_, 't>>) -> Option<SourcePlace<'t>> {
+    let part = part?;
+    let source = part.source;
+    Some(SourcePlace {
+        file: source.named.name,
+        number: source.file,
+        offset: part.offset()?,
+        line: 1,
+        column: 1,
+    })
 }
 
 /// Whether a label needs no quotes.
@@ -84,171 +51,128 @@ fn is_plain(label: &str) -> bool {
 }
 
 /// Puts the step of a path to what a declaration declares.
-pub(crate) fn put_label(rule: &mut String, part: &Part) -> Result<(), AllocError> {
+pub(crate) fn put_label(path: &mut String, part: &Part) -> Result<(), AllocError> {
     if matches!(part.mark, FieldMark::Every { .. }) {
-        return rule.push_str("[string]");
+        return path.push_str("[string]");
     }
-    rule.push('.')?;
+    path.push('.')?;
     if is_plain(part.label.as_str()) {
-        rule.push_str(part.label.as_str())
+        path.push_str(part.label.as_str())
     } else {
-        put_quoted(rule, part.label.as_str())
+        put_quoted(path, part.label.as_str())
     }
 }
 
-/// What a part of a list at a place has to be.
-fn element_of<'t>(front: &'t Vec<Shape>, end: &'t ShapeEnd, place: usize) -> Node<'t> {
-    if place < front.len() {
-        return Node::Expression(&front[place]);
-    }
-    match end {
-        ShapeEnd::Each(shape) => Node::Expression(shape),
-        ShapeEnd::Closed | ShapeEnd::Any => Node::Lost,
-    }
-}
-
-impl<'t, 'a> Walk<'t, 'a> {
-    /// A walk that begins at a definition.
-    pub(crate) fn new(
-        alloc: Global,
-        package: &'t Package,
-        sources: Option<&'t Declared<'t, 'a>>,
-        root: usize,
-    ) -> Result<Self, AllocError> {
-        let rule = String::from_str(alloc, definition_name(package, root))?;
-        Ok(Walk {
-            package,
-            sources,
-            node: Node::Definition(root),
+impl<'t> Node<'t> {
+    /// A definition, where the path begins anew.
+    pub(crate) fn of(
+        package: &Package,
+        definition: usize,
+        path: &mut String,
+    ) -> Result<Node<'t>, AllocError> {
+        path.truncate(0);
+        path.push_str(name_of(package, definition))?;
+        Ok(Node {
+            definition,
+            shape: None,
             source: None,
-            definition: root,
-            rule,
-            followed: None,
-            depth: 0,
-            steps: 0,
         })
     }
 
-    /// The expression that the walk is at.
-    pub(crate) fn shape(&self) -> Option<&'t Shape> {
-        match self.node {
-            Node::Expression(shape) => Some(shape),
-            Node::Definition(_) | Node::Lost => None,
+    /// What is inside it.
+    fn to(self, shape: Option<&'t Shape>, source: Option<SourcePart<'t, 't>>) -> Node<'t> {
+        Node {
+            definition: self.definition,
+            shape,
+            source,
         }
     }
 
-    fn lose(&mut self) {
-        self.node = Node::Lost;
-        self.source = None;
+    /// A body of a definition, an operand of `&`, or the definition that a reference names.
+    pub(crate) fn part(
+        self,
+        package: &'t Package,
+        sources: &'t Declared<'t, 't>,
+        place: usize,
+        path: &mut String,
+    ) -> Result<Node<'t>, AllocError> {
+        match self.shape {
+            None => {
+                let (name, bodies) = declared(package, self.definition);
+                let declaration = sources.nth(name, place);
+                let source = declaration.and_then(|found| found.part().declared());
+                Ok(self.to(bodies.get(place), source))
+            }
+            Some(Shape::Definition(definition)) => Node::of(package, *definition, path),
+            Some(_) => Ok(self.operand(Separator::Amp, place)),
+        }
     }
 
-    /// Steps to a definition, where the path begins anew.
-    fn enter(&mut self, definition: usize) -> Result<(), AllocError> {
-        self.node = Node::Definition(definition);
-        self.source = None;
-        self.definition = definition;
-        self.rule.truncate(0);
-        self.rule
-            .push_str(definition_name(self.package, definition))
+    /// The operands that it is made of: of `&`, or of `|`.
+    pub(crate) fn operands(self) -> &'t [Shape] {
+        match self.shape {
+            Some(Shape::And(operands)) | Some(Shape::Or(operands)) => operands,
+            _ => &[],
+        }
     }
 
-    /// Steps to a body of a definition, an operand of `&`, or the definition that a reference names.
-    fn step_part(&mut self, place: usize) -> Result<(), AllocError> {
-        if let Node::Definition(definition) = self.node {
-            self.node = body_of(self.package, definition, place);
-            self.source = match self.sources {
-                None => None,
-                Some(sources) => body(sources, definition_name(self.package, definition), place),
-            };
-            return Ok(());
-        }
-        if let Some(Shape::Definition(definition)) = self.shape() {
-            return self.enter(*definition);
-        }
-        let Some(Shape::And(operands)) = self.shape() else {
-            self.lose();
-            return Ok(());
-        };
-        self.node = operand_of(operands, place);
-        self.source = self
+    /// The operand at a place.
+    pub(crate) fn operand(self, separator: Separator, place: usize) -> Node<'t> {
+        let source = self
             .source
-            .and_then(|found| found.operand(Separator::Amp, place));
-        Ok(())
+            .and_then(|found| found.operand(separator, place));
+        self.to(self.operands().get(place), source)
     }
 
-    /// Steps to an operand of `|`.
-    fn step_alternative(&mut self, place: usize, link: usize, as_close: usize) {
-        let Some(Shape::Or(operands)) = self.shape() else {
-            return self.lose();
-        };
-        self.node = operand_of(operands, place);
-        self.source = self
-            .source
-            .and_then(|found| found.operand(Separator::Bar, place));
-        self.depth = self.depth.saturating_add(1);
-        self.followed = Some(Followed {
-            place,
-            count: operands.len(),
-            as_close,
-            link,
-        });
+    /// The declarations of a struct literal.
+    pub(crate) fn parts(self) -> &'t [Part] {
+        match self.shape {
+            Some(Shape::Struct { parts, .. }) => parts,
+            _ => &[],
+        }
     }
 
-    /// Steps to what a declaration declares.
-    fn step_member(&mut self, place: usize) -> Result<(), AllocError> {
-        let Some(Shape::Struct { parts, .. }) = self.shape() else {
-            self.lose();
-            return Ok(());
+    /// What the declaration at a place declares.
+    pub(crate) fn member(self, place: usize, path: &mut String) -> Result<Node<'t>, AllocError> {
+        let source = match self.source {
+            Some(found) => found.member(place),
+            None => None,
         };
-        let Some(part) = parts.get(place) else {
-            self.lose();
-            return Ok(());
+        let Some(part) = self.parts().get(place) else {
+            return Ok(self.to(None, source));
         };
-        self.node = Node::Expression(&part.value);
-        self.source = self.source.and_then(|found| found.member(place));
-        put_label(&mut self.rule, part)
+        put_label(path, part)?;
+        Ok(self.to(Some(&part.value), source))
     }
 
-    /// Steps to what is asked of the element at a place.
-    fn step_element(&mut self, place: usize) -> Result<(), AllocError> {
-        let Some(Shape::List { front, end }) = self.shape() else {
-            self.lose();
-            return Ok(());
+    /// How many fixed elements a list has.
+    pub(crate) fn fixed_count(self) -> usize {
+        match self.shape {
+            Some(Shape::List { front, .. }) => front.len(),
+            _ => 0,
+        }
+    }
+
+    /// What is asked of the element at a place.
+    pub(crate) fn element(self, place: usize, path: &mut String) -> Result<Node<'t>, AllocError> {
+        let Some(Shape::List { front, end }) = self.shape else {
+            return Ok(self.to(None, None));
+        };
+        let each = match end {
+            ShapeEnd::Each(shape) => Some(&**shape),
+            ShapeEnd::Closed | ShapeEnd::Any => None,
         };
         let fixed = front.len();
-        self.node = element_of(front, end, place);
+        let source = match self.source {
+            Some(found) if place < fixed => found.element(place),
+            Some(found) => found.list_end(fixed),
+            None => None,
+        };
+        path.push('[')?;
         if place < fixed {
-            self.source = self.source.and_then(|found| found.element(place));
-            self.rule.push('[')?;
-            put_number(&mut self.rule, place)?;
-            return self.rule.push(']');
+            put_number(path, place)?;
         }
-        self.source = self.source.and_then(|found| found.list_end(fixed));
-        self.rule.push_str("[]")
-    }
-
-    /// Steps along a cause of the pair at a place among the links.
-    pub(crate) fn step(
-        &mut self,
-        cause: &InstanceCause,
-        link: usize,
-        as_close: usize,
-    ) -> Result<(), AllocError> {
-        self.steps = self.steps.saturating_add(1);
-        match cause {
-            InstanceCause::Part { place, .. } => self.step_part(*place),
-            InstanceCause::Alternative { place, .. } => {
-                self.step_alternative(*place, link, as_close);
-                Ok(())
-            }
-            InstanceCause::Member { declaration, .. } => self.step_member(*declaration),
-            InstanceCause::Element { place, .. } => self.step_element(*place),
-            InstanceCause::Unmet
-            | InstanceCause::Missing { .. }
-            | InstanceCause::Extra { .. }
-            | InstanceCause::Few
-            | InstanceCause::Many
-            | InstanceCause::NoAlternative => Ok(()),
-        }
+        path.push(']')?;
+        Ok(self.to(front.get(place).or(each), source))
     }
 }

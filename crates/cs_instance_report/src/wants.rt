@@ -1,10 +1,16 @@
-// What is found, and what expressions of CUE ask for, as CUE spells it.
+// What expressions of CUE ask for, as CUE spells it.
 use cs_flat::Item;
 use cs_instance_reasons::{Want, Wanted};
-use cs_package::{Kind, Relation, Shape};
+use cs_package::{Inside, Kind, Literal, Relation, Shape, Simple};
 use cs_place::put_quoted;
-use cs_report::{MOST_WANTED, put_beginning, put_integer, put_number};
+use cs_reason_words::{Kinds, MOST_WANTED, put_between, put_integer, put_more};
 use std::alloc::AllocError;
+
+/// What values with parts are called in CUE.
+pub(crate) const KINDS: Kinds = Kinds {
+    list: "a list",
+    map: "a struct",
+};
 
 fn kind_name(kind: Kind) -> &'static str {
     match kind {
@@ -43,59 +49,57 @@ fn put_range(text: &mut String, least: i64, greatest: Option<i64>) -> Result<(),
     if let Some(name) = range_name(least, greatest) {
         return text.push_str(name);
     }
-    text.push_str(">=")?;
-    put_integer(text, least)?;
+    put_literal(text, ">=", Literal::Int(least))?;
     if let Some(most) = greatest {
-        text.push_str(" & <=")?;
-        put_integer(text, most)?;
+        put_literal(text, " & <=", Literal::Int(most))?;
     }
     Ok(())
 }
 
-/// Puts a mark and an integer.
-fn put_limit(text: &mut String, mark: &str, limit: i64) -> Result<(), AllocError> {
+/// Puts a literal behind a mark.
+fn put_literal(text: &mut String, mark: &str, literal: Literal<'_>) -> Result<(), AllocError> {
     text.push_str(mark)?;
-    put_integer(text, limit)
-}
-
-/// Puts an expression as CUE spells it; of one with parts of what kind its values are.
-fn put_shape(text: &mut String, shape: &Shape) -> Result<(), AllocError> {
-    match shape {
-        Shape::Top | Shape::Definition(_) | Shape::And(_) | Shape::Or(_) => text.push('_'),
-        Shape::Bottom => text.push_str("_|_"),
-        Shape::Null => text.push_str("null"),
-        Shape::Bool(value) => text.push_str(if *value { "true" } else { "false" }),
-        Shape::Int(value) => put_integer(text, *value),
-        Shape::Text(value) => put_quoted(text, value.as_str()),
-        Shape::Kind(kind) => text.push_str(kind_name(*kind)),
-        Shape::Range { least, greatest } => put_range(text, *least, *greatest),
-        Shape::Bound { relation, limit } => put_limit(text, relation_mark(*relation), *limit),
-        Shape::NotInt(value) => put_limit(text, "!=", *value),
-        Shape::NotText(value) => {
-            text.push_str("!=")?;
-            put_quoted(text, value.as_str())
-        }
-        Shape::NotNull => text.push_str("!=null"),
-        Shape::Struct { .. } => text.push_str("a struct"),
-        Shape::List { .. } => text.push_str("a list"),
+    match literal {
+        Literal::Null => text.push_str("null"),
+        Literal::Bool(value) => text.push_str(if value { "true" } else { "false" }),
+        Literal::Int(value) => put_integer(text, value),
+        Literal::Text(value) => put_quoted(text, value),
     }
 }
 
-fn put_want(text: &mut String, want: &Want<'_>) -> Result<(), AllocError> {
-    match want {
-        Want::Expression(shape) => put_shape(text, shape),
-        Want::Struct => text.push_str("a struct"),
-        Want::List => text.push_str("a list"),
+/// Puts an expression as CUE spells it; of one with parts of what kind its values are.
+pub(crate) fn put_shape(text: &mut String, shape: &Shape) -> Result<(), AllocError> {
+    match shape.inside() {
+        Inside::Simple(simple) => put_simple(text, simple),
+        Inside::Struct { .. } => text.push_str(KINDS.map),
+        Inside::List { .. } => text.push_str(KINDS.list),
+        Inside::Definition(_) | Inside::And(_) | Inside::Or(_) => text.push('_'),
+    }
+}
+
+fn put_simple(text: &mut String, simple: Simple<'_>) -> Result<(), AllocError> {
+    match simple {
+        Simple::Top => text.push('_'),
+        Simple::Bottom => text.push_str("_|_"),
+        Simple::Literal(value) => put_literal(text, "", value),
+        Simple::Excluded(value) => put_literal(text, "!=", value),
+        Simple::Kind(kind) => text.push_str(kind_name(kind)),
+        Simple::Range { least, greatest } => put_range(text, least, greatest),
+        Simple::Bound { relation, limit } => {
+            put_literal(text, relation_mark(relation), Literal::Int(limit))
+        }
     }
 }
 
 /// Puts what one alternative asks for.
-fn put_alternative(text: &mut String, wants: &Vec<Want<'_>>) -> Result<(), AllocError> {
+fn put_wants(text: &mut String, wants: &Vec<Want<'_>>) -> Result<(), AllocError> {
     for (place, want) in wants.iter().enumerate() {
-        if place > 0 {
-            text.push_str(" & ")?;
+        put_between(text, place, " & ")?;
+        match want {
+            Want::Expression(shape) => put_shape(text, shape)?,
+            Want::Struct => text.push_str(KINDS.map)?,
+            Want::List => text.push_str(KINDS.list)?,
         }
-        put_want(text, want)?;
     }
     Ok(())
 }
@@ -107,150 +111,84 @@ fn is_never(wants: &Vec<Want<'_>>) -> bool {
         .any(|want| matches!(want, Want::Expression(Shape::Bottom)))
 }
 
-/// How many alternatives take some value.
-fn count_told(wanted: &Wanted<'_>) -> usize {
-    let mut count = 0usize;
-    for wants in &wanted.alternatives {
-        if !is_never(wants) {
-            count = count.saturating_add(1);
-        }
-    }
-    count
-}
-
-/// Puts what alternatives ask for that take some value: the first ones, and how many more there are.
-fn put_alternatives(text: &mut String, wanted: &Wanted<'_>) -> Result<(), AllocError> {
-    let mut told = 0usize;
-    for wants in &wanted.alternatives {
-        if told < MOST_WANTED && !is_never(wants) {
-            if told > 0 {
-                text.push_str(" | ")?;
-            }
-            put_alternative(text, wants)?;
-            told = told.saturating_add(1);
-        }
-    }
-    let left = count_told(wanted).saturating_sub(told);
-    if left > 0 {
-        text.push_str(" and ")?;
-        put_number(text, left)?;
-        text.push_str(" more")?;
-    }
-    Ok(())
-}
-
-/// Puts a value that is found: a string as JSON writes it, cut where it is long, or of which kind it is.
-pub(crate) fn put_found(text: &mut String, item: Item<'_>) -> Result<(), AllocError> {
-    match item {
-        Item::Null => text.push_str("null"),
-        Item::Bool(value) => text.push_str(if value { "true" } else { "false" }),
-        Item::Int(value) => put_integer(text, value),
-        Item::Text(value) => put_beginning(text, value),
-        Item::List(_) => text.push_str("a list"),
-        Item::Object(_) => text.push_str("a struct"),
-    }
-}
-
-/// Puts what is found and what is wanted of it.
-pub(crate) fn put_mismatch(
-    text: &mut String,
-    item: Item<'_>,
-    shape: &Shape,
-) -> Result<(), AllocError> {
-    if matches!(shape, Shape::Bottom) {
-        return text.push_str("nothing is allowed here");
-    }
-    text.push_str("found ")?;
-    put_found(text, item)?;
-    text.push_str(", want ")?;
-    put_shape(text, shape)
-}
-
-/// Puts what is found and what alternatives want of it.
-pub(crate) fn put_none_taken(
-    text: &mut String,
-    item: Item<'_>,
-    wanted: &Wanted<'_>,
-) -> Result<(), AllocError> {
-    if count_told(wanted) == 0 {
-        return text.push_str("nothing is allowed here");
-    }
-    text.push_str("found ")?;
-    put_found(text, item)?;
-    text.push_str(", want ")?;
-    put_alternatives(text, wanted)
-}
-
-/// Of which kind all values are that an expression without parts admits, where it is no literal: numbers or texts. Empty where that
-/// isn't so.
-pub(crate) fn admitted_kind(shape: &Shape) -> &'static str {
-    match shape {
-        Shape::Kind(Kind::Int | Kind::Number)
-        | Shape::Range { .. }
-        | Shape::Bound { .. }
-        | Shape::NotInt(_) => "number",
-        Shape::Kind(Kind::Text) | Shape::NotText(_) => "text",
-        Shape::Kind(Kind::Bool)
-        | Shape::Top
-        | Shape::Bottom
-        | Shape::Null
-        | Shape::Bool(_)
-        | Shape::Int(_)
-        | Shape::Text(_)
-        | Shape::Definition(_)
-        | Shape::NotNull
-        | Shape::And(_)
-        | Shape::Or(_)
-        | Shape::Struct { .. }
-        | Shape::List { .. } => "",
-    }
-}
-
-/// Which kind of reason it is that a value isn't what an expression admits, in a word.
-pub(crate) fn mismatch_word(item: Item<'_>, shape: &Shape) -> &'static str {
-    let number = matches!(item, Item::Int(_));
-    match shape {
-        Shape::Bottom => "never",
-        Shape::Null | Shape::Bool(_) | Shape::Int(_) | Shape::Text(_) => "value",
-        Shape::Range { .. } | Shape::Bound { .. } if number => "range",
-        Shape::NotInt(_) if number => "excluded",
-        Shape::NotText(_) if matches!(item, Item::Text(_)) => "excluded",
-        Shape::NotNull => "excluded",
-        Shape::Top
-        | Shape::Kind(_)
-        | Shape::Range { .. }
-        | Shape::Bound { .. }
-        | Shape::NotInt(_)
-        | Shape::NotText(_)
-        | Shape::Definition(_)
-        | Shape::And(_)
-        | Shape::Or(_)
-        | Shape::Struct { .. }
-        | Shape::List { .. } => "kind",
-    }
-}
-
 /// Whether an alternative asks for a literal.
 fn is_literal(wants: &Vec<Want<'_>>) -> bool {
-    wants.iter().any(|want| {
-        matches!(
-            want,
-            Want::Expression(Shape::Null | Shape::Bool(_) | Shape::Int(_) | Shape::Text(_))
-        )
+    wants.iter().any(|want| match want {
+        Want::Expression(shape) => shape.literal().is_some(),
+        Want::Struct | Want::List => false,
     })
 }
 
-/// Which kind of reason it is that no alternative takes a value, in a word: by those that take some value.
-pub(crate) fn none_taken_word(wanted: &Wanted<'_>) -> &'static str {
-    if count_told(wanted) == 0 {
-        "never"
-    } else if wanted
-        .alternatives
-        .iter()
-        .all(|wants| is_never(wants) || is_literal(wants))
+/// Puts what alternatives ask for that take some value: the first ones, and how many more there are. Which kind of reason it is that none of
+/// these takes a value, in a word.
+pub(crate) fn put_alternatives(
+    text: &mut String,
+    wanted: &Wanted<'_>,
+) -> Result<&'static str, AllocError> {
+    let mut count = 0usize;
+    let mut are_values = true;
+    for wants in &wanted.alternatives {
+        if is_never(wants) {
+            continue;
+        }
+        if count < MOST_WANTED {
+            put_between(text, count, " | ")?;
+            put_wants(text, wants)?;
+        }
+        are_values = are_values && is_literal(wants);
+        count = count.saturating_add(1);
+    }
+    put_more(text, count)?;
+    Ok(match (count, are_values) {
+        (0, _) => "never",
+        (_, true) => "value",
+        (_, false) => "alternatives",
+    })
+}
+
+/// Of which kind a value is: a number, a text, or something else, which has no name here.
+fn kind_of(item: Item<'_>) -> &'static str {
+    match item {
+        Item::Int(_) => "number",
+        Item::Text(_) => "text",
+        Item::Null | Item::Bool(_) | Item::List(_) | Item::Object(_) => "",
+    }
+}
+
+/// Of which kind all values are that an expression without parts admits or leaves out, where it is no literal: numbers or texts. Empty
+/// where that isn't so.
+fn admitted_kind(shape: &Shape) -> &'static str {
+    let left_out = shape.excluded();
+    let is_number = matches!(shape, Shape::Kind(Kind::Int | Kind::Number));
+    if is_number || is_limit(shape) || matches!(left_out, Some(Literal::Int(_))) {
+        "number"
+    } else if matches!(shape, Shape::Kind(Kind::Text))
+        || matches!(left_out, Some(Literal::Text(_)))
     {
-        "value"
+        "text"
     } else {
-        "alternatives"
+        ""
+    }
+}
+
+/// Whether an expression is a limit, or two, of integers.
+fn is_limit(shape: &Shape) -> bool {
+    matches!(shape, Shape::Range { .. } | Shape::Bound { .. })
+}
+
+/// Which kind of reason it is that a value isn't what an expression admits, in a word, and of which kind the value isn't, where that is all
+/// that is wrong with it.
+pub(crate) fn mismatch_words(item: Item<'_>, shape: &Shape) -> (&'static str, &'static str) {
+    let kind = admitted_kind(shape);
+    if shape.literal().is_some() {
+        ("value", "")
+    } else if kind != kind_of(item) {
+        ("kind", kind)
+    } else if shape.excluded().is_some() {
+        ("excluded", "")
+    } else if is_limit(shape) {
+        ("range", "")
+    } else {
+        ("kind", "")
     }
 }

@@ -1,60 +1,39 @@
 -- What is read, numbered and judged of rules is what the calls say of their bytes.
-use Rattle.std.proofs.Common.{◌≡◌, ℕ, Bool, List, Bor, Result, Ok, Err, IfOk, IfErr, IsOkUnless, map, string_bytes, refl, sym, subst}
+use Rattle.std.proofs.Common.{◌≡◌, ℕ, Bool, List, Bor, Result, map, string_bytes, sym, subst}
 use Rattle.cs_document.specs.Document.{Document}
 use Rattle.cs_package.specs.Environment.{Environment}
 use Rattle.cs_profile.specs.SchemaDocument.{document_of}
 use Rattle.cs_profile.specs.declared.schema_doc.SchemaDoc.{SchemaDoc}
 use Rattle.cs_tool.specs.Accepted.{DeclaresRoot}
-use Rattle.cs_tool.specs.Agreement.{IsAgreement}
-use Rattle.cs_tool.specs.CallRefusals.{VetRefusal, ValidateRefusal, AgreeRefusal}
-use Rattle.cs_tool.specs.Headline.{IsVerdict, IsValidated}
-use Rattle.cs_judge.specs.Judged.{call_on}
+use Rattle.cs_judge.specs.Judged.{call_on, IsOf}
 use Rattle.cs_judge.specs.Prepared.{IsReadOf, AreNumbersOf}
-use Rattle.cs_tool.specs.Ready.{IsReadyToVet, IsReadyToValidate, IsReadyToAgree}
-use Rattle.cs_tool.specs.Runs.{Call, IsCallAnswer, IsCallRefusal, IsReadyCall, verdict_text}
+use Rattle.cs_tool.specs.Runs.{vet, validate, agree}
 use Rattle.cs_tool.specs.Sides.{IsSchemaOf, AreSidesOf}
 use Rattle.cs_tool.specs.declared.fault.Fault.{Fault}
-use Rattle.cs_tool.specs.declared.fault.Fault.TheVariants.{OutOfMemory}
 use Rattle.cs_tool.specs.declared.rules.Rules.{Rules}
 use Rattle.cs_tool.specs.declared.rules.Rules.TheVariants as rules
 use Rattle.cs_judge.specs.declared.text_judge.ReadRules.TheVariants as read
 use Rattle.cs_judge.specs.declared.text_judge.NumberedRules.TheVariants as numbered
 use Rattle.cs_tool.proofs.Numbered.{numbered_sides}
 
--- the result is that of the call
-pub record IsOf (call : Call) (result : Result Bool Fault) : Type 0 where
-  pub found : IfOk result (λ b. IsCallAnswer call b (verdict_text b))
-  pub refused : IfErr result (IsCallRefusal call)
-  pub only : IsReadyCall call → IsOkUnless result OutOfMemory
-
-with_text : (P : Bool → Type 0) (result : Result Bool Fault) → IfOk result P → IfOk result (λ b. P b × (verdict_text b ≡ verdict_text b))
-with_text P (Ok b) h = (h, refl)
-with_text P (Err e) h = tt
-
 module _ (text : List ℕ) (result : Result Bool Fault) where
   pub by_root : (R : Rules) (r : Environment × List ℕ) → AreNumbersOf R (numbered.Root r)
-      → ((ss : List (List ℕ)) (root : List ℕ) → DeclaresRoot ss root r.0 r.1 → IfOk result (λ b. IsVerdict ss root text b))
-      → ((ss : List (List ℕ)) (root : List ℕ) → DeclaresRoot ss root r.0 r.1 → IfErr result (λ e. VetRefusal ss root text e))
-      → ((ss : List (List ℕ)) (root : List ℕ) → DeclaresRoot ss root r.0 r.1 → IsReadyToVet ss root text → IsOkUnless result OutOfMemory) → IsOf (call_on R text) result
-  by_root (rules.Root sources root) r is found refused only = record { found = with_text _ result (found _ _ is); refused = refused _ _ is; only = only _ _ is }
-  by_root (rules.Schema schema) r is found refused only = absurd is
-  by_root (rules.Both sources root) r is found refused only = absurd is
+      → ((ss : List (List ℕ)) (root : List ℕ) → DeclaresRoot ss root r.0 r.1 → IsOf (vet ss root text) result) → IsOf (call_on R text) result
+  by_root (rules.Root sources root) r is of = of _ _ is
+  by_root (rules.Schema schema) r is of = absurd is
+  by_root (rules.Both sources root) r is of = absurd is
 
   pub by_schema : (R : Rules) (s : Document) → AreNumbersOf R (numbered.Schema s)
-      → ((schema : List ℕ) → IsSchemaOf schema s → IfOk result (λ b. IsValidated schema text b))
-      → ((schema : List ℕ) → IsSchemaOf schema s → IfErr result (λ e. ValidateRefusal schema text e))
-      → ((schema : List ℕ) → IsSchemaOf schema s → IsReadyToValidate schema text → IsOkUnless result OutOfMemory) → IsOf (call_on R text) result
-  by_schema (rules.Schema schema) s is found refused only = record { found = with_text _ result (found _ is); refused = refused _ is; only = only _ is }
-  by_schema (rules.Root sources root) s is found refused only = absurd is
-  by_schema (rules.Both sources root) s is found refused only = absurd is
+      → ((schema : List ℕ) → IsSchemaOf schema s → IsOf (validate schema text) result) → IsOf (call_on R text) result
+  by_schema (rules.Schema schema) s is of = of _ is
+  by_schema (rules.Root sources root) s is of = absurd is
+  by_schema (rules.Both sources root) s is of = absurd is
 
   pub by_both : (R : Rules) (r : Environment × List ℕ) (s : Document) → AreNumbersOf R (numbered.Both r s)
-      → ((ss : List (List ℕ)) (root : List ℕ) → AreSidesOf ss root r.0 r.1 s → IfOk result (λ b. IsAgreement ss root text b))
-      → ((ss : List (List ℕ)) (root : List ℕ) → AreSidesOf ss root r.0 r.1 s → IfErr result (λ e. AgreeRefusal ss root text e))
-      → ((ss : List (List ℕ)) (root : List ℕ) → AreSidesOf ss root r.0 r.1 s → IsReadyToAgree ss root text → IsOkUnless result OutOfMemory) → IsOf (call_on R text) result
-  by_both (rules.Both sources root) r s is found refused only = record { found = with_text _ result (found _ _ is); refused = refused _ _ is; only = only _ _ is }
-  by_both (rules.Root sources root) r s is found refused only = absurd is
-  by_both (rules.Schema schema) r s is found refused only = absurd is
+      → ((ss : List (List ℕ)) (root : List ℕ) → AreSidesOf ss root r.0 r.1 s → IsOf (agree ss root text) result) → IsOf (call_on R text) result
+  by_both (rules.Both sources root) r s is of = of _ _ is
+  by_both (rules.Root sources root) r s is of = absurd is
+  by_both (rules.Schema schema) r s is of = absurd is
 
 -- numbered sides are those of some sources
 pub sides_of : (R : Rules) (r : Environment × List ℕ) (s : Document) → AreNumbersOf R (numbered.Both r s) → (ss : List (List ℕ)) × (root : List ℕ) × AreSidesOf ss root r.0 r.1 s

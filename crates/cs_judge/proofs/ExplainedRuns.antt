@@ -1,16 +1,16 @@
 -- What is told of answers, written and left.
-use Rattle.std.proofs.Common.{◌≡◌, ◌⊎◌, ℕ, ◌+◌, ◌-◌, ◌^◌, min, List, [], ◌∷◌, ◌++◌, length, Bool, true, false, not, Option, None, Some, Result, Ok, Err, IfOk, IfErr, refl, inl, inr, sym, ap, subst, ◌∙◌, arith, append_assoc, length-append, codes}
+use Rattle.std.proofs.Common.{◌≡◌, ◌⊎◌, ℕ, ◌+◌, ◌-◌, ◌^◌, min, List, [], ◌∷◌, ◌++◌, length, Bool, true, false, Option, None, Some, Result, Ok, Err, IfOk, IfErr, refl, inl, inr, sym, ap, subst, ◌∙◌, arith, append_assoc, length-append, codes}
 use Rattle.std.specs.Io.KnownBytes.{Appends}
 use Rattle.std.proofs.KnownBytes.{Appends-trans}
 use Rattle.cs_tool.specs.Streams.{AppendsFront}
 use Rattle.cs_place.specs.Shown.{shown}
-use Rattle.cs_report.specs.Valid.{report_text, Says, Reports}
-use Rattle.cs_report.specs.declared.form.Form.{Form}
-use Rattle.cs_report.specs.declared.form.Form.TheVariants.{Lines, Json, Flag, Basic}
+use Rattle.cs_reason_words.specs.Valid.{report_text, Reports}
+use Rattle.cs_reason_words.specs.declared.form.Form.{Form}
+use Rattle.cs_reason_words.specs.declared.form.Form.TheVariants.{Lines, Json, Flag, Basic}
 use Rattle.cs_tool.specs.declared.rules.Rules.{Rules}
 use Rattle.cs_judge.specs.Answering.{AreAnswered}
 use Rattle.cs_judge.specs.declared.lines.LineRun.{LineRun}
-use Rattle.cs_judge.specs.Explained.{IsTold, Tells, is_told_by_schema, ReportsIf, IsLabelled, members_text, IsObject, input_member, document_member, IsDocumentFront, IsDocumentObject, IsWrittenOf, behind, WritesLabelled, LeavesLabelled, line_number, AreObjects, no_object, one_object, AreTold, IsWritten, AreToldTo}
+use Rattle.cs_judge.specs.Explained.{IsTold, Tells, root_form, schema_form, IsReport, ReportsAsked, IsLabelled, members_text, IsObject, input_member, document_member, IsDocumentFront, IsDocumentObject, IsWrittenOf, behind, WritesLabelled, LeavesLabelled, line_number, AreObjects, no_object, one_object, AreTold, IsWritten, AreToldTo}
 use Rattle.cs_judge.specs.Judged.{call_on}
 use Rattle.cs_judge.specs.Lines.{Answer, IsTextAnswer, answer_line, labelled}
 use Rattle.cs_tool.specs.Runs.{IsCallAnswer, IsCallRefusal, verdict_text}
@@ -21,15 +21,20 @@ pub told_first : (form : Option Form) (truth : Bool) (told : List ℕ) → Tells
 told_first form truth told h = subst (IsTold form truth) (sym h.1) h.2
 
 -- nothing was reported before
-pub first_report : (form : Form) (truth : Bool) (old new told : List ℕ) → old ≡ [] → told ≡ new → Reports form truth old new → Says form truth told
-first_report form truth old new told none same h = (h.2.0, same ∙ h.1 ∙ ap (λ o. o ++ h.0) none ∙ h.2.1, h.2.2)
+pub first_report : (form : Option Form) (truth : Bool) (old new told : List ℕ) → old ≡ [] → told ≡ new → ReportsAsked form truth old new → IsReport form truth told
+first_report None truth old new told none same h = tt
+first_report (Some form) truth old new told none same h = (h.2.0, same ∙ h.1 ∙ ap (λ o. o ++ h.0) none ∙ h.2.1, h.2.2)
 
 -- where both sides say the same, the report says it, whichever side makes it
-pub one_side : (form : Form) (a b : Bool) (old mid new : List ℕ) → a ≡ b → ReportsIf (not (is_told_by_schema form)) form a old mid → ReportsIf (is_told_by_schema form) form b mid new → Reports form a old new
-one_side Lines a b old mid new same root schema = subst (Reports Lines a old) (sym schema) root
-one_side Json a b old mid new same root schema = subst (Reports Json a old) (sym schema) root
-one_side Flag a b old mid new same root schema = subst (λ t. Reports Flag t old new) (sym same) (subst (λ m. Reports Flag b m new) root schema)
-one_side Basic a b old mid new same root schema = subst (λ t. Reports Basic t old new) (sym same) (subst (λ m. Reports Basic b m new) root schema)
+pub one_side : (form : Option Form) (a b : Bool) (old mid new : List ℕ) → a ≡ b → ReportsAsked (root_form form) a old mid → ReportsAsked (schema_form form) b mid new → ReportsAsked form a old new
+one_side None a b old mid new same root schema = schema ∙ root
+one_side (Some Lines) a b old mid new same root schema = subst (Reports Lines a old) (sym schema) root
+one_side (Some Json) a b old mid new same root schema = subst (Reports Json a old) (sym schema) root
+one_side (Some Flag) a b old mid new same root schema = subst (λ t. Reports Flag t old new) (sym same) (subst (λ m. Reports Flag b m new) root schema)
+one_side (Some Basic) a b old mid new same root schema = subst (λ t. Reports Basic t old new) (sym same) (subst (λ m. Reports Basic b m new) root schema)
+
+pub reports_same : (form : Option Form) (a b : Bool) (old new : List ℕ) → a ≡ b → ReportsAsked form a old new → ReportsAsked form b old new
+reports_same form a b old new same h = subst (λ t. ReportsAsked form t old new) same h
 
 -- what is told of a verdict follows the label
 pub labelled_told : (label : List ℕ) (truth : Bool) (told : List ℕ) → IsTold (Some Lines) truth told → IsLabelled label (Ok truth) (behind label told)

@@ -3,9 +3,9 @@ use Rattle.std.specs.Prelude.{◌≡◌, ◌⊎◌, ℕ, ◌+◌, ◌-◌, ◌^�
 use Rattle.std.specs.Io.KnownBytes.{Appends, Keeps}
 use Rattle.json.specs.Print.{quoted}
 use Rattle.cs_place.specs.Shown.{shown}
-use Rattle.cs_report.specs.Valid.{EndsInLine, Says, Reports}
-use Rattle.cs_report.specs.declared.form.Form.{Form}
-use Rattle.cs_report.specs.declared.form.Form.TheVariants.{Lines, Json, Flag, Basic}
+use Rattle.cs_reason_words.specs.Valid.{EndsInLine, Says, Reports}
+use Rattle.cs_reason_words.specs.declared.form.Form.{Form}
+use Rattle.cs_reason_words.specs.declared.form.Form.TheVariants.{Lines, Json, Flag, Basic}
 use Rattle.cs_judge.specs.declared.why.Why.{Why}
 use Rattle.cs_judge.specs.Judged.{call_on}
 use Rattle.cs_judge.specs.Lines.{Answer, AreAnswerLines, answer_line, labelled, Hands}
@@ -34,12 +34,20 @@ IsTold (Some Basic) truth text = Says Basic truth text
 abbrev pub Tells : Option Form → Bool → List ℕ → List ℕ → Type 0
 Tells form truth old new = (text : List ℕ) × (new ≡ old ++ text) × IsTold form truth text
 
--- where a document is judged on both sides, the schema tells the reasons in the output formats of JSON Schema
-abbrev pub is_told_by_schema : Form → Bool
-is_told_by_schema Lines = false
-is_told_by_schema Json = false
-is_told_by_schema Flag = true
-is_told_by_schema Basic = true
+-- where a document is judged on both sides, the schema tells the reasons in the output formats of JSON Schema, and else the definition
+abbrev pub root_form : Option Form → Option Form
+root_form (Some Lines) = Some Lines
+root_form (Some Json) = Some Json
+root_form (Some Flag) = None
+root_form (Some Basic) = None
+root_form None = None
+
+abbrev pub schema_form : Option Form → Option Form
+schema_form (Some Lines) = None
+schema_form (Some Json) = None
+schema_form (Some Flag) = Some Flag
+schema_form (Some Basic) = Some Basic
+schema_form None = None
 
 -- ---- what is written of a document
 
@@ -126,10 +134,15 @@ AreTold (Some Basic) answers text = AreObjects Basic answers text
 abbrev pub behind : List ℕ → List ℕ → List ℕ
 behind label text = shown label ++ codes ": " ++ text
 
--- what one side adds to the report of a document that is judged on both: all, or nothing
-abbrev pub ReportsIf : Bool → Form → Bool → List ℕ → List ℕ → Type 0
-ReportsIf true form truth old new = Reports form truth old new
-ReportsIf false form truth old new = new ≡ old
+-- the report says the verdict, where reasons are asked for
+abbrev pub IsReport : Option Form → Bool → List ℕ → Type 0
+IsReport None truth report = Unit {0}
+IsReport (Some form) truth report = Says form truth report
+
+-- what is added to it: nothing where none are asked for
+abbrev pub ReportsAsked : Option Form → Bool → List ℕ → List ℕ → Type 0
+ReportsAsked None truth old new = new ≡ old
+ReportsAsked (Some form) truth old new = Reports form truth old new
 
 -- what is written of the answer to a line of that number
 abbrev pub IsWritten : Option Form → ℕ → Answer → List ℕ → Type 0

@@ -1,10 +1,12 @@
 -- The call that judges a text by rules.
-use Rattle.std.specs.Prelude.{ℕ, List, map, string_bytes}
+use Rattle.std.specs.Prelude.{ℕ, List, Bool, Result, IfOk, IfErr, IsOkUnless, map, string_bytes}
 use Rattle.cs_tool.specs.declared.rules.Rules.{Rules}
 use Rattle.cs_tool.specs.declared.rules.Rules.TheVariants.{Root, Schema, Both}
 use Rattle.cs_tool.specs.Ready.{IsReady}
 use Rattle.cs_tool.specs.CallRefusals.{IsSchemaText}
-use Rattle.cs_tool.specs.Runs.{Call, vet, validate, agree}
+use Rattle.cs_tool.specs.Runs.{Call, vet, validate, agree, IsCallAnswer, IsCallRefusal, IsReadyCall, verdict_text}
+use Rattle.cs_tool.specs.declared.fault.Fault.{Fault}
+use Rattle.cs_tool.specs.declared.fault.Fault.TheVariants.{OutOfMemory}
 
 -- the call that judges the text
 abbrev pub call_on : Rules → List ℕ → Call
@@ -17,3 +19,9 @@ abbrev pub AreReadable : Rules → Type 0
 AreReadable (Root sources root) = IsReady (map (λ s. s.items) sources.items) (string_bytes root)
 AreReadable (Schema schema) = IsSchemaText schema.items
 AreReadable (Both sources root) = IsReady (map (λ s. s.items) sources.items) (string_bytes root)
+
+-- the result is that of the call
+pub record IsOf (call : Call) (result : Result Bool Fault) : Type 0 where
+  pub found : IfOk result (λ b. IsCallAnswer call b (verdict_text b))
+  pub refused : IfErr result (IsCallRefusal call)
+  pub only : IsReadyCall call → IsOkUnless result OutOfMemory

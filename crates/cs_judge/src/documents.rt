@@ -1,19 +1,19 @@
 // Answers to single documents, over writers.
 ghost use Rattle.std.specs.Prelude.{◌≡◌, ◌⊎◌, ◌++◌, ℕ, List, Some, drop, Err, OnOk, OnErr, IfOk, IfErr};
 ghost use Rattle.std.specs.Io.KnownBytes.{Appends};
-ghost use Rattle.cs_judge.specs.Explained.{asked_form, IsToldAnswer, LeavesTold, IsTold, IsDocumentFront, members_text, behind, WritesLabelled, LeavesLabelled};
+ghost use Rattle.cs_judge.specs.Explained.{asked_form, IsToldAnswer, LeavesTold, IsTold, IsDocumentFront, document_member, members_text, behind, WritesLabelled, LeavesLabelled};
 ghost use Rattle.cs_judge.specs.Judged.{call_on};
 ghost use Rattle.cs_judge.specs.Lines.{Answer, IsTextAnswer, outcome_of_answer};
 ghost use Rattle.cs_tool.specs.Runs.{IsReadyCall};
 ghost use Rattle.cs_tool.specs.Streams.{AppendsFront};
 
 use crate::answers::{LinesOutcome, outcome_of, write_labelled};
-use crate::fronts::document_front;
 use crate::text_judge::TextJudge;
 use crate::why::{Why, form_of};
 use cs_place::{Label, Named};
-use cs_report::Form;
+use cs_reason_words::Form;
 use cs_tool::{Fault, MEMBER_ROOM, put, put_error, write_part, write_text};
+use json::Writer;
 use std::alloc::{AllocError, Global};
 use std::io::Write;
 
@@ -212,6 +212,19 @@ fn write_front<W: Write>(alloc: Global, name: &str, output: &mut W) -> Result<()
         Ok(front) => write_part(output, &front),
         Err(AllocError) => write_part(output, b"{"),
     }
+}
+
+/// The beginning of the object of a document of that name, with its first member.
+fn document_front(alloc: Global, name: &str) -> Result<Vec<u8>, AllocError>
+    ensures { IfOk result (λ front. front.items ≡ document_member name.now) }
+{
+    let mut out = Writer::new(Vec::new(alloc));
+    out.begin_object()?;
+    out.key("document")?;
+    out.string(name)?;
+    let mut front = out.into_inner();
+    front.push(b',')?;
+    Ok(front)
 }
 
 /// Writes what follows the front of an object that tells an answer; then flushes.

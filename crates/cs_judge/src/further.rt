@@ -1,23 +1,15 @@
 // Reasons beyond those that are asked for: what several of them say is one line, so lines are counted by all of them.
-ghost use Rattle.std.specs.Prelude.{◌≡◌, ℕ, Bool, IfOk, IfErr, OnOk, IsErrOf, is_none};
-ghost use Rattle.cs_document.specs.Document.{Document as TheDocument};
+ghost use Rattle.std.specs.Prelude.{is_none};
 ghost use Rattle.cs_flat.specs.Listed.{document_in};
-ghost use Rattle.cs_instance.specs.Instance as instance;
-ghost use Rattle.cs_instance.specs.Instance.{Rule, definition, IsInstance};
-ghost use Rattle.cs_instance.specs.Refusal as unjudged;
-ghost use Rattle.cs_instance.specs.Rules as by_root;
-ghost use Rattle.cs_profile.specs.Validity as validity;
-ghost use Rattle.cs_profile.specs.Validity.{IsValidity};
-ghost use Rattle.cs_validate.specs.Refusal.{IsRefusal};
-ghost use Rattle.cs_validate.specs.Rules as by_schema;
+ghost use Rattle.cs_judge.specs.Verdicts.{IsRootVerdict, IsSchemaVerdict};
 ghost use Rattle.cs_validity_reasons.specs.WhyTold.{says_valid};
 
 use crate::why::Why;
 use cs_flat::{Flat, Item};
 use cs_instance::{InstanceFault, RootRules};
 use cs_instance_reasons::{InstanceCause, explain_instance};
+use cs_reason_words::Form;
 use cs_reasons::{Reasons, Telling};
-use cs_report::Form;
 use cs_table::Verdicts;
 use cs_validate::{SchemaRules, ValidateFault};
 use cs_validity_reasons::{Explanation, explain_validity};
@@ -104,14 +96,7 @@ pub(crate) fn explained_by_root<'b>(
     table: &mut Verdicts,
     why: Why<'_>,
 ) -> Result<Option<Reasons<InstanceCause>>, InstanceFault>
-    ensures one_meaning { OnOk result (instance.OneMeaning rules.now.0) }
-    ensures answer { IfOk result (λ o. (I : Rule → TheDocument → Bool) → IsInstance rules.now.0 I
-        → is_none o ≡ I (definition rules.now.1) (document_in flat.now)) }
-    ensures within { OnOk result
-        (¬ by_root.HasManyPairs rules.now.0 rules.now.1 (document_in flat.now)) }
-    ensures many { (i r : ℕ) → IsErrOf result (InstanceFault.TooManyPairs i r)
-        → unjudged.AreManyPairs rules.now.0 rules.now.1 (document_in flat.now) i r }
-    ensures known { IsErrOf result InstanceFault.UnknownRoot → ⊥ }
+    ensures { IsRootVerdict rules.now.0 rules.now.1 (document_in flat.now) result (λ o. is_none o) }
 {
     let asked = explain_instance(rules, alloc, flat, table, why.telling)?;
     let again = match &asked {
@@ -135,11 +120,7 @@ pub(crate) fn explained_by_schema<'b>(
     table: &mut Verdicts,
     why: Why<'_>,
 ) -> Result<Explanation<'b>, ValidateFault>
-    ensures one_meaning { OnOk result (validity.OneMeaning rules.now) }
-    ensures answer { IfOk result (λ o. (V : TheDocument → TheDocument → Bool)
-        → IsValidity rules.now V → says_valid o ≡ V rules.now (document_in flat.now)) }
-    ensures within { OnOk result (¬ by_schema.HasManyPairs rules.now (document_in flat.now)) }
-    ensures refused { IfErr result (λ e. IsRefusal e rules.now (document_in flat.now)) }
+    ensures { IsSchemaVerdict rules.now (document_in flat.now) result (λ o. says_valid o) }
 {
     let asked = explain_validity(rules, alloc, flat, table, why.telling)?;
     let again = match &asked {

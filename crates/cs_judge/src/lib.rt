@@ -5,7 +5,6 @@ mod answers;
 mod begun_line;
 mod documents;
 mod explanations;
-mod fronts;
 mod further;
 mod held_answers;
 mod lines;
@@ -16,8 +15,8 @@ mod why;
 
 pub use answers::LinesOutcome;
 pub use cs_place::Named;
+pub use cs_reason_words::Form;
 pub use cs_reasons::Telling;
-pub use cs_report::Form;
 pub use documents::{run_document, write_document, write_unread};
 pub use lines::run_lines;
 pub use text_judge::{Prepared, TextJudge, prepare};

@@ -1,22 +1,22 @@
 // A run over the lines of an input.
-ghost use Rattle.std.specs.Prelude.{◌≡◌, ◌⊎◌, ℕ, ◌+◌, ◌-◌, ◌^◌, min, List, ◌∷◌, [], ◌++◌, ◌<◌, length, Option, Some, OnOk, OnErr, IfOk, IfErr, Err};
+ghost use Rattle.std.specs.Prelude.{◌≡◌, ◌⊎◌, ℕ, ◌+◌, ◌-◌, ◌^◌, min, List, ◌∷◌, [], ◌++◌, ◌<◌, ◌≤◌, length, take, Option, Some, OnOk, OnErr, IfOk, IfErr, Err};
 ghost use Rattle.cs_judge.specs.Begun.{HoldsFront};
-ghost use Rattle.cs_judge.specs.Explained.{asked_form, IsTold, Tells, input_member, members_text, AreTold, AreToldTo, HoldsWritten, LeavesWritten};
-ghost use Rattle.cs_judge.specs.Lines.{IsLineAnswer, worse, outcome_of_answer, IsDone, IsCutOff, LeavesLines, IsOfRules, Hands};
+ghost use Rattle.cs_judge.specs.Explained.{asked_form, IsTold, input_member, members_text, AreTold, AreToldTo, HoldsWritten, LeavesWritten};
+ghost use Rattle.cs_judge.specs.Lines.{IsDone, IsCutOff, LeavesLines, IsOfRules, Hands};
 ghost use Rattle.cs_judge.specs.Answering.{AreAnswered, IsAnswered, AreCutOff, IsCutOffIn};
 ghost use Rattle.cs_tool.specs.Streams.{AppendsFront};
 
 use crate::answers::{LinesOutcome, outcome_of};
 use crate::begun_line::BegunLine;
 use crate::documents::members_of;
-use crate::fronts::put_input;
 use crate::held_answers::HeldAnswers;
 use crate::telling::verdict_line;
 use crate::text_judge::TextJudge;
 use crate::why::{Why, form_of};
 use cs_place::Named;
-use cs_report::Form;
-use cs_tool::{Fault, MEMBER_ROOM, put_error};
+use cs_reason_words::Form;
+use cs_tool::{Fault, MEMBER_ROOM, put, put_error};
+use itoa::Buffer;
 use memchr::memchr;
 use std::alloc::{AllocError, Global};
 use std::io::{Read, Write};
@@ -75,32 +75,9 @@ pub fn run_lines<R: Read, W: Write, E: Write>(
     ensures only { IfErr result (λ e. (e ≡ Fault.OutOfMemory)
         ⊎ (e ≡ Fault.ReadFailed) ⊎ (e ≡ Fault.WriteFailed)) }
 {
-    answer_input(alloc, &mut judge, name, why, input, output, notes)
-}
-
-/// Answers the lines of the input, which is read in chunks.
-fn answer_input<R: Read, W: Write, E: Write>(
-    alloc: Global,
-    judge: &mut TextJudge<'_>,
-    name: &str,
-    why: Option<Why<'_>>,
-    input: &mut R,
-    output: &mut W,
-    notes: &mut E,
-) -> Result<LinesOutcome, Fault>
-    ensures done { IfOk result (IsDone (AreTold (asked_form why.entry)) judge.old
-        (R.remaining input.old) (W.contents output.old) (W.contents output.new)) }
-    ensures refused { IfErr result (λ e. LeavesLines (AreTold (asked_form why.entry)) judge.old e
-        (R.remaining input.old) (R.remaining input.new)
-        (W.contents output.old) (W.contents output.new)) }
-    ensures unread { IfErr result (λ e. IsOfRules e
-        → (input.new ≡ input.old) × (output.new ≡ output.old)) }
-    ensures kind { IfErr result (λ e. (e ≡ Fault.OutOfMemory)
-        ⊎ (e ≡ Fault.ReadFailed) ⊎ (e ≡ Fault.WriteFailed)) }
-{
     let mut run = ToldRun::new(alloc, name)?;
     let mut chunk = vec![in alloc; 0u8; CHUNK]?;
-    answer_chunks(judge, &mut run, why, &mut chunk, input, output, notes)
+    answer_chunks(&mut judge, &mut run, why, &mut chunk, input, output, notes)
 }
 
 /// Answers the lines of the input, as many bytes at a time as the chunk has.
@@ -139,46 +116,6 @@ fn answer_chunks<R: Read, W: Write, E: Write>(
     Err(Fault::ReadFailed)
 }
 
-impl LineRun {
-    /// A run before its first line.
-    fn new(alloc: Global) -> Result<LineRun, AllocError>
-        ensures begun { IfOk result (λ r. HoldsFront r.begun []) }
-        ensures held { IfOk result (λ r. r.held ≡ []) }
-        ensures outcome { IfOk result (λ r. r.outcome ≡ LinesOutcome.AllValid) }
-    {
-        let held = HeldAnswers::new(alloc)?;
-        Ok(LineRun {
-            begun: BegunLine::new(alloc),
-            held,
-            outcome: LinesOutcome::AllValid,
-        })
-    }
-
-    /// Answers the line that ends with the piece, of which nothing is held yet, and adds what is told of it.
-    fn answer(
-        &mut self,
-        judge: &mut TextJudge<'_>,
-        piece: &[u8],
-        line: Named<'_>,
-        why: Option<Why<'_>>,
-        told: &mut Vec<u8>,
-    ) -> Result<bool, Fault>
-        ensures answer { (front : List ℕ) → HoldsFront self.old.begun front
-            → IsLineAnswer judge.old (front ++ piece.now) result }
-        ensures begun { HoldsFront self.new.begun [] }
-        ensures outcome { self.new.outcome ≡ worse self.old.outcome (outcome_of_answer result) }
-        ensures held { self.new.held ≡ self.old.held }
-        ensures told { IfOk result
-            (λ b. Tells (asked_form why.entry) b told.old.items told.new.items) }
-        ensures same { judge.new ≡ judge.old }
-    {
-        let answer = self.begun.finish(judge, piece, line, why, told);
-        let outcome = outcome_of(&answer);
-        self.outcome = self.outcome.with(outcome);
-        answer
-    }
-}
-
 impl<'a> ToldRun<'a> {
     /// A run before its first line.
     fn new(alloc: Global, name: &'a str) -> Result<ToldRun<'a>, AllocError>
@@ -187,8 +124,13 @@ impl<'a> ToldRun<'a> {
         ensures outcome { IfOk result (λ r. r.run.outcome ≡ LinesOutcome.AllValid) }
         ensures first { IfOk result (λ r. r.line.line ≡ 1) }
     {
-        let run = LineRun::new(alloc)?;
+        let held = HeldAnswers::new(alloc)?;
         let notes = HeldAnswers::new(alloc)?;
+        let run = LineRun {
+            begun: BegunLine::new(alloc),
+            held,
+            outcome: LinesOutcome::AllValid,
+        };
         let line = Named {
             name,
             text: b"",
@@ -263,7 +205,10 @@ impl ToldRun<'_> {
         self.told.clear();
         let answer = self
             .run
-            .answer(judge, piece, self.line, why, &mut self.told);
+            .begun
+            .finish(judge, piece, self.line, why, &mut self.told);
+        let outcome = outcome_of(&answer);
+        self.run.outcome = self.run.outcome.with(outcome);
         let form = form_of(why);
         note(&mut self.notes, form, &self.told, notes)?;
         let number = self.line.line;
@@ -394,4 +339,15 @@ fn hold_object<W: Write>(
             held.hold_both(&front[..end], b"}\n", output)
         }
     }
+}
+
+/// Puts the beginning of the object of a line of that number, with its first member.
+fn put_input(line: &mut [u8], number: usize) -> usize
+    requires { 35 ≤ length line.old }
+    ensures within { result ≤ 35 }
+    ensures text { take result line.new ≡ input_member number }
+{
+    let start = put(line, 0, b"{\"input\":");
+    let end = put(line, start, Buffer::new().format(number).as_bytes());
+    put(line, end, b",")
 }

@@ -1,10 +1,9 @@
 // What is told of a verdict.
-ghost use Rattle.std.specs.Prelude.{◌≡◌, ◌++◌, Some, OnOk, OnErr};
-ghost use Rattle.cs_judge.specs.Explained.{Tells};
-ghost use Rattle.cs_report.specs.Valid.{Says};
+ghost use Rattle.std.specs.Prelude.{◌≡◌, ◌++◌, OnOk, OnErr};
+ghost use Rattle.cs_judge.specs.Explained.{Tells, IsReport};
 ghost use Rattle.cs_tool.specs.Runs.{verdict_text, line_of};
 
-use cs_report::Form;
+use cs_reason_words::Form;
 use std::alloc::AllocError;
 
 /// The line of a verdict.
@@ -14,21 +13,23 @@ pub(crate) fn verdict_line(truth: bool) -> &'static [u8]
     if truth { b"valid\n" } else { b"invalid\n" }
 }
 
-/// Adds what is told of a verdict: in lines its own line, and the report behind `invalid`; in the other forms the report.
+/// Adds what is told of a verdict: its line where no reasons are asked for; in lines the same, and the report behind `invalid`; in the
+/// other forms the report.
 pub(crate) fn tell(
-    form: Form,
+    form: Option<Form>,
     truth: bool,
     report: &[u8],
     output: &mut Vec<u8>,
 ) -> Result<(), AllocError>
-    ensures told { Says form truth report.now
-        → OnOk result (Tells (Some form) truth output.old.items output.new.items) }
+    ensures told { IsReport form truth report.now
+        → OnOk result (Tells form truth output.old.items output.new.items) }
     ensures kept { OnErr result (output.new.items ≡ output.old.items) }
 {
     match form {
-        Form::Lines if truth => output.extend_from_slice(verdict_line(true)),
-        Form::Lines => add_both(verdict_line(false), report, output),
-        Form::Json | Form::Flag | Form::Basic => output.extend_from_slice(report),
+        None => output.extend_from_slice(verdict_line(truth)),
+        Some(Form::Lines) if truth => output.extend_from_slice(verdict_line(true)),
+        Some(Form::Lines) => add_both(verdict_line(false), report, output),
+        Some(Form::Json | Form::Flag | Form::Basic) => output.extend_from_slice(report),
     }
 }
 

@@ -1,7 +1,7 @@
 // Judging texts one after another by the same rules.
 use crate::explanations::{explain_both, explain_root, explain_schema};
-use crate::telling::verdict_line;
-use crate::why::Why;
+use crate::telling::tell;
+use crate::why::{Why, form_of};
 use cs_doc::Scratch;
 use cs_guard::Guarded;
 use cs_instance::RootRules;
@@ -9,8 +9,7 @@ use cs_place::Named;
 use cs_schema::SchemaDoc;
 use cs_table::Verdicts;
 use cs_tool::{
-    Fault, Rules, judge_both, judge_root, judge_schema, number_root, number_schema, read_both,
-    read_root, read_schema_text, slices_of,
+    Fault, Rules, number_root, number_schema, read_both, read_root, read_schema_text, slices_of,
 };
 use cs_validate::SchemaRules;
 use std::alloc::Global;
@@ -152,10 +151,10 @@ fn number_rules<'a>(
 }
 
 impl TextJudge<'_> {
-    ghost use Rattle.std.specs.Prelude.{◌≡◌, ◌++◌, Some, IfOk, IfErr, OnErr, IsOkUnless};
-    ghost use Rattle.cs_judge.specs.Explained.{asked_form, Tells};
-    ghost use Rattle.cs_judge.specs.Judged.{call_on};
-    ghost use Rattle.cs_tool.specs.Runs.{IsCallAnswer, IsCallRefusal, IsReadyCall, verdict_text, line_of};
+    ghost use Rattle.std.specs.Prelude.{◌≡◌, IfOk, IfErr, OnErr, IsOkUnless};
+    ghost use Rattle.cs_judge.specs.Explained.{asked_form, Tells, ReportsAsked};
+    ghost use Rattle.cs_judge.specs.Judged.{call_on, IsOf};
+    ghost use Rattle.cs_tool.specs.Runs.{IsCallAnswer, IsCallRefusal, IsReadyCall, verdict_text};
 
     /// What the call on the text answers: `vet`, `validate` or `agree`.
     ///
@@ -169,15 +168,13 @@ impl TextJudge<'_> {
             → IsOkUnless result Fault.OutOfMemory }
         ensures same { self.new ≡ self.old }
     {
-        let alloc = self.alloc;
-        let (scratch, table) = (&mut self.scratch, &mut self.table);
-        match &self.numbered {
-            NumberedRules::Root(rules) => judge_root(rules, alloc, text, scratch, table),
-            NumberedRules::Schema(rules) => judge_schema(rules, alloc, text, scratch, table),
-            NumberedRules::Both(root_side, schema_side) => {
-                judge_both(root_side, schema_side, alloc, text, scratch, table)
-            }
-        }
+        let document = Named {
+            name: "",
+            text,
+            line: 1,
+        };
+        let mut report = Vec::new(self.alloc);
+        self.answer(document, None, &mut report)
     }
 
     /// What the call on the document's text answers: `vet`, `validate` or `agree`. Adds the verdict's line, where no reasons are asked for.
@@ -203,54 +200,32 @@ impl TextJudge<'_> {
             (λ b. Tells (asked_form why.entry) b output.old.items output.new.items) }
         ensures kept { OnErr result (output.new.items ≡ output.old.items) }
     {
-        match why {
-            None => self.tell(document.text, output),
-            Some(why) => self.tell_why(document, why, output),
-        }
-    }
-
-    /// What the call on the text answers; adds the verdict's line.
-    fn tell(&mut self, text: &[u8], output: &mut Vec<u8>) -> Result<bool, Fault>
-        ensures found { IfOk result
-            (λ b. IsCallAnswer (call_on self.old text.now) b (verdict_text b)) }
-        ensures refused { IfErr result (IsCallRefusal (call_on self.old text.now)) }
-        ensures only { IsReadyCall (call_on self.old text.now)
-            → IsOkUnless result Fault.OutOfMemory }
-        ensures same { self.new ≡ self.old }
-        ensures told { IfOk result
-            (λ b. output.new.items ≡ output.old.items ++ line_of (verdict_text b)) }
-        ensures kept { OnErr result (output.new.items ≡ output.old.items) }
-    {
-        let truth = self.judge(text)?;
-        output.extend_from_slice(verdict_line(truth))?;
+        let mut report = Vec::new(self.alloc);
+        let truth = self.answer(document, why, &mut report)?;
+        tell(form_of(why), truth, &report, output)?;
         Ok(truth)
     }
 
-    /// What the call on the document's text answers; adds what is told of it.
-    fn tell_why(
+    /// What the call on the document's text answers. The reasons that are asked for are added to the report.
+    fn answer(
         &mut self,
         document: Named<'_>,
-        why: Why<'_>,
-        output: &mut Vec<u8>,
+        why: Option<Why<'_>>,
+        report: &mut Vec<u8>,
     ) -> Result<bool, Fault>
-        ensures found { IfOk result
-            (λ b. IsCallAnswer (call_on self.old document.entry.text.now) b (verdict_text b)) }
-        ensures refused { IfErr result (IsCallRefusal (call_on self.old document.entry.text.now)) }
-        ensures only { IsReadyCall (call_on self.old document.entry.text.now)
-            → IsOkUnless result Fault.OutOfMemory }
+        ensures of { IsOf (call_on self.old document.entry.text.now) result }
         ensures same { self.new ≡ self.old }
         ensures told { IfOk result
-            (λ b. Tells (Some why.entry.form) b output.old.items output.new.items) }
-        ensures kept { OnErr result (output.new.items ≡ output.old.items) }
+            (λ b. ReportsAsked (asked_form why.entry) b report.old.items report.new.items) }
     {
         let alloc = self.alloc;
         let (scratch, table) = (&mut self.scratch, &mut self.table);
         match &self.numbered {
             NumberedRules::Root(rules) => {
-                explain_root(rules, alloc, document, why, scratch, table, output)
+                explain_root(rules, alloc, document, why, scratch, table, report)
             }
             NumberedRules::Schema(rules) => {
-                explain_schema(rules, alloc, document, why, scratch, table, output)
+                explain_schema(rules, alloc, document, why, scratch, table, report)
             }
             NumberedRules::Both(root_side, schema_side) => explain_both(
                 root_side,
@@ -260,7 +235,7 @@ impl TextJudge<'_> {
                 why,
                 scratch,
                 table,
-                output,
+                report,
             ),
         }
     }

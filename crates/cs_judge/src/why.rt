@@ -1,10 +1,10 @@
 // What is asked about the reasons of verdicts.
 ghost use Rattle.std.specs.Prelude.{◌≡◌};
-ghost use Rattle.cs_judge.specs.Explained.{asked_form};
+ghost use Rattle.cs_judge.specs.Explained.{asked_form, root_form, schema_form};
 
 use cs_place::Named;
+use cs_reason_words::Form;
 use cs_reasons::Telling;
-use cs_report::Form;
 
 /// How documents are explained.
 #[derive(Clone, Copy)]
@@ -22,5 +22,27 @@ pub(crate) fn form_of(why: Option<Why<'_>>) -> Option<Form>
     match why {
         None => None,
         Some(why) => Some(why.form),
+    }
+}
+
+/// What is asked of the definition, where a document is judged by a schema too.
+pub(crate) fn asked_of_root<'a>(why: Option<Why<'a>>) -> Option<Why<'a>>
+    ensures { asked_form result ≡ root_form (asked_form why.entry) }
+{
+    let why = why?;
+    match why.form {
+        Form::Lines | Form::Json => Some(why),
+        Form::Flag | Form::Basic => None,
+    }
+}
+
+/// What is asked of the schema, where a document is judged by a definition too: the reasons in the output formats of JSON Schema.
+pub(crate) fn asked_of_schema<'a>(why: Option<Why<'a>>) -> Option<Why<'a>>
+    ensures { asked_form result ≡ schema_form (asked_form why.entry) }
+{
+    let why = why?;
+    match why.form {
+        Form::Lines | Form::Json => None,
+        Form::Flag | Form::Basic => Some(why),
     }
 }

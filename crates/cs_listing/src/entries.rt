@@ -25,28 +25,22 @@ pub(crate) fn entries_of<'a>(
     let kinds = kinds_of(alloc, package)?;
     let sources = sources_of(alloc, named)?;
     let declared = declared_in(alloc, &sources)?;
-    let mut files = positions_of(alloc, named)?;
+    let mut positions = Positions::new(&[]);
+    let mut file = None;
     let mut entries = Vec::with_capacity(alloc, kinds.len())?;
-    // Definitions are numbered in the order of their first declaration.
+    // Definitions are numbered in the order of their first declaration, which is that of the sources.
     for (first, kinds) in declared.firsts.iter().zip(kinds.iter()) {
         let source = first.source;
-        if let Some(positions) = files.get_mut(source.file) {
-            entries.push(Entry {
-                name: first.here().text,
-                file: source.named.name,
-                position: positions.at(first.here().start),
-                kinds: *kinds,
-            })?;
+        if file != Some(source.file) {
+            positions = Positions::new(source.named.text);
+            file = Some(source.file);
         }
+        entries.push(Entry {
+            name: first.here().text,
+            file: source.named.name,
+            position: positions.at(first.here().start),
+            kinds: *kinds,
+        })?;
     }
     Ok(entries)
-}
-
-/// What finds the places in each source.
-fn positions_of<'a>(alloc: Global, named: &[Named<'a>]) -> Result<Vec<Positions<'a>>, AllocError> {
-    let mut files = Vec::with_capacity(alloc, named.len())?;
-    for source in named {
-        files.push(Positions::new(source.text))?;
-    }
-    Ok(files)
 }

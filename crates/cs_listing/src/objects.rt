@@ -17,23 +17,17 @@ pub fn put_listing_json(
     package: &Guarded,
     text: &mut Vec<u8>,
 ) -> Result<(), AllocError> {
-    let entries = entries_of(alloc, sources, package)?;
     let mut out = Writer::new(Vec::new(alloc));
-    write_entries(&entries, &mut out)?;
-    text.extend_from_slice(&out.into_inner())?;
-    text.extend_from_slice(b"\n")
-}
-
-/// Writes the object.
-fn write_entries(entries: &[Entry<'_>], out: &mut Writer) -> Result<(), AllocError> {
     out.begin_object()?;
     out.key("definitions")?;
     out.begin_array()?;
-    for entry in entries {
-        write_entry(entry, out)?;
+    for entry in &entries_of(alloc, sources, package)? {
+        write_entry(entry, &mut out)?;
     }
     out.end_array()?;
-    out.end_object()
+    out.end_object()?;
+    text.extend_from_slice(&out.into_inner())?;
+    text.extend_from_slice(b"\n")
 }
 
 /// Writes the object of a definition.

@@ -4,6 +4,8 @@
 -- environments; shapes as expressions
 pub mod Environments
 pub mod Views
+-- what expressions are made of
+pub mod Simples
 -- samples
 mod Samples
 mod LabelSamples

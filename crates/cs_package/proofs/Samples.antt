@@ -7,6 +7,7 @@ use Rattle.cs_package.specs.Expression as cue
 use Rattle.cs_package.specs.Expression.{Expression, Declaration, operands, declarations}
 use Rattle.cs_package.specs.Environment.{Environment, declared_names, bodies, name_at, bodies_at, IsDefinitionName, written, Names}
 use Rattle.cs_package.specs.Height.{height, heights, IsLow}
+use Rattle.cs_package.specs.Inside.{is_simple, literal, excluded, compared_with, with_nothing, with_text, with_integer, with_range}
 use Rattle.cs_package.specs.Joined.{IsJoined}
 use Rattle.cs_package.specs.View.{kind_of, relation_of, mark_of, expressions_of, declarations_of, expression_of, part_of, is_known, environment_of}
 use Rattle.cs_package.specs.declared.shape.Kind.TheVariants as kinds
@@ -133,6 +134,24 @@ module _ (ns : List (List ℕ)) where
       ≡ cue.struct (declarations_of (map (part_of ns) v.items)) true ∷ cue.struct (declarations_of (map (part_of ns) v.items)) false
       ∷ cue.list (expressions_of (map (expression_of ns) w.items)) cue.closed ∷ cue.list (expressions_of (map (expression_of ns) w.items)) cue.any ∷ cue.list (expressions_of (map (expression_of ns) w.items)) (cue.each (expression_of ns b.value)) ∷ []
   literals v w b = search (rules, Shapes.the_lemmas)
+
+-- ---- literals, and what values are compared with
+
+abbrev forms : List Expression
+forms = cue.atom cue.top ∷ cue.atom cue.null ∷ cue.atom (cue.boolean true) ∷ one ∷ cue.atom (cue.text A) ∷ cue.kind cue.int ∷ cue.range (pos 0) None ∷ cue.reference A ∷ cue.atom (cue.bound cue.less (pos 1)) ∷ cue.atom (cue.not_integer (pos 1)) ∷ cue.atom (cue.not_text A) ∷ cue.atom cue.not_null ∷ struct [] ∷ either [] ∷ []
+
+simple_forms : map is_simple forms ≡ true ∷ true ∷ true ∷ true ∷ true ∷ true ∷ true ∷ false ∷ true ∷ true ∷ true ∷ true ∷ false ∷ false ∷ []
+simple_forms = refl
+
+literal_forms : map literal forms ≡ None ∷ Some cue.null ∷ Some (cue.boolean true) ∷ Some (cue.integer (pos 1)) ∷ Some (cue.text A) ∷ None ∷ None ∷ None ∷ None ∷ None ∷ None ∷ None ∷ None ∷ None ∷ []
+literal_forms = refl
+
+excluding_forms : map excluded forms ≡ None ∷ None ∷ None ∷ None ∷ None ∷ None ∷ None ∷ None ∷ None ∷ Some (cue.integer (pos 1)) ∷ Some (cue.text A) ∷ Some cue.null ∷ None ∷ None ∷ []
+excluding_forms = refl
+
+comparing_forms : map compared_with forms
+    ≡ with_nothing ∷ with_nothing ∷ with_nothing ∷ with_integer (pos 1) ∷ with_text A ∷ with_nothing ∷ with_range (pos 0) None ∷ with_nothing ∷ with_integer (pos 1) ∷ with_integer (pos 1) ∷ with_text A ∷ with_nothing ∷ with_nothing ∷ with_nothing ∷ []
+comparing_forms = refl
 
 -- ---- heights
 

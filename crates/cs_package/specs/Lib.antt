@@ -4,6 +4,7 @@ pub mod Environment
 pub mod Joined
 pub mod Height
 pub mod View
+pub mod Inside
 pub mod Labels
 -- for contracts of private functions and proofs alone
 pub mod Code

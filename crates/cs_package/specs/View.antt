@@ -73,7 +73,7 @@ expression_in E = expression_of (declared_names E)
 abbrev pub expressions_in : Environment → List Shape → List Expression
 expressions_in E = expressions_at (declared_names E)
 
--- the parts of an expression; for private contracts alone
+-- the parts of an expression
 abbrev pub rest_of : List (List ℕ) → ShapeEnd → Rest
 rest_of ns = fold-ShapeEnd Expression Rest (Declaration Expression) (shape_step ns) end_step part_step
 

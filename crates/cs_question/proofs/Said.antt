@@ -68,6 +68,12 @@ same_rules nodes i k n m at there h J side x =
     ∙ alike (λ p. J p x) (λ y p. J p y) (λ p. J p x) (λ y p. J p y) (asked_of n) (asked_of m) (opened x) h
     ∙ sym (side k (asked_of m) x (got_mapped asked_of nodes k m there))
 
+pub same_parts : (nodes : List Node) (i k : ℕ) (n m : Node) → slice_get nodes i ≡ Some n → slice_get nodes k ≡ Some m → asked_of n ≡ asked_of m → (J : ℕ → Document → Bool) → IsSide (map asked_of nodes) J → (x : Document) → J i x ≡ J k x
+same_parts nodes i k n m at there same J side x =
+    side i (asked_of n) x (got_mapped asked_of nodes i n at)
+    ∙ ap (λ c. is_satisfied (λ p. J p x) (λ y p. J p y) c (opened x)) same
+    ∙ sym (side k (asked_of m) x (got_mapped asked_of nodes k m there))
+
 -- nothing is as one rule asks and not as another one that asks the same
 pub opposite : (ns : Nodes) (J : Judgement) → IsMeaning ns J → (x : Document) (l k : Literal) (n m : Node) → slice_get (nodes_on ns l.side) l.rule ≡ Some n → slice_get (nodes_on ns k.side) k.rule ≡ Some m → AreAlike (asked_of n) (asked_of m) → (k.holds ≡ l.holds → ⊥) → meets J x l ≡ true → meets J x k ≡ true → ⊥
 opposite ns J means x l k n m at there h differ met other =

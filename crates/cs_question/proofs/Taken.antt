@@ -10,7 +10,7 @@ use Rattle.cs_question.specs.declared.places.Key.{Key}
 use Rattle.cs_question.specs.declared.places.Place.{Place}
 use Rattle.cs_question.specs.declared.places.Further as further
 use Rattle.cs_question.specs.declared.places.Way.{Way}
-use Rattle.cs_question.specs.declared.places.Way.TheVariants.{Absent, Present, Behind}
+use Rattle.cs_question.specs.declared.places.Way.TheVariants.{Absent, Present, Optional, Behind}
 use Rattle.cs_question.specs.declared.table.Entry.{Entry}
 use Rattle.cs_question.specs.Nodes.{Judgement}
 use Rattle.cs_question.specs.Asked.{meets, meets_all}
@@ -20,6 +20,7 @@ use Rattle.cs_question.specs.Truth.{Truth, IsShut, IsInner}
 pub behind_or_not : (w : Way) → IsBehind w ⊎ (IsBehind w → ⊥)
 behind_or_not (Absent k) = inr (λ b. b)
 behind_or_not (Present k o) = inr (λ b. b)
+behind_or_not (Optional k l) = inr (λ b. b)
 behind_or_not (Behind o) = inl tt
 
 -- all that is asked of the first is asked of the other, with one literal more
@@ -113,6 +114,10 @@ unmet_one J l y e f = beq_same (J l.side l.rule y) l.holds (f ∙ sym e)
 pub such_under : (J : Judgement) (l : Literal) (o : Option Document) → l.holds ≡ false → IsSomeAnd o (λ y. J l.side l.rule y ≡ false) → IsSomeAnd o (IsSuch J (Some l))
 such_under J l None e h = absurd h
 such_under J l (Some y) e h = unmet_one J l y e h
+
+pub some_and : {X : Type 0} (P : X → Type 0) (o : Option X) → IsSome o → IfSome o P → IsSomeAnd o P
+some_and P None e h = cc
+some_and P (Some x) e h = h
 
 pub some_any : (J : Judgement) (o : Option Document) → IsSome o → IsSomeAnd o (IsSuch J None)
 some_any J None e = cc

@@ -5,14 +5,15 @@ use Rattle.std.specs.Bool.{beq}
 use Rattle.std.specs.List.{list_all, list_any, AllByRecursion as Each}
 use Rattle.cs_document.specs.Document.{Document, Documents, Members, list, object, elements, entries}
 use Rattle.cs_instance.specs.Constraint.{fields_hold, elements_hold}
+use Rattle.cs_instance.specs.Steps.{field_of}
+use Rattle.cs_instance.specs.declared.fields.Fields.{Fields}
 use Rattle.cs_document.proofs.Each.{each_map, all_true}
 use Rattle.cs_question.specs.declared.literal.Literal.{Literal}
 use Rattle.cs_question.specs.declared.nodes.Node.{Node}
 use Rattle.cs_question.specs.declared.nodes.Node.TheVariants as node
 use Rattle.cs_question.specs.declared.nodes.Nodes.{Nodes}
-use Rattle.cs_question.specs.declared.nodes.NodeField.{NodeField}
 use Rattle.cs_question.specs.declared.nodes.NodeEnd.{NodeEnd}
-use Rattle.cs_question.specs.Nodes.{Judgement, IsMeaning, nodes_on, field_of, end_of}
+use Rattle.cs_question.specs.Nodes.{Judgement, IsMeaning, nodes_on, end_of}
 use Rattle.cs_question.specs.Asked.{meets}
 use Rattle.cs_question.proofs.Some.{beq_is, beq_same, all_from, some_false, some_true, any_from, none_true, some_map}
 
@@ -51,7 +52,7 @@ module _ (ns : Nodes) (J : Judgement) (m : IsMeaning ns J) (l : Literal) (x : Do
 
 -- what literals say of maps and of lists
 module _ (ns : Nodes) (J : Judgement) (m : IsMeaning ns J) (l : Literal) (b : Bool) (is : l.holds ≡ b) where
-  pub struct_is : (fs : Vec NodeField Global) (o : Bool) (ms : Members) → slice_get (nodes_on ns l.side) l.rule ≡ Some (node.Struct fs o) → meets J (object ms) l ≡ true → fields_hold (λ y p. J l.side p y) (map field_of fs.items) o (entries ms) ≡ b
+  pub struct_is : (fs : Fields) (o : Bool) (ms : Members) → slice_get (nodes_on ns l.side) l.rule ≡ Some (node.Struct fs o) → meets J (object ms) l ≡ true → fields_hold (λ y p. J l.side p y) (map field_of fs.all.items) o (entries ms) ≡ b
   struct_is fs o ms at met = sym (m l.side l.rule (node.Struct fs o) (object ms) at) ∙ beq_is (J l.side l.rule (object ms)) l.holds met ∙ is
 
   pub list_is : (v : Vec ℕ Global) (end : NodeEnd) (ds : Documents) → slice_get (nodes_on ns l.side) l.rule ≡ Some (node.List v end) → meets J (list ds) l ≡ true → elements_hold (λ y p. J l.side p y) v.items (end_of end) (elements ds) ≡ b

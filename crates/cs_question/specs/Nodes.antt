@@ -2,21 +2,16 @@
 use Rattle.std.specs.Prelude.{◌≡◌, ℕ, Bool, List, [], Some, map, slice_get}
 use Rattle.cs_document.specs.Document.{Document}
 use Rattle.cs_document.specs.Opened.{opened}
-use Rattle.cs_package.specs.Expression.{Declaration}
-use Rattle.cs_package.specs.View.{expression_of, mark_of}
+use Rattle.cs_package.specs.View.{expression_of}
 use Rattle.cs_instance.specs.Constraint.{Rest, nothing, anything, each, Outline, Constraint, simple, all_of, any_of, object_of, list_of, is_integer, is_within, is_satisfied}
-use Rattle.cs_instance.specs.Steps.{test_of}
+use Rattle.cs_instance.specs.Steps.{test_of, field_of}
 use Rattle.cs_question.specs.declared.literal.Side.{Side}
 use Rattle.cs_question.specs.declared.literal.Side.TheVariants.{Admitting, Refusing}
 use Rattle.cs_question.specs.declared.nodes.Node.{Node}
 use Rattle.cs_question.specs.declared.nodes.Node.TheVariants as node
-use Rattle.cs_question.specs.declared.nodes.NodeField.{NodeField}
 use Rattle.cs_question.specs.declared.nodes.NodeEnd.{NodeEnd}
 use Rattle.cs_question.specs.declared.nodes.NodeEnd.TheVariants as ending
 use Rattle.cs_question.specs.declared.nodes.Nodes.{Nodes}
-
-abbrev pub field_of : NodeField → Declaration ℕ
-field_of f = record { label = f.label.now; mark = mark_of f.mark; value = f.value }
 
 abbrev pub end_of : NodeEnd → Rest ℕ
 end_of ending.Closed = nothing
@@ -28,7 +23,7 @@ asked_of (node.Simple s) = simple (test_of (expression_of [] s.now))
 asked_of (node.Within least greatest) = simple (is_integer (is_within least greatest))
 asked_of (node.All v) = all_of v.items
 asked_of (node.Any v) = any_of v.items
-asked_of (node.Struct fs opened) = object_of (map field_of fs.items) opened
+asked_of (node.Struct fs opened) = object_of (map field_of fs.all.items) opened
 asked_of (node.List v end) = list_of v.items (end_of end)
 
 abbrev pub nodes_on : Nodes → Side → List Node

@@ -10,7 +10,7 @@ use Rattle.cs_question.specs.declared.places.Key.{Key}
 use Rattle.cs_question.specs.declared.places.Place.{Place}
 use Rattle.cs_question.specs.declared.places.Further as further
 use Rattle.cs_question.specs.declared.places.Way.{Way}
-use Rattle.cs_question.specs.declared.places.Way.TheVariants.{Absent, Present, Behind}
+use Rattle.cs_question.specs.declared.places.Way.TheVariants.{Absent, Present, Optional, Behind}
 use Rattle.cs_question.specs.declared.state.State.{State}
 use Rattle.cs_question.specs.Nodes.{Judgement}
 use Rattle.cs_question.specs.Asked.{meets, meets_all}
@@ -60,6 +60,7 @@ IsSuch J o y = IfSome o (λ l. meets J y l ≡ true)
 abbrev pub IsTaken : Judgement → Spread → Way → Type 0
 IsTaken J s (Absent k) = IsNone (s.at (name_of k))
 IsTaken J s (Present k o) = IsSomeAnd (s.at (name_of k)) (IsSuch J o)
+IsTaken J s (Optional k l) = IfSome (s.at (name_of k)) (IsSuch J (Some l))
 IsTaken J s (Behind o) = SomeOf (IsSuch J o) s.further
 
 -- all ways that were chosen are taken
@@ -69,6 +70,7 @@ HoldsState J s state = AllByRecursion (IsTaken J s) state.chosen.items
 abbrev pub IsBehind : Way → Type 0
 IsBehind (Absent k) = ⊥
 IsBehind (Present k o) = ⊥
+IsBehind (Optional k l) = ⊥
 IsBehind (Behind o) = Unit {0}
 
 abbrev pub AreTaken : Judgement → Spread → List Way → Type 0

@@ -18,6 +18,7 @@ use crate::refused::Refused;
 use crate::table::Table;
 use cs_package::Shape;
 use std::alloc::{AllocError, Global};
+use std::collections::BTreeSet;
 
 /// A case: what is asked, and the last of it that is opened next.
 #[derive(Drop, PartialEq, Eq, PartialOrd, Ord)]
@@ -56,51 +57,45 @@ fn is_contrary(asked: &[Literal]) -> bool
     false
 }
 
-/// Whether the case at a place asks the same.
-fn is_at(cases: &[Case], place: usize, asked: &[Literal]) -> bool
-    ensures { IsTrue result → Covers asked.now cases.now }
-{
-    match cases.get(place) {
-        Some(case) => are_same(&case.asked, asked),
-        None => false,
-    }
-}
-
-/// Puts a case among the others, in order, unless it is there.
-fn put(nodes: &Nodes<'_>, cases: &mut Vec<Case>, asked: Vec<Literal>) -> Result<(), SearchFault>
-    ensures kept { OnOk result (Continues cases.old.items cases.new.items) }
-    ensures there { OnOk result (Covers asked.items cases.new.items) }
+/// Puts a case among the others, unless it is there.
+///
+/// # Errors
+/// `TooManyCases` where another case has its place in the order, which none has.
+fn put(
+    nodes: &Nodes<'_>,
+    cases: &mut BTreeSet<Case>,
+    asked: Vec<Literal>,
+) -> Result<(), SearchFault>
+    ensures kept { OnOk result (Continues cases.old.keys cases.new.keys) }
+    ensures there { OnOk result (Covers asked.items cases.new.keys) }
 {
     let opened = match last_with_parts(nodes, &asked) {
         Some(place) => asked.get(place).copied(),
         None => None,
     };
     let case = Case { opened, asked };
-    let place = match cases.binary_search(&case) {
-        Ok(place) => {
-            if is_at(cases, place, &case.asked) {
-                return Ok(());
-            }
-            place
+    if let Some(same) = cases.get(&case) {
+        if are_same(&same.asked, &case.asked) {
+            return Ok(());
         }
-        Err(place) => place,
-    };
-    cases.insert(place, case)?;
+        return Err(SearchFault::TooManyCases);
+    }
+    cases.insert(case)?;
     Ok(())
 }
 
 /// Puts the one case in which all parts of a rule are as it is.
 fn put_all(
     nodes: &Nodes<'_>,
-    cases: &mut Vec<Case>,
+    cases: &mut BTreeSet<Case>,
     mut asked: Vec<Literal>,
     literal: Literal,
     parts: &[usize],
 ) -> Result<(), SearchFault>
-    ensures kept { OnOk result (Continues cases.old.items cases.new.items) }
+    ensures kept { OnOk result (Continues cases.old.keys cases.new.keys) }
     ensures there { OnOk result ((J : Judgement) (x : Document) → meets_all J x asked.items ≡ true
         → list_all (λ p. meets J x (record literal { rule = p })) parts.now ≡ true
-        → IsCovered J x cases.new.items) }
+        → IsCovered J x cases.new.keys) }
 {
     for part in parts {
         add(&mut asked, part_of(literal, *part))?;
@@ -115,17 +110,17 @@ fn put_all(
 fn put_each<'n>(
     alloc: Global,
     nodes: &Nodes<'n>,
-    cases: &mut Vec<Case>,
+    cases: &mut BTreeSet<Case>,
     asked: &[Literal],
     literal: Literal,
     parts: &[usize],
     effort: &mut Effort,
 ) -> Result<(), SearchFault>
-    ensures kept { OnOk result (Continues cases.old.items cases.new.items) }
+    ensures kept { OnOk result (Continues cases.old.keys cases.new.keys) }
     ensures there { OnOk result ((J : Judgement) (x : Document) → IsMeaning nodes.now J
         → meets_all J x asked.now ≡ true
         → list_any (λ p. meets J x (record literal { rule = p })) parts.now ≡ true
-        → IsCovered J x cases.new.items) }
+        → IsCovered J x cases.new.keys) }
 {
     let refused = Refused::of(alloc, nodes, asked)?;
     for part in parts {
@@ -146,16 +141,16 @@ fn put_each<'n>(
 fn put_with<'n>(
     alloc: Global,
     nodes: &Nodes<'n>,
-    cases: &mut Vec<Case>,
+    cases: &mut BTreeSet<Case>,
     refused: &Refused<'n>,
     asked: &[Literal],
     literal: Literal,
     effort: &mut Effort,
 ) -> Result<(), SearchFault>
-    ensures kept { OnOk result (Continues cases.old.items cases.new.items) }
+    ensures kept { OnOk result (Continues cases.old.keys cases.new.keys) }
     ensures there { OnOk result ((J : Judgement) (x : Document) → IsMeaning nodes.now J
         → meets_all J x asked.now ≡ true → meets J x literal ≡ true
-        → IsCovered J x cases.new.items) }
+        → IsCovered J x cases.new.keys) }
 {
     if refused.has(nodes, asked, literal) {
         return Ok(());
@@ -173,16 +168,16 @@ fn put_with<'n>(
 fn open(
     alloc: Global,
     nodes: &Nodes<'_>,
-    cases: &mut Vec<Case>,
+    cases: &mut BTreeSet<Case>,
     asked: &[Literal],
     place: usize,
     literal: Literal,
     effort: &mut Effort,
 ) -> Result<(), SearchFault>
     requires { slice_get asked.now place ≡ Some literal }
-    ensures kept { OnOk result (Continues cases.old.items cases.new.items) }
+    ensures kept { OnOk result (Continues cases.old.keys cases.new.keys) }
     ensures there { OnOk result ((J : Judgement) (x : Document) → IsMeaning nodes.now J
-        → meets_all J x asked.now ≡ true → IsCovered J x cases.new.items) }
+        → meets_all J x asked.now ≡ true → IsCovered J x cases.new.keys) }
 {
     let rest = without(alloc, asked, place)?;
     match nodes.of(literal) {
@@ -202,33 +197,20 @@ fn open(
 
 /// How many parts a rule asks of the same document.
 fn count_parts(nodes: &Nodes<'_>, literal: Literal) -> usize {
-    match nodes.of(literal) {
-        Some(Node::All(parts)) | Some(Node::Any(parts)) => parts.len(),
-        Some(Node::Simple(_))
-        | Some(Node::Within { .. })
-        | Some(Node::Struct { .. })
-        | Some(Node::List { .. })
-        | None => 0,
+    if let Some(Node::All(parts) | Node::Any(parts)) = nodes.of(literal) {
+        parts.len()
+    } else {
+        0
     }
 }
 
 /// How many declarations a rule has.
 fn count_fields(nodes: &Nodes<'_>, literal: Literal) -> usize {
-    match nodes.of(literal) {
-        Some(Node::Struct { fields, .. }) => fields.len(),
-        Some(Node::Simple(_))
-        | Some(Node::Within { .. })
-        | Some(Node::All(_))
-        | Some(Node::Any(_))
-        | Some(Node::List { .. })
-        | None => 0,
+    if let Some(Node::Struct { fields, .. }) = nodes.of(literal) {
+        fields.all.len()
+    } else {
+        0
     }
-}
-
-/// The steps for a case that is put among so many others, which are moved for it.
-fn cost_of_putting(cases: usize) -> usize {
-    const MOVES: usize = 128;
-    (cases / MOVES).saturating_add(1)
 }
 
 /// The steps for a rule of so many parts that is opened beside so many others, at which it looks.
@@ -237,10 +219,10 @@ fn cost_of_opening(parts: usize, others: usize) -> usize {
     (others / LOOKS).saturating_add(parts)
 }
 
-/// The steps for a case in which so many are asked.
+/// The steps for a case in which so many are asked, which is copied and put among the others.
 fn cost_of_copying(asked: usize) -> usize {
     const COPIES: usize = 4;
-    asked / COPIES
+    (asked / COPIES).saturating_add(1)
 }
 
 /// Whether a rule is met by one value alone.
@@ -252,9 +234,11 @@ fn is_value(nodes: &Nodes<'_>, literal: Literal) -> bool {
         )
 }
 
-/// The steps for a document that is all that is asked: each label is compared with each declaration, and each value with each
-/// rule, or with the first ones alone where one of them is met by one value. So many comparisons take as long as a step.
+/// The steps for a document that is all that is asked: each declaration is put to its label, each label is looked for in each
+/// struct literal, and each value is compared with each rule, or with the first ones alone where one of them is met by one value.
+/// So many of these take as long as a step.
 fn cost_of(nodes: &Nodes<'_>, asked: &[Literal]) -> usize {
+    const FIELDS: usize = 8;
     const COMPARISONS: usize = 128;
     let mut fields: usize = 0;
     let mut compared = asked.len();
@@ -264,8 +248,8 @@ fn cost_of(nodes: &Nodes<'_>, asked: &[Literal]) -> usize {
             compared = 1;
         }
     }
-    let values = asked.len().saturating_mul(compared);
-    fields.saturating_mul(fields).saturating_add(values) / COMPARISONS
+    let values = asked.len().saturating_mul(compared.saturating_add(fields));
+    (fields / FIELDS).saturating_add(values / COMPARISONS)
 }
 
 /// A document that is all that is asked.
@@ -281,13 +265,13 @@ pub(crate) fn found_for<'a>(
 ) -> Result<Option<Found<'a>>, SearchFault>
     ensures { IfOk result (λ o. IsNone o → NoDocument nodes.now table.now asked.now) }
 {
-    let mut cases = Vec::new(alloc);
+    let mut cases = BTreeSet::new(alloc);
     put(nodes, &mut cases, Vec::from_slice(alloc, asked)?)?;
     for _ in 0..MOST_STEPS {
-        let Some(case) = cases.pop() else {
+        let Some(case) = cases.pop_last() else {
             return Ok(None);
         };
-        effort.take(cost_of_putting(cases.len()))?;
+        effort.take(1)?;
         match opened_at(nodes, &case.asked) {
             Some((place, literal)) => {
                 effort.take(cost_of_opening(count_parts(nodes, literal), case.asked.len()))?;

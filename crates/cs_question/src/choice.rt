@@ -283,7 +283,7 @@ fn places_after<'a>(
 {
     let mut all = copy_places(alloc, places)?;
     for way in chosen {
-        take(alloc, &mut all, way)?;
+        take(&mut all, way)?;
     }
     Ok(all)
 }

@@ -33,11 +33,15 @@ impl Effort {
         self.steps
     }
 
-    /// The steps for a look at a question in the table, at which so many are asked: a copy of them, and a few comparisons with
-    /// others. Where they are too many, no step is left.
+    /// The steps for a look at a question in the table, at which so many are asked: copies of them, and comparisons with others.
+    /// Where they are too many, no step is left.
     pub(crate) fn look(&mut self, asked: usize) {
         const COPIES: usize = 8;
-        self.steps = self.steps.saturating_add(asked / COPIES).saturating_add(1);
+        const COMPARISONS: usize = 2;
+        self.steps = self
+            .steps
+            .saturating_add(asked / COPIES)
+            .saturating_add(COMPARISONS);
     }
 
     /// So many steps more, and no more than there may be.

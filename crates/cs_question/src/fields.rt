@@ -1,51 +1,29 @@
 // What the declarations of a struct literal ask of a map.
-ghost use Rattle.std.specs.Prelude.{◌≡◌, ℕ, List, Bool, true, false, map, IfOk, IsTrue, OnOk, Contains};
+ghost use Rattle.std.specs.Prelude.{◌≡◌, ℕ, List, [], Bool, true, false, Some, map, IfSome, IsTrue, OnOk, Contains};
 ghost use Rattle.std.specs.List.{list_all, list_any};
 ghost use Rattle.cs_document.specs.Document.{Document, Members, Entry, AreMembers, entries, under};
 ghost use Rattle.cs_package.specs.Expression.{is_every};
-ghost use Rattle.cs_package.specs.View.{mark_of};
 ghost use Rattle.cs_instance.specs.Constraint as constraint;
-ghost use Rattle.cs_question.specs.Nodes.{Judgement, field_of};
-ghost use Rattle.cs_question.specs.Spread.{HoldsAt, AreTaken, IsFurther, AddsWays, is_among, spread_map};
+ghost use Rattle.cs_instance.specs.Steps.{field_of};
+ghost use Rattle.cs_question.specs.Nodes.{Judgement};
+ghost use Rattle.cs_question.specs.Spread.{HoldsPlaces, AreTaken, IsSuch, IsFurther, AddsWays, is_among, spread_map};
 
-use crate::literal::{Literal, add};
-use crate::nodes::NodeField;
+use crate::literal::{Literal, add, part_of};
 use crate::places::{Further, Key, Place, Way};
-use cs_package::FieldMark;
+use crate::ways::take;
+use cs_instance::{Field, Fields, is_for_every_key, may_be_absent};
 use std::alloc::AllocError;
 
-pub(crate) fn is_for_every_key(mark: FieldMark) -> bool
-    ensures { result ≡ is_every (mark_of mark) }
-{
-    match mark {
-        FieldMark::Every { .. } => true,
-        FieldMark::Regular | FieldMark::Optional | FieldMark::Required => false,
-    }
-}
-
-pub(crate) fn may_be_absent(mark: FieldMark) -> bool
-    ensures { result ≡ constraint.may_be_absent (mark_of mark) }
-{
-    match mark {
-        FieldMark::Optional | FieldMark::Every { .. } => true,
-        FieldMark::Regular | FieldMark::Required => false,
-    }
-}
-
 /// Whether some declaration allows a key.
-pub(crate) fn is_allowed(fields: &[NodeField<'_>], key: &str) -> bool
-    ensures { result ≡ list_any (λ d. constraint.allows d key.now) (map field_of fields.now) }
+pub(crate) fn is_allowed(fields: &Fields<'_>, key: &str) -> bool
+    ensures { result ≡ list_any (λ d. constraint.allows d key.now) (map field_of fields.now.all.items) }
 {
-    for field in fields {
-        if is_for_every_key(field.mark) || key == field.label {
-            return true;
-        }
-    }
-    false
+    let mut next = 0;
+    fields.allow(key, &mut next)
 }
 
 /// Whether some declaration is for every key.
-pub(crate) fn has_every(fields: &[NodeField<'_>]) -> bool
+pub(crate) fn has_every(fields: &[Field<'_>]) -> bool
     ensures { result ≡ list_any (λ d. is_every d.mark) (map field_of fields.now) }
 {
     for field in fields {
@@ -56,20 +34,21 @@ pub(crate) fn has_every(fields: &[NodeField<'_>]) -> bool
     false
 }
 
-/// Whether a key is one of these.
+/// Whether a key is one of these labels, which are in order.
 fn is_one_of(labels: &[&str], key: &str) -> bool
-    ensures { result ≡ is_among labels.now key.now }
+    ensures { IsTrue result → is_among labels.now key.now ≡ true }
 {
-    for label in labels {
-        if key == *label {
-            return true;
-        }
+    let Ok(place) = labels.binary_search(&key) else {
+        return false;
+    };
+    match labels.get(place) {
+        Some(label) => key == *label,
+        None => false,
     }
-    false
 }
 
 /// Whether each key that the declarations are for is one of these: none of them is for every key.
-pub(crate) fn are_all_among(labels: &[&str], fields: &[NodeField<'_>]) -> bool
+pub(crate) fn are_all_among(labels: &[&str], fields: &[Field<'_>]) -> bool
     ensures { IsTrue result → (k : List ℕ) → list_any (λ d. constraint.allows d k) (map field_of fields.now) ≡ true
         → is_among labels.now k ≡ true }
 {
@@ -81,57 +60,77 @@ pub(crate) fn are_all_among(labels: &[&str], fields: &[NodeField<'_>]) -> bool
     true
 }
 
-/// The rule of a value that the literal's rule asks for, to be met or not as that is.
-fn value_of(literal: Literal, field: &NodeField<'_>) -> Literal
-    ensures { result ≡ record literal { rule = field.now.value } }
+/// Bars the places of the labels that no declaration allows.
+pub(crate) fn bar_others<'a>(
+    places: &mut Vec<Place<'a>>,
+    labels: &[&'a str],
+    fields: &Fields<'a>,
+) -> Result<(), AllocError>
+    ensures { OnOk result ((J : Judgement) (n : ℕ) (ms : List (Entry Document))
+        → list_all (λ (m : Entry Document). list_any (λ d. constraint.allows d m.0) (map field_of fields.now.all.items)) ms ≡ true
+        → HoldsPlaces J n (spread_map [] ms) places.old.items → HoldsPlaces J n (spread_map [] ms) places.new.items) }
 {
-    Literal {
-        side: literal.side,
-        rule: field.value,
-        holds: literal.holds,
+    for label in labels {
+        if !is_allowed(fields, *label) {
+            take(places, &Way::Absent(Key::Label(*label)))?;
+        }
     }
+    Ok(())
 }
 
-/// Adds to a place what a declaration asks of it.
-fn ask_field(
-    place: &mut Place<'_>,
-    label: &str,
+/// Asks the same of what is at each of the places of the labels.
+fn ask_each<'a>(
+    places: &mut Vec<Place<'a>>,
+    labels: &[&'a str],
+    value: Literal,
+) -> Result<(), AllocError>
+    ensures { OnOk result ((J : Judgement) (n : ℕ) (ms : List (Entry Document))
+        → ((k : List ℕ) → IfSome (under k ms) (IsSuch J (Some value)))
+        → HoldsPlaces J n (spread_map [] ms) places.old.items → HoldsPlaces J n (spread_map [] ms) places.new.items) }
+{
+    for label in labels {
+        take(places, &Way::Optional(Key::Label(*label), value))?;
+    }
+    Ok(())
+}
+
+/// Adds to the places of the labels what a declaration asks of them.
+fn ask_field<'a>(
+    places: &mut Vec<Place<'a>>,
+    labels: &[&'a str],
     literal: Literal,
-    field: &NodeField<'_>,
+    field: &Field<'a>,
 ) -> Result<(), AllocError>
     requires { literal.holds ≡ true }
-    ensures key { OnOk result (place.new.key ≡ place.old.key) }
-    ensures asked { OnOk result ((J : Judgement) (n : ℕ) (ms : List (Entry Document))
+    ensures { OnOk result ((J : Judgement) (n : ℕ) (ms : List (Entry Document))
         → constraint.declaration_holds (λ y p. J literal.side p y) (field_of field.now) ms ≡ true
-        → HoldsAt J n (under label.now ms) place.old → HoldsAt J n (under label.now ms) place.new) }
+        → HoldsPlaces J n (spread_map [] ms) places.old.items → HoldsPlaces J n (spread_map [] ms) places.new.items) }
 {
+    let value = part_of(literal, field.value);
     if is_for_every_key(field.mark) {
-        return add(&mut place.asked, value_of(literal, field));
+        return ask_each(places, labels, value);
     }
-    if field.label != label {
-        return Ok(());
+    let key = Key::Label(field.label);
+    if may_be_absent(field.mark) {
+        return take(places, &Way::Optional(key, value));
     }
-    if !may_be_absent(field.mark) {
-        place.is_needed = true;
-    }
-    add(&mut place.asked, value_of(literal, field))
+    take(places, &Way::Present(key, Some(value)))
 }
 
-/// Adds to the place of a label what declarations ask of it.
-pub(crate) fn ask_fields(
-    place: &mut Place<'_>,
-    label: &str,
+/// Adds to the places of the labels what declarations ask of them.
+pub(crate) fn ask_fields<'a>(
+    places: &mut Vec<Place<'a>>,
+    labels: &[&'a str],
     literal: Literal,
-    fields: &[NodeField<'_>],
+    fields: &[Field<'a>],
 ) -> Result<(), AllocError>
     requires { literal.holds ≡ true }
-    ensures key { OnOk result (place.new.key ≡ place.old.key) }
-    ensures asked { OnOk result ((J : Judgement) (n : ℕ) (ms : List (Entry Document))
+    ensures { OnOk result ((J : Judgement) (n : ℕ) (ms : List (Entry Document))
         → list_all (λ d. constraint.declaration_holds (λ y p. J literal.side p y) d ms) (map field_of fields.now) ≡ true
-        → HoldsAt J n (under label.now ms) place.old → HoldsAt J n (under label.now ms) place.new) }
+        → HoldsPlaces J n (spread_map [] ms) places.old.items → HoldsPlaces J n (spread_map [] ms) places.new.items) }
 {
     for field in fields {
-        ask_field(place, label, literal, field)?;
+        ask_field(places, labels, literal, field)?;
     }
     Ok(())
 }
@@ -140,7 +139,7 @@ pub(crate) fn ask_fields(
 pub(crate) fn ask_further(
     further: &mut Further,
     literal: Literal,
-    fields: &[NodeField<'_>],
+    fields: &[Field<'_>],
 ) -> Result<(), AllocError>
     requires { literal.holds ≡ true }
     ensures barred { further.new.is_barred ≡ further.old.is_barred }
@@ -150,7 +149,7 @@ pub(crate) fn ask_further(
 {
     for field in fields {
         if is_for_every_key(field.mark) {
-            add(&mut further.asked, value_of(literal, field))?;
+            add(&mut further.asked, part_of(literal, field.value))?;
         }
     }
     Ok(())
@@ -179,7 +178,7 @@ fn every_ways<'a>(
 pub(crate) fn field_ways<'a>(
     labels: &[&'a str],
     literal: Literal,
-    field: &NodeField<'a>,
+    field: &Field<'a>,
     ways: &mut Vec<Way<'a>>,
 ) -> Result<(), AllocError>
     requires { literal.holds ≡ false }
@@ -188,7 +187,7 @@ pub(crate) fn field_ways<'a>(
         → constraint.declaration_holds (λ y p. J literal.side p y) (field_of field.now) (entries ms) ≡ false
         → AreTaken J (spread_map labels.now (entries ms)) ways.new.items) }
 {
-    let value = value_of(literal, field);
+    let value = part_of(literal, field.value);
     if is_for_every_key(field.mark) {
         return every_ways(labels, value, ways);
     }
@@ -202,12 +201,12 @@ pub(crate) fn field_ways<'a>(
 /// Adds the ways in which a map has a key that isn't allowed.
 pub(crate) fn extra_ways<'a>(
     labels: &[&'a str],
-    fields: &[NodeField<'a>],
+    fields: &Fields<'a>,
     ways: &mut Vec<Way<'a>>,
 ) -> Result<(), AllocError>
     ensures kept { OnOk result (AddsWays ways.old.items ways.new.items) }
     ensures all { OnOk result ((J : Judgement) (ms : Members) → AreMembers ms
-        → list_all (λ (m : Entry Document). list_any (λ d. constraint.allows d m.0) (map field_of fields.now)) (entries ms) ≡ false
+        → list_all (λ (m : Entry Document). list_any (λ d. constraint.allows d m.0) (map field_of fields.now.all.items)) (entries ms) ≡ false
         → AreTaken J (spread_map labels.now (entries ms)) ways.new.items) }
 {
     for label in labels {
@@ -215,7 +214,7 @@ pub(crate) fn extra_ways<'a>(
             ways.push(Way::Present(Key::Label(*label), None))?;
         }
     }
-    if !has_every(fields) {
+    if !has_every(&fields.all) {
         ways.push(Way::Behind(None))?;
     }
     Ok(())

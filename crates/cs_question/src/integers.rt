@@ -12,7 +12,7 @@ use crate::literal::Literal;
 use crate::nodes::{Node, Nodes};
 use crate::scalars::may_meet_all;
 use cs_flat::Item;
-use cs_package::Shape;
+use cs_package::{Comparison, Shape};
 use std::alloc::{AllocError, Global};
 
 fn mark_range(marks: &mut Vec<i64>, least: i64, greatest: Option<i64>) -> Result<(), AllocError>
@@ -34,29 +34,13 @@ fn mark_shape(marks: &mut Vec<i64>, shape: &Shape) -> Result<(), AllocError>
     ensures told { OnOk result (IsToldBy (test_of (expression_of [] shape.now)) marks.new.items) }
     ensures more { OnOk result (HasMore marks.old.items marks.new.items) }
 {
-    match shape {
-        Shape::Int(n) | Shape::NotInt(n) => {
-            marks.push(*n)?;
+    match shape.comparison() {
+        Comparison::Integer(integer) => {
+            marks.push(integer)?;
             Ok(())
         }
-        Shape::Range { least, greatest } => mark_range(marks, *least, *greatest),
-        Shape::Bound { limit, .. } => {
-            marks.push(*limit)?;
-            Ok(())
-        }
-        Shape::Top
-        | Shape::Bottom
-        | Shape::Null
-        | Shape::NotNull
-        | Shape::Bool(_)
-        | Shape::Text(_)
-        | Shape::NotText(_)
-        | Shape::Kind(_)
-        | Shape::Definition(_)
-        | Shape::And(_)
-        | Shape::Or(_)
-        | Shape::Struct { .. }
-        | Shape::List { .. } => Ok(()),
+        Comparison::Range { least, greatest } => mark_range(marks, least, greatest),
+        Comparison::Nothing | Comparison::Text(_) => Ok(()),
     }
 }
 

@@ -10,6 +10,7 @@ mod effort;
 mod explore;
 mod fault;
 mod fields;
+mod forms;
 mod found;
 mod integers;
 mod leaves;

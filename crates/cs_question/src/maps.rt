@@ -1,39 +1,30 @@
 // A map that is all that is asked.
 ghost use Rattle.std.specs.Prelude.{◌≡◌, ◌≤◌, ℕ, [], List, true, false, map, Contains, IfOk, IsNone, OnOk};
 ghost use Rattle.std.specs.List.{AllByRecursion};
-ghost use Rattle.cs_document.specs.Document.{Document, Members, Entry, object, AreMembers, depth, entries, under};
+ghost use Rattle.cs_document.specs.Document.{Document, Members, Entry, object, AreMembers, depth, entries};
 ghost use Rattle.cs_instance.specs.Constraint.{fields_hold};
+ghost use Rattle.cs_instance.specs.Steps.{field_of};
 ghost use Rattle.cs_question.specs.Asked.{meets, meets_all};
-ghost use Rattle.cs_question.specs.Nodes.{Judgement, IsMeaning, field_of};
-ghost use Rattle.cs_question.specs.Spread.{HoldsAt, HoldsPlace, HoldsPlaces, HoldsFurther, IsFurther, AreTaken, is_among, spread_map};
+ghost use Rattle.cs_question.specs.Nodes.{Judgement, IsMeaning};
+ghost use Rattle.cs_question.specs.Spread.{HoldsPlaces, HoldsFurther, IsFurther, AreTaken, is_among, spread_map};
 ghost use Rattle.cs_question.specs.Truth.{NoMap};
 
 use crate::choice::choice;
 use crate::effort::Effort;
 use crate::fault::SearchFault;
-use crate::fields::{are_all_among, ask_fields, ask_further, extra_ways, field_ways, is_allowed};
+use crate::fields::{are_all_among, ask_fields, ask_further, bar_others, extra_ways, field_ways};
 use crate::found::Found;
 use crate::literal::Literal;
-use crate::nodes::{Node, NodeField, Nodes};
+use crate::nodes::{Node, Nodes};
 use crate::places::{Further, Key, Place, Way};
 use crate::scalars::may_meet_all;
 use crate::state::Chosen;
 use crate::table::Table;
 use cs_flat::Item;
+use cs_instance::Fields;
 use std::alloc::{AllocError, Global};
 
-/// The labels of declarations.
-fn add_labels<'a>(labels: &mut Vec<&'a str>, fields: &[NodeField<'a>]) -> Result<(), AllocError> {
-    for field in fields {
-        match labels.binary_search(&field.label) {
-            Ok(_) => {}
-            Err(place) => labels.insert(place, field.label)?,
-        }
-    }
-    Ok(())
-}
-
-/// The labels that the rules declare, each once.
+/// The labels that the rules declare, in order, each once.
 fn labels_of<'a>(
     alloc: Global,
     nodes: &Nodes<'a>,
@@ -41,24 +32,55 @@ fn labels_of<'a>(
 ) -> Result<Vec<&'a str>, AllocError> {
     let mut labels = Vec::new(alloc);
     for literal in asked {
-        if let Some(Node::Struct { fields, .. }) = nodes.of(*literal) {
-            add_labels(&mut labels, fields)?;
-        }
+        add_labels(&mut labels, nodes, *literal)?;
     }
+    labels.sort_unstable();
+    labels.dedup();
     Ok(labels)
 }
 
-/// Adds what one rule asks of a key.
-fn ask_place(
-    place: &mut Place<'_>,
-    label: &str,
-    nodes: &Nodes<'_>,
+/// Adds the labels that one rule declares.
+fn add_labels<'a>(
+    labels: &mut Vec<&'a str>,
+    nodes: &Nodes<'a>,
+    literal: Literal,
+) -> Result<(), AllocError> {
+    let Some(Node::Struct { fields, .. }) = nodes.of(literal) else {
+        return Ok(());
+    };
+    for field in &fields.all {
+        labels.push(field.label)?;
+    }
+    Ok(())
+}
+
+/// Places of which nothing is asked.
+fn empty_places<'a>(alloc: Global, labels: &[&'a str]) -> Result<Vec<Place<'a>>, AllocError>
+    ensures { IfOk result (λ v. (J : Judgement) (n : ℕ) (ms : Members) → AreMembers ms → depth (object ms) ≤ n
+        → HoldsPlaces J n (spread_map [] (entries ms)) v.items) }
+{
+    let mut places = Vec::with_capacity(alloc, labels.len())?;
+    for label in labels {
+        places.push(Place {
+            key: Key::Label(*label),
+            is_needed: false,
+            is_barred: false,
+            asked: Vec::new(alloc),
+        })?;
+    }
+    Ok(places)
+}
+
+/// Adds what one rule asks of the places of the labels.
+fn ask_places<'a>(
+    places: &mut Vec<Place<'a>>,
+    nodes: &Nodes<'a>,
+    labels: &[&'a str],
     literal: Literal,
 ) -> Result<(), AllocError>
-    ensures key { OnOk result (place.new.key ≡ place.old.key) }
-    ensures asked { OnOk result ((J : Judgement) (n : ℕ) (ms : Members) → IsMeaning nodes.now J
-        → meets J (object ms) literal ≡ true → HoldsAt J n (under label.now (entries ms)) place.old
-        → HoldsAt J n (under label.now (entries ms)) place.new) }
+    ensures { OnOk result ((J : Judgement) (n : ℕ) (ms : Members) → IsMeaning nodes.now J
+        → meets J (object ms) literal ≡ true → HoldsPlaces J n (spread_map [] (entries ms)) places.old.items
+        → HoldsPlaces J n (spread_map [] (entries ms)) places.new.items) }
 {
     if !literal.holds {
         return Ok(());
@@ -66,38 +88,16 @@ fn ask_place(
     let Some(Node::Struct { fields, opened }) = nodes.of(literal) else {
         return Ok(());
     };
-    if !opened && !is_allowed(fields, label) {
-        place.is_barred = true;
+    if !opened {
+        bar_others(places, labels, fields)?;
     }
-    ask_fields(place, label, literal, fields)
+    ask_fields(places, labels, literal, &fields.all)
 }
 
-/// What the rules that are met ask of a key.
-fn place_of<'a>(
-    alloc: Global,
-    nodes: &Nodes<'_>,
-    asked: &[Literal],
-    label: &'a str,
-) -> Result<Place<'a>, AllocError>
-    ensures { IfOk result (λ p. (J : Judgement) (n : ℕ) (ms : Members) → IsMeaning nodes.now J
-        → AreMembers ms → depth (object ms) ≤ n → meets_all J (object ms) asked.now ≡ true
-        → HoldsPlace J n (spread_map [] (entries ms)) p) }
-{
-    let mut place = Place {
-        key: Key::Label(label),
-        is_needed: false,
-        is_barred: false,
-        asked: Vec::new(alloc),
-    };
-    for literal in asked {
-        ask_place(&mut place, label, nodes, *literal)?;
-    }
-    Ok(place)
-}
-
+/// What the rules that are met ask of the places of the labels.
 fn places_of<'a>(
     alloc: Global,
-    nodes: &Nodes<'_>,
+    nodes: &Nodes<'a>,
     asked: &[Literal],
     labels: &[&'a str],
 ) -> Result<Vec<Place<'a>>, AllocError>
@@ -105,9 +105,9 @@ fn places_of<'a>(
         → AreMembers ms → depth (object ms) ≤ n → meets_all J (object ms) asked.now ≡ true
         → HoldsPlaces J n (spread_map labels.now (entries ms)) v.items) }
 {
-    let mut places = Vec::with_capacity(alloc, labels.len())?;
-    for label in labels {
-        places.push(place_of(alloc, nodes, asked, *label)?)?;
+    let mut places = empty_places(alloc, labels)?;
+    for literal in asked {
+        ask_places(&mut places, nodes, labels, *literal)?;
     }
     Ok(places)
 }
@@ -129,10 +129,10 @@ fn ask_rest(
     let Some(Node::Struct { fields, opened }) = nodes.of(literal) else {
         return Ok(());
     };
-    if !opened && are_all_among(labels, fields) {
+    if !opened && are_all_among(labels, &fields.all) {
         further.is_barred = true;
     }
-    ask_further(further, literal, fields)
+    ask_further(further, literal, &fields.all)
 }
 
 /// What the rules that are met ask of keys that are none of their labels.
@@ -161,16 +161,16 @@ fn struct_ways<'a>(
     alloc: Global,
     labels: &[&'a str],
     literal: Literal,
-    fields: &[NodeField<'a>],
+    fields: &Fields<'a>,
     opened: bool,
 ) -> Result<Vec<Way<'a>>, AllocError>
     requires { literal.holds ≡ false }
     ensures { IfOk result (λ v. (J : Judgement) (ms : Members) → AreMembers ms
-        → fields_hold (λ y p. J literal.side p y) (map field_of fields.now) opened (entries ms) ≡ false
+        → fields_hold (λ y p. J literal.side p y) (map field_of fields.now.all.items) opened (entries ms) ≡ false
         → AreTaken J (spread_map labels.now (entries ms)) v.items) }
 {
     let mut ways = Vec::new(alloc);
-    for field in fields {
+    for field in &fields.all {
         field_ways(labels, literal, field, &mut ways)?;
     }
     if !opened {

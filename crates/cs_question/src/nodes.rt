@@ -2,11 +2,11 @@
 ghost use Rattle.std.specs.Prelude.{◌≡◌, map, slice_index, slice_get, Some, None, IfOk, MatchOption};
 ghost use Rattle.cs_instance.specs.Numbering.{map_rest};
 ghost use Rattle.cs_instance.specs.Steps as steps;
-ghost use Rattle.cs_question.specs.Nodes.{asked_of, field_of, end_of, nodes_on};
+ghost use Rattle.cs_question.specs.Nodes.{asked_of, end_of, nodes_on};
 
 use crate::literal::{Literal, Side};
-use cs_instance::{Ending, Field, Rule};
-use cs_package::{FieldMark, Shape};
+use cs_instance::{Ending, Field, Fields, Rule};
+use cs_package::Shape;
 use std::alloc::{AllocError, Global};
 
 /// What a rule asks of a document. Its parts are rules of the same side, by number.
@@ -15,28 +15,11 @@ pub(crate) enum Node<'a> {
     /// That of an expression that looks at no part.
     Simple(&'a Shape),
     /// The integers from `least` on, up to `greatest` where there is one.
-    Within {
-        least: i64,
-        greatest: Option<i64>,
-    },
+    Within { least: i64, greatest: Option<i64> },
     All(Vec<usize>),
     Any(Vec<usize>),
-    Struct {
-        fields: Vec<NodeField<'a>>,
-        opened: bool,
-    },
-    List {
-        front: Vec<usize>,
-        end: NodeEnd,
-    },
-}
-
-/// A declaration of a struct literal, with its value's rule.
-#[derive(Drop)]
-pub(crate) struct NodeField<'a> {
-    pub(crate) label: &'a str,
-    pub(crate) mark: FieldMark,
-    pub(crate) value: usize,
+    Struct { fields: Fields<'a>, opened: bool },
+    List { front: Vec<usize>, end: NodeEnd },
 }
 
 /// What follows the fixed elements of a list: nothing, anything, or instances of a rule.
@@ -98,12 +81,13 @@ fn fields_at<'a>(
     alloc: Global,
     inner: &[usize],
     fields: &[Field<'a>],
-) -> Result<Vec<NodeField<'a>>, AllocError>
-    ensures { IfOk result (λ v. map field_of v.items ≡ steps.numbered_fields inner.now fields.now) }
+) -> Result<Vec<Field<'a>>, AllocError>
+    ensures { IfOk result (λ v. map steps.field_of v.items
+        ≡ steps.numbered_fields inner.now fields.now) }
 {
     let mut all = Vec::with_capacity(alloc, fields.len())?;
     for field in fields {
-        all.push(NodeField {
+        all.push(Field {
             label: field.label,
             mark: field.mark,
             value: number_at(inner, field.value),
@@ -129,10 +113,13 @@ fn node_of<'a>(alloc: Global, inner: &[usize], rule: &Rule<'a>) -> Result<Node<'
         Rule::Simple(shape) => Node::Simple(*shape),
         Rule::All(parts) => Node::All(Vec::from_slice(alloc, parts)?),
         Rule::Any(parts) => Node::Any(Vec::from_slice(alloc, parts)?),
-        Rule::Struct { fields, opened } => Node::Struct {
-            fields: fields_at(alloc, inner, &fields.all)?,
-            opened: *opened,
-        },
+        Rule::Struct { fields, opened } => {
+            let all = fields_at(alloc, inner, &fields.all)?;
+            Node::Struct {
+                fields: Fields::new(alloc, all)?,
+                opened: *opened,
+            }
+        }
         Rule::List { front, end } => Node::List {
             front: numbers_at(alloc, inner, front)?,
             end: end_at(inner, end),

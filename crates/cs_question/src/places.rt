@@ -58,11 +58,12 @@ pub(crate) struct Further {
     pub(crate) asked: Vec<Literal>,
 }
 
-/// A way in which a list or a map fails to meet a rule: there is nothing at a place, there is a value there which is what
-/// is asked, or there is such a value at none of the places.
+/// What may be said of the parts of a list or a map, as a way in which it fails to meet a rule: there is nothing at a place, there
+/// is a value there which is what is asked, what is there is so if anything is, or there is such a value at none of the places.
 #[derive(Clone, Copy)]
 pub(crate) enum Way<'a> {
     Absent(Key<'a>),
     Present(Key<'a>, Option<Literal>),
+    Optional(Key<'a>, Literal),
     Behind(Option<Literal>),
 }

@@ -9,30 +9,16 @@ use crate::literal::Literal;
 use crate::nodes::{Node, Nodes};
 use crate::scalars::may_meet_all;
 use cs_flat::Item;
-use cs_package::Shape;
+use cs_package::{Comparison, Shape};
 use std::alloc::{AllocError, Global};
 
 /// The text that an expression that looks at no part compares with.
 fn mark_of<'a>(shape: &'a Shape) -> Option<&'a str>
     ensures { IsToldByText (test_of (expression_of [] shape.now)) result }
 {
-    match shape {
-        Shape::Text(text) | Shape::NotText(text) => Some(text.as_str()),
-        Shape::Top
-        | Shape::Bottom
-        | Shape::Null
-        | Shape::NotNull
-        | Shape::Bool(_)
-        | Shape::Int(_)
-        | Shape::NotInt(_)
-        | Shape::Kind(_)
-        | Shape::Range { .. }
-        | Shape::Bound { .. }
-        | Shape::Definition(_)
-        | Shape::And(_)
-        | Shape::Or(_)
-        | Shape::Struct { .. }
-        | Shape::List { .. } => None,
+    match shape.comparison() {
+        Comparison::Text(text) => Some(text),
+        Comparison::Nothing | Comparison::Integer(_) | Comparison::Range { .. } => None,
     }
 }
 

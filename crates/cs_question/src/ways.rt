@@ -5,7 +5,7 @@ ghost use Rattle.cs_question.specs.Spread.{Spread, HoldsPlace, HoldsPlaces, Hold
 ghost use Rattle.cs_question.specs.Truth.{Truth};
 
 use crate::effort::Effort;
-use crate::literal::{Literal, with};
+use crate::literal::{Literal, add, with};
 use crate::places::{Further, Key, Place, Way, is_same};
 use crate::table::Table;
 use std::alloc::{AllocError, Global};
@@ -29,25 +29,27 @@ pub(crate) fn is_dead(
     table.is_shut(with(alloc, &place.asked, None)?, effort)
 }
 
-/// The place where a way was taken.
-fn changed<'a>(alloc: Global, place: &Place<'a>, way: &Way<'a>) -> Result<Place<'a>, AllocError>
-    ensures { IfOk result (λ p. (J : Judgement) (n : ℕ) (s : Spread) → HoldsPlace J n s place.now
-        → IsTaken J s way.now → HoldsPlace J n s p) }
+/// Takes a way at a place, if it is about that.
+fn change(place: &mut Place<'_>, way: &Way<'_>) -> Result<(), AllocError>
+    ensures { OnOk result ((J : Judgement) (n : ℕ) (s : Spread) → HoldsPlace J n s place.old
+        → IsTaken J s way.now → HoldsPlace J n s place.new) }
 {
     match way {
-        Way::Absent(key) if is_same(*key, place.key) => Ok(Place {
-            key: place.key,
-            is_needed: place.is_needed,
-            is_barred: true,
-            asked: with(alloc, &place.asked, None)?,
-        }),
-        Way::Present(key, more) if is_same(*key, place.key) => Ok(Place {
-            key: place.key,
-            is_needed: true,
-            is_barred: place.is_barred,
-            asked: with(alloc, &place.asked, *more)?,
-        }),
-        Way::Absent(_) | Way::Present(_, _) | Way::Behind(_) => place.copy(alloc),
+        Way::Absent(key) if is_same(*key, place.key) => {
+            place.is_barred = true;
+            Ok(())
+        }
+        Way::Present(key, more) if is_same(*key, place.key) => {
+            place.is_needed = true;
+            match more {
+                Some(literal) => add(&mut place.asked, *literal),
+                None => Ok(()),
+            }
+        }
+        Way::Optional(key, literal) if is_same(*key, place.key) => {
+            add(&mut place.asked, *literal)
+        }
+        Way::Absent(_) | Way::Present(_, _) | Way::Optional(_, _) | Way::Behind(_) => Ok(()),
     }
 }
 
@@ -62,8 +64,12 @@ fn label_of<'a>(place: &Place<'a>) -> &'a str {
 /// Where the place that a way is about is among these, which are those of a list in their order, or those of a map by their labels.
 fn place_of(places: &[Place<'_>], way: &Way<'_>) -> Option<usize> {
     match way {
-        Way::Absent(Key::Index(index)) | Way::Present(Key::Index(index), _) => Some(*index),
-        Way::Absent(Key::Label(label)) | Way::Present(Key::Label(label), _) => {
+        Way::Absent(Key::Index(index))
+        | Way::Present(Key::Index(index), _)
+        | Way::Optional(Key::Index(index), _) => Some(*index),
+        Way::Absent(Key::Label(label))
+        | Way::Present(Key::Label(label), _)
+        | Way::Optional(Key::Label(label), _) => {
             places
                 .binary_search_by_key(label, |place| label_of(place))
                 .ok()
@@ -90,27 +96,23 @@ pub(crate) fn is_shut(
     let Some(place) = places.get(number) else {
         return Ok(false);
     };
-    let place = changed(alloc, place, way)?;
-    is_dead(alloc, table, &place, effort)
+    let mut changed = place.copy(alloc)?;
+    change(&mut changed, way)?;
+    is_dead(alloc, table, &changed, effort)
 }
 
 /// Takes a way.
-pub(crate) fn take<'a>(
-    alloc: Global,
-    places: &mut Vec<Place<'a>>,
-    way: &Way<'a>,
-) -> Result<(), AllocError>
+pub(crate) fn take<'a>(places: &mut Vec<Place<'a>>, way: &Way<'a>) -> Result<(), AllocError>
     ensures { OnOk result ((J : Judgement) (n : ℕ) (s : Spread) → HoldsPlaces J n s places.old.items
         → IsTaken J s way.now → HoldsPlaces J n s places.new.items) }
 {
     let Some(number) = place_of(places, way) else {
         return Ok(());
     };
-    if number < places.len() {
-        let place = changed(alloc, &places[number], way)?;
-        places[number] = place;
+    if number >= places.len() {
+        return Ok(());
     }
-    Ok(())
+    change(&mut places[number], way)
 }
 
 /// What is asked of a value at none of the places, where there may be one as the way asks.

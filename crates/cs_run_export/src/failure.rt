@@ -1,6 +1,5 @@
 // Why no schema was written.
 use cs_tool::Fault;
-use std::alloc::AllocError;
 use std::io::{self, ErrorKind};
 
 /// Why no schema was written.
@@ -11,25 +10,9 @@ pub(crate) enum Failure {
     Unwritten(&'static str),
 }
 
-impl Failure {
-    /// The refusal.
-    pub(crate) fn fault(self) -> Fault {
-        match self {
-            Failure::Refused(fault) => fault,
-            Failure::Unwritten(_) => Fault::WriteFailed,
-        }
-    }
-}
-
 impl From<Fault> for Failure {
     fn from(fault: Fault) -> Failure {
         Failure::Refused(fault)
-    }
-}
-
-impl From<AllocError> for Failure {
-    fn from(error: AllocError) -> Failure {
-        Failure::Refused(Fault::from(error))
     }
 }
 

@@ -8,14 +8,23 @@ use crate::failure::Failure;
 use crate::replaced::replace_file;
 use clap::ArgMatches;
 use cs_export::{Layout, export_all, export_root, write_all, write_root};
-use cs_report::Form;
-use cs_run_input::{Unread, named_sources, root_of, sources_of, texts_of, word_of};
-use cs_run_refusals::{about_input, about_rules, or_told, tell_unread};
-use cs_tool::{Fault, Rules, slices_of};
+use cs_reason_words::Form;
+use cs_run_input::{Unread, files_of, named, root_of, sources_of, told_form, word_of};
+use cs_run_refusals::{about_input, about_sources, or_told, or_unread};
+use cs_tool::{Fault, Request, run, slices_of};
 use std::alloc::Global;
 
+/// The status of `export`. A refusal is told where the words ask for it.
+pub fn export(rt: &HostRuntime, words: &ArgMatches<'_>) -> Result<u8, Fault> {
+    let form = told_form(words);
+    if form.is_none() && !is_shaped(words) {
+        return export_plainly(rt, words);
+    }
+    or_unread(rt, form, words, exported(rt, words, form))
+}
+
 /// Whether the words ask for more than the schema of a root on standard output.
-pub fn is_shaped(words: &ArgMatches<'_>) -> bool {
+fn is_shaped(words: &ArgMatches<'_>) -> bool {
     let layout = layout_of(words);
     layout.is_described
         || layout.is_openapi
@@ -33,13 +42,38 @@ fn layout_of(words: &ArgMatches<'_>) -> Layout {
     }
 }
 
-/// The status of an export as the words ask for it.
-pub fn export_shaped(rt: &HostRuntime, words: &ArgMatches<'_>) -> Result<u8, Fault> {
+/// The status of an export where nothing more is asked for.
+fn export_plainly(rt: &HostRuntime, words: &ArgMatches<'_>) -> Result<u8, Fault> {
+    let root = root_of(rt.alloc(), words)?;
+    let files = files_of(rt, words)?;
+    let request = Request::Export { files, root };
+    run(rt.alloc(), request, &mut rt.stdin(), &mut rt.stdout())?;
+    Ok(0)
+}
+
+/// The status of an export as the words ask for it, whose refusals are told in a form, those of its input aside.
+fn exported(rt: &HostRuntime, words: &ArgMatches<'_>, form: Option<Form>) -> Result<u8, Fault> {
     let sources = sources_of(rt, words)?;
-    match write_schema(rt, words, &slices_of(rt.alloc(), &sources)?) {
+    let named = named(rt.alloc(), words.get_strs("FILE").unwrap_or(&[]), &sources)?;
+    let texts = slices_of(rt.alloc(), &sources)?;
+    let about = about_sources(&named, word_of(words, "root"));
+    match write_schema(rt, words, &texts) {
         Ok(()) => Ok(0),
-        Err(failure) => Err(failure.fault()),
+        Err(Failure::Refused(fault)) => or_told(rt, form, about, words, Err(fault)),
+        Err(Failure::Unwritten(cause)) => tell_unwritten(rt, words, form, cause),
     }
+}
+
+/// Tells why the file that was asked for isn't written, and gives the status.
+fn tell_unwritten(
+    rt: &HostRuntime,
+    words: &ArgMatches<'_>,
+    form: Option<Form>,
+    cause: &str,
+) -> Result<u8, Fault> {
+    let path = words.get_str("output");
+    let about = about_input(Unread { path, cause }, &[]);
+    or_told(rt, form, about, words, Err(Fault::WriteFailed))
 }
 
 /// Writes the schema of these sources as the words ask for it. Nothing is written, and no file is made, before it is whole.
@@ -52,7 +86,7 @@ fn write_schema(
         return Ok(print_schema(rt, words, sources)?);
     };
     let schema = schema_of(rt.alloc(), words, sources)?;
-    replace_file(rt, path, &schema)
+    Ok(replace_file(rt, path, &schema)?)
 }
 
 /// Writes the schema on standard output.
@@ -73,36 +107,4 @@ fn schema_of(alloc: Global, words: &ArgMatches<'_>, sources: &[&[u8]]) -> Result
     };
     schema.push(b'\n')?;
     Ok(schema)
-}
-
-/// The status of `export --why`.
-pub fn export_or_tell(rt: &HostRuntime, words: &ArgMatches<'_>) -> Result<u8, Fault> {
-    match exported(rt, words) {
-        Err(fault) => tell_unread(rt, Form::Lines, &fault, words),
-        status => status,
-    }
-}
-
-/// The status of an export whose refusals are told, those of its input aside.
-fn exported(rt: &HostRuntime, words: &ArgMatches<'_>) -> Result<u8, Fault> {
-    let root = root_of(rt.alloc(), words)?;
-    let sources = sources_of(rt, words)?;
-    let rules = Rules::Root { sources, root };
-    let named = named_sources(rt.alloc(), &rules, words.get_strs("FILE").unwrap_or(&[]))?;
-    let about = about_rules(&rules, &named, word_of(words, "root"), "");
-    match write_schema(rt, words, &texts_of(rt.alloc(), about.sources)?) {
-        Ok(()) => Ok(0),
-        Err(Failure::Refused(fault)) => or_told(rt, Form::Lines, about, words, Err(fault)),
-        Err(Failure::Unwritten(cause)) => tell_unwritten(rt, words, cause),
-    }
-}
-
-/// Tells why the file that was asked for isn't written, and gives the status.
-fn tell_unwritten(rt: &HostRuntime, words: &ArgMatches<'_>, cause: &str) -> Result<u8, Fault> {
-    let file = Unread {
-        path: words.get_str("output"),
-        cause,
-    };
-    let refusal = Err(Fault::WriteFailed);
-    or_told(rt, Form::Lines, about_input(file, &[]), words, refusal)
 }

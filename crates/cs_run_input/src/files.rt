@@ -7,9 +7,7 @@ pub fn read_sources(rt: &HostRuntime, paths: &[&str]) -> Result<Vec<Vec<u8>>, Fa
     let mut sources = Vec::new(rt.alloc());
     let mut room = MOST_BYTES;
     for path in paths {
-        let Some(source) = read_file(rt, path, room)? else {
-            return Err(Fault::SourcesTooLong);
-        };
+        let source = read_file(rt, path, room)?.ok_or(Fault::SourcesTooLong)?;
         room = room.saturating_sub(source.len());
         sources.push(source)?;
     }
@@ -18,10 +16,7 @@ pub fn read_sources(rt: &HostRuntime, paths: &[&str]) -> Result<Vec<Vec<u8>>, Fa
 
 /// The bytes of a schema or a document.
 pub fn read_input(rt: &HostRuntime, path: &str) -> Result<Vec<u8>, Fault> {
-    match read_file(rt, path, MOST_INPUT_BYTES)? {
-        Some(bytes) => Ok(bytes),
-        None => Err(Fault::InputTooLong),
-    }
+    read_file(rt, path, MOST_INPUT_BYTES)?.ok_or(Fault::InputTooLong)
 }
 
 /// All bytes of a file, or `None` where it has more than `limit`.
@@ -34,16 +29,10 @@ fn read_file(rt: &HostRuntime, path: &str, limit: usize) -> Result<Option<Vec<u8
 
 /// The bytes of standard input, as the one source.
 pub fn read_source(rt: &HostRuntime) -> Result<Vec<u8>, Fault> {
-    match read_up_to(rt.alloc(), &mut rt.stdin(), MOST_BYTES)? {
-        Some(source) => Ok(source),
-        None => Err(Fault::SourcesTooLong),
-    }
+    read_up_to(rt.alloc(), &mut rt.stdin(), MOST_BYTES)?.ok_or(Fault::SourcesTooLong)
 }
 
 /// The bytes of standard input, as the document.
 pub fn read_document(rt: &HostRuntime) -> Result<Vec<u8>, Fault> {
-    match read_up_to(rt.alloc(), &mut rt.stdin(), MOST_INPUT_BYTES)? {
-        Some(text) => Ok(text),
-        None => Err(Fault::InputTooLong),
-    }
+    read_up_to(rt.alloc(), &mut rt.stdin(), MOST_INPUT_BYTES)?.ok_or(Fault::InputTooLong)
 }

@@ -1,7 +1,7 @@
 // What the words say of reasons.
 use clap::ArgMatches;
+use cs_reason_words::Form;
 use cs_reasons::Telling;
-use cs_report::Form;
 
 /// How many reasons are told at most where the words don't say.
 const MOST_REASONS: usize = 20;
@@ -34,4 +34,13 @@ pub fn reasons_of(words: &ArgMatches<'_>) -> Option<Reasons> {
 /// Whether the words ask for reasons in two ways: in lines, of the closest alternatives, and in a format.
 pub fn are_at_odds(words: &ArgMatches<'_>) -> bool {
     words.contains_id("format") && words.get_str("why") == Some("closest")
+}
+
+/// The form in which the words ask for refusals to be told; `None` where they don't.
+pub fn told_form(words: &ArgMatches<'_>) -> Option<Form> {
+    match reasons_of(words) {
+        Some(reasons) => Some(reasons.form),
+        None if words.get_flag("why_refused") => Some(Form::Lines),
+        None => None,
+    }
 }

@@ -13,15 +13,11 @@ pub struct Unread<'a> {
     pub cause: &'a str,
 }
 
-impl<'a> Unread<'a> {
-    /// No file.
-    pub fn nothing() -> Unread<'a> {
-        Unread {
-            path: None,
-            cause: "",
-        }
-    }
-}
+/// Where no file is known.
+pub const NO_FILE: Unread<'static> = Unread {
+    path: None,
+    cause: "",
+};
 
 /// The file that a fault of reading is about: the first one, in the order in which files are read, that can't be read or is too
 /// long. Nothing for other faults, and where it isn't found again. A pipe isn't opened again, since that may wait.
@@ -30,21 +26,16 @@ pub fn unread_file<'a>(rt: &HostRuntime, fault: &Fault, words: &ArgMatches<'a>) 
     if let Some(found) = schema.and_then(|path| at_fault(rt, fault, path)) {
         return found;
     }
-    if let Some(found) = first_at_fault(rt, fault, words.get_strs("FILE").unwrap_or(&[])) {
+    if let Some(found) = first_unread(rt, fault, words.get_strs("FILE").unwrap_or(&[])) {
         return found;
     }
     let document = words.get_str("doc");
     let found = document.and_then(|path| at_fault(rt, fault, path));
-    found.unwrap_or(Unread::nothing())
-}
-
-/// The same, where these are all files.
-pub fn unread_among<'a>(rt: &HostRuntime, fault: &Fault, paths: &[&'a str]) -> Unread<'a> {
-    first_at_fault(rt, fault, paths).unwrap_or(Unread::nothing())
+    found.unwrap_or(NO_FILE)
 }
 
 /// The first of the files that a fault of reading is about.
-fn first_at_fault<'a>(rt: &HostRuntime, fault: &Fault, paths: &[&'a str]) -> Option<Unread<'a>> {
+pub fn first_unread<'a>(rt: &HostRuntime, fault: &Fault, paths: &[&'a str]) -> Option<Unread<'a>> {
     for path in paths {
         if let Some(found) = at_fault(rt, fault, path) {
             return Some(found);
@@ -88,27 +79,29 @@ fn said_of(kind: ErrorKind) -> &'static str {
     }
 }
 
+fn is_too_long(rt: &HostRuntime, path: &str) -> bool {
+    size_of(rt, path).unwrap_or(0) > MOST_INPUT_BYTES as u64
+}
+
+/// The bytes that a regular file has.
+fn size_of(rt: &HostRuntime, path: &str) -> Option<u64> {
+    match metadata(rt, path) {
+        Ok(found) if found.is_file() => Some(found.len()),
+        _ => None,
+    }
+}
+
 /// The sources with their bytes, where they are too long together, or the file that is too long; none that isn't a regular file.
 pub fn sizes_of<'a>(
     rt: &HostRuntime,
     fault: &Fault,
     unread: Unread<'a>,
-    words: &ArgMatches<'a>,
-) -> Result<Vec<(&'a str, u64)>, AllocError> {
-    sizes_among(rt, fault, unread, words.get_strs("FILE").unwrap_or(&[]))
-}
-
-/// The same, where these are the sources.
-pub fn sizes_among<'a>(
-    rt: &HostRuntime,
-    fault: &Fault,
-    unread: Unread<'a>,
-    paths: &[&'a str],
+    sources: &[&'a str],
 ) -> Result<Vec<(&'a str, u64)>, AllocError> {
     let mut sizes = Vec::new(rt.alloc());
     match (fault, unread.path) {
         (Fault::SourcesTooLong, _) => {
-            for path in paths {
+            for path in sources {
                 add_size(rt, path, &mut sizes)?;
             }
         }
@@ -124,17 +117,8 @@ fn add_size<'a>(
     path: &'a str,
     sizes: &mut Vec<(&'a str, u64)>,
 ) -> Result<(), AllocError> {
-    if let Ok(found) = metadata(rt, path) {
-        if found.is_file() {
-            sizes.push((path, found.len()))?;
-        }
+    if let Some(size) = size_of(rt, path) {
+        sizes.push((path, size))?;
     }
     Ok(())
-}
-
-fn is_too_long(rt: &HostRuntime, path: &str) -> bool {
-    match metadata(rt, path) {
-        Ok(found) => found.is_file() && found.len() > MOST_INPUT_BYTES as u64,
-        Err(_) => false,
-    }
 }

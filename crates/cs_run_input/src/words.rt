@@ -1,25 +1,8 @@
-// What the words of a command name. Sources, or a schema, are read before a document.
+// What the words of a command name.
 use crate::files::{read_source, read_sources};
 use clap::ArgMatches;
 use cs_tool::Fault;
 use std::alloc::Global;
-
-/// Documents that are judged one after another.
-#[derive(Drop)]
-pub enum Documents<'m, 'w> {
-    /// The lines of the file, or of standard input where there is none.
-    Lines(Option<&'w str>),
-    /// The files.
-    Files(&'m [&'w str]),
-}
-
-/// The documents of `--lines` or `--docs`, where one of these words is there.
-pub fn documents_of<'m, 'w>(words: &'m ArgMatches<'w>) -> Option<Documents<'m, 'w>> {
-    if words.get_flag("lines") {
-        return Some(Documents::Lines(words.get_str("doc")));
-    }
-    words.get_strs("docs").map(Documents::Files)
-}
 
 /// The sources that are named, or standard input as the one source where none is.
 pub fn sources_of(rt: &HostRuntime, words: &ArgMatches<'_>) -> Result<Vec<Vec<u8>>, Fault> {
@@ -31,10 +14,7 @@ pub fn sources_of(rt: &HostRuntime, words: &ArgMatches<'_>) -> Result<Vec<Vec<u8
 
 /// The sources that are named.
 pub fn files_of(rt: &HostRuntime, words: &ArgMatches<'_>) -> Result<Vec<Vec<u8>>, Fault> {
-    match words.get_strs("FILE") {
-        Some(paths) => read_sources(rt, paths),
-        None => Ok(Vec::new(rt.alloc())),
-    }
+    read_sources(rt, words.get_strs("FILE").unwrap_or(&[]))
 }
 
 /// The word after `--root`, as it is.

@@ -1,39 +1,62 @@
 // The commands that judge documents, over named files and the standard streams.
 #![tactic(auto)]
 
-mod explained;
-mod many;
-mod requests;
+mod input;
+mod judged;
 
-use crate::many::answer_many;
-use crate::requests::{request_of, rules_of};
+use crate::input::input_of;
+use crate::judged::{judge_by, why_of};
 use clap::ArgMatches;
-use cs_run_input::documents_of;
-use cs_tool::{Fault, Request, run};
-pub use explained::answer_with_reasons;
+use cs_fault_words::About;
+use cs_place::Named;
+use cs_run_input::{STANDARD_INPUT, named_sources, told_form, word_of};
+use cs_run_refusals::{about_sources, or_told, or_unread};
+use cs_tool::{Fault, Rules};
 
-/// The status of `invalid`.
-const INVALID: u8 = 1;
-
-/// The status of `export`, or of a command that judges documents, where no reasons are asked for; `None` for every other one.
-pub fn answer(rt: &HostRuntime, matches: &ArgMatches<'_>) -> Result<Option<u8>, Fault> {
-    let Some((command, words)) = matches.subcommand() else {
-        return Ok(None);
-    };
-    if let Some(documents) = documents_of(words) {
-        return match rules_of(rt, command, words)? {
-            Some(rules) => answer_many(rt, &rules, None, documents).map(Some),
-            None => Ok(None),
-        };
-    }
-    match request_of(rt, command, words)? {
-        Some(request) => judged(rt, request).map(Some),
-        None => Ok(None),
-    }
+/// The status of `vet`, `validate` or `agree`. Where reasons are asked for, a refusal is told as they would be.
+pub fn judge(rt: &HostRuntime, command: &str, words: &ArgMatches<'_>) -> Result<u8, Fault> {
+    or_unread(rt, told_form(words), words, answer(rt, command, words))
 }
 
-/// Runs the request over the standard streams: 0, or 1 for `invalid`.
-fn judged(rt: &HostRuntime, request: Request) -> Result<u8, Fault> {
-    let truth = run(rt.alloc(), request, &mut rt.stdin(), &mut rt.stdout())?;
-    Ok(if truth { 0 } else { INVALID })
+/// The same, where the refusals of the input aren't told.
+fn answer(rt: &HostRuntime, command: &str, words: &ArgMatches<'_>) -> Result<u8, Fault> {
+    let (rules, text) = input_of(rt, command, words)?;
+    answer_by(rt, words, &rules, text.as_deref())
+}
+
+/// The status of the text of the one document, or where there is none of the documents that the words name.
+fn answer_by(
+    rt: &HostRuntime,
+    words: &ArgMatches<'_>,
+    rules: &Rules,
+    text: Option<&[u8]>,
+) -> Result<u8, Fault> {
+    let sources = named_sources(rt.alloc(), rules, words.get_strs("FILE").unwrap_or(&[]))?;
+    let document = match text {
+        Some(text) => Some(Named {
+            name: words.get_str("doc").unwrap_or(STANDARD_INPUT),
+            text,
+            line: 1,
+        }),
+        None => None,
+    };
+    let about = About {
+        schema: schema_of(rules, word_of(words, "schema")),
+        document,
+        ..about_sources(&sources, word_of(words, "root"))
+    };
+    let answer = judge_by(rt, words, rules, document, why_of(words, &sources));
+    or_told(rt, told_form(words), about, words, answer)
+}
+
+/// The schema that is judged by, if it is one, with its path.
+fn schema_of<'a>(rules: &'a Rules, path: &'a str) -> Option<Named<'a>> {
+    match rules {
+        Rules::Schema { schema } => Some(Named {
+            name: path,
+            text: schema,
+            line: 1,
+        }),
+        Rules::Root { .. } | Rules::Both { .. } => None,
+    }
 }

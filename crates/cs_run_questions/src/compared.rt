@@ -1,44 +1,91 @@
 // The command that compares two editions of a definition.
 use crate::INVALID;
-use crate::sides::{Edition, paths_of, tell_alone, tell_refused, tell_unread_side};
 use clap::ArgMatches;
 use cs_compare::{
     CompareRefusal, Comparison, Side, Told, compare as compare_sources, write_both,
     write_comparison,
 };
+use cs_fault_words::About;
 use cs_judge::{Prepared, Why, prepare};
 use cs_place::Named;
-use cs_report::Form;
-use cs_run_input::{Reasons, named_sources, read_sources, reasons_of, texts_of, word_of};
+use cs_reason_words::Form;
+use cs_run_input::{
+    NO_FILE, Reasons, first_unread, named_sources, read_sources, reasons_of, texts_of, word_of,
+};
+use cs_run_refusals::{about_sources, is_of_reading, tell, tell_unread};
 use cs_tool::{Fault, Rules};
 use std::alloc::Global;
 
 /// The name of the document that is shown, in what is told of it.
 const SHOWN: &str = "document";
 
-/// The status of `compare`: 0, or 1 where an answer is `breaking`. A refusal is told as the answer would be.
-pub(crate) fn compare(rt: &HostRuntime, words: &ArgMatches<'_>) -> Result<u8, Fault> {
-    match compared(rt, words) {
-        Err(fault) => tell_alone(rt, reasons_of(words), fault),
-        status => status,
+/// An edition of a definition.
+#[derive(Clone, Copy)]
+struct Edition<'a> {
+    rules: &'a Rules,
+    sources: &'a [Named<'a>],
+    root: &'a str,
+}
+
+impl<'a> Edition<'a> {
+    fn of(rules: &'a Rules, sources: &'a [Named<'a>], root: &'a str) -> Edition<'a> {
+        Edition {
+            rules,
+            sources,
+            root,
+        }
     }
 }
 
-/// The status of `compare`, where the refusals of both sides are told.
-fn compared(rt: &HostRuntime, words: &ArgMatches<'_>) -> Result<u8, Fault> {
-    let reasons = reasons_of(words);
-    let old = match rules_of(rt, words, Side::Old) {
-        Ok(rules) => rules,
-        Err(fault) => return tell_unread_side(rt, reasons, fault, Side::Old, words),
-    };
-    let new = match rules_of(rt, words, Side::New) {
-        Ok(rules) => rules,
-        Err(fault) => return tell_unread_side(rt, reasons, fault, Side::New, words),
-    };
-    compare_rules(rt, words, &old, &new)
+/// The status of `compare`: 0, or 1 where an answer is `breaking`. A refusal is told as the answer would be.
+pub fn compare(rt: &HostRuntime, words: &ArgMatches<'_>) -> Result<u8, Fault> {
+    match compared(rt, words) {
+        Ok(status) => Ok(status),
+        Err(refusal) => tell_refusal(rt, words, refusal, about_sources(&[], "")),
+    }
 }
 
-/// The status of `compare` by the rules of both sides.
+/// The same, where the refusals of the input aren't told.
+fn compared(rt: &HostRuntime, words: &ArgMatches<'_>) -> Result<u8, CompareRefusal> {
+    let old = rules_of(rt, words, Side::Old)?;
+    let new = rules_of(rt, words, Side::New)?;
+    Ok(compare_rules(rt, words, &old, &new)?)
+}
+
+/// The word of a side, for its files and before what is told of it.
+fn word_of_side(side: Side) -> &'static str {
+    match side {
+        Side::Old => "old",
+        Side::New => "new",
+    }
+}
+
+/// The files of a side.
+fn paths_of<'m, 'w>(words: &'m ArgMatches<'w>, side: Side) -> Option<&'m [&'w str]> {
+    words.get_strs(word_of_side(side))
+}
+
+/// The root of a side: the new one may have a name of its own.
+fn root_of<'a>(words: &ArgMatches<'a>, side: Side) -> &'a str {
+    match (side, words.get_str("new-root")) {
+        (Side::New, Some(root)) => root,
+        (Side::Old | Side::New, _) => word_of(words, "root"),
+    }
+}
+
+/// The rules of a side, read from its files.
+fn rules_of(rt: &HostRuntime, words: &ArgMatches<'_>, side: Side) -> Result<Rules, CompareRefusal> {
+    let root = String::from_str(rt.alloc(), root_of(words, side))?;
+    match read_sources(rt, paths_of(words, side).unwrap_or(&[])) {
+        Ok(sources) => Ok(Rules::Root { sources, root }),
+        Err(fault) => Err(CompareRefusal {
+            side: Some(side),
+            fault,
+        }),
+    }
+}
+
+/// The status of `compare` by the rules of both sides, whose refusals are told.
 fn compare_rules(
     rt: &HostRuntime,
     words: &ArgMatches<'_>,
@@ -52,77 +99,88 @@ fn compare_rules(
     compare_editions(rt, words, before, after)
 }
 
-/// The status of `compare` by the editions of both sides.
+/// The same by the editions of both sides.
 fn compare_editions(
     rt: &HostRuntime,
     words: &ArgMatches<'_>,
     before: Edition<'_>,
     after: Edition<'_>,
 ) -> Result<u8, Fault> {
-    let reasons = reasons_of(words);
-    let written = if words.get_flag("both") {
-        write_directions(rt, before, after, reasons)
-    } else {
-        write_direction(rt, before, after, reasons)
-    };
-    match written {
+    match write_answers(rt, words, before, after) {
         Ok(is_compatible) => Ok(if is_compatible { 0 } else { INVALID }),
-        Err(refusal) => tell_refused(rt, reasons, refusal, before, after, words),
+        Err(refusal) => tell_of_sides(rt, words, refusal, before, after),
     }
 }
 
-/// Writes whether each document of an edition is one of the other edition.
-fn write_direction(
+/// Tells a refusal by the edition of its side, and gives its status.
+fn tell_of_sides(
     rt: &HostRuntime,
-    from: Edition<'_>,
-    to: Edition<'_>,
-    reasons: Option<Reasons>,
-) -> Result<bool, CompareRefusal> {
-    let told = told_answer(rt.alloc(), from, to, reasons)?;
-    Ok(write_comparison(rt.alloc(), &told, is_json(reasons), &mut rt.stdout())?)
-}
-
-/// Writes whether old documents are new ones, and whether new documents are old ones.
-fn write_directions(
-    rt: &HostRuntime,
+    words: &ArgMatches<'_>,
+    refusal: CompareRefusal,
     before: Edition<'_>,
     after: Edition<'_>,
-    reasons: Option<Reasons>,
+) -> Result<u8, Fault> {
+    match refusal.side {
+        Some(Side::Old) => {
+            let about = about_sources(before.sources, before.root);
+            tell_refusal(rt, words, refusal, about)
+        }
+        Some(Side::New) => {
+            let about = about_sources(after.sources, after.root);
+            tell_refusal(rt, words, refusal, about)
+        }
+        None => tell_refusal(rt, words, refusal, about_sources(&[], "")),
+    }
+}
+
+/// Tells a refusal as it is asked for, and gives its status. Which file can't be read is told in any case.
+fn tell_refusal(
+    rt: &HostRuntime,
+    words: &ArgMatches<'_>,
+    refusal: CompareRefusal,
+    about: About<'_>,
+) -> Result<u8, Fault> {
+    let CompareRefusal { side, fault } = refusal;
+    let form = match reasons_of(words) {
+        Some(reasons) => reasons.form,
+        None if matches!(fault, Fault::ReadFailed) => Form::Lines,
+        None => return Err(fault),
+    };
+    let Some(side) = side else {
+        return tell(rt, form, &fault, about, &[], None);
+    };
+    let (paths, word) = (
+        paths_of(words, side).unwrap_or(&[]),
+        Some(word_of_side(side)),
+    );
+    if is_of_reading(&fault) {
+        let found = first_unread(rt, &fault, paths).unwrap_or(NO_FILE);
+        return tell_unread(rt, form, &fault, found, paths, word);
+    }
+    tell(rt, form, &fault, about, paths, word)
+}
+
+/// Writes whether old documents are new ones, and where both directions are asked for whether new documents are old ones.
+fn write_answers(
+    rt: &HostRuntime,
+    words: &ArgMatches<'_>,
+    before: Edition<'_>,
+    after: Edition<'_>,
 ) -> Result<bool, CompareRefusal> {
-    let backward = told_answer(rt.alloc(), before, after, reasons)?;
-    let forward = told_answer(rt.alloc(), after, before, reasons)?;
-    Ok(write_both(
-        rt.alloc(),
-        &backward,
-        &forward,
-        is_json(reasons),
-        &mut rt.stdout(),
-    )?)
-}
-
-/// The root of a side: the new one may have a name of its own.
-fn root_of<'a>(words: &ArgMatches<'a>, side: Side) -> &'a str {
-    match side {
-        Side::Old => word_of(words, "root"),
-        Side::New => match words.get_str("new_root") {
-            Some(root) => root,
-            None => word_of(words, "root"),
-        },
+    let (alloc, reasons) = (rt.alloc(), reasons_of(words));
+    let is_json = matches!(
+        reasons,
+        Some(Reasons {
+            form: Form::Json,
+            ..
+        })
+    );
+    let backward = told_answer(alloc, before, after, reasons)?;
+    if !words.get_flag("both") {
+        return Ok(write_comparison(alloc, &backward, is_json, &mut rt.stdout())?);
     }
-}
-
-/// The rules of a side, read from its files.
-fn rules_of(rt: &HostRuntime, words: &ArgMatches<'_>, side: Side) -> Result<Rules, Fault> {
-    let root = String::from_str(rt.alloc(), root_of(words, side))?;
-    let sources = read_sources(rt, paths_of(words, side).unwrap_or(&[]))?;
-    Ok(Rules::Root { sources, root })
-}
-
-fn is_json(reasons: Option<Reasons>) -> bool {
-    match reasons {
-        Some(reasons) => matches!(reasons.form, Form::Json),
-        None => false,
-    }
+    let forward = told_answer(alloc, after, before, reasons)?;
+    Ok(write_both(alloc, &backward, &forward, is_json, &mut rt.stdout())?)
 }
 
 /// Whether each document of an edition is one of the other edition, and where it is asked for why one isn't.
@@ -161,8 +219,13 @@ fn reasons_told(
     to: Edition<'_>,
     reasons: Reasons,
 ) -> Result<Vec<u8>, Fault> {
-    let mut told = Vec::new(alloc);
-    let _is_instance = explain(alloc, shown, to, reasons, &mut told)?;
+    let why = Why {
+        sources: to.sources,
+        form: reasons.form,
+        telling: reasons.telling,
+    };
+    let prepared = prepare(alloc, to.rules)?;
+    let told = explained(alloc, &prepared, shown, why)?;
     let bare = match reasons.form {
         Form::Json => told.trim_ascii_end(),
         Form::Lines | Form::Flag | Form::Basic => {
@@ -172,36 +235,20 @@ fn reasons_told(
     Ok(bare.to_vec(alloc)?)
 }
 
-/// Adds what an edition tells of the document that it refuses.
-fn explain(
-    alloc: Global,
-    shown: &[u8],
-    to: Edition<'_>,
-    reasons: Reasons,
-    told: &mut Vec<u8>,
-) -> Result<bool, Fault> {
-    let why = Why {
-        sources: to.sources,
-        form: reasons.form,
-        telling: reasons.telling,
-    };
-    let prepared = prepare(alloc, to.rules)?;
-    explain_prepared(alloc, &prepared, shown, why, told)
-}
-
-/// The same by prepared rules.
-fn explain_prepared(
+/// What prepared rules tell of the text of a document.
+fn explained(
     alloc: Global,
     prepared: &Prepared<'_>,
     shown: &[u8],
     why: Why<'_>,
-    told: &mut Vec<u8>,
-) -> Result<bool, Fault> {
+) -> Result<Vec<u8>, Fault> {
     let document = Named {
         name: SHOWN,
         text: shown,
         line: 1,
     };
+    let mut told = Vec::new(alloc);
     let mut judge = prepared.judge(alloc)?;
-    judge.explain(document, Some(why), told)
+    judge.explain(document, Some(why), &mut told)?;
+    Ok(told)
 }

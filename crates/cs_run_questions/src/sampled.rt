@@ -2,46 +2,34 @@
 use crate::{INVALID, WARNED};
 use clap::ArgMatches;
 use cs_compare::write_lines;
-use cs_report::Form;
-use cs_run_input::{named_sources, root_of, sources_of, texts_of, word_of};
-use cs_run_refusals::{about_rules, or_told, tell_unread};
+use cs_run_input::{named, sources_of, told_form, word_of};
+use cs_run_refusals::{about_sources, or_told, or_unread};
 use cs_samples::{QuestionFault, SampleTexts, Sampled, samples};
-use cs_tool::{Fault, Rules, read_root, slices_of, write_text};
+use cs_tool::{Fault, read_root, slices_of, write_text};
 use std::alloc::{AllocError, Global};
 
 /// How many documents are written at most where the words don't say.
 const MOST_SAMPLES: usize = 100;
 
-/// The status of `samples`: 0, or 1 where there is no document, and with `--strict` where something is left.
-pub(crate) fn write_samples(rt: &HostRuntime, words: &ArgMatches<'_>) -> Result<u8, Fault> {
-    if !words.get_flag("why_refused") {
-        let sources = sources_of(rt, words)?;
-        return written(rt, words, &slices_of(rt.alloc(), &sources)?);
-    }
-    match written_or_told(rt, words) {
-        Err(fault) => tell_unread(rt, Form::Lines, &fault, words),
-        status => status,
-    }
+/// The status of `samples`: 0, or 1 where there is no document, and with `--strict` where something is left. A refusal is told where
+/// the words ask for it.
+pub fn write_samples(rt: &HostRuntime, words: &ArgMatches<'_>) -> Result<u8, Fault> {
+    or_unread(rt, told_form(words), words, written_or_told(rt, words))
 }
 
-/// The status of documents whose refusals are told, those of reading the files aside.
+/// The same, where the refusals of the input aren't told.
 fn written_or_told(rt: &HostRuntime, words: &ArgMatches<'_>) -> Result<u8, Fault> {
-    let root = root_of(rt.alloc(), words)?;
     let sources = sources_of(rt, words)?;
-    written_or_told_by(rt, words, &Rules::Root { sources, root })
-}
-
-/// The same by the rules of the root.
-fn written_or_told_by(
-    rt: &HostRuntime,
-    words: &ArgMatches<'_>,
-    rules: &Rules,
-) -> Result<u8, Fault> {
-    let named = named_sources(rt.alloc(), rules, words.get_strs("FILE").unwrap_or(&[]))?;
-    let about = about_rules(rules, &named, word_of(words, "root"), "");
-    let texts = texts_of(rt.alloc(), &named)?;
-    let answer = written(rt, words, &texts);
-    or_told(rt, Form::Lines, about, words, answer)
+    let named = named(rt.alloc(), words.get_strs("FILE").unwrap_or(&[]), &sources)?;
+    let texts = slices_of(rt.alloc(), &sources)?;
+    let about = about_sources(&named, word_of(words, "root"));
+    or_told(
+        rt,
+        told_form(words),
+        about,
+        words,
+        written(rt, words, &texts),
+    )
 }
 
 /// Writes the documents of the root of these sources, and says what is left. What can't be said changes no status.
@@ -54,18 +42,11 @@ fn written(rt: &HostRuntime, words: &ArgMatches<'_>, sources: &[&[u8]]) -> Resul
         let _ = write_text(&mut rt.stderr(), left.as_bytes());
     }
     let is_faulty = words.get_flag("strict") && !left.is_empty();
-    Ok(status(has_some, is_faulty))
-}
-
-/// The status of documents, where there are some, and where what is left counts.
-fn status(has_some: bool, is_faulty: bool) -> u8 {
-    if !has_some {
-        INVALID
-    } else if is_faulty {
-        WARNED
-    } else {
-        0
-    }
+    Ok(match (has_some, is_faulty) {
+        (false, _) => INVALID,
+        (true, true) => WARNED,
+        (true, false) => 0,
+    })
 }
 
 /// The documents of the root of these sources, as many as that at most.

@@ -2,15 +2,21 @@
 #![tactic(auto)]
 
 use clap::ArgMatches;
+use cs_fault_words::{About, why_refused, write_refusal_json};
 use cs_place::Named;
-use cs_refusals::{About, why_refused, write_refusal_json};
-use cs_report::Form;
-use cs_run_input::{STANDARD_INPUT, Unread, sizes_of, unread_file};
-use cs_tool::{Fault, Rules, write_fault, write_fault_json};
+use cs_reason_words::Form;
+use cs_run_input::{NO_FILE, STANDARD_INPUT, Unread, print, sizes_of, unread_file};
+use cs_tool::{Fault, write_fault, write_fault_json};
+use std::alloc::{AllocError, Global};
 use std::io::Write;
 
 /// The names of the sources where none is given.
 const UNNAMED: &[&str] = &[STANDARD_INPUT];
+
+/// The names of sources, or that of standard input.
+fn or_unnamed<'m, 'w>(paths: &'m [&'w str]) -> &'m [&'w str] {
+    if paths.is_empty() { UNNAMED } else { paths }
+}
 
 /// What is known of a call whose input wasn't read.
 pub fn about_input<'a>(unread: Unread<'a>, sizes: &'a [(&'a str, u64)]) -> About<'a> {
@@ -25,118 +31,138 @@ pub fn about_input<'a>(unread: Unread<'a>, sizes: &'a [(&'a str, u64)]) -> About
     }
 }
 
-/// What is known of a call by its rules, with the root and the path of the schema.
-pub fn about_rules<'a>(
-    rules: &'a Rules,
-    sources: &'a [Named<'a>],
-    root: &'a str,
-    path: &'a str,
-) -> About<'a> {
-    let schema = match rules {
-        Rules::Schema { schema } => Some(Named {
-            name: path,
-            text: schema,
-            line: 1,
-        }),
-        _ => None,
-    };
+/// What is known of a call by its sources and its root.
+pub fn about_sources<'a>(sources: &'a [Named<'a>], root: &'a str) -> About<'a> {
     About {
         sources,
         root,
-        schema,
-        ..about_input(Unread::nothing(), &[])
+        ..about_input(NO_FILE, &[])
     }
 }
 
-/// The status of an answer; a refusal is told as the form has it.
+/// The status of an answer; a refusal is told where a form is asked for.
 pub fn or_told(
     rt: &HostRuntime,
-    form: Form,
+    form: Option<Form>,
     about: About<'_>,
     words: &ArgMatches<'_>,
     answer: Result<u8, Fault>,
 ) -> Result<u8, Fault> {
-    match answer {
-        Err(fault) if is_of_reading(&fault) => tell_unread(rt, form, &fault, words),
-        Err(fault) => tell(rt, form, &fault, about, words),
-        Ok(status) => Ok(status),
+    if let (Err(fault), Some(form)) = (&answer, form) {
+        if !is_of_reading(fault) {
+            let names = or_unnamed(words.get_strs("FILE").unwrap_or(&[]));
+            return tell(rt, form, fault, about, names, None);
+        }
     }
+    or_unread(rt, form, words, answer)
+}
+
+/// The status of an answer; a refusal is told where a form is asked for, as one of a call whose input wasn't read.
+pub fn or_unread(
+    rt: &HostRuntime,
+    form: Option<Form>,
+    words: &ArgMatches<'_>,
+    answer: Result<u8, Fault>,
+) -> Result<u8, Fault> {
+    if let (Err(fault), Some(form)) = (&answer, form) {
+        let found = unread_file(rt, fault, words);
+        let sources = words.get_strs("FILE").unwrap_or(&[]);
+        return tell_unread(rt, form, fault, found, sources, None);
+    }
+    answer
 }
 
 /// Whether a fault is one of a file, and not of what was read.
-fn is_of_reading(fault: &Fault) -> bool {
+pub fn is_of_reading(fault: &Fault) -> bool {
     matches!(
         fault,
         Fault::SourcesTooLong | Fault::ReadFailed | Fault::InputTooLong
     )
 }
 
-/// Tells a refusal, and gives its status. Want of memory is told by its number alone; no object is written where nothing can be
-/// written.
-fn tell(
-    rt: &HostRuntime,
-    form: Form,
-    fault: &Fault,
-    about: About<'_>,
-    words: &ArgMatches<'_>,
-) -> Result<u8, Fault> {
-    match (form, fault) {
-        (Form::Lines, Fault::OutOfMemory) => Err(Fault::OutOfMemory),
-        (Form::Lines, _) => tell_lines(rt, fault, about),
-        (Form::Json | Form::Flag | Form::Basic, Fault::WriteFailed) => Err(Fault::WriteFailed),
-        (Form::Json, Fault::OutOfMemory) | (Form::Flag | Form::Basic, _) => {
-            write_number(rt, fault, words)?;
-            Ok(fault.status())
-        }
-        (Form::Json, _) => {
-            write_object(rt, fault, about, words)?;
-            Ok(fault.status())
-        }
-    }
-}
-
-/// Writes the object of a refusal without what it means.
-fn write_number(rt: &HostRuntime, fault: &Fault, words: &ArgMatches<'_>) -> Result<(), Fault> {
-    match words.get_strs("FILE") {
-        Some(names) => write_fault_json(rt.alloc(), fault, names, &mut rt.stdout()),
-        None => write_fault_json(rt.alloc(), fault, UNNAMED, &mut rt.stdout()),
-    }
-}
-
-/// Writes the object of a refusal with what it means.
-fn write_object(
-    rt: &HostRuntime,
-    fault: &Fault,
-    about: About<'_>,
-    words: &ArgMatches<'_>,
-) -> Result<(), Fault> {
-    match words.get_strs("FILE") {
-        Some(names) => write_refusal_json(rt.alloc(), fault, names, about, &mut rt.stdout()),
-        None => write_refusal_json(rt.alloc(), fault, UNNAMED, about, &mut rt.stdout()),
-    }
-}
-
-/// Writes the line of a refusal and what it means, and gives its status.
-fn tell_lines(rt: &HostRuntime, fault: &Fault, about: About<'_>) -> Result<u8, Fault> {
-    let why = why_refused(rt.alloc(), fault, about)?;
-    let mut errors = rt.stderr();
-    // What can't be written changes no status.
-    let _ = write_fault(fault, &mut errors);
-    let _ = errors.write_all(why.as_bytes());
-    Ok(fault.status())
-}
-
-/// Tells a refusal of a call whose input wasn't read, with the file at fault.
+/// Tells a refusal of a call whose input wasn't read, with the file at fault, as [`tell`] does.
 pub fn tell_unread(
     rt: &HostRuntime,
     form: Form,
     fault: &Fault,
-    words: &ArgMatches<'_>,
+    found: Unread<'_>,
+    sources: &[&str],
+    side: Option<&str>,
 ) -> Result<u8, Fault> {
-    if matches!(fault, Fault::OutOfMemory) {
-        return tell(rt, form, fault, about_input(Unread::nothing(), &[]), words);
+    let sizes = sizes_of(rt, fault, found, sources)?;
+    let about = about_input(found, &sizes);
+    tell(rt, form, fault, about, or_unnamed(sources), side)
+}
+
+/// Tells a refusal in a form, as that of a side of a comparison where there is one, and gives its status. `names` are those of the
+/// sources. Want of memory is told by its number alone; no object is written where nothing can be written.
+pub fn tell(
+    rt: &HostRuntime,
+    form: Form,
+    fault: &Fault,
+    about: About<'_>,
+    names: &[&str],
+    side: Option<&str>,
+) -> Result<u8, Fault> {
+    match (form, fault) {
+        (Form::Lines, Fault::OutOfMemory) => return Err(Fault::OutOfMemory),
+        (Form::Lines, _) => tell_lines(rt, fault, about, side)?,
+        (Form::Json | Form::Flag | Form::Basic, Fault::WriteFailed) => {
+            return Err(Fault::WriteFailed);
+        }
+        (Form::Json, Fault::OutOfMemory) | (Form::Flag | Form::Basic, _) => {
+            write_fault_json(rt.alloc(), fault, names, &mut rt.stdout())?;
+        }
+        (Form::Json, _) => tell_object(rt, fault, about, names, side)?,
     }
-    let found = unread_file(rt, fault, words);
-    let sizes = sizes_of(rt, fault, found, words)?;
-    tell(rt, form, fault, about_input(found, &sizes), words)
+    Ok(fault.status())
+}
+
+/// Writes the line of a refusal, and behind the word of its side what it means.
+fn tell_lines(
+    rt: &HostRuntime,
+    fault: &Fault,
+    about: About<'_>,
+    side: Option<&str>,
+) -> Result<(), AllocError> {
+    let why = why_refused(rt.alloc(), fault, about)?;
+    let mut errors = rt.stderr();
+    // What can't be written changes no status.
+    let _ = write_fault(fault, &mut errors);
+    if let Some(side) = side {
+        let _ = errors.write_all(side.as_bytes());
+        let _ = errors.write_all(b": ");
+    }
+    let _ = errors.write_all(why.as_bytes());
+    Ok(())
+}
+
+/// Writes the object of a refusal with what it means, as the member of its side.
+fn tell_object(
+    rt: &HostRuntime,
+    fault: &Fault,
+    about: About<'_>,
+    names: &[&str],
+    side: Option<&str>,
+) -> Result<(), Fault> {
+    let Some(side) = side else {
+        return write_refusal_json(rt.alloc(), fault, names, about, &mut rt.stdout());
+    };
+    let mut object = Vec::new(rt.alloc());
+    // Only memory stops a write to a list.
+    if write_refusal_json(rt.alloc(), fault, names, about, &mut object).is_err() {
+        return Err(Fault::OutOfMemory);
+    }
+    print(rt, &member_of(rt.alloc(), side, &object)?)
+}
+
+/// An object with one member, whose value is this object with a newline behind it.
+fn member_of(alloc: Global, name: &str, object: &[u8]) -> Result<Vec<u8>, AllocError> {
+    let mut text = Vec::new(alloc);
+    text.extend_from_slice(b"{\"")?;
+    text.extend_from_slice(name.as_bytes())?;
+    text.extend_from_slice(b"\":")?;
+    text.extend_from_slice(object.trim_ascii_end())?;
+    text.extend_from_slice(b"}\n")?;
+    Ok(text)
 }

@@ -2,3 +2,4 @@
 pub mod Sample
 -- for contracts of private functions and proofs alone
 pub mod Answers
+pub mod Kept

@@ -2,57 +2,98 @@
 ghost use Rattle.std.specs.Prelude.{IfOk, IfSome, IsTrue};
 ghost use Rattle.cs_document.specs.View.{doc_view};
 ghost use Rattle.cs_question.specs.ReadAgain.{IsReadAgain};
-ghost use Rattle.cs_samples.specs.Sample.{IsAsAsked, IsSample};
+ghost use Rattle.cs_samples.specs.Sample.{IsAsAsked};
 
 use cs_document::Doc;
 use cs_guard::Guarded;
 use cs_instance::{InstanceFault, is_instance};
 use cs_pretty::shown_text;
 use cs_question::{Budget, QuestionFault, instance_of, separating};
-use cs_variants::Sampled;
+use cs_variants::{Place, Sampled, Walk, Where};
 use std::alloc::Global;
 
 /// What is asked for: samples of the root of a package.
 #[derive(Clone, Copy)]
-pub(crate) struct Asking<'a> {
+pub(crate) struct Asking<'b, 'a> {
     pub(crate) alloc: Global,
     pub(crate) package: &'a Guarded,
-    pub(crate) root: &'a str,
+    pub(crate) root: &'b str,
     pub(crate) which: Sampled,
+    pub(crate) walk: &'b Walk<'a>,
     /// The steps for making a package and numbering its rules.
     pub(crate) cost: usize,
 }
 
-/// What a question answers.
-#[derive(Drop)]
-pub(crate) enum Answer {
-    /// The text of a sample.
-    Text(Vec<u8>),
-    Nothing,
-    /// A limit was met.
-    TooManyCases,
-}
+/// What a question answers: the text of a sample, where it finds one.
+pub(crate) type Answer = Result<Option<Vec<u8>>, QuestionFault>;
 
-impl Asking<'_> {
+/// Where the change of a place is made, and whether that is without what a document may lack, in the order of the questions.
+const ATTEMPTS: [(Where, bool); 4] = [
+    (Where::Once, true),
+    (Where::Once, false),
+    (Where::Everywhere, true),
+    (Where::Everywhere, false),
+];
+
+impl Asking<'_, '_> {
     ghost use Rattle.cs_samples.specs.Answers.{IsAnswer};
 
-    /// The text of a document of the last definition of a variant: of an instance of it that is one of the root too, or of one that
-    /// isn't. What this takes is taken from the budget.
+    /// What the question of a place answers: the first text that an attempt gives. Where the change breaks nothing at one reference,
+    /// it is made at all of them.
     ///
     /// # Errors
-    /// `OutOfMemory`.
-    pub(crate) fn answer(
-        &self,
-        variant: &Guarded,
-        budget: &mut Budget,
-    ) -> Result<Answer, QuestionFault>
-        ensures { IfOk result (IsAnswer self.now.package.now self.now.root.now self.now.which) }
+    /// `TooManyCases` where a limit was met, `OutOfMemory`.
+    pub(crate) fn asked(&self, place: &Place<'_>, budget: &mut Budget) -> Answer
+        ensures { IfOk result (IsAnswer self.now) }
     {
-        match self.found(variant, budget) {
-            Ok(Some(doc)) => self.judged(&doc),
-            Ok(None) | Err(QuestionFault::UnknownRoot) => Ok(Answer::Nothing),
-            Err(QuestionFault::TooManyCases) => Ok(Answer::TooManyCases),
-            Err(QuestionFault::OutOfMemory) => Err(QuestionFault::OutOfMemory),
+        let walk = self.walk;
+        for (at, is_least) in ATTEMPTS {
+            if matches!(at, Where::Everywhere) && !walk.is_asked_again(place) {
+                break;
+            }
+            let variant = walk.variant(place, at, is_least)?;
+            if let Some(text) = self.answered(variant, budget)? {
+                return Ok(Some(text));
+            }
+        }
+        Ok(None)
+    }
+
+    /// What a variant answers, where there is one, by half of the steps that are left once it is made.
+    ///
+    /// # Errors
+    /// `TooManyCases` where a limit was met, `OutOfMemory`.
+    pub(crate) fn answered(&self, variant: Option<Guarded>, budget: &mut Budget) -> Answer
+        ensures { IfOk result (IsAnswer self.now) }
+    {
+        budget.spend(self.cost);
+        let Some(variant) = variant else {
+            return Ok(None);
+        };
+        if budget.steps == 0 {
+            return Err(QuestionFault::TooManyCases);
+        }
+        let steps = budget.steps / 2;
+        let mut share = Budget { steps };
+        let answer = self.answer(&variant, &mut share);
+        budget.spend(steps.saturating_sub(share.steps));
+        answer
+    }
+
+    /// The text of a document of the last definition of a variant: of an instance of it that is one of the root too, or of one that
+    /// isn't. What this takes is taken from the budget. A limit is met where the document has no text.
+    fn answer(&self, variant: &Guarded, budget: &mut Budget) -> Answer
+        ensures { IfOk result (IsAnswer self.now) }
+    {
+        let Some(doc) = self.found(variant, budget)? else {
+            return Ok(None);
+        };
+        if !self.is_sample(&doc)? {
+            return Ok(None);
+        }
+        match shown_text(self.alloc, &doc)? {
+            Some(text) => Ok(Some(text)),
+            None => Err(QuestionFault::TooManyCases),
         }
     }
 
@@ -70,31 +111,6 @@ impl Asking<'_> {
             Sampled::Invalid => {
                 separating(self.alloc, variant, name, self.package, self.root, budget)
             }
-        }
-    }
-
-    /// The text of the document, where it is a sample.
-    fn judged(&self, doc: &Doc) -> Result<Answer, QuestionFault>
-        requires { IsReadAgain (doc_view doc.now) }
-        ensures { IfOk result (IsAnswer self.now.package.now self.now.root.now self.now.which) }
-    {
-        match self.is_sample(doc) {
-            Ok(true) => self.shown(doc),
-            Ok(false) | Err(InstanceFault::UnknownRoot) => Ok(Answer::Nothing),
-            Err(InstanceFault::TooManyPairs { .. }) => Ok(Answer::TooManyCases),
-            Err(InstanceFault::OutOfMemory) => Err(QuestionFault::OutOfMemory),
-        }
-    }
-
-    /// The text of a sample. There is one: a limit is met where there isn't.
-    fn shown(&self, doc: &Doc) -> Result<Answer, QuestionFault>
-        requires { IsSample self.now.package.now self.now.root.now self.now.which
-            (doc_view doc.now) }
-        ensures { IfOk result (IsAnswer self.now.package.now self.now.root.now self.now.which) }
-    {
-        match shown_text(self.alloc, doc)? {
-            Some(text) => Ok(Answer::Text(text)),
-            None => Ok(Answer::TooManyCases),
         }
     }
 

@@ -1,37 +1,37 @@
 // The documents that the questions found.
-ghost use Rattle.std.specs.Prelude.{◌≡◌, ◌<◌, IfOk, OnOk, OnErr, [], length};
-ghost use Rattle.std.specs.List.{IsDistinct};
-ghost use Rattle.cs_samples.specs.Answers.{IsAnswer, IsPut, AreKept};
-ghost use Rattle.cs_samples.specs.Sample.{AreSamples, same_text};
+ghost use Rattle.std.specs.Prelude.{IfOk};
 
 use crate::asking::{Answer, Asking};
 use crate::tally::Tally;
-use cs_guard::Guarded;
 use cs_question::{Budget, QuestionFault};
-use cs_variants::{Making, Place, Sampled, Walk};
-use std::alloc::{AllocError, Global};
+use cs_variants::{Place, Sampled};
 use std::collections::BTreeSet;
 
 /// The steps for each byte of a document's text: the document is built, judged and written, some ten microseconds a value.
 const STEPS_OF_BYTE: usize = 10;
 
-/// The texts of the documents that questions answered, in the order of the questions, no two alike; and how far the questions came.
+/// The texts of the documents that questions answered, in the order of the questions, no two alike; how far the questions came, and
+/// what is left for them.
 #[derive(Drop)]
 pub(crate) struct Found {
     pub(crate) texts: Vec<Vec<u8>>,
     seen: BTreeSet<Vec<u8>>,
     pub(crate) tally: Tally,
+    pub(crate) budget: Budget,
 }
 
 impl Found {
-    pub(crate) fn new(alloc: Global, tally: Tally) -> Found
-        ensures none { result.texts.items ≡ [] }
-        ensures kept { AreKept result.seen result.texts.items }
+    ghost use Rattle.cs_samples.specs.Answers.{IsAnswer};
+    ghost use Rattle.cs_samples.specs.Kept.{AreFound};
+
+    pub(crate) fn new(asking: &Asking<'_, '_>, tally: Tally) -> Found
+        ensures { AreFound asking.now result }
     {
         Found {
-            texts: Vec::new(alloc),
-            seen: BTreeSet::new(alloc),
+            texts: Vec::new(asking.alloc),
+            seen: BTreeSet::new(asking.alloc),
             tally,
+            budget: Budget::new(),
         }
     }
 
@@ -41,198 +41,77 @@ impl Found {
     /// `OutOfMemory`, with the documents so far.
     pub(crate) fn ask_each(
         &mut self,
-        asking: &Asking<'_>,
-        making: &Making<'_, '_>,
-        walk: &Walk<'_>,
+        asking: &Asking<'_, '_>,
         most: usize,
-        budget: &mut Budget,
     ) -> Result<(), QuestionFault>
-        requires samples { AreSamples asking.now.package.now asking.now.root.now asking.now.which
-            self.old.texts.items }
-        requires kept { AreKept self.old.seen self.old.texts.items }
-        ensures samples { AreSamples asking.now.package.now asking.now.root.now asking.now.which
-            self.new.texts.items }
-        ensures distinct { IsDistinct same_text self.new.texts.items }
-        ensures kept { OnOk result (AreKept self.new.seen self.new.texts.items) }
+        requires { AreFound asking.now self.old }
+        ensures { AreFound asking.now self.new }
     {
-        let order = walk.in_turns()?;
-        let whole = budget.steps;
-        for number in &order {
-            if self
-                .tally
-                .is_over(asking.which, self.texts.is_empty(), budget)
-            {
+        let walk = asking.walk;
+        let whole = self.budget.steps;
+        for turn in &walk.in_turns()? {
+            let has_none = self.texts.is_empty();
+            if self.tally.is_over(asking.which, has_none, &self.budget) {
                 break;
             }
-            if let Some(place) = walk.places.get(*number) {
-                self.ask(asking, making, place, budget)?;
+            if let Some(place) = walk.places.get(turn.2) {
+                self.ask(asking, place)?;
             }
             if self.texts.len() >= most {
-                self.tally.count_on(whole, budget);
+                self.tally.count_on(whole, &mut self.budget);
             }
         }
         Ok(())
     }
 
     /// Asks the question of a place.
-    fn ask(
-        &mut self,
-        asking: &Asking<'_>,
-        making: &Making<'_, '_>,
-        place: &Place<'_>,
-        budget: &mut Budget,
-    ) -> Result<(), QuestionFault>
-        requires samples { AreSamples asking.now.package.now asking.now.root.now asking.now.which
-            self.old.texts.items }
-        requires kept { AreKept self.old.seen self.old.texts.items }
-        ensures samples { AreSamples asking.now.package.now asking.now.root.now asking.now.which
-            self.new.texts.items }
-        ensures distinct { IsDistinct same_text self.new.texts.items }
-        ensures kept { OnOk result (AreKept self.new.seen self.new.texts.items) }
+    fn ask(&mut self, asking: &Asking<'_, '_>, place: &Place<'_>) -> Result<(), QuestionFault>
+        requires { AreFound asking.now self.old }
+        ensures { AreFound asking.now self.new }
     {
-        let answer = asked(asking, making, place, budget)?;
+        let answer = asking.asked(place, &mut self.budget);
         self.tally.note(place.rule, &answer);
-        self.take(asking, answer, budget)
+        self.take(asking, answer)
     }
 
     /// Asks for any document that is no instance of the root, where such documents are asked for.
-    pub(crate) fn ask_any(
-        &mut self,
-        asking: &Asking<'_>,
-        making: &Making<'_, '_>,
-        root: usize,
-        budget: &mut Budget,
-    ) -> Result<(), QuestionFault>
-        requires samples { AreSamples asking.now.package.now asking.now.root.now asking.now.which
-            self.old.texts.items }
-        requires kept { AreKept self.old.seen self.old.texts.items }
-        requires root { root < length making.now.package.now }
-        ensures samples { AreSamples asking.now.package.now asking.now.root.now asking.now.which
-            self.new.texts.items }
-        ensures distinct { IsDistinct same_text self.new.texts.items }
+    pub(crate) fn ask_any(&mut self, asking: &Asking<'_, '_>) -> Result<(), QuestionFault>
+        requires { AreFound asking.now self.old }
+        ensures { AreFound asking.now self.new }
     {
         match asking.which {
             Sampled::Valid => Ok(()),
             Sampled::Invalid => {
-                let answer = answered(asking, making.of_everything(root)?, budget)?;
-                self.tally.note_any(&answer);
-                self.take(asking, answer, budget)
+                let walk = asking.walk;
+                let variant = walk.of_everything()?;
+                let answer = asking.answered(variant, &mut self.budget);
+                // Where there is no document, no limit kept one from being found.
+                if !matches!(answer, Ok(Some(_))) {
+                    self.tally.is_limited = answer.is_err();
+                }
+                self.take(asking, answer)
             }
         }
     }
 
-    /// Puts the text that is answered, if there is one, and counts what it took.
-    fn take(
-        &mut self,
-        asking: &Asking<'_>,
-        answer: Answer,
-        budget: &mut Budget,
-    ) -> Result<(), QuestionFault>
-        requires answer { IsAnswer asking.now.package.now asking.now.root.now asking.now.which
-            answer }
-        requires samples { AreSamples asking.now.package.now asking.now.root.now asking.now.which
-            self.old.texts.items }
-        requires kept { AreKept self.old.seen self.old.texts.items }
-        ensures samples { AreSamples asking.now.package.now asking.now.root.now asking.now.which
-            self.new.texts.items }
-        ensures distinct { IsDistinct same_text self.new.texts.items }
-        ensures kept { OnOk result (AreKept self.new.seen self.new.texts.items) }
+    /// Puts the text that is answered, if there is one, behind the others, unless it is one of them, and counts what it took.
+    fn take(&mut self, asking: &Asking<'_, '_>, answer: Answer) -> Result<(), QuestionFault>
+        requires answer { IfOk answer (IsAnswer asking.now) }
+        requires found { AreFound asking.now self.old }
+        ensures { AreFound asking.now self.new }
     {
-        match answer {
-            Answer::Text(text) => {
-                budget.spend(text.len().saturating_mul(STEPS_OF_BYTE));
-                self.put(asking.alloc, text)
+        let text = match answer {
+            Ok(Some(text)) => text,
+            Ok(None) | Err(QuestionFault::UnknownRoot | QuestionFault::TooManyCases) => {
+                return Ok(());
             }
-            Answer::Nothing | Answer::TooManyCases => Ok(()),
-        }
-    }
-
-    /// Puts a text behind the others, unless it is one of them.
-    fn put(&mut self, alloc: Global, text: Vec<u8>) -> Result<(), QuestionFault>
-        ensures put { IsPut text self.old.texts.items self.new.texts.items }
-        ensures refused { OnErr result (self.new.texts.items ≡ self.old.texts.items) }
-        ensures kept { OnOk result (AreKept self.old.seen self.old.texts.items
-            → AreKept self.new.seen self.new.texts.items) }
-    {
-        let copy = Vec::from_slice(alloc, &text)?;
+            Err(QuestionFault::OutOfMemory) => return Err(QuestionFault::OutOfMemory),
+        };
+        self.budget.spend(text.len().saturating_mul(STEPS_OF_BYTE));
+        let copy = Vec::from_slice(asking.alloc, &text)?;
         if self.seen.insert(copy)? {
             self.texts.push(text)?;
         }
         Ok(())
     }
-}
-
-/// What the question of a place answers. Where the change breaks nothing at one reference, it is made at all of them.
-fn asked(
-    asking: &Asking<'_>,
-    making: &Making<'_, '_>,
-    place: &Place<'_>,
-    budget: &mut Budget,
-) -> Result<Answer, QuestionFault>
-    ensures { IfOk result (IsAnswer asking.now.package.now asking.now.root.now asking.now.which) }
-{
-    match asked_where(asking, making, place, Where::Once, budget)? {
-        Answer::Nothing if making.is_asked_again(place) => {
-            asked_where(asking, making, place, Where::Everywhere, budget)
-        }
-        answer => Ok(answer),
-    }
-}
-
-/// Where a change is made: at one reference, or at all of them.
-#[derive(Clone, Copy)]
-enum Where {
-    Once,
-    Everywhere,
-}
-
-/// What the question of a place answers for a change that is made there: without what a document may lack, and where that has no
-/// answer, with it.
-fn asked_where(
-    asking: &Asking<'_>,
-    making: &Making<'_, '_>,
-    place: &Place<'_>,
-    at: Where,
-    budget: &mut Budget,
-) -> Result<Answer, QuestionFault>
-    ensures { IfOk result (IsAnswer asking.now.package.now asking.now.root.now asking.now.which) }
-{
-    match answered(asking, variant_of(&making.least(), place, at)?, budget)? {
-        Answer::Nothing => answered(asking, variant_of(making, place, at)?, budget),
-        answer => Ok(answer),
-    }
-}
-
-/// The package with the change of a place made there, if it can be.
-fn variant_of(
-    making: &Making<'_, '_>,
-    place: &Place<'_>,
-    at: Where,
-) -> Result<Option<Guarded>, AllocError> {
-    match at {
-        Where::Once => making.variant(place),
-        Where::Everywhere => making.changed_everywhere(place),
-    }
-}
-
-/// What a variant answers, where there is one, by half of the steps that are left once it is made.
-fn answered(
-    asking: &Asking<'_>,
-    variant: Option<Guarded>,
-    budget: &mut Budget,
-) -> Result<Answer, QuestionFault>
-    ensures { IfOk result (IsAnswer asking.now.package.now asking.now.root.now asking.now.which) }
-{
-    budget.spend(asking.cost);
-    let Some(variant) = variant else {
-        return Ok(Answer::Nothing);
-    };
-    if budget.steps == 0 {
-        return Ok(Answer::TooManyCases);
-    }
-    let steps = budget.steps / 2;
-    let mut share = Budget { steps };
-    let answer = asking.answer(&variant, &mut share)?;
-    budget.spend(steps.saturating_sub(share.steps));
-    Ok(answer)
 }

@@ -2,7 +2,7 @@
 ghost use Rattle.std.specs.Prelude.{◌≡◌, ◌≤◌, ◌<◌, ℕ, List, [], IfOk, OnOk, IsErrOf, length};
 ghost use Rattle.std.specs.List.{IsDistinct};
 ghost use Rattle.cs_package.specs.Environment.{Names};
-ghost use Rattle.cs_samples.specs.Answers.{IsSplit};
+ghost use Rattle.cs_samples.specs.Kept.{AreFound, IsSplit};
 ghost use Rattle.cs_samples.specs.Sample.{AreSamples, HasMore, HasNoInstance, same_text};
 
 use crate::asking::Asking;
@@ -10,12 +10,11 @@ use crate::costs::cost_of;
 use crate::found::Found;
 use crate::tally::Tally;
 use crate::texts::SampleTexts;
-use cs_guard::{Guarded, reachable};
-use cs_package::Package;
+use cs_guard::Guarded;
 use cs_pretty::shown_text;
 use cs_question::{Budget, QuestionFault, instance_of};
-use cs_variants::{Making, Sampled, walk_of};
-use std::alloc::{AllocError, Global};
+use cs_variants::{Sampled, walk_of};
+use std::alloc::Global;
 
 /// The texts of documents of the root, a definition of the package named with its `#`, or of documents that just fail, no two alike,
 /// and at most as many as are asked for; and how many others were found. Hidden characters stand in them as escapes.
@@ -57,26 +56,26 @@ pub fn samples(
     let Some(number) = package.package().find(root) else {
         return Err(QuestionFault::UnknownRoot);
     };
-    let is_reached = reached_marks(alloc, package.package(), number)?;
+    let walk = walk_of(alloc, package.package(), number, which)?;
     let asking = Asking {
         alloc,
         package,
         root,
         which,
-        cost: cost_of(package.package(), &is_reached),
+        walk: &walk,
+        cost: cost_of(package.package(), &walk.uses),
     };
-    let mut budget = Budget::new();
-    let Ok(found) = gathered(&asking, number, &is_reached, most, &mut budget) else {
+    let Ok(found) = gathered(&asking, most) else {
         return Err(QuestionFault::OutOfMemory);
     };
     if !found.texts.is_empty() {
         return Ok(first_of(found, most));
     }
-    if found.tally.is_limited() {
+    if found.tally.is_limited {
         return Err(QuestionFault::TooManyCases);
     }
     match which {
-        Sampled::Valid if most > 0 => one_instance(&asking, &mut budget),
+        Sampled::Valid if most > 0 => one_instance(&asking, found.budget),
         _ => Ok(SampleTexts::alone(Vec::new(alloc))),
     }
 }
@@ -101,7 +100,7 @@ fn first_of(found: Found, most: usize) -> SampleTexts
 }
 
 /// The instance that the question about the root as it stands finds; none where nothing is an instance of the root.
-fn one_instance(asking: &Asking<'_>, budget: &mut Budget) -> Result<SampleTexts, QuestionFault>
+fn one_instance(asking: &Asking<'_, '_>, budget: Budget) -> Result<SampleTexts, QuestionFault>
     ensures samples { IfOk result (λ s. AreSamples asking.now.package.now asking.now.root.now
         Sampled.Valid s.texts.items) }
     ensures one { IfOk result (λ s. length s.texts.items ≤ 1) }
@@ -112,7 +111,8 @@ fn one_instance(asking: &Asking<'_>, budget: &mut Budget) -> Result<SampleTexts,
     ensures unknown { IsErrOf result QuestionFault.UnknownRoot
         → (n : List ℕ) → ¬ Names asking.now.package.now asking.now.root.now n }
 {
-    let Some(doc) = instance_of(asking.alloc, asking.package, asking.root, budget)? else {
+    let mut budget = budget;
+    let Some(doc) = instance_of(asking.alloc, asking.package, asking.root, &mut budget)? else {
         return Ok(SampleTexts::alone(Vec::new(asking.alloc)));
     };
     let Some(text) = shown_text(asking.alloc, &doc)? else {
@@ -124,49 +124,17 @@ fn one_instance(asking: &Asking<'_>, budget: &mut Budget) -> Result<SampleTexts,
 }
 
 /// Asks the questions of all places, in turns, and where no document just fails, for any that the root refuses.
-fn gathered(
-    asking: &Asking<'_>,
-    number: usize,
-    is_reached: &[bool],
-    most: usize,
-    budget: &mut Budget,
-) -> Result<Found, QuestionFault>
-    requires { number < length asking.now.package.now }
-    ensures samples { IfOk result (λ f. AreSamples asking.now.package.now asking.now.root.now
-        asking.now.which f.texts.items) }
-    ensures distinct { IfOk result (λ f. IsDistinct same_text f.texts.items) }
+fn gathered(asking: &Asking<'_, '_>, most: usize) -> Result<Found, QuestionFault>
+    ensures { IfOk result (AreFound asking.now) }
 {
-    let package = asking.package.package();
-    let walk = walk_of(asking.alloc, package, number, asking.which)?;
-    let making = Making {
-        alloc: asking.alloc,
-        package,
-        is_reached,
-        is_shared: &walk.is_shared,
-        reached: &walk.reached,
-        which: asking.which,
-        is_least: false,
-    };
+    let walk = asking.walk;
     let tally = Tally::new(asking.alloc, walk.rules, walk.places.len())?;
-    let mut found = Found::new(asking.alloc, tally);
-    match found.ask_each(asking, &making, &walk, most, budget) {
-        Ok(()) if found.texts.is_empty() => found.ask_any(asking, &making, number, budget)?,
+    let mut found = Found::new(asking, tally);
+    match found.ask_each(asking, most) {
+        Ok(()) if found.texts.is_empty() => found.ask_any(asking)?,
         Ok(()) => {}
         Err(fault) if found.texts.is_empty() => return Err(fault),
-        Err(_) => found.tally.stop(),
+        Err(_) => found.tally.is_limited = true,
     }
     Ok(found)
-}
-
-/// Whether the root reaches each definition.
-fn reached_marks(alloc: Global, package: &Package, root: usize) -> Result<Vec<bool>, AllocError>
-    requires { root < length «package».now }
-{
-    let mut marks = vec![in alloc; false; package.count()]?;
-    for number in reachable(alloc, package, root)? {
-        if let Some(mark) = marks.get_mut(number) {
-            *mark = true;
-        }
-    }
-    Ok(marks)
 }

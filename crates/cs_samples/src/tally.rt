@@ -16,8 +16,10 @@ pub(crate) struct Tally {
     is_open: Vec<bool>,
     places: usize,
     asked: usize,
-    missed: usize,
-    limited: usize,
+    /// Whether the first question has no answer.
+    is_unmet: bool,
+    /// Whether a limit was met, or memory ran out.
+    pub(crate) is_limited: bool,
     is_counting: bool,
 }
 
@@ -29,8 +31,8 @@ impl Tally {
             is_open,
             places,
             asked: 0,
-            missed: 0,
-            limited: 0,
+            is_unmet: false,
+            is_limited: false,
             is_counting: false,
         })
     }
@@ -38,31 +40,11 @@ impl Tally {
     /// Notes the answer to the question of a place, by the rule of which it is.
     pub(crate) fn note(&mut self, rule: usize, answer: &Answer) {
         self.asked = self.asked.saturating_add(1);
-        match answer {
-            Answer::Text(_) => self.close(rule),
-            Answer::Nothing => {
-                self.missed = self.missed.saturating_add(1);
-                self.close(rule);
-            }
-            Answer::TooManyCases => self.limited = self.limited.saturating_add(1),
+        if answer.is_err() {
+            self.is_limited = true;
+            return;
         }
-    }
-
-    /// Notes the answer to the question about the root as a whole. Where there is no document, no limit kept one from being found.
-    pub(crate) fn note_any(&mut self, answer: &Answer) {
-        match answer {
-            Answer::Text(_) => {}
-            Answer::Nothing => self.limited = 0,
-            Answer::TooManyCases => self.limited = self.limited.saturating_add(1),
-        }
-    }
-
-    /// Memory ran out.
-    pub(crate) fn stop(&mut self) {
-        self.limited = self.limited.saturating_add(1);
-    }
-
-    fn close(&mut self, rule: usize) {
+        self.is_unmet = self.is_unmet || (self.asked == 1 && matches!(answer, Ok(None)));
         if let Some(is_open) = self.is_open.get_mut(rule) {
             *is_open = false;
         }
@@ -83,29 +65,18 @@ impl Tally {
     pub(crate) fn is_over(&self, which: Sampled, has_none: bool, budget: &Budget) -> bool {
         match which {
             Sampled::Invalid if has_none => budget.steps <= RESERVED,
-            Sampled::Valid if has_none && self.missed == 1 && self.asked == 1 => true,
-            _ => budget.steps == 0,
+            Sampled::Valid if self.is_unmet => true,
+            Sampled::Valid | Sampled::Invalid => budget.steps == 0,
         }
-    }
-
-    /// Whether a limit was met.
-    pub(crate) fn is_limited(&self) -> bool {
-        self.limited > 0
     }
 
     /// Whether each place was asked about, and no limit was met.
     pub(crate) fn is_complete(&self) -> bool {
-        self.limited == 0 && self.asked == self.places
+        !self.is_limited && self.asked == self.places
     }
 
     /// For how many rules no question was answered.
     pub(crate) fn untried(&self) -> usize {
-        let mut count = 0usize;
-        for is_open in &self.is_open {
-            if *is_open {
-                count = count.saturating_add(1);
-            }
-        }
-        count
+        self.is_open.iter().filter(|is_open| **is_open).count()
     }
 }

@@ -13,7 +13,11 @@ pub(crate) fn tokens_of<'a>(alloc: Global, text: &'a str) -> Result<Vec<Token<'a
     for _ in 0..text.len().saturating_add(1) {
         let rest = text.get(from..).unwrap_or("");
         match lex(alloc, rest) {
-            Ok(found) => return joined(tokens, found, from),
+            Ok(found) if from == 0 => return Ok(found),
+            Ok(found) => {
+                add_shifted(&mut tokens, &found, from)?;
+                return Ok(tokens);
+            }
             Err(SyntaxFault::NoToken { offset } | SyntaxFault::IntegerRange { offset }) => {
                 add_front(alloc, &mut tokens, rest.get(..offset).unwrap_or(""), from)?;
                 from = add_stuck(&mut tokens, text, from.saturating_add(offset))?;
@@ -22,20 +26,6 @@ pub(crate) fn tokens_of<'a>(alloc: Global, text: &'a str) -> Result<Vec<Token<'a
             Err(_) => return Ok(tokens),
         }
     }
-    Ok(tokens)
-}
-
-/// Tokens, and those of what begins behind them at an offset.
-fn joined<'a>(
-    tokens: Vec<Token<'a>>,
-    found: Vec<Token<'a>>,
-    from: usize,
-) -> Result<Vec<Token<'a>>, AllocError> {
-    if from == 0 {
-        return Ok(found);
-    }
-    let mut tokens = tokens;
-    add_shifted(&mut tokens, &found, from)?;
     Ok(tokens)
 }
 
@@ -101,8 +91,6 @@ fn blanks_to_line_end(bytes: &[u8]) -> Option<usize> {
         .iter()
         .take_while(|byte| matches!(**byte, b' ' | b'\t' | b'\r'))
         .count();
-    match bytes.get(count..) {
-        None | Some([] | [b'\n', ..] | [b'/', b'/', ..]) => Some(count),
-        Some(_) => None,
-    }
+    let rest = bytes.get(count..).unwrap_or(&[]);
+    matches!(rest, [] | [b'\n', ..] | [b'/', b'/', ..]).then_some(count)
 }

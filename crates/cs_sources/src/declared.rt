@@ -23,13 +23,9 @@ impl<'s, 'a> Declared<'s, 'a> {
 
     /// The declaration of a name with its `#` that so many of the same name are before.
     pub fn nth(&self, name: &str, before: usize) -> Option<Near<'s, 'a>> {
-        let first = self.rank(name);
-        let found = *self.by_name.get(first.checked_add(before)?)?;
-        if found.here().text == name {
-            Some(found)
-        } else {
-            None
-        }
+        let place = self.rank(name).checked_add(before)?;
+        let found = *self.by_name.get(place)?;
+        (found.here().text == name).then_some(found)
     }
 
     /// How often a name with its `#` is declared.
@@ -38,16 +34,6 @@ impl<'s, 'a> Declared<'s, 'a> {
             .by_name
             .partition_point(|declaration| declaration.here().text <= name);
         behind.saturating_sub(self.rank(name))
-    }
-
-    /// Whether a declaration is the first one of its name.
-    fn is_first(&self, declaration: Near<'s, 'a>) -> bool {
-        match self.of(declaration.here().text) {
-            Some(first) => {
-                first.source.file == declaration.source.file && first.place == declaration.place
-            }
-            None => false,
-        }
     }
 
     /// How many declarations there are of lesser names.
@@ -65,36 +51,31 @@ pub fn declared_in<'s, 'a>(
     alloc: Global,
     sources: &'s [Source<'a>],
 ) -> Result<Declared<'s, 'a>, AllocError> {
-    let mut all = Vec::new(alloc);
+    let mut by_name = Vec::new(alloc);
     for source in sources {
-        add_declarations(source, &mut all)?;
+        add_declarations(source, &mut by_name)?;
     }
-    let mut by_name = Vec::from_slice(alloc, &all)?;
     by_name.sort_by_key(|declaration| declaration.here().text)?;
-    let mut declared = Declared {
+    let mut firsts = Vec::from_slice(alloc, &by_name)?;
+    firsts.dedup_by(|declaration, first| declaration.here().text == first.here().text);
+    firsts.sort_by_key(|declaration| (declaration.source.file, declaration.place))?;
+    Ok(Declared {
         sources,
-        firsts: Vec::new(alloc),
+        firsts,
         by_name,
-    };
-    for declaration in &all {
-        if declared.is_first(*declaration) {
-            declared.firsts.push(*declaration)?;
-        }
-    }
-    Ok(declared)
+    })
 }
 
 /// Adds what a source declares.
 fn add_declarations<'s, 'a>(
     source: &'s Source<'a>,
-    all: &mut Vec<Near<'s, 'a>>,
+    found: &mut Vec<Near<'s, 'a>>,
 ) -> Result<(), AllocError> {
     for (place, token) in source.tokens.iter().enumerate() {
-        if token.sort == Sort::Definition && source.around(place) == 0 {
-            let name = Near { source, place };
-            if is_mark(name.behind(1), ":") {
-                all.push(name)?;
-            }
+        let name = Near { source, place };
+        let is_outside = token.sort == Sort::Definition && source.around(place) == 0;
+        if is_outside && is_mark(name.behind(1), ":") {
+            found.push(name)?;
         }
     }
     Ok(())

@@ -1,4 +1,5 @@
 // The brackets of a source, and what separates the parts inside of each.
+use crate::source::Source;
 use crate::tokens::precedes_declaration;
 use cs_grammar::{Sort, Token};
 use std::alloc::{AllocError, Global};
@@ -31,6 +32,15 @@ pub struct Bracket {
     pub is_closed: bool,
 }
 
+/// A file without tokens.
+const FILE: Bracket = Bracket {
+    inside: Inside::File,
+    around: 0,
+    first: 0,
+    end: 0,
+    is_closed: false,
+};
+
 /// What parts of an expression are between.
 #[derive(Clone, Copy, PartialEq, Eq, PartialOrd, Ord)]
 pub enum Separator {
@@ -59,7 +69,9 @@ struct Separation {
 #[derive(Drop)]
 pub(crate) struct Outline {
     /// The file, and then the brackets in the order in which they open.
-    pub(crate) brackets: Vec<Bracket>,
+    brackets: Vec<Bracket>,
+    /// The number of the innermost bracket that is open behind the last token.
+    innermost: usize,
     /// For each token the number of the bracket that it opens or closes, or else of that around it.
     of_token: Vec<usize>,
     /// By their brackets, then by what they are, then in their order.
@@ -92,48 +104,38 @@ impl Outline {
     pub(crate) fn new(alloc: Global, tokens: &[Token<'_>]) -> Result<Outline, AllocError> {
         let mut outline = Outline {
             brackets: Vec::new(alloc),
+            innermost: 0,
             of_token: Vec::with_capacity(alloc, tokens.len())?,
             separations: Vec::new(alloc),
         };
-        let mut open = Vec::new(alloc);
-        outline.open(&mut open, Inside::File, 0)?;
-        let mut before = None;
+        outline.brackets.push(FILE)?;
+        let mut is_first = true;
         for (place, token) in tokens.iter().enumerate() {
-            outline.put(&mut open, place, *token, before)?;
-            before = Some(*token);
+            outline.put(place, *token, is_first)?;
+            is_first = precedes_declaration(*token);
         }
-        outline.end(
-            &open,
-            tokens.partition_point(|token| token.sort != Sort::End),
-        );
+        let end = tokens.partition_point(|token| token.sort != Sort::End);
+        outline.end(0, end, false);
         outline.separations.sort()?;
         Ok(outline)
     }
 
-    /// Puts the token at a place, behind another one, inside of the brackets of these numbers.
-    fn put(
-        &mut self,
-        open: &mut Vec<usize>,
-        place: usize,
-        token: Token<'_>,
-        before: Option<Token<'_>>,
-    ) -> Result<(), AllocError> {
-        let around = open.last().copied().unwrap_or(0);
-        let behind = place.saturating_add(1);
+    /// Puts the token at a place, which a declaration may begin with.
+    fn put(&mut self, place: usize, token: Token<'_>, is_first: bool) -> Result<(), AllocError> {
+        let bracket = self.innermost;
+        let may_be_label = matches!(self.bracket(bracket).inside, Inside::File | Inside::Struct);
         let number = match token.text.as_bytes() {
-            [b'{'] => self.open(open, Inside::Struct, behind)?,
-            [b'('] => self.open(open, Inside::Parentheses, behind)?,
-            [b'['] => {
-                let inside = self.inside_of_list(around, before);
-                self.open(open, inside, behind)?
-            }
-            [b'}' | b']' | b')'] => self.close(open, place, token).unwrap_or(around),
-            _ => around,
+            [b'{'] => self.open(Inside::Struct, place)?,
+            [b'('] => self.open(Inside::Parentheses, place)?,
+            [b'['] if is_first && may_be_label => self.open(Inside::Label, place)?,
+            [b'['] => self.open(Inside::List, place)?,
+            [b'}' | b']' | b')'] => self.close(token, place),
+            _ => bracket,
         };
         self.of_token.push(number)?;
         if let Some(separator) = separator_of(token) {
             self.separations.push(Separation {
-                bracket: around,
+                bracket,
                 separator,
                 token: place,
             })?;
@@ -141,123 +143,54 @@ impl Outline {
         Ok(())
     }
 
-    /// What a `[` opens inside of a bracket, behind a token.
-    fn inside_of_list(&self, around: usize, before: Option<Token<'_>>) -> Inside {
-        let is_first = match before {
-            Some(token) => precedes_declaration(token),
-            None => true,
-        };
-        match self.bracket(around).inside {
-            Inside::File | Inside::Struct if is_first => Inside::Label,
-            _ => Inside::List,
-        }
-    }
-
-    /// Opens a bracket, and gives its number.
-    fn open(
-        &mut self,
-        open: &mut Vec<usize>,
-        inside: Inside,
-        first: usize,
-    ) -> Result<usize, AllocError> {
-        let number = self.brackets.len();
-        self.brackets.push(Bracket {
+    /// Opens a bracket by the token at a place, and gives its number.
+    fn open(&mut self, inside: Inside, place: usize) -> Result<usize, AllocError> {
+        let first = place.saturating_add(1);
+        let bracket = Bracket {
             inside,
-            around: open.last().copied().unwrap_or(0),
+            around: self.innermost,
             first,
             end: first,
-            is_closed: false,
-        })?;
-        open.push(number)?;
-        Ok(number)
+            ..FILE
+        };
+        self.innermost = self.brackets.len();
+        self.brackets.push(bracket)?;
+        Ok(self.innermost)
     }
 
-    /// Closes the last open bracket that a token can close, with those inside of it, and gives its number.
-    fn close(&mut self, open: &mut Vec<usize>, place: usize, token: Token<'_>) -> Option<usize> {
-        let from = open.len().saturating_sub(MOST_SEARCHED);
-        for at in (from..open.len()).rev() {
-            let number = *open.get(at)?;
-            if is_closing(token, self.bracket(number).inside) {
-                self.end(open.get(at..)?, place);
-                if let Some(bracket) = self.brackets.get_mut(number) {
-                    bracket.is_closed = true;
-                }
-                open.truncate(at);
-                return Some(number);
+    /// Closes the last open bracket that the token at a place can close, with those inside of it, and gives its number; that of the
+    /// bracket around where it closes none.
+    fn close(&mut self, token: Token<'_>, place: usize) -> usize {
+        let mut number = self.innermost;
+        for _ in 0..MOST_SEARCHED {
+            let bracket = self.bracket(number);
+            if is_closing(token, bracket.inside) {
+                self.end(number, place, true);
+                return number;
             }
+            number = bracket.around;
         }
-        None
+        self.innermost
     }
 
-    /// Ends brackets at a place.
-    fn end(&mut self, numbers: &[usize], place: usize) {
-        for number in numbers {
-            if let Some(bracket) = self.brackets.get_mut(*number) {
+    /// Ends the brackets from the innermost up to that of a number at a place, and says whether that one is closed.
+    fn end(&mut self, last: usize, place: usize, is_closed: bool) {
+        for _ in 0..self.brackets.len() {
+            let number = self.innermost;
+            if let Some(bracket) = self.brackets.get_mut(number) {
                 bracket.end = place;
+                bracket.is_closed = is_closed && number == last;
+                self.innermost = bracket.around;
+            }
+            if number == last {
+                break;
             }
         }
     }
 
     /// The bracket of a number.
-    pub(crate) fn bracket(&self, number: usize) -> Bracket {
-        match self.brackets.get(number) {
-            Some(bracket) => *bracket,
-            None => Bracket {
-                inside: Inside::File,
-                around: 0,
-                first: 0,
-                end: self.of_token.len(),
-                is_closed: false,
-            },
-        }
-    }
-
-    /// The number of the bracket that the token at a place opens or closes; 0 where it does neither.
-    pub(crate) fn own(&self, place: usize) -> usize {
-        let number = self.of_token.get(place).copied().unwrap_or(0);
-        let bracket = self.bracket(number);
-        if bracket.first == place.saturating_add(1) || bracket.is_closed && bracket.end == place {
-            number
-        } else {
-            0
-        }
-    }
-
-    /// The number of the bracket around the token at a place; that of the file where there is no token.
-    pub(crate) fn around(&self, place: usize) -> usize {
-        match self.own(place) {
-            0 => self.of_token.get(place).copied().unwrap_or(0),
-            number => self.bracket(number).around,
-        }
-    }
-
-    /// The place of a separator in the bracket around one place, behind it and before another one: so many of the same sort are before
-    /// it there.
-    pub(crate) fn separator(
-        &self,
-        separator: Separator,
-        from: usize,
-        to: usize,
-        before: usize,
-    ) -> Option<usize> {
-        let bracket = self.around(from);
-        let rank = self.rank(bracket, separator, from).checked_add(before)?;
-        let token = self.token_at(rank, bracket, separator)?;
-        if token < to { Some(token) } else { None }
-    }
-
-    /// The place of the last separator in the bracket around a place, before that place.
-    pub(crate) fn last_separator(&self, separator: Separator, place: usize) -> Option<usize> {
-        let bracket = self.around(place);
-        let rank = self.rank(bracket, separator, place).checked_sub(1)?;
-        self.token_at(rank, bracket, separator)
-    }
-
-    /// How many separators are in the bracket around one place, from there up to another one.
-    pub(crate) fn count(&self, separator: Separator, from: usize, to: usize) -> usize {
-        let bracket = self.around(from);
-        self.rank(bracket, separator, to)
-            .saturating_sub(self.rank(bracket, separator, from))
+    fn bracket(&self, number: usize) -> Bracket {
+        self.brackets.get(number).copied().unwrap_or(FILE)
     }
 
     /// How many separations are before one at a place.
@@ -273,10 +206,69 @@ impl Outline {
     /// The place of the separation with so many before it, if it is of that sort in that bracket.
     fn token_at(&self, rank: usize, bracket: usize, separator: Separator) -> Option<usize> {
         let found = self.separations.get(rank)?;
-        if found.bracket == bracket && found.separator == separator {
-            Some(found.token)
+        (found.bracket == bracket && found.separator == separator).then_some(found.token)
+    }
+}
+
+impl Source<'_> {
+    /// The file, and then the brackets in the order in which they open. The one around a bracket comes before it.
+    pub fn brackets(&self) -> &[Bracket] {
+        &self.outline.brackets
+    }
+
+    /// The bracket of a number.
+    pub fn bracket(&self, number: usize) -> Bracket {
+        self.outline.bracket(number)
+    }
+
+    /// The number of the bracket that the token at a place opens or closes; 0 where it does neither.
+    pub fn own(&self, place: usize) -> usize {
+        let number = self.outline.of_token.get(place).copied().unwrap_or(0);
+        let bracket = self.bracket(number);
+        if bracket.first == place.saturating_add(1) || bracket.is_closed && bracket.end == place {
+            number
         } else {
-            None
+            0
         }
+    }
+
+    /// The number of the bracket around the token at a place; that of the file where there is no token. A bracket's own tokens are in the
+    /// one around it.
+    pub fn around(&self, place: usize) -> usize {
+        match self.own(place) {
+            0 => self.outline.of_token.get(place).copied().unwrap_or(0),
+            number => self.bracket(number).around,
+        }
+    }
+
+    /// The place of a separator of a sort from one place up to another, in the bracket around the first one: so many of the same sort
+    /// are before it there.
+    pub fn separator(
+        &self,
+        separator: Separator,
+        from: usize,
+        to: usize,
+        before: usize,
+    ) -> Option<usize> {
+        let bracket = self.around(from);
+        let first = self.outline.rank(bracket, separator, from);
+        let rank = first.checked_add(before)?;
+        let token = self.outline.token_at(rank, bracket, separator)?;
+        (token < to).then_some(token)
+    }
+
+    /// The place of the last separator of a sort before a place, in the same bracket.
+    pub fn last_separator(&self, separator: Separator, place: usize) -> Option<usize> {
+        let bracket = self.around(place);
+        let rank = self.outline.rank(bracket, separator, place);
+        self.outline
+            .token_at(rank.checked_sub(1)?, bracket, separator)
+    }
+
+    /// How many separators of a sort are from one place up to another, in the bracket around the first one.
+    pub(crate) fn count(&self, separator: Separator, from: usize, to: usize) -> usize {
+        let bracket = self.around(from);
+        let behind = self.outline.rank(bracket, separator, to);
+        behind.saturating_sub(self.outline.rank(bracket, separator, from))
     }
 }

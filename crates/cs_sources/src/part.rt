@@ -26,31 +26,16 @@ impl<'s, 'a> Part<'s, 'a> {
 
     /// Its first token; none where it has no tokens.
     pub fn first(self) -> Option<Near<'s, 'a>> {
-        if self.from < self.to {
-            Some(Near {
-                source: self.source,
-                place: self.from,
-            })
-        } else {
-            None
-        }
+        (self.from < self.to).then_some(Near {
+            source: self.source,
+            place: self.from,
+        })
     }
 
     /// The offset behind its last token.
     pub fn end(self) -> usize {
-        match self.to.checked_sub(1) {
-            Some(last) => end_of(self.source.token(last)),
-            None => 0,
-        }
-    }
-
-    /// What is behind its first token, if that is this mark.
-    fn behind_mark(self, mark: &str) -> Option<Part<'s, 'a>> {
-        if is_mark(self.first()?.here(), mark) {
-            Some(self.between(self.from.checked_add(1)?, self.to))
-        } else {
-            None
-        }
+        let last = self.to.checked_sub(1);
+        last.map_or(0, |last| end_of(self.source.token(last)))
     }
 
     /// The place of its separator with so many of the same sort before it.
@@ -78,11 +63,8 @@ impl<'s, 'a> Part<'s, 'a> {
         let first = self.first()?;
         let held = first.held()?;
         let closing = first.closing()?;
-        if is_mark(first.here(), open) && closing.place.checked_add(1)? == self.to {
-            Some(held)
-        } else {
-            None
-        }
+        let is_whole = closing.place.checked_add(1)? == self.to;
+        (is_whole && is_mark(first.here(), open)).then_some(held)
     }
 
     /// It without an inserted comma at the end.
@@ -140,7 +122,9 @@ impl<'s, 'a> Part<'s, 'a> {
 
     /// What is asked behind so many fixed elements.
     pub fn list_end(self, fixed: usize) -> Option<Part<'s, 'a>> {
-        self.element(fixed)?.behind_mark("...")
+        let end = self.element(fixed)?;
+        let behind = end.between(end.from.checked_add(1)?, end.to);
+        is_mark(end.first()?.here(), "...").then_some(behind)
     }
 
     /// Where it begins, without parentheses.

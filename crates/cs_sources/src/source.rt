@@ -1,8 +1,9 @@
 // Sources with their tokens.
 use crate::cut::tokens_of;
-use crate::outline::{Bracket, Inside, Outline, Separator};
+use crate::near::Near;
+use crate::outline::{Inside, Outline, Separator};
 use crate::part::Part;
-use crate::tokens::is_mark;
+use crate::tokens::{is_behind_label, is_mark};
 use cs_grammar::{Sort, Token};
 use cs_place::Named;
 use std::alloc::{AllocError, Global};
@@ -18,7 +19,7 @@ pub struct Source<'a> {
     /// Its tokens and its end; none at all where it isn't UTF-8. What no token begins with is one all the same: a number is an integer,
     /// a text or bytes are a text, and another character is a mark that is left out.
     pub tokens: Vec<Token<'a>>,
-    outline: Outline,
+    pub(crate) outline: Outline,
 }
 
 impl<'a> Source<'a> {
@@ -57,24 +58,12 @@ impl<'a> Source<'a> {
         self.tokens.partition_point(|token| token.start < offset)
     }
 
-    /// The file, and then the brackets in the order in which they open. The one around a bracket comes before it.
-    pub fn brackets(&self) -> &[Bracket] {
-        &self.outline.brackets
-    }
-
-    /// The bracket of a number.
-    pub fn bracket(&self, number: usize) -> Bracket {
-        self.outline.bracket(number)
-    }
-
-    /// The number of the bracket around the token at a place. A bracket's own tokens are in the one around it.
-    pub fn around(&self, place: usize) -> usize {
-        self.outline.around(place)
-    }
-
-    /// The number of the bracket that the token at a place opens or closes; 0 where it does neither.
-    pub fn own(&self, place: usize) -> usize {
-        self.outline.own(place)
+    /// The token at a place, with what is near it.
+    pub(crate) fn near(&self, place: usize) -> Option<Near<'_, 'a>> {
+        (place < self.tokens.len()).then_some(Near {
+            source: self,
+            place,
+        })
     }
 
     /// The number of the bracket that is open at a place: that around the token there, or the one that would be closed by it.
@@ -82,10 +71,11 @@ impl<'a> Source<'a> {
         let Some(before) = place.checked_sub(1) else {
             return 0;
         };
-        match self.own(before) {
-            0 => self.around(before),
-            number if self.bracket(number).first == place => number,
-            number => self.bracket(number).around,
+        let number = self.own(before);
+        if self.bracket(number).first == place {
+            number
+        } else {
+            self.around(before)
         }
     }
 
@@ -94,49 +84,23 @@ impl<'a> Source<'a> {
         matches!(self.token(place).text.as_bytes(), [b'}' | b']' | b')']) && self.own(place) == 0
     }
 
-    /// The place of the last separator of a sort before a place, in the same bracket.
-    pub fn last_separator(&self, separator: Separator, place: usize) -> Option<usize> {
-        self.outline.last_separator(separator, place)
-    }
-
-    /// The place of a separator of a sort from one place up to another, in the bracket around the first one: so many of the same sort
-    /// are before it there.
-    pub fn separator(
-        &self,
-        separator: Separator,
-        from: usize,
-        to: usize,
-        before: usize,
-    ) -> Option<usize> {
-        self.outline.separator(separator, from, to, before)
-    }
-
-    /// How many separators of a sort are from one place up to another, in the bracket around the first one.
-    pub(crate) fn count(&self, separator: Separator, from: usize, to: usize) -> usize {
-        self.outline.count(separator, from, to)
-    }
-
     /// Whether a label ends before a place: a colon is there, or a mark and a colon.
     pub fn ends_label(&self, place: usize) -> bool {
-        let colon = if is_mark(self.token(place), "?") || is_mark(self.token(place), "!") {
-            place.saturating_add(1)
-        } else {
-            place
-        };
-        is_mark(self.token(colon), ":")
+        let marks = usize::from(is_behind_label(self.token(place)));
+        is_mark(self.token(place.saturating_add(marks)), ":")
     }
 
     /// The place of the first token of the label before a colon: that of `[` in `[string]: T`.
     pub fn label_before(&self, colon: usize) -> Option<usize> {
         let last = colon.checked_sub(1)?;
-        let token = self.token(last);
-        let last = if is_mark(token, "?") || is_mark(token, "!") {
-            last.checked_sub(1)?
-        } else {
-            last
-        };
-        match self.own(last) {
-            0 => Some(last),
+        let marks = usize::from(is_behind_label(self.token(last)));
+        self.front(last.checked_sub(marks)?)
+    }
+
+    /// The place of the token that opens the bracket which the token at a place opens or closes; that place where it does neither.
+    pub(crate) fn front(&self, place: usize) -> Option<usize> {
+        match self.own(place) {
+            0 => Some(place),
             number => self.bracket(number).first.checked_sub(1),
         }
     }
@@ -158,17 +122,11 @@ impl<'a> Source<'a> {
 
     /// What is between commas around the token at a place, in the same bracket: a declaration, or an element of a list.
     pub fn part_at(&self, place: usize) -> Part<'_, 'a> {
-        let bracket = self.bracket(self.around(place));
-        let from = match self.last_separator(Separator::Comma, place) {
-            Some(comma) => comma.saturating_add(1),
-            None => bracket.first,
-        };
-        let to = self.separator(Separator::Comma, place, bracket.end, 0);
-        Part {
-            source: self,
-            from,
-            to: to.unwrap_or(bracket.end),
-        }
+        let whole = self.held(self.around(place));
+        let before = self.last_separator(Separator::Comma, place);
+        let behind = self.separator(Separator::Comma, place, whole.to, 0);
+        let from = before.map_or(whole.from, |comma| comma.saturating_add(1));
+        whole.between(from, behind.unwrap_or(whole.to))
     }
 
     /// The token at a place, or the one that opens the outermost bracket around it that is no struct, in the same struct or the file.

@@ -34,6 +34,11 @@ pub fn follows_label(token: Token<'_>) -> bool {
     matches!(token.text.as_bytes(), [b':' | b'?' | b'!'])
 }
 
+/// Whether a token is a mark between a label and its colon.
+pub(crate) fn is_behind_label(token: Token<'_>) -> bool {
+    is_mark(token, "?") || is_mark(token, "!")
+}
+
 /// Whether a token is between two declarations, or two elements; also the end is.
 pub fn separates(token: Token<'_>) -> bool {
     token.sort == Sort::Inserted || token.sort == Sort::End || token.text == ","

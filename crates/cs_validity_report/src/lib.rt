@@ -1,14 +1,9 @@
 // Why a document isn't valid against a schema document, in words, with the places in the schema.
 #![tactic(auto)]
 
-mod causes;
-mod finding;
-mod leaves;
-mod location;
+mod basic;
 mod reports;
-mod targets;
-mod units;
-mod walk;
+mod schemas;
 mod words;
 
 pub use reports::report_validity;

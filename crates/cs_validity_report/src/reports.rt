@@ -1,17 +1,16 @@
 // Reports of why documents aren't valid against schema documents.
 ghost use Rattle.std.specs.Prelude.{◌≡◌, false, OnOk, OnErr, string_bytes};
-ghost use Rattle.cs_report.specs.Valid.{HasLines, Reports};
+ghost use Rattle.cs_reason_words.specs.Valid.{HasLines, Reports};
 ghost use Rattle.cs_validity_reasons.specs.WhyTold.{says_valid};
 
-use crate::finding::Findings;
-use crate::leaves::words_of;
-use crate::units::{leaf_units, link_units, put_basic};
+use crate::basic::put_basic;
+use crate::schemas::Schemas;
 use cs_flat::Flat;
 use cs_place::Named;
-use cs_reasons::{Reasons, Telling};
-use cs_report::{Form, put_lines, put_members, report_verdict};
+use cs_reason_words::{Form, put_told, report_verdict, told_by};
+use cs_reasons::Telling;
 use cs_validate::SchemaRules;
-use cs_validity_reasons::{Explanation, ValidCause};
+use cs_validity_reasons::Explanation;
 use std::alloc::{AllocError, Global};
 
 /// Writes why a document isn't valid against a schema document behind `output`, or in the forms of JSON that it is valid, where there
@@ -31,28 +30,39 @@ pub fn report_validity(
     ensures kept { OnErr result (output.new.items ≡ output.old.items) }
 {
     let mut text = String::new(alloc);
-    let findings = Findings::new(alloc, rules, flat);
-    put_explanation(&mut text, form, telling, findings, document, explanation)?;
+    put_explanation(&mut text, form, telling, rules, document, flat, explanation)?;
     report_verdict(alloc, form, explanation.is_valid(), text.as_str(), output)
 }
 
-/// Puts what is told of the reasons, if there are any.
+/// Puts what is told of the reasons, if there are any: in the output format `flag` nothing.
 fn put_explanation<'t>(
     text: &mut String,
     form: Form,
     telling: Telling,
-    findings: Findings<'t>,
+    rules: &'t SchemaRules<'t>,
     document: Named<'_>,
+    flat: &'t Flat<'t>,
     explanation: &Explanation<'t>,
 ) -> Result<(), AllocError>
     ensures { OnOk result
         (HasLines (says_valid explanation.now) form (string_bytes text.new)) }
 {
-    match explanation {
-        Explanation::Valid => Ok(()),
-        Explanation::Untold => put_untold(text, form),
-        Explanation::Invalid(reasons) => {
-            put_reasons(text, form, telling, findings, document, reasons)
+    let alloc = *text.allocator();
+    let reasons = match explanation {
+        Explanation::Valid => return Ok(()),
+        Explanation::Untold => return put_untold(text, form),
+        Explanation::Invalid(reasons) => reasons,
+    };
+    let mut words = Schemas::new(alloc, rules, flat);
+    match form {
+        Form::Flag => Ok(()),
+        Form::Basic => {
+            let told = told_by(alloc, &mut words, telling, document, reasons)?;
+            put_basic(text, &words, document, reasons, told.entries)
+        }
+        Form::Lines | Form::Json => {
+            let told = told_by(alloc, &mut words, telling, document, reasons)?;
+            put_told(text, form, document, &told)
         }
     }
 }
@@ -79,45 +89,4 @@ fn put_untold(text: &mut String, form: Form) -> Result<(), AllocError>
         Form::Flag => Ok(()),
         Form::Basic => text.push_str(UNTOLD_BASIC),
     }
-}
-
-/// Puts what is told of reasons: in the output format `flag` nothing.
-fn put_reasons<'t>(
-    text: &mut String,
-    form: Form,
-    telling: Telling,
-    findings: Findings<'t>,
-    document: Named<'_>,
-    reasons: &Reasons<ValidCause<'t>>,
-) -> Result<(), AllocError>
-    ensures { OnOk result (HasLines false form (string_bytes text.new)) }
-{
-    match form {
-        Form::Flag => Ok(()),
-        Form::Basic => put_units(text, telling, findings, document, reasons),
-        Form::Lines => {
-            let told = words_of(findings, telling, document, reasons)?;
-            put_lines(text, document, &told.entries, told.more)
-        }
-        Form::Json => {
-            let told = words_of(findings, telling, document, reasons)?;
-            put_members(text, &told.entries, told.more)
-        }
-    }
-}
-
-/// Puts the members of the output format `basic` behind that of the verdict.
-fn put_units<'t>(
-    text: &mut String,
-    telling: Telling,
-    findings: Findings<'t>,
-    document: Named<'_>,
-    reasons: &Reasons<ValidCause<'t>>,
-) -> Result<(), AllocError> {
-    let alloc = findings.alloc;
-    let schema = findings.rules.schema();
-    let told = words_of(findings, telling, document, reasons)?;
-    let schemas = link_units(alloc, schema, document, reasons, &told.entries)?;
-    let refusals = leaf_units(alloc, schema, reasons, told.entries)?;
-    put_basic(text, document, &schemas, &refusals)
 }

@@ -1,128 +1,279 @@
-// Copies of expressions.
-use cs_package::{FieldMark, Part, Shape, ShapeEnd};
+// Copies of expressions, in which something may be put at a place.
+use crate::places::Change;
+use crate::sampled::Sampled;
+use cs_package::{FieldMark, Kind, Part, Shape, ShapeEnd};
 use std::alloc::{AllocError, Global};
 
-/// How expressions are copied.
-#[derive(Clone, Copy)]
-pub(crate) struct Copying {
-    pub(crate) alloc: Global,
-    /// Whether what a document may lack is left out: optional keys, a map's keys where it has no others, and elements that repeat.
-    pub(crate) is_least: bool,
-}
+/// The steps from an expression to a place, where the place is in it, and what is put there.
+pub(crate) type Way<'w> = Option<(&'w [usize], Change<'w>)>;
 
-/// The same expression in its own memory, or what is least of it.
-#[cycle(copies)]
-pub(crate) fn copy_shape(how: Copying, shape: &Shape) -> Result<Shape, AllocError> {
-    match shape {
-        Shape::Top => Ok(Shape::Top),
-        Shape::Bottom => Ok(Shape::Bottom),
-        Shape::Null => Ok(Shape::Null),
-        Shape::Bool(value) => Ok(Shape::Bool(*value)),
-        Shape::Int(value) => Ok(Shape::Int(*value)),
-        Shape::Text(text) => Ok(Shape::Text(text.clone()?)),
-        Shape::Kind(kind) => Ok(Shape::Kind(*kind)),
-        Shape::Range { least, greatest } => Ok(Shape::Range {
-            least: *least,
-            greatest: *greatest,
-        }),
-        Shape::Definition(number) => Ok(Shape::Definition(*number)),
-        Shape::Bound { relation, limit } => Ok(Shape::Bound {
-            relation: *relation,
-            limit: *limit,
-        }),
-        Shape::NotInt(value) => Ok(Shape::NotInt(*value)),
-        Shape::NotText(text) => Ok(Shape::NotText(text.clone()?)),
-        Shape::NotNull => Ok(Shape::NotNull),
-        Shape::And(operands) => Ok(Shape::And(copy_shapes(how, operands)?)),
-        Shape::Or(operands) => Ok(Shape::Or(copy_shapes(how, operands)?)),
-        Shape::Struct { parts, opened } => copy_struct(how, parts, *opened),
-        Shape::List { front, end } => {
-            let copied = copy_shapes(how, front)?;
-            let end = copy_end(how, end)?;
-            Ok(Shape::List { front: copied, end })
-        }
+/// The way on from a part of that number, where the way goes through it.
+fn after(way: Way<'_>, number: usize) -> Way<'_> {
+    let (steps, change) = way?;
+    match steps.split_first() {
+        Some((step, further)) if *step == number => Some((further, change)),
+        Some(_) | None => None,
     }
 }
 
-#[cycle(copies)]
-fn copy_struct(how: Copying, parts: &[Part], opened: bool) -> Result<Shape, AllocError> {
-    let copied = if how.is_least && !opened && !has_required(parts) {
-        Vec::new(how.alloc)
-    } else {
-        copy_parts(how, parts)?
-    };
-    Ok(Shape::Struct {
-        parts: copied,
-        opened,
-    })
+/// What the change is where a way ends, and none elsewhere.
+fn change_at(way: Way<'_>) -> Change<'_> {
+    match way {
+        Some(([], change)) => change,
+        Some(([_, ..], _)) | None => Change::Same,
+    }
+}
+
+/// How expressions are copied, and for which documents.
+#[derive(Clone, Copy)]
+pub(crate) struct Copying {
+    pub(crate) alloc: Global,
+    pub(crate) which: Sampled,
+    /// Whether what a document may lack is left out, but for what is on the way to a place: optional keys, a map's keys where it has
+    /// no others, and elements that repeat.
+    pub(crate) is_least: bool,
+}
+
+impl Copying {
+    /// The same expression in its own memory, or what is least of it. On a way each step is forced, so that a document has
+    /// something at the place, and the change is made there: an alternative stands alone, a declaration's key is there, and so is
+    /// an element that repeats. What a change isn't made for stays as it is.
+    #[cycle(copies)]
+    fn copy_shape(&self, shape: &Shape, way: Way<'_>) -> Result<Shape, AllocError> {
+        if let Some(put) = self.put_instead(way)? {
+            return Ok(put);
+        }
+        match shape {
+            Shape::Top => Ok(Shape::Top),
+            Shape::Bottom => Ok(Shape::Bottom),
+            Shape::Null => Ok(Shape::Null),
+            Shape::Bool(value) => Ok(Shape::Bool(*value)),
+            Shape::Int(value) => Ok(Shape::Int(*value)),
+            Shape::Text(text) => Ok(Shape::Text(text.clone()?)),
+            Shape::Kind(kind) => Ok(Shape::Kind(*kind)),
+            Shape::Range { least, greatest } => Ok(Shape::Range {
+                least: *least,
+                greatest: *greatest,
+            }),
+            Shape::Definition(number) => Ok(Shape::Definition(*number)),
+            Shape::Bound { relation, limit } => Ok(Shape::Bound {
+                relation: *relation,
+                limit: *limit,
+            }),
+            Shape::NotInt(value) => Ok(Shape::NotInt(*value)),
+            Shape::NotText(text) => Ok(Shape::NotText(text.clone()?)),
+            Shape::NotNull => Ok(Shape::NotNull),
+            Shape::And(operands) => Ok(Shape::And(self.copy_shapes(operands, way)?)),
+            Shape::Or(operands) => self.copy_alternatives(operands, way),
+            Shape::Struct { parts, opened } => self.copy_struct(parts, *opened, way),
+            Shape::List { front, end } => {
+                let mut copied = self.copy_front(front, way)?;
+                if let Some(element) = self.further_element(end, front.len(), way)? {
+                    copied.push(element)?;
+                }
+                let end = self.copy_end(end, way)?;
+                Ok(Shape::List { front: copied, end })
+            }
+        }
+    }
+
+    /// What is put where a way ends, if it isn't made of what is there.
+    fn put_instead(&self, way: Way<'_>) -> Result<Option<Shape>, AllocError> {
+        match change_at(way) {
+            Change::Anything => Ok(Some(Shape::Top)),
+            Change::Null => Ok(Some(Shape::Null)),
+            Change::Bool(value) => Ok(Some(Shape::Bool(value))),
+            Change::Int(value) => Ok(Some(Shape::Int(value))),
+            Change::Text(text) => Ok(Some(Shape::Text(String::from_str(self.alloc, text)?))),
+            Change::AnyText => Ok(Some(Shape::Kind(Kind::Text))),
+            Change::Definition(number) => Ok(Some(Shape::Definition(number))),
+            Change::Same | Change::FurtherKey | Change::Without(_) => Ok(None),
+            Change::Shorter | Change::Shortest | Change::Longer => Ok(None),
+        }
+    }
+
+    /// The same expressions, in order: bodies, operands or elements.
+    #[cycle(copies)]
+    pub(crate) fn copy_shapes(
+        &self,
+        shapes: &[Shape],
+        way: Way<'_>,
+    ) -> Result<Vec<Shape>, AllocError> {
+        let mut copies = Vec::with_capacity(self.alloc, shapes.len())?;
+        for (i, shape) in shapes.iter().enumerate() {
+            copies.push(self.copy_shape(shape, after(way, i))?)?;
+        }
+        Ok(copies)
+    }
+
+    #[cycle(copies)]
+    fn copy_alternatives(&self, operands: &[Shape], way: Way<'_>) -> Result<Shape, AllocError> {
+        for (i, operand) in operands.iter().enumerate() {
+            let further = after(way, i);
+            if further.is_some() {
+                return self.copy_shape(operand, further);
+            }
+        }
+        Ok(Shape::Or(self.copy_shapes(operands, None)?))
+    }
+
+    #[cycle(copies)]
+    fn copy_front(&self, front: &[Shape], way: Way<'_>) -> Result<Vec<Shape>, AllocError> {
+        let mut copied = self.copy_shapes(front, way)?;
+        if matches!(change_at(way), Change::Shorter) {
+            let _ = copied.pop();
+        }
+        Ok(copied)
+    }
+
+    /// An element behind so many fixed ones, where the way or the change has one there: what it has to be, and anything where
+    /// there may be none.
+    #[cycle(copies)]
+    fn further_element(
+        &self,
+        end: &ShapeEnd,
+        count: usize,
+        way: Way<'_>,
+    ) -> Result<Option<Shape>, AllocError> {
+        let further = after(way, count);
+        if further.is_none() && !matches!(change_at(way), Change::Longer) {
+            return Ok(None);
+        }
+        match end {
+            ShapeEnd::Closed | ShapeEnd::Any => Ok(Some(Shape::Top)),
+            ShapeEnd::Each(shape) => Ok(Some(self.copy_shape(shape, further)?)),
+        }
+    }
+
+    /// The same end of a list, of which a change of the length leaves nothing.
+    #[cycle(copies)]
+    fn copy_end(&self, end: &ShapeEnd, way: Way<'_>) -> Result<ShapeEnd, AllocError> {
+        match (end, change_at(way)) {
+            (_, Change::Shorter | Change::Shortest | Change::Longer) => Ok(ShapeEnd::Closed),
+            _ if self.is_least => Ok(ShapeEnd::Closed),
+            (ShapeEnd::Closed, _) => Ok(ShapeEnd::Closed),
+            (ShapeEnd::Any, _) => Ok(ShapeEnd::Any),
+            (ShapeEnd::Each(shape), _) => {
+                let copied = self.copy_shape(shape, None)?;
+                Ok(ShapeEnd::Each(Box::new(self.alloc, copied)?))
+            }
+        }
+    }
+
+    /// The struct of these declarations. Where nothing is put in it, it has none if a document may lack all of its keys. One with
+    /// a step to it is forced: its key is there. What is valid under a further key has to meet `[string]` as it stands, too. What
+    /// is invalid there couldn't, so `[string]` itself is changed, and stands beside a struct with no further key.
+    #[cycle(copies)]
+    fn copy_struct(&self, parts: &[Part], opened: bool, way: Way<'_>) -> Result<Shape, AllocError> {
+        let mut copied = Vec::with_capacity(self.alloc, parts.len())?;
+        let mut every = None;
+        if self.is_least && !opened && is_same(way) && !has_required(parts) {
+            return self.struct_of(copied, opened, every);
+        }
+        for (i, part) in parts.iter().enumerate() {
+            let further = after(way, i);
+            if further.is_some() {
+                let value = self.copy_shape(&part.value, further)?;
+                let (forced, changed) = self.forced(parts, part, value)?;
+                copied.push(forced)?;
+                every = changed;
+            }
+            if further.is_none() || (is_every(part) && self.which.is_valid()) {
+                copied.push(self.copy_part(part, i, way)?)?;
+            }
+        }
+        let is_longer = matches!(change_at(way), Change::FurtherKey);
+        if is_longer {
+            copied.push(further_part(self.alloc, parts, Shape::Top)?)?;
+        }
+        self.struct_of(copied, opened || is_longer, every)
+    }
+
+    /// The same declaration, or one of the same label by which that is no key.
+    #[cycle(copies)]
+    fn copy_part(&self, part: &Part, number: usize, way: Way<'_>) -> Result<Part, AllocError> {
+        let is_barred = matches!(change_at(way), Change::Without(barred) if barred == number);
+        if is_barred || (self.is_least && matches!(part.mark, FieldMark::Optional)) {
+            return with_value(part, FieldMark::Optional, Shape::Bottom);
+        }
+        with_value(part, part.mark, self.copy_shape(&part.value, None)?)
+    }
+
+    /// A declaration by which the key of this one is there, with that value, and `[string]` where that is changed.
+    fn forced(
+        &self,
+        parts: &[Part],
+        part: &Part,
+        value: Shape,
+    ) -> Result<(Part, Option<Part>), AllocError> {
+        if !is_every(part) {
+            return Ok((with_value(part, FieldMark::Regular, value)?, None));
+        }
+        match self.which {
+            Sampled::Valid => Ok((further_part(self.alloc, parts, value)?, None)),
+            Sampled::Invalid => {
+                let every = with_value(part, part.mark, value)?;
+                Ok((further_part(self.alloc, parts, Shape::Top)?, Some(every)))
+            }
+        }
+    }
+
+    /// The struct of these, with no further key where `[string]` stands beside them.
+    fn struct_of(
+        &self,
+        parts: Vec<Part>,
+        opened: bool,
+        every: Option<Part>,
+    ) -> Result<Shape, AllocError> {
+        let Some(part) = every else {
+            return Ok(Shape::Struct { parts, opened });
+        };
+        let closed = Shape::Struct {
+            parts,
+            opened: false,
+        };
+        let every = Shape::Struct {
+            parts: vec![in self.alloc; part]?,
+            opened: true,
+        };
+        Ok(Shape::And(vec![in self.alloc; closed, every]?))
+    }
+}
+
+/// Whether nothing is put at the end of a way, or behind it.
+fn is_same(way: Way<'_>) -> bool {
+    matches!(way, None | Some(([], Change::Same)))
+}
+
+/// Whether this is `[string]: T`.
+pub(crate) fn is_every(part: &Part) -> bool {
+    matches!(part.mark, FieldMark::Every { .. })
 }
 
 /// Whether a key has to be there.
 fn has_required(parts: &[Part]) -> bool {
-    for part in parts {
-        match part.mark {
-            FieldMark::Regular | FieldMark::Required => return true,
-            FieldMark::Optional | FieldMark::Every { .. } => {}
+    parts.iter().any(|part| matches!(part.mark, FieldMark::Regular | FieldMark::Required))
+}
+
+/// The declaration of a key that these don't have.
+fn further_part(alloc: Global, parts: &[Part], value: Shape) -> Result<Part, AllocError> {
+    let mut label = String::from_str(alloc, "key")?;
+    for _ in 0..parts.len() {
+        if !has_label(parts, label.as_str()) {
+            break;
         }
+        label.push_str("_")?;
     }
-    false
+    let mark = FieldMark::Regular;
+    Ok(Part { label, mark, value })
 }
 
-/// The same expressions, in order.
-#[cycle(copies)]
-pub(crate) fn copy_shapes(how: Copying, shapes: &[Shape]) -> Result<Vec<Shape>, AllocError> {
-    let mut copies = Vec::with_capacity(how.alloc, shapes.len())?;
-    for shape in shapes {
-        copies.push(copy_shape(how, shape)?)?;
-    }
-    Ok(copies)
+fn has_label(parts: &[Part], label: &str) -> bool {
+    parts.iter().any(|part| part.label.as_str() == label)
 }
 
-/// The same declarations, in order.
-#[cycle(copies)]
-pub(crate) fn copy_parts(how: Copying, parts: &[Part]) -> Result<Vec<Part>, AllocError> {
-    let mut copies = Vec::with_capacity(how.alloc, parts.len())?;
-    for part in parts {
-        copies.push(copy_part(how, part)?)?;
-    }
-    Ok(copies)
-}
-
-/// The same declaration.
-#[cycle(copies)]
-pub(crate) fn copy_part(how: Copying, part: &Part) -> Result<Part, AllocError> {
-    if how.is_least && matches!(part.mark, FieldMark::Optional) {
-        return barred(part);
-    }
+/// The declaration with another mark and value.
+fn with_value(part: &Part, mark: FieldMark, value: Shape) -> Result<Part, AllocError> {
     let label = part.label.clone()?;
-    let value = copy_shape(how, &part.value)?;
-    Ok(Part {
-        label,
-        mark: part.mark,
-        value,
-    })
-}
-
-/// A declaration of the same label, by which it is no key.
-pub(crate) fn barred(part: &Part) -> Result<Part, AllocError> {
-    let label = part.label.clone()?;
-    Ok(Part {
-        label,
-        mark: FieldMark::Optional,
-        value: Shape::Bottom,
-    })
-}
-
-/// The same end of a list.
-#[cycle(copies)]
-pub(crate) fn copy_end(how: Copying, end: &ShapeEnd) -> Result<ShapeEnd, AllocError> {
-    match end {
-        _ if how.is_least => Ok(ShapeEnd::Closed),
-        ShapeEnd::Closed => Ok(ShapeEnd::Closed),
-        ShapeEnd::Any => Ok(ShapeEnd::Any),
-        ShapeEnd::Each(shape) => {
-            let copied = copy_shape(how, shape)?;
-            Ok(ShapeEnd::Each(Box::new(how.alloc, copied)?))
-        }
-    }
+    Ok(Part { label, mark, value })
 }

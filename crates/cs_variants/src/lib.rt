@@ -1,10 +1,8 @@
 // Packages in which something is put at a place, and the places to put it.
 #![tactic(auto)]
 
-mod changes;
 mod copies;
 mod ends;
-mod forced;
 mod names;
 mod places;
 mod sampled;
@@ -15,5 +13,5 @@ mod whole;
 
 pub use places::{Change, Place, Reached};
 pub use sampled::Sampled;
-pub use variants::Making;
+pub use variants::Where;
 pub use walks::{Walk, walk_of};

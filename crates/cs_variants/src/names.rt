@@ -1,5 +1,5 @@
 // The names of a package and of copies of its definitions.
-ghost use Rattle.std.specs.Prelude.{◌≡◌, ◌<◌, IfOk, OnOk, length, string_bytes};
+ghost use Rattle.std.specs.Prelude.{◌≡◌, IfOk, OnOk, string_bytes};
 ghost use Rattle.cs_package.specs.Environment.{IsDefinitionName, written};
 ghost use Rattle.cs_package.specs.View.{IsTable};
 
@@ -7,14 +7,20 @@ use cs_package::{NameTable, Package};
 use indexmap::IndexMap;
 use std::alloc::{AllocError, Global};
 
-/// The names of a package.
-pub(crate) fn copy_names(alloc: Global, package: &Package) -> Result<NameTable, AllocError>
+/// The names of these definitions of a package: a further copy of a definition has a name of its own.
+pub(crate) fn names_of(
+    alloc: Global,
+    package: &Package,
+    definitions: &[usize],
+) -> Result<NameTable, AllocError>
     ensures { IfOk result (λ t. IsTable t.entries) }
 {
     let mut names = IndexMap::new(alloc);
-    for i in 0..package.count() {
-        let name = String::from_str(alloc, package.bare_name(i))?;
-        put_name(alloc, &mut names, name)?;
+    for definition in definitions {
+        if *definition < package.count() {
+            let name = fresh_name(alloc, &names, package.bare_name(*definition))?;
+            put_name(alloc, &mut names, name)?;
+        }
     }
     Ok(names)
 }
@@ -39,21 +45,6 @@ fn written_name(alloc: Global, name: &String) -> Result<String, AllocError>
     Ok(written)
 }
 
-/// Puts a name that isn't there yet among these, for a copy of a definition.
-pub(crate) fn put_copy(
-    alloc: Global,
-    names: &mut NameTable,
-    package: &Package,
-    definition: usize,
-) -> Result<(), AllocError>
-    requires table { IsTable names.old.entries }
-    requires inside { definition < length «package».now }
-    ensures { OnOk result (IsTable names.new.entries) }
-{
-    let name = fresh_name(alloc, names, package.bare_name(definition))?;
-    put_name(alloc, names, name)
-}
-
 /// A name with as many `_` behind it as make it a new one.
 fn fresh_name(alloc: Global, names: &NameTable, name: &str) -> Result<String, AllocError>
     requires { IsDefinitionName name.now }
@@ -61,10 +52,10 @@ fn fresh_name(alloc: Global, names: &NameTable, name: &str) -> Result<String, Al
 {
     let mut fresh = String::from_str(alloc, name)?;
     for _ in 0..names.len() {
-        fresh.push_str("_")?;
         if !names.contains_key(fresh.as_str()) {
             break;
         }
+        fresh.push_str("_")?;
     }
     Ok(fresh)
 }

@@ -1,4 +1,6 @@
 // Places in a package, and what is put there.
+use crate::copies::Way;
+use cs_package::Literal;
 
 /// What is put at a place.
 #[derive(Clone, Copy)]
@@ -27,20 +29,39 @@ pub enum Change<'a> {
     Longer,
 }
 
-/// A place in a body of a definition that the root reaches: the number of the definition among those that were reached, the
-/// body's number, and the steps from the body's expression on. A step is the number of an operand, an alternative, a
-/// declaration or a fixed element; what follows the fixed elements has the next number. A rule has a place for each change that is
-/// made for it.
+impl<'a> Change<'a> {
+    /// A literal is put there.
+    pub(crate) fn to(literal: Literal<'a>) -> Change<'a> {
+        match literal {
+            Literal::Null => Change::Null,
+            Literal::Bool(value) => Change::Bool(value),
+            Literal::Int(n) => Change::Int(n),
+            Literal::Text(text) => Change::Text(text),
+        }
+    }
+}
+
+/// A place in a definition that the root reaches: the number of the definition among those that were reached, its number in the
+/// package, and the steps from there on. The first step is a body's number, and each further one that of an operand, an
+/// alternative, a declaration or a fixed element; what follows the fixed elements has the next number. A rule has a place for each
+/// change that is made for it.
 #[derive(Drop)]
 pub struct Place<'a> {
     pub(crate) entry: usize,
-    pub(crate) body: usize,
+    pub(crate) definition: usize,
     pub(crate) steps: Vec<usize>,
     pub(crate) change: Change<'a>,
     /// The number of its rule.
     pub rule: usize,
     /// The number of the change among those of its rule.
     pub(crate) turn: usize,
+}
+
+impl Place<'_> {
+    /// The way to the place from the bodies of its definition, with that put there.
+    pub(crate) fn way<'w>(&'w self, change: Change<'w>) -> Way<'w> {
+        Some((self.steps.as_slice(), change))
+    }
 }
 
 /// A definition that the root reaches, and the place of a reference to it; the root itself has none.

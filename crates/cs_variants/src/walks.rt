@@ -1,29 +1,30 @@
 // The places of what a root reaches, in the order of the text: those of the root first, then those of each definition, in the
 // order in which they are reached.
+use crate::copies::is_every;
 use crate::ends::{behind_end, end_of};
 use crate::places::{Change, Place, Reached};
 use crate::sampled::Sampled;
-use crate::turns::in_turns;
-use cs_package::{FieldMark, Kind, Package, Part, Shape, ShapeEnd};
+use cs_package::{FieldMark, Inside, Kind, Literal, Package, Part, Shape, ShapeEnd, Simple};
 use std::alloc::{AllocError, Global};
 
 /// The walk over the bodies of what the root reaches: the definitions that were reached, each once, the places that were found,
 /// and the place where the walk is.
 #[derive(Drop)]
 pub struct Walk<'a> {
-    alloc: Global,
-    which: Sampled,
-    pub reached: Vec<Reached<'a>>,
+    pub(crate) alloc: Global,
+    pub(crate) package: &'a Package,
+    pub(crate) root: usize,
+    pub(crate) which: Sampled,
+    pub(crate) reached: Vec<Reached<'a>>,
     pub places: Vec<Place<'a>>,
     /// How many rules the places are of.
     pub rules: usize,
     /// How many places the last rule has so far.
     turn: usize,
-    /// Whether each definition of the package is referred to more than once, the root once at least.
-    pub is_shared: Vec<bool>,
-    seen: Vec<bool>,
+    /// How often each definition of the package is referred to, the root once more.
+    pub uses: Vec<usize>,
     entry: usize,
-    body: usize,
+    definition: usize,
     steps: Vec<usize>,
 }
 
@@ -39,105 +40,97 @@ pub fn walk_of(
 ) -> Result<Walk<'_>, AllocError> {
     let mut walk = Walk {
         alloc,
+        package,
+        root,
         which,
         reached: Vec::new(alloc),
         places: Vec::new(alloc),
         rules: 0,
         turn: 0,
-        is_shared: vec![in alloc; false; package.count()]?,
-        seen: vec![in alloc; false; package.count()]?,
+        uses: vec![in alloc; 0; package.count()]?,
         entry: 0,
-        body: 0,
+        definition: root,
         steps: Vec::new(alloc),
     };
-    walk.reached.push(Reached {
-        definition: root,
-        from: None,
-    })?;
-    if let Some(seen) = walk.seen.get_mut(root) {
-        *seen = true;
-    }
-    walk.put_valid(Change::Same)?;
-    for _ in 0..package.count() {
-        walk.visit_entry(package)?;
+    walk.reach(root)?;
+    walk.put_rule(Sampled::Valid, &[Change::Same])?;
+    for entry in 0..package.count() {
+        walk.visit_entry(entry)?;
     }
     Ok(walk)
 }
 
 impl<'a> Walk<'a> {
-    /// The numbers of the places, in the order in which they get their turns.
-    ///
-    /// # Errors
-    /// Where memory runs out.
-    pub fn in_turns(&self) -> Result<Vec<usize>, AllocError> {
-        in_turns(self.alloc, &self.places)
+    /// Whether a place without a document is asked about again, for every reference: where no instances are asked for, and its
+    /// definition or one on the way to it is referred to more than once.
+    pub fn is_asked_again(&self, place: &Place<'_>) -> bool {
+        let mut entry = place.entry;
+        let mut is_shared = self.is_shared(place.definition);
+        for _ in 0..self.reached.len() {
+            let Some(from) = self.reference_to(entry) else {
+                break;
+            };
+            is_shared = is_shared || self.is_shared(from.definition);
+            entry = from.entry;
+        }
+        is_shared && !self.which.is_valid()
     }
 
-    /// Visits the definition that comes next, if there is one.
-    fn visit_entry(&mut self, package: &'a Package) -> Result<(), AllocError> {
-        let Some(reached) = self.reached.get(self.entry) else {
+    fn is_shared(&self, definition: usize) -> bool {
+        self.uses.get(definition).is_some_and(|uses| *uses > 1)
+    }
+
+    /// The place of the reference by which an entry was reached; the root has none.
+    pub(crate) fn reference_to(&self, entry: usize) -> Option<&Place<'a>> {
+        self.reached.get(entry)?.from.as_ref()
+    }
+
+    /// Visits the definition of an entry, if there is one.
+    fn visit_entry(&mut self, entry: usize) -> Result<(), AllocError> {
+        let Some(reached) = self.reached.get(entry) else {
             return Ok(());
         };
-        let definition = reached.definition;
-        if definition < package.count() {
-            for (body, shape) in package.bodies(definition).iter().enumerate() {
-                self.body = body;
-                self.visit(shape)?;
-            }
+        self.entry = entry;
+        self.definition = reached.definition;
+        let package = self.package;
+        if self.definition >= package.count() {
+            return Ok(());
         }
-        self.entry = self.entry.saturating_add(1);
-        Ok(())
+        self.visit_each(package.bodies(self.definition))
     }
 
-    /// Here is a further rule, which has no place yet.
-    fn begin(&mut self) {
-        self.rules = self.rules.saturating_add(1);
-        self.turn = 0;
-    }
-
-    /// Here is a place of the last rule, where that is put.
-    fn put(&mut self, change: Change<'a>) -> Result<(), AllocError> {
+    /// The place where the walk is, of the last rule.
+    fn place(&self, change: Change<'a>) -> Result<Place<'a>, AllocError> {
         let steps = Vec::from_slice(self.alloc, &self.steps)?;
-        self.places.push(Place {
+        Ok(Place {
             entry: self.entry,
-            body: self.body,
+            definition: self.definition,
             steps,
             change,
             rule: self.rules.saturating_sub(1),
             turn: self.turn,
-        })?;
+        })
+    }
+
+    /// Here is a place of the last rule, where that is put.
+    fn put(&mut self, change: Change<'a>) -> Result<(), AllocError> {
+        let place = self.place(change)?;
+        self.places.push(place)?;
         self.turn = self.turn.saturating_add(1);
         Ok(())
     }
 
-    /// Here is a further rule, for instances alone, with a place where that is put.
-    fn put_valid(&mut self, change: Change<'a>) -> Result<(), AllocError> {
-        match self.which {
-            Sampled::Valid => {
-                self.begin();
-                self.put(change)
-            }
-            Sampled::Invalid => Ok(()),
+    /// Here is a further rule, for these documents alone, with a place for each of the changes.
+    fn put_rule(&mut self, which: Sampled, changes: &[Change<'a>]) -> Result<(), AllocError> {
+        if which.is_valid() != self.which.is_valid() {
+            return Ok(());
         }
-    }
-
-    /// Here is a further place of the last rule, for instances alone.
-    fn put_valid_too(&mut self, change: Change<'a>) -> Result<(), AllocError> {
-        match self.which {
-            Sampled::Valid => self.put(change),
-            Sampled::Invalid => Ok(()),
+        self.rules = self.rules.saturating_add(1);
+        self.turn = 0;
+        for change in changes {
+            self.put(*change)?;
         }
-    }
-
-    /// Here is a further rule, for documents that are no instances.
-    fn put_invalid(&mut self, change: Change<'a>) -> Result<(), AllocError> {
-        match self.which {
-            Sampled::Valid => Ok(()),
-            Sampled::Invalid => {
-                self.begin();
-                self.put(change)
-            }
-        }
+        Ok(())
     }
 
     /// Here is a place of the last rule where an integer is put, where there is one.
@@ -148,47 +141,40 @@ impl<'a> Walk<'a> {
         }
     }
 
-    /// Here is a reference to a definition.
+    /// Here is a reference to a definition, or this is the root.
     fn reach(&mut self, definition: usize) -> Result<(), AllocError> {
-        let Some(seen) = self.seen.get_mut(definition) else {
+        let Some(uses) = self.uses.get_mut(definition) else {
             return Ok(());
         };
-        if *seen {
-            if let Some(is_shared) = self.is_shared.get_mut(definition) {
-                *is_shared = true;
-            }
+        *uses = uses.saturating_add(1);
+        if *uses > 1 {
             return Ok(());
         }
-        *seen = true;
-        let steps = Vec::from_slice(self.alloc, &self.steps)?;
-        let from = Place {
-            entry: self.entry,
-            body: self.body,
-            steps,
-            change: Change::Definition(definition),
-            rule: 0,
-            turn: 0,
+        let from = if self.reached.is_empty() {
+            None
+        } else {
+            Some(self.place(Change::Definition(definition))?)
         };
-        self.reached.push(Reached {
-            definition,
-            from: Some(from),
-        })?;
+        self.reached.push(Reached { definition, from })?;
         Ok(())
     }
 
     #[cycle(visit)]
     fn visit(&mut self, shape: &'a Shape) -> Result<(), AllocError> {
-        match shape {
-            Shape::Definition(number) => self.reach(*number),
-            Shape::And(operands) => self.visit_each(operands),
-            Shape::Or(operands) => self.visit_alternatives(operands),
-            Shape::Struct { parts, opened } => self.visit_struct(parts, *opened),
-            Shape::List { front, end } => {
-                self.visit_front(front)?;
+        match shape.inside() {
+            Inside::Simple(simple) => self.visit_simple(simple),
+            Inside::Definition(number) => self.reach(number),
+            Inside::And(operands) => self.visit_each(operands),
+            Inside::Or(operands) => self.visit_alternatives(operands),
+            Inside::Struct { parts, opened } => self.visit_struct(parts, opened),
+            Inside::List { front, end } => {
+                self.put_rule(Sampled::Invalid, &[Change::Anything])?;
+                if !front.is_empty() {
+                    self.put_rule(Sampled::Invalid, &[Change::Shorter])?;
+                }
+                self.visit_each(front)?;
                 self.visit_end(front.len(), end)
             }
-            // The others have no parts.
-            _ => self.visit_leaf(shape),
         }
     }
 
@@ -204,7 +190,7 @@ impl<'a> Walk<'a> {
     /// Puts an instance that has what is behind a step.
     fn put_behind(&mut self, step: usize) -> Result<(), AllocError> {
         self.steps.push(step)?;
-        self.put_valid(Change::Same)?;
+        self.put_rule(Sampled::Valid, &[Change::Same])?;
         let _ = self.steps.pop();
         Ok(())
     }
@@ -221,139 +207,128 @@ impl<'a> Walk<'a> {
     fn visit_alternatives(&mut self, shapes: &'a [Shape]) -> Result<(), AllocError> {
         let mut has_text = false;
         for (i, shape) in shapes.iter().enumerate() {
+            let is_text = matches!(shape, Shape::Text(_));
             self.put_behind(i)?;
             // What isn't admitted beside one text is the same as beside another one.
-            if !(has_text && is_text(shape)) {
+            if !(has_text && is_text) {
                 self.step(i, shape)?;
             }
-            has_text = has_text || is_text(shape);
+            has_text = has_text || is_text;
         }
         Ok(())
     }
 
     #[cycle(visit)]
     fn visit_struct(&mut self, parts: &'a [Part], opened: bool) -> Result<(), AllocError> {
-        self.put_invalid(Change::Anything)?;
+        self.put_rule(Sampled::Invalid, &[Change::Anything])?;
         for (i, part) in parts.iter().enumerate() {
             self.visit_part(i, part)?;
         }
         if opened {
-            self.put_valid(Change::FurtherKey)
+            self.put_rule(Sampled::Valid, &[Change::FurtherKey])
         } else if has_every(parts) {
             Ok(())
         } else {
-            self.put_invalid(Change::FurtherKey)
+            self.put_rule(Sampled::Invalid, &[Change::FurtherKey])
         }
     }
 
     #[cycle(visit)]
     fn visit_part(&mut self, i: usize, part: &'a Part) -> Result<(), AllocError> {
-        match part.mark {
-            FieldMark::Regular | FieldMark::Required => self.put_invalid(Change::Without(i))?,
-            FieldMark::Optional => {
-                self.put_behind(i)?;
-                self.put_valid_too(Change::Without(i))?;
+        match (part.mark, self.which) {
+            (FieldMark::Regular | FieldMark::Required, _) => {
+                self.put_rule(Sampled::Invalid, &[Change::Without(i)])?;
             }
-            FieldMark::Every { .. } => self.put_behind(i)?,
+            (FieldMark::Optional, Sampled::Valid) => {
+                self.put_behind(i)?;
+                self.put(Change::Without(i))?;
+            }
+            (FieldMark::Optional, Sampled::Invalid) => {}
+            (FieldMark::Every { .. }, _) => self.put_behind(i)?,
         }
         self.step(i, &part.value)
     }
 
-    #[cycle(visit)]
-    fn visit_front(&mut self, front: &'a [Shape]) -> Result<(), AllocError> {
-        self.put_invalid(Change::Anything)?;
-        if !front.is_empty() {
-            self.put_invalid(Change::Shorter)?;
-        }
-        self.visit_each(front)
-    }
-
+    /// What follows the fixed elements: the least length of a list and the next one, where it may be longer.
     #[cycle(visit)]
     fn visit_end(&mut self, step: usize, end: &'a ShapeEnd) -> Result<(), AllocError> {
+        let lengths = [Change::Shortest, Change::Longer];
         match end {
-            ShapeEnd::Closed => self.put_invalid(Change::Longer),
-            ShapeEnd::Any => self.put_lengths(),
+            ShapeEnd::Closed => self.put_rule(Sampled::Invalid, &[Change::Longer]),
+            ShapeEnd::Any => self.put_rule(Sampled::Valid, &lengths),
             ShapeEnd::Each(shape) => {
-                self.put_lengths()?;
+                self.put_rule(Sampled::Valid, &lengths)?;
                 self.step(step, shape)
             }
         }
     }
 
-    /// The least length of a list and the next one.
-    fn put_lengths(&mut self) -> Result<(), AllocError> {
-        self.put_valid(Change::Shortest)?;
-        self.put_valid_too(Change::Longer)
-    }
-
-    /// The rule of what has no parts. What has no ends is no rule for instances.
-    fn visit_leaf(&mut self, shape: &'a Shape) -> Result<(), AllocError> {
-        match (self.which, shape) {
-            (Sampled::Invalid, _) => {
-                self.begin();
-                self.put_outside(shape)
+    /// The rule of what has no parts.
+    fn visit_simple(&mut self, simple: Simple<'a>) -> Result<(), AllocError> {
+        match self.which {
+            Sampled::Valid => self.put_ends(simple),
+            Sampled::Invalid => {
+                self.put_rule(Sampled::Invalid, &[])?;
+                self.put_outside(simple)
             }
-            (Sampled::Valid, Shape::Kind(Kind::Bool) | Shape::Range { .. } | Shape::Bound { .. }) =>
-                {
-                    self.begin();
-                    self.put_ends(shape)
-                }
-            (Sampled::Valid, _) => Ok(()),
         }
     }
 
-    /// The ends of what has no parts.
-    fn put_ends(&mut self, shape: &'a Shape) -> Result<(), AllocError> {
-        match shape {
-            Shape::Kind(Kind::Bool) => {
-                self.put(Change::Bool(false))?;
-                self.put(Change::Bool(true))
+    /// The ends of what has no parts. What has none is no rule for instances.
+    fn put_ends(&mut self, simple: Simple<'a>) -> Result<(), AllocError> {
+        match simple {
+            Simple::Kind(Kind::Bool) => {
+                self.put_rule(Sampled::Valid, &[Change::Bool(false), Change::Bool(true)])
             }
-            Shape::Range { least, greatest } => {
-                self.put(Change::Int(*least))?;
-                self.put_integer(*greatest)
+            Simple::Range { least, greatest } => {
+                self.put_rule(Sampled::Valid, &[Change::Int(least)])?;
+                self.put_integer(greatest)
             }
-            Shape::Bound { relation, limit } => self.put_integer(end_of(*relation, *limit)),
-            // The others have no ends.
-            _ => Ok(()),
+            Simple::Bound { relation, limit } => {
+                self.put_rule(Sampled::Valid, &[])?;
+                self.put_integer(end_of(relation, limit))
+            }
+            Simple::Kind(Kind::Int | Kind::Number | Kind::Text)
+            | Simple::Top
+            | Simple::Bottom
+            | Simple::Literal(_)
+            | Simple::Excluded(_) => Ok(()),
         }
     }
 
     /// What isn't admitted where there are no parts: what is next to it first, and then anything else.
-    fn put_outside(&mut self, shape: &'a Shape) -> Result<(), AllocError> {
-        match shape {
-            Shape::Bool(value) => self.put(Change::Bool(!*value))?,
-            Shape::Int(n) => {
-                self.put_integer(n.checked_sub(1))?;
-                self.put_integer(n.checked_add(1))?;
-            }
-            Shape::Text(_) => self.put(Change::AnyText)?,
-            Shape::Range { least, greatest } => {
+    fn put_outside(&mut self, simple: Simple<'a>) -> Result<(), AllocError> {
+        match simple {
+            Simple::Literal(literal) => self.put_beside(literal)?,
+            Simple::Excluded(literal) => self.put(Change::to(literal))?,
+            Simple::Range { least, greatest } => {
                 self.put_integer(least.checked_sub(1))?;
                 self.put_integer(greatest.and_then(|n| n.checked_add(1)))?;
             }
-            Shape::Bound { relation, limit } => self.put_integer(behind_end(*relation, *limit))?,
-            Shape::NotInt(n) => self.put(Change::Int(*n))?,
-            Shape::NotText(text) => self.put(Change::Text(text.as_str()))?,
-            Shape::NotNull => self.put(Change::Null)?,
-            // Nothing is next to the others.
-            _ => {}
+            Simple::Bound { relation, limit } => self.put_integer(behind_end(relation, limit))?,
+            // Nothing is next to these.
+            Simple::Top | Simple::Bottom | Simple::Kind(_) => {}
         }
         self.put(Change::Anything)
     }
-}
 
-fn is_text(shape: &Shape) -> bool {
-    matches!(shape, Shape::Text(_))
+    /// What is next to a literal.
+    fn put_beside(&mut self, literal: Literal<'a>) -> Result<(), AllocError> {
+        match literal {
+            Literal::Null => Ok(()),
+            Literal::Bool(value) => self.put(Change::Bool(!value)),
+            Literal::Int(n) => {
+                self.put_integer(n.checked_sub(1))?;
+                self.put_integer(n.checked_add(1))
+            }
+            Literal::Text(_) => self.put(Change::AnyText),
+        }
+    }
 }
 
 /// Whether one of these is `[string]: T`.
 fn has_every(parts: &[Part]) -> bool {
-    for part in parts {
-        match part.mark {
-            FieldMark::Every { .. } => return true,
-            FieldMark::Regular | FieldMark::Optional | FieldMark::Required => {}
-        }
-    }
-    false
+    parts
+        .iter()
+        .any(|part| matches!(part.mark, FieldMark::Every { .. }))
 }

@@ -64,18 +64,11 @@ fn are_sound_parts(count: usize, parts: &[Part]) -> bool
     ensures { IsTrue result → AllByRecursion (IsSoundPart count) parts.now }
 {
     for part in parts {
-        if !is_sound_part(count, part) {
+        if !is_sound(count, &part.value) {
             return false;
         }
     }
     true
-}
-
-#[cycle(sound)]
-fn is_sound_part(count: usize, part: &Part) -> bool
-    ensures { IsTrue result → IsSoundPart count part.now }
-{
-    is_sound(count, &part.value)
 }
 
 /// Whether there are two or more, and each is sound.

@@ -4,10 +4,10 @@
 use clap::ArgMatches;
 use clap::error::ErrorKind;
 use cs_place::put_shown;
-use cs_run_export::{export_or_tell, export_shaped, is_shaped};
-use cs_run_input::{are_at_odds, reasons_of};
-use cs_run_judge::{answer as answer_request, answer_with_reasons};
-use cs_run_questions::answer_of_sources;
+use cs_run_export::export;
+use cs_run_input::are_at_odds;
+use cs_run_judge::judge;
+use cs_run_questions::{check, compare, explain, list, write_samples};
 use cs_tool::{Fault, command, write_fault};
 use std::alloc::{AllocError, Global};
 use std::env::Args;
@@ -45,27 +45,25 @@ fn answer(rt: &HostRuntime) -> Result<u8, Fault> {
 
 /// The status of what the words ask for.
 fn answered(rt: &HostRuntime, matches: &ArgMatches<'_>) -> Result<u8, Fault> {
-    if let Some((command, words)) = matches.subcommand() {
-        if are_at_odds(words) {
-            let _ = eprintln!(rt;
-                "error: '--format' tells reasons by itself; beside it only '--why=all' can be given"
-            );
-            return Ok(COMMAND_LINE);
-        }
-        if let Some(status) = answer_of_sources(rt, command, words)? {
-            return Ok(status);
-        }
-        if command == "export" && words.get_flag("why_refused") {
-            return export_or_tell(rt, words);
-        }
-        if command == "export" && is_shaped(words) {
-            return export_shaped(rt, words);
-        }
-        if let Some(reasons) = reasons_of(words) {
-            return Ok(answer_with_reasons(rt, command, words, reasons)?.unwrap_or(COMMAND_LINE));
-        }
+    let Some((command, words)) = matches.subcommand() else {
+        return Ok(COMMAND_LINE);
+    };
+    if are_at_odds(words) {
+        let _ = eprintln!(rt;
+            "error: '--format' tells reasons by itself; beside it only '--why=all' can be given"
+        );
+        return Ok(COMMAND_LINE);
     }
-    Ok(answer_request(rt, matches)?.unwrap_or(COMMAND_LINE))
+    match command {
+        "export" => export(rt, words),
+        "vet" | "validate" | "agree" => judge(rt, command, words),
+        "check" => check(rt, words),
+        "compare" => compare(rt, words),
+        "explain" => explain(rt, words),
+        "list" => list(rt, words),
+        "samples" => write_samples(rt, words),
+        _ => Ok(COMMAND_LINE),
+    }
 }
 
 /// The words of the process. `collect` would ask for the room of all of them first, and go on where that is refused.

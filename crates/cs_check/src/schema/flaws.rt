@@ -1,18 +1,20 @@
 // The flaws of a schema's text: the first one as it is, and then those that mending one after another meets.
-ghost use Rattle.std.specs.Prelude.{◌≡◌, ◌≤◌, ◌↔◌, [], ◌∷◌, length, IfOk, OnOk};
-ghost use Rattle.std.specs.List.{IsDistinct};
+ghost use Rattle.std.specs.Prelude.{◌≡◌, ◌<◌, ◌≤◌, ◌↔◌, [], ◌∷◌, None, false, length, IfOk, IfSome, OnOk};
+ghost use Rattle.std.specs.List.{list_any, IsDistinct};
 ghost use Rattle.cs_document.specs.View.{doc_view};
 ghost use Rattle.cs_profile.specs.Profile.{IsSchema};
-ghost use Rattle.cs_check.specs.Flaws.{IsSchemaText, BeginsWithFirstFlaw, BeginsWithFirstOf, BeginsWithAll, is_same};
+ghost use Rattle.cs_check.specs.Flaws.{IsSchemaText, IsFlawOf, BeginsWithFirstFlaw, BeginsWithFirstOf, BeginsWithAll, is_same};
 
 use crate::MOST_FAULTS;
 use crate::schema::flaw::Flaw;
 use crate::schema::mending::mend;
-use crate::schema::reading::first_flaw;
-use crate::schema::told::tell;
 use cs_doc::read_doc;
 use cs_document::{Doc, DocFault};
+use cs_schema::{SchemaFault, read_schema};
 use std::alloc::{AllocError, Global};
+
+/// Where the places and names that are told have more bytes, no further flaw is told: each place may be as long as the text.
+const MOST_TOLD: usize = 1_048_576;
 
 /// The flaws of a schema's text, 50 at most and none of them twice; none where the text is a schema of the profile. The first
 /// one is what the text is refused for, and each further one is what it is refused for once those before it are mended: a
@@ -81,4 +83,72 @@ fn tell_further(alloc: Global, doc: &mut Doc, flaws: &mut Vec<Flaw>) -> Result<(
         }
     }
     Ok(())
+}
+
+/// The first flaw of a document; none where it is a schema of the profile.
+fn first_flaw(alloc: Global, doc: &Doc) -> Result<Option<Flaw>, AllocError>
+    ensures first { IfOk result (λ o. IfSome o (IsFlawOf (doc_view doc.now))) }
+    ensures none { IfOk result (λ o. (o ≡ None) ↔ IsSchema (doc_view doc.now)) }
+{
+    match read_schema(alloc, doc) {
+        Ok(_) => Ok(None),
+        Err(SchemaFault::OutOfMemory) => Err(AllocError),
+        Err(SchemaFault::Keyword { place, name }) => Ok(Some(Flaw::Keyword { place, name })),
+        Err(SchemaFault::Shape { place, name }) => Ok(Some(Flaw::Shape { place, name })),
+        Err(SchemaFault::Reference { place, name }) => Ok(Some(Flaw::Reference { place, name })),
+        Err(SchemaFault::Loop { names }) => Ok(Some(Flaw::Loop { names })),
+    }
+}
+
+/// Tells a flaw, and says whether to look for others. One that is told already isn't told again.
+fn tell(flaws: &mut Vec<Flaw>, flaw: Flaw) -> Result<bool, AllocError>
+    requires { IsDistinct is_same flaws.old.items }
+    ensures begins { OnOk result (BeginsWithAll flaws.old.items flaws.new.items) }
+    ensures distinct { OnOk result (IsDistinct is_same flaws.new.items) }
+    ensures most { OnOk result (length flaws.old.items ≤ 50 → length flaws.new.items ≤ 50) }
+{
+    if is_enough(flaws) || !is_judged(flaws, &flaw) || is_told(flaws, &flaw) {
+        return Ok(false);
+    }
+    flaws.push(flaw)?;
+    Ok(true)
+}
+
+/// Whether no more flaws are told.
+fn is_enough(flaws: &Vec<Flaw>) -> bool
+    ensures { result ≡ false → length flaws.now.items < 50 }
+{
+    flaws.len() >= MOST_FAULTS || bytes_told(flaws) > MOST_TOLD
+}
+
+/// How many bytes the places and names of flaws have.
+fn bytes_told(flaws: &[Flaw]) -> usize {
+    flaws.iter().fold(0usize, |bytes, flaw| match flaw {
+        Flaw::NotJson { .. } | Flaw::NotInteger { .. } => bytes,
+        Flaw::Keyword { place, name }
+        | Flaw::Shape { place, name }
+        | Flaw::Reference { place, name } => bytes
+            .saturating_add(place.len())
+            .saturating_add(name.len()),
+        Flaw::Loop { names } => names
+            .iter()
+            .fold(bytes, |bytes, name| bytes.saturating_add(name.len())),
+    })
+}
+
+/// Whether a flaw is one of the schema. That no definition is found is none where those of the schema went with a mend.
+fn is_judged(flaws: &[Flaw], flaw: &Flaw) -> bool {
+    !matches!(flaw, Flaw::Reference { .. }) || !flaws.iter().any(takes_definitions)
+}
+
+/// Whether the mend of a flaw takes out all definitions.
+fn takes_definitions(flaw: &Flaw) -> bool {
+    matches!(flaw, Flaw::Shape { place, name } if place.is_empty() && name.as_str() == "$defs")
+}
+
+/// Whether a flaw is among those that are told.
+fn is_told(flaws: &Vec<Flaw>, flaw: &Flaw) -> bool
+    ensures { result ≡ list_any (λ told. is_same told flaw.now) flaws.now.items }
+{
+    flaws.iter().any(|told| told == flaw)
 }

@@ -1,25 +1,16 @@
 // Sources with the mends of their faults, so that the next ones show.
-use crate::sources::mends::Mend;
+use crate::sources::mends::{Mend, mended_name};
 use cs_place::Named;
-use cs_sources::Source;
+use cs_sources::{Source, is_mark, separates};
+use cs_tool::Fault;
 use std::alloc::{AllocError, Global};
+use std::collections::BTreeSet;
 
-/// A text, and its mends in the order of their places. None is inside of another one.
+/// A source, and its mends in the order of their places. None is inside of another one.
 #[derive(Drop)]
 pub(crate) struct Draft<'a> {
-    pub(crate) file: usize,
-    text: &'a [u8],
-    /// The text cut into tokens, once a mend asks for it.
-    pub(crate) source: Option<Source<'a>>,
+    pub(crate) source: Source<'a>,
     pub(crate) mends: Vec<Mend>,
-}
-
-/// Where something of a mended text is in its source.
-#[derive(Clone, Copy)]
-pub(crate) struct Origin {
-    pub(crate) offset: usize,
-    /// Whether a mend put it there: then the offset is where that begins.
-    pub(crate) is_mended: bool,
 }
 
 /// A draft of each source, without mends.
@@ -29,34 +20,19 @@ pub(crate) fn drafts_of<'a>(
 ) -> Result<Vec<Draft<'a>>, AllocError> {
     let mut drafts = Vec::with_capacity(alloc, sources.len())?;
     for (file, text) in sources.iter().enumerate() {
-        drafts.push(Draft {
-            file,
-            text,
-            source: None,
-            mends: Vec::new(alloc),
-        })?;
+        let (name, line) = ("", 1);
+        let named = Named { name, text, line };
+        let source = Source::new(alloc, named, file)?;
+        let mends = Vec::new(alloc);
+        drafts.push(Draft { source, mends })?;
     }
     Ok(drafts)
 }
 
 impl<'a> Draft<'a> {
-    /// The text, cut into tokens.
-    pub(crate) fn source(&mut self, alloc: Global) -> Result<&Source<'a>, AllocError> {
-        let named = Named {
-            name: "",
-            text: self.text,
-            line: 1,
-        };
-        let source = match self.source.take() {
-            Some(source) => source,
-            None => Source::new(alloc, named, self.file)?,
-        };
-        Ok(self.source.insert(source))
-    }
-
     /// The text with its mends.
     pub(crate) fn mended(&self, alloc: Global) -> Result<Vec<u8>, AllocError> {
-        let source = self.text;
+        let source = self.source.named.text;
         let mut text = Vec::with_capacity(alloc, source.len())?;
         let mut from = 0;
         for mend in &self.mends {
@@ -68,29 +44,21 @@ impl<'a> Draft<'a> {
         Ok(text)
     }
 
-    /// Where in the source it is what is at an offset of the mended text.
-    pub(crate) fn origin(&self, offset: usize) -> Origin {
+    /// Where in the source it is what is at an offset of the mended text, and whether a mend put it there: then that begins there.
+    pub(crate) fn origin(&self, offset: usize) -> (usize, bool) {
         let mut left = offset;
         let mut from = 0;
         for mend in &self.mends {
-            let kept = mend.from.saturating_sub(from);
-            if left < kept {
+            let Some(behind) = left.checked_sub(mend.from.saturating_sub(from)) else {
                 break;
-            }
-            let behind = left.saturating_sub(kept);
-            if behind < mend.put.len() {
-                return Origin {
-                    offset: mend.from,
-                    is_mended: true,
-                };
-            }
-            left = behind.saturating_sub(mend.put.len());
+            };
+            let Some(behind_put) = behind.checked_sub(mend.put.len()) else {
+                return (mend.from, true);
+            };
+            left = behind_put;
             from = mend.to;
         }
-        Origin {
-            offset: from.saturating_add(left),
-            is_mended: false,
-        }
+        (from.saturating_add(left), false)
     }
 
     /// Adds a mend, in the place of those inside of it. Of two texts that come before the same token the later one stands first.
@@ -100,9 +68,82 @@ impl<'a> Draft<'a> {
         self.mends.insert(place, mend)?;
         Ok(())
     }
-    /// Adds mends of which none is inside of another one.
-    pub(crate) fn add_all(&mut self, mends: &[Mend]) -> Result<(), AllocError> {
-        self.mends.extend_from_slice(mends)?;
-        self.mends.sort_by_key(|mend| mend.from)
+
+    /// Puts the words that stand in what mends took out.
+    pub(crate) fn put_taken(&self, words: &mut BTreeSet<&'a str>) -> Result<(), AllocError> {
+        for mend in &self.mends {
+            let first = self.source.place_at(mend.from);
+            let tokens = self.source.tokens.get(first..self.source.place_at(mend.to));
+            words.extend(tokens.unwrap_or(&[]).iter().map(|token| token.text))?;
+        }
+        Ok(())
     }
+
+    /// Opens a struct literal: `...` at its end, and brackets around one that is written without them, as `b: T` in `a: b: T`.
+    fn open_literal(&mut self, place: usize) -> Result<(), AllocError> {
+        let source = &self.source;
+        if is_mark(source.token(place), "{") {
+            let held = source.held(source.own(place));
+            let last = source.token(held.to.saturating_sub(1));
+            let is_separated = held.from >= held.to || separates(last);
+            let dots = if is_separated { " ..." } else { ", ..." };
+            let mend = Mend::over(source, held.to, held.to, dots);
+            return self.add(mend);
+        }
+        let from = source.declaration_at(place).end();
+        let opening = Mend::over(source, place, place, "{");
+        let (to, put) = (from, ", ...}");
+        self.add(Mend { from, to, put })?;
+        self.add(opening)
+    }
+
+    /// The references to a name in the bodies of a definition become `_`; whether there are some.
+    fn cut_references(&mut self, definition: &str, name: &str) -> Result<bool, AllocError> {
+        let source = &self.source;
+        let count = self.mends.len();
+        // Where the body ends that the token is in.
+        let mut end = 0;
+        for (place, token) in source.tokens.iter().enumerate() {
+            let next = place.saturating_add(1);
+            let is_label = source.around(place) == 0 && source.ends_label(next);
+            if is_label && token.text == definition {
+                end = source.declaration_at(place).to;
+            } else if place < end && token.text == name {
+                self.mends.push(Mend::over(source, place, next, "_"))?;
+            }
+        }
+        self.mends.sort_by_key(|mend| mend.from)?;
+        Ok(self.mends.len() > count)
+    }
+}
+
+/// Cuts a cycle between its first name and the next one, and says whether that was done.
+fn cut_cycle(drafts: &mut [Draft<'_>], names: &[String]) -> Result<bool, AllocError> {
+    let Some(first) = names.first() else {
+        return Ok(false);
+    };
+    let next = names.get(1).unwrap_or(first);
+    let mut is_cut = false;
+    for draft in drafts.iter_mut() {
+        is_cut = draft.cut_references(first.as_str(), next.as_str())? || is_cut;
+    }
+    Ok(is_cut)
+}
+
+/// Mends a fault of a package by its place in its source, and says whether that was done.
+pub(crate) fn mend_fault(drafts: &mut [Draft<'_>], fault: &Fault) -> Result<bool, AllocError> {
+    if let Fault::Cycle { names } = fault {
+        return cut_cycle(drafts, names);
+    }
+    let Some(draft) = drafts.get_mut(fault.file().unwrap_or(usize::MAX)) else {
+        return Ok(false);
+    };
+    let place = draft.source.place_at(fault.offset().unwrap_or(0));
+    if let Fault::NotOpened { .. } = fault {
+        draft.open_literal(place)?;
+    } else {
+        let mend = mended_name(&draft.source, place);
+        draft.add(mend)?;
+    }
+    Ok(true)
 }

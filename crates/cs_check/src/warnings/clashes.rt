@@ -1,102 +1,38 @@
 // Why no document meets operands without references and alternatives, by what each asks of the document itself.
-use crate::warnings::operands::Operand;
-use crate::warnings::reason::ReasonKind;
-use cs_package::{Kind, Relation, Shape, ShapeEnd};
+use crate::warnings::operands::{Operand, lengths_of};
+use crate::warnings::reason::Reason;
+use cs_package::{Inside, Kind, Literal, Relation, Shape, Simple};
+use cs_profile::JsonKind;
 
-/// The kinds of documents.
-#[derive(Clone, Copy)]
-enum DocumentKind {
-    Null,
-    Boolean,
-    Integer,
-    Text,
-    List,
-    Object,
-}
-
-/// The one kind that an expression admits; none where it admits several.
-fn kind_of(shape: &Shape) -> Option<DocumentKind> {
-    match shape {
-        Shape::Null => Some(DocumentKind::Null),
-        Shape::Bool(_) | Shape::Kind(Kind::Bool) => Some(DocumentKind::Boolean),
-        Shape::Int(_)
-        | Shape::NotInt(_)
-        | Shape::Range { .. }
-        | Shape::Bound { .. }
-        | Shape::Kind(Kind::Int | Kind::Number) => Some(DocumentKind::Integer),
-        Shape::Text(_) | Shape::NotText(_) | Shape::Kind(Kind::Text) => Some(DocumentKind::Text),
-        Shape::List { .. } => Some(DocumentKind::List),
-        Shape::Struct { .. } => Some(DocumentKind::Object),
-        _ => None,
+/// The one kind of documents that an expression admits, where its form says so; none where it says nothing or admits several.
+fn kind_of(shape: &Shape) -> Option<JsonKind> {
+    match shape.inside() {
+        Inside::Simple(simple) => kind_of_simple(simple),
+        Inside::List { .. } => Some(JsonKind::Array),
+        Inside::Struct { .. } => Some(JsonKind::Object),
+        Inside::Definition(_) | Inside::And(_) | Inside::Or(_) => None,
     }
 }
 
-/// The kind of the first operand that admits one kind alone.
-fn first_kind(operands: &[Operand<'_>]) -> Option<DocumentKind> {
-    for operand in operands {
-        if let Some(kind) = kind_of(operand.shape) {
-            return Some(kind);
+fn kind_of_simple(simple: Simple<'_>) -> Option<JsonKind> {
+    match simple {
+        Simple::Literal(literal) => Some(kind_of_literal(literal)),
+        Simple::Excluded(Literal::Null) | Simple::Top | Simple::Bottom => None,
+        Simple::Excluded(literal) => Some(kind_of_literal(literal)),
+        Simple::Kind(Kind::Bool) => Some(JsonKind::Boolean),
+        Simple::Kind(Kind::Text) => Some(JsonKind::String),
+        Simple::Kind(Kind::Int | Kind::Number) | Simple::Range { .. } | Simple::Bound { .. } => {
+            Some(JsonKind::Integer)
         }
     }
-    None
 }
 
-/// Whether an expression admits no document of a kind.
-fn is_against(shape: &Shape, kind: DocumentKind) -> bool {
-    match kind_of(shape) {
-        Some(other) => other as usize != kind as usize,
-        None => matches!((shape, kind), (Shape::NotNull, DocumentKind::Null)),
-    }
-}
-
-/// Why no document meets all of the operands, as far as it is seen without looking at its parts.
-pub(crate) fn clash(operands: &[Operand<'_>]) -> Option<ReasonKind> {
-    let kind = first_kind(operands)?;
-    if operands
-        .iter()
-        .any(|operand| is_against(operand.shape, kind))
-    {
-        return Some(ReasonKind::Kinds);
-    }
-    if let Some(literal) = first_literal(operands) {
-        let is_left_out = operands
-            .iter()
-            .any(|operand| leaves_out(operand.shape, literal));
-        return if is_left_out {
-            Some(ReasonKind::Literals)
-        } else {
-            None
-        };
-    }
-    match kind {
-        DocumentKind::Integer => clash_of_limits(operands),
-        DocumentKind::List => clash_of_lengths(operands),
-        _ => None,
-    }
-}
-
-/// The first operand that is a truth value, an integer or a text.
-fn first_literal<'a>(operands: &[Operand<'a>]) -> Option<&'a Shape> {
-    for operand in operands {
-        if let Shape::Bool(_) | Shape::Int(_) | Shape::Text(_) = operand.shape {
-            return Some(operand.shape);
-        }
-    }
-    None
-}
-
-/// Whether an expression doesn't admit a literal of its kind.
-fn leaves_out(shape: &Shape, literal: &Shape) -> bool {
-    match (literal, shape) {
-        (Shape::Bool(b), Shape::Bool(other)) => b != other,
-        (Shape::Text(text), Shape::Text(other)) => text.as_str() != other.as_str(),
-        (Shape::Text(text), Shape::NotText(other)) => text.as_str() == other.as_str(),
-        (Shape::Int(n), Shape::NotInt(other)) => n == other,
-        (Shape::Int(n), _) => {
-            let (least, greatest) = ends_of(shape);
-            *n < least || greatest < *n
-        }
-        _ => false,
+fn kind_of_literal(literal: Literal<'_>) -> JsonKind {
+    match literal {
+        Literal::Null => JsonKind::Null,
+        Literal::Bool(_) => JsonKind::Boolean,
+        Literal::Int(_) => JsonKind::Integer,
+        Literal::Text(_) => JsonKind::String,
     }
 }
 
@@ -105,66 +41,54 @@ fn ends_of(shape: &Shape) -> (i64, i64) {
     match shape {
         Shape::Int(n) => (*n, *n),
         Shape::Range { least, greatest } => (*least, greatest.unwrap_or(i64::MAX)),
-        Shape::Bound { relation, limit } => ends_of_bound(*relation, *limit),
+        Shape::Bound { relation, limit } => match relation {
+            Relation::AtLeast => (*limit, i64::MAX),
+            Relation::AtMost => (i64::MIN, *limit),
+            Relation::More if *limit < i64::MAX => (*limit + 1, i64::MAX),
+            Relation::Less if *limit > i64::MIN => (i64::MIN, *limit - 1),
+            Relation::More | Relation::Less => (i64::MAX, i64::MIN),
+        },
         _ => (i64::MIN, i64::MAX),
     }
 }
 
-fn ends_of_bound(relation: Relation, limit: i64) -> (i64, i64) {
-    match relation {
-        Relation::AtLeast => (limit, i64::MAX),
-        Relation::AtMost => (i64::MIN, limit),
-        Relation::More if limit < i64::MAX => (limit + 1, i64::MAX),
-        Relation::Less if limit > i64::MIN => (i64::MIN, limit - 1),
-        Relation::More | Relation::Less => (i64::MAX, i64::MIN),
-    }
+/// Whether an expression leaves out a value of its kind by another one that it names.
+fn leaves_out(shape: &Shape, value: Literal<'_>) -> bool {
+    shape.literal().is_some_and(|other| other != value) || shape.excluded() == Some(value)
 }
 
-fn clash_of_limits(operands: &[Operand<'_>]) -> Option<ReasonKind> {
-    let mut least = i64::MIN;
-    let mut greatest = i64::MAX;
-    for operand in operands {
+/// The integers that all operands admit, by their ends.
+fn limits_of(operands: &[Operand<'_>]) -> (i64, i64) {
+    let all = (i64::MIN, i64::MAX);
+    operands.iter().fold(all, |(least, greatest), operand| {
         let (from, to) = ends_of(operand.shape);
-        least = from.max(least);
-        greatest = to.min(greatest);
+        (from.max(least), to.min(greatest))
+    })
+}
+
+/// Why no document meets all of the operands, as far as it is seen without looking at its parts.
+pub(crate) fn clash<'a>(operands: &[Operand<'a>]) -> Option<Reason<'a>> {
+    let mut kinds = operands.iter().filter_map(|operand| kind_of(operand.shape));
+    let kind = kinds.next()?;
+    if kinds.any(|other| other != kind) {
+        return Some(Reason::Kinds);
+    }
+    let (least, greatest) = limits_of(operands);
+    let last = (least == greatest).then_some(Literal::Int(least));
+    let named = operands.iter().find_map(|operand| operand.shape.literal());
+    if let Some(value) = named.or(last) {
+        let is_left_out = |operand: &Operand<'_>| leaves_out(operand.shape, value);
+        let is_null = value == Literal::Null;
+        let reason = if is_null {
+            Reason::Kinds
+        } else {
+            Reason::Literals
+        };
+        return (least > greatest || operands.iter().any(is_left_out)).then_some(reason);
     }
     if least > greatest {
-        return Some(ReasonKind::Interval);
+        return Some(Reason::Interval);
     }
-    let one = Shape::Int(least);
-    let is_left_out = operands
-        .iter()
-        .any(|operand| leaves_out(operand.shape, &one));
-    if least == greatest && is_left_out {
-        Some(ReasonKind::Literals)
-    } else {
-        None
-    }
-}
-
-/// How many elements lists have at least and at most, by a list literal.
-fn lengths_of(shape: &Shape) -> (usize, usize) {
-    match shape {
-        Shape::List {
-            front,
-            end: ShapeEnd::Closed,
-        } => (front.len(), front.len()),
-        Shape::List { front, .. } => (front.len(), usize::MAX),
-        _ => (0, usize::MAX),
-    }
-}
-
-fn clash_of_lengths(operands: &[Operand<'_>]) -> Option<ReasonKind> {
-    let mut least = 0;
-    let mut most = usize::MAX;
-    for operand in operands {
-        let (from, to) = lengths_of(operand.shape);
-        least = from.max(least);
-        most = to.min(most);
-    }
-    if least > most {
-        Some(ReasonKind::Lengths)
-    } else {
-        None
-    }
+    let (shortest, longest) = lengths_of(operands);
+    (shortest > longest).then_some(Reason::Lengths)
 }

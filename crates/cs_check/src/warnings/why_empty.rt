@@ -1,10 +1,7 @@
 // Why definitions that have no instance have none: in words, of which nothing is proved.
 use crate::warnings::clashes::clash;
-use crate::warnings::keys::{Fields, fields_of};
-use crate::warnings::operands::{
-    Operand, alternatives_of, cost_of, elements_at, joined, longest_front, put_shapes,
-};
-use crate::warnings::reason::{Reason, ReasonKind};
+use crate::warnings::operands::{Operand, fields_of, joined, lengths_of, put_shapes};
+use crate::warnings::reason::{Reason, name_of};
 use cs_package::{Package, Shape};
 use std::alloc::{AllocError, Global};
 use std::collections::BTreeSet;
@@ -78,26 +75,21 @@ impl<'a, 'e> Search<'a, 'e> {
         definition: usize,
     ) -> Result<(), AllocError> {
         let package = self.package;
+        let name = name_of(package, definition);
         if definition < package.count() {
-            put_shapes(operands, package.bodies(definition), definition)?;
+            put_shapes(operands, package.bodies(definition), name)?;
         }
         Ok(())
     }
 
     /// Why a reference to a definition has no instance, where that has none.
     fn why_reference(&self, definition: usize) -> Option<Reason<'a>> {
-        let is_empty = self.empty.get(definition)?;
-        if !*is_empty {
-            return None;
+        let name = name_of(self.package, definition);
+        match self.empty.get(definition) {
+            Some(true) if definition == self.root => Some(Reason::Itself),
+            Some(true) => Some(Reason::Through { name }),
+            Some(false) | None => None,
         }
-        if definition == self.root {
-            return Some(Reason::plain(ReasonKind::Itself));
-        }
-        Some(Reason {
-            kind: ReasonKind::Through,
-            key: "",
-            number: definition,
-        })
     }
 
     /// The operands in the place of references and conjunctions.
@@ -115,36 +107,24 @@ impl<'a, 'e> Search<'a, 'e> {
                 opened.is_whole = true;
                 return Ok(opened);
             };
-            self.left = self.left.saturating_sub(cost_of(operand.shape));
-            self.open_one(operand, &mut waiting, &mut opened, &mut seen)?;
+            self.left = self.left.saturating_sub(operand.cost());
+            match operand.shape {
+                Shape::Bottom => opened.never = Some(Reason::Bottom),
+                Shape::Definition(number) => {
+                    opened.never = self.why_reference(*number);
+                    if opened.never.is_none() && seen.insert(*number)? {
+                        self.put_bodies(&mut waiting, *number)?;
+                    }
+                }
+                Shape::And(shapes) => put_shapes(&mut waiting, shapes, operand.definition)?,
+                Shape::Or(_) => opened.choices.push(operand)?,
+                _ => opened.simple.push(operand)?,
+            }
             if self.left == 0 || opened.never.is_some() {
                 return Ok(opened);
             }
         }
         Ok(opened)
-    }
-
-    /// Opens an operand: what it stands for waits, or it is one of those that are sought.
-    fn open_one(
-        &self,
-        operand: Operand<'a>,
-        waiting: &mut Vec<Operand<'a>>,
-        opened: &mut Opened<'a>,
-        seen: &mut BTreeSet<usize>,
-    ) -> Result<(), AllocError> {
-        match operand.shape {
-            Shape::Bottom => opened.never = Some(Reason::plain(ReasonKind::Bottom)),
-            Shape::Definition(number) => {
-                opened.never = self.why_reference(*number);
-                if opened.never.is_none() && seen.insert(*number)? {
-                    self.put_bodies(waiting, *number)?;
-                }
-            }
-            Shape::And(shapes) => put_shapes(waiting, shapes, operand.definition)?,
-            Shape::Or(_) => opened.choices.push(operand)?,
-            _ => opened.simple.push(operand)?,
-        }
-        Ok(())
     }
 
     /// Why no document meets all of these operands.
@@ -154,11 +134,9 @@ impl<'a, 'e> Search<'a, 'e> {
             return Ok(None);
         }
         let opened = self.open(operands)?;
-        if let Some(kind) = clash(&opened.simple) {
-            return Ok(Some(Reason::plain(kind)));
-        }
-        if opened.never.is_some() || !opened.is_whole {
-            return Ok(opened.never);
+        let known = clash(&opened.simple).or(opened.never);
+        if known.is_some() || !opened.is_whole {
+            return Ok(known);
         }
         let found = self.why_inside(&opened.simple, depth - 1)?;
         if found.is_some() {
@@ -167,29 +145,22 @@ impl<'a, 'e> Search<'a, 'e> {
         self.why_choice(opened, depth - 1)
     }
 
-    /// Why no document has the parts that are asked for, where all operands admit documents of one kind.
+    /// Why nothing may stand at a place of a list, or under a required key, where all operands admit documents of one kind.
     #[cycle(why)]
     fn why_inside(&mut self, operands: &[Operand<'a>], depth: usize) -> Found<'a> {
-        let length = longest_front(operands);
+        let (length, _) = lengths_of(operands);
         if length > 0 {
             return self.why_elements(operands, length, depth);
         }
         let fields = fields_of(self.alloc, operands)?;
-        let found = fields.missing_key();
-        if found.is_some() {
-            return Ok(found);
+        if let Some(reason) = fields.missing_key() {
+            return Ok(Some(reason));
         }
-        self.why_fields(&fields, depth)
-    }
-
-    /// Why nothing may stand under one of the required keys.
-    #[cycle(why)]
-    fn why_fields(&mut self, fields: &Fields<'a>, depth: usize) -> Found<'a> {
-        for field in &fields.labelled {
+        for (key, field) in &fields.labelled {
             if field.is_required && self.left > 0 {
                 let asked = joined(self.alloc, &field.operands, &fields.every)?;
                 if let Some(reason) = self.why(&asked, depth)? {
-                    return Ok(Some(reason.around(ReasonKind::Field, field.label, 0)));
+                    return Ok(Some(reason.around(Reason::Field { key: *key })));
                 }
             }
         }
@@ -201,41 +172,38 @@ impl<'a, 'e> Search<'a, 'e> {
     fn why_elements(&mut self, lists: &[Operand<'a>], length: usize, depth: usize) -> Found<'a> {
         for place in 0..length {
             if self.left > 0 {
-                let asked = elements_at(self.alloc, lists, place)?;
+                let asked = lists.iter().filter_map(|list| list.element_at(place));
+                let asked: Vec<Operand<'a>> = asked.collect(self.alloc)?;
                 if let Some(reason) = self.why(&asked, depth)? {
-                    return Ok(Some(reason.around(ReasonKind::Element, "", place)));
+                    return Ok(Some(reason.around(Reason::Element { place })));
                 }
             }
         }
         Ok(None)
     }
 
-    /// Why no alternative of the last choice meets all other operands.
+    /// Why no alternative of the last choice meets all other operands: what the reasons of all have in common.
     #[cycle(why)]
     fn why_choice(&mut self, mut opened: Opened<'a>, depth: usize) -> Found<'a> {
         let Some(choice) = opened.choices.pop() else {
             return Ok(None);
         };
-        let others = joined(self.alloc, &opened.simple, &opened.choices)?;
-        let found = self.why_each(choice, &others, depth)?;
-        Ok(match found {
-            Some(reason) if others.is_empty() => Some(reason.of_alternatives()),
-            Some(_) | None => found,
-        })
-    }
-
-    /// Why no alternative meets all other operands; of several reasons what they have in common.
-    #[cycle(why)]
-    fn why_each(&mut self, choice: Operand<'a>, others: &[Operand<'a>], depth: usize) -> Found<'a> {
         let definition = choice.definition;
+        let Shape::Or(alternatives) = choice.shape else {
+            return Ok(None);
+        };
+        let others = joined(self.alloc, &opened.simple, &opened.choices)?;
         let mut common = None;
-        for shape in alternatives_of(choice.shape) {
-            let asked = joined(self.alloc, others, &[Operand { shape, definition }])?;
+        for shape in alternatives {
+            let asked = joined(self.alloc, &others, &[Operand { shape, definition }])?;
             let Some(reason) = self.why(&asked, depth)? else {
                 return Ok(None);
             };
             common = Some(reason.in_common(common));
         }
-        Ok(common)
+        Ok(match common {
+            Some(reason) if others.is_empty() => Some(reason.around(Reason::Alternatives)),
+            Some(_) | None => common,
+        })
     }
 }

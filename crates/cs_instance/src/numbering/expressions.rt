@@ -8,7 +8,7 @@ ghost use Rattle.cs_instance.specs.Placing.{Places, PlacesAll, named, named_all}
 use crate::fields::Fields;
 use crate::numbering::waiting::{wait_all, wait_end, wait_fields};
 use crate::rules::Rule;
-use cs_package::{Part, Shape, ShapeEnd};
+use cs_package::{Inside, Part, Shape, ShapeEnd};
 use cs_rules::Numberer;
 use std::alloc::{AllocError, Global};
 
@@ -22,30 +22,19 @@ pub(crate) fn place<'a>(
 ) -> Result<usize, AllocError>
     ensures { IfOk result (Places numbers.now numberer.old numberer.new (named shape.now)) }
 {
-    match shape {
-        Shape::Definition(i) => put_reference(alloc, *i, numbers, numberer),
-        Shape::And(operands) => {
+    match shape.inside() {
+        Inside::Simple(_) => numberer.put(Rule::Simple(shape)),
+        Inside::Definition(i) => put_reference(alloc, i, numbers, numberer),
+        Inside::And(operands) => {
             let parts = place_all(alloc, operands, numbers, numberer)?;
             numberer.put(Rule::All(parts))
         }
-        Shape::Or(operands) => {
+        Inside::Or(operands) => {
             let parts = place_all(alloc, operands, numbers, numberer)?;
             numberer.put(Rule::Any(parts))
         }
-        Shape::Struct { parts, opened } => put_struct(alloc, parts, *opened, numberer),
-        Shape::List { front, end } => put_list(alloc, front, end, numberer),
-        Shape::Top
-        | Shape::Bottom
-        | Shape::Null
-        | Shape::NotNull
-        | Shape::Bool(_)
-        | Shape::Int(_)
-        | Shape::NotInt(_)
-        | Shape::Text(_)
-        | Shape::NotText(_)
-        | Shape::Kind(_)
-        | Shape::Range { .. }
-        | Shape::Bound { .. } => numberer.put(Rule::Simple(shape)),
+        Inside::Struct { parts, opened } => put_struct(alloc, parts, opened, numberer),
+        Inside::List { front, end } => put_list(alloc, front, end, numberer),
     }
 }
 

@@ -36,25 +36,6 @@ pub(super) fn literals_of<'a>(
     Ok(if is_led { Some(found) } else { None })
 }
 
-fn is_literal(shape: &Shape) -> bool {
-    match shape {
-        Shape::Null | Shape::Bool(_) | Shape::Int(_) | Shape::Text(_) => true,
-        Shape::Top
-        | Shape::Bottom
-        | Shape::Kind(_)
-        | Shape::Range { .. }
-        | Shape::Definition(_)
-        | Shape::Bound { .. }
-        | Shape::NotInt(_)
-        | Shape::NotText(_)
-        | Shape::NotNull
-        | Shape::And(_)
-        | Shape::Or(_)
-        | Shape::Struct { .. }
-        | Shape::List { .. } => false,
-    }
-}
-
 fn is_asked_for(mark: FieldMark) -> bool {
     match mark {
         FieldMark::Regular | FieldMark::Required => true,
@@ -84,7 +65,7 @@ impl<'a> Search<'a> {
         match numbering.rules.get(rule) {
             None | Some(Rule::List { .. }) => Ok(false),
             Some(Rule::Simple(shape)) => {
-                if key.is_some() || !is_literal(shape) {
+                if key.is_some() || shape.literal().is_none() {
                     return Ok(false);
                 }
                 self.found.push(*shape)?;

@@ -1,176 +1,208 @@
-// A walk over a JSON text that looks into those maps and lists alone in which values are looked for.
-ghost use Rattle.std.specs.Prelude.{◌≡◌, ◌<◌, ◌≤◌, Ok, true, length};
-
-use super::Place;
-use super::keys::unescaped;
-use super::skip::{beginning, behind_colon, behind_comma, behind_string, behind_value};
-use super::tree::{Child, DOCUMENT, Found, Tree, child_at, child_under};
-use memchr::memchr;
+// A walk over the values of a JSON text, by its tokens.
+use super::{Place, Step, ValuePath, number_place};
+use itoa::Buffer;
+use json::{Reader, Scratch, Token};
 use std::alloc::{AllocError, Global};
+use std::collections::BTreeMap;
+use std::str;
 
-/// By number, where each value was found last in a text.
-pub(super) fn found_in(
+/// A byte order mark, which readers of JSON may ignore (RFC 8259, section 8.1).
+const MARK: &[u8] = b"\xEF\xBB\xBF";
+
+/// The number of the document.
+const DOCUMENT: usize = 0;
+
+/// Where a value was found, and the first byte of the map or list that it was found in.
+#[derive(Clone, Copy)]
+pub(super) struct Found {
+    pub(super) place: Place,
+    pub(super) inside: usize,
+}
+
+/// A map or a list that a walk is in.
+#[derive(Clone, Copy)]
+struct Level<'a> {
+    /// Its number; none where nothing is looked for in it.
+    number: Option<usize>,
+    /// Its first byte.
+    start: usize,
+    /// The step to the value that the walk is in or comes to next; in a map none before a key is read.
+    step: Option<Step<'a>>,
+    /// The first byte of the key that was read last.
+    key: Option<usize>,
+}
+
+/// What a walk looks for, and how far it has come.
+#[derive(Drop)]
+struct Walk<'a> {
+    /// From the number of a value and a step into it to the number of the value there.
+    steps: BTreeMap<(usize, Step<'a>), usize>,
+    /// By number, where each value was found last.
+    found: Vec<Option<Found>>,
+    /// The maps and lists that it is in, from the outermost one on.
+    open: Vec<Level<'a>>,
+}
+
+/// By number, where each value was found last in a text. The numbers of the document and of these paths are added.
+pub(super) fn found_in<'a>(
     alloc: Global,
-    text: &[u8],
-    tree: &Tree<'_>,
+    text: &'a [u8],
+    paths: &[ValuePath<'a>],
+    numbers: &mut Vec<usize>,
 ) -> Result<Vec<Option<Found>>, AllocError> {
-    let mut walk = Walk::new(alloc, text, tree)?;
-    while walk.step()? {}
+    let mut scratch = Scratch::new(alloc);
+    let mut walk = Walk::new(alloc);
+    walk.look_for(paths, numbers)?;
+    walk.go(text, &mut scratch, usize::MAX)?;
     Ok(walk.found)
 }
 
-/// A map or a list that the walk is in.
-#[derive(Clone, Copy)]
-struct Frame<'a> {
-    /// What is looked for in it.
-    wanted: &'a [Child<'a>],
-    /// Its first byte.
-    value: usize,
-    /// The place of its next element; none for a map.
-    next: Option<usize>,
-}
-
-/// How far a walk has come.
-#[derive(Drop)]
-struct Walk<'t, 'a> {
-    alloc: Global,
-    text: &'t [u8],
-    tree: &'a Tree<'a>,
-    at: usize,
-    open: Vec<Frame<'a>>,
-    /// By number, where each value was found last.
-    found: Vec<Option<Found>>,
-    ghost within: { at ≤ length text.now },
-}
-
-impl<'t, 'a> Walk<'t, 'a> {
-    /// A walk that has come to the inside of the document.
-    fn new(alloc: Global, text: &'t [u8], tree: &'a Tree<'a>) -> Result<Self, AllocError> {
-        let at = beginning(text);
-        let found = vec![in alloc; None; tree.len()]?;
-        let open = Vec::new(alloc);
-        let mut walk = Walk {
-            alloc,
-            text,
-            tree,
-            at,
-            open,
-            found,
-        };
-        let _ = walk.enter(0, Some(DOCUMENT), None)?;
-        Ok(walk)
-    }
-
-    /// Goes behind the next member or element, or into it, or behind the bracket that closes what it is in; false where
-    /// there is nothing more.
-    fn step(&mut self) -> Result<bool, AllocError>
-        ensures text { self.new.text ≡ self.old.text }
-        ensures on { result ≡ Ok true → self.old.at < self.new.at }
-    {
-        let Some(frame) = self.open.pop() else {
-            return Ok(false);
-        };
-        self.at = behind_comma(self.text, self.at);
-        let Some(first) = self.text.get(self.at).copied() else {
-            return Ok(false);
-        };
-        if matches!(first, b'}' | b']') {
-            self.at += 1;
-            return Ok(true);
+/// The pointer of the value that begins at an offset of a JSON text (RFC 6901). Only memory can run out.
+pub fn pointer_at(alloc: Global, text: &[u8], offset: usize) -> Result<String, AllocError> {
+    let mut scratch = Scratch::new(alloc);
+    let mut walk = Walk::new(alloc);
+    walk.go(text, &mut scratch, offset)?;
+    let mut pointer = String::new(alloc);
+    for level in &walk.open {
+        pointer.push('/')?;
+        match level.step {
+            Some(Step::Key(key)) => put_key(alloc, &mut pointer, key)?,
+            Some(Step::Element(place)) => pointer.push_str(Buffer::new().format(place))?,
+            None => {}
         }
-        match frame.next {
-            Some(place) => self.element(frame, place),
-            None if first == b'"' => self.member(frame),
-            None => Ok(false),
+    }
+    Ok(pointer)
+}
+
+/// Puts a key with the escapes of pointers (RFC 6901, section 3).
+fn put_key(alloc: Global, pointer: &mut String, key: &str) -> Result<(), AllocError> {
+    let key = key.replace(alloc, "~", "~0")?;
+    let key = key.replace(alloc, "/", "~1")?;
+    pointer.push_str(key.as_str())
+}
+
+impl<'a> Walk<'a> {
+    fn new(alloc: Global) -> Walk<'a> {
+        Walk {
+            steps: BTreeMap::new(alloc),
+            found: Vec::new(alloc),
+            open: Vec::new(alloc),
         }
     }
 
-    fn member(&mut self, frame: Frame<'a>) -> Result<bool, AllocError>
-        requires { self.old.at < length self.old.text.now }
-        ensures text { self.new.text ≡ self.old.text }
-        ensures on { result ≡ Ok true → self.old.at < self.new.at }
-    {
-        self.open.push(frame)?;
-        let key = self.at;
-        let Some(end) = behind_string(self.text, key + 1) else {
-            return Ok(false);
-        };
-        self.at = behind_colon(self.text, end);
-        let child = self.child_under(frame.wanted, &self.text[key + 1..end - 1])?;
-        self.enter(frame.value, child, Some(key))
-    }
-
-    fn element(&mut self, frame: Frame<'a>, place: usize) -> Result<bool, AllocError>
-        ensures text { self.new.text ≡ self.old.text }
-        ensures on { result ≡ Ok true → self.old.at < self.new.at }
-    {
-        self.open.push(Frame {
-            next: place.checked_add(1),
-            ..frame
-        })?;
-        self.enter(frame.value, child_at(frame.wanted, place), None)
-    }
-
-    /// Goes into the value that comes next if something is looked for in it, else behind it. If it is looked for itself, it
-    /// is found.
-    fn enter(
+    /// Looks for values, and adds their numbers behind that of the document: two paths that are the same have the same one.
+    fn look_for(
         &mut self,
-        inside: usize,
-        child: Option<usize>,
-        key: Option<usize>,
-    ) -> Result<bool, AllocError>
-        ensures text { self.new.text ≡ self.old.text }
-        ensures on { result ≡ Ok true → self.old.at < self.new.at }
-    {
-        let value = self.at;
-        let Some(first) = self.text.get(value).copied() else {
-            return Ok(false);
-        };
-        let wanted = match child {
-            None => &[],
-            Some(number) => {
-                self.note(
-                    number,
-                    Found {
-                        place: Place { key, value },
-                        inside,
-                    },
-                );
-                self.tree.children(number)
+        paths: &[ValuePath<'a>],
+        numbers: &mut Vec<usize>,
+    ) -> Result<(), AllocError> {
+        numbers.push(DOCUMENT)?;
+        self.found.push(None)?;
+        for path in paths {
+            let mut number = numbers.len();
+            if let Some(from) = numbers.get(number_place(path.parent)).copied() {
+                match self.steps.get(&(from, path.step)).copied() {
+                    Some(known) => number = known,
+                    None => drop(self.steps.insert((from, path.step), number)?),
+                }
             }
-        };
-        let next = if first == b'[' { Some(0) } else { None };
-        if !wanted.is_empty() && matches!(first, b'{' | b'[') {
-            self.open.push(Frame {
-                wanted,
-                value,
-                next,
-            })?;
-            self.at = value + 1;
-            return Ok(true);
+            numbers.push(number)?;
+            self.found.push(None)?;
         }
-        match behind_value(self.text, value) {
-            None => Ok(false),
-            Some(end) => {
-                self.at = end;
-                Ok(true)
+        Ok(())
+    }
+
+    /// Goes to the token that begins at an offset of a text, or to the end of its first value.
+    fn go(
+        &mut self,
+        text: &'a [u8],
+        scratch: &'a mut Scratch,
+        end: usize,
+    ) -> Result<(), AllocError> {
+        let json = text.strip_prefix(MARK).unwrap_or(text);
+        let front = text.len().saturating_sub(json.len());
+        let Ok(json) = str::from_utf8(json) else {
+            return Ok(());
+        };
+        let mut reader = Reader::new(json, scratch)?;
+        let mut at = reader.offset().saturating_add(front); // the reader has passed what is between a token and the next one
+        while let Some(token) = reader.next() {
+            if at >= end {
+                break;
             }
+            self.pass(token, at)?;
+            if self.open.is_empty() {
+                break;
+            }
+            at = reader.offset().saturating_add(front);
+        }
+        Ok(())
+    }
+
+    /// Goes behind a token that begins at an offset.
+    fn pass(&mut self, token: Token<'a>, offset: usize) -> Result<(), AllocError> {
+        match token {
+            Token::BeginObject => self.enter(offset, None),
+            Token::BeginArray => self.enter(offset, Some(Step::Element(0))),
+            Token::EndObject | Token::EndArray => {
+                let _ = self.open.pop();
+                self.leave();
+                Ok(())
+            }
+            Token::Key(key) => {
+                if let Some(level) = self.open.last_mut() {
+                    level.step = Some(Step::Key(key));
+                    level.key = Some(offset);
+                }
+                Ok(())
+            }
+            Token::String(_) | Token::Number(_) | Token::Bool(_) | Token::Null => {
+                let _ = self.note(offset);
+                self.leave();
+                Ok(())
+            }
+            Token::Bad => Ok(()),
         }
     }
 
-    fn note(&mut self, number: usize, found: Found)
-        ensures text { self.new.text ≡ self.old.text }
-        ensures at { self.new.at ≡ self.old.at }
-    {
+    /// Goes into the map or list that begins at an offset.
+    fn enter(&mut self, start: usize, step: Option<Step<'a>>) -> Result<(), AllocError> {
+        let number = self.note(start);
+        self.open.push(Level {
+            number,
+            start,
+            step,
+            key: None,
+        })?;
+        Ok(())
+    }
+
+    /// Goes on from the end of a value: in a list to the next element.
+    fn leave(&mut self) {
+        if let Some(level) = self.open.last_mut() {
+            level.step = match level.step {
+                Some(Step::Element(place)) => Some(Step::Element(place.saturating_add(1))),
+                Some(Step::Key(_)) | None => None,
+            };
+        }
+    }
+
+    /// Notes where a value begins that is looked for, and gives its number.
+    fn note(&mut self, value: usize) -> Option<usize> {
+        let (number, inside, key) = match self.open.last().copied() {
+            None => (DOCUMENT, value, None),
+            Some(level) => (
+                *self.steps.get(&(level.number?, level.step?))?,
+                level.start,
+                level.key,
+            ),
+        };
         if let Some(last) = self.found.get_mut(number) {
-            *last = Some(found);
+            *last = Some(Found {
+                place: Place { key, value },
+                inside,
+            });
         }
-    }
-
-    fn child_under(&self, wanted: &[Child<'a>], key: &[u8]) -> Result<Option<usize>, AllocError> {
-        if memchr(b'\\', key).is_none() {
-            return Ok(child_under(wanted, key));
-        }
-        Ok(unescaped(self.alloc, key)?.and_then(|key| child_under(wanted, key.as_slice())))
+        Some(number)
     }
 }

@@ -6,7 +6,7 @@ use Rattle.cs_document.specs.Equality.{document_eq-laws}
 use Rattle.cs_document.specs.View.{doc_view}
 use Rattle.cs_compile.specs.Literals.{literal_view}
 use Rattle.cs_compile.specs.Translation.{firsts}
-use Rattle.cs_compile.specs.declared.literals.Literal.TheVariants as variant
+use Rattle.cs_package.specs.declared.inside.Literal.TheVariants as variant
 use Rattle.cs_compile.proofs.Firsts.{firsts-last}
 use Rattle.cs_compile.proofs.SeenLiterals.{AreSeen, seen-more}
 use Rattle.cs_compile.proofs.literals.firsts.Goals as goal

@@ -5,7 +5,7 @@ use Rattle.cs_document.proofs.Maps.{take_at}
 use Rattle.cs_package.specs.View.{expression_of}
 use Rattle.cs_compile.specs.Literals.{literal_view}
 use Rattle.cs_compile.specs.Translation.{literals}
-use Rattle.cs_compile.proofs.Enumerations.{literals-last, no_literals}
+use Rattle.cs_compile.proofs.Enumerations.{literal_seen, literals-last, no_literals}
 use Rattle.cs_compile.proofs.literals.literals.Goals as goal
 
 pub returns-in_default : goal.returns-in_default
@@ -15,7 +15,7 @@ returns-in_default c = λ ns.
     let x = c.operand-item.result in
     let view = expression_of ns in
     sym (ap (λ ys. literals (map view ys)) (split_at xs i x c.loop-operand-test.true ∙ ap (λ y. take i xs ++ y ∷ drop (suc i) xs) (sym c.operand-item.is)) ∙ ap literals (map-append view (take i xs) (x ∷ drop (suc i) xs))
-    ∙ no_literals (map view (take i xs)) (map view (drop (suc i) xs)) (view x) (sym (c.literal_of.ensures ns) ∙ ap (option_map literal_view) c.in_default.is))
+    ∙ no_literals (map view (take i xs)) (map view (drop (suc i) xs)) (view x) (sym (literal_seen c.literal.result (view x) (c.literal.ensures ns)) ∙ ap (option_map literal_view) c.in_default.is))
 
 pub loop-operand-preserved : goal.loop-operand-preserved
 loop-operand-preserved c = λ ns.
@@ -25,7 +25,7 @@ loop-operand-preserved c = λ ns.
     let view = expression_of ns in
     ap (λ ys. literals (map view ys)) (take_at xs l.operand-index x c.loop-operand-test.true c.operand-item.is)
     ∙ ap literals (map-append view (take l.operand-index xs) (x ∷ []))
-    ∙ literals-last (map view (take l.operand-index xs)) (view x) (map literal_view l.literals.items) (literal_view c.in-Some.literal) (l.invariant ns) (sym (c.literal_of.ensures ns) ∙ ap (option_map literal_view) c.in-Some.is)
+    ∙ literals-last (map view (take l.operand-index xs)) (view x) (map literal_view l.literals.items) (literal_view c.in-Some.literal) (l.invariant ns) (sym (literal_seen c.literal.result (view x) (c.literal.ensures ns)) ∙ ap (option_map literal_view) c.in-Some.is)
     ∙ ap Some (sym (ap (map literal_view) c.in_ok-push.ensures.items ∙ map-append literal_view l.literals.items (c.in-Some.literal ∷ [])))
 
 pub returns : goal.returns

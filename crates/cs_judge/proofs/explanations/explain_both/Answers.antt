@@ -13,9 +13,9 @@ use Rattle.cs_tool.specs.declared.fault.Fault.{Fault}
 use Rattle.cs_tool.specs.declared.fault.Fault.TheVariants.{OutOfMemory, NotJson, NotInteger, TooManyPairs}
 use Rattle.cs_tool.proofs.Judging.{Refuses, ManyOfBoth, memory_alone, by_text, by_root, by_schema, few_of_agree, verdict, validated}
 use Rattle.cs_tool.proofs.BothSides.{vet-and-validate-agree}
-use Rattle.cs_report.specs.Valid.{Says}
-use Rattle.cs_judge.proofs.ExplainedRuns.{first_report, one_side}
-use Rattle.cs_judge.proofs.explanations.explain_both.Goals.{After-tell, then-is_instance, else-is_instance}
+use Rattle.cs_judge.specs.Explained.{asked_form}
+use Rattle.cs_judge.proofs.ExplainedRuns.{one_side, reports_same}
+use Rattle.cs_judge.proofs.explanations.explain_both.Goals.{then-is_instance, else-is_instance}
 use Rattle.cs_judge.proofs.explanations.explain_both.Goals as goal
 
 module _ (sources : List (List ℕ)) (root text : List ℕ) where
@@ -39,26 +39,20 @@ returns-in_err-doc c =
     let p = err_from_is_err_and c.from_residual.result c.from_residual.ensures.1 in
     let told = λ (ss : List (List ℕ)) (r : List ℕ). by_text t (ManyOfBoth ss r t) c.in_err-doc.field-0.0 c.in_err-doc.ensures.refused in
     rw (p.1, p.2) (record {
-      found = λ ss r is. tt;
-      refused = λ ss r is. refused ss r t (_, _, is.declares) _ (told ss r);
-      only = λ ss r is ready. only ss r t ready _ (told ss r);
+      of = λ ss r is. record { found = tt; refused = refused ss r t (_, _, is.declares) _ (told ss r); only = λ ready. only ss r t ready _ (told ss r) };
       told = λ ss r is. tt;
-      kept = refl;
     })
 
 pub returns-in_err-is_instance : goal.returns-in_err-is_instance
 returns-in_err-is_instance c =
     let t = c.args.document.text.now in
-    let judged = c.in_err-is_instance.ensures in
+    let judged = c.in_err-is_instance.ensures.verdict in
     let p = err_from_is_err_and c.from_residual-in_err-is_instance.result c.from_residual-in_err-is_instance.ensures.1 in
     let told = λ (ss : List (List ℕ)) (r : List ℕ) (is : AreSidesOf ss r c.args.root_side.now.0 c.args.root_side.now.1 c.args.schema_side.now).
     by_root t (ManyOfBoth ss r t) ss r _ _ is.declares _ c.in_ok-doc.ensures.found (λ i k many. many) c.in_err-is_instance.field-0.0 judged.known judged.many in
     rw (p.1, p.2) (record {
-      found = λ ss r is. tt;
-      refused = λ ss r is. refused ss r t (_, _, is.declares) _ (told ss r is);
-      only = λ ss r is ready. only ss r t ready _ (told ss r is);
+      of = λ ss r is. record { found = tt; refused = refused ss r t (_, _, is.declares) _ (told ss r is); only = λ ready. only ss r t ready _ (told ss r is) };
       told = λ ss r is. tt;
-      kept = refl;
     })
 
 pub returns-in_err-is_valid : goal.returns-in_err-is_valid
@@ -66,13 +60,10 @@ returns-in_err-is_valid c =
     let t = c.args.document.text.now in
     let p = err_from_is_err_and c.from_residual-in_err-is_valid.result c.from_residual-in_err-is_valid.ensures.1 in
     let told = λ (ss : List (List ℕ)) (r : List ℕ) (is : AreSidesOf ss r c.args.root_side.now.0 c.args.root_side.now.1 c.args.schema_side.now).
-    by_schema t (ManyOfBoth ss r t) is.schema_text _ is.read _ c.in_ok-doc.ensures.found (by_export ss r t is) c.in_err-is_valid.field-0.0 c.in_err-is_valid.ensures.refused in
+    by_schema t (ManyOfBoth ss r t) is.schema_text _ is.read _ c.in_ok-doc.ensures.found (by_export ss r t is) c.in_err-is_valid.field-0.0 c.in_err-is_valid.ensures.verdict.refused in
     rw (p.1, p.2) (record {
-      found = λ ss r is. tt;
-      refused = λ ss r is. refused ss r t (_, _, is.declares) _ (told ss r is);
-      only = λ ss r is ready. only ss r t ready _ (told ss r is);
+      of = λ ss r is. record { found = tt; refused = refused ss r t (_, _, is.declares) _ (told ss r is); only = λ ready. only ss r t ready _ (told ss r is) };
       told = λ ss r is. tt;
-      kept = refl;
     })
 
 -- both sides answer, and so the same
@@ -81,37 +72,35 @@ agreement sources root schema_text text a b exported translated verdict validate
     let same = vet-and-validate-agree sources root schema_text text a b exported verdict validated in
     record { verdict = verdict; schema_text = schema_text; exported = exported; translated = translated; validated = subst (IsValidated schema_text text) (sym same) validated }
 
--- both sides say the same of the document that was read
-module _ (c : After-tell) (ss : List (List ℕ)) (r : List ℕ) (is : AreSidesOf ss r c.args.root_side.now.0 c.args.root_side.now.1 c.args.schema_side.now) where
-  vetted : IsVerdict ss r c.args.document.text.now c.in_ok-is_instance.is_instance
-  vetted =
-      let doc = c.in_ok-doc.ensures in
-      let told = c.in_ok-is_instance.ensures in
-      verdict ss r c.args.document.text.now _ _ (read_as c.in_ok-doc.doc) _ is.declares doc.found doc.document told.one_meaning told.answer told.within
-
-  valid : IsValidated is.schema_text c.args.document.text.now c.in_ok-is_valid.is_valid
-  valid =
-      let doc = c.in_ok-doc.ensures in
-      let told = c.in_ok-is_valid.ensures in
-      validated is.schema_text c.args.document.text.now _ (read_as c.in_ok-doc.doc) _ is.read doc.found doc.document told.one_meaning told.within told.answer
-
-  same : c.in_ok-is_instance.is_instance ≡ c.in_ok-is_valid.is_valid
-  same = vet-and-validate-agree ss r is.schema_text c.args.document.text.now _ _ is.exported vetted valid
-
-  truth_is : c.in_ok-is_instance.is_instance ≡ c.if-is_instance.truth
-  truth_is = elim c.if-is_instance.branch [ then-is_instance w ↦ same ∙ sym w.truth-is | else-is_instance w ↦ sym w.truth-is ]
-
-  agreed : IsAgreement ss r c.args.document.text.now c.if-is_instance.truth
-  agreed = subst (IsAgreement ss r c.args.document.text.now) truth_is (agreement ss r is.schema_text c.args.document.text.now _ _ is.exported is.translated vetted valid)
-
-  said : Says c.args.why.form c.if-is_instance.truth c.deref.result.now
-  said =
-      let form = c.args.why.form in
-      let report = one_side form _ _ _ _ _ same c.in_ok-is_instance.ensures.says c.in_ok-is_valid.ensures.says in
-      subst (λ b. Says form b c.deref.result.now) truth_is (first_report form _ _ _ _ c.new-report.ensures.items c.deref.ensures.value report)
-
-pub returns-clause-found : goal.returns-clause-found
-returns-clause-found c = λ ss r is. agreed (goal.at.returns-clause-found c).After-tell ss r is
+pub returns-clause-of : goal.returns-clause-of
+returns-clause-of c = λ ss r is.
+    let t = c.args.document.text.now in
+    let doc = c.in_ok-doc.ensures in
+    let root_side = c.in_ok-is_instance.ensures.verdict in
+    let schema_side = c.in_ok-is_valid.ensures.verdict in
+    let vetted = verdict ss r t _ _ (read_as c.in_ok-doc.doc) _ is.declares doc.found doc.document root_side.one_meaning root_side.answer root_side.within in
+    let valid = validated is.schema_text t _ (read_as c.in_ok-doc.doc) _ is.read doc.found doc.document schema_side.one_meaning schema_side.within schema_side.answer in
+    let same = vet-and-validate-agree ss r is.schema_text t _ _ is.exported vetted valid in
+    let both = agreement ss r is.schema_text t _ _ is.exported is.translated vetted valid in
+    elim c.if-is_instance.branch [
+      | then-is_instance w ↦ record { found = (subst (IsAgreement ss r t) (same ∙ sym w.result-is) both, refl); refused = tt; only = λ ready. tt }
+      | else-is_instance w ↦ record { found = (subst (IsAgreement ss r t) (sym w.result-is) both, refl); refused = tt; only = λ ready. tt }
+    ]
 
 pub returns-clause-told : goal.returns-clause-told
-returns-clause-told c = λ ss r is. c.in_ok-tell.ensures.told (said (goal.at.returns-clause-told c).After-tell ss r is)
+returns-clause-told c = λ ss r is.
+    let t = c.args.document.text.now in
+    let form = asked_form c.args.why in
+    let doc = c.in_ok-doc.ensures in
+    let root_side = c.in_ok-is_instance.ensures.verdict in
+    let schema_side = c.in_ok-is_valid.ensures.verdict in
+    let vetted = verdict ss r t _ _ (read_as c.in_ok-doc.doc) _ is.declares doc.found doc.document root_side.one_meaning root_side.answer root_side.within in
+    let valid = validated is.schema_text t _ (read_as c.in_ok-doc.doc) _ is.read doc.found doc.document schema_side.one_meaning schema_side.within schema_side.answer in
+    let same = vet-and-validate-agree ss r is.schema_text t _ _ is.exported vetted valid in
+    let root = rw c.asked_of_root-of_root.ensures at c.in_ok-is_instance.ensures.says in
+    let schema = rw c.asked_of_schema-of_schema.ensures at c.in_ok-is_valid.ensures.says in
+    let report = one_side form _ _ _ _ _ same root schema in
+    elim c.if-is_instance.branch [
+      | then-is_instance w ↦ reports_same form _ _ _ _ (same ∙ sym w.result-is) report
+      | else-is_instance w ↦ reports_same form _ _ _ _ (sym w.result-is) report
+    ]

@@ -6,7 +6,6 @@ use Rattle.cs_tool.specs.Ready.{IsReady, IsReadyToVet}
 use Rattle.cs_tool.specs.CallRefusals.{VetRefusal}
 use Rattle.cs_tool.specs.declared.fault.Fault.{Fault}
 use Rattle.cs_tool.specs.declared.fault.Fault.TheVariants.{OutOfMemory, NotJson, NotInteger, TooManyPairs}
-use Rattle.cs_judge.proofs.ExplainedRuns.{first_report}
 use Rattle.cs_tool.proofs.Judging.{Refuses, ManyOfRoot, memory_alone, by_text, by_root, few_of_vet, verdict}
 use Rattle.cs_judge.proofs.explanations.explain_root.Goals as goal
 
@@ -27,33 +26,25 @@ returns-in_err-doc c =
     let p = err_from_is_err_and c.from_residual.result c.from_residual.ensures.1 in
     let told = λ (ss : List (List ℕ)) (r : List ℕ). by_text t (ManyOfRoot ss r t) c.in_err-doc.field-0.0 c.in_err-doc.ensures.refused in
     rw (p.1, p.2) (record {
-      found = λ ss r declares. tt;
-      refused = λ ss r declares. refused ss r t (_, _, declares) _ (told ss r);
-      only = λ ss r declares ready. only ss r t ready _ (told ss r);
+      of = λ ss r declares. record { found = tt; refused = refused ss r t (_, _, declares) _ (told ss r); only = λ ready. only ss r t ready _ (told ss r) };
       told = tt;
-      kept = refl;
     })
 
 pub returns-in_err-is_instance : goal.returns-in_err-is_instance
 returns-in_err-is_instance c =
     let t = c.args.document.text.now in
-    let judged = c.in_err-is_instance.ensures in
+    let judged = c.in_err-is_instance.ensures.verdict in
     let p = err_from_is_err_and c.from_residual-in_err-is_instance.result c.from_residual-in_err-is_instance.ensures.1 in
     let told = λ (ss : List (List ℕ)) (r : List ℕ) (declares : DeclaresRoot ss r c.args.rules.now.0 c.args.rules.now.1).
     by_root t (ManyOfRoot ss r t) ss r _ _ declares _ c.in_ok-doc.ensures.found (λ i k many. many) c.in_err-is_instance.field-0.0 judged.known judged.many in
     rw (p.1, p.2) (record {
-      found = λ ss r declares. tt;
-      refused = λ ss r declares. refused ss r t (_, _, declares) _ (told ss r declares);
-      only = λ ss r declares ready. only ss r t ready _ (told ss r declares);
+      of = λ ss r declares. record { found = tt; refused = refused ss r t (_, _, declares) _ (told ss r declares); only = λ ready. only ss r t ready _ (told ss r declares) };
       told = tt;
-      kept = refl;
     })
 
-pub returns-clause-found : goal.returns-clause-found
-returns-clause-found c = λ ss r declares.
+pub returns-clause-of : goal.returns-clause-of
+returns-clause-of c = λ ss r declares.
     let doc = c.in_ok-doc.ensures in
-    let judged = c.in_ok-is_instance.ensures in
-    verdict ss r c.args.document.text.now _ _ (read_as c.in_ok-doc.doc) _ declares doc.found doc.document judged.one_meaning judged.answer judged.within
-
-pub returns-clause-told : goal.returns-clause-told
-returns-clause-told c = c.in_ok-tell.ensures.told (first_report _ _ _ _ _ c.new-report.ensures.items c.deref.ensures.value c.in_ok-is_instance.ensures.says)
+    let judged = c.in_ok-is_instance.ensures.verdict in
+    let is = verdict ss r c.args.document.text.now _ _ (read_as c.in_ok-doc.doc) _ declares doc.found doc.document judged.one_meaning judged.answer judged.within in
+    record { found = (is, refl); refused = tt; only = λ ready. tt }

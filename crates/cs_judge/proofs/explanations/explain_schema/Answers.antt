@@ -6,7 +6,6 @@ use Rattle.cs_tool.specs.CallRefusals.{IsSchemaText, ValidateRefusal}
 use Rattle.cs_tool.specs.Sides.{IsSchemaOf}
 use Rattle.cs_tool.specs.declared.fault.Fault.{Fault}
 use Rattle.cs_tool.specs.declared.fault.Fault.TheVariants.{OutOfMemory, NotJson, NotInteger, TooManyPairs}
-use Rattle.cs_judge.proofs.ExplainedRuns.{first_report}
 use Rattle.cs_tool.proofs.Judging.{Refuses, ManyOfSchema, memory_alone, by_text, by_schema, few_of_validate, validated}
 use Rattle.cs_judge.proofs.explanations.explain_schema.Goals as goal
 
@@ -27,11 +26,8 @@ returns-in_err-doc c =
     let p = err_from_is_err_and c.from_residual.result c.from_residual.ensures.1 in
     let told = λ (s : List ℕ). by_text t (ManyOfSchema s t) c.in_err-doc.field-0.0 c.in_err-doc.ensures.refused in
     rw (p.1, p.2) (record {
-      found = λ s is. tt;
-      refused = λ s is. refused s t is.text _ (told s);
-      only = λ s is ready. only s t ready _ (told s);
+      of = λ s is. record { found = tt; refused = refused s t is.text _ (told s); only = λ ready. only s t ready _ (told s) };
       told = tt;
-      kept = refl;
     })
 
 pub returns-in_err-is_valid : goal.returns-in_err-is_valid
@@ -39,20 +35,15 @@ returns-in_err-is_valid c =
     let t = c.args.document.text.now in
     let p = err_from_is_err_and c.from_residual-in_err-is_valid.result c.from_residual-in_err-is_valid.ensures.1 in
     let told = λ (s : List ℕ) (is : IsSchemaOf s c.args.rules.now).
-    by_schema t (ManyOfSchema s t) s _ is _ c.in_ok-doc.ensures.found (λ i k many. many) c.in_err-is_valid.field-0.0 c.in_err-is_valid.ensures.refused in
+    by_schema t (ManyOfSchema s t) s _ is _ c.in_ok-doc.ensures.found (λ i k many. many) c.in_err-is_valid.field-0.0 c.in_err-is_valid.ensures.verdict.refused in
     rw (p.1, p.2) (record {
-      found = λ s is. tt;
-      refused = λ s is. refused s t is.text _ (told s is);
-      only = λ s is ready. only s t ready _ (told s is);
+      of = λ s is. record { found = tt; refused = refused s t is.text _ (told s is); only = λ ready. only s t ready _ (told s is) };
       told = tt;
-      kept = refl;
     })
 
-pub returns-clause-found : goal.returns-clause-found
-returns-clause-found c = λ s is.
+pub returns-clause-of : goal.returns-clause-of
+returns-clause-of c = λ s is.
     let doc = c.in_ok-doc.ensures in
-    let judged = c.in_ok-is_valid.ensures in
-    validated s c.args.document.text.now _ (read_as c.in_ok-doc.doc) _ is doc.found doc.document judged.one_meaning judged.within judged.answer
-
-pub returns-clause-told : goal.returns-clause-told
-returns-clause-told c = c.in_ok-tell.ensures.told (first_report _ _ _ _ _ c.new-report.ensures.items c.deref.ensures.value c.in_ok-is_valid.ensures.says)
+    let judged = c.in_ok-is_valid.ensures.verdict in
+    let told = validated s c.args.document.text.now _ (read_as c.in_ok-doc.doc) _ is doc.found doc.document judged.one_meaning judged.within judged.answer in
+    record { found = (told, refl); refused = tt; only = λ ready. tt }

@@ -1,8 +1,12 @@
-use Rattle.std.proofs.Common.{rules}
+use Rattle.std.proofs.Common.{rules, ap, ◌∙◌}
 use Rattle.cs_judge.proofs.reports.listed_validity.Goals as goal
 
-pub returns-clause-answer : goal.returns-clause-answer
-returns-clause-answer c = λ V is.
-    let told = c.in_ok-explanation.ensures.answer V is in
-    let same = c.is_valid-is_valid.ensures in
-    search rules
+pub returns-clause-verdict : goal.returns-clause-verdict
+returns-clause-verdict c =
+    let told = c.in_ok-explanation.ensures in
+    let same = c.is_valid-is_valid.ensures in record {
+      one_meaning = told.one_meaning;
+      answer = λ V is. let answer = told.answer V is in search rules;
+      within = told.within;
+      refused = tt;
+    }

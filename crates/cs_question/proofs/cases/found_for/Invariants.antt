@@ -7,4 +7,4 @@ use Rattle.cs_question.specs.Truth.{Truth}
 use Rattle.cs_question.proofs.cases.found_for.Given as goal
 
 abbrev pub invariant-loop : goal.invariant-loop
-invariant-loop l = l.table.is_final ≡ true → (t : Truth l.table.entries.items) → IsMeaning l.nodes t.J → (x : Document) → IsDocument x → depth x ≤ t.n → meets_all t.J x l.asked ≡ true → IsCovered t.J x l.cases.items
+invariant-loop l = l.table.is_final ≡ true → (t : Truth l.table.entries.items) → IsMeaning l.nodes t.J → (x : Document) → IsDocument x → depth x ≤ t.n → meets_all t.J x l.asked ≡ true → IsCovered t.J x l.cases.keys

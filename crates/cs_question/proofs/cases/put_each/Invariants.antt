@@ -8,6 +8,6 @@ use Rattle.cs_question.proofs.cases.put_each.Given as goal
 
 abbrev pub invariant-loop-part : goal.invariant-loop-part
 invariant-loop-part l = record {
-  kept : Continues l.initial.cases.items l.cases.items;
-  there : (J : Judgement) (x : Document) → IsMeaning l.nodes J → meets_all J x l.asked ≡ true → list_any (λ p. meets J x (record l.literal { rule = p })) (take l.part-index l.parts) ≡ true → IsCovered J x l.cases.items;
+  kept : Continues l.initial.cases.keys l.cases.keys;
+  there : (J : Judgement) (x : Document) → IsMeaning l.nodes J → meets_all J x l.asked ≡ true → list_any (λ p. meets J x (record l.literal { rule = p })) (take l.part-index l.parts) ≡ true → IsCovered J x l.cases.keys;
 }

@@ -1,7 +1,7 @@
 use Rattle.std.proofs.Common.{◌≡◌, ℕ, true, List, map, take}
 use Rattle.std.specs.List.{list_any}
 use Rattle.cs_instance.specs.Constraint.{allows}
-use Rattle.cs_question.specs.Nodes.{field_of}
+use Rattle.cs_instance.specs.Steps.{field_of}
 use Rattle.cs_question.specs.Spread.{is_among}
 use Rattle.cs_question.proofs.fields.are_all_among.Given as goal
 

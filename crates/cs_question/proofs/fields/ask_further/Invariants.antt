@@ -2,7 +2,8 @@ use Rattle.std.proofs.Common.{◌≡◌, ℕ, true, List, map, take, Contains}
 use Rattle.std.specs.List.{list_all}
 use Rattle.cs_document.specs.Document.{Document, Entry}
 use Rattle.cs_instance.specs.Constraint.{declaration_holds}
-use Rattle.cs_question.specs.Nodes.{Judgement, field_of}
+use Rattle.cs_instance.specs.Steps.{field_of}
+use Rattle.cs_question.specs.Nodes.{Judgement}
 use Rattle.cs_question.specs.Spread.{IsFurther}
 use Rattle.cs_question.proofs.fields.ask_further.Given as goal
 

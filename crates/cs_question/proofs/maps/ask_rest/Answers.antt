@@ -5,7 +5,7 @@ use Rattle.std.proofs.lemmas.Result.{on_ok_weaker}
 use Rattle.cs_document.specs.Document.{Document, Entry, entries}
 use Rattle.cs_package.specs.Expression.{Declaration}
 use Rattle.cs_instance.specs.Constraint.{declaration_holds, allows}
-use Rattle.cs_question.specs.Nodes.{field_of}
+use Rattle.cs_instance.specs.Steps.{field_of}
 use Rattle.cs_question.specs.Spread.{IsFurther}
 use Rattle.cs_question.proofs.Some.{or_false, all_contained}
 use Rattle.cs_question.proofs.Unfolded.{struct_is}
@@ -16,7 +16,7 @@ pub returns : goal.returns
 returns c =
     let s = c.in-Some-Struct in
     on_ok_weaker c.ask_further.result (λ f J n ms e m met there other held.
-    let ds = map field_of s.fields.items in
+    let ds = map field_of s.fields.all.items in
     let P : Declaration ℕ → Bool = λ d. declaration_holds (λ y p. J c.args.literal.side p y) d (entries ms) in
     let A : Entry Document → Bool = λ (k : Entry Document). list_any (λ d. allows d k.0) ds in
     let parts = and_parts (list_all P ds) (s.opened || list_all A (entries ms)) (struct_is c.args.nodes.now J m c.args.literal true (not-false c.args.literal.holds c.if-not-literal.false) s.fields s.opened ms (s.ensures ∙ ap Some s.field-0-is) met) in

@@ -3,7 +3,8 @@ use Rattle.std.specs.List.{AllByRecursion as Each}
 use Rattle.cs_document.specs.Document.{Document, Members, Entry, object, AreMembers, depth, entries, under}
 use Rattle.cs_instance.specs.Constraint.{declaration_holds}
 use Rattle.cs_question.specs.Asked.{meets_all}
-use Rattle.cs_question.specs.Nodes.{Judgement, IsMeaning, field_of}
+use Rattle.cs_instance.specs.Steps.{field_of}
+use Rattle.cs_question.specs.Nodes.{Judgement, IsMeaning}
 use Rattle.cs_question.specs.Spread.{HoldsAt, HoldsPlaces, IsFurther, AreTaken, AddsWays, is_among, spread_map, name_of, label}
 use Rattle.cs_question.specs.Truth.{IsInner}
 use Rattle.cs_question.proofs.maps.further_of.Given as goal

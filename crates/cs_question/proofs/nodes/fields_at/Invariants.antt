@@ -1,6 +1,5 @@
 use Rattle.std.proofs.Common.{◌≡◌, map, take}
-use Rattle.cs_instance.specs.Steps.{numbered_fields}
-use Rattle.cs_question.specs.Nodes.{field_of}
+use Rattle.cs_instance.specs.Steps.{numbered_fields, field_of}
 use Rattle.cs_question.proofs.nodes.fields_at.Given as goal
 
 abbrev pub invariant-loop-field : goal.invariant-loop-field

@@ -1,5 +1,5 @@
 use Rattle.std.proofs.Common.{codes, arith}
-use Rattle.cs_report.proofs.LineEnds.{ends_behind}
+use Rattle.cs_reason_words.proofs.LineEnds.{ends_behind}
 use Rattle.cs_validity_report.proofs.reports.put_untold.Goals as goal
 
 pub returns-in_ok-push_str-in-Lines : goal.returns-in_ok-push_str-in-Lines

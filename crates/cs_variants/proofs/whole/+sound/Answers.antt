@@ -14,7 +14,7 @@ are_sound-returns t c = λ e. subst (AllByRecursion (IsSound c.args.count)) (tak
 
 pub are_sound_parts-loop-part-preserved : goal.are_sound_parts-loop-part-preserved
 are_sound_parts-loop-part-preserved t c =
-    each_more (IsSoundPart c.args.count) c.args.parts.now c.loop-part.part-index c.part-item.result c.loop-part-test.true c.part-item.is c.loop-part.invariant (c.is_sound_part.ensures c.if-not-is_sound_part.false)
+    each_more (IsSoundPart c.args.count) c.args.parts.now c.loop-part.part-index c.part-item.result c.loop-part-test.true c.part-item.is c.loop-part.invariant (sound_Part c.args.count c.part-item.result (c.is_sound.ensures c.if-not-is_sound.false))
 
 pub are_sound_parts-returns : goal.are_sound_parts-returns
 are_sound_parts-returns t c = λ e. subst (AllByRecursion (IsSoundPart c.args.count)) (take_all c.loop-part.part-index c.args.parts.now (omega arith)) c.loop-part.invariant
@@ -41,6 +41,3 @@ is_sound-returns-then-are_sound t c = λ e.
 
 pub is_sound_end-returns-in-Each : goal.is_sound_end-returns-in-Each
 is_sound_end-returns-in-Each t c = λ e. sound_Each c.args.count c.args.end.now c.in-Each.shape c.in-Each.is (subst (IsSound c.args.count) c.deref.ensures (c.is_sound.ensures e))
-
-pub is_sound_part-returns : goal.is_sound_part-returns
-is_sound_part-returns t c = λ e. sound_Part c.args.count c.args.part.now (c.is_sound.ensures e)

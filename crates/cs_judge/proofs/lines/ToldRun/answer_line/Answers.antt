@@ -1,9 +1,8 @@
-use Rattle.std.proofs.Common.{◌++◌, ◌∷◌, [], sym, subst}
+use Rattle.std.proofs.Common.{◌++◌, ◌∷◌, [], ap, sym, subst, ◌∙◌}
 use Rattle.cs_judge.specs.declared.lines.LineRun.{LineRun}
 use Rattle.cs_judge.specs.Answering.{AreAnswered}
 use Rattle.cs_judge.specs.Explained.{asked_form, AreToldTo}
-use Rattle.cs_judge.specs.Lines.{Hands}
-use Rattle.cs_tool.specs.Streams.{AppendsFront}
+use Rattle.cs_judge.specs.Lines.{worse}
 use Rattle.cs_judge.proofs.ExplainedRuns.{all_told, some_written, written, written_to}
 use Rattle.cs_judge.proofs.LineLists.{on_ok, on_err, on_error}
 use Rattle.cs_judge.proofs.LineRuns.{more_cut_off, none_written, one_more}
@@ -13,8 +12,8 @@ pub returns-in_err-note-clause-front : goal.returns-in_err-note-clause-front
 returns-in_err-note-clause-front g c = λ start lines front a begun.
     let form = asked_form c.args.why in
     let number = c.args.self.now.line.line in
-    let answer = c.answer-answer.result in
-    let told = c.answer-answer.ensures in
+    let answer = c.finish-answer.result in
+    let told = c.finish-answer.ensures in
     let is_told = all_told form answer _ _ c.deref.result.now c.clear.ensures.items c.deref.ensures.value told.told in
     let some = some_written form number answer c.deref.result.now is_told in
     on_error c.from_residual.result (more_cut_off c.args.judge.now start _ _ lines (front ++ c.args.piece.now) answer some.0 c.args.self.now.run (written form number answer some.0 some.1) a (told.answer front begun) (none_written _ _))
@@ -23,30 +22,31 @@ pub returns-clause-all : goal.returns-clause-all
 returns-clause-all g c = λ start lines front a begun.
     let form = asked_form c.args.why in
     let number = c.args.self.now.line.line in
-    let answer = c.answer-answer.result in
-    let told = c.answer-answer.ensures in
+    let answer = c.finish-answer.result in
+    let told = c.finish-answer.ensures in
     let old = g.W.Write.contents c.args.output.now in
     let new = g.W.Write.contents c.hold_told.new.output in
     let held = c.hold_told.new.held in
     let is_told = all_told form answer _ _ c.deref-2.result.now c.clear.ensures.items c.deref-2.ensures.value told.told in
     let line = front ++ c.args.piece.now in
-    let after : LineRun = record { begun = c.answer-answer.new.self.begun; held = held; outcome = c.answer-answer.new.self.outcome } in
+    let after : LineRun = record { begun = c.finish-answer.new.self; held = held; outcome = c.with-self.result } in
+    let outcome = c.with-self.ensures ∙ ap (worse c.args.self.now.run.outcome) c.outcome_of-outcome.ensures in
     let all = rw c.form_of-form.ensures at c.hold_told.ensures.all in
     on_ok c.hold_told.result (λ h.
     subst (λ n. AreAnswered (AreToldTo form n) c.args.judge.now start new (lines ++ line ∷ []) after) (sym c.saturating_add-self.ensures)
-    (one_more c.args.judge.now start old new lines line answer h.0 c.args.self.now.run (written_to form number answer h.0 h.1) a (told.answer front begun) after (subst (λ t. Hands old new (t ++ h.0) held) told.held h.2) told.outcome))
+    (one_more c.args.judge.now start old new lines line answer h.0 c.args.self.now.run (written_to form number answer h.0 h.1) a (told.answer front begun) after h.2 outcome))
     (all is_told)
 
 pub returns-clause-front : goal.returns-clause-front
 returns-clause-front g c = λ start lines front a begun.
     let form = asked_form c.args.why in
     let number = c.args.self.now.line.line in
-    let answer = c.answer-answer.result in
-    let told = c.answer-answer.ensures in
+    let answer = c.finish-answer.result in
+    let told = c.finish-answer.ensures in
     let old = g.W.Write.contents c.args.output.now in
     let new = g.W.Write.contents c.hold_told.new.output in
     let is_told = all_told form answer _ _ c.deref-2.result.now c.clear.ensures.items c.deref-2.ensures.value told.told in
     let front_held = rw c.form_of-form.ensures at c.hold_told.ensures.front in
     on_err c.hold_told.result (λ h.
-    more_cut_off c.args.judge.now start old new lines (front ++ c.args.piece.now) answer h.0 c.args.self.now.run (written form number answer h.0 h.1) a (told.answer front begun) (subst (λ t. AppendsFront old new (t ++ h.0)) told.held h.2))
+    more_cut_off c.args.judge.now start old new lines (front ++ c.args.piece.now) answer h.0 c.args.self.now.run (written form number answer h.0 h.1) a (told.answer front begun) h.2)
     (front_held is_told)

@@ -1,0 +1,79 @@
+// What is said of names that aren't declared, and of those of fields.
+use crate::labels::field_named;
+use crate::text::put_filled;
+use cs_forms::{Form, kind_meant, said_of_form};
+use cs_place::position_of;
+use cs_sources::{Declared, Near, Source, declared_in};
+use cs_text::few_edits;
+use itoa::Buffer;
+use std::alloc::{AllocError, Global};
+
+/// A name without its `#`.
+fn bare(name: &str) -> &str {
+    name.strip_prefix('#').unwrap_or(name)
+}
+
+/// The declared name that is the fewest edits away from another one, `#` aside, if any is near: few are those which are few for names
+/// of that length.
+pub(crate) fn nearest<'a>(
+    alloc: Global,
+    name: &str,
+    declared: &Declared<'_, 'a>,
+) -> Result<Option<&'a str>, AllocError> {
+    let name = bare(name);
+    let mut best = None;
+    let mut fewest = (name.len() / 3).saturating_add(1);
+    for declaration in &declared.firsts {
+        let other = declaration.here().text;
+        match few_edits(alloc, name, bare(other))? {
+            Some(edits) if edits < fewest => {
+                fewest = edits;
+                best = Some(other);
+            }
+            _ => {}
+        }
+    }
+    Ok(best)
+}
+
+/// Whether a name is that of a kind of the profile.
+fn is_kind(name: &str) -> bool {
+    [
+        "int", "number", "string", "bool", "uint", "uint8", "int8", "uint16", "int16", "uint32",
+        "int32", "int64",
+    ]
+    .contains(&name)
+}
+
+/// Puts that a name names a field, and where that is.
+pub(crate) fn put_field_reference(text: &mut String, near: Near<'_, '_>) -> Result<(), AllocError> {
+    let name = near.here().text;
+    put_filled(text, said_of_form(Form::FieldReference), &[name])?;
+    if let Some(label) = field_named(*text.allocator(), near)? {
+        let source = near.source;
+        let line = position_of(source.named.text, label.here().start).line;
+        put_filled(text, " (line {})", &[Buffer::new().format(line)])?;
+    }
+    text.push_str(if is_kind(name) {
+        ", which hides this kind: put its label in double quotes"
+    } else {
+        ": give its value a definition and name it in both"
+    })
+}
+
+/// Puts that a name isn't declared, and what may have been meant by it; what is said of it where nothing is near.
+pub(crate) fn put_unknown(
+    text: &mut String,
+    name: &str,
+    said: &str,
+    sources: &[Source<'_>],
+) -> Result<(), AllocError> {
+    let alloc = *text.allocator();
+    let declared = declared_in(alloc, sources)?;
+    let nearest = nearest(alloc, name, &declared)?;
+    let Some(meant) = nearest.or(kind_meant(name)) else {
+        return put_filled(text, said, &[name]);
+    };
+    let said = "`{}` isn't declared; did you mean `{}`?";
+    put_filled(text, said, &[name, meant])
+}

@@ -1,0 +1,106 @@
+// Refusals in lines, for people and for problem matchers.
+use crate::told::{About, tell};
+use cs_advice::{Told, put_all, put_excerpt, put_filled, put_offset};
+use cs_meanings::EXPLANATIONS;
+use cs_place::Named;
+use cs_sources::{Source, sources_of};
+use cs_tool::Fault;
+use itoa::Buffer;
+use std::alloc::{AllocError, Global};
+
+/// What docs/REFUSALS.md says of a number: for each of its rows a line with the number and the meaning, and one with what to
+/// do. `None` for a number that no refusal has. Only memory can run out.
+pub fn explained(alloc: Global, number: u32) -> Result<Option<String>, AllocError> {
+    let mut text = String::new(alloc);
+    let mut buffer = Buffer::new();
+    let shown = buffer.format(number);
+    for row in EXPLANATIONS {
+        if row.number == number {
+            let parts = [shown, ": ", row.meaning, "\n", row.remedy, "\n"];
+            put_all(&mut text, &parts)?;
+        }
+    }
+    Ok(if text.is_empty() { None } else { Some(text) })
+}
+
+/// Why a call was refused: a line with the place, as `FILE:LINE:COLUMN: `, and what to do; where a source, a schema or a document
+/// has the place, its line and a mark below. What isn't known is left out. Only memory can run out.
+pub fn why_refused(alloc: Global, fault: &Fault, about: About<'_>) -> Result<String, AllocError> {
+    let sources = sources_of(alloc, about.sources)?;
+    let mut told = Told::new(alloc);
+    tell(&mut told, fault, about, about.root, &sources)?;
+    let mut text = String::new(alloc);
+    put_refusal(&mut text, &told, about.sizes)?;
+    Ok(text)
+}
+
+/// Puts the lines of a refusal: the last ones are for files with their bytes.
+fn put_refusal(
+    text: &mut String,
+    told: &Told<'_>,
+    sizes: &[(&str, u64)],
+) -> Result<(), AllocError> {
+    put_told(text, told, told.start, &[])?;
+    if let (Some(named), Some(start)) = (told.named, told.start) {
+        put_excerpt(text, named.text, start, told.end)?;
+    }
+    for (path, size) in sizes {
+        put_filled(text, "{}: {} bytes", &[path, Buffer::new().format(*size)])?;
+        text.push('\n')?;
+    }
+    Ok(())
+}
+
+/// Puts a line for a fault of sources, of the root that was asked for, or of a schema: its place, as `FILE:LINE:COLUMN: `, its
+/// number, and what to do. `sources` are those of the call, cut into tokens. Only memory can run out.
+pub fn put_finding<'a>(
+    alloc: Global,
+    text: &mut String,
+    fault: &Fault,
+    root: &str,
+    schema: Option<Named<'a>>,
+    sources: &[Source<'a>],
+) -> Result<(), AllocError> {
+    let mut told = Told::new(alloc);
+    tell(&mut told, fault, about_schema(schema), root, sources)?;
+    let mut buffer = Buffer::new();
+    let words = ["error ", buffer.format(fault.number()), ": "];
+    put_told(text, &told, fault.offset().or(told.start), &words)
+}
+
+/// What is known where a schema is, or nothing but the sources.
+fn about_schema<'a>(schema: Option<Named<'a>>) -> About<'a> {
+    let sources: &'a [Named<'a>] = &[];
+    let sizes: &'a [(&'a str, u64)] = &[];
+    About {
+        sources,
+        root: "",
+        schema,
+        document: None,
+        path: None,
+        cause: "",
+        sizes,
+    }
+}
+
+/// Puts the line of a refusal: the file and the place in it, as far as they are known, these words, the pointer of the value at fault,
+/// and what to do.
+fn put_told(
+    text: &mut String,
+    told: &Told<'_>,
+    start: Option<usize>,
+    words: &[&str],
+) -> Result<(), AllocError> {
+    match (told.named, start) {
+        (Some(named), Some(start)) => put_offset(text, named, start)?,
+        (Some(named), None) => put_filled(text, "{}: ", &[named.name])?,
+        (None, _) => {}
+    }
+    put_all(text, words)?;
+    match &told.pointer {
+        Some(pointer) if pointer.is_empty() => text.push_str("(root): ")?,
+        Some(pointer) => put_filled(text, "{}: ", &[pointer.as_str()])?,
+        None => {}
+    }
+    put_all(text, &[told.hint.as_str(), "\n"])
+}

@@ -1,0 +1,134 @@
+// What is told of schemas that are refused.
+use cs_advice::{Told, put_filled, put_loop};
+use cs_place::{Named, Step, ValuePath, places};
+use cs_tool::Fault;
+use std::alloc::{AllocError, Global};
+
+/// What a step of a pointer into a schema leads to.
+#[derive(Clone, Copy)]
+enum Part {
+    Schema,
+    Names,
+    Elements,
+}
+
+/// What is under a keyword.
+fn part_under(keyword: &str) -> Part {
+    match keyword {
+        "properties" | "$defs" => Part::Names,
+        "allOf" | "anyOf" | "prefixItems" => Part::Elements,
+        _ => Part::Schema,
+    }
+}
+
+/// The keys of a pointer with their escapes undone (RFC 6901, section 3), and behind them a keyword that isn't empty.
+fn keys_of(alloc: Global, pointer: &str, keyword: &str) -> Result<Vec<String>, AllocError> {
+    let mut keys = Vec::new(alloc);
+    for key in pointer.split('/').skip(1) {
+        let key = key.replace(alloc, "~1", "/")?;
+        let key = key.replace(alloc, "~0", "~")?;
+        keys.push(key)?;
+    }
+    if !keyword.is_empty() {
+        let keyword = String::from_str(alloc, keyword)?;
+        keys.push(keyword)?;
+    }
+    Ok(keys)
+}
+
+/// Where a value of a schema is in its text, by its keys: the offset of its key, or of the value where it has none.
+fn offset_of(alloc: Global, text: &[u8], keys: &[String]) -> Result<Option<usize>, AllocError> {
+    let mut paths = Vec::with_capacity(alloc, keys.len())?;
+    let mut part = Part::Schema;
+    let mut parent = None;
+    for (at, key) in keys.iter().enumerate() {
+        let key = key.as_str();
+        let step = match part {
+            Part::Elements => Step::Element(key.parse::<usize>().unwrap_or(0)),
+            Part::Schema | Part::Names => Step::Key(key),
+        };
+        part = match part {
+            Part::Schema => part_under(key),
+            Part::Names | Part::Elements => Part::Schema,
+        };
+        paths.push(ValuePath { parent, step })?;
+        parent = Some(at);
+    }
+    let found = places(alloc, text, &paths)?;
+    Ok(match found.last().copied().flatten() {
+        Some(place) => Some(place.key.unwrap_or(place.value)),
+        None => None,
+    })
+}
+
+/// Tells of a keyword, its value or a reference in a schema, or of definitions that refer to one another in a loop (21 to 24).
+pub(crate) fn tell_schema_fault<'a>(
+    told: &mut Told<'a>,
+    schema: Option<Named<'a>>,
+    fault: &Fault,
+) -> Result<(), AllocError> {
+    let text = &mut told.hint;
+    let (pointer, keyword) = match fault {
+        Fault::Keyword { place, name } => {
+            let said =
+                "`{}` isn't in the profile: say it by other keywords, or take it out where it says nothing";
+            put_filled(text, said, &[name.as_str()])?;
+            (place.as_str(), name.as_str())
+        }
+        Fault::Shape { place, name } => {
+            let said = match name.as_str() {
+                "" => "a schema is `true`, `false` or an object",
+                _ => "the value of `{}` has another form in the profile",
+            };
+            put_filled(text, said, &[name.as_str()])?;
+            (place.as_str(), name.as_str())
+        }
+        Fault::Reference { place, name } => {
+            put_filled(text, "`$defs` doesn't have `{}`", &[name.as_str()])?;
+            (place.as_str(), "$ref")
+        }
+        Fault::Loop { names } => {
+            let Some(first) = names.first() else {
+                return Ok(());
+            };
+            put_loop(text, names, first.as_str())?;
+            ("/$defs", first.as_str())
+        }
+        _ => return Ok(()),
+    };
+    told.pointer = Some(String::from_str(told.alloc(), pointer)?);
+    match schema {
+        Some(schema) => place_at_keyword(told, schema, pointer, keyword),
+        None => Ok(()),
+    }
+}
+
+/// Places what is told at a keyword, by the pointer of the schema around it; at that schema where the keyword is empty.
+fn place_at_keyword<'a>(
+    told: &mut Told<'a>,
+    schema: Named<'a>,
+    pointer: &str,
+    keyword: &str,
+) -> Result<(), AllocError> {
+    told.named = Some(schema);
+    let keys = keys_of(told.alloc(), pointer, keyword)?;
+    if let Some(offset) = offset_of(told.alloc(), schema.text, &keys)? {
+        told.place(schema, offset, text_end(schema.text, offset));
+    }
+    Ok(())
+}
+
+/// The place behind the text of JSON that begins at an offset; the offset itself where none does.
+fn text_end(text: &[u8], offset: usize) -> usize {
+    let [b'"', rest @ ..] = text.get(offset..).unwrap_or(&[]) else {
+        return offset;
+    };
+    let mut is_escaped = false;
+    for (at, byte) in rest.iter().enumerate() {
+        if *byte == b'"' && !is_escaped {
+            return offset.saturating_add(at).saturating_add(2);
+        }
+        is_escaped = *byte == b'\\' && !is_escaped;
+    }
+    offset
+}
