@@ -225,7 +225,7 @@ try '20,000 keys declared on a line, none there: vet --why' 2020002 "prints 1 in
 { printf '#A: {'; listed 8000 'field%d?: int' ', '; printf '}'; } > wide.cue
 { printf '{'; listed 8000 '"fieldx%d": 1'; printf '}'; } > keys
 try '8,000 keys with a letter too many: vet --why' 64000000 \
-    'shows keys:1:2: /fieldx0: this key is not allowed, did you mean "field0"? [wide.cue:1:5 #A]' 'vet --why --most 1000000 --root #A --doc keys wide.cue'
+    'holds 1 keys:1:2: /fieldx0: this key is not allowed, did you mean "field0"? [wide.cue:1:5 #A]' 'vet --why --most 1000000 --root #A --doc keys wide.cue'
 awk 'BEGIN { for (i = 0; i < 1000; i++) printf "#a%d: {x: #a%d}\n", i, (i + 1) % 1000 }' > wide.cue
 try 'cycle of 1,000 definitions: export --why' 0 'told error 12' 'export --why --root #a0 wide.cue'
 # Names of one hash. The seed of the standard library's hashes is fixed, so the number that they make of a name's first 16 bytes is
@@ -616,7 +616,7 @@ try '8,000 fields that clash: check' 5000000 \
     'lines 0 wide.cue:1:1: warning: no document is an instance of #A: nothing may stand under its key "a0"' 'check wide.cue'
 # Each of the 50 faults that are told is mended, and the rest read again.
 { printf '#A: {'; listed 4000 'a%d: {x: 1} & {y: 1}' ', '; printf '}'; } > wide.cue
-try '4,000 fields whose structs are joined: check' 20000000 'shows wide.cue:1:10: error 11: this struct is joined with others' 'check wide.cue'
+try '4,000 fields whose structs are joined: check' 20000000 'holds 2 wide.cue:1:10: error 11: this struct is joined with others' 'check wide.cue'
 # Comparisons and documents: an answer, or 17 where a limit is met.
 awk 'BEGIN {
     for (i = 0; i < 999; i++) print "#A" i ": {x: null | #A" i + 1 "}"

@@ -1,5 +1,6 @@
 #!/usr/bin/env python3
-"""Says where docs/CONTRIBUTING.md and the code differ: in the places that "To add something" lists, and in the list of crates.
+"""Says where docs/CONTRIBUTING.md and the code differ: in the places that "To add something" lists, and in the list of crates; and where
+docs/LAYERS.md and crates.txt do.
 
     tools/places.py            a line for each difference; status 1 where there is one
     tools/places.py --count    prints what the page has to say: each sentence with figures, the files that a section's tables have to
@@ -29,6 +30,7 @@ from pathlib import Path
 
 TOP = Path(__file__).resolve().parent.parent
 PAGE = TOP / "docs" / "CONTRIBUTING.md"
+LAYERS = TOP / "docs" / "LAYERS.md"
 ENDINGS = {"specs": ".antt", "src": ".rt", "proofs": ".antt"}
 KINDS = (("src", "code"), ("specs", "definitions"), ("proofs", "proofs"))
 USE = re.compile(r"\s*(?:pub(?:\(\w+\))? |ghost )*use ")
@@ -74,6 +76,8 @@ THINGS = (
     ),
     Thing("A token", "!=", ("Unequal", '"!="'), ((("cs_grammar", "cs_syntax"), ("…unequal…",)),)),
     Thing("A refusal", "ChainTooLong", ("ChainTooLong",)),
+    Thing("An output format", "basic", ("Basic", '"basic"')),
+    Thing("An option of `export`", "--pretty", ("is_pretty", '"pretty"', "write_pretty")),
 )
 
 
@@ -81,10 +85,15 @@ THINGS = (
 
 
 @lru_cache(maxsize=None)
-def crates() -> list[str]:
-    """The crates of crates.txt, in its order."""
+def used() -> dict[str, list[str]]:
+    """What each crate of crates.txt uses, in its order."""
     lines = (TOP / "crates.txt").read_text().split("\n")
-    return [line.partition(":")[0] for line in lines if re.match(r"\w+:", line)]
+    found = [line.partition(":") for line in lines if re.match(r"\w+:", line)]
+    return {crate: libraries.split() for crate, _, libraries in found}
+
+
+def crates() -> list[str]:
+    return list(used())
 
 
 @dataclass(frozen=True)
@@ -347,6 +356,20 @@ def in_crates(page: str) -> list[str]:
     return [f"The crates: {line}" for line in lines]
 
 
+def in_layers(page: str) -> list[str]:
+    """The differences of the page of layers: each crate is in one, and uses none of a later one; the files that it names are there."""
+    rows = [line for line in section(page, "The layers").split("\n") if line.startswith("| ")][1:]
+    layer = {crate: place for place, row in enumerate(rows) for crate in backticked(cells(row)[1])}
+    named = [crate for row in rows for crate in backticked(cells(row)[1])]
+    lines = [f"lacks {crate}" for crate in crates() if crate not in layer]
+    lines += [f"there is no crate {crate}" for crate in layer if crate not in crates()]
+    lines += [f"{crate} is in two layers" for crate in layer if named.count(crate) > 1]
+    for crate, libraries in used().items():
+        lines += [f"{crate} uses {it} of a later layer" for it in libraries if layer.get(it, 0) > layer.get(crate, len(rows))]
+    paths = re.findall(r"`((?:crates|cases|docs|tools)/[\w./-]+)`", page)
+    return lines + [f"there is no {path}" for path in paths if not (TOP / path).exists()]
+
+
 def differences(page: str) -> list[str]:
     lines = missing_sentences(page)
     for thing in THINGS:
@@ -377,9 +400,9 @@ def main(arguments: list[str]) -> int:
     if arguments == ["--count"]:
         print_counts(page)
         return 0
-    lines = differences(page)
-    for line in lines:
-        print(f"docs/CONTRIBUTING.md: {line}")
+    lines = [f"docs/CONTRIBUTING.md: {line}" for line in differences(page)]
+    lines += [f"docs/LAYERS.md: {line}" for line in in_layers(LAYERS.read_text())]
+    print("\n".join(lines), end="\n" if lines else "")
     return 1 if lines else 0
 
 

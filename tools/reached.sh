@@ -4,7 +4,7 @@
 # lines it has, without empty ones, comments and imports, and a closing line with their sum. What is declared in the code, and what
 # std and the ported crates define, isn't counted. Status 2 where an import names a file that isn't there.
 #
-#     tools/reached.sh [FILE..]      other files to begin from, as crates/cs_doc/specs/Texts.antt
+#     tools/reached.sh [FILE..]      other files to begin from, as crates/cs_json/specs/Texts.antt
 set -eu
 cd "$(dirname "$0")/.."
 export LC_ALL=C

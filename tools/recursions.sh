@@ -13,7 +13,7 @@ cd "$(dirname "$0")/.."
 # has no instance is looked for 64 parts deep.
 limited='crates/cs_check/proofs/schema/mending/+cut
 crates/cs_check/proofs/warnings/why_empty/Search/+why
-crates/cs_doc/proofs/listing/Listing/+read
+crates/cs_json/proofs/listing/Listing/+read
 crates/cs_instance_reasons/proofs/near/literals/Search/+leading
 crates/cs_instance_reasons/proofs/near/names/+are_near
 crates/cs_syntax/proofs/parser/height/+height

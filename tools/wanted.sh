@@ -83,6 +83,11 @@ is_printed() {
     is_run "${1%% *}" "$(printf '%s' "${1#* }" | sed 's/⏎/\n/g')" ''
 }
 
+# is_held TEXT: whether the run said nothing, ended with the status, and printed a text that has the rest in it, behind a blank
+is_held() {
+    [ "$status" -eq "${1%% *}" ] && grep -qF -- "${1#* }" "$room/out" && [ ! -s "$room/said" ]
+}
+
 # is_told_more TEXT: whether the run printed nothing, was refused by a line that begins so, and said more behind it
 is_told_more() {
     [ "$status" -eq 2 ] && [ ! -s "$room/out" ] && [ "$(wc -l < "$room/said")" -gt 1 ] \
@@ -105,6 +110,7 @@ is_wanted() {
         'told '*) is_told_more "${1#told }" ;;
         usage) [ "$status" -eq 3 ] && [ ! -s "$room/out" ] && [ -s "$room/said" ] ;;
         'shows '*) [ "$status" -eq 0 ] && grep -qF -- "${1#shows }" "$room/out" && [ ! -s "$room/said" ] ;;
+        'holds '*) is_held "${1#holds }" ;;
         'leaves '*) [ "$status" -eq 0 ] && grep -qF -- "${1#leaves }" "$room/out" && grep -q ' more; ' "$room/said" ;;
         *) false ;;
     esac

@@ -6,7 +6,7 @@ use crate::text::{put_around, put_filled, put_tokens};
 use cs_forms::{Form, Found, said_of_form, said_of_shown};
 use cs_grammar::{Sort, Token};
 use cs_sources::{Near, Source, declared_in, end_of, follows_label, separates};
-use std::alloc::AllocError;
+use cs_text::Written;
 
 /// How many bytes of the other fields are shown.
 const MOST_SHOWN: usize = 60;
@@ -20,7 +20,7 @@ pub fn put_advice(
     source: &Source<'_>,
     sources: &[Source<'_>],
     found: Found,
-) -> Result<(), AllocError> {
+) -> Written {
     let shown = text_between(source, found.start, found.end);
     let said = said_of_form(found.form);
     let Some(near) = Near::at(source, found.start) else {
@@ -49,7 +49,7 @@ pub fn put_advice(
 }
 
 /// Puts that a default mark is left out, and what to write: that its field may be left out, with the rest of its value.
-fn put_default(text: &mut String, mark: Near<'_, '_>) -> Result<(), AllocError> {
+fn put_default(text: &mut String, mark: Near<'_, '_>) -> Written {
     text.push_str(said_of_form(Form::DefaultMark))?;
     let said = "; a document may leave the field out, so write `{}?: {}{}`";
     match field_without(mark) {
@@ -59,21 +59,16 @@ fn put_default(text: &mut String, mark: Near<'_, '_>) -> Result<(), AllocError> 
 }
 
 /// Puts what is said of a form, and behind it more, where a token is a name, which that names.
-fn put_with_name(
-    text: &mut String,
-    said: &str,
-    token: Token<'_>,
-    more: &str,
-) -> Result<(), AllocError> {
+fn put_with_name(text: &mut String, said: &str, token: Token<'_>, more: &str) -> Written {
     text.push_str(said)?;
-    match token.sort {
-        Sort::Name => put_filled(text, more, &[token.text; 3]),
-        _ => Ok(()),
+    if token.sort == Sort::Name {
+        put_filled(text, more, &[token.text; 3])?;
     }
+    Ok(())
 }
 
 /// Puts what to write for a hidden name.
-fn put_hidden(text: &mut String, near: Near<'_, '_>) -> Result<(), AllocError> {
+fn put_hidden(text: &mut String, near: Near<'_, '_>) -> Written {
     let name = near.here().text;
     let is_label = follows_label(near.behind(1));
     let said = match near.bracket() {
@@ -98,7 +93,7 @@ fn shown_name(name: &str) -> &str {
 }
 
 /// Puts what a limit has to be, with its relation.
-fn put_limit(text: &mut String, said: &str, near: Near<'_, '_>) -> Result<(), AllocError> {
+fn put_limit(text: &mut String, said: &str, near: Near<'_, '_>) -> Written {
     let relation = match near.before(1).text {
         "-" => near.before(2).text,
         relation => relation,
@@ -121,20 +116,14 @@ fn other_fields<'a>(near: Near<'_, 'a>) -> Option<&'a str> {
     let fields = text_between(near.source, end_of(next), closing.start).trim_ascii();
     let fields = fields.strip_suffix(",").unwrap_or(fields);
     let is_few = !fields.is_empty() && fields.len() <= MOST_SHOWN;
-    if is_few && !fields.contains('\n') && !fields.ends_with("...") {
-        Some(fields)
-    } else {
-        None
-    }
+    let is_shown = is_few && !fields.contains('\n') && !fields.ends_with("...");
+    is_shown.then_some(fields)
 }
 
 /// Puts what to write for an embedded struct: the labels around it, where they are few.
-fn put_embedded_struct(text: &mut String, near: Near<'_, '_>) -> Result<(), AllocError> {
+fn put_embedded_struct(text: &mut String, near: Near<'_, '_>) -> Written {
     let alloc = *text.allocator();
-    let labels = match near.bracket() {
-        Some(bracket) => labels_inside(alloc, bracket)?,
-        None => Vec::new(alloc),
-    };
+    let labels = labels_inside(alloc, near.bracket())?;
     if labels.is_empty() || labels.len() > MOST_NAMED {
         return text.push_str(said_of_form(Form::EmbeddedStruct));
     }

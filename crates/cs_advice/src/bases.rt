@@ -1,9 +1,10 @@
 // What is said of struct literals that have to end with `...` (11).
-use crate::labels::{labels_named, literal_of};
+use crate::labels::{labels_inside, literal_of};
 use crate::text::{put_filled, put_tokens};
 use cs_forms::{Form, said_of_form};
 use cs_grammar::{Sort, Token};
 use cs_sources::{Declared, Near, Source, declared_in, separates};
+use cs_text::Written;
 use std::alloc::{AllocError, Global};
 
 /// How many operands are looked at on each side.
@@ -18,7 +19,7 @@ pub(crate) fn put_not_opened(
     text: &mut String,
     sources: &[Source<'_>],
     near: Near<'_, '_>,
-) -> Result<(), AllocError> {
+) -> Written {
     let alloc = *text.allocator();
     let declared = declared_in(alloc, sources)?;
     if near.before(1).text == ":" && put_repeated(text, &declared, near)? {
@@ -29,11 +30,7 @@ pub(crate) fn put_not_opened(
 }
 
 /// The same for a struct literal that is joined with these definitions.
-fn put_joined(
-    text: &mut String,
-    declared: &Declared<'_, '_>,
-    bases: &[Near<'_, '_>],
-) -> Result<(), AllocError> {
+fn put_joined(text: &mut String, declared: &Declared<'_, '_>, bases: &[Near<'_, '_>]) -> Written {
     let [base, others @ ..] = bases else {
         return text.push_str(said_of_form(Form::NotOpened));
     };
@@ -86,7 +83,7 @@ fn add_joined<'s, 'a>(
     operand: Near<'s, 'a>,
     is_before: bool,
     bases: &mut Vec<Near<'s, 'a>>,
-) -> Result<(), AllocError> {
+) -> Written {
     let mut operands = 0usize;
     let mut last = operand;
     for _ in 0..operand.source.tokens.len() {
@@ -122,28 +119,30 @@ fn put_repeated(
     near: Near<'_, '_>,
 ) -> Result<bool, AllocError> {
     let name = near.before(2).text;
-    let labels = match near.bracket() {
-        Some(bracket) => labels_named(*text.allocator(), bracket, name)?,
-        None => Vec::new(*text.allocator()),
-    };
-    let times = match near.bracket() {
-        Some(_) => labels.len(),
-        None => declared.times(name),
+    let mut labels = labels_inside(*text.allocator(), near.bracket())?;
+    labels.retain(|label| label.here().text == name);
+    // Outside of all brackets it is a definition.
+    let is_field = near.bracket().is_some();
+    let times = if is_field {
+        labels.len()
+    } else {
+        declared.times(name)
     };
     if times < 2 {
         return Ok(false);
     }
     let often = if times == 2 { "twice" } else { "several times" };
     put_filled(text, "`{}` is declared {}: ", &[name, often])?;
-    match near.bracket() {
-        Some(_) => put_keys(text, name, &labels)?,
-        None => text.push_str("join its bodies to one, or end each of their structs with `...`")?,
+    if is_field {
+        put_keys(text, name, &labels)?;
+    } else {
+        text.push_str("join its bodies to one, or end each of their structs with `...`")?;
     }
     Ok(true)
 }
 
 /// Puts the struct of the keys behind the labels of a name, where each has one and they are few.
-fn put_keys(text: &mut String, name: &str, labels: &[Near<'_, '_>]) -> Result<(), AllocError> {
+fn put_keys(text: &mut String, name: &str, labels: &[Near<'_, '_>]) -> Written {
     put_filled(text, "join to `{}: {", &[name])?;
     if labels.len() > MOST_NAMED || !labels.iter().all(|label| is_short(*label)) {
         return text.push_str("..}`");

@@ -4,8 +4,8 @@ use crate::text::{put_filled, put_left};
 use crate::told::Told;
 use cs_place::position_of;
 use cs_sources::{Declared, Near, Source, declared_in};
+use cs_text::Written;
 use itoa::Buffer;
-use std::alloc::AllocError;
 
 /// How many definitions of a cycle are named, and how many at the beginning of a chain.
 const MOST_IN_CYCLE: usize = 16;
@@ -14,11 +14,7 @@ const MOST_IN_CHAIN: usize = 4;
 
 /// Tells a chain of definitions by their names, each of which refers to the next (16), at the first one; nothing where the sources
 /// don't declare that. Only memory can run out.
-pub fn tell_chain<'a>(
-    told: &mut Told<'a>,
-    sources: &[Source<'a>],
-    names: &[String],
-) -> Result<(), AllocError> {
+pub fn tell_chain<'a>(told: &mut Told<'a>, sources: &[Source<'a>], names: &[String]) -> Written {
     let declared = declared_in(told.alloc(), sources)?;
     let (Some(first), [front @ .., last]) = (first_of(&declared, names), names) else {
         return Ok(());
@@ -34,11 +30,7 @@ pub fn tell_chain<'a>(
 
 /// Tells a cycle of definitions by their names, each with its place, and what ends it (12), at the first one; nothing where the sources
 /// don't declare that. Only memory can run out.
-pub fn tell_cycle<'a>(
-    told: &mut Told<'a>,
-    sources: &[Source<'a>],
-    names: &[String],
-) -> Result<(), AllocError> {
+pub fn tell_cycle<'a>(told: &mut Told<'a>, sources: &[Source<'a>], names: &[String]) -> Written {
     let declared = declared_in(told.alloc(), sources)?;
     let (Some(first), [.., last]) = (first_of(&declared, names), names) else {
         return Ok(());
@@ -50,15 +42,10 @@ pub fn tell_cycle<'a>(
 }
 
 /// Puts a loop of definitions of a schema by their names, of which this is the first, and what ends it (24). Only memory can run out.
-pub fn put_loop(text: &mut String, names: &[String], first: &str) -> Result<(), AllocError> {
-    for name in names.iter().take(MOST_IN_CYCLE) {
-        put_filled(text, "`{}` -> ", &[name.as_str()])?;
-    }
-    put_left(
-        text,
-        "{} more -> ",
-        names.len().saturating_sub(MOST_IN_CYCLE),
-    )?;
+pub fn put_loop(text: &mut String, names: &[String], first: &str) -> Written {
+    // A schema's definitions have no places in sources.
+    let declared = declared_in(*text.allocator(), &[])?;
+    put_way(text, &declared, names, MOST_IN_CYCLE)?;
     let said =
         "`{}`: put a reference under `properties`, `additionalProperties`, `prefixItems` or `items`, or take it out";
     put_filled(text, said, &[first])
@@ -75,16 +62,16 @@ fn put_way(
     declared: &Declared<'_, '_>,
     names: &[String],
     most: usize,
-) -> Result<(), AllocError> {
+) -> Written {
     for name in names.iter().take(most) {
         put_named(text, declared, name.as_str())?;
         text.push_str(" -> ")?;
     }
-    put_left(text, "{} more -> ", names.len().saturating_sub(most))
+    put_left(text, "{} more -> ", names.len(), most)
 }
 
 /// Puts the name of a definition, with its place where the sources declare it: the line that declares it, and of several files which.
-fn put_named(text: &mut String, declared: &Declared<'_, '_>, name: &str) -> Result<(), AllocError> {
+fn put_named(text: &mut String, declared: &Declared<'_, '_>, name: &str) -> Written {
     let Some(declaration) = declared.of(name) else {
         return put_filled(text, "`{}`", &[name]);
     };
@@ -106,17 +93,13 @@ fn put_declared<'x>(
     file: &'x str,
     colon: &'x str,
     line: &'x str,
-) -> Result<(), AllocError> {
+) -> Written {
     put_filled(text, "`{}` ({}{}{})", &[name, file, colon, line])
 }
 
 /// Puts the first name of a cycle again, and how the cycle is ended: by the field of its last definition that has the first one as
 /// its value, where there is one.
-fn put_way_out(
-    text: &mut String,
-    first: &str,
-    last: Option<Near<'_, '_>>,
-) -> Result<(), AllocError> {
+fn put_way_out(text: &mut String, first: &str, last: Option<Near<'_, '_>>) -> Written {
     let field = match last {
         Some(last) => field_with(*text.allocator(), last, first)?,
         None => None,

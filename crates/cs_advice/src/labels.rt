@@ -59,36 +59,23 @@ pub(crate) fn field_without<'a>(mark: Near<'_, 'a>) -> Option<Marked<'a>> {
     })
 }
 
-/// The labels of the struct that a bracket opens, in their order; one that it has twice is there twice.
+/// The labels of the struct that a bracket opens, in their order; one that it has twice is there twice. None without a bracket.
 pub(crate) fn labels_inside<'s, 'a>(
     alloc: Global,
-    bracket: Near<'s, 'a>,
+    bracket: Option<Near<'s, 'a>>,
 ) -> Result<Vec<Near<'s, 'a>>, AllocError> {
     let mut labels = Vec::new(alloc);
-    let Some(held) = bracket.held() else {
+    let Some(held) = bracket.and_then(|bracket| bracket.held()) else {
         return Ok(labels);
     };
-    for place in 0..held.source.tokens.len() {
-        let Some(declaration) = held.part(Separator::Comma, place) else {
-            break;
-        };
+    for place in 0..=held.count(Separator::Comma) {
+        let declaration = held.part(Separator::Comma, place);
         // A label is one token here.
-        match declaration.first() {
+        match declaration.and_then(|declaration| declaration.first()) {
             Some(label) if follows_label(label.behind(1)) => labels.push(label)?,
-            _ => {}
+            Some(_) | None => {}
         }
     }
-    Ok(labels)
-}
-
-/// The labels of a name in the struct that a bracket opens.
-pub(crate) fn labels_named<'s, 'a>(
-    alloc: Global,
-    bracket: Near<'s, 'a>,
-    name: &str,
-) -> Result<Vec<Near<'s, 'a>>, AllocError> {
-    let mut labels = labels_inside(alloc, bracket)?;
-    labels.retain(|label| label.here().text == name);
     Ok(labels)
 }
 
@@ -97,11 +84,13 @@ pub(crate) fn field_named<'s, 'a>(
     alloc: Global,
     near: Near<'s, 'a>,
 ) -> Result<Option<Near<'s, 'a>>, AllocError> {
+    let name = near.here().text;
     let mut around = near.bracket();
     for _ in 0..MOST_AROUND {
         let Some(bracket) = around else { break };
         if bracket.here().text == "{" {
-            if let [label, ..] = labels_named(alloc, bracket, near.here().text)?.as_slice() {
+            let labels = labels_inside(alloc, around)?;
+            if let Some(label) = labels.iter().find(|label| label.here().text == name) {
                 return Ok(Some(*label));
             }
         }
@@ -117,12 +106,10 @@ pub(crate) fn field_with<'a>(
     definition: Near<'_, 'a>,
     reference: &str,
 ) -> Result<Option<&'a str>, AllocError> {
-    let Some((opening, closing)) = literal_of(definition) else {
-        return Ok(None);
+    let opening = match literal_of(definition) {
+        Some((opening, closing)) if separates(closing.behind(1)) => Some(opening),
+        Some(_) | None => None,
     };
-    if !separates(closing.behind(1)) {
-        return Ok(None);
-    }
     for label in labels_inside(alloc, opening)? {
         if label.behind(2).text == reference && is_whole_value(label) {
             return Ok(Some(label.here().text));
@@ -135,11 +122,7 @@ pub(crate) fn field_with<'a>(
 pub(crate) fn literal_of<'s, 'a>(definition: Near<'s, 'a>) -> Option<(Near<'s, 'a>, Near<'s, 'a>)> {
     let opening = definition.moved(2)?;
     let closing = opening.closing()?;
-    if opening.here().text == "{" {
-        Some((opening, closing))
-    } else {
-        None
-    }
+    (opening.here().text == "{").then_some((opening, closing))
 }
 
 /// Whether the value of a label is one token, and the field has to be there.

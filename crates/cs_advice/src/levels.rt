@@ -41,10 +41,7 @@ pub(crate) fn first_too_high<'s, 'a>(
     for (number, bracket) in source.brackets().iter().enumerate() {
         let around = heights.get(bracket.around).copied().unwrap_or(0);
         let opening = opening_of(source, bracket);
-        let own = match opening {
-            Some(near) => own_height(near.part(), near.inside()),
-            None => 0,
-        };
+        let own = opening.map_or(0, |near| own_height(near.part(), near.inside()));
         let outer = around.saturating_add(own);
         heights.push(outer)?;
         match too_high_in(source.held(number), bracket.inside, outer) {
@@ -52,7 +49,7 @@ pub(crate) fn first_too_high<'s, 'a>(
                 first = part.from;
                 found = opening.or(part.first());
             }
-            _ => {}
+            Some(_) | None => {}
         }
     }
     Ok(found)
@@ -60,15 +57,13 @@ pub(crate) fn first_too_high<'s, 'a>(
 
 /// The first part between commas that has a level too deep, in a bracket with so many levels around it.
 fn too_high_in<'s, 'a>(held: Part<'s, 'a>, inside: Inside, outer: usize) -> Option<Part<'s, 'a>> {
-    for place in 0..held.source.tokens.len() {
-        let part = held.part(Separator::Comma, place)?;
-        let leaf = leaves_in(part, inside).min(1);
-        let height = own_height(part, inside).saturating_add(leaf);
-        if outer.saturating_add(height) > MOST_LEVELS {
-            return Some(part);
-        }
-    }
-    None
+    (0..=held.count(Separator::Comma))
+        .filter_map(|place| held.part(Separator::Comma, place))
+        .find(|part| {
+            let leaf = usize::from(has_leaf(*part));
+            let height = own_height(*part, inside).saturating_add(leaf);
+            outer.saturating_add(height) > MOST_LEVELS
+        })
 }
 
 /// How many levels are on the way through a part to a value directly in it, from its bracket on.
@@ -81,65 +76,52 @@ fn own_height(part: Part<'_, '_>, inside: Inside) -> usize {
         .saturating_add(part.count(Separator::Bar).min(1))
 }
 
-/// How many tokens directly in a part are values by themselves, or the literals of limits.
-fn leaves_in(part: Part<'_, '_>, inside: Inside) -> usize {
-    let value = match (inside, part.separator(Separator::Colon, 0)) {
-        (Inside::List | Inside::Parentheses, _) => part,
-        (_, Some(colon)) => part.between(colon, part.to),
-        (_, None) => return 0,
-    };
-    let mut count = 0usize;
-    let mut next = value.first();
-    for _ in value.from..value.to {
+/// Whether a token directly in a part is an expression without parts, or the literal of a limit.
+fn has_leaf(part: Part<'_, '_>) -> bool {
+    let mut next = part.first();
+    for _ in part.from..part.to {
         match next {
-            Some(near) if near.place < value.to => {
-                count = count.saturating_add(usize::from(is_leaf(near)));
-                next = near.next();
-            }
-            _ => return count,
+            Some(near) if near.place < part.to && !is_leaf(near) => next = near.next(),
+            Some(near) => return near.place < part.to,
+            None => return false,
         }
     }
-    count
+    false
 }
 
-/// Whether a token is an expression without parts, or the literal of a limit.
+/// Whether a token is an expression without parts, or the literal of a limit: in a struct or a file behind a colon.
 fn is_leaf(near: Near<'_, '_>) -> bool {
     let token = near.here();
-    token.sort != Sort::Mark && ends_value(token) && !follows_label(near.behind(1))
+    let is_single = token.sort != Sort::Mark && ends_value(token);
+    is_single
+        && !follows_label(near.behind(1))
+        && (matches!(near.inside(), Inside::List | Inside::Parentheses) || near.colon().is_some())
 }
 
-/// How many nodes the expressions of a source have.
+/// How many nodes the expressions of a source of the grammar have.
 pub(crate) fn nodes_of(source: &Source<'_>) -> usize {
-    let mut nodes = 0usize;
-    for (number, bracket) in source.brackets().iter().enumerate() {
-        let is_node = matches!(bracket.inside, Inside::Struct | Inside::List);
-        nodes = nodes
-            .saturating_add(usize::from(is_node))
-            .saturating_add(nodes_inside(source.held(number), bracket.inside));
-    }
-    nodes
-}
-
-/// How many of them are directly in a bracket.
-fn nodes_inside(held: Part<'_, '_>, inside: Inside) -> usize {
-    let mut nodes = 0usize;
-    for place in 0..held.source.tokens.len() {
-        let Some(part) = held.part(Separator::Comma, place) else {
-            break;
-        };
-        nodes = nodes
-            .saturating_add(leaves_in(part, inside))
-            .saturating_add(part.count(Separator::Colon).saturating_sub(1))
-            .saturating_add(part.count(Separator::Bar).min(1))
-            .saturating_add(conjunctions_in(part));
-    }
-    nodes
-}
-
-/// How many alternatives of a part are conjunctions.
-fn conjunctions_in(part: Part<'_, '_>) -> usize {
-    (0..part.count(Separator::Bar).saturating_add(1))
-        .filter_map(|place| part.part(Separator::Bar, place))
-        .filter(|alternative| alternative.count(Separator::Amp) > 0)
+    (0..source.tokens.len())
+        .filter(|place| is_node(source, *place))
         .count()
+}
+
+/// Whether a node shows at a token: a struct or a list at its bracket, or a short field at its colon, a disjunction and a conjunction at
+/// their first operators, and any other one is that token.
+fn is_node(source: &Source<'_>, place: usize) -> bool {
+    let near = Near { source, place };
+    match near.here().text.as_bytes() {
+        [b'{'] => true,
+        [b'['] => source.bracket(source.own(place)).inside == Inside::List,
+        [b'|'] => behind_last(near, Separator::Bar) == near.part().from,
+        [b'&'] => behind_last(near, Separator::Amp) <= behind_last(near, Separator::Bar),
+        [b':'] => near.colon().is_some(),
+        _ => is_leaf(near),
+    }
+}
+
+/// The place behind the last separator of a sort before a token, in what is between commas around it; the beginning of that without one.
+fn behind_last(near: Near<'_, '_>, separator: Separator) -> usize {
+    let from = near.part().from;
+    let last = near.source.last_separator(separator, near.place);
+    last.map_or(from, |last| last.saturating_add(1).max(from))
 }

@@ -13,7 +13,7 @@ mod text;
 mod told;
 
 pub use advice::put_advice;
-pub use cs_text::{put_all, put_count, put_grouped, put_string};
+pub use cs_text::{Written, put_all, put_count, put_grouped, put_string};
 pub use cycles::{put_loop, tell_chain, tell_cycle};
 pub use excerpt::put_excerpt;
 pub use packages::{put_no_root, put_too_large, tell_package_name, tell_too_high};

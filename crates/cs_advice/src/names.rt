@@ -4,7 +4,7 @@ use crate::text::put_filled;
 use cs_forms::{Form, kind_meant, said_of_form};
 use cs_place::position_of;
 use cs_sources::{Declared, Near, Source, declared_in};
-use cs_text::few_edits;
+use cs_text::{Written, few_edits};
 use itoa::Buffer;
 use std::alloc::{AllocError, Global};
 
@@ -46,7 +46,7 @@ fn is_kind(name: &str) -> bool {
 }
 
 /// Puts that a name names a field, and where that is.
-pub(crate) fn put_field_reference(text: &mut String, near: Near<'_, '_>) -> Result<(), AllocError> {
+pub(crate) fn put_field_reference(text: &mut String, near: Near<'_, '_>) -> Written {
     let name = near.here().text;
     put_filled(text, said_of_form(Form::FieldReference), &[name])?;
     if let Some(label) = field_named(*text.allocator(), near)? {
@@ -67,7 +67,7 @@ pub(crate) fn put_unknown(
     name: &str,
     said: &str,
     sources: &[Source<'_>],
-) -> Result<(), AllocError> {
+) -> Written {
     let alloc = *text.allocator();
     let declared = declared_in(alloc, sources)?;
     let nearest = nearest(alloc, name, &declared)?;

@@ -4,8 +4,7 @@ use crate::names::nearest;
 use crate::text::{put_filled, put_left, put_offset, put_tokens};
 use crate::told::Told;
 use cs_sources::{Near, Source, declared_in};
-use cs_text::put_grouped;
-use std::alloc::AllocError;
+use cs_text::{Written, put_grouped};
 
 /// How many definitions a package may have.
 const MOST_DEFINITIONS: usize = 1_000;
@@ -14,10 +13,7 @@ const MOST_LISTED: usize = 8;
 
 /// Tells where a source nests too deep (7), at the bracket or the definition with the first level that is too deep; the file alone
 /// where its tokens show none, and nothing without a source. Only memory can run out.
-pub fn tell_too_high<'a>(
-    told: &mut Told<'a>,
-    source: Option<&Source<'a>>,
-) -> Result<(), AllocError> {
+pub fn tell_too_high<'a>(told: &mut Told<'a>, source: Option<&Source<'a>>) -> Written {
     let Some(source) = source else { return Ok(()) };
     told.named = Some(source.named);
     if let Some(bracket) = first_too_deep(source) {
@@ -30,10 +26,8 @@ pub fn tell_too_high<'a>(
         return Ok(());
     };
     told.place_at(near);
-    let part = match near.held() {
-        Some(_) => "bracket",
-        None => "definition",
-    };
+    let is_bracket = near.held().is_some();
+    let part = if is_bracket { "bracket" } else { "definition" };
     let said =
         "level 29 is in this {}: brackets, short fields, `&`, `|` and the value inside make 28 at most; give an inner part a definition";
     put_filled(&mut told.hint, said, &[part])
@@ -54,7 +48,7 @@ pub fn tell_package_name<'a>(
     told: &mut Told<'a>,
     source: Option<&Source<'a>>,
     sources: &[Source<'a>],
-) -> Result<(), AllocError> {
+) -> Written {
     let Some(source) = source else { return Ok(()) };
     told.named = Some(source.named);
     let Some(name) = clause_of(source) else {
@@ -74,11 +68,7 @@ pub fn tell_package_name<'a>(
 
 /// Puts the names that the sources declare, where the root is none of them (13), and the one that may have been meant. Only memory can run
 /// out.
-pub fn put_no_root(
-    text: &mut String,
-    sources: &[Source<'_>],
-    root: &str,
-) -> Result<(), AllocError> {
+pub fn put_no_root(text: &mut String, sources: &[Source<'_>], root: &str) -> Written {
     let alloc = *text.allocator();
     let declared = declared_in(alloc, sources)?;
     put_filled(text, "no `{}`;", &[root])?;
@@ -92,20 +82,12 @@ pub fn put_no_root(
     let names = declared.firsts.as_slice();
     let listed = names.get(..MOST_LISTED).unwrap_or(names);
     put_tokens(text, "", listed, ", ")?;
-    put_left(
-        text,
-        " and {} more",
-        names.len().saturating_sub(listed.len()),
-    )
+    put_left(text, " and {} more", names.len(), MOST_LISTED)
 }
 
 /// Puts how many definitions or nodes the sources have, where these are too many (14): so many definitions there are, and the nodes
 /// are counted where these are few enough. Only memory can run out.
-pub fn put_too_large(
-    text: &mut String,
-    definitions: usize,
-    sources: &[Source<'_>],
-) -> Result<(), AllocError> {
+pub fn put_too_large(text: &mut String, definitions: usize, sources: &[Source<'_>]) -> Written {
     let remedy = " may be: split the package by roots";
     if definitions > MOST_DEFINITIONS {
         return put_grouped(text, definitions, &[" definitions, and 1,000", remedy]);

@@ -1,12 +1,11 @@
 // Writing into texts.
 use cs_place::{Named, position_of, put_place};
 use cs_sources::Near;
-use cs_text::put_line;
+use cs_text::{Written, put_line};
 use itoa::Buffer;
-use std::alloc::AllocError;
 
 /// Puts words as they are shown, with these parts in place of each `{}` in them, in their order. Only memory can run out.
-pub fn put_filled(text: &mut String, words: &str, parts: &[&str]) -> Result<(), AllocError> {
+pub fn put_filled(text: &mut String, words: &str, parts: &[&str]) -> Written {
     for (at, piece) in words.split("{}").enumerate() {
         if at > 0
             && let Some(part) = parts.get(at - 1)
@@ -24,7 +23,7 @@ pub(crate) fn put_around<'x>(
     words: &str,
     part: &'x str,
     other: &'x str,
-) -> Result<(), AllocError> {
+) -> Written {
     put_filled(text, words, &[part, other, part])
 }
 
@@ -34,14 +33,12 @@ pub(crate) fn put_tokens<'x>(
     first: &'x str,
     tokens: &[Near<'_, '_>],
     last: &'x str,
-) -> Result<(), AllocError> {
+) -> Written {
     for (at, token) in tokens.iter().enumerate() {
-        let front = if at == 0 {
-            first
-        } else if at.saturating_add(1) == tokens.len() {
-            last
-        } else {
-            ", "
+        let front = match at {
+            0 => first,
+            _ if at.saturating_add(1) == tokens.len() => last,
+            _ => ", ",
         };
         put_line(text, &[front])?;
         put_filled(text, "`{}`", &[token.here().text])?;
@@ -49,11 +46,11 @@ pub(crate) fn put_tokens<'x>(
     Ok(())
 }
 
-/// Puts how many are left in place of the `{}` in words, if there are any.
-pub(crate) fn put_left(text: &mut String, words: &str, left: usize) -> Result<(), AllocError> {
-    match left {
+/// Puts how many of so many are left in place of the `{}` in words, if there are more than the most that are shown.
+pub(crate) fn put_left(text: &mut String, words: &str, count: usize, most: usize) -> Written {
+    match count.saturating_sub(most) {
         0 => Ok(()),
-        _ => put_filled(text, words, &[Buffer::new().format(left)]),
+        left => put_filled(text, words, &[Buffer::new().format(left)]),
     }
 }
 
@@ -67,14 +64,14 @@ pub fn line_and_column(named: Named<'_>, offset: usize) -> (usize, usize) {
 }
 
 /// Puts the place of an offset of a text, and words behind it: `NAME:LINE:COLUMN: `. Only memory can run out.
-pub fn put_offset(text: &mut String, named: Named<'_>, offset: usize) -> Result<(), AllocError> {
+pub fn put_offset(text: &mut String, named: Named<'_>, offset: usize) -> Written {
     let (line, column) = line_and_column(named, offset);
     put_place(text, named.name, line, column)?;
     text.push_str(": ")
 }
 
 /// Puts words, and behind them a text as a string of JSON (RFC 8259, section 7). Only memory can run out.
-pub fn put_quoted(text: &mut String, words: &str, inside: &str) -> Result<(), AllocError> {
+pub fn put_quoted(text: &mut String, words: &str, inside: &str) -> Written {
     text.push_str(words)?;
     cs_place::put_quoted(text, inside)
 }

@@ -1,7 +1,7 @@
 // Documents, read from a text, copied, and as the list of their values.
 use crate::step::Step;
 use crate::stop::Stop;
-use cs_doc::{Doc, Scratch, flatten, read_doc, read_flat};
+use cs_json::{Doc, Scratch, flatten, read_doc, read_flat};
 use std::alloc::Global;
 
 /// What the last of so many times counts; the text is read once where a step begins with its document.

@@ -1,7 +1,7 @@
 // Why a step is not taken to its end.
 use cs_compile::CompileFault;
-use cs_doc::DocFault;
 use cs_guard::GuardFault;
+use cs_json::DocFault;
 use cs_resolve::ResolveFault;
 use cs_schema::SchemaFault;
 use cs_syntax::SyntaxFault;

@@ -3,7 +3,7 @@ use Rattle.std.proofs.Common.{◌≡◌, List, [], ◌∷◌, ◌++◌, Bool, tr
 use Rattle.std.specs.List.{AllByRecursion, IsDistinct, list_any}
 use Rattle.std.proofs.lemmas.Map.Keys.{IsDistinct-cons, IsDistinct-head, IsDistinct-tail}
 use Rattle.cs_check.specs.Flaws.{is_same}
-use Rattle.cs_check.specs.declared.schema.flaw.Flaw.{Flaw}
+use Rattle.cs_check.specs.declared.schema.Flaw.{Flaw}
 
 each_push : {A : Type 0} (e : A → A → Bool) (x y : A) (xs : List A) → AllByRecursion (λ z. e x z ≡ false) xs → e x y ≡ false → AllByRecursion (λ z. e x z ≡ false) (xs ++ y ∷ [])
 each_push e x y [] h k = (k, tt)

@@ -1,8 +1,8 @@
 -- The flaws of a schema's text as faults of the tool.
 use Rattle.std.proofs.Common.{◌≡◌, ℕ, List, [], ◌∷◌, map, sym, subst}
 use Rattle.cs_check.specs.Flaws.{IsFirstFlaw, BeginsWithFirstFlaw}
-use Rattle.cs_check.specs.declared.schema.flaw.Flaw.{Flaw}
-use Rattle.cs_check.specs.declared.schema.flaw.Flaw.TheVariants as flaw
+use Rattle.cs_check.specs.declared.schema.Flaw.{Flaw}
+use Rattle.cs_check.specs.declared.schema.Flaw.TheVariants as flaw
 use Rattle.cs_tool.specs.declared.fault.Fault.{Fault}
 use Rattle.cs_check.specs.SchemaFaults.{of_flaw, IsSchemaRefusal, BeginsWithSchemaFault}
 

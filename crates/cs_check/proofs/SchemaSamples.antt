@@ -1,7 +1,7 @@
 -- Want of memory is no fault of a schema, and each flaw is the fault of its number.
 use Rattle.std.proofs.Common.{◌≡◌, ℕ, true, List, [], ◌∷◌, refl, String}
 use Rattle.std.specs.declared.alloc.Global.{Global}
-use Rattle.cs_check.specs.declared.schema.flaw.Flaw.TheVariants as flaw
+use Rattle.cs_check.specs.declared.schema.Flaw.TheVariants as flaw
 use Rattle.cs_tool.specs.Refusals.{number_of}
 use Rattle.cs_tool.specs.declared.fault.Fault.{Fault}
 use Rattle.cs_tool.specs.declared.fault.Fault.TheVariants.{OutOfMemory}

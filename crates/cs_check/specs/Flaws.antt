@@ -4,13 +4,13 @@ use Rattle.std.specs.Bool.{beq}
 use lib.Pointwise.{pointwise}
 use Rattle.cs_document.specs.Document.{Document}
 use Rattle.cs_document.specs.declared.fault.DocFault.TheVariants as doc
-use Rattle.cs_doc.specs.Refusal as unread
-use Rattle.cs_doc.specs.Texts.{Reads}
+use Rattle.cs_json.specs.Refusal as unread
+use Rattle.cs_json.specs.Texts.{Reads}
 use Rattle.cs_profile.specs.Profile.{IsSchema}
 use Rattle.cs_profile.specs.Refusal.{IsRefusal}
 use Rattle.cs_profile.specs.declared.fault.SchemaFault.TheVariants as fault
-use Rattle.cs_check.specs.declared.schema.flaw.Flaw.{Flaw}
-use Rattle.cs_check.specs.declared.schema.flaw.Flaw.TheVariants as flaw
+use Rattle.cs_check.specs.declared.schema.Flaw.{Flaw}
+use Rattle.cs_check.specs.declared.schema.Flaw.TheVariants as flaw
 
 -- two flaws are of one kind, and have the same place and the same names
 abbrev pub is_same : Flaw → Flaw → Bool

@@ -2,8 +2,8 @@
 use Rattle.std.specs.Prelude.{◌≡◌, ℕ, true, List, [], ◌∷◌, map}
 use Rattle.std.specs.List.{IsDistinct}
 use Rattle.cs_check.specs.Flaws.{is_same}
-use Rattle.cs_check.specs.declared.schema.flaw.Flaw.{Flaw}
-use Rattle.cs_check.specs.declared.schema.flaw.Flaw.TheVariants as flaw
+use Rattle.cs_check.specs.declared.schema.Flaw.{Flaw}
+use Rattle.cs_check.specs.declared.schema.Flaw.TheVariants as flaw
 use Rattle.cs_tool.specs.CallRefusals.{ValidateRefusal}
 use Rattle.cs_tool.specs.declared.fault.Fault.{Fault}
 use Rattle.cs_tool.specs.declared.fault.Fault.TheVariants.{SchemaNotJson, NotInteger, Keyword, Shape, Reference, Loop, OutOfMemory}

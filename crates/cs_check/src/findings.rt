@@ -107,16 +107,14 @@ fn unfaulty(alloc: Global, package: &Guarded, named: &[Named<'_>]) -> Result<Fin
     ensures { IfOk result (λ f. ¬ (f.checked ≡ Checked.Faulty)) }
 {
     let warnings = warned(alloc, package)?;
-    let mut lines = String::new(alloc);
-    if warnings.is_empty() {
-        let checked = Checked::Well;
-        return Ok(Findings { checked, lines });
+    let (mut checked, mut lines) = (Checked::Well, String::new(alloc));
+    if !warnings.is_empty() {
+        let sources = sources_of(alloc, named)?;
+        let declared = declared_in(alloc, &sources)?;
+        for warning in &warnings {
+            put_warning(package, warning, &declared, &mut lines)?;
+        }
+        checked = Checked::Warned;
     }
-    let sources = sources_of(alloc, named)?;
-    let declared = declared_in(alloc, &sources)?;
-    for warning in &warnings {
-        put_warning(package, warning, &declared, &mut lines)?;
-    }
-    let checked = Checked::Warned;
     Ok(Findings { checked, lines })
 }

@@ -3,14 +3,29 @@ ghost use Rattle.std.specs.Prelude.{◌≡◌, ◌≤◌, ◌↔◌, [], length,
 ghost use Rattle.cs_tool.specs.CallRefusals.{IsSchemaText};
 ghost use Rattle.cs_check.specs.SchemaFaults.{of_flaw, BeginsWithSchemaFault, AreDistinctFaults};
 
-mod flaw;
 mod flaws;
 mod mending;
 
-use crate::schema::flaw::Flaw;
 use crate::schema::flaws::flaws_in;
 use cs_tool::Fault;
 use std::alloc::{AllocError, Global};
+
+/// Why a text isn't a schema of the profile. A place is the JSON pointer of the schema object at fault.
+#[derive(Drop, PartialEq, Eq)]
+pub enum Flaw {
+    /// `serde_json` reads no value from the text, as shows at the byte of that offset; whether the text is cut off there.
+    NotJson { offset: usize, is_cut: bool },
+    /// The text has a number that isn't an integer, or doesn't fit in 64 signed bits. The first one is at the byte of that offset.
+    NotInteger { offset: usize },
+    /// The profile doesn't have the keyword of that name.
+    Keyword { place: String, name: String },
+    /// The keyword's value doesn't have its shape; with the empty name, the value at the place isn't a schema.
+    Shape { place: String, name: String },
+    /// A `$ref` names a definition that the schema doesn't have.
+    Reference { place: String, name: String },
+    /// Definitions reach themselves: each refers directly to the next, and the last to the first.
+    Loop { names: Vec<String> },
+}
 
 /// The faults of a schema's text, 50 at most and none of them twice. The first one is what `validate` refuses the text for, and
 /// each further one is what it refuses it for once those before it are mended.
@@ -28,7 +43,6 @@ pub fn check_schema(alloc: Global, text: &[u8]) -> Result<Vec<Fault>, Fault>
     Ok(faults_of(alloc, flaws)?)
 }
 
-/// The faults that flaws are.
 fn faults_of(alloc: Global, flaws: Vec<Flaw>) -> Result<Vec<Fault>, AllocError>
     ensures { IfOk result (λ faults. faults.items ≡ map of_flaw flaws.items) }
 {
@@ -39,16 +53,13 @@ fn faults_of(alloc: Global, flaws: Vec<Flaw>) -> Result<Vec<Fault>, AllocError>
     Ok(faults)
 }
 
-/// The fault that a flaw is.
 fn fault_of(flaw: Flaw) -> Fault
     ensures { result ≡ of_flaw flaw }
 {
+    let in_schema = true;
     match flaw {
         Flaw::NotJson { offset, is_cut } => Fault::SchemaNotJson { offset, is_cut },
-        Flaw::NotInteger { offset } => Fault::NotInteger {
-            offset,
-            in_schema: true,
-        },
+        Flaw::NotInteger { offset } => Fault::NotInteger { offset, in_schema },
         Flaw::Keyword { place, name } => Fault::Keyword { place, name },
         Flaw::Shape { place, name } => Fault::Shape { place, name },
         Flaw::Reference { place, name } => Fault::Reference { place, name },

@@ -8,18 +8,16 @@ mod mends;
 mod reading;
 
 use crate::MOST_FAULTS;
-use crate::sources::draft::{drafts_of, mend_fault};
-use crate::sources::reading::{Told, is_of_text};
+use crate::sources::reading::further_faults;
 use cs_tool::{Fault, accepted_package};
 use std::alloc::{AllocError, Global};
 
-/// The faults of sources, 50 at most. The first one is what the sources fail first, and each further one is what they fail
-/// first once those before it are mended, by their offsets in the sources as they are; these are in the order of the sources and of
-/// their places.
+/// The faults of sources, 50 at most. The first one is what the sources fail first, and each further one is what they fail first once
+/// those before it are mended, by their offsets in the sources as they are; these are in the order of the sources and of their places.
 ///
 /// A mend takes a label, an operand or a declaration out, so what else is wrong in it is told once its author has mended it. Names are
-/// also told where a source was mended until it spells a file, but for those that stand in what was taken out; structs that have to
-/// be opened, and recursion, where all sources spell files as they are.
+/// also told where a source was mended until it spells a file, but for those that stand in what was taken out; structs that have to be
+/// opened, and recursion, where all sources spell files as they are.
 pub fn check(alloc: Global, sources: &[&[u8]]) -> Result<Vec<Fault>, Fault>
     ensures first { IfOk result (λ faults. BeginsWithFirst (bytes_in sources.now) faults.items) }
     ensures none { IfOk result
@@ -47,28 +45,4 @@ fn faults_from(alloc: Global, sources: &[&[u8]], first: Fault) -> Result<Vec<Fau
     faults.truncate(MOST_FAULTS - 1);
     faults.insert(0, first)?;
     Ok(faults)
-}
-
-/// The faults behind the first one.
-fn further_faults(
-    alloc: Global,
-    sources: &[&[u8]],
-    first: &Fault,
-) -> Result<Vec<Fault>, AllocError> {
-    let mut told = Told::new(alloc, first);
-    match first {
-        fault if is_of_text(fault) => told.tell_texts(&mut drafts_of(alloc, sources)?)?,
-        Fault::UnknownName { .. }
-        | Fault::FieldReference { .. }
-        | Fault::NotOpened { .. }
-        | Fault::Cycle { .. } => {
-            let mut drafts = drafts_of(alloc, sources)?;
-            if mend_fault(&mut drafts, first)? {
-                told.tell_package(&mut drafts, None)?;
-            }
-        }
-        // What these are about isn't a place that can be mended.
-        _ => {}
-    }
-    told.in_order()
 }

@@ -31,8 +31,11 @@ pub struct Warning<'a> {
 pub fn warned<'a>(alloc: Global, package: &'a Guarded) -> Result<Vec<Warning<'a>>, AllocError>
     ensures none { IfOk result (λ v. AllByRecursion (λ w. HasNoDocument «package».now w.definition) v.items) }
 {
-    let empty = empty_definitions(alloc, package)?;
-    told(alloc, package.package(), &empty)
+    match without_instance(alloc, package) {
+        Ok(empty) => told(alloc, package.package(), &empty),
+        Err(QuestionFault::OutOfMemory) => Err(AllocError),
+        Err(QuestionFault::TooManyCases | QuestionFault::UnknownRoot) => Ok(Vec::new(alloc)),
+    }
 }
 
 /// A warning for each definition that is known to have no instance.
@@ -52,16 +55,4 @@ fn told<'a>(
         }
     }
     Ok(warnings)
-}
-
-/// For each definition whether it is found that no document is an instance of it; none at all where the question meets a limit.
-fn empty_definitions(alloc: Global, package: &Guarded) -> Result<Vec<bool>, AllocError>
-    ensures { IfOk result (λ v. (i : ℕ) → slice_get v.items i ≡ Some true
-        → HasNoDocument «package».now i) }
-{
-    match without_instance(alloc, package) {
-        Ok(empty) => Ok(empty),
-        Err(QuestionFault::OutOfMemory) => Err(AllocError),
-        Err(QuestionFault::TooManyCases | QuestionFault::UnknownRoot) => Ok(Vec::new(alloc)),
-    }
 }

@@ -3,7 +3,7 @@ use Rattle.std.specs.Prelude.{◌≡◌, ℕ, List, Bool, true, false}
 use Rattle.cs_document.specs.Document.{Document, IsDocument}
 use Rattle.cs_package.specs.Environment.{Environment}
 use Rattle.cs_instance.specs.Instance.{Rule, definition, IsInstance, OneMeaning}
-use Rattle.cs_pretty.specs.Shown.{IsShown}
+use Rattle.cs_json.specs.Shown.{IsShown}
 use Rattle.cs_question.specs.ReadAgain.{IsReadAgain}
 use Rattle.cs_tool.specs.Accepted.{DeclaresRoot}
 use Rattle.cs_compare.specs.declared.comparison.Comparison.{Comparison}

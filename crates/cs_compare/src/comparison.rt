@@ -12,7 +12,7 @@ use crate::refusal::{CompareRefusal, Side, of_question};
 use cs_document::Doc;
 use cs_guard::Guarded;
 use cs_instance::one_meaning;
-use cs_pretty::shown_text;
+use cs_json::shown_text;
 use cs_question::{Budget, separating};
 use cs_tool::{Fault, read_root};
 use std::alloc::Global;

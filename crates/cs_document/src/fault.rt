@@ -1,4 +1,4 @@
-// The refusals of documents. No function here reads a text: `NotJson` and `NotInteger` are those of `cs_doc`, of which
+// The refusals of documents. No function here reads a text: `NotJson` and `NotInteger` are those of `cs_json`, of which
 // `Doc::copy` answers the same type.
 use cs_meanings::meaning;
 use std::alloc::{AllocError, AllocFailed};

@@ -2,7 +2,7 @@
 use Rattle.std.specs.Prelude.{◌≡◌, ℕ, suc, ◌≤◌, List, Bool, false, IsSome, if◌then◌else◌}
 use Rattle.serde_json.specs.Read.{max_depth}
 use Rattle.cs_document.specs.Document.{Document, IsDocument, depth}
-use Rattle.cs_doc.specs.Texts.{Reads, text_of}
+use Rattle.cs_json.specs.Texts.{Reads, text_of}
 use Rattle.cs_package.specs.Environment.{Environment, bodies}
 use Rattle.cs_instance.specs.Instance.{Rule, definition, IsInstance}
 use Rattle.cs_instance.specs.Instance as instance

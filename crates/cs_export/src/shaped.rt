@@ -1,6 +1,6 @@
 // From a schema to the text that is asked for.
 ghost use Rattle.std.specs.Prelude.{◌≡◌, ◌≤◌, suc, false, IfOk, IsOkUnless, if◌then◌else◌};
-ghost use Rattle.cs_doc.specs.Texts.{text_of as compact_text};
+ghost use Rattle.cs_json.specs.Texts.{text_of as compact_text};
 ghost use Rattle.cs_document.specs.Document.{depth};
 ghost use Rattle.cs_document.specs.View.{doc_view};
 ghost use Rattle.cs_schema.specs.Profile.{IsSchema};
@@ -14,9 +14,8 @@ use crate::components::components;
 use crate::layout::Layout;
 use cs_comments::notes_of;
 use cs_describe::described;
-use cs_doc::write_doc;
 use cs_document::Doc;
-use cs_pretty::write_pretty;
+use cs_json::{write_doc, write_pretty};
 use cs_schema::{SchemaDoc, to_doc};
 use cs_tool::Fault;
 use std::alloc::Global;

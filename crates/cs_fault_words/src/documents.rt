@@ -1,17 +1,13 @@
 // What is told of texts that are refused, and of documents with too many pairs.
 use crate::told::About;
-use cs_advice::{Told, put_filled, put_grouped};
+use cs_advice::{Told, Written, put_filled, put_grouped};
 use cs_place::{Named, pointer_at};
 use cs_sources::Source;
 use simdutf8::compat::from_utf8;
-use std::alloc::AllocError;
 use std::str;
 
 /// Tells where a source isn't UTF-8 (2).
-pub(crate) fn tell_not_utf8<'a>(
-    told: &mut Told<'a>,
-    source: Option<&Source<'a>>,
-) -> Result<(), AllocError> {
+pub(crate) fn tell_not_utf8<'a>(told: &mut Told<'a>, source: Option<&Source<'a>>) -> Written {
     let Some(source) = source else { return Ok(()) };
     told.named = Some(source.named);
     let Err(error) = from_utf8(source.named.text) else {
@@ -29,7 +25,7 @@ pub(crate) fn tell_not_json<'a>(
     named: Option<Named<'a>>,
     offset: usize,
     is_cut: bool,
-) -> Result<(), AllocError> {
+) -> Written {
     let Some(named) = named else { return Ok(()) };
     told.place(named, offset, offset);
     if named.text.starts_with(&[0xef, 0xbb, 0xbf]) {
@@ -49,7 +45,7 @@ pub(crate) fn tell_not_integer<'a>(
     told: &mut Told<'a>,
     named: Option<Named<'a>>,
     offset: usize,
-) -> Result<(), AllocError> {
+) -> Written {
     let Some(named) = named else { return Ok(()) };
     told.pointer = Some(pointer_at(told.alloc(), named.text, offset)?);
     let rest = named.text.get(offset..).unwrap_or(&[]);
@@ -75,7 +71,7 @@ pub(crate) fn tell_too_many_pairs<'a>(
     items: usize,
     rules: usize,
     by_schema: bool,
-) -> Result<(), AllocError> {
+) -> Written {
     if about.document.is_none() {
         return Ok(());
     }

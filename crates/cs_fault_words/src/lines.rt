@@ -1,6 +1,6 @@
 // Refusals in lines, for people and for problem matchers.
 use crate::told::{About, tell};
-use cs_advice::{Told, put_all, put_excerpt, put_filled, put_offset};
+use cs_advice::{Told, Written, put_all, put_excerpt, put_filled, put_offset};
 use cs_meanings::EXPLANATIONS;
 use cs_place::Named;
 use cs_sources::{Source, sources_of};
@@ -35,11 +35,7 @@ pub fn why_refused(alloc: Global, fault: &Fault, about: About<'_>) -> Result<Str
 }
 
 /// Puts the lines of a refusal: the last ones are for files with their bytes.
-fn put_refusal(
-    text: &mut String,
-    told: &Told<'_>,
-    sizes: &[(&str, u64)],
-) -> Result<(), AllocError> {
+fn put_refusal(text: &mut String, told: &Told<'_>, sizes: &[(&str, u64)]) -> Written {
     put_told(text, told, told.start, &[])?;
     if let (Some(named), Some(start)) = (told.named, told.start) {
         put_excerpt(text, named.text, start, told.end)?;
@@ -60,7 +56,7 @@ pub fn put_finding<'a>(
     root: &str,
     schema: Option<Named<'a>>,
     sources: &[Source<'a>],
-) -> Result<(), AllocError> {
+) -> Written {
     let mut told = Told::new(alloc);
     tell(&mut told, fault, about_schema(schema), root, sources)?;
     let mut buffer = Buffer::new();
@@ -85,12 +81,7 @@ fn about_schema<'a>(schema: Option<Named<'a>>) -> About<'a> {
 
 /// Puts the line of a refusal: the file and the place in it, as far as they are known, these words, the pointer of the value at fault,
 /// and what to do.
-fn put_told(
-    text: &mut String,
-    told: &Told<'_>,
-    start: Option<usize>,
-    words: &[&str],
-) -> Result<(), AllocError> {
+fn put_told(text: &mut String, told: &Told<'_>, start: Option<usize>, words: &[&str]) -> Written {
     match (told.named, start) {
         (Some(named), Some(start)) => put_offset(text, named, start)?,
         (Some(named), None) => put_filled(text, "{}: ", &[named.name])?,

@@ -1,6 +1,6 @@
 // Refusals as objects of JSON, for programs.
 use crate::told::{About, tell};
-use cs_advice::{Told, line_and_column, put_all, put_count, put_quoted, put_string};
+use cs_advice::{Told, Written, line_and_column, put_all, put_count, put_quoted, put_string};
 use cs_forms::form_name;
 use cs_place::Named;
 use cs_sources::sources_of;
@@ -59,7 +59,7 @@ fn members_of(alloc: Global, fault: &Fault, about: About<'_>) -> Result<String, 
 }
 
 /// Puts the place of a fault, the form, the pointer and what to do.
-fn put_members(text: &mut String, fault: &Fault, told: &Told<'_>) -> Result<(), AllocError> {
+fn put_members(text: &mut String, fault: &Fault, told: &Told<'_>) -> Written {
     if let Some(named) = told.named {
         put_place(text, fault, named, fault.offset().or(told.start))?;
     }
@@ -73,12 +73,7 @@ fn put_members(text: &mut String, fault: &Fault, told: &Told<'_>) -> Result<(), 
 }
 
 /// Puts the file of a fault that doesn't name it itself, and the line and the column of its place.
-fn put_place(
-    text: &mut String,
-    fault: &Fault,
-    named: Named<'_>,
-    start: Option<usize>,
-) -> Result<(), AllocError> {
+fn put_place(text: &mut String, fault: &Fault, named: Named<'_>, start: Option<usize>) -> Written {
     match fault {
         Fault::ReadFailed | Fault::InputTooLong => put_string(text, "path", named.name)?,
         _ if fault.file().is_some() => {}
@@ -91,7 +86,7 @@ fn put_place(
 }
 
 /// Puts the files with their bytes, if there are any, and the end of the object.
-fn put_sizes(text: &mut String, sizes: &[(&str, u64)]) -> Result<(), AllocError> {
+fn put_sizes(text: &mut String, sizes: &[(&str, u64)]) -> Written {
     let mut front = ",\"files\":[{\"path\":";
     for (path, size) in sizes {
         put_quoted(text, front, path)?;

@@ -1,8 +1,10 @@
 // What is told of schemas that are refused.
-use cs_advice::{Told, put_filled, put_loop};
+use cs_advice::{Told, Written, put_filled, put_loop};
 use cs_place::{Named, Step, ValuePath, places};
 use cs_tool::Fault;
+use json::{Reader, Scratch, Token};
 use std::alloc::{AllocError, Global};
+use std::str;
 
 /// What a step of a pointer into a schema leads to.
 #[derive(Clone, Copy)]
@@ -26,12 +28,10 @@ fn keys_of(alloc: Global, pointer: &str, keyword: &str) -> Result<Vec<String>, A
     let mut keys = Vec::new(alloc);
     for key in pointer.split('/').skip(1) {
         let key = key.replace(alloc, "~1", "/")?;
-        let key = key.replace(alloc, "~0", "~")?;
-        keys.push(key)?;
+        keys.push(key.replace(alloc, "~0", "~")?)?;
     }
     if !keyword.is_empty() {
-        let keyword = String::from_str(alloc, keyword)?;
-        keys.push(keyword)?;
+        keys.push(String::from_str(alloc, keyword)?)?;
     }
     Ok(keys)
 }
@@ -40,25 +40,23 @@ fn keys_of(alloc: Global, pointer: &str, keyword: &str) -> Result<Vec<String>, A
 fn offset_of(alloc: Global, text: &[u8], keys: &[String]) -> Result<Option<usize>, AllocError> {
     let mut paths = Vec::with_capacity(alloc, keys.len())?;
     let mut part = Part::Schema;
-    let mut parent = None;
     for (at, key) in keys.iter().enumerate() {
         let key = key.as_str();
-        let step = match part {
-            Part::Elements => Step::Element(key.parse::<usize>().unwrap_or(0)),
-            Part::Schema | Part::Names => Step::Key(key),
+        let (step, next) = match part {
+            Part::Schema => (Step::Key(key), part_under(key)),
+            Part::Names => (Step::Key(key), Part::Schema),
+            Part::Elements => (
+                Step::Element(key.parse::<usize>().unwrap_or(0)),
+                Part::Schema,
+            ),
         };
-        part = match part {
-            Part::Schema => part_under(key),
-            Part::Names | Part::Elements => Part::Schema,
-        };
+        let parent = at.checked_sub(1);
         paths.push(ValuePath { parent, step })?;
-        parent = Some(at);
+        part = next;
     }
     let found = places(alloc, text, &paths)?;
-    Ok(match found.last().copied().flatten() {
-        Some(place) => Some(place.key.unwrap_or(place.value)),
-        None => None,
-    })
+    let found = found.last().copied().flatten();
+    Ok(found.map(|place| place.key.unwrap_or(place.value)))
 }
 
 /// Tells of a keyword, its value or a reference in a schema, or of definitions that refer to one another in a loop (21 to 24).
@@ -66,7 +64,7 @@ pub(crate) fn tell_schema_fault<'a>(
     told: &mut Told<'a>,
     schema: Option<Named<'a>>,
     fault: &Fault,
-) -> Result<(), AllocError> {
+) -> Written {
     let text = &mut told.hint;
     let (pointer, keyword) = match fault {
         Fault::Keyword { place, name } => {
@@ -109,26 +107,26 @@ fn place_at_keyword<'a>(
     schema: Named<'a>,
     pointer: &str,
     keyword: &str,
-) -> Result<(), AllocError> {
+) -> Written {
     told.named = Some(schema);
     let keys = keys_of(told.alloc(), pointer, keyword)?;
     if let Some(offset) = offset_of(told.alloc(), schema.text, &keys)? {
-        told.place(schema, offset, text_end(schema.text, offset));
+        let end = text_end(told.alloc(), schema.text, offset)?;
+        told.place(schema, offset, end);
     }
     Ok(())
 }
 
 /// The place behind the text of JSON that begins at an offset; the offset itself where none does.
-fn text_end(text: &[u8], offset: usize) -> usize {
-    let [b'"', rest @ ..] = text.get(offset..).unwrap_or(&[]) else {
-        return offset;
+fn text_end(alloc: Global, text: &[u8], offset: usize) -> Result<usize, AllocError> {
+    let rest = str::from_utf8(text.get(offset..).unwrap_or(&[])).unwrap_or("");
+    let mut scratch = Scratch::new(alloc);
+    let mut reader = Reader::new(rest, &mut scratch)?;
+    let Some(Token::Key(_) | Token::String(_)) = reader.next() else {
+        return Ok(offset);
     };
-    let mut is_escaped = false;
-    for (at, byte) in rest.iter().enumerate() {
-        if *byte == b'"' && !is_escaped {
-            return offset.saturating_add(at).saturating_add(2);
-        }
-        is_escaped = *byte == b'\\' && !is_escaped;
-    }
-    offset
+    // The reader has come to the next token, and no quote is between the text and that.
+    let passed = rest.get(..reader.offset()).unwrap_or(rest);
+    let last = passed.rfind('"').unwrap_or(0);
+    Ok(offset.saturating_add(last).saturating_add(1))
 }

@@ -2,15 +2,14 @@
 use crate::documents::{tell_not_integer, tell_not_json, tell_not_utf8, tell_too_many_pairs};
 use crate::schemas::tell_schema_fault;
 use cs_advice::{
-    Told, put_advice, put_all, put_filled, put_no_root, put_too_large, tell_chain, tell_cycle,
-    tell_package_name, tell_too_high,
+    Told, Written, put_advice, put_all, put_filled, put_no_root, put_too_large, tell_chain,
+    tell_cycle, tell_package_name, tell_too_high,
 };
 use cs_forms::{Form, Found, form_left_out, form_out_of_place, form_stuck, form_unknown};
 use cs_meanings::explanation;
 use cs_place::Named;
 use cs_sources::{Near, Source};
 use cs_tool::Fault;
-use std::alloc::AllocError;
 
 /// What a call was given, as far as it is known.
 #[derive(Clone, Copy)]
@@ -36,7 +35,7 @@ pub(crate) fn tell<'a>(
     about: About<'a>,
     root: &str,
     sources: &[Source<'a>],
-) -> Result<(), AllocError> {
+) -> Written {
     tell_by_kind(told, fault, about, root, sources)?;
     if told.hint.is_empty() && told.named.is_none() {
         told.named = about.path.map(|name| Named {
@@ -60,7 +59,7 @@ fn tell_form<'a>(
     fault: &Fault,
     source: Option<&Source<'a>>,
     sources: &[Source<'a>],
-) -> Result<(), AllocError> {
+) -> Written {
     let (Some(source), Some(offset)) = (source, fault.offset()) else {
         return Ok(());
     };
@@ -89,7 +88,7 @@ fn tell_by_kind<'a>(
     about: About<'a>,
     root: &str,
     sources: &[Source<'a>],
-) -> Result<(), AllocError> {
+) -> Written {
     let source = fault.file().and_then(|file| sources.get(file));
     let (schema, document) = (about.schema, about.document);
     match fault {

@@ -28,13 +28,18 @@ pub fn form_left_out(near: Near<'_, '_>) -> Found {
 }
 
 fn form_of_word(word: &str) -> Form {
-    match word {
-        "import" => Form::Import,
-        "let" => Form::Let,
-        "for" => Form::For,
-        "if" => Form::If,
-        _ => Form::Misplaced,
+    match form_of_clause(word) {
+        Some(form) => form,
+        None if word == "import" => Form::Import,
+        None => Form::Misplaced,
     }
+}
+
+/// The form of a clause that a word begins.
+pub(crate) fn form_of_clause(word: &str) -> Option<Form> {
+    let clauses = [("let", Form::Let), ("for", Form::For), ("if", Form::If)];
+    let (_, form) = clauses.iter().find(|(name, _)| *name == word)?;
+    Some(*form)
 }
 
 fn form_of_mark(near: Near<'_, '_>) -> Form {

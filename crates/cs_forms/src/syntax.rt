@@ -1,5 +1,6 @@
 // Forms at a token that is out of place, and that the profile has elsewhere (4).
 use crate::forms::{Form, Found};
+use crate::names::form_of_clause;
 use cs_grammar::{Sort, Token};
 use cs_sources::{Inside, Near, begins_value, ends_value, follows_label, separates};
 
@@ -20,14 +21,12 @@ pub fn form_out_of_place(near: Near<'_, '_>) -> Found {
 /// The form after a word that begins a clause, or of a value after the mark of a limit, or after its sign.
 fn after_word(near: Near<'_, '_>) -> Option<Found> {
     let (first, before, here) = (near.before(2), near.before(1), near.here());
-    match before.text {
-        "if" => Some(Found::before(near, Form::If)),
-        "for" => Some(Found::before(near, Form::For)),
-        "let" => Some(Found::before(near, Form::Let)),
-        _ if !begins_value(here) => None,
-        "-" if is_relation(first) => Some(Found::at(near, Form::Limit)),
-        _ if is_relation(before) => Some(Found::at(near, form_of_limit(here))),
-        _ => None,
+    match form_of_clause(before.text) {
+        Some(form) => Some(Found::before(near, form)),
+        None if !begins_value(here) => None,
+        None if before.text == "-" && is_relation(first) => Some(Found::at(near, Form::Limit)),
+        None if is_relation(before) => Some(Found::at(near, form_of_limit(here))),
+        None => None,
     }
 }
 
@@ -114,7 +113,8 @@ fn plain(near: Near<'_, '_>) -> Found {
         _ if begins_value(here) && is_parted => Found::at(near, Form::NewLineInList),
         _ if is_end(here) && wants_value(before) => Found::at(near, Form::MissingValue),
         [b'}' | b']' | b')'] => closing(near),
-        [] if is_at_end(near) => closing(near),
+        // The end, or the comma that it inserts.
+        [] if near.behind(1).sort == Sort::End => closing(near),
         _ => Found::at(near, Form::Misplaced),
     }
 }
@@ -127,18 +127,13 @@ fn is_label_before(near: Near<'_, '_>) -> bool {
     is_label && is_first && near.here().text != ":"
 }
 
-/// Whether the source ends at the token, the comma that its end inserts aside.
-fn is_at_end(near: Near<'_, '_>) -> bool {
-    near.here().sort == Sort::End || near.behind(1).sort == Sort::End
-}
-
 /// Whether an expression ends before a token.
 fn is_end(token: Token<'_>) -> bool {
-    let is_mark = matches!(
-        token.text.as_bytes(),
-        [b'}' | b']' | b')' | b'&' | b'|' | b':']
-    );
-    is_mark || separates(token)
+    separates(token)
+        || matches!(
+            token.text.as_bytes(),
+            [b'}' | b']' | b')' | b'&' | b'|' | b':']
+        )
 }
 
 /// Whether a value has to follow a token.

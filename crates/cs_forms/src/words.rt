@@ -1,140 +1,123 @@
 // The words of forms: what programs call them, and what people are told.
 use crate::forms::Form;
 
-/// A row of a table.
-#[derive(Clone, Copy)]
-struct Row {
-    /// The name of a form for programs, which stays as it is, or a name that a source has.
-    name: &'static str,
-    /// What is said of it.
-    said: &'static str,
-}
-
 macro_rules! rows {
-    ($($name:literal: $said:literal,)*) => { [$(Row { name: $name, said: $said }),*] };
+    ($($name:expr => $said:literal,)*) => { [$(($name, $said)),*] };
 }
 
-/// What is said of each form, in their order: a `{}` stands for what its place tells. A form without a row is refused by the prover.
-const FORMS: [Row; 57] = rows! {
-    "byte-order-mark": "a byte order mark: save the file as UTF-8 without it",
-    "float": "floats are left out: scale it (percent, milliseconds)",
-    "number-spelling": "`{}`: {}",
-    "attribute": "attributes are left out: take it out",
-    "interpolation": "interpolation is left out: write each text out",
-    "bytes": "texts in single quotes are bytes, which JSON doesn't have: write a text in double quotes",
-    "multi-line-text": "texts over several lines are left out: write it on one line, with \\n for a new line",
-    "raw-text": "raw texts are left out: write it in double quotes, with \\ before each \" and \\",
-    "escape": "a text may have the escapes \\a \\b \\f \\n \\r \\t \\v \\/ \\\\ \\\" \\uHHHH \\UHHHHHHHH alone, and no surrogates",
-    "unclosed-text": "this text doesn't end on its line",
-    "stray-character": "no token begins with this character",
-    "default-mark": "default marks are left out",
-    "import": "imports are left out; remove it and write what it gives by hand (`net.FQDN`, `time.Time`: `string`)",
-    "package-value": "`{}`: packages are left out{}",
-    "package-call": "`{}`: calls of packages are left out{}",
-    "selector": "`{}`: what `.` selects is left out; give the field's value a definition and name it in both places",
-    "index": "what brackets select is left out; give the element's value a definition and name it",
-    "close": "drop `close`: structs of definitions are closed already",
-    "call": "`{}`: calls are left out",
-    "regular-expression": "regular expressions are left out; `string` is what remains",
-    "pattern": "of patterns only `[string]: T` is taken",
-    "alias-label": "of patterns only `[string]: T` is taken, without an alias",
-    "alias": "aliases are left out; give the value a definition and name it",
-    "dynamic-label": "labels in parentheses are left out; write each field out, or `[string]: T`",
-    "limit": "the limit of `{}` has to be a literal",
-    "limit-kind": "the limit of `{}` has to be {}",
-    "if": "`if`: comprehensions are left out; say the cases as alternatives: `{mode: \"prod\", tls: {..}} | {mode: \"dev\"}`",
-    "for": "`for`: comprehensions are left out; write the fields out, or `[string]: T`",
-    "let": "`let` is left out",
-    "embedded-definition": "an embedded definition: write its fields out, or `{} & {{}, ...}` with `...` in `{}` too",
-    "embedded-struct": "an embedded struct: put the fields around it into each alternative",
-    "embedded-value": "a field has to begin here: values that are embedded in a struct are left out",
-    "nested-definition": "a definition stands at the top of a file: move it there",
-    "hidden-name": "hidden fields are left out: give the value a definition and name it: `#{}`",
-    "arithmetic": "arithmetic is left out; write the result, as 3600 for `60 * 60`",
-    "comparison": "`{}`: {}",
-    "top-level-field": "a field at the top of a file: a root is a definition",
-    "top-level-value": "only definitions stand at the top of a file: `#NAME: ..`",
-    "typed-ellipsis": "`...T` is for lists; in a struct write `[string]: T` for the value under every key, or `...` alone",
-    "early-ellipsis": "`...` comes last: nothing may follow it",
-    "late-package": "`package` stands at the head of a file",
-    "digit-label": "a label that begins with a digit stands in double quotes",
-    "negation": "negation is left out: `!=` excludes a literal",
-    "missing-colon": "a label needs `:` and a value; values that are embedded in a struct are left out",
-    "missing-comma": "a comma, a new line or an operator is missing here",
-    "new-line-in-list": "a new line doesn't part elements of a list: put a comma behind each",
-    "missing-value": "a value is missing here",
-    "broken-line": "the line before ended the value: put the operator at its end",
-    "unclosed": "this bracket isn't closed, or what is inside doesn't end before another one closes",
-    "stray-bracket": "no bracket is open that this closes",
-    "misplaced": "this is out of place",
-    "large-integer": "`{}`: integers are from -9223372036854775808 to 9223372036854775807",
-    "unknown-kind": "`{}`: {}",
-    "unknown-name": "`{}` isn't declared",
-    "unknown-definition": "`{}` isn't declared; give the file that declares it too",
-    "field-reference": "`{}` is a field",
-    "not-opened": "this struct is joined with others: end each of them with `...`, or write all fields into one",
+/// What is said of names, each row of several.
+type Sayings = &'static [(&'static [&'static str], &'static str)];
+
+/// What programs call each form, and what is said of it, in their order: a `{}` stands for what its place tells. A form without a row is
+/// refused by the prover.
+const FORMS: [(&str, &str); 57] = rows! {
+    "byte-order-mark" => "a byte order mark: save the file as UTF-8 without it",
+    "float" => "floats are left out: scale it (percent, milliseconds)",
+    "number-spelling" => "`{}`: {}",
+    "attribute" => "attributes are left out: take it out",
+    "interpolation" => "interpolation is left out: write each text out",
+    "bytes" => "texts in single quotes are bytes, which JSON doesn't have: write a text in double quotes",
+    "multi-line-text" => "texts over several lines are left out: write it on one line, with \\n for a new line",
+    "raw-text" => "raw texts are left out: write it in double quotes, with \\ before each \" and \\",
+    "escape" => "a text may have the escapes \\a \\b \\f \\n \\r \\t \\v \\/ \\\\ \\\" \\uHHHH \\UHHHHHHHH alone, and no surrogates",
+    "unclosed-text" => "this text doesn't end on its line",
+    "stray-character" => "no token begins with this character",
+    "default-mark" => "default marks are left out",
+    "import" => "imports are left out; remove it and write what it gives by hand (`net.FQDN`, `time.Time`: `string`)",
+    "package-value" => "`{}`: packages are left out{}",
+    "package-call" => "`{}`: calls of packages are left out{}",
+    "selector" => "`{}`: what `.` selects is left out; give the field's value a definition and name it in both places",
+    "index" => "what brackets select is left out; give the element's value a definition and name it",
+    "close" => "drop `close`: structs of definitions are closed already",
+    "call" => "`{}`: calls are left out",
+    "regular-expression" => "regular expressions are left out; `string` is what remains",
+    "pattern" => "of patterns only `[string]: T` is taken",
+    "alias-label" => "of patterns only `[string]: T` is taken, without an alias",
+    "alias" => "aliases are left out; give the value a definition and name it",
+    "dynamic-label" => "labels in parentheses are left out; write each field out, or `[string]: T`",
+    "limit" => "the limit of `{}` has to be a literal",
+    "limit-kind" => "the limit of `{}` has to be {}",
+    "if" => "`if`: comprehensions are left out; say the cases as alternatives: `{mode: \"prod\", tls: {..}} | {mode: \"dev\"}`",
+    "for" => "`for`: comprehensions are left out; write the fields out, or `[string]: T`",
+    "let" => "`let` is left out",
+    "embedded-definition" => "an embedded definition: write its fields out, or `{} & {{}, ...}` with `...` in `{}` too",
+    "embedded-struct" => "an embedded struct: put the fields around it into each alternative",
+    "embedded-value" => "a field has to begin here: values that are embedded in a struct are left out",
+    "nested-definition" => "a definition stands at the top of a file: move it there",
+    "hidden-name" => "hidden fields are left out: give the value a definition and name it: `#{}`",
+    "arithmetic" => "arithmetic is left out; write the result, as 3600 for `60 * 60`",
+    "comparison" => "`{}`: {}",
+    "top-level-field" => "a field at the top of a file: a root is a definition",
+    "top-level-value" => "only definitions stand at the top of a file: `#NAME: ..`",
+    "typed-ellipsis" => "`...T` is for lists; in a struct write `[string]: T` for the value under every key, or `...` alone",
+    "early-ellipsis" => "`...` comes last: nothing may follow it",
+    "late-package" => "`package` stands at the head of a file",
+    "digit-label" => "a label that begins with a digit stands in double quotes",
+    "negation" => "negation is left out: `!=` excludes a literal",
+    "missing-colon" => "a label needs `:` and a value; values that are embedded in a struct are left out",
+    "missing-comma" => "a comma, a new line or an operator is missing here",
+    "new-line-in-list" => "a new line doesn't part elements of a list: put a comma behind each",
+    "missing-value" => "a value is missing here",
+    "broken-line" => "the line before ended the value: put the operator at its end",
+    "unclosed" => "this bracket isn't closed, or what is inside doesn't end before another one closes",
+    "stray-bracket" => "no bracket is open that this closes",
+    "misplaced" => "this is out of place",
+    "large-integer" => "`{}`: integers are from -9223372036854775808 to 9223372036854775807",
+    "unknown-kind" => "`{}`: {}",
+    "unknown-name" => "`{}` isn't declared",
+    "unknown-definition" => "`{}` isn't declared; give the file that declares it too",
+    "field-reference" => "`{}` is a field",
+    "not-opened" => "this struct is joined with others: end each of them with `...`, or write all fields into one",
 };
 
 /// What to write instead of what a package gives, by its name; it goes on with another sentence.
-const PACKAGES: &[Row] = &rows! {
-    "list": "; `[T, T, ...T]` has at least two elements, `[] | [T] | [T, T]` at most two; that they differ can't be said",
-    "strings": "; `!=\"\"` is a text that isn't empty; other lengths can't be said, but each text can: `\"a\" | \"b\"`",
-    "math": "; what can be said of a number is bounds, as `>=0 & <=100`, or each number: `0 | 2 | 4`",
-    "struct": "; fields without `?` have to be there; how many there are can't be said",
+const PACKAGES: Sayings = &rows! {
+    &["list"] => "; `[T, T, ...T]` has at least two elements, `[] | [T] | [T, T]` at most two; that they differ can't be said",
+    &["strings"] => "; `!=\"\"` is a text that isn't empty; other lengths can't be said, but each text can: `\"a\" | \"b\"`",
+    &["math"] => "; what can be said of a number is bounds, as `>=0 & <=100`, or each number: `0 | 2 | 4`",
+    &["struct"] => "; fields without `?` have to be there; how many there are can't be said",
 };
 
 /// What is said of conditions and comparisons.
-const COMPARISONS: &[Row] = &rows! {
-    "&&": "conditions are left out: `&` joins types, and `|` gives alternatives",
-    "||": "conditions are left out: `&` joins types, and `|` gives alternatives",
-    "==": "comparisons are left out: fields can't be compared; say the cases as alternatives",
+const COMPARISONS: Sayings = &rows! {
+    &["&&", "||"] => "conditions are left out: `&` joins types, and `|` gives alternatives",
+    &["=="] => "comparisons are left out: fields can't be compared; say the cases as alternatives",
 };
 
 /// What to write for kinds of CUE that the profile leaves out.
-const KINDS: &[Row] = &rows! {
-    "float": "floats are left out; write `int`, and scale it (percent, milliseconds)",
-    "float32": "floats are left out; write `int`, and scale it (percent, milliseconds)",
-    "float64": "floats are left out; write `int`, and scale it (percent, milliseconds)",
-    "bytes": "JSON has no bytes; agree on a text, such as base64, and write `string`",
-    "uint64": "integers have 64 signed bits; write `uint`",
-    "uint128": "integers have 64 signed bits; write `uint`",
-    "int128": "integers have 64 signed bits; write `int`",
-    "rune": "this kind is left out; write `int` with its bounds",
+const KINDS: Sayings = &rows! {
+    &["float", "float32", "float64"] => "floats are left out; write `int`, and scale it (percent, milliseconds)",
+    &["bytes"] => "JSON has no bytes; agree on a text, such as base64, and write `string`",
+    &["uint64", "uint128"] => "integers have 64 signed bits; write `uint`",
+    &["int128"] => "integers have 64 signed bits; write `int`",
+    &["rune"] => "this kind is left out; write `int` with its bounds",
 };
 
 /// What CUE calls kinds that other languages call by these names.
-const MEANT: &[Row] = &rows! {
-    "integer": "int",
-    "Int": "int",
-    "long": "int",
-    "boolean": "bool",
-    "Bool": "bool",
-    "str": "string",
-    "String": "string",
-    "text": "string",
-    "any": "_",
-    "object": "{...}",
-    "struct": "{...}",
-    "array": "[...]",
-    "list": "[...]",
-    "nil": "null",
-    "None": "null",
-    "undefined": "null",
+const MEANT: Sayings = &rows! {
+    &["integer", "Int", "long"] => "int",
+    &["boolean", "Bool"] => "bool",
+    &["str", "String", "text"] => "string",
+    &["any"] => "_",
+    &["object", "struct"] => "{...}",
+    &["array", "list"] => "[...]",
+    &["nil", "None", "undefined"] => "null",
 };
 
 /// What a table has for a name.
-fn said_in(rows: &[Row], name: &str) -> Option<&'static str> {
-    Some(rows.iter().find(|row| row.name == name)?.said)
+fn said_in(rows: Sayings, name: &str) -> Option<&'static str> {
+    let (_, said) = rows.iter().find(|(names, _)| names.contains(&name))?;
+    Some(*said)
 }
 
 /// The name of a form for programs. It stays as it is, whatever the words for people become.
 pub fn form_name(form: Form) -> &'static str {
-    FORMS[form as usize].name
+    FORMS[form as usize].0
 }
 
 /// What is said of a form: a `{}` stands for what its place tells.
 pub fn said_of_form(form: Form) -> &'static str {
-    FORMS[form as usize].said
+    FORMS[form as usize].1
 }
 
 /// The kind of CUE that may have been meant by a name of another language.

@@ -6,7 +6,7 @@ use cs_instance::RootRules;
 use cs_instance_reasons::{InstanceCause, wanted_by};
 use cs_package::{FieldMark, Package, Part, Shape};
 use cs_place::Step;
-use cs_reason_words::{Choice, Finding, MOST_COMPARISONS, Suggestion, Words, item_at};
+use cs_reason_words::{Choice, Finding, MOST_COMPARISONS, Words, item_at, told_apart};
 use cs_sources::{Declared, Separator};
 use std::alloc::{AllocError, Global};
 
@@ -29,25 +29,6 @@ fn key_at<'t>(flat: &'t Flat<'t>, item: usize, member: usize) -> Option<&'t str>
         Item::Object(entries) => Some(entries.get(member)?.0),
         Item::Null | Item::Bool(_) | Item::Int(_) | Item::Text(_) | Item::List(_) => None,
     }
-}
-
-/// The label of a struct literal that may have been meant by a key that isn't allowed, as far as there are comparisons left.
-fn suggestion_of<'t>(
-    alloc: Global,
-    parts: &'t [Part],
-    item: Item<'_>,
-    key: &str,
-    comparisons: &mut usize,
-) -> Result<Option<Suggestion<'t>>, AllocError> {
-    let mut suggestion = None;
-    for part in parts.iter().take(*comparisons) {
-        *comparisons = comparisons.saturating_sub(1);
-        if !matches!(part.mark, FieldMark::Every { .. }) {
-            let label = part.label.as_str();
-            suggestion = Suggestion::nearer(suggestion, alloc, item, key, label)?;
-        }
-    }
-    Ok(suggestion)
 }
 
 /// That a value isn't what an expression admits.
@@ -97,8 +78,7 @@ impl<'t> Definitions<'t> {
         path: &mut String,
     ) -> Result<Finding<'t>, AllocError> {
         let Some(part) = part else {
-            let text = String::from_str(self.alloc, "a key is missing")?;
-            return Ok(Finding::here("missing", text));
+            return Finding::missing(self.alloc, "");
         };
         put_label(path, part)?;
         Finding::missing(self.alloc, part.label.as_str())
@@ -111,22 +91,24 @@ impl<'t> Definitions<'t> {
         item: usize,
         member: usize,
     ) -> Result<Finding<'t>, AllocError> {
-        let flat = self.flat;
-        let key = key_at(flat, item, member).unwrap_or("");
-        let left = &mut self.comparisons;
-        let meant = suggestion_of(self.alloc, parts, item_at(flat, item), key, left)?;
-        Ok(Finding::extra(self.alloc, meant)?.at(Some(Step::Key(key))))
+        let mut labels = Vec::new(self.alloc);
+        for part in parts.iter().take(self.comparisons) {
+            self.comparisons = self.comparisons.saturating_sub(1);
+            if !matches!(part.mark, FieldMark::Every { .. }) {
+                labels.push(part.label.as_str())?;
+            }
+        }
+        let key = key_at(self.flat, item, member).unwrap_or("");
+        let finding = Finding::extra(self.alloc, item_at(self.flat, item), key, &labels)?;
+        Ok(finding.at(Some(Step::Key(key))))
     }
 
     /// That none of the alternatives takes a value, or the one under the key that tells them apart.
     fn none_taken(&self, item: usize, rule: usize) -> Result<Finding<'t>, AllocError> {
         let wanted = wanted_by(self.rules, self.alloc, self.flat, item, rule)?;
-        let (step, at) = match wanted.key {
-            None => (None, item),
-            Some((key, under)) => (Some(Step::Key(key)), under),
-        };
+        let (value, step) = told_apart(item, wanted.key);
         let mut text = String::new(self.alloc);
-        KINDS.put_mismatch(&mut text, item_at(self.flat, at))?;
+        KINDS.put_mismatch(&mut text, item_at(self.flat, value))?;
         let reason = put_alternatives(&mut text, &wanted)?;
         if reason == "never" {
             return Ok(Finding::never(self.alloc)?.at(step));

@@ -6,40 +6,11 @@ use crate::definitions::Definitions;
 use cs_flat::Flat;
 use cs_instance::RootRules;
 use cs_instance_reasons::InstanceCause;
-use cs_place::{Named, Positions};
-use cs_reason_words::{
-    Entry, Form, SourcePlace, put_told, report_verdict, sort_by_rule, sort_entries, told_by,
-};
+use cs_place::Named;
+use cs_reason_words::{Form, put_told, report_verdict, told_by};
 use cs_reasons::{Reasons, Telling};
-use cs_sources::{Source, declared_in, sources_of};
+use cs_sources::{declared_in, sources_of};
 use std::alloc::{AllocError, Global};
-
-/// Gives the rules of entries, which are sorted, their lines and columns, where they were found: each file is read once, up to the last of
-/// them.
-fn place_rules(
-    alloc: Global,
-    sources: &[Source<'_>],
-    entries: &mut Vec<Entry<'_>>,
-) -> Result<(), AllocError> {
-    let mut files = Vec::with_capacity(alloc, sources.len())?;
-    for source in sources {
-        files.push(Positions::new(source.named.text))?;
-    }
-    sort_by_rule(entries)?;
-    for entry in entries.iter_mut() {
-        if let Some(rule) = entry.finding.source
-            && let Some(positions) = files.get_mut(rule.number)
-        {
-            let position = positions.at(rule.offset);
-            entry.finding.source = Some(SourcePlace {
-                line: position.line,
-                column: position.column,
-                ..rule
-            });
-        }
-    }
-    sort_entries(entries)
-}
 
 /// Puts what is told of the reasons, if there are any: in the output formats of JSON Schema nothing.
 fn put_reasons(
@@ -66,8 +37,7 @@ fn put_reasons(
     let cut = sources_of(alloc, sources)?;
     let declared = declared_in(alloc, &cut)?;
     let mut words = Definitions::new(alloc, rules, flat, &declared);
-    let mut told = told_by(alloc, &mut words, telling, document, reasons)?;
-    place_rules(alloc, &cut, &mut told.entries)?;
+    let told = told_by(alloc, &mut words, telling, document, sources, reasons)?;
     put_told(text, form, document, &told)
 }
 

@@ -1,6 +1,6 @@
 // Steps from a rule to what it is made of: in the package and in the sources, with the path.
 use cs_package::{FieldMark, Package, Part, Shape, ShapeEnd};
-use cs_place::put_quoted;
+use cs_place::{Position, put_quoted};
 use cs_reason_words::{SourcePlace, put_number};
 use cs_sources::{Declared, Part as SourcePart, Separator};
 use std::alloc::AllocError;
@@ -38,8 +38,7 @@ pub(crate) fn place_of<'t>(part: Option<SourcePart<'_, 't>>) -> Option<SourcePla
         file: source.named.name,
         number: source.file,
         offset: part.offset()?,
-        line: 1,
-        column: 1,
+        position: Position { line: 1, column: 1 },
     })
 }
 
@@ -158,11 +157,12 @@ impl<'t> Node<'t> {
         let Some(Shape::List { front, end }) = self.shape else {
             return Ok(self.to(None, None));
         };
-        let each = match end {
+        let fixed = front.len();
+        let shape = match end {
+            _ if place < fixed => front.get(place),
             ShapeEnd::Each(shape) => Some(&**shape),
             ShapeEnd::Closed | ShapeEnd::Any => None,
         };
-        let fixed = front.len();
         let source = match self.source {
             Some(found) if place < fixed => found.element(place),
             Some(found) => found.list_end(fixed),
@@ -173,6 +173,6 @@ impl<'t> Node<'t> {
             put_number(path, place)?;
         }
         path.push(']')?;
-        Ok(self.to(front.get(place).or(each), source))
+        Ok(self.to(shape, source))
     }
 }

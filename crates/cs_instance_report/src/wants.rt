@@ -30,24 +30,23 @@ fn relation_mark(relation: Relation) -> &'static str {
     }
 }
 
-/// The predeclared name of a range (CUE, predeclared identifiers).
-fn range_name(least: i64, greatest: Option<i64>) -> Option<&'static str> {
-    match (least, greatest) {
-        (0, None) => Some("uint"),
-        (0, Some(255)) => Some("uint8"),
-        (-128, Some(127)) => Some("int8"),
-        (0, Some(65535)) => Some("uint16"),
-        (-32768, Some(32767)) => Some("int16"),
-        (0, Some(4294967295)) => Some("uint32"),
-        (-2147483648, Some(2147483647)) => Some("int32"),
-        (i64::MIN, Some(i64::MAX)) => Some("int64"),
-        _ => None,
-    }
-}
+/// The predeclared names of ranges (CUE, predeclared identifiers), with their limits.
+const RANGES: [(&str, i64, Option<i64>); 8] = [
+    ("uint", 0, None),
+    ("uint8", 0, Some(255)),
+    ("int8", -128, Some(127)),
+    ("uint16", 0, Some(65535)),
+    ("int16", -32768, Some(32767)),
+    ("uint32", 0, Some(4294967295)),
+    ("int32", -2147483648, Some(2147483647)),
+    ("int64", i64::MIN, Some(i64::MAX)),
+];
 
 fn put_range(text: &mut String, least: i64, greatest: Option<i64>) -> Result<(), AllocError> {
-    if let Some(name) = range_name(least, greatest) {
-        return text.push_str(name);
+    for (name, from, to) in RANGES {
+        if from == least && to == greatest {
+            return text.push_str(name);
+        }
     }
     put_literal(text, ">=", Literal::Int(least))?;
     if let Some(most) = greatest {
@@ -155,40 +154,23 @@ fn kind_of(item: Item<'_>) -> &'static str {
     }
 }
 
-/// Of which kind all values are that an expression without parts admits or leaves out, where it is no literal: numbers or texts. Empty
-/// where that isn't so.
-fn admitted_kind(shape: &Shape) -> &'static str {
-    let left_out = shape.excluded();
-    let is_number = matches!(shape, Shape::Kind(Kind::Int | Kind::Number));
-    if is_number || is_limit(shape) || matches!(left_out, Some(Literal::Int(_))) {
-        "number"
-    } else if matches!(shape, Shape::Kind(Kind::Text))
-        || matches!(left_out, Some(Literal::Text(_)))
-    {
-        "text"
-    } else {
-        ""
-    }
-}
-
-/// Whether an expression is a limit, or two, of integers.
-fn is_limit(shape: &Shape) -> bool {
-    matches!(shape, Shape::Range { .. } | Shape::Bound { .. })
-}
-
 /// Which kind of reason it is that a value isn't what an expression admits, in a word, and of which kind the value isn't, where that is all
 /// that is wrong with it.
 pub(crate) fn mismatch_words(item: Item<'_>, shape: &Shape) -> (&'static str, &'static str) {
-    let kind = admitted_kind(shape);
-    if shape.literal().is_some() {
-        ("value", "")
-    } else if kind != kind_of(item) {
-        ("kind", kind)
-    } else if shape.excluded().is_some() {
-        ("excluded", "")
-    } else if is_limit(shape) {
-        ("range", "")
+    // The kind of all values that the expression admits or leaves out, and the word for a value of that kind.
+    let (kind, reason) = match shape.simple() {
+        Some(Simple::Literal(_)) => return ("value", ""),
+        Some(Simple::Kind(Kind::Int | Kind::Number)) => ("number", "kind"),
+        Some(Simple::Kind(Kind::Text)) => ("text", "kind"),
+        Some(Simple::Range { .. } | Simple::Bound { .. }) => ("number", "range"),
+        Some(Simple::Excluded(Literal::Int(_))) => ("number", "excluded"),
+        Some(Simple::Excluded(Literal::Text(_))) => ("text", "excluded"),
+        Some(Simple::Excluded(_)) => ("", "excluded"),
+        Some(Simple::Top | Simple::Bottom | Simple::Kind(Kind::Bool)) | None => ("", "kind"),
+    };
+    if kind == kind_of(item) {
+        (reason, "")
     } else {
-        ("kind", "")
+        ("kind", kind)
     }
 }

@@ -9,8 +9,8 @@ ghost use Rattle.cs_tool.specs.Sides.{IsSchemaOf, AreSidesOf};
 
 use crate::reports::{instance_report, validity_report};
 use crate::why::{Why, asked_of_root, asked_of_schema};
-use cs_doc::{Scratch, read_document};
 use cs_instance::RootRules;
+use cs_json::{Scratch, read_document};
 use cs_place::Named;
 use cs_table::Verdicts;
 use cs_tool::Fault;

@@ -1,6 +1,6 @@
 // The verdicts on documents that were read from texts, with reports of the reasons that are asked for.
 ghost use Rattle.std.specs.Prelude.{IfOk};
-ghost use Rattle.cs_doc.specs.ReadAs.{read_as};
+ghost use Rattle.cs_json.specs.ReadAs.{read_as};
 ghost use Rattle.cs_flat.specs.Listed.{document_in};
 ghost use Rattle.cs_judge.specs.Explained.{asked_form, ReportsAsked};
 ghost use Rattle.cs_judge.specs.Verdicts.{IsRootVerdict, IsSchemaVerdict};
@@ -8,9 +8,9 @@ ghost use Rattle.cs_reason_words.specs.Valid.{Reports};
 
 use crate::further::{explained_by_root, explained_by_schema};
 use crate::why::Why;
-use cs_doc::{Document, Flat, flatten};
 use cs_instance::{InstanceFault, RootRules};
 use cs_instance_report::report_instance;
+use cs_json::{Document, Flat, flatten};
 use cs_place::Named;
 use cs_table::Verdicts;
 use cs_tool::{is_instance, is_valid};

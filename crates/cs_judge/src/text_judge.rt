@@ -2,9 +2,9 @@
 use crate::explanations::{explain_both, explain_root, explain_schema};
 use crate::telling::tell;
 use crate::why::{Why, form_of};
-use cs_doc::Scratch;
 use cs_guard::Guarded;
 use cs_instance::RootRules;
+use cs_json::Scratch;
 use cs_place::Named;
 use cs_schema::SchemaDoc;
 use cs_table::Verdicts;

@@ -7,7 +7,7 @@ use Rattle.std.proofs.lemmas.Option.{same_Some}
 use Rattle.cs_document.specs.Document.{Document, Documents, no_documents, document, list, elements, IsDocument, AreDocuments, depth, documents_depth}
 use Rattle.cs_instance.specs.Constraint.{Rest, nothing, anything, each, rest_holds, elements_hold}
 use Rattle.cs_question.specs.declared.lists.Element.TheVariants.{Each}
-use Rattle.cs_question.specs.Elements.{element_at, element_behind, fits}
+use Rattle.cs_question.specs.Elements.{element_at, element_behind, fits, IsFrom}
 use Rattle.cs_question.specs.Spread.{SomeOf}
 use Rattle.cs_question.specs.Truth.{IsInner}
 
@@ -113,6 +113,11 @@ pub behind_is : (es : List ℕ) (rest : Rest ℕ) (i : ℕ) → length es ≤ i 
 behind_is [] rest i l = refl
 behind_is (e ∷ es) rest zero l = absurd (omega (arith, l))
 behind_is (e ∷ es) rest (suc i) l = behind_is es rest i (omega (arith, l))
+
+-- from a place on, behind a front, each place asks the same
+pub element_from : (es : List ℕ) (rest : Rest ℕ) (place i : ℕ) (b : Bool) → IsFrom place b i → (b ≡ true → length es ≤ place) → element_at es rest i ≡ element_at es rest place
+element_from es rest place i false is h = ap (element_at es rest) is
+element_from es rest place i true l h = let k = h refl in behind_is es rest i (omega (arith, k, l)) ∙ sym (behind_is es rest place k)
 
 pub element_got : (es : List ℕ) (rest : Rest ℕ) (i e : ℕ) → slice_get es i ≡ Some e → element_at es rest i ≡ Each e
 element_got [] rest i e g = cc

@@ -15,11 +15,9 @@ use Rattle.cs_instance.specs.declared.rules.Rule.{Rule as Coded}
 use Rattle.cs_instance.proofs.Satisfied.{named}
 use Rattle.cs_question.specs.declared.literal.Side.TheVariants.{Admitting, Refusing}
 use Rattle.cs_question.specs.declared.literal.Literal.{Literal}
-use Rattle.cs_question.specs.declared.table.Table.{Table}
 use Rattle.cs_question.specs.Asked.{meets}
-use Rattle.cs_question.specs.Truth.{IsAtRest, IsShut}
+use Rattle.cs_question.specs.Truth.{IsMetByNoDocument}
 use Rattle.cs_question.proofs.Some.{beq_same}
-use Rattle.cs_question.proofs.Answered.{no_document}
 use Rattle.cs_question.proofs.Said.{got_mapped}
 use Rattle.cs_question.specs.declared.nodes.Node.{Node}
 use Rattle.cs_question.specs.declared.nodes.Nodes.{Nodes}
@@ -65,9 +63,9 @@ pub both_meaning : (ns : Nodes) (f g : ℕ → Document → Bool)
 both_meaning ns f g a b Admitting k nd x at = a k nd x at
 both_meaning ns f g a b Refusing k nd x at = b k nd x at
 
--- ---- what a table at rest says of roots
+-- ---- what it says of roots that no document is all that is asked
 
-module _ (E : Environment) (all : List Rule) (rules : List Coded) (inner : List ℕ) (numbering : IsNumbering E all (map (numbered inner) rules)) (I : Rule → Document → Bool) (i : IsInstance E I) (ns : Nodes) (table : Table) (ended : table.is_final ≡ true) (rest : IsAtRest ns table) (asked : List Literal) (shut : IsShut table.entries.items asked) (first : Says (map (numbered inner) rules) (map asked_of ns.admitting.items))
+module _ (E : Environment) (all : List Rule) (rules : List Coded) (inner : List ℕ) (numbering : IsNumbering E all (map (numbered inner) rules)) (I : Rule → Document → Bool) (i : IsInstance E I) (ns : Nodes) (asked : List Literal) (none : IsMetByNoDocument ns asked) (first : Says (map (numbered inner) rules) (map asked_of ns.admitting.items))
     (n : List ℕ) (number : ℕ) (root : slice_get all number ≡ Some (definition n)) where
   met : (J : Judgement) (x : Document) → ((k : ℕ) (y : Document) → J Admitting k y ≡ judged E all rules inner numbering ns.admitting.items first I i k y) → I (definition n) x ≡ true → meets J x (record { side = Admitting; rule = number; holds = true }) ≡ true
   met J x same h = beq_same (J Admitting number x) true (same number x ∙ is_root E all rules inner numbering ns.admitting.items first I i n number root x ∙ h)
@@ -77,7 +75,7 @@ module _ (E : Environment) (all : List Rule) (rules : List Coded) (inner : List 
       let f = judged E all rules inner numbering ns.admitting.items first I i in
       let J = both_judged f (λ k y. false) in
       let m = both_meaning ns f (λ k y. false) (judged_is E all rules inner numbering ns.admitting.items first I i) (λ k nd y at. none_got (sym (ap (λ xs. slice_get xs k) empty) ∙ at)) in
-      no_document ns table ended rest J m asked shut x d (covers (meets J x) (met J x (λ k y. refl) h))
+      none J m x d (covers (meets J x) (met J x (λ k y. refl) h))
     where
       none_got : {X Y : Type 0} {x : X} {a b : Y} → None ≡ Some x → a ≡ b
       none_got e = cc
@@ -88,7 +86,7 @@ module _ (E : Environment) (all : List Rule) (rules : List Coded) (inner : List 
       let f = judged E all rules inner numbering ns.admitting.items first I i in
       let f' = judged F others rules' inner' numbering' ns.refusing.items second K k in
       let J = both_judged f f' in
-      no_document ns table ended rest J (both_meaning ns f f' (judged_is E all rules inner numbering ns.admitting.items first I i) (judged_is F others rules' inner' numbering' ns.refusing.items second K k)) asked shut x d
+      none J (both_meaning ns f f' (judged_is E all rules inner numbering ns.admitting.items first I i) (judged_is F others rules' inner' numbering' ns.refusing.items second K k)) x d
       (covers (meets J x) (met J x (λ k y. refl) h) (beq_same (f' number' x) false (is_root F others rules' inner' numbering' ns.refusing.items second K k m number' root' x ∙ g)))
 
 -- what a judge told of the root of that text

@@ -27,6 +27,11 @@ fits inside Nothing y = false
 fits inside Anything y = true
 fits inside (Each e) y = inside y e
 
+-- a place is the one that is meant, or also one behind it
+abbrev pub IsFrom : ℕ → Bool → ℕ → Type 0
+IsFrom place false i = i ≡ place
+IsFrom place true i = place ≤ i
+
 -- no list of such a length is all that is asked
 abbrev pub NoLength : Nodes → Table → List Literal → (ℕ → Type 0) → Type 0
 NoLength ns table ls P = table.is_final ≡ true → (t : Truth table.entries.items) → IsMeaning ns t.J → (ds : Documents) → IsDocument (list ds) → depth (list ds) ≤ t.n → P (length (elements ds)) → meets_all t.J (list ds) ls ≡ true → ⊥

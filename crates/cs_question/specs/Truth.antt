@@ -39,6 +39,10 @@ pub record Truth (entries : List Entry) : Type 0 where
 abbrev pub NoDocument : Nodes → Table → List Literal → Type 0
 NoDocument ns table ls = table.is_final ≡ true → (t : Truth table.entries.items) → IsMeaning ns t.J → (x : Document) → IsDocument x → depth x ≤ t.n → meets_all t.J x ls ≡ true → ⊥
 
+-- no document is all that is asked
+abbrev pub IsMetByNoDocument : Nodes → List Literal → Type 0
+IsMetByNoDocument ns ls = (J : Judgement) → IsMeaning ns J → (x : Document) → IsDocument x → meets_all J x ls ≡ true → ⊥
+
 abbrev pub NoList : Nodes → Table → List Literal → Type 0
 NoList ns table ls = table.is_final ≡ true → (t : Truth table.entries.items) → IsMeaning ns t.J → (ds : Documents) → IsDocument (list ds) → depth (list ds) ≤ t.n → meets_all t.J (list ds) ls ≡ true → ⊥
 

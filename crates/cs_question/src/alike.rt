@@ -6,15 +6,12 @@ ghost use Rattle.cs_instance.specs.Steps.{test_of};
 ghost use Rattle.cs_question.specs.Nodes.{asked_of, AreAlike};
 
 use crate::nodes::Node;
-use cs_package::Shape;
+use cs_package::{Literal, Shape, Simple};
 
 /// What a constant or a range is found by.
 #[derive(Clone, Copy, PartialEq, Eq, PartialOrd, Ord)]
 pub(crate) enum Sign<'a> {
-    Null,
-    Bool(bool),
-    Int(i64),
-    Text(&'a str),
+    Literal(Literal<'a>),
     Range(i64, Option<i64>),
 }
 
@@ -28,13 +25,14 @@ pub(crate) fn sign_of<'a>(node: &Node<'a>) -> Option<Sign<'a>> {
 }
 
 fn sign_of_shape<'a>(shape: &'a Shape) -> Option<Sign<'a>> {
-    match shape {
-        Shape::Null => Some(Sign::Null),
-        Shape::Bool(value) => Some(Sign::Bool(*value)),
-        Shape::Int(integer) => Some(Sign::Int(*integer)),
-        Shape::Text(text) => Some(Sign::Text(text.as_str())),
-        Shape::Range { least, greatest } => Some(Sign::Range(*least, *greatest)),
-        _ => None,
+    match shape.simple()? {
+        Simple::Literal(literal) => Some(Sign::Literal(literal)),
+        Simple::Range { least, greatest } => Some(Sign::Range(least, greatest)),
+        Simple::Top
+        | Simple::Bottom
+        | Simple::Excluded(_)
+        | Simple::Kind(_)
+        | Simple::Bound { .. } => None,
     }
 }
 

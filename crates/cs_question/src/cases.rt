@@ -16,7 +16,6 @@ use crate::literal::{Literal, add, are_same, part_of, without};
 use crate::nodes::{Node, Nodes};
 use crate::refused::Refused;
 use crate::table::Table;
-use cs_package::Shape;
 use std::alloc::{AllocError, Global};
 use std::collections::BTreeSet;
 
@@ -227,11 +226,10 @@ fn cost_of_copying(asked: usize) -> usize {
 
 /// Whether a rule is met by one value alone.
 fn is_value(nodes: &Nodes<'_>, literal: Literal) -> bool {
-    literal.holds
-        && matches!(
-            nodes.of(literal),
-            Some(Node::Simple(Shape::Null | Shape::Bool(_) | Shape::Int(_) | Shape::Text(_)))
-        )
+    let Some(Node::Simple(shape)) = nodes.of(literal) else {
+        return false;
+    };
+    literal.holds && shape.literal().is_some()
 }
 
 /// The steps for a document that is all that is asked: each declaration is put to its label, each label is looked for in each

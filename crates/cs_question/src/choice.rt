@@ -147,16 +147,6 @@ fn pick(
     Ok(best)
 }
 
-fn left_without(alloc: Global, left: &[usize], place: usize) -> Result<Vec<usize>, AllocError> {
-    let mut rest = Vec::with_capacity(alloc, left.len())?;
-    for (i, rule) in left.iter().enumerate() {
-        if i != place {
-            rest.push(*rule)?;
-        }
-    }
-    Ok(rest)
-}
-
 /// Puts the state with a value more at none of the places.
 fn push_free<'a>(
     alloc: Global,
@@ -251,7 +241,10 @@ fn push_states<'a>(
         → HoldsFurther t.J t.n s further.now
         → AreTaken t.J s ways.now → SomeOf (HoldsState t.J s) states.new.items)) }
 {
-    let left = left_without(alloc, &state.left, place)?;
+    let mut left = Vec::from_slice(alloc, &state.left)?;
+    if place < left.len() {
+        let _rule = left.remove(place);
+    }
     match first_free(alloc, table, further, ways, effort)? {
         Some(asked) => push_free(alloc, state, left, asked, states),
         None => push_ways(alloc, table, places, state, &left, ways, states, effort),
@@ -326,10 +319,10 @@ pub(crate) fn choice<'a>(
         effort.take(cost_of(places.len(), state.chosen.len()))?;
         let left = places_after(alloc, places, &state.chosen)?;
         let Some(place) = pick(alloc, table, &left, &state.left, further, rules, effort)? else {
-            return Ok(Some(chosen_of(state, left)));
+            return Ok(Some(chosen_of(alloc, state, left)?));
         };
         let Some(ways) = ways_of(rules, &state.left, place) else {
-            return Ok(Some(chosen_of(state, left)));
+            return Ok(Some(chosen_of(alloc, state, left)?));
         };
         push_states(
             alloc,
@@ -347,9 +340,30 @@ pub(crate) fn choice<'a>(
 }
 
 /// What a choice ends with, where its ways have left the places so.
-fn chosen_of<'a>(state: State<'a>, places: Vec<Place<'a>>) -> Chosen<'a> {
+fn chosen_of<'a>(
+    alloc: Global,
+    state: State<'a>,
+    places: Vec<Place<'a>>,
+) -> Result<Chosen<'a>, AllocError> {
     let State { further, .. } = state;
-    Chosen { places, further }
+    let mut keys = Vec::new(alloc);
+    let mut parts = Vec::with_capacity(alloc, places.len())?;
+    for place in places {
+        let Place {
+            key,
+            is_needed,
+            asked,
+            ..
+        } = place;
+        if is_needed {
+            keys.push(key)?;
+            parts.push(asked)?;
+        }
+    }
+    for asked in further {
+        parts.push(asked)?;
+    }
+    Ok(Chosen { keys, parts })
 }
 
 /// The ways of one of the rules left.

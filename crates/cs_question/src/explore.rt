@@ -10,7 +10,7 @@ use crate::found::Found;
 use crate::literal::{Literal, met};
 use crate::nodes::Nodes;
 use crate::queue::Queue;
-use crate::table::Table;
+use crate::table::{Entry, Table};
 use std::alloc::{AllocError, Global};
 
 /// The most steps for one look at a question, where others are asked beside it.
@@ -28,195 +28,117 @@ enum AtLimit {
     Skip,
 }
 
-impl AtLimit {
-    /// The most steps for one look, where so many are left.
-    fn most_of_one(self, left: usize) -> usize {
-        match self {
-            AtLimit::End => left,
-            AtLimit::Skip => left.min(MOST_OF_ONE),
+/// The questions, and which of them to look at.
+#[derive(Drop)]
+struct Exploring<'a> {
+    table: Table<'a>,
+    queue: Queue,
+    at_limit: AtLimit,
+}
+
+impl<'a> Exploring<'a> {
+    fn new(alloc: Global, at_limit: AtLimit) -> Exploring<'a> {
+        Exploring {
+            table: Table::new(alloc),
+            queue: Queue::new(alloc),
+            at_limit,
         }
     }
-}
 
-/// What was found at a look, or that a limit was met.
-enum Look<'a> {
-    Found(Found<'a>),
-    Nothing,
-    Ended,
-}
-
-/// Looks for an answer to a question, within limits.
-fn looked<'a>(
-    alloc: Global,
-    nodes: &Nodes<'a>,
-    table: &Table<'a>,
-    asked: &[Literal],
-    effort: &mut Effort,
-) -> Result<Look<'a>, SearchFault> {
-    match found_for(alloc, nodes, table, asked, effort) {
-        Ok(Some(found)) => Ok(Look::Found(found)),
-        Ok(None) => Ok(Look::Nothing),
-        Err(SearchFault::TooManyCases) => Ok(Look::Ended),
-        Err(SearchFault::OutOfMemory) => Err(SearchFault::OutOfMemory),
+    /// Where a question is, which is added unless it is there, and looked at later. There may be no room for it.
+    fn ask(&mut self, alloc: Global, asked: Vec<Literal>) -> Result<Option<usize>, AllocError> {
+        let place = self.table.ask(alloc, asked)?;
+        if self.table.entries.len() > self.queue.count() {
+            self.queue.add(alloc)?;
+        }
+        Ok(place)
     }
-}
 
-/// What is asked at a place, unless there is an answer.
-fn open_question(
-    alloc: Global,
-    table: &Table<'_>,
-    place: usize,
-) -> Result<Option<Vec<Literal>>, AllocError> {
-    match table.entries.get(place) {
-        Some(entry) if entry.found.is_none() => Ok(Some(Vec::from_slice(alloc, &entry.asked)?)),
-        Some(_) | None => Ok(None),
+    /// Keeps an answer, and looks again at what waits for it.
+    fn answer(&mut self, alloc: Global, place: usize, found: Found<'a>) -> Result<(), AllocError> {
+        self.table.answer(place, found)?;
+        self.queue.wake(alloc, place)
     }
-}
 
-/// Keeps an answer, and looks again at what waits for it.
-fn answer<'a>(
-    alloc: Global,
-    table: &mut Table<'a>,
-    queue: &mut Queue,
-    place: usize,
-    found: Found<'a>,
-) -> Result<(), AllocError> {
-    table.answer(place, Some(found));
-    queue.wake(alloc, place)
-}
-
-/// Lets a question wait for all that it met at the last look. Answers whether there was room in the table for that.
-fn wait<'a>(
-    alloc: Global,
-    table: &mut Table<'a>,
-    queue: &mut Queue,
-    place: usize,
-    effort: &mut Effort,
-) -> Result<bool, SearchFault> {
-    for awaited in &effort.unanswered {
-        queue.wait(place, *awaited)?;
-    }
-    for _ in 0..effort.wanted.len() {
-        let Some(asked) = effort.wanted.pop() else {
-            return Ok(true);
-        };
-        if !want(alloc, table, queue, place, asked)? {
-            return Ok(false);
+    /// A limit was met for a question.
+    fn end_at(&mut self, alloc: Global, place: usize) -> Result<(), SearchFault> {
+        match self.at_limit {
+            AtLimit::End => Err(SearchFault::TooManyCases),
+            AtLimit::Skip => Ok(self.answer(alloc, place, Found::Null)?),
         }
     }
-    Ok(true)
-}
 
-/// Asks what is wanted, and lets a question wait for it. Answers whether there was room in the table.
-fn want<'a>(
-    alloc: Global,
-    table: &mut Table<'a>,
-    queue: &mut Queue,
-    place: usize,
-    asked: Vec<Literal>,
-) -> Result<bool, SearchFault> {
-    if let Some(awaited) = table.place(&asked) {
-        queue.wait(place, awaited)?;
-        return Ok(true);
-    }
-    if table.is_full() {
-        return Ok(false);
-    }
-    let awaited = table.entries.len();
-    ask(alloc, table, queue, asked)?;
-    queue.wait(place, awaited)?;
-    Ok(true)
-}
-
-/// Looks at one question.
-fn look_at<'a>(
-    alloc: Global,
-    nodes: &Nodes<'a>,
-    table: &mut Table<'a>,
-    queue: &mut Queue,
-    place: usize,
-    at_limit: AtLimit,
-    budget: &mut Budget,
-) -> Result<(), SearchFault> {
-    let Some(asked) = open_question(alloc, table, place)? else {
-        return Ok(());
-    };
-    let mut effort = Effort::new(alloc, at_limit.most_of_one(budget.steps));
-    effort.asks_all = true;
-    let look = looked(alloc, nodes, table, &asked, &mut effort);
-    budget.spend(effort.steps());
-    match look? {
-        Look::Found(found) => Ok(answer(alloc, table, queue, place, found)?),
-        Look::Ended => end_at(alloc, table, queue, place, at_limit),
-        Look::Nothing => {
-            if !wait(alloc, table, queue, place, &mut effort)? {
-                end_at(alloc, table, queue, place, at_limit)?;
-            }
-            Ok(())
+    /// Lets a question wait for all that it met at the last look. Answers whether there was room in the table for that.
+    fn wait(
+        &mut self,
+        alloc: Global,
+        place: usize,
+        effort: &mut Effort,
+    ) -> Result<bool, AllocError> {
+        for awaited in &effort.unanswered {
+            self.queue.wait(place, *awaited)?;
         }
+        for _ in 0..effort.wanted.len() {
+            let Some(asked) = effort.wanted.pop() else {
+                return Ok(true);
+            };
+            let Some(awaited) = self.ask(alloc, asked)? else {
+                return Ok(false);
+            };
+            self.queue.wait(place, awaited)?;
+        }
+        Ok(true)
     }
-}
 
-/// A limit was met for a question.
-fn end_at<'a>(
-    alloc: Global,
-    table: &mut Table<'a>,
-    queue: &mut Queue,
-    place: usize,
-    at_limit: AtLimit,
-) -> Result<(), SearchFault> {
-    match at_limit {
-        AtLimit::End => Err(SearchFault::TooManyCases),
-        AtLimit::Skip => Ok(answer(alloc, table, queue, place, Found::Null)?),
-    }
-}
-
-/// Looks at questions until each that has no answer has met none that has one since.
-fn explore<'a>(
-    alloc: Global,
-    nodes: &Nodes<'a>,
-    table: &mut Table<'a>,
-    queue: &mut Queue,
-    at_limit: AtLimit,
-    budget: &mut Budget,
-) -> Result<(), SearchFault> {
-    // Each look takes a step, or leaves an answer.
-    for _ in 0..2 * MOST_STEPS {
-        let Some(place) = queue.next() else {
+    /// Looks at one question, unless it has an answer.
+    fn look_at(
+        &mut self,
+        alloc: Global,
+        nodes: &Nodes<'a>,
+        place: usize,
+        budget: &mut Budget,
+    ) -> Result<(), SearchFault> {
+        let table = &self.table;
+        let Some(Entry { asked, found: None }) = table.entries.get(place) else {
             return Ok(());
         };
-        look_at(alloc, nodes, table, queue, place, at_limit, budget)?;
-    }
-    Err(SearchFault::TooManyCases)
-}
-
-/// Adds a question, unless it is there, and looks at it later.
-fn ask<'a>(
-    alloc: Global,
-    table: &mut Table<'a>,
-    queue: &mut Queue,
-    asked: Vec<Literal>,
-) -> Result<(), SearchFault> {
-    table.ask(alloc, asked)?;
-    if table.entries.len() > queue.count() {
-        queue.add(alloc)?;
-    }
-    Ok(())
-}
-
-/// Asks for a document that meets a rule, for each of them.
-fn ask_each<'a>(
-    alloc: Global,
-    table: &mut Table<'a>,
-    queue: &mut Queue,
-    rules: &[usize],
-) -> Result<(), SearchFault> {
-    for rule in rules {
-        if !table.is_full() {
-            ask(alloc, table, queue, met(alloc, *rule)?)?;
+        let most = match self.at_limit {
+            AtLimit::End => budget.steps,
+            AtLimit::Skip => budget.steps.min(MOST_OF_ONE),
+        };
+        let mut effort = Effort::new(alloc, most);
+        effort.asks_all = true;
+        let found = found_for(alloc, nodes, table, asked, &mut effort);
+        budget.spend(effort.steps());
+        match found {
+            Ok(Some(found)) => Ok(self.answer(alloc, place, found)?),
+            Ok(None) => {
+                if !self.wait(alloc, place, &mut effort)? {
+                    self.end_at(alloc, place)?;
+                }
+                Ok(())
+            }
+            Err(SearchFault::TooManyCases) => self.end_at(alloc, place),
+            Err(SearchFault::OutOfMemory) => Err(SearchFault::OutOfMemory),
         }
     }
-    Ok(())
+
+    /// Looks at questions until each that has no answer has met none that has one since.
+    fn explore(
+        &mut self,
+        alloc: Global,
+        nodes: &Nodes<'a>,
+        budget: &mut Budget,
+    ) -> Result<(), SearchFault> {
+        // Each look takes a step, or leaves an answer.
+        for _ in 0..2 * MOST_STEPS {
+            let Some(place) = self.queue.next() else {
+                return Ok(());
+            };
+            self.look_at(alloc, nodes, place, budget)?;
+        }
+        Err(SearchFault::TooManyCases)
+    }
 }
 
 /// Whether no question without an answer has one, where all others without one have none of less depth.
@@ -273,15 +195,10 @@ pub(crate) fn explored<'a>(
     ensures rest { IfOk result (λ t. IsAtRest nodes.now t) }
     ensures ended { IfOk result (λ t. t.is_final ≡ true) }
 {
-    let mut table = Table::new(alloc);
-    let mut queue = Queue::new(alloc);
-    ask(
-        alloc,
-        &mut table,
-        &mut queue,
-        Vec::from_slice(alloc, asked)?,
-    )?;
-    explore(alloc, nodes, &mut table, &mut queue, AtLimit::End, budget)?;
+    let mut exploring = Exploring::new(alloc, AtLimit::End);
+    let _place = exploring.ask(alloc, Vec::from_slice(alloc, asked)?)?;
+    exploring.explore(alloc, nodes, budget)?;
+    let Exploring { table, .. } = exploring;
     let mut effort = Effort::new(alloc, budget.steps);
     effort.asks_all = true;
     let explored = at_rest(alloc, nodes, table, &mut effort);
@@ -302,17 +219,11 @@ pub(crate) fn explored_all<'a>(
     ensures rest { IfOk result (λ t. IsAtRest nodes.now t) }
     ensures ended { IfOk result (λ t. t.is_final ≡ true) }
 {
-    let mut table = Table::new(alloc);
-    let mut queue = Queue::new(alloc);
-    let mut budget = Budget { steps: MOST_OF_ALL };
-    ask_each(alloc, &mut table, &mut queue, rules)?;
-    explore(
-        alloc,
-        nodes,
-        &mut table,
-        &mut queue,
-        AtLimit::Skip,
-        &mut budget,
-    )?;
+    let mut exploring = Exploring::new(alloc, AtLimit::Skip);
+    for rule in rules {
+        let _place = exploring.ask(alloc, met(alloc, *rule)?)?;
+    }
+    exploring.explore(alloc, nodes, &mut Budget { steps: MOST_OF_ALL })?;
+    let Exploring { table, .. } = exploring;
     at_rest(alloc, nodes, table, &mut Effort::new(alloc, MOST_STEPS))
 }

@@ -1,4 +1,8 @@
 // Why a question isn't answered.
+ghost use Rattle.std.specs.Prelude.{◌≡◌};
+ghost use Rattle.cs_question.specs.declared.fault.QuestionFault.TheVariants.{OutOfMemory};
+ghost use Rattle.cs_question.specs.Faults.{fault_of_search, fault_of_judging};
+
 use cs_document::DocFault;
 use cs_instance::InstanceFault;
 use cs_meanings::meaning;
@@ -56,9 +60,6 @@ impl From<DocFault> for SearchFault {
 }
 
 impl From<AllocError> for QuestionFault {
-    ghost use Rattle.std.specs.Prelude.{◌≡◌};
-    ghost use Rattle.cs_question.specs.declared.fault.QuestionFault.TheVariants.{OutOfMemory};
-
     ghost from_gives = { λ _ e. e ≡ OutOfMemory };
 
     fn from(_refused: AllocError) -> QuestionFault {
@@ -67,9 +68,6 @@ impl From<AllocError> for QuestionFault {
 }
 
 impl<T: Drop> From<AllocFailed<T>> for QuestionFault {
-    ghost use Rattle.std.specs.Prelude.{◌≡◌};
-    ghost use Rattle.cs_question.specs.declared.fault.QuestionFault.TheVariants.{OutOfMemory};
-
     ghost from_gives = { λ _ e. e ≡ OutOfMemory };
 
     fn from(_refused: AllocFailed<T>) -> QuestionFault {
@@ -78,9 +76,6 @@ impl<T: Drop> From<AllocFailed<T>> for QuestionFault {
 }
 
 impl From<DocFault> for QuestionFault {
-    ghost use Rattle.std.specs.Prelude.{◌≡◌};
-    ghost use Rattle.cs_question.specs.declared.fault.QuestionFault.TheVariants.{OutOfMemory};
-
     ghost from_gives = { λ _ e. e ≡ OutOfMemory };
 
     fn from(_refused: DocFault) -> QuestionFault {
@@ -89,9 +84,6 @@ impl From<DocFault> for QuestionFault {
 }
 
 impl From<SearchFault> for QuestionFault {
-    ghost use Rattle.std.specs.Prelude.{◌≡◌};
-    ghost use Rattle.cs_question.specs.Faults.{fault_of_search};
-
     ghost from_gives = { λ e f. f ≡ fault_of_search e };
 
     fn from(fault: SearchFault) -> QuestionFault {
@@ -103,9 +95,6 @@ impl From<SearchFault> for QuestionFault {
 }
 
 impl From<InstanceFault> for QuestionFault {
-    ghost use Rattle.std.specs.Prelude.{◌≡◌};
-    ghost use Rattle.cs_question.specs.Faults.{fault_of_judging};
-
     ghost from_gives = { λ e f. f ≡ fault_of_judging e };
 
     fn from(fault: InstanceFault) -> QuestionFault {

@@ -1,10 +1,10 @@
 // A list that is all that is asked.
-ghost use Rattle.std.specs.Prelude.{◌≡◌, ◌<◌, ◌≤◌, ℕ, List, true, false, length, drop, slice_get, Some, IfOk, IsNone, IsTrue, OnOk};
+ghost use Rattle.std.specs.Prelude.{◌≡◌, ◌<◌, ◌≤◌, ℕ, List, true, false, length, slice_get, Some, IfOk, IsNone, IsTrue, OnOk};
 ghost use Rattle.std.specs.List.{AllByRecursion};
 ghost use Rattle.cs_document.specs.Document.{Document, Documents, list, elements};
 ghost use Rattle.cs_instance.specs.Constraint.{elements_hold};
 ghost use Rattle.cs_question.specs.Asked.{meets, meets_all};
-ghost use Rattle.cs_question.specs.Elements.{element_at, element_behind, fits, NoLength};
+ghost use Rattle.cs_question.specs.Elements.{element_at, element_behind, fits, IsFrom, NoLength};
 ghost use Rattle.cs_question.specs.Nodes.{Judgement, IsMeaning, end_of};
 ghost use Rattle.cs_question.specs.Spread.{HoldsPlace, HoldsPlaces, HoldsFurther, IsFurther, AreTaken, AddsWays, spread_list};
 ghost use Rattle.cs_question.specs.Truth.{NoList, IsInner};
@@ -103,37 +103,40 @@ fn ask_element(further: &mut Further, literal: Literal, element: Element) -> Res
     }
 }
 
-/// Adds what one rule asks of a place.
+/// Adds what one rule asks of the element at a place, or of each one from there on, where its front ends before.
 fn ask_place(
     further: &mut Further,
     nodes: &Nodes<'_>,
     literal: Literal,
     place: usize,
+    is_behind: bool,
 ) -> Result<(), AllocError>
-    ensures { OnOk result ((J : Judgement) (n : ℕ) (ds : Documents) (y : Document) → IsMeaning nodes.now J
-        → meets J (list ds) literal ≡ true → slice_get (elements ds) place ≡ Some y
+    ensures { OnOk result ((J : Judgement) (n i : ℕ) (ds : Documents) (y : Document) → IsMeaning nodes.now J
+        → meets J (list ds) literal ≡ true → IsFrom place is_behind i → slice_get (elements ds) i ≡ Some y
         → IsFurther J n further.old y → IsFurther J n further.new y) }
 {
     if !literal.holds {
         return Ok(());
     }
-    match nodes.of(literal) {
-        Some(Node::List { front, end }) => {
-            ask_element(further, literal, element_in(front, *end, place))
-        }
-        _ => Ok(()),
+    let Some(Node::List { front, end }) = nodes.of(literal) else {
+        return Ok(());
+    };
+    if is_behind && front.len() > place {
+        return Ok(());
     }
+    ask_element(further, literal, element_in(front, *end, place))
 }
 
-/// What the rules that are met ask of a place.
+/// What the rules that are met ask of the element at a place, or of each one from there on.
 fn asked_at(
     alloc: Global,
     nodes: &Nodes<'_>,
     asked: &[Literal],
     place: usize,
+    is_behind: bool,
 ) -> Result<Further, AllocError>
-    ensures { IfOk result (λ f. (J : Judgement) (n : ℕ) (ds : Documents) (y : Document) → IsMeaning nodes.now J
-        → meets_all J (list ds) asked.now ≡ true → slice_get (elements ds) place ≡ Some y
+    ensures { IfOk result (λ f. (J : Judgement) (n i : ℕ) (ds : Documents) (y : Document) → IsMeaning nodes.now J
+        → meets_all J (list ds) asked.now ≡ true → IsFrom place is_behind i → slice_get (elements ds) i ≡ Some y
         → IsInner n y → IsFurther J n f y) }
 {
     let mut further = Further {
@@ -141,52 +144,7 @@ fn asked_at(
         asked: Vec::new(alloc),
     };
     for literal in asked {
-        ask_place(&mut further, nodes, *literal, place)?;
-    }
-    Ok(further)
-}
-
-/// Adds what one rule asks of the elements from a place on, where its front ends before it.
-fn ask_behind(
-    further: &mut Further,
-    nodes: &Nodes<'_>,
-    literal: Literal,
-    place: usize,
-) -> Result<(), AllocError>
-    ensures { OnOk result ((J : Judgement) (n : ℕ) (ds : Documents) → IsMeaning nodes.now J
-        → meets J (list ds) literal ≡ true
-        → AllByRecursion (IsFurther J n further.old) (drop place (elements ds))
-        → AllByRecursion (IsFurther J n further.new) (drop place (elements ds))) }
-{
-    if !literal.holds {
-        return Ok(());
-    }
-    match nodes.of(literal) {
-        Some(Node::List { front, end }) if front.len() <= place => {
-            ask_element(further, literal, behind(*end))
-        }
-        _ => Ok(()),
-    }
-}
-
-/// What the rules that are met ask of the elements from a place on.
-fn asked_behind(
-    alloc: Global,
-    nodes: &Nodes<'_>,
-    asked: &[Literal],
-    place: usize,
-) -> Result<Further, AllocError>
-    ensures { IfOk result (λ f. (J : Judgement) (n : ℕ) (ds : Documents) → IsMeaning nodes.now J
-        → meets_all J (list ds) asked.now ≡ true
-        → AllByRecursion (IsInner n) (elements ds)
-        → HoldsFurther J n (spread_list place (elements ds)) f) }
-{
-    let mut further = Further {
-        is_barred: false,
-        asked: Vec::new(alloc),
-    };
-    for literal in asked {
-        ask_behind(&mut further, nodes, *literal, place)?;
+        ask_place(&mut further, nodes, *literal, place, is_behind)?;
     }
     Ok(further)
 }
@@ -202,7 +160,7 @@ fn place_of<'a>(
         → place < count → count ≤ length (elements ds)
         → HoldsPlace J n (spread_list count (elements ds)) p) }
 {
-    let Further { is_barred, asked } = asked_at(alloc, nodes, asked, place)?;
+    let Further { is_barred, asked } = asked_at(alloc, nodes, asked, place, false)?;
     Ok(Place {
         key: Key::Index(place),
         is_needed: true,
@@ -228,17 +186,18 @@ fn places_of<'a>(
     Ok(places)
 }
 
-/// Adds the way to fail at a place.
+/// Adds the way to fail at a place of so many, or behind all of them.
 fn add_way<'a>(
     ways: &mut Vec<Way<'a>>,
     literal: Literal,
     element: Element,
     place: usize,
+    count: usize,
 ) -> Result<(), AllocError>
     requires { literal.holds ≡ false }
     ensures kept { OnOk result (AddsWays ways.old.items ways.new.items) }
-    ensures all { OnOk result ((J : Judgement) (ys : List Document) (count : ℕ) (y : Document)
-        → place < count → slice_get ys place ≡ Some y
+    ensures all { OnOk result ((J : Judgement) (ys : List Document) (i : ℕ) (y : Document)
+        → place ≤ i → (place < count → i ≡ place) → slice_get ys i ≡ Some y
         → fits (λ z p. J literal.side p z) element y ≡ false
         → AreTaken J (spread_list count ys) ways.new.items) }
 {
@@ -247,29 +206,12 @@ fn add_way<'a>(
         Element::Anything => return Ok(()),
         Element::Each(rule) => Some(part_of(literal, rule)),
     };
-    ways.push(Way::Present(Key::Index(place), more))?;
-    Ok(())
-}
-
-/// Adds the way to fail behind all places.
-fn add_way_behind<'a>(
-    ways: &mut Vec<Way<'a>>,
-    literal: Literal,
-    element: Element,
-) -> Result<(), AllocError>
-    requires { literal.holds ≡ false }
-    ensures kept { OnOk result (AddsWays ways.old.items ways.new.items) }
-    ensures all { OnOk result ((J : Judgement) (ys : List Document) (count place : ℕ) (y : Document)
-        → count ≤ place → slice_get ys place ≡ Some y
-        → fits (λ z p. J literal.side p z) element y ≡ false
-        → AreTaken J (spread_list count ys) ways.new.items) }
-{
-    let more = match element {
-        Element::Nothing => None,
-        Element::Anything => return Ok(()),
-        Element::Each(rule) => Some(part_of(literal, rule)),
+    let way = if place < count {
+        Way::Present(Key::Index(place), more)
+    } else {
+        Way::Behind(more)
     };
-    ways.push(Way::Behind(more))?;
+    ways.push(way)?;
     Ok(())
 }
 
@@ -289,9 +231,15 @@ fn list_ways<'a>(
 {
     let mut ways = Vec::new(alloc);
     for place in 0..count {
-        add_way(&mut ways, literal, element_in(front, end, place), place)?;
+        add_way(
+            &mut ways,
+            literal,
+            element_in(front, end, place),
+            place,
+            count,
+        )?;
     }
-    add_way_behind(&mut ways, literal, behind(end))?;
+    add_way(&mut ways, literal, behind(end), count, count)?;
     Ok(ways)
 }
 
@@ -339,19 +287,6 @@ fn rules_of<'a>(
     Ok(rules)
 }
 
-fn found_of<'a>(alloc: Global, chosen: Chosen<'_>) -> Result<Found<'a>, AllocError> {
-    let Chosen { places, further } = chosen;
-    let mut elements = Vec::with_capacity(alloc, places.len())?;
-    for place in places {
-        let Place { asked, .. } = place;
-        elements.push(asked)?;
-    }
-    for asked in further {
-        elements.push(asked)?;
-    }
-    Ok(Found::List(elements))
-}
-
 /// The steps for what so many rules ask of so many places.
 fn cost_of_places(asked: &[Literal], count: usize) -> usize {
     const LOOKS: usize = 16;
@@ -381,7 +316,7 @@ fn list_of_length<'a>(
     let rules = rules_of(alloc, nodes, asked, count)?;
     match choice(alloc, table, &places, &further, &rules, effort)? {
         None => Ok(None),
-        Some(chosen) => Ok(Some(found_of(alloc, chosen)?)),
+        Some(Chosen { parts, .. }) => Ok(Some(Found::List(parts))),
     }
 }
 
@@ -398,12 +333,12 @@ fn longer_list<'a>(
 {
     effort.take(cost_of_places(asked, count))?;
     let places = places_of(alloc, nodes, asked, count)?;
-    let further = asked_behind(alloc, nodes, asked, count)?;
+    let further = asked_at(alloc, nodes, asked, count, true)?;
     let mut rules = rules_of(alloc, nodes, asked, count)?;
     rules.push(any_behind(alloc)?)?;
     match choice(alloc, table, &places, &further, &rules, effort)? {
         None => Ok(None),
-        Some(chosen) => Ok(Some(found_of(alloc, chosen)?)),
+        Some(Chosen { parts, .. }) => Ok(Some(Found::List(parts))),
     }
 }
 

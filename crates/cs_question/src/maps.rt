@@ -220,28 +220,6 @@ fn rules_of<'a>(
     Ok(rules)
 }
 
-/// The keys that have to be there.
-fn members_of<'a>(
-    alloc: Global,
-    places: Vec<Place<'a>>,
-) -> Result<Vec<(&'a str, Vec<Literal>)>, AllocError> {
-    let mut members = Vec::with_capacity(alloc, places.len())?;
-    for place in places {
-        let Place {
-            key,
-            is_needed,
-            asked,
-            ..
-        } = place;
-        if let Key::Label(label) = key {
-            if is_needed {
-                members.push((label, asked))?;
-            }
-        }
-    }
-    Ok(members)
-}
-
 /// A map that is all that is asked.
 pub(crate) fn map_of<'a>(
     alloc: Global,
@@ -261,9 +239,9 @@ pub(crate) fn map_of<'a>(
     let rules = rules_of(alloc, nodes, asked, &labels)?;
     match choice(alloc, table, &places, &further, &rules, effort)? {
         None => Ok(None),
-        Some(Chosen { places, further }) => Ok(Some(Found::Map {
-            members: members_of(alloc, places)?,
-            further,
+        Some(Chosen { keys, parts }) => Ok(Some(Found::Map {
+            keys,
+            parts,
             labels,
         })),
     }

@@ -48,9 +48,7 @@ impl<'a> Nodes<'a> {
             Side::Refusing => self.refusing.get(literal.rule),
         }
     }
-}
 
-impl Nodes<'_> {
     /// How many rules there are on both sides.
     pub(crate) fn count(&self) -> usize {
         self.admitting.len().saturating_add(self.refusing.len())

@@ -7,32 +7,21 @@ ghost use Rattle.cs_instance.specs.Instance.{Rule, definition, IsInstance};
 ghost use Rattle.cs_question.specs.Separates.{Separates};
 ghost use Rattle.cs_question.specs.Faults.{IsRefusal};
 ghost use Rattle.cs_question.specs.ReadAgain.{IsReadAgain};
-ghost use Rattle.cs_question.specs.Truth.{IsShut};
+ghost use Rattle.cs_question.specs.Truth.{IsMetByNoDocument};
 ghost use Rattle.std.specs.List.{list_all};
 
 use crate::budget::Budget;
 use crate::explore::explored;
-use crate::fault::QuestionFault;
-use crate::literal::{Literal, Side, add, are_same, met};
+use crate::fault::{QuestionFault, SearchFault};
+use crate::literal::{Literal, Side, add, met};
 use crate::nodes::Nodes;
 use crate::read_again::is_read_again;
 use crate::sides::side_of;
-use crate::table::Table;
 use crate::witness::{Witness, witness_of};
 use cs_document::Doc;
 use cs_guard::Guarded;
 use cs_instance::{NumberedRoot, is_instance, numbered_root};
 use std::alloc::{AllocError, Global};
-
-/// Whether the first question has no answer.
-fn has_none(table: &Table<'_>, asked: &[Literal]) -> bool
-    ensures { IsTrue result → IsShut table.now.entries.items asked.now }
-{
-    match table.entries.first() {
-        Some(entry) => entry.found.is_none() && are_same(&entry.asked, asked),
-        None => false,
-    }
-}
 
 /// A document that is an instance of one root and not of another one, each a definition of its package named with its `#`, and that
 /// its text is read as; none where there is no such document, so each instance of the one is an instance of the other.
@@ -68,21 +57,40 @@ pub fn separating(
         admitting: side_of(alloc, &first.numbering.rules, &first.numbering.children)?,
         refusing: side_of(alloc, &second.numbering.rules, &second.numbering.children)?,
     };
-    budget.spend(nodes.count());
     let asked = both(alloc, first.number, second.number)?;
-    let table = explored(alloc, &nodes, &asked, budget)?;
-    if has_none(&table, &asked) {
+    let Some(doc) = document_for(alloc, &nodes, &asked, budget)? else {
         return Ok(None);
-    }
-    let Witness { doc, values } = witness_of(alloc, &table)?;
-    budget.spend(cost_of_judging(&nodes, values));
+    };
     if is_judged(alloc, admitting, admitting_root, &doc, true)?
         && is_judged(alloc, refusing, refusing_root, &doc, false)?
-        && is_read_again(alloc, &doc)?
     {
         Ok(Some(doc))
     } else {
         Err(QuestionFault::TooManyCases)
+    }
+}
+
+/// A document that a search finds to be all that is asked, and that its text is read as; none where no document is.
+fn document_for(
+    alloc: Global,
+    nodes: &Nodes<'_>,
+    asked: &[Literal],
+    budget: &mut Budget,
+) -> Result<Option<Doc>, SearchFault>
+    ensures none { IfOk result (λ o. IsNone o → IsMetByNoDocument nodes.now asked.now) }
+    ensures read { IfOk result (λ o. IfSome o (λ d. IsReadAgain (doc_view d))) }
+{
+    budget.spend(nodes.count());
+    let table = explored(alloc, nodes, asked, budget)?;
+    if table.is_shut_at(0, asked) {
+        return Ok(None);
+    }
+    let Witness { doc, values } = witness_of(alloc, &table)?;
+    budget.spend(cost_of_judging(nodes, values));
+    if is_read_again(alloc, &doc)? {
+        Ok(Some(doc))
+    } else {
+        Err(SearchFault::TooManyCases)
     }
 }
 
@@ -109,26 +117,18 @@ fn is_judged(
 }
 
 /// A rule that is to be met, and one that isn't.
-fn both(alloc: Global, met: usize, unmet: usize) -> Result<Vec<Literal>, AllocError>
+fn both(alloc: Global, first: usize, second: usize) -> Result<Vec<Literal>, AllocError>
     ensures { IfOk result (λ v. (p : Literal → Bool)
-        → p (record { side = Side.Admitting; rule = met; holds = true }) ≡ true
-        → p (record { side = Side.Refusing; rule = unmet; holds = false }) ≡ true
+        → p (record { side = Side.Admitting; rule = first; holds = true }) ≡ true
+        → p (record { side = Side.Refusing; rule = second; holds = false }) ≡ true
         → list_all p v.items ≡ true) }
 {
-    let mut asked = Vec::new(alloc);
-    add(
-        &mut asked,
-        Literal {
-            side: Side::Admitting,
-            rule: met,
-            holds: true,
-        },
-    )?;
+    let mut asked = met(alloc, first)?;
     add(
         &mut asked,
         Literal {
             side: Side::Refusing,
-            rule: unmet,
+            rule: second,
             holds: false,
         },
     )?;
@@ -165,15 +165,11 @@ pub fn instance_of(
         admitting: side_of(alloc, &numbering.rules, &numbering.children)?,
         refusing: Vec::new(alloc),
     };
-    budget.spend(nodes.count());
     let asked = met(alloc, number)?;
-    let table = explored(alloc, &nodes, &asked, budget)?;
-    if has_none(&table, &asked) {
+    let Some(doc) = document_for(alloc, &nodes, &asked, budget)? else {
         return Ok(None);
-    }
-    let Witness { doc, values } = witness_of(alloc, &table)?;
-    budget.spend(cost_of_judging(&nodes, values));
-    if is_judged(alloc, package, root, &doc, true)? && is_read_again(alloc, &doc)? {
+    };
+    if is_judged(alloc, package, root, &doc, true)? {
         Ok(Some(doc))
     } else {
         Err(QuestionFault::TooManyCases)

@@ -3,7 +3,6 @@ ghost use Rattle.std.specs.Prelude.{◌≡◌, true, IfOk, IsTrue};
 ghost use Rattle.cs_question.specs.Truth.{IsShut};
 
 use crate::effort::Effort;
-use crate::fault::SearchFault;
 use crate::found::Found;
 use crate::literal::{Literal, are_same};
 use std::alloc::{AllocError, Global};
@@ -12,12 +11,11 @@ use std::collections::BTreeMap;
 /// The most questions.
 const MOST_QUESTIONS: usize = 100_000;
 
-/// A question, with what was found to answer it, and when: how many were answered before.
+/// A question, with what was found to answer it.
 #[derive(Drop)]
 pub(crate) struct Entry<'a> {
     pub(crate) asked: Vec<Literal>,
     pub(crate) found: Option<Found<'a>>,
-    pub(crate) turn: usize,
 }
 
 /// The questions, and where they are.
@@ -25,8 +23,8 @@ pub(crate) struct Entry<'a> {
 pub(crate) struct Table<'a> {
     pub(crate) entries: Vec<Entry<'a>>,
     places: BTreeMap<Vec<Literal>, usize>,
-    /// How many questions were answered.
-    turns: usize,
+    /// The places of those that were answered, in that order.
+    pub(crate) answered: Vec<usize>,
     /// Whether only what is in the table counts as having no answer. Before that a question that isn't in it yet counts so too.
     pub(crate) is_final: bool,
 }
@@ -36,7 +34,7 @@ impl<'a> Table<'a> {
         Table {
             entries: Vec::new(alloc),
             places: BTreeMap::new(alloc),
-            turns: 0,
+            answered: Vec::new(alloc),
             is_final: false,
         }
     }
@@ -46,39 +44,38 @@ impl<'a> Table<'a> {
         self.places.get(asked).copied()
     }
 
-    /// Whether no question can be added.
-    pub(crate) fn is_full(&self) -> bool {
-        self.entries.len() >= MOST_QUESTIONS
+    /// What was found to answer the question at a place.
+    pub(crate) fn found(&self, place: usize) -> Option<&Found<'a>> {
+        self.entries.get(place)?.found.as_ref()
     }
 
-    /// Adds a question, unless it is there.
-    pub(crate) fn ask(&mut self, alloc: Global, asked: Vec<Literal>) -> Result<(), SearchFault> {
-        if self.place(&asked).is_some() {
-            return Ok(());
+    /// Where a question is, which is added unless it is there. There may be no room for it.
+    pub(crate) fn ask(
+        &mut self,
+        alloc: Global,
+        asked: Vec<Literal>,
+    ) -> Result<Option<usize>, AllocError> {
+        let known = self.place(&asked);
+        if known.is_some() {
+            return Ok(known);
         }
-        if self.is_full() {
-            return Err(SearchFault::TooManyCases);
+        let place = self.entries.len();
+        if place >= MOST_QUESTIONS {
+            return Ok(None);
         }
         let key = Vec::from_slice(alloc, &asked)?;
-        let place = self.entries.len();
-        self.entries.push(Entry {
-            asked,
-            found: None,
-            turn: 0,
-        })?;
+        self.entries.push(Entry { asked, found: None })?;
         let _ = self.places.insert(key, place)?;
-        Ok(())
+        Ok(Some(place))
     }
 
     /// Keeps what was found to answer the question at a place.
-    pub(crate) fn answer(&mut self, place: usize, found: Option<Found<'a>>) {
+    pub(crate) fn answer(&mut self, place: usize, found: Found<'a>) -> Result<(), AllocError> {
         if place < self.entries.len() {
-            let turn = self.turns;
-            self.turns = turn.saturating_add(1);
-            let entry = &mut self.entries[place];
-            entry.found = found;
-            entry.turn = turn;
+            self.entries[place].found = Some(found);
+            self.answered.push(place)?;
         }
+        Ok(())
     }
 
     /// Whether a question has no answer, as far as is known.

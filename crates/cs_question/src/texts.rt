@@ -67,7 +67,7 @@ fn longest(marks: &[&str]) -> usize
 }
 
 /// A text that is none of these, since it is longer.
-fn other_text(alloc: Global, marks: &[&str]) -> Result<String, AllocError>
+pub(crate) fn other_text(alloc: Global, marks: &[&str]) -> Result<String, AllocError>
     ensures { IfOk result (λ t. All (λ m. length m.now < length (string_bytes t)) marks.now) }
 {
     let most = longest(marks);

@@ -2,7 +2,9 @@
 use crate::fault::SearchFault;
 use crate::found::Found;
 use crate::literal::Literal;
-use crate::table::{Entry, Table};
+use crate::places::Key;
+use crate::table::Table;
+use crate::texts::other_text;
 use cs_document::Doc;
 use std::alloc::{AllocError, Global};
 use std::collections::BTreeMap;
@@ -11,18 +13,6 @@ use std::collections::BTreeMap;
 const MOST_VALUES: usize = 100_000;
 
 const MOST_DEPTH: usize = 127;
-
-/// The questions in the order in which they were answered.
-fn in_turn(alloc: Global, entries: &[Entry<'_>]) -> Result<Vec<(usize, usize)>, AllocError> {
-    let mut order = Vec::with_capacity(alloc, entries.len())?;
-    for (place, entry) in entries.iter().enumerate() {
-        if entry.found.is_some() {
-            order.push((entry.turn, place))?;
-        }
-    }
-    order.sort_unstable();
-    Ok(order)
-}
 
 /// A document, and how many values it has.
 #[derive(Drop)]
@@ -56,13 +46,6 @@ const ENDLESS: Extent = Extent {
     depth: usize::MAX,
 };
 
-fn extent_of(table: &Table<'_>, extents: &[Extent], asked: &Vec<Literal>) -> Extent {
-    match table.place(asked) {
-        None => ENDLESS,
-        Some(place) => extents.get(place).copied().unwrap_or(ENDLESS),
-    }
-}
-
 /// That of what is around both.
 fn joined(first: Extent, second: Extent) -> Extent {
     Extent {
@@ -72,64 +55,25 @@ fn joined(first: Extent, second: Extent) -> Extent {
 }
 
 fn extent_found(table: &Table<'_>, extents: &[Extent], found: &Found<'_>) -> Extent {
-    match found {
+    let mut all = match found {
         Found::Null | Found::Bool(_) | Found::Int(_) | Found::Text(_) => SCALAR,
-        Found::List(parts) => around(table, extents, EMPTY, parts),
-        Found::Map {
-            members,
-            further,
-            ..
-        } => around(
-            table,
-            extents,
-            around_members(table, extents, members),
-            further,
-        ),
-    }
-}
-
-fn around(
-    table: &Table<'_>,
-    extents: &[Extent],
-    mut all: Extent,
-    parts: &[Vec<Literal>],
-) -> Extent {
-    for part in parts {
-        all = joined(all, extent_of(table, extents, part));
-    }
-    all
-}
-
-fn around_members(
-    table: &Table<'_>,
-    extents: &[Extent],
-    members: &[(&str, Vec<Literal>)],
-) -> Extent {
-    let mut all = EMPTY;
-    for (_label, part) in members {
-        all = joined(all, extent_of(table, extents, part));
+        Found::List(_) | Found::Map { .. } => EMPTY,
+    };
+    for part in found.parts() {
+        let extent = match table.place(part) {
+            Some(place) => extents.get(place).copied().unwrap_or(ENDLESS),
+            None => ENDLESS,
+        };
+        all = joined(all, extent);
     }
     all
 }
 
 /// The extent of the document that was found for each question.
-fn extents_of(
-    alloc: Global,
-    table: &Table<'_>,
-    order: &[(usize, usize)],
-) -> Result<Vec<Extent>, AllocError> {
-    let mut extents = Vec::with_capacity(alloc, table.entries.len())?;
-    for _ in 0..table.entries.len() {
-        extents.push(ENDLESS)?;
-    }
-    for (_turn, place) in order {
-        if let Some(
-            Entry {
-                found: Some(found),
-                ..
-            },
-        ) = table.entries.get(*place)
-        {
+fn extents_of(alloc: Global, table: &Table<'_>) -> Result<Vec<Extent>, AllocError> {
+    let mut extents = vec![in alloc; ENDLESS; table.entries.len()]?;
+    for place in &table.answered {
+        if let Some(found) = table.found(*place) {
             let extent = extent_found(table, &extents, found);
             if *place < extents.len() {
                 extents[*place] = extent;
@@ -139,57 +83,26 @@ fn extents_of(
     Ok(extents)
 }
 
-fn count(table: &Table<'_>, uses: &mut Vec<usize>, asked: &Vec<Literal>) {
-    if let Some(place) = table.place(asked) {
-        if let Some(times) = uses.get_mut(place) {
-            *times = times.saturating_add(1);
-        }
-    }
-}
-
+/// Counts a use of the document of each part.
 fn count_parts(table: &Table<'_>, uses: &mut Vec<usize>, found: &Found<'_>) {
-    match found {
-        Found::Null | Found::Bool(_) | Found::Int(_) | Found::Text(_) => {}
-        Found::List(parts) => count_all(table, uses, parts),
-        Found::Map {
-            members,
-            further,
-            ..
-        } => {
-            for (_label, part) in members {
-                count(table, uses, part);
+    for part in found.parts() {
+        if let Some(place) = table.place(part) {
+            if let Some(times) = uses.get_mut(place) {
+                *times = times.saturating_add(1);
             }
-            count_all(table, uses, further);
         }
-    }
-}
-
-fn count_all(table: &Table<'_>, uses: &mut Vec<usize>, parts: &[Vec<Literal>]) {
-    for part in parts {
-        count(table, uses, part);
     }
 }
 
 /// How many times the document of each question is used for the first question's one, which is itself used once.
-fn uses_of(
-    alloc: Global,
-    table: &Table<'_>,
-    order: &[(usize, usize)],
-) -> Result<Vec<usize>, AllocError> {
+fn uses_of(alloc: Global, table: &Table<'_>) -> Result<Vec<usize>, AllocError> {
     let mut uses = vec![in alloc; 0usize; table.entries.len()]?;
     if !uses.is_empty() {
         uses[0] = 1;
     }
-    for i in 0..order.len() {
-        let (_turn, place) = order[order.len() - 1 - i];
-        if is_used(&uses, place) {
-            if let Some(
-                Entry {
-                    found: Some(found),
-                    ..
-                },
-            ) = table.entries.get(place)
-            {
+    for place in table.answered.iter().rev() {
+        if is_used(&uses, *place) {
+            if let Some(found) = table.found(*place) {
                 count_parts(table, &mut uses, found);
             }
         }
@@ -272,20 +185,18 @@ fn list_made(
     Ok(Doc::List(elements))
 }
 
-/// A key of so many `a` that it is longer than each label, and no two of them are the same.
-fn further_key(alloc: Global, labels: &[&str], number: usize) -> Result<String, AllocError> {
-    let mut longest = 0;
-    for label in labels {
-        if label.len() > longest {
-            longest = label.len();
-        }
+/// The key of a part by its number: a further one is of so many `a` that it is longer than each label, and no two of them are the same.
+fn key_at(
+    alloc: Global,
+    keys: &[Key<'_>],
+    labels: &[&str],
+    number: usize,
+) -> Result<String, AllocError> {
+    if let Some(Key::Label(label)) = keys.get(number) {
+        return String::from_str(alloc, *label);
     }
-    let mut key = String::new(alloc);
-    key.push('a')?;
-    for _ in 0..longest {
-        key.push('a')?;
-    }
-    for _ in 0..number {
+    let mut key = other_text(alloc, labels)?;
+    for _ in keys.len()..number {
         key.push('a')?;
     }
     Ok(key)
@@ -295,18 +206,14 @@ fn map_made(
     alloc: Global,
     table: &Table<'_>,
     making: &mut Making,
-    members: &[(&str, Vec<Literal>)],
-    further: &[Vec<Literal>],
+    keys: &[Key<'_>],
+    parts: &[Vec<Literal>],
     labels: &[&str],
 ) -> Result<Doc, SearchFault> {
     let mut map = BTreeMap::new(alloc);
-    for (label, part) in members {
+    for (number, part) in parts.iter().enumerate() {
         let doc = made(alloc, table, making, part)?;
-        let _ = map.insert(String::from_str(alloc, *label)?, doc)?;
-    }
-    for (number, part) in further.iter().enumerate() {
-        let doc = made(alloc, table, making, part)?;
-        let _ = map.insert(further_key(alloc, labels, number)?, doc)?;
+        let _ = map.insert(key_at(alloc, keys, labels, number)?, doc)?;
     }
     Ok(Doc::Object(map))
 }
@@ -324,10 +231,10 @@ fn doc_of(
         Found::Text(text) => Ok(Doc::Text(String::from_str(alloc, text)?)),
         Found::List(parts) => list_made(alloc, table, making, parts),
         Found::Map {
-            members,
-            further,
+            keys,
+            parts,
             labels,
-        } => map_made(alloc, table, making, members, further, labels),
+        } => map_made(alloc, table, making, keys, parts, labels),
     }
 }
 
@@ -344,25 +251,18 @@ fn none_made(alloc: Global, count: usize) -> Result<Vec<Option<Doc>>, AllocError
 /// # Errors
 /// `TooManyCases` where it would have more values than a limit, or nest deeper.
 pub(crate) fn witness_of(alloc: Global, table: &Table<'_>) -> Result<Witness, SearchFault> {
-    let order = in_turn(alloc, &table.entries)?;
-    let extents = extents_of(alloc, table, &order)?;
+    let extents = extents_of(alloc, table)?;
     let extent = extents.first().copied().unwrap_or(ENDLESS);
     if extent.values > MOST_VALUES || extent.depth > MOST_DEPTH {
         return Err(SearchFault::TooManyCases);
     }
     let mut making = Making {
         docs: none_made(alloc, table.entries.len())?,
-        uses: uses_of(alloc, table, &order)?,
+        uses: uses_of(alloc, table)?,
     };
-    for (_turn, place) in &order {
+    for place in &table.answered {
         if is_used(&making.uses, *place) {
-            if let Some(
-                Entry {
-                    found: Some(found),
-                    ..
-                },
-            ) = table.entries.get(*place)
-            {
+            if let Some(found) = table.found(*place) {
                 let doc = doc_of(alloc, table, &mut making, found)?;
                 if let Some(made) = making.docs.get_mut(*place) {
                     *made = Some(doc);

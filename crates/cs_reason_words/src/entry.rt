@@ -1,8 +1,8 @@
 // Reasons in words.
 use crate::finding::Finding;
 use crate::walk::Way;
-use cs_place::{Named, Positions};
-use std::alloc::AllocError;
+use cs_place::{Named, Position, Positions};
+use std::alloc::{AllocError, Global};
 
 /// The disjunction whose alternative was followed last, by its place among the links from 1 on, and the alternative's own place; both
 /// are 0 where none was followed.
@@ -18,11 +18,9 @@ pub struct Entry<'t> {
     /// The value whose place is told, or that of its key, among those that are looked for.
     pub(crate) value: usize,
     /// The offset in the document's text.
-    pub offset: usize,
-    /// The line of that offset.
-    pub line: usize,
-    /// The column of that offset.
-    pub column: usize,
+    pub(crate) offset: usize,
+    /// The line and the column of that offset.
+    pub position: Position,
     /// The place among the reasons that were found.
     pub number: usize,
 }
@@ -36,10 +34,8 @@ pub struct SourcePlace<'t> {
     pub number: usize,
     /// The offset in the file's text.
     pub offset: usize,
-    /// The line of that offset.
-    pub line: usize,
-    /// The column of that offset.
-    pub column: usize,
+    /// The line and the column of that offset.
+    pub position: Position,
 }
 
 impl Entry<'_> {
@@ -66,25 +62,52 @@ impl Entry<'_> {
     }
 }
 
-/// Sorts entries by the place of the rule.
-pub fn sort_by_rule(entries: &mut Vec<Entry<'_>>) -> Result<(), AllocError> {
-    entries.sort_by_key(|entry| entry.rule_order())
-}
-
 /// Sorts entries by the place in the document, then by that of the rule.
-pub fn sort_entries(entries: &mut Vec<Entry<'_>>) -> Result<(), AllocError> {
+pub(crate) fn sort_entries(entries: &mut Vec<Entry<'_>>) -> Result<(), AllocError> {
     entries.sort_by_key(|entry| (entry.offset, entry.rule_order()))
 }
 
-/// Gives entries, which are sorted, the lines and columns of their offsets, by one walk over the text.
-pub(crate) fn place_entries(document: Named<'_>, entries: &mut Vec<Entry<'_>>) {
-    let mut positions = Positions::new(document.text);
-    for entry in entries.iter_mut() {
-        let position = positions.at(entry.offset);
-        entry.line = position
-            .line
-            .saturating_add(document.line)
-            .saturating_sub(1);
-        entry.column = position.column;
+/// The line and the column of an offset in a document, whose first line has a number.
+pub fn position_in(document: Named<'_>, positions: &mut Positions<'_>, offset: usize) -> Position {
+    let position = positions.at(offset);
+    let line = position.line.saturating_add(document.line);
+    Position {
+        line: line.saturating_sub(1),
+        column: position.column,
     }
+}
+
+/// Gives entries the lines and columns of their rules, where these were found in sources: each is read once, up to the last of them.
+/// The entries are sorted by their rules then.
+pub(crate) fn place_rules(
+    alloc: Global,
+    sources: &[Named<'_>],
+    entries: &mut Vec<Entry<'_>>,
+) -> Result<(), AllocError> {
+    let mut files = Vec::with_capacity(alloc, sources.len())?;
+    for source in sources {
+        files.push(Positions::new(source.text))?;
+    }
+    entries.sort_by_key(|entry| entry.rule_order())?;
+    for entry in entries.iter_mut() {
+        if let Some(rule) = &mut entry.finding.source
+            && let Some(positions) = files.get_mut(rule.number)
+        {
+            rule.position = positions.at(rule.offset);
+        }
+    }
+    Ok(())
+}
+
+/// Sorts entries, and gives them the lines and columns of their offsets, by one walk over the text.
+pub(crate) fn place_entries(
+    document: Named<'_>,
+    entries: &mut Vec<Entry<'_>>,
+) -> Result<(), AllocError> {
+    let mut positions = Positions::new(document.text);
+    sort_entries(entries)?;
+    for entry in entries.iter_mut() {
+        entry.position = position_in(document, &mut positions, entry.offset);
+    }
+    Ok(())
 }

@@ -70,16 +70,18 @@ impl<'t> Finding<'t> {
         self
     }
 
-    /// That a key isn't allowed, with the one that may have been meant.
+    /// That a key of a map isn't allowed, with that of the declared ones that may have been meant.
     pub fn extra(
         alloc: Global,
-        suggestion: Option<Suggestion<'t>>,
+        map: Item<'_>,
+        key: &str,
+        declared: &[&'t str],
     ) -> Result<Finding<'t>, AllocError> {
+        let label = meant_by(alloc, map, key, declared)?;
         let mut text = String::from_str(alloc, "this key is not allowed")?;
-        let label = suggestion.map(|found| found.key);
-        if let Some(key) = label {
+        if let Some(meant) = label {
             text.push_str(", did you mean ")?;
-            put_quoted(&mut text, key)?;
+            put_quoted(&mut text, meant)?;
             text.push('?')?;
         }
         let mut finding = Finding::here("extra", text);
@@ -118,6 +120,14 @@ pub fn item_at<'t>(flat: &'t Flat<'t>, item: usize) -> Item<'t> {
     }
 }
 
+/// What tells alternatives apart that a value isn't taken by: the value itself, or the one under a key, by its number and the step there.
+pub fn told_apart<'t>(item: usize, key: Option<(&'t str, usize)>) -> (usize, Option<Step<'t>>) {
+    match key {
+        None => (item, None),
+        Some((key, under)) => (under, Some(Step::Key(key))),
+    }
+}
+
 /// How many elements a value has.
 fn element_count(item: Item<'_>) -> usize {
     match item {
@@ -129,39 +139,25 @@ fn element_count(item: Item<'_>) -> usize {
 /// How many declared keys are compared with keys that aren't allowed, in all.
 pub const MOST_COMPARISONS: usize = 1_000_000;
 
-/// The key that may have been meant by another one, so far: it is the fewest edits away.
-#[derive(Clone, Copy, Drop)]
-pub struct Suggestion<'t> {
-    /// The key.
-    pub key: &'t str,
-    edits: usize,
-}
-
-impl<'t> Suggestion<'t> {
-    /// What is suggested for a key of a map: a candidate, if it is nearer to the key than what is suggested so far, and no key of the map.
-    pub fn nearer(
-        suggestion: Option<Suggestion<'t>>,
-        alloc: Global,
-        map: Item<'_>,
-        key: &str,
-        candidate: &'t str,
-    ) -> Result<Option<Suggestion<'t>>, AllocError> {
-        if key == candidate {
-            return Ok(suggestion);
+/// The declared key that may have been meant by one of a map: the first that is the fewest edits away and no key of the map.
+fn meant_by<'t>(
+    alloc: Global,
+    map: Item<'_>,
+    key: &str,
+    declared: &[&'t str],
+) -> Result<Option<&'t str>, AllocError> {
+    let mut meant = None;
+    let mut least = usize::MAX;
+    for candidate in declared {
+        if let Some(edits) = few_edits(alloc, key, candidate)?
+            && edits < least
+            && !has_key(map, candidate)
+        {
+            meant = Some(*candidate);
+            least = edits;
         }
-        let Some(edits) = few_edits(alloc, key, candidate)? else {
-            return Ok(suggestion);
-        };
-        let nearer = Suggestion {
-            key: candidate,
-            edits,
-        };
-        Ok(match suggestion {
-            Some(earlier) if earlier.edits <= edits => suggestion,
-            _ if has_key(map, candidate) => suggestion,
-            _ => Some(nearer),
-        })
     }
+    Ok(meant)
 }
 
 /// Whether a value has a key.

@@ -1,5 +1,6 @@
 // Reasons as JSON for programs.
 use crate::entry::Entry;
+use crate::wording::put_between;
 use cs_text::{put_count, put_string};
 use std::alloc::AllocError;
 
@@ -9,8 +10,8 @@ fn put_entry(text: &mut String, entry: &Entry<'_>) -> Result<(), AllocError> {
     let way = &entry.way;
     text.push_str("{\"valid\":false")?;
     put_string(text, "instanceLocation", way.pointer.as_str())?;
-    put_count(text, "line", entry.line)?;
-    put_count(text, "column", entry.column)?;
+    put_count(text, "line", entry.position.line)?;
+    put_count(text, "column", entry.position.column)?;
     put_string(text, "reason", finding.reason)?;
     put_string(text, "error", finding.text.as_str())?;
     if finding.definition.is_empty() {
@@ -24,8 +25,8 @@ fn put_entry(text: &mut String, entry: &Entry<'_>) -> Result<(), AllocError> {
     }
     if let Some(place) = &finding.source {
         put_string(text, "file", place.file)?;
-        put_count(text, "sourceLine", place.line)?;
-        put_count(text, "sourceColumn", place.column)?;
+        put_count(text, "sourceLine", place.position.line)?;
+        put_count(text, "sourceColumn", place.position.column)?;
     }
     text.push('}')
 }
@@ -38,9 +39,7 @@ pub(crate) fn put_members(
 ) -> Result<(), AllocError> {
     text.push_str(",\"errors\":[")?;
     for (place, entry) in entries.iter().enumerate() {
-        if place > 0 {
-            text.push(',')?;
-        }
+        put_between(text, place, ",")?;
         put_entry(text, entry)?;
     }
     text.push(']')?;

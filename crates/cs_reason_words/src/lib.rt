@@ -16,14 +16,14 @@ mod walk;
 mod wording;
 mod words;
 
-pub use cs_text::{put_count, put_integer, put_number, put_string};
-pub use entry::{Entry, SourcePlace, sort_by_rule, sort_entries};
-pub use finding::{Finding, MOST_COMPARISONS, Suggestion, item_at};
+pub use cs_text::{put_all, put_count, put_integer, put_number, put_string};
+pub use entry::{Entry, SourcePlace, position_in};
+pub use finding::{Finding, MOST_COMPARISONS, item_at, told_apart};
 pub use form::Form;
 pub use lines::put_lines;
 pub use once::Told;
 pub use pointer::put_steps;
-pub use targets::{Targets, offset_of};
+pub use targets::Targets;
 pub use telling::told_by;
 pub use verdicts::{put_told, report_verdict};
 pub use walk::{Choice, Way, above, chain_to, walk_to};

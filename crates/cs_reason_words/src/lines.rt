@@ -4,21 +4,20 @@ ghost use Rattle.cs_reason_words.specs.Valid.{EndsInLine};
 
 use crate::entry::Entry;
 use cs_place::{Named, put_place, put_shown};
-use cs_text::put_number;
+use cs_text::{put_all, put_number};
 use std::alloc::AllocError;
 
 /// Puts what says no: its place in the source, its path, and the alternative.
 fn put_rule(text: &mut String, entry: &Entry<'_>) -> Result<(), AllocError> {
     if let Some(place) = &entry.finding.source {
-        put_place(text, place.file, place.line, place.column)?;
+        put_place(text, place.file, place.position.line, place.position.column)?;
         text.push(' ')?;
     }
     put_shown(text, entry.way.rule.as_str())?;
-    if !entry.way.alternative.is_empty() {
-        text.push_str(", ")?;
-        text.push_str(entry.way.alternative.as_str())?;
+    if entry.way.alternative.is_empty() {
+        return Ok(());
     }
-    Ok(())
+    put_all(text, &[", ", entry.way.alternative.as_str()])
 }
 
 /// Ends the line of an entry.
@@ -36,16 +35,18 @@ fn put_entry(text: &mut String, name: &str, entry: &Entry<'_>) -> Result<(), All
     for _ in 0..entry.way.depth {
         text.push_str("  ")?;
     }
-    put_place(text, name, entry.line, entry.column)?;
+    put_place(text, name, entry.position.line, entry.position.column)?;
     text.push_str(": ")?;
-    if entry.way.pointer.is_empty() {
-        text.push_str("(root)")?;
-    } else {
-        put_shown(text, entry.way.pointer.as_str())?;
-    }
-    text.push_str(": ")?;
-    text.push_str(entry.finding.text.as_str())?;
-    text.push_str(" [")?;
+    let pointer = entry.way.pointer.as_str();
+    put_shown(
+        text,
+        if pointer.is_empty() {
+            "(root)"
+        } else {
+            pointer
+        },
+    )?;
+    put_all(text, &[": ", entry.finding.text.as_str(), " ["])?;
     put_rule(text, entry)?;
     end_entry(text)
 }

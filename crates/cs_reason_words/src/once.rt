@@ -1,7 +1,6 @@
 // What is told once, and what is left for a longer report.
 use crate::entry::{Branch, Entry, sort_entries};
-use crate::targets::offset_of;
-use cs_place::Place;
+use crate::targets::Targets;
 use std::alloc::{AllocError, Global};
 use std::collections::BTreeSet;
 
@@ -12,6 +11,8 @@ pub struct Told<'t> {
     pub entries: Vec<Entry<'t>>,
     /// How many more there are.
     pub more: usize,
+    /// The values that were looked for.
+    pub targets: Targets<'t>,
 }
 
 /// What is said of a value by an alternative. Sets of it are sorted, since who writes a document could choose pointers of one hash.
@@ -38,11 +39,8 @@ fn key_said<'e>(entry: &'e Entry<'_>) -> Option<Said<'e>> {
     Some((map, entry.way.branch, label))
 }
 
-/// The keys that others are told to be misspellings of, with their maps.
-fn meant_keys<'e>(
-    alloc: Global,
-    entries: &'e [Entry<'_>],
-) -> Result<BTreeSet<Said<'e>>, AllocError> {
+/// Which entries say what none before them says, and no misspelt key tells.
+fn are_new(alloc: Global, entries: &[Entry<'_>]) -> Result<Vec<bool>, AllocError> {
     let mut meant = BTreeSet::new(alloc);
     for entry in entries {
         if let Some(key) = key_said(entry)
@@ -51,12 +49,6 @@ fn meant_keys<'e>(
             meant.insert(key)?;
         }
     }
-    Ok(meant)
-}
-
-/// Which entries say what none before them says, and no misspelt key tells.
-fn are_new(alloc: Global, entries: &[Entry<'_>]) -> Result<Vec<bool>, AllocError> {
-    let meant = meant_keys(alloc, entries)?;
     let mut told = BTreeSet::new(alloc);
     let mut kept = Vec::with_capacity(alloc, entries.len())?;
     for entry in entries {
@@ -69,29 +61,20 @@ fn are_new(alloc: Global, entries: &[Entry<'_>]) -> Result<Vec<bool>, AllocError
     Ok(kept)
 }
 
-/// The first entries, at most so many, in the order of the document, by the places that were found in it, where entries are given in the
-/// order in which their reasons were found. What several say of one value by one alternative is told once, by the first of them; and that a
-/// key is missing isn't told where another one is told to be its misspelling. So many further reasons weren't put into words.
-pub(crate) fn told_of<'t>(
-    alloc: Global,
-    entries: Vec<Entry<'t>>,
-    found: &[Option<Place>],
-    most: usize,
-    further: usize,
-) -> Result<Told<'t>, AllocError> {
-    let kept = are_new(alloc, &entries)?;
-    let mut told = Vec::with_capacity(alloc, entries.len())?;
-    for (mut entry, is_new) in entries.into_iter().zip(kept) {
-        if is_new {
-            entry.offset = offset_of(found, entry.value, entry.finding.key);
-            told.push(entry)?;
+impl Told<'_> {
+    /// Leaves the first entries, at most so many, in the order of the document, where they are given in the order in which their reasons were
+    /// found. What several say of one value by one alternative is told once, by the first of them; and that a key is missing isn't told where
+    /// another one is told to be its misspelling.
+    pub(crate) fn keep_new(&mut self, alloc: Global, most: usize) -> Result<(), AllocError> {
+        let mut kept = are_new(alloc, &self.entries)?.into_iter();
+        self.entries.retain(|_| kept.next() == Some(true));
+        for entry in self.entries.iter_mut() {
+            entry.offset = self.targets.offset(entry.value, entry.finding.key);
         }
+        sort_entries(&mut self.entries)?;
+        let cut = self.entries.len().saturating_sub(most);
+        self.more = self.more.saturating_add(cut);
+        self.entries.truncate(most);
+        Ok(())
     }
-    sort_entries(&mut told)?;
-    let more = told.len().saturating_sub(most).saturating_add(further);
-    told.truncate(most);
-    Ok(Told {
-        entries: told,
-        more,
-    })
 }

@@ -11,23 +11,14 @@ pub struct Targets<'t> {
     paths: Vec<ValuePath<'t>>,
     /// The value of each link.
     of_link: Vec<usize>,
-}
-
-/// The offset of a value, or of its key where that is meant; that of the document's begin if it wasn't found.
-pub fn offset_of(found: &[Option<Place>], value: usize, key: bool) -> usize {
-    match found.get(value).copied().flatten() {
-        None => 0,
-        Some(place) => match place.key {
-            Some(offset) if key => offset,
-            _ => place.value,
-        },
-    }
+    /// The places of the values, once they were looked for.
+    places: Vec<Option<Place>>,
 }
 
 impl<'t> Targets<'t> {
     /// The values of links. A link comes before the one that leads to it, and those of one value are side by side, so from the end on each
     /// value comes once.
-    pub fn new<W: Words<'t>>(
+    pub(crate) fn new<W: Words<'t>>(
         alloc: Global,
         words: &W,
         links: &[Link<W::Cause>],
@@ -35,6 +26,7 @@ impl<'t> Targets<'t> {
         let mut targets = Targets {
             paths: Vec::new(alloc),
             of_link: vec![in alloc; 0; links.len()]?,
+            places: Vec::new(alloc),
         };
         let mut last = None;
         for (place, link) in links.iter().enumerate().rev() {
@@ -54,7 +46,7 @@ impl<'t> Targets<'t> {
     }
 
     /// The value of the link at a place.
-    pub fn of(&self, link: usize) -> usize {
+    fn of(&self, link: usize) -> usize {
         self.of_link.get(link).copied().unwrap_or(0)
     }
 
@@ -69,8 +61,25 @@ impl<'t> Targets<'t> {
         Ok(self.paths.len())
     }
 
-    /// The places in a text, that of the document first.
-    pub fn find(&self, alloc: Global, text: &[u8]) -> Result<Vec<Option<Place>>, AllocError> {
-        places(alloc, text, &self.paths)
+    /// Looks for the places in a text.
+    pub(crate) fn find(&mut self, alloc: Global, text: &[u8]) -> Result<(), AllocError> {
+        self.places = places(alloc, text, &self.paths)?;
+        Ok(())
+    }
+
+    /// The offset of a value, or of its key where that is meant; that of the document's begin if it wasn't found.
+    pub(crate) fn offset(&self, value: usize, key: bool) -> usize {
+        match self.places.get(value).copied().flatten() {
+            None => 0,
+            Some(place) => match place.key {
+                Some(offset) if key => offset,
+                _ => place.value,
+            },
+        }
+    }
+
+    /// The offset of the value of a link.
+    pub fn offset_of(&self, link: usize) -> usize {
+        self.offset(self.of(link), false)
     }
 }

@@ -1,11 +1,11 @@
 // From reasons to what is told of them in words.
-use crate::entry::{Entry, place_entries};
-use crate::once::{Told, told_of};
+use crate::entry::{Entry, place_entries, place_rules};
+use crate::once::Told;
 use crate::pointer::put_steps;
 use crate::targets::Targets;
 use crate::walk::walk_to;
 use crate::words::Words;
-use cs_place::Named;
+use cs_place::{Named, Position};
 use cs_reasons::{Link, Reason, Reasons, Telling};
 use std::alloc::{AllocError, Global};
 
@@ -15,64 +15,55 @@ const MOST_SPENT: usize = 16_777_216;
 /// What a step of a chain counts as.
 const STEP: usize = 8;
 
-/// Reasons in words, with no place in the text yet.
-#[derive(Drop)]
-struct Leaves<'t> {
-    entries: Vec<Entry<'t>>,
-    targets: Targets<'t>,
-    /// How many reasons were put into words.
-    seen: usize,
-    /// What that took: the bytes of their texts, and eight for each step of their chains.
-    spent: usize,
-}
-
 /// What is told of reasons in words: each that is asked for, and further ones while that takes little, so that what several of them
-/// say is told once, and counted once.
+/// say is told once, and counted once. Places are given their lines and columns, those of rules in the sources.
 pub fn told_by<'t, W: Words<'t>>(
     alloc: Global,
     words: &mut W,
     telling: Telling,
     document: Named<'_>,
+    sources: &[Named<'_>],
     reasons: &Reasons<W::Cause>,
 ) -> Result<Told<'t>, AllocError> {
-    let mut leaves = Leaves {
+    let mut told = Told {
         entries: Vec::new(alloc),
+        more: reasons.count,
         targets: Targets::new(alloc, &*words, &reasons.links)?,
-        seen: 0,
-        spent: 0,
     };
-    for reason in &reasons.told {
-        if leaves.seen < telling.most || leaves.spent <= MOST_SPENT {
-            tell(alloc, words, telling, &reasons.links, reason, &mut leaves)?;
+    let mut spent: usize = 0;
+    for (number, reason) in reasons.told.iter().enumerate() {
+        if number < telling.most || spent <= MOST_SPENT {
+            let bytes = tell(words, telling, &reasons.links, number, reason, &mut told)?;
+            spent = spent.saturating_add(bytes);
+            told.more = told.more.saturating_sub(1);
         }
     }
-    let further = reasons.count.saturating_sub(leaves.seen);
-    let found = leaves.targets.find(alloc, document.text)?;
-    let mut told = told_of(alloc, leaves.entries, &found, telling.most, further)?;
-    place_entries(document, &mut told.entries);
+    told.targets.find(alloc, document.text)?;
+    told.keep_new(alloc, telling.most)?;
+    place_rules(alloc, sources, &mut told.entries)?;
+    place_entries(document, &mut told.entries)?;
     Ok(told)
 }
 
-/// Adds a reason in words, unless it is told elsewhere.
+/// Adds a reason in words, unless it is told elsewhere, with no place in the text yet. Answers what that took: the bytes of the texts, and
+/// eight for each step of the chain.
 fn tell<'t, W: Words<'t>>(
-    alloc: Global,
     words: &mut W,
     telling: Telling,
     links: &[Link<W::Cause>],
+    number: usize,
     reason: &Reason<W::Cause>,
-    leaves: &mut Leaves<'t>,
-) -> Result<(), AllocError> {
+    told: &mut Told<'t>,
+) -> Result<usize, AllocError> {
     let Some(link) = links.get(reason.link) else {
-        return Ok(());
+        return Ok(0);
     };
+    let alloc = *told.entries.allocator();
     let (node, mut way) = walk_to(alloc, &*words, links, reason.link)?;
-    let found = words.finding(node, link.item, link.rule, &reason.cause, &mut way.rule)?;
-    let number = leaves.seen;
     let steps = way.steps.saturating_mul(STEP);
-    leaves.seen = number.saturating_add(1);
-    leaves.spent = leaves.spent.saturating_add(steps);
+    let found = words.finding(node, link.item, link.rule, &reason.cause, &mut way.rule)?;
     let Some(finding) = found else {
-        return Ok(());
+        return Ok(steps);
     };
     if let Some(step) = finding.step {
         put_steps(&mut way.pointer, &[step])?;
@@ -80,17 +71,15 @@ fn tell<'t, W: Words<'t>>(
     if !telling.all {
         way.depth = 0;
     }
-    let value = leaves.targets.put(reason.link, finding.step)?;
     let entry = Entry {
+        value: told.targets.put(reason.link, finding.step)?,
         finding,
         way,
-        value,
         offset: 0,
-        line: 1,
-        column: 1,
+        position: Position { line: 1, column: 1 },
         number,
     };
-    leaves.spent = leaves.spent.saturating_add(entry.bytes());
-    leaves.entries.push(entry)?;
-    Ok(())
+    let bytes = entry.bytes();
+    told.entries.push(entry)?;
+    Ok(steps.saturating_add(bytes))
 }

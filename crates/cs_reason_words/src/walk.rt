@@ -48,21 +48,22 @@ pub fn above<C: Drop>(links: &[Link<C>], place: usize) -> Option<(&Up<C>, &Link<
     Some((up, from))
 }
 
-/// The places of the links of a chain, from the one at a place up to the one behind the first.
+/// What leads to the link at a place, step by step from the pair that is explained, each with the link that it leads from.
 pub fn chain_to<C: Drop>(
     alloc: Global,
     links: &[Link<C>],
     place: usize,
-) -> Result<Vec<usize>, AllocError> {
+) -> Result<Vec<(&Up<C>, &Link<C>)>, AllocError> {
     let mut chain = Vec::new(alloc);
     let mut at = place;
     for _ in 0..links.len() {
-        let Some((up, _)) = above(links, at) else {
-            return Ok(chain);
+        let Some(step) = above(links, at) else {
+            break;
         };
-        chain.push(at)?;
-        at = up.link;
+        chain.push(step)?;
+        at = step.0.link;
     }
+    chain.reverse();
     Ok(chain)
 }
 
@@ -82,18 +83,15 @@ pub fn walk_to<'t, W: Words<'t>>(
         steps: 0,
     };
     let mut node = words.root(&mut way.rule)?;
-    let chain = chain_to(alloc, links, place)?;
-    for at in chain.iter().rev() {
-        if let Some((up, from)) = above(links, *at) {
-            way.steps = way.steps.saturating_add(1);
-            if let Some(choice) = words.choice_of(node, &up.cause) {
-                way.follow(choice, up.link, from.as_close)?;
-            }
-            if let Some(step) = words.step_of(from.item, &up.cause) {
-                put_steps(&mut way.pointer, &[step])?;
-            }
-            node = words.inside(node, from.item, &up.cause, &mut way.rule)?;
+    for (up, from) in chain_to(alloc, links, place)? {
+        way.steps = way.steps.saturating_add(1);
+        if let Some(choice) = words.choice_of(node, &up.cause) {
+            way.follow(choice, up.link, from.as_close)?;
         }
+        if let Some(step) = words.step_of(from.item, &up.cause) {
+            put_steps(&mut way.pointer, &[step])?;
+        }
+        node = words.inside(node, from.item, &up.cause, &mut way.rule)?;
     }
     Ok((node, way))
 }

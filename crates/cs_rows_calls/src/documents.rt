@@ -1,6 +1,6 @@
-// Documents of texts, through the calls of `cs_doc`.
+// Documents of texts, through the calls of `cs_json`.
 use crate::tables::{Row, cell, check};
-use cs_doc::{Doc, read_doc, write_doc};
+use cs_json::{Doc, read_doc, write_doc};
 use std::alloc::Global;
 use std::test::Fail;
 

@@ -2,9 +2,9 @@
 use crate::judges::{says, says_by_refusals};
 use crate::packages::guarded_of;
 use crate::tables::{Row, cell, check};
-use cs_doc::{Flat, flatten, read_doc};
 use cs_guard::Guarded;
 use cs_instance::{InstanceFault, instance_judge, instance_table};
+use cs_json::{Flat, flatten, read_doc};
 use std::alloc::Global;
 use std::test::Fail;
 

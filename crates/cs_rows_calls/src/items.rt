@@ -1,7 +1,7 @@
-// The items of a document, through the calls of `cs_doc` and `cs_flat`.
+// The items of a document, through the calls of `cs_json` and `cs_flat`.
 use crate::tables::{Row, cell, check};
-use cs_doc::{Flat, Item, flatten, read_doc};
 use cs_flat::{next_under, number_under};
+use cs_json::{Flat, Item, flatten, read_doc};
 use std::alloc::Global;
 use std::test::Fail;
 

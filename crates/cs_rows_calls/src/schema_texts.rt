@@ -1,7 +1,7 @@
 // Schemas of texts, through the calls of `cs_schema`.
 use crate::documents::is_text_of;
 use crate::tables::{Row, cell, check};
-use cs_doc::read_doc;
+use cs_json::read_doc;
 use cs_profile::Schema;
 use cs_schema::{SchemaDoc, read_schema, to_doc};
 use std::alloc::Global;

@@ -2,7 +2,7 @@
 use crate::judges::{is_asked_once, says, says_by_refusals, truth_of};
 use crate::schema_texts::read;
 use crate::tables::{Row, cell, check};
-use cs_doc::{Doc, Flat, flatten, read_doc};
+use cs_json::{Doc, Flat, flatten, read_doc};
 use cs_schema::SchemaDoc;
 use cs_validate::{ValidateFault, is_valid, valid_judge, valid_table};
 use std::alloc::Global;

@@ -1,6 +1,6 @@
 // Documents that are read straight into the lists of their values, beside the same documents read as trees.
 use crate::tables::{Row, cell, check};
-use cs_doc::{Doc, DocFault, Flat, Scratch, flatten, read_doc, read_flat};
+use cs_json::{Doc, DocFault, Flat, Scratch, flatten, read_doc, read_flat};
 use std::alloc::Global;
 use std::test::Fail;
 

@@ -6,7 +6,7 @@ use Rattle.std.specs.declared.alloc.Global.{Global}
 use Rattle.cs_document.specs.Document.{Document, IsDocument}
 use Rattle.cs_package.specs.Environment.{Environment, Names}
 use Rattle.cs_instance.specs.Instance.{Rule, definition, IsInstance}
-use Rattle.cs_pretty.specs.Shown.{IsShown}
+use Rattle.cs_json.specs.Shown.{IsShown}
 use Rattle.cs_question.specs.ReadAgain.{IsReadAgain}
 use Rattle.cs_variants.specs.declared.sampled.Sampled.{Sampled}
 use Rattle.cs_variants.specs.Sampled.{is_valid}

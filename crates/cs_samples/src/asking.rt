@@ -7,7 +7,7 @@ ghost use Rattle.cs_samples.specs.Sample.{IsAsAsked};
 use cs_document::Doc;
 use cs_guard::Guarded;
 use cs_instance::{InstanceFault, is_instance};
-use cs_pretty::shown_text;
+use cs_json::shown_text;
 use cs_question::{Budget, QuestionFault, instance_of, separating};
 use cs_variants::{Place, Sampled, Walk, Where};
 use std::alloc::Global;
@@ -20,8 +20,6 @@ pub(crate) struct Asking<'b, 'a> {
     pub(crate) root: &'b str,
     pub(crate) which: Sampled,
     pub(crate) walk: &'b Walk<'a>,
-    /// The steps for making a package and numbering its rules.
-    pub(crate) cost: usize,
 }
 
 /// What a question answers: the text of a sample, where it finds one.
@@ -66,7 +64,7 @@ impl Asking<'_, '_> {
     pub(crate) fn answered(&self, variant: Option<Guarded>, budget: &mut Budget) -> Answer
         ensures { IfOk result (IsAnswer self.now) }
     {
-        budget.spend(self.cost);
+        budget.spend(self.walk.cost);
         let Some(variant) = variant else {
             return Ok(None);
         };

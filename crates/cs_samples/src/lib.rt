@@ -2,7 +2,6 @@
 #![tactic(auto)]
 
 mod asking;
-mod costs;
 mod found;
 mod sampling;
 mod tally;

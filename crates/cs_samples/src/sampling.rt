@@ -6,12 +6,11 @@ ghost use Rattle.cs_samples.specs.Kept.{AreFound, IsSplit};
 ghost use Rattle.cs_samples.specs.Sample.{AreSamples, HasMore, HasNoInstance, same_text};
 
 use crate::asking::Asking;
-use crate::costs::cost_of;
 use crate::found::Found;
 use crate::tally::Tally;
 use crate::texts::SampleTexts;
 use cs_guard::Guarded;
-use cs_pretty::shown_text;
+use cs_json::shown_text;
 use cs_question::{Budget, QuestionFault, instance_of};
 use cs_variants::{Sampled, walk_of};
 use std::alloc::Global;
@@ -63,7 +62,6 @@ pub fn samples(
         root,
         which,
         walk: &walk,
-        cost: cost_of(package.package(), &walk.uses),
     };
     let Ok(found) = gathered(&asking, most) else {
         return Err(QuestionFault::OutOfMemory);
@@ -76,7 +74,7 @@ pub fn samples(
     }
     match which {
         Sampled::Valid if most > 0 => one_instance(&asking, found.budget),
-        _ => Ok(SampleTexts::alone(Vec::new(alloc))),
+        Sampled::Valid | Sampled::Invalid => Ok(SampleTexts::alone(Vec::new(alloc))),
     }
 }
 

@@ -36,11 +36,8 @@ fn add_shifted<'a>(
     from: usize,
 ) -> Result<(), AllocError> {
     for token in found {
-        tokens.push(Token {
-            sort: token.sort,
-            text: token.text,
-            start: token.start.saturating_add(from),
-        })?;
+        let start = token.start.saturating_add(from);
+        tokens.push(Token { start, ..*token })?;
     }
     Ok(())
 }

@@ -1,8 +1,6 @@
 // Where sources declare definitions.
 use crate::near::Near;
 use crate::source::Source;
-use crate::tokens::is_mark;
-use cs_grammar::Sort;
 use std::alloc::{AllocError, Global};
 
 /// The definitions that sources declare. A declaration goes by the name that it begins with.
@@ -43,17 +41,19 @@ impl<'s, 'a> Declared<'s, 'a> {
     }
 }
 
-/// The definitions that sources declare, outside of all brackets.
-///
-/// # Errors
-/// Memory ran out.
+/// The definitions that sources declare, outside of all brackets. Only memory can run out.
 pub fn declared_in<'s, 'a>(
     alloc: Global,
     sources: &'s [Source<'a>],
 ) -> Result<Declared<'s, 'a>, AllocError> {
     let mut by_name = Vec::new(alloc);
     for source in sources {
-        add_declarations(source, &mut by_name)?;
+        for place in 0..source.tokens.len() {
+            let name = Near { source, place };
+            if name.declares() {
+                by_name.push(name)?;
+            }
+        }
     }
     by_name.sort_by_key(|declaration| declaration.here().text)?;
     let mut firsts = Vec::from_slice(alloc, &by_name)?;
@@ -64,19 +64,4 @@ pub fn declared_in<'s, 'a>(
         firsts,
         by_name,
     })
-}
-
-/// Adds what a source declares.
-fn add_declarations<'s, 'a>(
-    source: &'s Source<'a>,
-    found: &mut Vec<Near<'s, 'a>>,
-) -> Result<(), AllocError> {
-    for (place, token) in source.tokens.iter().enumerate() {
-        let name = Near { source, place };
-        let is_outside = token.sort == Sort::Definition && source.around(place) == 0;
-        if is_outside && is_mark(name.behind(1), ":") {
-            found.push(name)?;
-        }
-    }
-    Ok(())
 }

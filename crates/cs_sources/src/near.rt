@@ -2,8 +2,8 @@
 use crate::outline::{Inside, Separator};
 use crate::part::Part;
 use crate::source::Source;
-use crate::tokens::precedes_declaration;
-use cs_grammar::Token;
+use crate::tokens::{is_mark, precedes_declaration};
+use cs_grammar::{Sort, Token};
 
 /// A token among those of a source.
 #[derive(Clone, Copy)]
@@ -95,6 +95,12 @@ impl<'s, 'a> Near<'s, 'a> {
     pub fn begins_declaration(self) -> bool {
         precedes_declaration(self.before(1))
             && matches!(self.inside(), Inside::File | Inside::Struct)
+    }
+
+    /// Whether the token is the name that the declaration of a definition begins with, outside of all brackets.
+    pub(crate) fn declares(self) -> bool {
+        let is_name = self.here().sort == Sort::Definition && is_mark(self.behind(1), ":");
+        is_name && self.source.around(self.place) == 0
     }
 
     /// What is between commas around the token: a declaration, or an element of a list.

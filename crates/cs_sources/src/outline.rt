@@ -54,15 +54,8 @@ pub enum Separator {
     Colon,
 }
 
-/// A separator among the tokens of a source.
-#[derive(Clone, Copy, PartialEq, Eq, PartialOrd, Ord)]
-struct Separation {
-    /// The bracket around it.
-    bracket: usize,
-    separator: Separator,
-    /// Its place among the tokens.
-    token: usize,
-}
+/// A separator among the tokens of a source: the bracket around it, what it is, and its place among them.
+type Separation = (usize, Separator, usize);
 
 /// The brackets and separators of a source. A bracket closes the last open one of its sort, and those inside of that aren't closed; it is
 /// stray where none of its sort is open.
@@ -74,7 +67,7 @@ pub(crate) struct Outline {
     innermost: usize,
     /// For each token the number of the bracket that it opens or closes, or else of that around it.
     of_token: Vec<usize>,
-    /// By their brackets, then by what they are, then in their order.
+    /// In their order, which is by their brackets, then by what they are.
     separations: Vec<Separation>,
 }
 
@@ -91,11 +84,11 @@ fn separator_of(token: Token<'_>) -> Option<Separator> {
 
 /// Whether a token closes brackets of a sort.
 fn is_closing(token: Token<'_>, inside: Inside) -> bool {
-    match inside {
-        Inside::File => false,
-        Inside::Struct => token.text == "}",
-        Inside::List | Inside::Label => token.text == "]",
-        Inside::Parentheses => token.text == ")",
+    match token.text.as_bytes() {
+        [b'}'] => inside == Inside::Struct,
+        [b']'] => matches!(inside, Inside::List | Inside::Label),
+        [b')'] => inside == Inside::Parentheses,
+        _ => false,
     }
 }
 
@@ -134,11 +127,7 @@ impl Outline {
         };
         self.of_token.push(number)?;
         if let Some(separator) = separator_of(token) {
-            self.separations.push(Separation {
-                bracket,
-                separator,
-                token: place,
-            })?;
+            self.separations.push((bracket, separator, place))?;
         }
         Ok(())
     }
@@ -193,20 +182,10 @@ impl Outline {
         self.brackets.get(number).copied().unwrap_or(FILE)
     }
 
-    /// How many separations are before one at a place.
-    fn rank(&self, bracket: usize, separator: Separator, token: usize) -> usize {
-        let begin = Separation {
-            bracket,
-            separator,
-            token,
-        };
-        self.separations.partition_point(|other| *other < begin)
-    }
-
-    /// The place of the separation with so many before it, if it is of that sort in that bracket.
-    fn token_at(&self, rank: usize, bracket: usize, separator: Separator) -> Option<usize> {
-        let found = self.separations.get(rank)?;
-        (found.bracket == bracket && found.separator == separator).then_some(found.token)
+    /// How many separators are before one.
+    fn rank(&self, separation: Separation) -> usize {
+        self.separations
+            .partition_point(|other| *other < separation)
     }
 }
 
@@ -241,6 +220,14 @@ impl Source<'_> {
         }
     }
 
+    /// The separators of a sort from one place up to another, in the bracket around the first one.
+    fn separations(&self, separator: Separator, from: usize, to: usize) -> &[Separation] {
+        let bracket = self.around(from);
+        let first = self.outline.rank((bracket, separator, from));
+        let behind = self.outline.rank((bracket, separator, to));
+        self.outline.separations.get(first..behind).unwrap_or(&[])
+    }
+
     /// The place of a separator of a sort from one place up to another, in the bracket around the first one: so many of the same sort
     /// are before it there.
     pub fn separator(
@@ -250,25 +237,19 @@ impl Source<'_> {
         to: usize,
         before: usize,
     ) -> Option<usize> {
-        let bracket = self.around(from);
-        let first = self.outline.rank(bracket, separator, from);
-        let rank = first.checked_add(before)?;
-        let token = self.outline.token_at(rank, bracket, separator)?;
-        (token < to).then_some(token)
+        let (_, _, place) = *self.separations(separator, from, to).get(before)?;
+        Some(place)
     }
 
     /// The place of the last separator of a sort before a place, in the same bracket.
     pub fn last_separator(&self, separator: Separator, place: usize) -> Option<usize> {
-        let bracket = self.around(place);
-        let rank = self.outline.rank(bracket, separator, place);
-        self.outline
-            .token_at(rank.checked_sub(1)?, bracket, separator)
+        let first = self.bracket(self.around(place)).first;
+        let (_, _, place) = *self.separations(separator, first, place).last()?;
+        Some(place)
     }
 
     /// How many separators of a sort are from one place up to another, in the bracket around the first one.
     pub(crate) fn count(&self, separator: Separator, from: usize, to: usize) -> usize {
-        let bracket = self.around(from);
-        let behind = self.outline.rank(bracket, separator, to);
-        behind.saturating_sub(self.outline.rank(bracket, separator, from))
+        self.separations(separator, from, to).len()
     }
 }

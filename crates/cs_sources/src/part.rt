@@ -17,11 +17,7 @@ pub struct Part<'s, 'a> {
 impl<'s, 'a> Part<'s, 'a> {
     /// The tokens of the same source from one place up to another.
     pub fn between(self, from: usize, to: usize) -> Part<'s, 'a> {
-        Part {
-            source: self.source,
-            from,
-            to,
-        }
+        Part { from, to, ..self }
     }
 
     /// Its first token; none where it has no tokens.
@@ -67,24 +63,15 @@ impl<'s, 'a> Part<'s, 'a> {
         (is_whole && is_mark(first.here(), open)).then_some(held)
     }
 
-    /// It without an inserted comma at the end.
-    fn without_comma(self) -> Part<'s, 'a> {
-        match self.to.checked_sub(1) {
-            Some(last) if self.source.token(last).sort == Sort::Inserted => {
-                self.between(self.from, last)
-            }
-            _ => self,
-        }
-    }
-
     /// It without the parentheses around, which say nothing.
     fn unwrapped(self) -> Part<'s, 'a> {
         let mut left = self;
         for _ in self.from..self.to {
-            match left.inside("(") {
-                None => return left,
-                Some(inner) => left = inner.without_comma(),
-            }
+            let Some(inner) = left.inside("(") else { break };
+            // The end of a line may have inserted a comma at the end.
+            let last = inner.to.saturating_sub(1);
+            let is_comma = self.source.token(last).sort == Sort::Inserted;
+            left = inner.between(inner.from, if is_comma { last } else { inner.to });
         }
         left
     }

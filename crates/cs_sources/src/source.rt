@@ -23,10 +23,8 @@ pub struct Source<'a> {
 }
 
 impl<'a> Source<'a> {
-    /// A source, cut into tokens. Whatever it is, that takes no more than sorting its commas, colons and operators.
-    ///
-    /// # Errors
-    /// Memory ran out.
+    /// A source, cut into tokens. Whatever it is, that takes no more than sorting its commas, colons and operators. Only memory can run
+    /// out.
     pub fn new(alloc: Global, named: Named<'a>, file: usize) -> Result<Source<'a>, AllocError> {
         let tokens = match str::from_utf8(named.text) {
             Ok(text) => tokens_of(alloc, text)?,
@@ -68,14 +66,10 @@ impl<'a> Source<'a> {
 
     /// The number of the bracket that is open at a place: that around the token there, or the one that would be closed by it.
     pub fn open_at(&self, place: usize) -> usize {
-        let Some(before) = place.checked_sub(1) else {
-            return 0;
-        };
-        let number = self.own(before);
-        if self.bracket(number).first == place {
-            number
-        } else {
-            self.around(before)
+        match place.checked_sub(1) {
+            Some(before) if self.bracket(self.own(before)).first == place => self.own(before),
+            Some(before) => self.around(before),
+            None => 0,
         }
     }
 
@@ -148,10 +142,7 @@ impl<'a> Source<'a> {
     }
 }
 
-/// Sources, each cut into tokens, in their order.
-///
-/// # Errors
-/// Memory ran out.
+/// Sources, each cut into tokens, in their order. Only memory can run out.
 pub fn sources_of<'a>(alloc: Global, named: &[Named<'a>]) -> Result<Vec<Source<'a>>, AllocError> {
     let mut sources = Vec::with_capacity(alloc, named.len())?;
     for (file, named) in named.iter().enumerate() {

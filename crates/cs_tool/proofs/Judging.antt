@@ -1,7 +1,7 @@
 -- What refuses to judge a text, and the answers of the judges.
 use Rattle.std.proofs.Common.{◌≡◌, ℕ, ◌<◌, ◌*◌, Bool, true, false, List, Err, IsErrOf, Result, refl, sym, subst, subst₂, ◌∙◌}
-use Rattle.cs_doc.specs.Refusal as unread
-use Rattle.cs_doc.specs.Texts.{Reads}
+use Rattle.cs_json.specs.Refusal as unread
+use Rattle.cs_json.specs.Texts.{Reads}
 use Rattle.cs_document.specs.Document.{Document, IsDocument}
 use Rattle.cs_document.specs.declared.fault.DocFault.{DocFault}
 use Rattle.cs_document.specs.declared.fault.DocFault.TheVariants as doc

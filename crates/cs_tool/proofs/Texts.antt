@@ -4,8 +4,8 @@ use Rattle.std.specs.Option.{IsSome, option_and_then}
 use Rattle.cs_document.specs.Document.{Document}
 use Rattle.cs_document.specs.declared.fault.DocFault.{DocFault}
 use Rattle.cs_document.specs.declared.fault.DocFault.TheVariants as doc
-use Rattle.cs_doc.specs.Refusal as unread
-use Rattle.cs_doc.specs.Texts.{Reads, IsJson, HasOtherNumber}
+use Rattle.cs_json.specs.Refusal as unread
+use Rattle.cs_json.specs.Texts.{Reads, IsJson, HasOtherNumber}
 use Rattle.cs_tool.specs.CallRefusals.{IsSchemaText, ValidateRefusal}
 use Rattle.cs_tool.specs.Conversions.{of_schema_text}
 use Rattle.cs_tool.specs.declared.fault.Fault.TheVariants.{OutOfMemory}

@@ -1,8 +1,8 @@
 -- Which refusal of a call comes when; memory may run out at any time.
 use Rattle.std.specs.Prelude.{ℕ, true, false, List}
 use Rattle.cs_document.specs.Document.{Document}
-use Rattle.cs_doc.specs.Refusal as unread
-use Rattle.cs_doc.specs.Texts.{Reads}
+use Rattle.cs_json.specs.Refusal as unread
+use Rattle.cs_json.specs.Texts.{Reads}
 use Rattle.cs_document.specs.declared.fault.DocFault.TheVariants as doc
 use Rattle.cs_schema.specs.Profile.{IsSchema}
 use Rattle.cs_schema.specs.Refusal as schema

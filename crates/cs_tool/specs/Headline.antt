@@ -1,7 +1,7 @@
 -- What the calls answer. A schema admits exactly the documents that are instances of the root definition.
 use Rattle.std.specs.Prelude.{◌≡◌, ◌↔◌, ℕ, ◌≤◌, List, Bool, Option, IsSome}
 use Rattle.cs_document.specs.Document.{Document, IsDocument, depth}
-use Rattle.cs_doc.specs.Texts.{Reads, text_of}
+use Rattle.cs_json.specs.Texts.{Reads, text_of}
 use Rattle.cs_package.specs.Environment.{Environment}
 use Rattle.cs_guard.specs.Reachable.{Reaches}
 use Rattle.cs_instance.specs.Instance.{Rule, definition, IsInstance}

@@ -1,7 +1,7 @@
 -- What the calls answer to unless memory runs out, and the documents that have too many pairs.
 use Rattle.std.specs.Prelude.{ℕ, List}
 use Rattle.cs_document.specs.Document.{Document}
-use Rattle.cs_doc.specs.Texts.{Reads}
+use Rattle.cs_json.specs.Texts.{Reads}
 use Rattle.cs_package.specs.Environment.{Environment}
 use Rattle.cs_instance.specs.Refusal.{AreManyPairs}
 use Rattle.cs_instance.specs.Rules.{HasManyPairs}

@@ -1,7 +1,7 @@
 -- The exported text beside the table of the translation.
 use Rattle.std.specs.Prelude.{ℕ, List}
 use Rattle.cs_document.specs.Document.{Document}
-use Rattle.cs_doc.specs.Texts.{Reads}
+use Rattle.cs_json.specs.Texts.{Reads}
 use Rattle.cs_package.specs.Environment.{Environment}
 use Rattle.cs_compile.specs.Translation.{IsTranslation}
 use Rattle.cs_tool.specs.Accepted.{DeclaresRoot}

@@ -10,7 +10,7 @@ use crate::Fault;
 use crate::judgements::{judge_both, judge_root, judge_schema};
 use crate::numbering::{number_root, number_schema};
 use crate::read_rules::{read_both, read_root, read_schema_text};
-use cs_doc::Scratch;
+use cs_json::Scratch;
 use cs_table::Verdicts;
 use std::alloc::Global;
 

@@ -4,9 +4,9 @@ ghost use Rattle.cs_tool.specs.Conversions.{of_syntax, of_schema_text};
 
 use crate::Fault;
 use cs_compile::CompileFault;
-use cs_doc::DocFault;
 use cs_guard::GuardFault;
 use cs_instance::InstanceFault;
+use cs_json::DocFault;
 use cs_resolve::ResolveFault;
 use cs_schema::SchemaFault;
 use cs_syntax::SyntaxFault;

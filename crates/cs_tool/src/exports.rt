@@ -1,7 +1,7 @@
 // The export of a schema from sources.
 ghost use Rattle.std.specs.Prelude.{◌≡◌, ℕ, ◌≤◌, List, IfOk, IfErr, IsOkUnless};
 ghost use Rattle.cs_document.specs.Document.{depth};
-ghost use Rattle.cs_doc.specs.Texts.{Reads, text_of};
+ghost use Rattle.cs_json.specs.Texts.{Reads, text_of};
 ghost use Rattle.cs_package.specs.Environment.{Names};
 ghost use Rattle.cs_schema.specs.Profile.{IsSchema};
 ghost use Rattle.cs_schema.specs.SchemaDocument.{document_of};
@@ -16,8 +16,8 @@ ghost use Rattle.cs_tool.specs.CallRefusals.{ExportRefusal};
 use crate::Fault;
 use crate::packages::accepted_package;
 use cs_compile::compile;
-use cs_doc::write_doc;
 use cs_guard::Guarded;
+use cs_json::write_doc;
 use cs_schema::{SchemaDoc, to_doc};
 use std::alloc::Global;
 

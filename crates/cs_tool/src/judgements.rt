@@ -9,8 +9,8 @@ ghost use Rattle.cs_tool.specs.Sides.{IsSchemaOf, AreSidesOf};
 
 use crate::Fault;
 use crate::verdicts::{is_instance, is_valid};
-use cs_doc::{Scratch, read_document};
 use cs_instance::RootRules;
+use cs_json::{Scratch, read_document};
 use cs_table::Verdicts;
 use cs_validate::SchemaRules;
 use std::alloc::Global;

@@ -11,8 +11,8 @@ use crate::Fault;
 use crate::conversions::of_schema_text;
 use crate::exports::exported;
 use crate::packages::accepted_package;
-use cs_doc::read_doc;
 use cs_guard::Guarded;
+use cs_json::read_doc;
 use cs_schema::{SchemaDoc, read_schema};
 use std::alloc::Global;
 

@@ -1,6 +1,6 @@
 // The verdicts on documents that were read from texts.
 ghost use Rattle.std.specs.Prelude.{◌≡◌, ℕ, Bool, IfOk, IfErr, OnOk, IsErrOf};
-ghost use Rattle.cs_doc.specs.ReadAs.{read_as};
+ghost use Rattle.cs_json.specs.ReadAs.{read_as};
 ghost use Rattle.cs_document.specs.Document.{Document as TheDocument};
 ghost use Rattle.cs_instance.specs.Instance as instance;
 ghost use Rattle.cs_instance.specs.Instance.{Rule, definition, IsInstance};
@@ -11,8 +11,8 @@ ghost use Rattle.cs_profile.specs.Validity.{IsValidity};
 ghost use Rattle.cs_validate.specs.Refusal.{IsRefusal};
 ghost use Rattle.cs_validate.specs.Rules as by_schema;
 
-use cs_doc::{Document, flatten};
 use cs_instance::{InstanceFault, RootRules};
+use cs_json::{Document, flatten};
 use cs_table::Verdicts;
 use cs_validate::{SchemaRules, ValidateFault};
 use std::alloc::Global;

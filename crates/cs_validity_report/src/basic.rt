@@ -3,8 +3,7 @@ use crate::schemas::{Schemas, put_rule};
 use cs_place::{Named, Position, Positions};
 use cs_profile::Schema;
 use cs_reason_words::{
-    Entry, Finding, Targets, Way, above, chain_to, offset_of, put_between, put_count, put_string,
-    walk_to,
+    Entry, Told, above, chain_to, position_in, put_between, put_count, put_string, walk_to,
 };
 use cs_reasons::{Link, Reasons};
 use cs_validity_reasons::ValidCause;
@@ -26,10 +25,9 @@ const MOST_OF_PATH: usize = 1024;
 /// before its limit.
 #[derive(Drop)]
 struct Location {
-    /// The path up to its last reference, with that.
-    through: String,
-    /// What is behind.
-    behind: String,
+    path: String,
+    /// The end of the last reference in it before the limit.
+    through: usize,
 }
 
 impl Location {
@@ -40,14 +38,11 @@ impl Location {
         place: usize,
     ) -> Result<Location, AllocError> {
         let mut location = Location {
-            through: String::new(alloc),
-            behind: String::new(alloc),
+            path: String::new(alloc),
+            through: 0,
         };
-        let chain = chain_to(alloc, links, place)?;
-        for at in chain.iter().rev() {
-            if let Some((up, _)) = above(links, *at) {
-                location.lead(&up.cause)?;
-            }
+        for (up, _) in chain_to(alloc, links, place)? {
+            location.lead(&up.cause)?;
         }
         Ok(location)
     }
@@ -57,48 +52,41 @@ impl Location {
         if self.is_cut() {
             return Ok(());
         }
-        put_rule(&mut self.behind, cause, None)?;
+        put_rule(&mut self.path, cause, None)?;
         if matches!(cause, ValidCause::Reference { .. }) && !self.is_cut() {
-            self.through.push_str(self.behind.as_str())?;
-            self.behind.truncate(0);
+            self.through = self.path.len();
         }
         Ok(())
     }
 
     /// Whether the path is longer than it is told.
     fn is_cut(&self) -> bool {
-        self.through.len().saturating_add(self.behind.len()) > MOST_OF_PATH
+        self.path.len() > MOST_OF_PATH
     }
 
     /// The path as a pointer.
-    fn pointer(self) -> Result<String, AllocError> {
-        let is_cut = self.is_cut();
-        let Location {
-            mut through,
-            behind,
-        } = self;
-        if !is_cut {
-            through.push_str(behind.as_str())?;
+    fn pointer(&self) -> &str {
+        let path = self.path.as_str();
+        if self.is_cut() {
+            path.get(..self.through).unwrap_or("")
+        } else {
+            path
         }
-        Ok(through)
     }
 }
 
-/// An output unit (Core, section 12.3).
+/// The output unit of a schema (Core, section 12.3).
 #[derive(Drop)]
 struct Unit {
-    /// The path of keywords, through references.
-    keywords: String,
-    /// Where that path is cut, the place of the keyword in the schema document, as a fragment.
-    keyword: Option<String>,
+    location: Location,
     /// The place of the value.
     pointer: String,
-    error: String,
-    /// The offset in the document's text.
+    error: &'static str,
+    /// The offset of the value in the document's text.
     offset: usize,
 }
 
-/// The places of the links on the chains to the reasons of entries. What leads to a link is behind it.
+/// The places of the links on the chains to the reasons of entries.
 fn on_chains(
     alloc: Global,
     reasons: &Reasons<ValidCause<'_>>,
@@ -108,63 +96,52 @@ fn on_chains(
     for entry in entries {
         if let Some(reason) = reasons.told.get(entry.number) {
             on.insert(reason.link)?;
-        }
-    }
-    for place in 0..reasons.links.len() {
-        if on.contains(&place)
-            && let Some((up, _)) = above(&reasons.links, place)
-        {
-            on.insert(up.link)?;
+            for (up, _) in chain_to(alloc, &reasons.links, reason.link)? {
+                on.insert(up.link)?;
+            }
         }
     }
     Ok(on)
 }
 
-/// Whether the link that leads to the one at a place has a unit, if there is one.
-fn is_led_to(links: &[Link<ValidCause<'_>>], told: &BTreeSet<usize>, place: usize) -> bool {
-    match above(links, place) {
+/// Whether a link and what leads to it are among those at these places.
+fn has_led(links: &[Link<ValidCause<'_>>], places: &BTreeSet<usize>, place: usize) -> bool {
+    let is_led = match above(links, place) {
         None => true,
-        Some((up, _)) => told.contains(&up.link),
-    }
+        Some((up, _)) => places.contains(&up.link),
+    };
+    is_led && places.contains(&place)
 }
 
-/// The units of the root and of the schemas on the chains to the reasons of entries, by their places in the text, and at one place by
+/// The units of the root and of the schemas on the chains to the reasons that are told, by their places in the text, and at one place by
 /// their paths: a schema comes before those inside it. One that is `false` has that of its reason. One whose path is too long to be told
 /// has none, nor have those that it leads to; and they end where they take too much together.
 fn schema_units<'t>(
     words: &Schemas<'t>,
-    document: Named<'_>,
     reasons: &Reasons<ValidCause<'t>>,
-    entries: &[Entry<'_>],
+    told: &Told<'t>,
 ) -> Result<Vec<Unit>, AllocError> {
-    let alloc = words.alloc;
-    let on = on_chains(alloc, reasons, entries)?;
-    let mut told = BTreeSet::new(alloc);
-    let targets = Targets::new(alloc, words, &reasons.links)?;
-    let found = targets.find(alloc, document.text)?;
-    let for_reasons = MOST_FOR_REASON.saturating_mul(entries.len());
+    let links = &reasons.links;
+    let mut with_units = on_chains(words.alloc, reasons, &told.entries)?;
+    let for_reasons = MOST_FOR_REASON.saturating_mul(told.entries.len());
     let mut room = for_reasons.saturating_add(MOST_BYTES);
-    let mut units = Vec::new(alloc);
-    for place in (0..reasons.links.len()).rev() {
-        let is_on = on.contains(&place) && is_led_to(&reasons.links, &told, place);
-        let offset = offset_of(&found, targets.of(place), false);
-        let unit = schema_unit(words, &reasons.links, is_on && room > 0, place, offset)?;
-        if let Some(unit) = unit {
-            let places = unit.keywords.len().saturating_add(unit.pointer.len());
+    let mut units = Vec::new(words.alloc);
+    for place in (0..links.len()).rev() {
+        let is_asked = room > 0 && has_led(links, &with_units, place);
+        let offset = told.targets.offset_of(place);
+        if let Some(unit) = schema_unit(words, links, is_asked, place, offset)? {
+            let places = unit.location.path.len().saturating_add(unit.pointer.len());
             room = room.saturating_sub(places.saturating_add(UNIT_BYTES));
             units.push(unit)?;
-            told.insert(place)?;
+        } else {
+            with_units.remove(&place);
         }
     }
-    sort_units(&mut units)?;
-    Ok(units)
-}
-
-fn sort_units(units: &mut Vec<Unit>) -> Result<(), AllocError> {
     units.sort_by(|unit, other| {
-        let paths = unit.keywords.as_str().cmp(&other.keywords.as_str());
+        let paths = unit.location.pointer().cmp(&other.location.pointer());
         unit.offset.cmp(&other.offset).then(paths)
-    })
+    })?;
+    Ok(units)
 }
 
 /// The unit of the schema of the link at a place, whose value has an offset, if it is asked for and has one.
@@ -183,70 +160,28 @@ fn schema_unit<'t>(
     if location.is_cut() || matches!(node.schema, Some(Schema::Always(false))) {
         return Ok(None);
     }
-    let of = if way.steps == 0 {
-        "document"
-    } else {
-        "subschema"
-    };
-    let mut error = String::new(words.alloc);
-    write!(error, "the {of} is not valid")?;
     Ok(Some(Unit {
-        keywords: location.pointer()?,
-        keyword: None,
+        location,
         pointer: way.pointer,
-        error,
+        error: match way.steps {
+            0 => "the document is not valid",
+            _ => "the subschema is not valid",
+        },
         offset,
     }))
 }
 
-/// Adds the units of the reasons of entries, in their order.
-fn add_reasons(
-    alloc: Global,
-    reasons: &Reasons<ValidCause<'_>>,
-    entries: Vec<Entry<'_>>,
-    units: &mut Vec<Unit>,
-) -> Result<(), AllocError> {
-    for entry in entries {
-        let Entry {
-            finding,
-            way,
-            offset,
-            number,
-            ..
-        } = entry;
-        let Some(reason) = reasons.told.get(number) else {
-            continue;
-        };
-        let Way { pointer, rule, .. } = way;
-        let Finding { text: error, .. } = finding;
-        let mut location = Location::of(alloc, &reasons.links, reason.link)?;
-        location.lead(&reason.cause)?;
-        let keyword = fragment_of(alloc, location.is_cut(), rule.as_str())?;
-        units.push(Unit {
-            keywords: location.pointer()?,
-            keyword,
-            pointer,
-            error,
-            offset,
-        })?;
-    }
-    Ok(())
-}
-
-/// A place in the schema document as the fragment of a URI, where that is asked for (RFC 6901, section 6).
-fn fragment_of(alloc: Global, is_asked: bool, rule: &str) -> Result<Option<String>, AllocError> {
-    if !is_asked {
-        return Ok(None);
-    }
-    let mut fragment = String::from_str(alloc, "#")?;
+/// Puts a place in the schema document as the fragment of a URI (RFC 6901, section 6).
+fn put_fragment(text: &mut String, rule: &str) -> Result<(), AllocError> {
+    text.push('#')?;
     for byte in rule.bytes().skip(1) {
         if is_in_fragments(byte) {
-            fragment.push(byte as char)?;
+            text.push(byte as char)?;
         } else {
-            write!(fragment, "%{:02X}", byte)?;
+            write!(text, "%{:02X}", byte)?;
         }
     }
-    Ok(Some(fragment))
+    Ok(())
 }
 
 /// Whether a byte stands for itself in a fragment (RFC 3986, section 3.5).
@@ -254,41 +189,78 @@ fn is_in_fragments(byte: u8) -> bool {
     byte.is_ascii_alphanumeric() || b"-._~!$&'()*+,;=:@/?".contains(&byte)
 }
 
-/// Puts a unit at a place in a text whose first line has a number.
+/// Puts a unit. Where its path is cut it has the place of the rule in the schema document too.
 fn put_unit(
     text: &mut String,
-    unit: &Unit,
-    first_line: usize,
+    location: &Location,
+    rule: &str,
+    pointer: &str,
+    error: &str,
     position: Position,
 ) -> Result<(), AllocError> {
-    let line = position.line.saturating_add(first_line).saturating_sub(1);
     text.push_str("{\"valid\":false")?;
-    put_string(text, "keywordLocation", unit.keywords.as_str())?;
-    if let Some(keyword) = &unit.keyword {
-        put_string(text, "absoluteKeywordLocation", keyword.as_str())?;
+    put_string(text, "keywordLocation", location.pointer())?;
+    if location.is_cut() {
+        text.push_str(",\"absoluteKeywordLocation\":\"")?;
+        put_fragment(text, rule)?;
+        text.push('"')?;
     }
-    put_string(text, "instanceLocation", unit.pointer.as_str())?;
-    put_string(text, "error", unit.error.as_str())?;
-    put_count(text, "line", line)?;
+    put_string(text, "instanceLocation", pointer)?;
+    put_string(text, "error", error)?;
+    put_count(text, "line", position.line)?;
     put_count(text, "column", position.column)?;
     text.push('}')
 }
 
-/// Puts the member with the units of schemas, of which the root's is the first, and then those of the reasons of entries.
+/// Puts the units of schemas, of which the root's is the first.
+fn put_schemas(text: &mut String, document: Named<'_>, units: &[Unit]) -> Result<(), AllocError> {
+    let mut positions = Positions::new(document.text);
+    for (place, unit) in units.iter().enumerate() {
+        put_between(text, place, ",")?;
+        let position = position_in(document, &mut positions, unit.offset);
+        put_unit(
+            text,
+            &unit.location,
+            "",
+            unit.pointer.as_str(),
+            unit.error,
+            position,
+        )?;
+    }
+    Ok(())
+}
+
+/// Puts the unit of the reason of an entry, behind so many others.
+fn put_reason(
+    text: &mut String,
+    reasons: &Reasons<ValidCause<'_>>,
+    before: usize,
+    entry: &Entry<'_>,
+) -> Result<(), AllocError> {
+    let Some(reason) = reasons.told.get(entry.number) else {
+        return Ok(());
+    };
+    let mut location = Location::of(*text.allocator(), &reasons.links, reason.link)?;
+    location.lead(&reason.cause)?;
+    put_between(text, before, ",")?;
+    let (rule, pointer) = (entry.way.rule.as_str(), entry.way.pointer.as_str());
+    let error = entry.finding.text.as_str();
+    put_unit(text, &location, rule, pointer, error, entry.position)
+}
+
+/// Puts the member with the units of schemas, and then those of the reasons that are told.
 pub(crate) fn put_basic<'t>(
     text: &mut String,
     words: &Schemas<'t>,
     document: Named<'_>,
     reasons: &Reasons<ValidCause<'t>>,
-    entries: Vec<Entry<'t>>,
+    told: &Told<'t>,
 ) -> Result<(), AllocError> {
-    let mut units = schema_units(words, document, reasons, &entries)?;
-    add_reasons(words.alloc, reasons, entries, &mut units)?;
-    let mut positions = Positions::new(document.text);
+    let units = schema_units(words, reasons, told)?;
     text.push_str(",\"errors\":[")?;
-    for (place, unit) in units.iter().enumerate() {
-        put_between(text, place, ",")?;
-        put_unit(text, unit, document.line, positions.at(unit.offset))?;
+    put_schemas(text, document, &units)?;
+    for (place, entry) in told.entries.iter().enumerate() {
+        put_reason(text, reasons, units.len().saturating_add(place), entry)?;
     }
     text.push(']')
 }

@@ -7,7 +7,7 @@ use crate::basic::put_basic;
 use crate::schemas::Schemas;
 use cs_flat::Flat;
 use cs_place::Named;
-use cs_reason_words::{Form, put_told, report_verdict, told_by};
+use cs_reason_words::{Form, MOST_COMPARISONS, put_told, report_verdict, told_by};
 use cs_reasons::Telling;
 use cs_validate::SchemaRules;
 use cs_validity_reasons::Explanation;
@@ -53,18 +53,20 @@ fn put_explanation<'t>(
         Explanation::Untold => return put_untold(text, form),
         Explanation::Invalid(reasons) => reasons,
     };
-    let mut words = Schemas::new(alloc, rules, flat);
-    match form {
-        Form::Flag => Ok(()),
-        Form::Basic => {
-            let told = told_by(alloc, &mut words, telling, document, reasons)?;
-            put_basic(text, &words, document, reasons, told.entries)
-        }
-        Form::Lines | Form::Json => {
-            let told = told_by(alloc, &mut words, telling, document, reasons)?;
-            put_told(text, form, document, &told)
-        }
+    if let Form::Flag = form {
+        return Ok(());
     }
+    let mut words = Schemas {
+        alloc,
+        rules,
+        flat,
+        comparisons: MOST_COMPARISONS,
+    };
+    let told = told_by(alloc, &mut words, telling, document, &[], reasons)?;
+    if let Form::Basic = form {
+        return put_basic(text, &words, document, reasons, &told);
+    }
+    put_told(text, form, document, &told)
 }
 
 /// That the reasons of a document aren't told: for people, and the members for programs and in the output format `basic` (JSON

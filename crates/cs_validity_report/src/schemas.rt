@@ -3,7 +3,7 @@ use crate::words::{put_none_taken, put_unmet, wanted_kind};
 use cs_flat::{Flat, Item};
 use cs_place::Step;
 use cs_profile::{Keyword, Keywords, Schema, SchemaDoc};
-use cs_reason_words::{Choice, Finding, MOST_COMPARISONS, Suggestion, Words, item_at, put_steps};
+use cs_reason_words::{Choice, Finding, Words, item_at, put_steps, told_apart};
 use cs_validate::SchemaRules;
 use cs_validity_reasons::{ValidCause, wanted_by};
 use std::alloc::{AllocError, Global};
@@ -15,10 +15,10 @@ const MOST_NAMES: usize = 1000;
 #[derive(Drop)]
 pub(crate) struct Schemas<'t> {
     pub(crate) alloc: Global,
-    rules: &'t SchemaRules<'t>,
-    flat: &'t Flat<'t>,
+    pub(crate) rules: &'t SchemaRules<'t>,
+    pub(crate) flat: &'t Flat<'t>,
     /// How many more declared keys are compared with keys that aren't allowed.
-    comparisons: usize,
+    pub(crate) comparisons: usize,
 }
 
 /// Where a chain has led to.
@@ -30,47 +30,30 @@ pub(crate) struct Node<'t> {
     last: Option<(ValidCause<'t>, Option<&'t Schema>, usize)>,
 }
 
-/// Where a cause leads from a schema and a value.
-#[derive(Clone, Copy)]
-struct Path<'a> {
-    /// The keyword that it is of; none where the schema is `false`.
-    keyword: Option<Keyword>,
-    /// The step from the keyword's value to a schema that is a part of it.
-    part: Option<Step<'a>>,
-    /// The step into the document.
-    value: Option<Step<'a>>,
+/// The keyword that a cause is of; none where the schema is `false`.
+fn keyword_of(cause: &ValidCause<'_>) -> Option<Keyword> {
+    match cause {
+        ValidCause::Reference { .. } => Some(Keyword::Ref),
+        ValidCause::Part { .. } => Some(Keyword::AllOf),
+        ValidCause::Alternative { .. } | ValidCause::NoAlternative => Some(Keyword::AnyOf),
+        ValidCause::Property { .. } => Some(Keyword::Properties),
+        ValidCause::Additional { .. } => Some(Keyword::AdditionalProperties),
+        ValidCause::Prefix { .. } => Some(Keyword::PrefixItems),
+        ValidCause::Items { .. } => Some(Keyword::Items),
+        ValidCause::Missing { .. } => Some(Keyword::Required),
+        ValidCause::Keyword(keyword) => Some(*keyword),
+        ValidCause::Never => None,
+    }
 }
 
-/// Where a cause leads.
-fn path_of<'a>(cause: &ValidCause<'a>) -> Path<'a> {
-    let (keyword, part, value) = match *cause {
-        ValidCause::Reference { .. } => (Some(Keyword::Ref), None, None),
-        ValidCause::Part { place, .. } => (Some(Keyword::AllOf), Some(Step::Element(place)), None),
-        ValidCause::Alternative { place, .. } => {
-            (Some(Keyword::AnyOf), Some(Step::Element(place)), None)
-        }
-        ValidCause::Property { key, .. } => {
-            let step = Some(Step::Key(key));
-            (Some(Keyword::Properties), step, step)
-        }
-        ValidCause::Additional { key, .. } => {
-            let step = Some(Step::Key(key));
-            (Some(Keyword::AdditionalProperties), None, step)
-        }
-        ValidCause::Prefix { place, .. } => {
-            let step = Some(Step::Element(place));
-            (Some(Keyword::PrefixItems), step, step)
-        }
-        ValidCause::Items { place, .. } => (Some(Keyword::Items), None, Some(Step::Element(place))),
-        ValidCause::Missing { .. } => (Some(Keyword::Required), None, None),
-        ValidCause::Keyword(keyword) => (Some(keyword), None, None),
-        ValidCause::NoAlternative => (Some(Keyword::AnyOf), None, None),
-        ValidCause::Never => (None, None, None),
-    };
-    Path {
-        keyword,
-        part,
-        value,
+/// The step from the value of a cause's keyword to the schema that it leads to, if that is a part of it.
+fn part_of<'a>(cause: &ValidCause<'a>) -> Option<Step<'a>> {
+    match *cause {
+        ValidCause::Part { place, .. }
+        | ValidCause::Alternative { place, .. }
+        | ValidCause::Prefix { place, .. } => Some(Step::Element(place)),
+        ValidCause::Property { key, .. } => Some(Step::Key(key)),
+        _ => None,
     }
 }
 
@@ -121,48 +104,16 @@ pub(crate) fn put_rule(
         rule.push_str("#")?;
         return put_steps(rule, &[Step::Key(Keyword::Defs.name()), Step::Key(name)]);
     }
-    let path = path_of(cause);
-    if let Some(keyword) = path.keyword {
+    if let Some(keyword) = keyword_of(cause) {
         put_steps(rule, &[Step::Key(keyword.name())])?;
     }
-    if let Some(step) = path.part {
-        put_steps(rule, &[step])?;
+    match part_of(cause) {
+        Some(step) => put_steps(rule, &[step]),
+        None => Ok(()),
     }
-    Ok(())
-}
-
-/// The declared key that may have been meant by one that isn't allowed.
-fn suggestion_of<'t>(
-    alloc: Global,
-    keywords: &'t Keywords,
-    item: Item<'_>,
-    key: &str,
-    comparisons: &mut usize,
-) -> Result<Option<Suggestion<'t>>, AllocError> {
-    let mut suggestion = None;
-    let most = MOST_NAMES.min(*comparisons);
-    for (name, _) in keywords.properties.iter().take(most) {
-        *comparisons = comparisons.saturating_sub(1);
-        suggestion = Suggestion::nearer(suggestion, alloc, item, key, name.as_str())?;
-    }
-    Ok(suggestion)
 }
 
 impl<'t> Schemas<'t> {
-    /// What is told of a document by the rules of a schema document.
-    pub(crate) fn new(
-        alloc: Global,
-        rules: &'t SchemaRules<'t>,
-        flat: &'t Flat<'t>,
-    ) -> Schemas<'t> {
-        Schemas {
-            alloc,
-            rules,
-            flat,
-            comparisons: MOST_COMPARISONS,
-        }
-    }
-
     /// That a value isn't what a keyword without parts asks, or is what `not` refuses.
     fn unmet(
         &self,
@@ -171,15 +122,14 @@ impl<'t> Schemas<'t> {
         schema: Option<&Schema>,
     ) -> Result<Finding<'t>, AllocError> {
         let value = item_at(self.flat, item);
-        let mut text = String::new(self.alloc);
         let Some(keywords) = keywords_of(schema) else {
-            text.push_str("this is not allowed")?;
-            return Ok(Finding::here("never", text));
+            return Finding::never(self.alloc);
         };
         if let Keyword::MinItems = keyword {
             let least = usize::try_from(keywords.min_items.unwrap_or(0)).unwrap_or(0);
             return Finding::few(self.alloc, value, least);
         }
+        let mut text = String::new(self.alloc);
         let reason = put_unmet(&mut text, keyword, keywords, value)?;
         Ok(Finding::here(reason, text).of_kind(wanted_kind(keyword, keywords)))
     }
@@ -187,13 +137,26 @@ impl<'t> Schemas<'t> {
     /// That none of the alternatives takes a value, or the one under the key that tells them apart.
     fn none_taken(&self, item: usize, rule: usize) -> Result<Finding<'t>, AllocError> {
         let wanted = wanted_by(self.rules, self.alloc, self.flat, item, rule)?;
-        let (step, at) = match wanted.key {
-            None => (None, item),
-            Some((key, under)) => (Some(Step::Key(key)), under),
-        };
+        let (value, step) = told_apart(item, wanted.key);
         let mut text = String::new(self.alloc);
-        let reason = put_none_taken(self.alloc, &mut text, item_at(self.flat, at), &wanted)?;
+        let reason = put_none_taken(&mut text, item_at(self.flat, value), &wanted)?;
         Ok(Finding::here(reason, text).at(step))
+    }
+
+    /// That a key isn't allowed.
+    fn extra(
+        &mut self,
+        keywords: &'t Keywords,
+        map: Item<'_>,
+        key: &str,
+    ) -> Result<Finding<'t>, AllocError> {
+        let most = MOST_NAMES.min(self.comparisons);
+        let mut declared = Vec::new(self.alloc);
+        for name in keywords.properties.keys().take(most) {
+            declared.push(name.as_str())?;
+        }
+        self.comparisons = self.comparisons.saturating_sub(declared.len());
+        Finding::extra(self.alloc, map, key, &declared)
     }
 
     /// That a schema is `false`: that of keys that aren't declared, or that of elements behind those of a list, which is told at the first
@@ -205,16 +168,13 @@ impl<'t> Schemas<'t> {
         {
             let around = item_at(self.flat, item);
             let fixed = keywords.prefix.len();
-            if let ValidCause::Additional { key, .. } = cause {
-                let left = &mut self.comparisons;
-                let meant = suggestion_of(alloc, keywords, around, key, left)?;
-                return Ok(Some(Finding::extra(alloc, meant)?));
-            }
-            if let ValidCause::Items { place, .. } = cause {
-                if place != fixed {
-                    return Ok(None);
+            match cause {
+                ValidCause::Additional { key, .. } => {
+                    return Ok(Some(self.extra(keywords, around, key)?));
                 }
-                return Ok(Some(Finding::many(alloc, around, fixed)?));
+                ValidCause::Items { place, .. } if place != fixed => return Ok(None),
+                ValidCause::Items { .. } => return Ok(Some(Finding::many(alloc, around, fixed)?)),
+                _ => {}
             }
         }
         Ok(Some(Finding::never(alloc)?))
@@ -237,7 +197,15 @@ impl<'t> Words<'t> for Schemas<'t> {
     }
 
     fn step_of(&self, _item: usize, cause: &ValidCause<'t>) -> Option<Step<'t>> {
-        path_of(cause).value
+        match *cause {
+            ValidCause::Property { key, .. } | ValidCause::Additional { key, .. } => {
+                Some(Step::Key(key))
+            }
+            ValidCause::Prefix { place, .. } | ValidCause::Items { place, .. } => {
+                Some(Step::Element(place))
+            }
+            _ => None,
+        }
     }
 
     fn choice_of(&self, node: Node<'t>, cause: &ValidCause<'t>) -> Option<Choice> {

@@ -3,9 +3,9 @@ use crate::schemas::keywords_of;
 use cs_document::Doc;
 use cs_flat::Item;
 use cs_profile::{JsonKind, Keyword, Keywords, Schema};
-use cs_reason_words::{Kinds, MOST_WANTED, put_between, put_integer, put_more};
+use cs_reason_words::{Kinds, MOST_WANTED, put_all, put_between, put_integer, put_more};
 use cs_validity_reasons::{Want, Wanted};
-use std::alloc::{AllocError, Global};
+use std::alloc::AllocError;
 use std::collections::BTreeSet;
 
 /// What values with parts are called in schemas.
@@ -69,42 +69,35 @@ pub(crate) fn put_unmet(
         return Ok("excluded");
     }
     KINDS.put_mismatch(text, value)?;
-    let (mark, limit) = match keyword {
-        Keyword::Minimum => (">=", keywords.minimum),
-        Keyword::Maximum => ("<=", keywords.maximum),
-        Keyword::ExclusiveMinimum => (">", keywords.above),
-        Keyword::ExclusiveMaximum => ("<", keywords.below),
-        _ => return put_constant(text, keywords, keyword),
-    };
-    text.push_str(mark)?;
-    put_integer(text, limit.unwrap_or(0))?;
-    Ok("range")
+    for (limiting, mark, limit, _) in limits(keywords) {
+        if limiting.name() == keyword.name() {
+            text.push_str(mark)?;
+            put_integer(text, limit.unwrap_or(0))?;
+            return Ok("range");
+        }
+    }
+    put_constant(text, keyword, keywords)
 }
 
 /// Puts the kind or the values that a keyword names.
 fn put_constant(
     text: &mut String,
-    keywords: &Keywords,
     keyword: Keyword,
+    keywords: &Keywords,
 ) -> Result<&'static str, AllocError> {
-    match (keyword, &keywords.kind, &keywords.equal, &keywords.one_of) {
+    match (keyword, keywords.kind, &keywords.equal, &keywords.one_of) {
         (Keyword::Type, Some(kind), _, _) => {
-            text.push_str(kind_name(*kind))?;
-            Ok("kind")
+            text.push_str(kind_name(kind))?;
+            return Ok("kind");
         }
-        (Keyword::Const, _, Some(value), _) => {
-            put_value(text, value)?;
-            Ok("value")
-        }
-        (Keyword::Enum, _, _, Some(values)) if !values.is_empty() => {
-            put_values(text, values)?;
-            Ok("value")
-        }
+        (Keyword::Const, _, Some(value), _) => put_value(text, value)?,
+        (Keyword::Enum, _, _, Some(values)) if !values.is_empty() => put_values(text, values)?,
         _ => {
             text.push_str("no value")?;
-            Ok("never")
+            return Ok("never");
         }
     }
+    Ok("value")
 }
 
 /// Puts what `not` refuses.
@@ -121,21 +114,26 @@ fn put_negated(
     put_value(text, constant)
 }
 
-/// The limits of a schema's keywords, each with what is put before and behind it.
-fn limits(keywords: &Keywords) -> [(&'static str, Option<i64>, &'static str); 5] {
+/// The limits of a schema's keywords, each with its keyword and what is put before and behind it.
+fn limits(keywords: &Keywords) -> [(Keyword, &'static str, Option<i64>, &'static str); 5] {
     [
-        (">=", keywords.minimum, ""),
-        ("<=", keywords.maximum, ""),
-        (">", keywords.above, ""),
-        ("<", keywords.below, ""),
-        ("at least ", keywords.min_items, " elements"),
+        (Keyword::Minimum, ">=", keywords.minimum, ""),
+        (Keyword::Maximum, "<=", keywords.maximum, ""),
+        (Keyword::ExclusiveMinimum, ">", keywords.above, ""),
+        (Keyword::ExclusiveMaximum, "<", keywords.below, ""),
+        (
+            Keyword::MinItems,
+            "at least ",
+            keywords.min_items,
+            " elements",
+        ),
     ]
 }
 
 /// Puts all limits of a schema's keywords.
 fn put_limits(text: &mut String, keywords: &Keywords) -> Result<(), AllocError> {
     let mut before = 0;
-    for (mark, limit, behind) in limits(keywords) {
+    for (_, mark, limit, behind) in limits(keywords) {
         if let Some(limit) = limit {
             put_between(text, before, " & ")?;
             text.push_str(mark)?;
@@ -160,42 +158,38 @@ fn put_wants(text: &mut String, wants: &Vec<Want<'_>>) -> Result<(), AllocError>
     Ok(())
 }
 
-/// What alternatives ask, each once: the first ones, and how many more there are. Empty where they ask nothing by themselves.
-fn alternatives_text(alloc: Global, wanted: &Wanted<'_>) -> Result<String, AllocError> {
-    let mut text = String::new(alloc);
-    let mut named = BTreeSet::new(alloc);
-    for wants in wanted.alternatives.iter() {
-        let mut alternative = String::new(alloc);
-        put_wants(&mut alternative, wants)?;
-        if !alternative.is_empty() && !named.contains(alternative.as_str()) {
-            if named.len() < MOST_WANTED {
-                put_between(&mut text, named.len(), " | ")?;
-                text.push_str(alternative.as_str())?;
-            }
-            let _ = named.insert(alternative)?;
-        }
-    }
-    put_more(&mut text, named.len())?;
-    Ok(text)
-}
-
-/// Puts what is found and what alternatives ask, and answers which kind of reason it is that none of them holds, in a word.
+/// Puts what is found and what alternatives ask, each once: the first ones, and how many more there are. Answers which kind of reason it is
+/// that none of them holds, in a word.
 pub(crate) fn put_none_taken(
-    alloc: Global,
     text: &mut String,
     item: Item<'_>,
     wanted: &Wanted<'_>,
 ) -> Result<&'static str, AllocError> {
-    let alternatives = alternatives_text(alloc, wanted)?;
-    if alternatives.is_empty() {
-        KINDS.put_found(text, item)?;
-        text.push_str(", which no alternative allows")?;
-    } else {
-        KINDS.put_mismatch(text, item)?;
-        text.push_str(alternatives.as_str())?;
+    let alloc = *text.allocator();
+    let mut named = BTreeSet::new(alloc);
+    KINDS.put_found(text, item)?;
+    for wants in &wanted.alternatives {
+        let mut alternative = String::new(alloc);
+        put_wants(&mut alternative, wants)?;
+        if !alternative.is_empty() && !named.contains(alternative.as_str()) {
+            put_alternative(text, named.len(), alternative.as_str())?;
+            let _ = named.insert(alternative)?;
+        }
     }
+    if named.is_empty() {
+        text.push_str(", which no alternative allows")?;
+    }
+    put_more(text, named.len())?;
     let are_values = wanted.alternatives.iter().all(|wants| {
         wants.iter().any(|want| matches!(want, Want::Value(_)))
     });
     Ok(if are_values { "value" } else { "alternatives" })
+}
+
+/// Puts an alternative behind so many others, unless these are enough.
+fn put_alternative(text: &mut String, before: usize, words: &str) -> Result<(), AllocError> {
+    if before >= MOST_WANTED {
+        return Ok(());
+    }
+    put_all(text, &[if before == 0 { ", want " } else { " | " }, words])
 }

@@ -1,7 +1,7 @@
 // Copies of expressions, in which something may be put at a place.
 use crate::places::Change;
 use crate::sampled::Sampled;
-use cs_package::{FieldMark, Kind, Part, Shape, ShapeEnd};
+use cs_package::{FieldMark, Inside, Literal, Part, Shape, ShapeEnd, Simple};
 use std::alloc::{AllocError, Global};
 
 /// The steps from an expression to a place, where the place is in it, and what is put there.
@@ -40,33 +40,19 @@ impl Copying {
     /// an element that repeats. What a change isn't made for stays as it is.
     #[cycle(copies)]
     fn copy_shape(&self, shape: &Shape, way: Way<'_>) -> Result<Shape, AllocError> {
-        if let Some(put) = self.put_instead(way)? {
-            return Ok(put);
+        match change_at(way) {
+            Change::Simple(simple) => return shape_of(self.alloc, simple),
+            Change::Definition(number) => return Ok(Shape::Definition(number)),
+            Change::Same | Change::FurtherKey | Change::Without(_) => {}
+            Change::Shorter | Change::Shortest | Change::Longer => {}
         }
-        match shape {
-            Shape::Top => Ok(Shape::Top),
-            Shape::Bottom => Ok(Shape::Bottom),
-            Shape::Null => Ok(Shape::Null),
-            Shape::Bool(value) => Ok(Shape::Bool(*value)),
-            Shape::Int(value) => Ok(Shape::Int(*value)),
-            Shape::Text(text) => Ok(Shape::Text(text.clone()?)),
-            Shape::Kind(kind) => Ok(Shape::Kind(*kind)),
-            Shape::Range { least, greatest } => Ok(Shape::Range {
-                least: *least,
-                greatest: *greatest,
-            }),
-            Shape::Definition(number) => Ok(Shape::Definition(*number)),
-            Shape::Bound { relation, limit } => Ok(Shape::Bound {
-                relation: *relation,
-                limit: *limit,
-            }),
-            Shape::NotInt(value) => Ok(Shape::NotInt(*value)),
-            Shape::NotText(text) => Ok(Shape::NotText(text.clone()?)),
-            Shape::NotNull => Ok(Shape::NotNull),
-            Shape::And(operands) => Ok(Shape::And(self.copy_shapes(operands, way)?)),
-            Shape::Or(operands) => self.copy_alternatives(operands, way),
-            Shape::Struct { parts, opened } => self.copy_struct(parts, *opened, way),
-            Shape::List { front, end } => {
+        match shape.inside() {
+            Inside::Simple(simple) => shape_of(self.alloc, simple),
+            Inside::Definition(number) => Ok(Shape::Definition(number)),
+            Inside::And(operands) => Ok(Shape::And(self.copy_shapes(operands, way)?)),
+            Inside::Or(operands) => self.copy_alternatives(operands, way),
+            Inside::Struct { parts, opened } => self.copy_struct(parts, opened, way),
+            Inside::List { front, end } => {
                 let mut copied = self.copy_front(front, way)?;
                 if let Some(element) = self.further_element(end, front.len(), way)? {
                     copied.push(element)?;
@@ -74,21 +60,6 @@ impl Copying {
                 let end = self.copy_end(end, way)?;
                 Ok(Shape::List { front: copied, end })
             }
-        }
-    }
-
-    /// What is put where a way ends, if it isn't made of what is there.
-    fn put_instead(&self, way: Way<'_>) -> Result<Option<Shape>, AllocError> {
-        match change_at(way) {
-            Change::Anything => Ok(Some(Shape::Top)),
-            Change::Null => Ok(Some(Shape::Null)),
-            Change::Bool(value) => Ok(Some(Shape::Bool(value))),
-            Change::Int(value) => Ok(Some(Shape::Int(value))),
-            Change::Text(text) => Ok(Some(Shape::Text(String::from_str(self.alloc, text)?))),
-            Change::AnyText => Ok(Some(Shape::Kind(Kind::Text))),
-            Change::Definition(number) => Ok(Some(Shape::Definition(number))),
-            Change::Same | Change::FurtherKey | Change::Without(_) => Ok(None),
-            Change::Shorter | Change::Shortest | Change::Longer => Ok(None),
         }
     }
 
@@ -206,12 +177,10 @@ impl Copying {
         part: &Part,
         value: Shape,
     ) -> Result<(Part, Option<Part>), AllocError> {
-        if !is_every(part) {
-            return Ok((with_value(part, FieldMark::Regular, value)?, None));
-        }
-        match self.which {
-            Sampled::Valid => Ok((further_part(self.alloc, parts, value)?, None)),
-            Sampled::Invalid => {
+        match (is_every(part), self.which) {
+            (false, _) => Ok((with_value(part, FieldMark::Regular, value)?, None)),
+            (true, Sampled::Valid) => Ok((further_part(self.alloc, parts, value)?, None)),
+            (true, Sampled::Invalid) => {
                 let every = with_value(part, part.mark, value)?;
                 Ok((further_part(self.alloc, parts, Shape::Top)?, Some(every)))
             }
@@ -237,6 +206,26 @@ impl Copying {
             opened: true,
         };
         Ok(Shape::And(vec![in self.alloc; closed, every]?))
+    }
+}
+
+/// The expression without parts.
+fn shape_of(alloc: Global, simple: Simple<'_>) -> Result<Shape, AllocError> {
+    match simple {
+        Simple::Top => Ok(Shape::Top),
+        Simple::Bottom => Ok(Shape::Bottom),
+        Simple::Literal(Literal::Null) => Ok(Shape::Null),
+        Simple::Literal(Literal::Bool(value)) => Ok(Shape::Bool(value)),
+        Simple::Literal(Literal::Int(n)) => Ok(Shape::Int(n)),
+        Simple::Literal(Literal::Text(text)) => Ok(Shape::Text(String::from_str(alloc, text)?)),
+        Simple::Excluded(Literal::Null) => Ok(Shape::NotNull),
+        // `!=` and a truth value would admit the other one.
+        Simple::Excluded(Literal::Bool(value)) => Ok(Shape::Bool(!value)),
+        Simple::Excluded(Literal::Int(n)) => Ok(Shape::NotInt(n)),
+        Simple::Excluded(Literal::Text(text)) => Ok(Shape::NotText(String::from_str(alloc, text)?)),
+        Simple::Kind(kind) => Ok(Shape::Kind(kind)),
+        Simple::Range { least, greatest } => Ok(Shape::Range { least, greatest }),
+        Simple::Bound { relation, limit } => Ok(Shape::Bound { relation, limit }),
     }
 }
 

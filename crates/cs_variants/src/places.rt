@@ -1,20 +1,14 @@
 // Places in a package, and what is put there.
 use crate::copies::Way;
-use cs_package::Literal;
+use cs_package::Simple;
 
 /// What is put at a place.
 #[derive(Clone, Copy)]
 pub enum Change<'a> {
     /// What is there already.
     Same,
-    /// `_`.
-    Anything,
-    Null,
-    Bool(bool),
-    Int(i64),
-    Text(&'a str),
-    /// `string`.
-    AnyText,
+    /// An expression without parts.
+    Simple(Simple<'a>),
     /// A reference to the definition of that number.
     Definition(usize),
     /// The struct with a further key, which it allows.
@@ -27,18 +21,6 @@ pub enum Change<'a> {
     Shortest,
     /// The list of its fixed elements and a further one.
     Longer,
-}
-
-impl<'a> Change<'a> {
-    /// A literal is put there.
-    pub(crate) fn to(literal: Literal<'a>) -> Change<'a> {
-        match literal {
-            Literal::Null => Change::Null,
-            Literal::Bool(value) => Change::Bool(value),
-            Literal::Int(n) => Change::Int(n),
-            Literal::Text(text) => Change::Text(text),
-        }
-    }
 }
 
 /// A place in a definition that the root reaches: the number of the definition among those that were reached, its number in the

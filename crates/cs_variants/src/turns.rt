@@ -11,10 +11,16 @@ impl Walk<'_> {
     /// # Errors
     /// Where memory runs out.
     pub fn in_turns(&self) -> Result<Vec<(usize, usize, usize)>, AllocError> {
-        let mut rounds = Vec::with_capacity(self.alloc, self.places.len())?;
+        let mut ranked = Vec::with_capacity(self.alloc, self.places.len())?;
+        for (number, place) in self.places.iter().enumerate() {
+            // Places are numbered definition by definition.
+            ranked.push((place.turn, place.entry, place.steps.len(), number))?;
+        }
+        ranked.sort_unstable();
+        let mut rounds = Vec::with_capacity(self.alloc, ranked.len())?;
         let mut round: usize = 0;
         let mut before = None;
-        for (turn, entry, _depth, number) in &self.ranked()? {
+        for (turn, entry, _depth, number) in &ranked {
             round = if before == Some((*turn, *entry)) {
                 round.saturating_add(1)
             } else {
@@ -25,16 +31,5 @@ impl Walk<'_> {
         }
         rounds.sort_unstable();
         Ok(rounds)
-    }
-
-    /// The turn of each place, the number of its definition, how deep it is in it, and its own number, in rising order. Places are
-    /// numbered definition by definition.
-    fn ranked(&self) -> Result<Vec<(usize, usize, usize, usize)>, AllocError> {
-        let mut ranked = Vec::with_capacity(self.alloc, self.places.len())?;
-        for (number, place) in self.places.iter().enumerate() {
-            ranked.push((place.turn, place.entry, place.steps.len(), number))?;
-        }
-        ranked.sort_unstable();
-        Ok(ranked)
     }
 }

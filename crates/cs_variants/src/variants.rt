@@ -15,13 +15,12 @@ pub enum Where {
     Everywhere,
 }
 
-/// The definitions of a variant: the number of each in the package that it is made of, and its bodies.
+/// The definitions of a variant: the number of each in the package that it is made of, and its bodies, copied like this.
 #[derive(Drop)]
 struct Draft {
+    copying: Copying,
     definitions: Vec<usize>,
     bodies: Vec<Vec<Shape>>,
-    /// Whether what a document may lack is left out, but for what is on the way to a place.
-    is_least: bool,
 }
 
 impl Walk<'_> {
@@ -38,10 +37,15 @@ impl Walk<'_> {
         at: Where,
         is_least: bool,
     ) -> Result<Option<Guarded>, AllocError> {
+        let copying = Copying {
+            alloc: self.alloc,
+            which: self.which,
+            is_least,
+        };
         let mut draft = Draft {
+            copying,
             definitions: Vec::new(self.alloc),
             bodies: Vec::new(self.alloc),
-            is_least,
         };
         for definition in 0..self.package.count() {
             self.put_copy(&mut draft, definition, None)?;
@@ -51,7 +55,12 @@ impl Walk<'_> {
             Where::Everywhere => self.put_changed(&mut draft, place)?,
         };
         self.put_way(&mut draft, place.entry, changed)?;
-        self.guarded(draft)
+        let Draft {
+            definitions,
+            bodies,
+            ..
+        } = draft;
+        self.guarded(&definitions, bodies)
     }
 
     /// The package of one definition, `_`, in place of the root.
@@ -59,19 +68,18 @@ impl Walk<'_> {
     /// # Errors
     /// Where memory runs out.
     pub fn of_everything(&self) -> Result<Option<Guarded>, AllocError> {
-        let definitions = vec![in self.alloc; self.root]?;
         let alone = vec![in self.alloc; Shape::Top]?;
-        self.guarded(Draft {
-            definitions,
-            bodies: vec![in self.alloc; alone]?,
-            is_least: false,
-        })
+        self.guarded(&[self.root], vec![in self.alloc; alone]?)
     }
 
-    /// The package of a draft, where it is guarded.
-    fn guarded(&self, draft: Draft) -> Result<Option<Guarded>, AllocError> {
-        let names = names_of(self.alloc, self.package, &draft.definitions)?;
-        let Some(package) = whole(names, draft.bodies) else {
+    /// The package of copies of these definitions with these bodies, where it is guarded.
+    fn guarded(
+        &self,
+        definitions: &[usize],
+        bodies: Vec<Vec<Shape>>,
+    ) -> Result<Option<Guarded>, AllocError> {
+        let names = names_of(self.alloc, self.package, definitions)?;
+        let Some(package) = whole(names, bodies) else {
             return Ok(None);
         };
         match guard(self.alloc, package) {
@@ -105,7 +113,7 @@ impl Walk<'_> {
     /// definition counts as the root.
     fn put_changed(&self, draft: &mut Draft, place: &Place<'_>) -> Result<usize, AllocError> {
         let way = place.way(place.change);
-        let copies = self.copied(place.definition, way, draft.is_least)?;
+        let copies = self.copied(draft.copying, place.definition, way)?;
         if let Some(bodies) = draft.bodies.get_mut(place.definition) {
             *bodies = copies;
         }
@@ -123,7 +131,7 @@ impl Walk<'_> {
         way: Way<'_>,
     ) -> Result<usize, AllocError> {
         let number = draft.bodies.len();
-        let copies = self.copied(definition, way, draft.is_least)?;
+        let copies = self.copied(draft.copying, definition, way)?;
         draft.definitions.push(definition)?;
         draft.bodies.push(copies)?;
         Ok(number)
@@ -132,19 +140,14 @@ impl Walk<'_> {
     /// The bodies of a definition, with what a way puts in them; none where the root doesn't reach it.
     fn copied(
         &self,
+        copying: Copying,
         definition: usize,
         way: Way<'_>,
-        is_least: bool,
     ) -> Result<Vec<Shape>, AllocError> {
         let package = self.package;
         if definition >= package.count() || self.uses.get(definition) == Some(&0) {
             return Ok(Vec::new(self.alloc));
         }
-        let copying = Copying {
-            alloc: self.alloc,
-            which: self.which,
-            is_least,
-        };
         copying.copy_shapes(package.bodies(definition), way)
     }
 }

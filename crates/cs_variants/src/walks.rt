@@ -1,11 +1,17 @@
 // The places of what a root reaches, in the order of the text: those of the root first, then those of each definition, in the
 // order in which they are reached.
 use crate::copies::is_every;
-use crate::ends::{behind_end, end_of};
+use crate::ends::{Turns, beside, ends_of};
 use crate::places::{Change, Place, Reached};
 use crate::sampled::Sampled;
-use cs_package::{FieldMark, Inside, Kind, Literal, Package, Part, Shape, ShapeEnd, Simple};
+use cs_package::{FieldMark, Inside, Package, Part, Shape, ShapeEnd, Simple};
 use std::alloc::{AllocError, Global};
+
+/// How many pairs of declarations of a struct are a step: a question looks at all of them for each label.
+const PAIRS_OF_STEP: usize = 32;
+
+/// `_` is put there.
+const ANYTHING: Change<'static> = Change::Simple(Simple::Top);
 
 /// The walk over the bodies of what the root reaches: the definitions that were reached, each once, the places that were found,
 /// and the place where the walk is.
@@ -21,8 +27,11 @@ pub struct Walk<'a> {
     pub rules: usize,
     /// How many places the last rule has so far.
     turn: usize,
+    /// The steps for making a package with what was reached and numbering its rules, which no search counts: one for each definition
+    /// of the package and each expression, and those for the labels of each struct.
+    pub cost: usize,
     /// How often each definition of the package is referred to, the root once more.
-    pub uses: Vec<usize>,
+    pub(crate) uses: Vec<usize>,
     entry: usize,
     definition: usize,
     steps: Vec<usize>,
@@ -47,6 +56,7 @@ pub fn walk_of(
         places: Vec::new(alloc),
         rules: 0,
         turn: 0,
+        cost: package.count(),
         uses: vec![in alloc; 0; package.count()]?,
         entry: 0,
         definition: root,
@@ -133,14 +143,6 @@ impl<'a> Walk<'a> {
         Ok(())
     }
 
-    /// Here is a place of the last rule where an integer is put, where there is one.
-    fn put_integer(&mut self, integer: Option<i64>) -> Result<(), AllocError> {
-        match integer {
-            Some(n) => self.put(Change::Int(n)),
-            None => Ok(()),
-        }
-    }
-
     /// Here is a reference to a definition, or this is the root.
     fn reach(&mut self, definition: usize) -> Result<(), AllocError> {
         let Some(uses) = self.uses.get_mut(definition) else {
@@ -161,6 +163,7 @@ impl<'a> Walk<'a> {
 
     #[cycle(visit)]
     fn visit(&mut self, shape: &'a Shape) -> Result<(), AllocError> {
+        self.spend(1);
         match shape.inside() {
             Inside::Simple(simple) => self.visit_simple(simple),
             Inside::Definition(number) => self.reach(number),
@@ -168,7 +171,7 @@ impl<'a> Walk<'a> {
             Inside::Or(operands) => self.visit_alternatives(operands),
             Inside::Struct { parts, opened } => self.visit_struct(parts, opened),
             Inside::List { front, end } => {
-                self.put_rule(Sampled::Invalid, &[Change::Anything])?;
+                self.put_rule(Sampled::Invalid, &[ANYTHING])?;
                 if !front.is_empty() {
                     self.put_rule(Sampled::Invalid, &[Change::Shorter])?;
                 }
@@ -176,6 +179,10 @@ impl<'a> Walk<'a> {
                 self.visit_end(front.len(), end)
             }
         }
+    }
+
+    fn spend(&mut self, steps: usize) {
+        self.cost = self.cost.saturating_add(steps);
     }
 
     /// Visits what is behind a step.
@@ -210,7 +217,9 @@ impl<'a> Walk<'a> {
             let is_text = matches!(shape, Shape::Text(_));
             self.put_behind(i)?;
             // What isn't admitted beside one text is the same as beside another one.
-            if !(has_text && is_text) {
+            if has_text && is_text {
+                self.spend(1);
+            } else {
                 self.step(i, shape)?;
             }
             has_text = has_text || is_text;
@@ -220,16 +229,17 @@ impl<'a> Walk<'a> {
 
     #[cycle(visit)]
     fn visit_struct(&mut self, parts: &'a [Part], opened: bool) -> Result<(), AllocError> {
-        self.put_rule(Sampled::Invalid, &[Change::Anything])?;
+        self.spend(parts.len().saturating_mul(parts.len()) / PAIRS_OF_STEP);
+        self.put_rule(Sampled::Invalid, &[ANYTHING])?;
+        let mut has_every = false;
         for (i, part) in parts.iter().enumerate() {
             self.visit_part(i, part)?;
+            has_every = has_every || is_every(part);
         }
-        if opened {
-            self.put_rule(Sampled::Valid, &[Change::FurtherKey])
-        } else if has_every(parts) {
-            Ok(())
-        } else {
-            self.put_rule(Sampled::Invalid, &[Change::FurtherKey])
+        match (opened, has_every) {
+            (true, _) => self.put_rule(Sampled::Valid, &[Change::FurtherKey]),
+            (false, true) => Ok(()),
+            (false, false) => self.put_rule(Sampled::Invalid, &[Change::FurtherKey]),
         }
     }
 
@@ -263,72 +273,29 @@ impl<'a> Walk<'a> {
         }
     }
 
-    /// The rule of what has no parts.
+    /// The rule of what has no parts: for instances its ends, where it has some, and for others what is next to it and then anything
+    /// else.
     fn visit_simple(&mut self, simple: Simple<'a>) -> Result<(), AllocError> {
         match self.which {
-            Sampled::Valid => self.put_ends(simple),
+            Sampled::Valid => match ends_of(simple) {
+                Some(ends) => self.put_turns(ends),
+                None => Ok(()),
+            },
             Sampled::Invalid => {
-                self.put_rule(Sampled::Invalid, &[])?;
-                self.put_outside(simple)
+                self.put_turns(beside(simple))?;
+                self.put(ANYTHING)
             }
         }
     }
 
-    /// The ends of what has no parts. What has none is no rule for instances.
-    fn put_ends(&mut self, simple: Simple<'a>) -> Result<(), AllocError> {
-        match simple {
-            Simple::Kind(Kind::Bool) => {
-                self.put_rule(Sampled::Valid, &[Change::Bool(false), Change::Bool(true)])
+    /// Here is a further rule, with a place for each of these.
+    fn put_turns(&mut self, turns: Turns<'a>) -> Result<(), AllocError> {
+        self.put_rule(self.which, &[])?;
+        for simple in [turns.0, turns.1] {
+            if let Some(simple) = simple {
+                self.put(Change::Simple(simple))?;
             }
-            Simple::Range { least, greatest } => {
-                self.put_rule(Sampled::Valid, &[Change::Int(least)])?;
-                self.put_integer(greatest)
-            }
-            Simple::Bound { relation, limit } => {
-                self.put_rule(Sampled::Valid, &[])?;
-                self.put_integer(end_of(relation, limit))
-            }
-            Simple::Kind(Kind::Int | Kind::Number | Kind::Text)
-            | Simple::Top
-            | Simple::Bottom
-            | Simple::Literal(_)
-            | Simple::Excluded(_) => Ok(()),
         }
+        Ok(())
     }
-
-    /// What isn't admitted where there are no parts: what is next to it first, and then anything else.
-    fn put_outside(&mut self, simple: Simple<'a>) -> Result<(), AllocError> {
-        match simple {
-            Simple::Literal(literal) => self.put_beside(literal)?,
-            Simple::Excluded(literal) => self.put(Change::to(literal))?,
-            Simple::Range { least, greatest } => {
-                self.put_integer(least.checked_sub(1))?;
-                self.put_integer(greatest.and_then(|n| n.checked_add(1)))?;
-            }
-            Simple::Bound { relation, limit } => self.put_integer(behind_end(relation, limit))?,
-            // Nothing is next to these.
-            Simple::Top | Simple::Bottom | Simple::Kind(_) => {}
-        }
-        self.put(Change::Anything)
-    }
-
-    /// What is next to a literal.
-    fn put_beside(&mut self, literal: Literal<'a>) -> Result<(), AllocError> {
-        match literal {
-            Literal::Null => Ok(()),
-            Literal::Bool(value) => self.put(Change::Bool(!value)),
-            Literal::Int(n) => {
-                self.put_integer(n.checked_sub(1))?;
-                self.put_integer(n.checked_add(1))
-            }
-            Literal::Text(_) => self.put(Change::AnyText),
-        }
-    }
-}
-
-/// Whether one of these is `[string]: T`.
-fn has_every(parts: &[Part]) -> bool {
-    parts
-        .iter()
-        .any(|part| matches!(part.mark, FieldMark::Every { .. }))
 }

@@ -54,8 +54,18 @@ fn is_sound(count: usize, shape: &Shape) -> bool
         Shape::Or(operands) => are_operands(count, operands),
         Shape::Struct { parts, .. } => are_sound_parts(count, parts),
         Shape::List { front, end } => are_sound(count, front) && is_sound_end(count, end),
-        // The others have no parts.
-        _ => true,
+        Shape::Top
+        | Shape::Bottom
+        | Shape::Null
+        | Shape::Bool(_)
+        | Shape::Int(_)
+        | Shape::Text(_)
+        | Shape::Kind(_)
+        | Shape::Range { .. }
+        | Shape::Bound { .. }
+        | Shape::NotInt(_)
+        | Shape::NotText(_)
+        | Shape::NotNull => true,
     }
 }
 

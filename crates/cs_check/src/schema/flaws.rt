@@ -6,10 +6,10 @@ ghost use Rattle.cs_profile.specs.Profile.{IsSchema};
 ghost use Rattle.cs_check.specs.Flaws.{IsSchemaText, IsFlawOf, BeginsWithFirstFlaw, BeginsWithFirstOf, BeginsWithAll, is_same};
 
 use crate::MOST_FAULTS;
-use crate::schema::flaw::Flaw;
+use crate::schema::Flaw;
 use crate::schema::mending::mend;
-use cs_doc::read_doc;
 use cs_document::{Doc, DocFault};
+use cs_json::read_doc;
 use cs_schema::{SchemaFault, read_schema};
 use std::alloc::{AllocError, Global};
 
@@ -37,7 +37,6 @@ pub(crate) fn flaws_in(alloc: Global, text: &[u8]) -> Result<Vec<Flaw>, AllocErr
     }
 }
 
-/// One flaw.
 fn alone(alloc: Global, flaw: Flaw) -> Result<Vec<Flaw>, AllocError>
     ensures one { IfOk result (λ flaws. flaws.items ≡ flaw ∷ []) }
     ensures distinct { IfOk result (λ flaws. IsDistinct is_same flaws.items) }
@@ -107,46 +106,43 @@ fn tell(flaws: &mut Vec<Flaw>, flaw: Flaw) -> Result<bool, AllocError>
     ensures distinct { OnOk result (IsDistinct is_same flaws.new.items) }
     ensures most { OnOk result (length flaws.old.items ≤ 50 → length flaws.new.items ≤ 50) }
 {
-    if is_enough(flaws) || !is_judged(flaws, &flaw) || is_told(flaws, &flaw) {
+    let is_enough = flaws.len() >= MOST_FAULTS || bytes_told(flaws) > MOST_TOLD;
+    if is_enough || !is_judged(flaws, &flaw) || is_told(flaws, &flaw) {
         return Ok(false);
     }
     flaws.push(flaw)?;
     Ok(true)
 }
 
-/// Whether no more flaws are told.
-fn is_enough(flaws: &Vec<Flaw>) -> bool
-    ensures { result ≡ false → length flaws.now.items < 50 }
-{
-    flaws.len() >= MOST_FAULTS || bytes_told(flaws) > MOST_TOLD
-}
-
 /// How many bytes the places and names of flaws have.
 fn bytes_told(flaws: &[Flaw]) -> usize {
-    flaws.iter().fold(0usize, |bytes, flaw| match flaw {
-        Flaw::NotJson { .. } | Flaw::NotInteger { .. } => bytes,
-        Flaw::Keyword { place, name }
-        | Flaw::Shape { place, name }
-        | Flaw::Reference { place, name } => bytes
-            .saturating_add(place.len())
-            .saturating_add(name.len()),
-        Flaw::Loop { names } => names
-            .iter()
-            .fold(bytes, |bytes, name| bytes.saturating_add(name.len())),
-    })
+    let mut bytes = 0usize;
+    for flaw in flaws {
+        match flaw {
+            Flaw::NotJson { .. } | Flaw::NotInteger { .. } => {}
+            Flaw::Keyword { place, name }
+            | Flaw::Shape { place, name }
+            | Flaw::Reference { place, name } => {
+                bytes = bytes.saturating_add(place.len().saturating_add(name.len()));
+            }
+            Flaw::Loop { names } => {
+                for name in names.iter() {
+                    bytes = bytes.saturating_add(name.len());
+                }
+            }
+        }
+    }
+    bytes
 }
 
 /// Whether a flaw is one of the schema. That no definition is found is none where those of the schema went with a mend.
 fn is_judged(flaws: &[Flaw], flaw: &Flaw) -> bool {
+    let takes_definitions = |told: &Flaw| {
+        matches!(told, Flaw::Shape { place, name } if place.is_empty() && name.as_str() == "$defs")
+    };
     !matches!(flaw, Flaw::Reference { .. }) || !flaws.iter().any(takes_definitions)
 }
 
-/// Whether the mend of a flaw takes out all definitions.
-fn takes_definitions(flaw: &Flaw) -> bool {
-    matches!(flaw, Flaw::Shape { place, name } if place.is_empty() && name.as_str() == "$defs")
-}
-
-/// Whether a flaw is among those that are told.
 fn is_told(flaws: &Vec<Flaw>, flaw: &Flaw) -> bool
     ensures { result ≡ list_any (λ told. is_same told flaw.now) flaws.now.items }
 {

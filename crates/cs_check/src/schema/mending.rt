@@ -1,5 +1,5 @@
 // Mends of a document: what a flaw is at is taken out, so that the next flaw shows.
-use crate::schema::flaw::Flaw;
+use crate::schema::Flaw;
 use cs_document::Doc;
 use std::alloc::{AllocError, Global};
 
@@ -54,14 +54,12 @@ fn value_below<'a>(doc: &'a mut Doc, step: &str) -> Option<&'a mut Doc> {
 
 /// Takes out the direct references of the first definition of a loop to the next one.
 fn cut_loop(alloc: Global, doc: &mut Doc, names: &[String]) -> Result<(), AllocError> {
-    let Some(first) = names.first() else {
-        return Ok(());
-    };
-    let next = names.get(1).unwrap_or(first);
-    let reference = Doc::Text(format!(in alloc; "#/$defs/{next}")?);
-    if let Some(definitions) = value_below(doc, "$defs")
+    if let Some(first) = names.first()
+        && let Some(definitions) = value_below(doc, "$defs")
         && let Some(definition) = value_below(definitions, first.as_str())
     {
+        let next = names.get(1).unwrap_or(first);
+        let reference = Doc::Text(format!(in alloc; "#/$defs/{next}")?);
         cut(definition, &reference, MOST_DEPTH);
     }
     Ok(())
@@ -74,7 +72,7 @@ fn cut(schema: &mut Doc, reference: &Doc, depth: usize) {
     }
     match schema {
         Doc::Object(members) => {
-            if members.get("$ref").is_some_and(|to| to == reference) {
+            if members.get("$ref") == Some(reference) {
                 drop(members.remove("$ref"));
             }
             for key in ["allOf", "anyOf", "not"] {

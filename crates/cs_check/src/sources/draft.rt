@@ -1,5 +1,6 @@
 // Sources with the mends of their faults, so that the next ones show.
 use crate::sources::mends::{Mend, mended_name};
+use crate::sources::reading::place_of;
 use cs_place::Named;
 use cs_sources::{Source, is_mark, separates};
 use cs_tool::Fault;
@@ -13,23 +14,20 @@ pub(crate) struct Draft<'a> {
     pub(crate) mends: Vec<Mend>,
 }
 
-/// A draft of each source, without mends.
-pub(crate) fn drafts_of<'a>(
-    alloc: Global,
-    sources: &[&'a [u8]],
-) -> Result<Vec<Draft<'a>>, AllocError> {
-    let mut drafts = Vec::with_capacity(alloc, sources.len())?;
-    for (file, text) in sources.iter().enumerate() {
-        let (name, line) = ("", 1);
-        let named = Named { name, text, line };
-        let source = Source::new(alloc, named, file)?;
-        let mends = Vec::new(alloc);
-        drafts.push(Draft { source, mends })?;
-    }
-    Ok(drafts)
-}
-
 impl<'a> Draft<'a> {
+    /// A draft of each source, without mends.
+    pub(crate) fn each(alloc: Global, sources: &[&'a [u8]]) -> Result<Vec<Draft<'a>>, AllocError> {
+        let mut drafts = Vec::with_capacity(alloc, sources.len())?;
+        for (file, text) in sources.iter().enumerate() {
+            let (name, line) = ("", 1);
+            let named = Named { name, text, line };
+            let source = Source::new(alloc, named, file)?;
+            let mends = Vec::new(alloc);
+            drafts.push(Draft { source, mends })?;
+        }
+        Ok(drafts)
+    }
+
     /// The text with its mends.
     pub(crate) fn mended(&self, alloc: Global) -> Result<Vec<u8>, AllocError> {
         let source = self.source.named.text;
@@ -63,10 +61,10 @@ impl<'a> Draft<'a> {
 
     /// Adds a mend, in the place of those inside of it. Of two texts that come before the same token the later one stands first.
     pub(crate) fn add(&mut self, mend: Mend) -> Result<(), AllocError> {
-        self.mends.retain(|other| !mend.covers(*other));
+        let is_added = mend.from == mend.to;
+        self.mends.retain(|other| is_added || other.from < mend.from || mend.to < other.to);
         let place = self.mends.partition_point(|other| other.from < mend.from);
-        self.mends.insert(place, mend)?;
-        Ok(())
+        Ok(self.mends.insert(place, mend)?)
     }
 
     /// Puts the words that stand in what mends took out.
@@ -117,28 +115,24 @@ impl<'a> Draft<'a> {
     }
 }
 
-/// Cuts a cycle between its first name and the next one, and says whether that was done.
-fn cut_cycle(drafts: &mut [Draft<'_>], names: &[String]) -> Result<bool, AllocError> {
-    let Some(first) = names.first() else {
-        return Ok(false);
-    };
-    let next = names.get(1).unwrap_or(first);
-    let mut is_cut = false;
-    for draft in drafts.iter_mut() {
-        is_cut = draft.cut_references(first.as_str(), next.as_str())? || is_cut;
-    }
-    Ok(is_cut)
-}
-
-/// Mends a fault of a package by its place in its source, and says whether that was done.
+/// Mends a fault of a package by its place in its source, and says whether that was done. A cycle is cut between its first name and the
+/// next one.
 pub(crate) fn mend_fault(drafts: &mut [Draft<'_>], fault: &Fault) -> Result<bool, AllocError> {
-    if let Fault::Cycle { names } = fault {
-        return cut_cycle(drafts, names);
+    if let Fault::Cycle { names } = fault
+        && let Some(first) = names.first()
+    {
+        let next = names.get(1).unwrap_or(first);
+        let mut is_cut = false;
+        for draft in drafts.iter_mut() {
+            is_cut |= draft.cut_references(first.as_str(), next.as_str())?;
+        }
+        return Ok(is_cut);
     }
-    let Some(draft) = drafts.get_mut(fault.file().unwrap_or(usize::MAX)) else {
+    let (file, offset) = place_of(fault);
+    let Some(draft) = drafts.get_mut(file) else {
         return Ok(false);
     };
-    let place = draft.source.place_at(fault.offset().unwrap_or(0));
+    let place = draft.source.place_at(offset);
     if let Fault::NotOpened { .. } = fault {
         draft.open_literal(place)?;
     } else {

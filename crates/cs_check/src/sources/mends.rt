@@ -15,17 +15,8 @@ impl Mend {
     /// The tokens of a source from one place up to another become a text; where there are none, it comes before the token there.
     pub(crate) fn over(source: &Source<'_>, first: usize, next: usize, put: &'static str) -> Mend {
         let from = source.token(first).start;
-        let to = if first < next {
-            source.whole().between(first, next).end()
-        } else {
-            from
-        };
+        let to = source.whole().between(first, next).end().max(from);
         Mend { from, to, put }
-    }
-
-    /// Whether another mend is inside of it.
-    pub(crate) fn covers(self, other: Mend) -> bool {
-        self.from < self.to && self.from <= other.from && other.to <= self.to
     }
 }
 
@@ -38,8 +29,8 @@ struct Spot<'s, 'a> {
     /// The last colon of the declaration before the place, and the next one.
     colon_before: Option<usize>,
     colon_behind: Option<usize>,
-    /// The label of a definition, or of a field, that no name refers to.
-    label: &'static str,
+    /// Whether it is in the label of a definition.
+    is_definition: bool,
 }
 
 /// Whether a part begins with the word `for`, and that isn't a label.
@@ -48,44 +39,35 @@ fn begins_for(part: Part<'_, '_>) -> bool {
     part.source.token(part.from).text == "for" && !part.source.ends_label(next)
 }
 
-/// The declaration that a place is in. The comma in the head of a `for` is inside of it.
-fn declaration_at<'s, 'a>(source: &'s Source<'a>, place: usize) -> Part<'s, 'a> {
-    let declaration = source.declaration_at(place);
-    if begins_for(declaration) && is_mark(source.token(declaration.to), ",") {
-        let rest = source.declaration_at(declaration.to.saturating_add(1));
-        declaration.between(declaration.from, rest.to)
-    } else {
-        declaration
-    }
-}
-
 impl<'s, 'a> Spot<'s, 'a> {
     /// What is at fault at a place: where a bracket is closed, something is missing before that.
     fn new(source: &'s Source<'a>, place: usize) -> Spot<'s, 'a> {
         let is_closing = source.open_at(place) != source.around(place);
         let place = place.saturating_sub(usize::from(is_closing));
-        let declaration = declaration_at(source, place);
+        let mut declaration = source.declaration_at(place);
+        // The comma in the head of a `for` is inside of its declaration.
+        if begins_for(declaration) && is_mark(source.token(declaration.to), ",") {
+            declaration.to = source.declaration_at(declaration.to.saturating_add(1)).to;
+        }
         let held = source.held_in_declaration(place);
         let before = source.last_separator(Colon, held);
         let colon_before = before.filter(|colon| *colon >= declaration.from);
-        let is_definition = colon_before.is_none() && source.around(declaration.from) == 0;
         Spot {
             source,
             place,
             declaration,
             colon_before,
             colon_behind: source.separator(Colon, held, declaration.to, 0),
-            label: if is_definition { "#_" } else { "\"\"" },
+            is_definition: colon_before.is_none() && source.around(declaration.from) == 0,
         }
     }
 
     /// The label that the place is in becomes one that no name refers to.
     fn mended_label(self) -> Option<Mend> {
-        let from = match self.colon_before {
-            Some(before) => before.saturating_add(1),
-            None => self.declaration.from,
-        };
-        Some(Mend::over(self.source, from, self.colon_behind?, self.label))
+        let before = self.colon_before.map(|colon| colon.saturating_add(1));
+        let from = before.unwrap_or(self.declaration.from);
+        let put = if self.is_definition { "#_" } else { "\"\"" };
+        Some(Mend::over(self.source, from, self.colon_behind?, put))
     }
 
     /// The operand that the place is in, without `...` at its front, becomes `_`, in a value: behind a colon, or in a list or parentheses. The
@@ -98,16 +80,14 @@ impl<'s, 'a> Spot<'s, 'a> {
             if let Some(before) = source.last_separator(separator, self.place) {
                 operand.from = operand.from.max(before.saturating_add(1));
             }
-            if let Some(behind) = source.separator(separator, self.place, operand.to, 0) {
-                operand.to = behind;
-            }
+            let behind = source.separator(separator, self.place, operand.to, 0);
+            operand.to = behind.unwrap_or(operand.to);
         }
         let dots = usize::from(is_mark(source.token(operand.from), "..."));
         operand.from = operand.from.saturating_add(dots);
-        let is_in_value = match source.bracket(around).inside {
-            Inside::List | Inside::Parentheses => true,
-            Inside::File | Inside::Struct | Inside::Label => self.colon_before.is_some(),
-        };
+        let inside = source.bracket(around).inside;
+        let is_in_value = self.colon_before.is_some()
+            || matches!(inside, Inside::List | Inside::Parentheses);
         let is_one = operand.from < operand.to && is_in_value && !begins_for(operand);
         is_one.then_some(Mend::over(source, operand.from, operand.to, "_"))
     }
@@ -115,14 +95,14 @@ impl<'s, 'a> Spot<'s, 'a> {
     /// What is before the struct that a declaration without a label begins or ends with becomes a label, as the head of an `if`.
     fn mended_head(self) -> Option<Mend> {
         let Part { source, from, to } = self.declaration;
-        let opened = [from, to.checked_sub(1)?]
-            .iter()
-            .map(|place| source.bracket(source.own(*place)))
-            .find(|bracket| bracket.inside == Inside::Struct)?;
+        let mut opened = source.bracket(source.own(from));
+        if opened.inside != Inside::Struct {
+            opened = source.bracket(source.own(to.checked_sub(1)?));
+        }
         let is_labelled = self.colon_before.is_some() || self.colon_behind.is_some();
-        let put = if self.label == "#_" { "#_: " } else { "\"\": " };
+        let put = if self.is_definition { "#_: " } else { "\"\": " };
         let head = Mend::over(source, from, opened.first.checked_sub(1)?, put);
-        (!is_labelled).then_some(head)
+        (opened.inside == Inside::Struct && !is_labelled).then_some(head)
     }
 
     /// The declaration goes, with the comma behind it; the token alone, where that is in none.

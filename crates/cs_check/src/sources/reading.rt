@@ -12,10 +12,17 @@ const MOST_READS: usize = 2 * MOST_FAULTS;
 
 /// The first fault, and those behind it.
 #[derive(Drop)]
-pub(crate) struct Told<'f> {
+struct Told<'f, 'a> {
     alloc: Global,
     first: &'f Fault,
     rest: Vec<Fault>,
+    /// The words that mends took out until the sources were files.
+    taken: BTreeSet<&'a str>,
+}
+
+/// Whether a fault is one of a text that spells no file. These are 3 to 7.
+fn is_of_text(fault: &Fault) -> bool {
+    matches!(fault.number(), 3..=7)
 }
 
 /// The fault at another place; one that has none stays as it is.
@@ -33,63 +40,31 @@ fn at_place(fault: Fault, file: usize, offset: usize) -> Fault {
     }
 }
 
+/// The source of a fault, and its offset there. One that has none comes behind those that have one.
+pub(crate) fn place_of(fault: &Fault) -> (usize, usize) {
+    let file = fault.file().unwrap_or(usize::MAX);
+    (file, fault.offset().unwrap_or(usize::MAX))
+}
+
 /// Whether a fault is told by another one. Cycles are told by their names, and none comes twice.
 fn is_same(told: &Fault, fault: &Fault) -> bool {
     let is_cycle = matches!(fault, Fault::Cycle { .. });
-    let (number, file, offset) = (fault.number(), fault.file(), fault.offset());
-    !is_cycle && told.number() == number && told.file() == file && told.offset() == offset
+    !is_cycle && told.number() == fault.number() && place_of(told) == place_of(fault)
 }
 
-/// Whether a fault is one of a text that spells no file. These are 3 to 7.
-pub(crate) fn is_of_text(fault: &Fault) -> bool {
-    matches!(fault.number(), 3..=7)
-}
-
-/// The first fault of drafts as they are mended; none where they spell a package.
-fn first_fault(alloc: Global, drafts: &[Draft<'_>]) -> Result<Option<Fault>, AllocError> {
-    let texts = drafts.iter().map(|draft| draft.mended(alloc));
-    let texts: Vec<Vec<u8>> = texts.try_collect(alloc)?;
-    match accepted_package(alloc, &slices_of(alloc, &texts)?) {
-        Ok(_) => Ok(None),
-        Err(Fault::OutOfMemory) => Err(AllocError),
-        Err(fault) => Ok(Some(fault)),
-    }
-}
-
-/// A fault of drafts by its place in its source, and whether the sources have it as they are: a name whose word was taken out of them may
-/// be declared there. None where mends have made it. Nor is it known, where words were taken out, which structs are joined, and which
-/// definitions reach themselves.
-fn original(
-    drafts: &[Draft<'_>],
-    fault: Fault,
-    taken: Option<&BTreeSet<&str>>,
-) -> Option<(Fault, bool)> {
-    let (file, at) = match fault {
-        Fault::UnknownName { file, offset } | Fault::FieldReference { file, offset } => {
-            (file, offset)
+impl<'f, 'a> Told<'f, 'a> {
+    /// The first fault of drafts as they are mended; none where they spell a package, or where no more faults are told.
+    fn next_fault(&self, drafts: &[Draft<'_>]) -> Result<Option<Fault>, AllocError> {
+        if self.rest.len() >= MOST_FAULTS - 1 {
+            return Ok(None);
         }
-        Fault::NotOpened { file, offset } if taken.is_none() => (file, offset),
-        Fault::Cycle { .. } | Fault::ChainTooLong { .. } if taken.is_none() => {
-            return Some((fault, true));
+        let texts = drafts.iter().map(|draft| draft.mended(self.alloc));
+        let texts: Vec<Vec<u8>> = texts.try_collect(self.alloc)?;
+        match accepted_package(self.alloc, &slices_of(self.alloc, &texts)?) {
+            Ok(_) => Ok(None),
+            Err(Fault::OutOfMemory) => Err(AllocError),
+            Err(fault) => Ok(Some(fault)),
         }
-        _ => return None,
-    };
-    let draft = drafts.get(file)?;
-    let (offset, is_mended) = draft.origin(at);
-    let word = draft.source.token(draft.source.place_at(offset)).text;
-    let is_certain = taken.is_none_or(|words| !words.contains(word));
-    (!is_mended).then_some((at_place(fault, file, offset), is_certain))
-}
-
-impl<'f> Told<'f> {
-    pub(crate) fn new(alloc: Global, first: &'f Fault) -> Told<'f> {
-        let rest = Vec::new(alloc);
-        Told { alloc, first, rest }
-    }
-
-    /// Whether no more faults are told.
-    fn is_full(&self) -> bool {
-        self.rest.len() >= MOST_FAULTS - 1
     }
 
     /// Tells a fault, and says whether it is new.
@@ -105,31 +80,26 @@ impl<'f> Told<'f> {
     /// Tells the faults of a text, and says whether it spells a file with all of them mended. Where no further place is at fault, more is
     /// taken out at the last one.
     fn tell_text(&mut self, draft: &mut Draft<'_>) -> Result<bool, AllocError> {
-        let file = draft.source.file;
         // The last place that was told: whether the text was cut into tokens there, which it is first, and the offset.
         let mut reached = None;
         let mut made = 0usize;
         for _ in 0..MOST_READS {
-            if self.is_full() {
-                return Ok(false);
-            }
-            let found = first_fault(self.alloc, slice::from_ref(&*draft))?;
+            let found = self.next_fault(slice::from_ref(&*draft))?;
             let Some(fault) = found.filter(is_of_text) else {
                 return Ok(true);
             };
             let Some(at) = fault.offset() else {
-                self.tell(at_place(fault, file, 0))?;
+                self.tell(at_place(fault, draft.source.file, 0))?;
                 return Ok(false);
             };
             let (offset, is_mended) = draft.origin(at);
             let is_cut = matches!(fault, Fault::Syntax { .. } | Fault::LeftOut { .. });
             let here = Some((is_cut, offset));
+            made = made.saturating_add(1);
             if !is_mended && reached < here {
                 reached = here;
                 made = 0;
-                self.tell(at_place(fault, file, offset))?;
-            } else {
-                made = made.saturating_add(1);
+                self.tell(at_place(fault, draft.source.file, offset))?;
             }
             let Some(mend) = mend_at(&draft.source, offset, made) else {
                 return Ok(false);
@@ -139,54 +109,73 @@ impl<'f> Told<'f> {
         Ok(false)
     }
 
-    /// Tells the faults of texts, one text after another, and then those of names, where each text spells a file with its faults mended.
-    pub(crate) fn tell_texts(&mut self, drafts: &mut [Draft<'_>]) -> Result<(), AllocError> {
-        let mut are_files = true;
-        let mut taken = BTreeSet::new(self.alloc);
-        for draft in drafts.iter_mut() {
-            are_files = self.tell_text(draft)? && are_files;
-            draft.put_taken(&mut taken)?;
-        }
-        if are_files {
-            self.tell_package(drafts, Some(&taken))?;
-        }
-        Ok(())
+    /// A fault of drafts by its place in its source, and whether the sources have it as they are: a name whose word was taken out of them
+    /// may be declared there. None where mends have made it. Nor is it known, where words were taken out, which structs are joined, and
+    /// which definitions reach themselves.
+    fn original(&self, drafts: &[Draft<'_>], fault: Fault) -> Option<(Fault, bool)> {
+        let are_whole = !is_of_text(self.first);
+        let is_known = match fault {
+            Fault::UnknownName { .. } | Fault::FieldReference { .. } => true,
+            Fault::NotOpened { .. } | Fault::Cycle { .. } | Fault::ChainTooLong { .. } => are_whole,
+            _ => false,
+        };
+        let (file, at) = place_of(&fault);
+        let Some(draft) = drafts.get(file) else {
+            return is_known.then_some((fault, true));
+        };
+        let (offset, is_mended) = draft.origin(at);
+        let word = draft.source.token(draft.source.place_at(offset)).text;
+        let is_taken = self.taken.contains(word);
+        (is_known && !is_mended).then_some((at_place(fault, file, offset), !is_taken))
     }
 
-    /// Tells the faults of the package that drafts spell. Where words were taken out of the sources, names alone are told, but for these
-    /// words.
-    pub(crate) fn tell_package(
-        &mut self,
-        drafts: &mut [Draft<'_>],
-        taken: Option<&BTreeSet<&str>>,
-    ) -> Result<(), AllocError> {
+    /// Tells and mends the next fault of a package, and says whether to look for others.
+    fn tell_next(&mut self, drafts: &mut [Draft<'_>]) -> Result<bool, AllocError> {
+        let Some(fault) = self.next_fault(drafts)? else {
+            return Ok(false);
+        };
+        let Some((fault, is_certain)) = self.original(drafts, fault) else {
+            return Ok(false);
+        };
+        let is_mended = mend_fault(drafts, &fault)?;
+        Ok((!is_certain || self.tell(fault)?) && is_mended)
+    }
+
+    /// Tells the faults behind the first one: those of texts, one text after another, and then those of the package, where each text spells
+    /// a file with its faults mended. Where words were taken out of the sources, names alone are told of it, but for these words.
+    fn tell_further(&mut self, drafts: &mut [Draft<'a>]) -> Result<(), AllocError> {
+        let mut goes_on = true;
+        if is_of_text(self.first) {
+            for draft in drafts.iter_mut() {
+                goes_on = self.tell_text(draft)? && goes_on;
+                draft.put_taken(&mut self.taken)?;
+            }
+        } else {
+            goes_on = mend_fault(drafts, self.first)?;
+        }
         for _ in 0..MOST_READS {
-            if self.is_full() {
-                return Ok(());
-            }
-            let Some(fault) = first_fault(self.alloc, drafts)? else {
-                return Ok(());
-            };
-            let Some((fault, is_certain)) = original(drafts, fault, taken) else {
-                return Ok(());
-            };
-            let is_mended = mend_fault(drafts, &fault)?;
-            let is_further = !is_certain || self.tell(fault)?;
-            if !is_mended || !is_further {
-                return Ok(());
-            }
+            goes_on = goes_on && self.tell_next(drafts)?;
         }
         Ok(())
     }
+}
 
-    /// The faults behind the first one, by their sources and their places there; one without a place comes behind those that have
-    /// one.
-    pub(crate) fn in_order(self) -> Result<Vec<Fault>, AllocError> {
-        let mut rest = self.rest;
-        rest.sort_by_key(|fault| {
-            let file = fault.file().unwrap_or(usize::MAX);
-            (file, fault.offset().unwrap_or(usize::MAX))
-        })?;
-        Ok(rest)
+/// The faults behind the first one, in the order of their places; none where what that is about isn't a place that can be mended.
+pub(crate) fn further_faults(
+    alloc: Global,
+    sources: &[&[u8]],
+    first: &Fault,
+) -> Result<Vec<Fault>, AllocError> {
+    let mut told = Told {
+        alloc,
+        first,
+        rest: Vec::new(alloc),
+        taken: BTreeSet::new(alloc),
+    };
+    if matches!(first.number(), 3..=7 | 9..=12) {
+        told.tell_further(&mut Draft::each(alloc, sources)?)?;
     }
+    let mut rest = told.rest;
+    rest.sort_by_key(place_of)?;
+    Ok(rest)
 }

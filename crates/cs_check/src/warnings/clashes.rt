@@ -15,25 +15,20 @@ fn kind_of(shape: &Shape) -> Option<JsonKind> {
 }
 
 fn kind_of_simple(simple: Simple<'_>) -> Option<JsonKind> {
-    match simple {
-        Simple::Literal(literal) => Some(kind_of_literal(literal)),
-        Simple::Excluded(Literal::Null) | Simple::Top | Simple::Bottom => None,
-        Simple::Excluded(literal) => Some(kind_of_literal(literal)),
-        Simple::Kind(Kind::Bool) => Some(JsonKind::Boolean),
-        Simple::Kind(Kind::Text) => Some(JsonKind::String),
+    Some(match simple {
+        Simple::Top | Simple::Bottom | Simple::Excluded(Literal::Null) => return None,
+        Simple::Literal(literal) | Simple::Excluded(literal) => match literal {
+            Literal::Null => JsonKind::Null,
+            Literal::Bool(_) => JsonKind::Boolean,
+            Literal::Int(_) => JsonKind::Integer,
+            Literal::Text(_) => JsonKind::String,
+        },
+        Simple::Kind(Kind::Bool) => JsonKind::Boolean,
+        Simple::Kind(Kind::Text) => JsonKind::String,
         Simple::Kind(Kind::Int | Kind::Number) | Simple::Range { .. } | Simple::Bound { .. } => {
-            Some(JsonKind::Integer)
+            JsonKind::Integer
         }
-    }
-}
-
-fn kind_of_literal(literal: Literal<'_>) -> JsonKind {
-    match literal {
-        Literal::Null => JsonKind::Null,
-        Literal::Bool(_) => JsonKind::Boolean,
-        Literal::Int(_) => JsonKind::Integer,
-        Literal::Text(_) => JsonKind::String,
-    }
+    })
 }
 
 /// The integers that an expression admits, by their ends; those of an empty interval where there is none.
@@ -41,29 +36,21 @@ fn ends_of(shape: &Shape) -> (i64, i64) {
     match shape {
         Shape::Int(n) => (*n, *n),
         Shape::Range { least, greatest } => (*least, greatest.unwrap_or(i64::MAX)),
-        Shape::Bound { relation, limit } => match relation {
-            Relation::AtLeast => (*limit, i64::MAX),
-            Relation::AtMost => (i64::MIN, *limit),
-            Relation::More if *limit < i64::MAX => (*limit + 1, i64::MAX),
-            Relation::Less if *limit > i64::MIN => (i64::MIN, *limit - 1),
-            Relation::More | Relation::Less => (i64::MAX, i64::MIN),
-        },
+        Shape::Bound { relation, limit } => {
+            ends_of_bound(*relation, *limit).unwrap_or((i64::MAX, i64::MIN))
+        }
         _ => (i64::MIN, i64::MAX),
     }
 }
 
-/// Whether an expression leaves out a value of its kind by another one that it names.
-fn leaves_out(shape: &Shape, value: Literal<'_>) -> bool {
-    shape.literal().is_some_and(|other| other != value) || shape.excluded() == Some(value)
-}
-
-/// The integers that all operands admit, by their ends.
-fn limits_of(operands: &[Operand<'_>]) -> (i64, i64) {
-    let all = (i64::MIN, i64::MAX);
-    operands.iter().fold(all, |(least, greatest), operand| {
-        let (from, to) = ends_of(operand.shape);
-        (from.max(least), to.min(greatest))
-    })
+/// The same of a bound; none where no integer is within it.
+fn ends_of_bound(relation: Relation, limit: i64) -> Option<(i64, i64)> {
+    match relation {
+        Relation::AtLeast => Some((limit, i64::MAX)),
+        Relation::AtMost => Some((i64::MIN, limit)),
+        Relation::More => Some((limit.checked_add(1)?, i64::MAX)),
+        Relation::Less => Some((i64::MIN, limit.checked_sub(1)?)),
+    }
 }
 
 /// Why no document meets all of the operands, as far as it is seen without looking at its parts.
@@ -73,16 +60,23 @@ pub(crate) fn clash<'a>(operands: &[Operand<'a>]) -> Option<Reason<'a>> {
     if kinds.any(|other| other != kind) {
         return Some(Reason::Kinds);
     }
-    let (least, greatest) = limits_of(operands);
+    // The integers that all operands admit, by their ends.
+    let (mut least, mut greatest) = (i64::MIN, i64::MAX);
+    for operand in operands {
+        let (from, to) = ends_of(operand.shape);
+        least = from.max(least);
+        greatest = to.min(greatest);
+    }
     let last = (least == greatest).then_some(Literal::Int(least));
     let named = operands.iter().find_map(|operand| operand.shape.literal());
     if let Some(value) = named.or(last) {
-        let is_left_out = |operand: &Operand<'_>| leaves_out(operand.shape, value);
-        let is_null = value == Literal::Null;
-        let reason = if is_null {
-            Reason::Kinds
-        } else {
-            Reason::Literals
+        let is_left_out = |operand: &Operand<'_>| {
+            operand.shape.literal().unwrap_or(value) != value
+                || operand.shape.excluded() == Some(value)
+        };
+        let reason = match value {
+            Literal::Null => Reason::Kinds,
+            Literal::Bool(_) | Literal::Int(_) | Literal::Text(_) => Reason::Literals,
         };
         return (least > greatest || operands.iter().any(is_left_out)).then_some(reason);
     }

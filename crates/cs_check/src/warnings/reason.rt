@@ -1,37 +1,27 @@
 // The line of a warning: that no document is an instance of a definition, and why.
 use crate::warnings::Warning;
-use cs_advice::{put_offset, put_quoted};
+use cs_advice::{put_all, put_offset, put_quoted};
 use cs_guard::Guarded;
-use cs_package::Package;
+use cs_package::{Package, Shape};
 use cs_sources::Declared;
 use std::alloc::AllocError;
 
-/// Why no document is an instance of a definition, as far as one reason was found.
+/// Why no document is an instance of a definition, as far as one reason was found. `put` says what each means.
 #[derive(Clone, Copy, PartialEq, Eq)]
 pub(crate) enum Reason<'a> {
-    /// `_|_` is asked for.
     Bottom,
-    /// Different kinds of documents are asked for.
     Kinds,
-    /// The limits leave no integer.
     Interval,
-    /// Different literals are asked for, or a literal and what leaves it out.
+    /// Also a literal and what leaves it out.
     Literals,
-    /// The lists have no length in common.
     Lengths,
-    /// A key is required that a closed struct in a body of the definition of that name doesn't allow.
+    /// The closed struct is in a body of the definition of that name.
     MissingKey { key: &'a str, closed: &'a str },
-    /// Nothing may stand under a required key.
     Field { key: &'a str },
-    /// Nothing may stand at a place of a list.
     Element { place: usize },
-    /// Each alternative has no instance by itself.
     Alternatives,
-    /// Each alternative has no instance together with what else is asked.
     Together,
-    /// Each instance would need another one inside.
     Itself,
-    /// The definition of that name, which is referred to, has no instance.
     Through { name: &'a str },
 }
 
@@ -63,7 +53,10 @@ impl<'a> Reason<'a> {
             Reason::Lengths => text.push_str("its lists have different lengths"),
             Reason::MissingKey { key, closed } => {
                 put_quoted(text, "it requires ", key)?;
-                write!(text, ", and {closed}, which is closed, doesn't allow it")
+                put_all(
+                    text,
+                    &[", and ", closed, ", which is closed, doesn't allow it"],
+                )
             }
             Reason::Field { key } => put_quoted(text, "nothing may stand under its key ", key),
             Reason::Element { place } => {
@@ -72,17 +65,17 @@ impl<'a> Reason<'a> {
             Reason::Alternatives => text.push_str("none of its alternatives has an instance"),
             Reason::Together => text.push_str("none of its alternatives meets what else it asks"),
             Reason::Itself => text.push_str("each instance would need another one inside it"),
-            Reason::Through { name } => write!(text, "it refers to {name}, which has none"),
+            Reason::Through { name } => put_all(text, &["it refers to ", name, ", which has none"]),
         }
     }
 }
 
-/// The name of a definition with its `#`; an empty one where there is no such definition.
-pub(crate) fn name_of(package: &Package, definition: usize) -> &str {
+/// The name of a definition with its `#`, and its bodies; nothing where there is no such definition.
+pub(crate) fn definition_at(package: &Package, definition: usize) -> (&str, &[Shape]) {
     if definition < package.count() {
-        package.name(definition)
+        (package.name(definition), package.bodies(definition))
     } else {
-        ""
+        ("", &[])
     }
 }
 
@@ -93,11 +86,11 @@ pub(crate) fn put_warning(
     declared: &Declared<'_, '_>,
     text: &mut String,
 ) -> Result<(), AllocError> {
-    let name = name_of(package.package(), warning.definition);
+    let (name, _) = definition_at(package.package(), warning.definition);
     if let Some(first) = declared.of(name) {
         put_offset(text, first.source.named, first.here().start)?;
     }
-    write!(text, "warning: no document is an instance of {name}")?;
+    put_all(text, &["warning: no document is an instance of ", name])?;
     if let Some(reason) = warning.reason {
         text.push_str(": ")?;
         reason.put(text)?;

@@ -1,7 +1,7 @@
 // Why definitions that have no instance have none: in words, of which nothing is proved.
 use crate::warnings::clashes::clash;
-use crate::warnings::operands::{Operand, fields_of, joined, lengths_of, put_shapes};
-use crate::warnings::reason::{Reason, name_of};
+use crate::warnings::operands::{Fields, Operand, lengths_of, put_shapes};
+use crate::warnings::reason::{Reason, definition_at};
 use cs_package::{Package, Shape};
 use std::alloc::{AllocError, Global};
 use std::collections::BTreeSet;
@@ -27,20 +27,22 @@ pub(crate) struct Search<'a, 'e> {
     empty: &'e [bool],
     /// The definition that is asked about.
     root: usize,
-    /// The steps that are left for it, and for all.
+    /// The steps that are left for it, and for all others.
     left: usize,
-    left_of_all: usize,
+    left_of_others: usize,
 }
 
-/// Operands without references and conjunctions: those that have no alternatives, and those that have.
+/// Operands in the place of references and conjunctions.
 #[derive(Drop)]
 struct Opened<'a> {
+    waiting: Vec<Operand<'a>>,
+    /// The definitions that were referred to.
+    seen: BTreeSet<usize>,
+    /// Those that have no alternatives, and those that have.
     simple: Vec<Operand<'a>>,
     choices: Vec<Operand<'a>>,
-    /// Why one of the operands has no instance by itself.
+    /// Why one of them has no instance by itself.
     never: Option<Reason<'a>>,
-    /// Whether the steps were enough.
-    is_whole: bool,
 }
 
 impl<'a, 'e> Search<'a, 'e> {
@@ -51,132 +53,112 @@ impl<'a, 'e> Search<'a, 'e> {
             empty,
             root: 0,
             left: 0,
-            left_of_all: MOST_OF_ALL,
+            left_of_others: MOST_OF_ALL,
         }
     }
 
     /// Why nothing is an instance of a definition; none where no reason is found within the limits.
     pub(crate) fn why_empty(&mut self, definition: usize) -> Found<'a> {
-        let most = self.left_of_all.min(MOST_OF_ONE);
+        let left = self.left_of_others.saturating_add(self.left);
+        self.left = left.min(MOST_OF_ONE);
+        self.left_of_others = left.saturating_sub(self.left);
         self.root = definition;
-        self.left = most;
+        let (name, bodies) = definition_at(self.package, definition);
         let mut operands = Vec::new(self.alloc);
-        self.put_bodies(&mut operands, definition)?;
-        let found = self.why(&operands, MOST_DEPTH)?;
-        let taken = most.saturating_sub(self.left);
-        self.left_of_all = self.left_of_all.saturating_sub(taken);
-        Ok(found)
+        put_shapes(&mut operands, bodies, name)?;
+        self.why(&operands, &[], MOST_DEPTH)
     }
 
-    /// Adds the bodies of a definition.
-    fn put_bodies(
-        &self,
-        operands: &mut Vec<Operand<'a>>,
-        definition: usize,
-    ) -> Result<(), AllocError> {
-        let package = self.package;
-        let name = name_of(package, definition);
-        if definition < package.count() {
-            put_shapes(operands, package.bodies(definition), name)?;
-        }
-        Ok(())
-    }
-
-    /// Why a reference to a definition has no instance, where that has none.
-    fn why_reference(&self, definition: usize) -> Option<Reason<'a>> {
-        let name = name_of(self.package, definition);
-        match self.empty.get(definition) {
-            Some(true) if definition == self.root => Some(Reason::Itself),
-            Some(true) => Some(Reason::Through { name }),
-            Some(false) | None => None,
-        }
-    }
-
-    /// The operands in the place of references and conjunctions.
-    fn open(&mut self, operands: &[Operand<'a>]) -> Result<Opened<'a>, AllocError> {
+    /// Opens these operands and others, as far as the steps are enough, and until one is found that has no instance by itself.
+    fn open(
+        &mut self,
+        operands: &[Operand<'a>],
+        others: &[Operand<'a>],
+    ) -> Result<Opened<'a>, AllocError> {
         let mut opened = Opened {
+            waiting: Vec::from_slice(self.alloc, operands)?,
+            seen: BTreeSet::new(self.alloc),
             simple: Vec::new(self.alloc),
             choices: Vec::new(self.alloc),
             never: None,
-            is_whole: false,
         };
-        let mut waiting = Vec::from_slice(self.alloc, operands)?;
-        let mut seen = BTreeSet::new(self.alloc);
+        opened.waiting.extend_from_slice(others)?;
         for place in 0..self.left {
-            let Some(operand) = waiting.get(place).copied() else {
-                opened.is_whole = true;
-                return Ok(opened);
+            let Some(operand) = opened.waiting.get(place).copied() else {
+                break;
             };
             self.left = self.left.saturating_sub(operand.cost());
-            match operand.shape {
-                Shape::Bottom => opened.never = Some(Reason::Bottom),
-                Shape::Definition(number) => {
-                    opened.never = self.why_reference(*number);
-                    if opened.never.is_none() && seen.insert(*number)? {
-                        self.put_bodies(&mut waiting, *number)?;
-                    }
-                }
-                Shape::And(shapes) => put_shapes(&mut waiting, shapes, operand.definition)?,
-                Shape::Or(_) => opened.choices.push(operand)?,
-                _ => opened.simple.push(operand)?,
-            }
+            self.open_one(&mut opened, operand)?;
             if self.left == 0 || opened.never.is_some() {
-                return Ok(opened);
+                break;
             }
         }
         Ok(opened)
     }
 
-    /// Why no document meets all of these operands.
+    /// Opens one of the operands that are waiting.
+    fn open_one(&self, opened: &mut Opened<'a>, operand: Operand<'a>) -> Result<(), AllocError> {
+        match operand.shape {
+            Shape::Bottom => opened.never = Some(Reason::Bottom),
+            Shape::Definition(number) => {
+                let (name, bodies) = definition_at(self.package, *number);
+                if self.empty.get(*number) != Some(&true) {
+                    if opened.seen.insert(*number)? {
+                        put_shapes(&mut opened.waiting, bodies, name)?;
+                    }
+                } else if *number == self.root {
+                    opened.never = Some(Reason::Itself);
+                } else {
+                    opened.never = Some(Reason::Through { name });
+                }
+            }
+            Shape::And(shapes) => put_shapes(&mut opened.waiting, shapes, operand.definition)?,
+            Shape::Or(_) => opened.choices.push(operand)?,
+            _ => opened.simple.push(operand)?,
+        }
+        Ok(())
+    }
+
+    /// Why no document meets all of these operands and of others.
     #[cycle(why)]
-    fn why(&mut self, operands: &[Operand<'a>], depth: usize) -> Found<'a> {
-        if depth == 0 {
+    fn why(&mut self, operands: &[Operand<'a>], others: &[Operand<'a>], depth: usize) -> Found<'a> {
+        if depth == 0 || self.left == 0 {
             return Ok(None);
         }
-        let opened = self.open(operands)?;
+        let opened = self.open(operands, others)?;
         let known = clash(&opened.simple).or(opened.never);
-        if known.is_some() || !opened.is_whole {
+        if known.is_some() || self.left == 0 {
             return Ok(known);
         }
-        let found = self.why_inside(&opened.simple, depth - 1)?;
-        if found.is_some() {
-            return Ok(found);
+        match self.why_inside(&opened.simple, depth - 1)? {
+            Some(reason) => Ok(Some(reason)),
+            None => self.why_choice(opened, depth - 1),
         }
-        self.why_choice(opened, depth - 1)
     }
 
     /// Why nothing may stand at a place of a list, or under a required key, where all operands admit documents of one kind.
     #[cycle(why)]
     fn why_inside(&mut self, operands: &[Operand<'a>], depth: usize) -> Found<'a> {
         let (length, _) = lengths_of(operands);
-        if length > 0 {
-            return self.why_elements(operands, length, depth);
+        for place in 0..length {
+            if self.left == 0 {
+                return Ok(None);
+            }
+            let asked = operands.iter().filter_map(|list| list.element_at(place));
+            let asked: Vec<Operand<'a>> = asked.collect(self.alloc)?;
+            if let Some(reason) = self.why(&asked, &[], depth)? {
+                return Ok(Some(reason.around(Reason::Element { place })));
+            }
         }
-        let fields = fields_of(self.alloc, operands)?;
+        let fields = Fields::of(self.alloc, operands)?;
         if let Some(reason) = fields.missing_key() {
             return Ok(Some(reason));
         }
         for (key, field) in &fields.labelled {
-            if field.is_required && self.left > 0 {
-                let asked = joined(self.alloc, &field.operands, &fields.every)?;
-                if let Some(reason) = self.why(&asked, depth)? {
-                    return Ok(Some(reason.around(Reason::Field { key: *key })));
-                }
-            }
-        }
-        Ok(None)
-    }
-
-    /// Why nothing may stand at one of the first places of a list.
-    #[cycle(why)]
-    fn why_elements(&mut self, lists: &[Operand<'a>], length: usize, depth: usize) -> Found<'a> {
-        for place in 0..length {
-            if self.left > 0 {
-                let asked = lists.iter().filter_map(|list| list.element_at(place));
-                let asked: Vec<Operand<'a>> = asked.collect(self.alloc)?;
-                if let Some(reason) = self.why(&asked, depth)? {
-                    return Ok(Some(reason.around(Reason::Element { place })));
-                }
+            if field.is_required
+                && let Some(reason) = self.why(&field.operands, &fields.every, depth)?
+            {
+                return Ok(Some(reason.around(Reason::Field { key: *key })));
             }
         }
         Ok(None)
@@ -184,22 +166,20 @@ impl<'a, 'e> Search<'a, 'e> {
 
     /// Why no alternative of the last choice meets all other operands: what the reasons of all have in common.
     #[cycle(why)]
-    fn why_choice(&mut self, mut opened: Opened<'a>, depth: usize) -> Found<'a> {
-        let Some(choice) = opened.choices.pop() else {
-            return Ok(None);
-        };
-        let definition = choice.definition;
-        let Shape::Or(alternatives) = choice.shape else {
-            return Ok(None);
-        };
-        let others = joined(self.alloc, &opened.simple, &opened.choices)?;
+    fn why_choice(&mut self, opened: Opened<'a>, depth: usize) -> Found<'a> {
+        let (mut others, mut choices) = (opened.simple, opened.choices);
         let mut common = None;
-        for shape in alternatives {
-            let asked = joined(self.alloc, &others, &[Operand { shape, definition }])?;
-            let Some(reason) = self.why(&asked, depth)? else {
-                return Ok(None);
-            };
-            common = Some(reason.in_common(common));
+        if let Some(choice) = choices.pop()
+            && let Shape::Or(alternatives) = choice.shape
+        {
+            others.extend_from_slice(&choices)?;
+            for shape in alternatives {
+                let asked = [Operand { shape, ..choice }];
+                let Some(reason) = self.why(&others, &asked, depth)? else {
+                    return Ok(None);
+                };
+                common = Some(reason.in_common(common));
+            }
         }
         Ok(match common {
             Some(reason) if others.is_empty() => Some(reason.around(Reason::Alternatives)),

@@ -13,9 +13,9 @@ module _ (E : Environment) (empty : List Bool) (sound : (i : ℕ) → slice_get 
   each [] h = tt
   each (w ∷ ws) h = (sound w.definition h.0, each ws h.1)
 
-pub returns : goal.returns
-returns c =
+pub returns-in-Ok : goal.returns-in-Ok
+returns-in-Ok c =
     let E = c.args.«package».now in
     let sound : (i : ℕ) → slice_get c.deref.result.now i ≡ Some true → HasNoDocument E i
-    = subst (λ es. (i : ℕ) → slice_get es i ≡ Some true → HasNoDocument E i) (sym c.deref.ensures.value) c.in_ok-empty.ensures in
+    = subst (λ es. (i : ℕ) → slice_get es i ≡ Some true → HasNoDocument E i) (sym c.deref.ensures.value) c.in-Ok.ensures.none in
     record { none = IfOk-weaker c.told.result _ _ (λ v h. each E c.deref.result.now sound v.items h) c.told.ensures }

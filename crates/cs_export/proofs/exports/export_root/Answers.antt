@@ -1,7 +1,7 @@
 use Rattle.std.proofs.Common.{◌≡◌, ℕ, ◌≤◌, Vec, sym, ap, ◌∙◌, subst, if◌then◌else◌, arith}
 use Rattle.std.proofs.lemmas.Result.{IfOk-weaker}
 use Rattle.std.specs.declared.alloc.Global.{Global}
-use Rattle.cs_doc.specs.Texts.{Reads}
+use Rattle.cs_json.specs.Texts.{Reads}
 use Rattle.cs_document.specs.Document.{depth}
 use Rattle.cs_schema.specs.Root.{with_definitions}
 use Rattle.cs_schema.specs.SchemaDocument.{document_of, definitions_view, unless_no_map}

@@ -1,7 +1,7 @@
 use Rattle.std.proofs.Common.{◌≡◌, ℕ, suc, ◌≤◌, false, Vec, sym, ap, ◌∙◌, subst, if◌then◌else◌}
 use Rattle.std.proofs.lemmas.Result.{IfOk-weaker}
 use Rattle.std.specs.declared.alloc.Global.{Global}
-use Rattle.cs_doc.specs.Texts.{text_of}
+use Rattle.cs_json.specs.Texts.{text_of}
 use Rattle.cs_document.specs.Document.{Document, depth}
 use Rattle.cs_document.specs.View.{doc_view}
 use Rattle.cs_schema.specs.Profile.{IsSchema}

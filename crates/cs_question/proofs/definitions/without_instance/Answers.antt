@@ -8,6 +8,7 @@ use Rattle.cs_instance.specs.Steps.{numbered}
 use Rattle.cs_question.specs.Nodes.{asked_of, Says}
 use Rattle.cs_question.specs.Truth.{IsMetByNone}
 use Rattle.cs_question.specs.declared.nodes.Nodes.{Nodes}
+use Rattle.cs_question.proofs.Answered.{no_document}
 use Rattle.cs_question.proofs.Rooted.{no_instance, is_false}
 use Rattle.cs_question.proofs.definitions.without_instance.Goals as goal
 
@@ -28,5 +29,5 @@ returns-clause-none c = λ i e.
       name = name_of E i;
       at = name_within E i within;
       none = λ I inst x d. is_false (I (definition (name_of E i)) x)
-          (no_instance E w.all all.numbering.rules.items all.numbering.children.items w.numbering I inst ns table c.in_ok-table.ensures.ended c.in_ok-table.ensures.rest none.asked none.shut first (name_of E i) (slice_index all.numbers.items i) (w.each i within) c.new.ensures.items none.only x d);
+          (no_instance E w.all all.numbering.rules.items all.numbering.children.items w.numbering I inst ns none.asked (λ J m. no_document ns table c.in_ok-table.ensures.ended c.in_ok-table.ensures.rest J m none.asked none.shut) first (name_of E i) (slice_index all.numbers.items i) (w.each i within) c.new.ensures.items none.only x d);
     }

@@ -16,7 +16,7 @@ loop-place-preserved c = λ J ys i y l got f.
       | inl k ↦ e.kept J (spread_list c.args.count ys) (c.loop-place.invariant J ys i y k got f)
       | inr k ↦
           let same : i ≡ p = omega (arith, l, k) in
-          e.all J ys c.args.count y c.loop-place-test.true (subst (λ j. slice_get ys j ≡ Some y) same got)
+          e.all J ys i y (omega (arith, k)) (λ _. same) got
           (subst (λ x. fits (λ z q. J c.args.literal.side q z) x y ≡ false) (sym c.element_in.ensures) (subst (λ j. fits (λ z q. J c.args.literal.side q z) (element_at c.args.front.now (end_of c.args.end) j) y ≡ false) same f))
     ]
 
@@ -25,8 +25,8 @@ returns c = λ J ys l h.
     let front = c.requires.front in
     let inside : Document → ℕ → Bool = λ z q. J c.args.literal.side q z in
     let r = fails inside c.args.front.now (end_of c.args.end) ys (omega (arith, front, l)) h in
-    let e = c.in_ok-add_way_behind.ensures in
+    let e = c.in_ok-add_way-2.ensures in
     elim (cases_lt r.0 c.args.count) [
       | inl k ↦ e.kept J (spread_list c.args.count ys) (c.loop-place.invariant J ys r.0 r.1 (let t = c.loop-place-test.false in omega (arith, k, t)) r.2 r.3)
-      | inr k ↦ e.all J ys c.args.count r.0 r.1 k r.2 (subst (λ x. fits inside x r.1 ≡ false) (behind_is c.args.front.now (end_of c.args.end) r.0 (omega (arith, front, k)) ∙ sym c.behind.ensures) r.3)
+      | inr k ↦ e.all J ys r.0 r.1 k (λ l. absurd (omega (arith, l))) r.2 (subst (λ x. fits inside x r.1 ≡ false) (behind_is c.args.front.now (end_of c.args.end) r.0 (omega (arith, front, k)) ∙ sym c.behind.ensures) r.3)
     ]

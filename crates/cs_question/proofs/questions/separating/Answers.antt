@@ -1,15 +1,15 @@
-use Rattle.std.proofs.Common.{map, ap, ap₂, ◌∙◌, subst}
+use Rattle.std.proofs.Common.{is_some, map, ap, ap₂, ◌∙◌, subst}
 use Rattle.cs_guard.specs.Numbered.{name_of}
 use Rattle.cs_instance.specs.Instance.{definition}
 use Rattle.cs_instance.specs.Steps.{numbered}
 use Rattle.cs_question.specs.declared.nodes.Nodes.{Nodes}
 use Rattle.cs_question.specs.Nodes.{asked_of, Says}
-use Rattle.cs_question.specs.Truth.{IsShut}
+use Rattle.cs_question.specs.Truth.{IsMetByNoDocument}
 use Rattle.cs_question.proofs.Rooted.{same_name, no_separating}
 use Rattle.cs_question.proofs.questions.separating.Goals as goal
 
-pub returns-then-has_none-clause-none : goal.returns-then-has_none-clause-none
-returns-then-has_none-clause-none c = λ e I J n m x i j named other d sep.
+pub returns-in_default-clause-none : goal.returns-in_default-clause-none
+returns-in_default-clause-none c = λ e I J n m x i j named other d sep.
     let E = c.args.admitting.now in
     let F = c.args.refusing.now in
     let one = c.in_ok-first.first in
@@ -17,17 +17,16 @@ returns-then-has_none-clause-none c = λ e I J n m x i j named other d sep.
     let name = name_of E one.definition in
     let name' = name_of F two.definition in
     let ns : Nodes = record { admitting = c.in_ok-side_of.field-0; refusing = c.in_ok-side_of-2.field-0 } in
-    let table = c.in_ok-table.table in
     let asked = c.in_ok-asked.asked.items in
     let first : Says (map (numbered one.numbering.children.items) one.numbering.rules.items) (map asked_of ns.admitting.items) = subst (λ cs. Says cs (map asked_of ns.admitting.items)) (ap₂ (λ inner rules. map (numbered inner) rules) c.deref-2.ensures.value c.deref.ensures.value) c.in_ok-side_of.ensures in
     let second : Says (map (numbered two.numbering.children.items) two.numbering.rules.items) (map asked_of ns.refusing.items) = subst (λ cs. Says cs (map asked_of ns.refusing.items)) (ap₂ (λ inner rules. map (numbered inner) rules) c.deref-4.ensures.value c.deref-3.ensures.value) c.in_ok-side_of-2.ensures in
-    let shut = subst (IsShut table.entries.items) c.deref-6.ensures.value (c.has_none.ensures c.if-has_none.true) in
+    let none = subst (IsMetByNoDocument ns) c.deref-5.ensures.value (c.in_ok-doc.ensures.none (ap is_some c.in_default.is)) in
     let r = c.in_ok-first.ensures.rooted in
     let q = c.in_ok-second.ensures.rooted in
-    no_separating E r.all one.numbering.rules.items one.numbering.children.items r.numbering I i ns table c.in_ok-table.ensures.ended c.in_ok-table.ensures.rest asked shut first name one.number r.root
+    no_separating E r.all one.numbering.rules.items one.numbering.children.items r.numbering I i ns asked none first name one.number r.root
     F q.all two.numbering.rules.items two.numbering.children.items q.numbering name' two.number q.root J j second c.in_ok-asked.ensures x d
     (ap (λ k. I (definition k) x) (same_name E c.args.admitting_root.now name n c.in_ok-first.ensures.named named) ∙ sep.0.0)
     (ap (λ k. J (definition k) x) (same_name F c.args.refusing_root.now name' m c.in_ok-second.ensures.named other) ∙ sep.1.0)
 
-pub returns-then-branch-3-clause-one : goal.returns-then-branch-3-clause-one
-returns-then-branch-3-clause-one c = λ I J n m i j named other. ((c.in_ok-is_judged.ensures.judged c.if-branch.true I n i named, tt), (c.in_ok-is_judged-2.ensures.judged c.if-branch-2.true J m j other, tt))
+pub returns-then-branch-2-clause-one : goal.returns-then-branch-2-clause-one
+returns-then-branch-2-clause-one c = λ I J n m i j named other. ((c.in_ok-is_judged.ensures.judged c.if-branch.true I n i named, tt), (c.in_ok-is_judged-2.ensures.judged c.if-branch-2.true J m j other, tt))

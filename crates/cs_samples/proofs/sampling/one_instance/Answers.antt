@@ -5,7 +5,7 @@ use Rattle.cs_document.specs.Document.{Document}
 use Rattle.cs_document.specs.View.{doc_view}
 use Rattle.cs_instance.specs.Instance.{Rule, definition, IsInstance}
 use Rattle.cs_package.specs.Environment.{Names}
-use Rattle.cs_pretty.specs.Shown.{IsShown}
+use Rattle.cs_json.specs.Shown.{IsShown}
 use Rattle.cs_question.specs.ReadAgain.{IsReadAgain}
 use Rattle.cs_question.specs.Separates.{Separates}
 use Rattle.cs_samples.specs.Sample.{AreSamples, same_text}

@@ -1,7 +1,7 @@
 use Rattle.std.proofs.Common.{◌≤◌, sym, ap, subst, ◌∙◌}
 use Rattle.std.proofs.lemmas.Result.{err_from_is_err_and}
 use Rattle.cs_document.specs.Document.{depth}
-use Rattle.cs_doc.specs.Texts.{Reads, text_of}
+use Rattle.cs_json.specs.Texts.{Reads, text_of}
 use Rattle.cs_tool.specs.Conversions.{of_document, of_schema}
 use Rattle.cs_tool.proofs.exports.text_of_schema.Goals as goal
 

@@ -1,6 +1,6 @@
 use Rattle.std.proofs.Common.{◌≡◌, ℕ, Bool, true, false, List, sym, subst, ◌∙◌}
 use Rattle.std.proofs.lemmas.Result.{err_from_is_err_and}
-use Rattle.cs_doc.specs.ReadAs.{read_as}
+use Rattle.cs_json.specs.ReadAs.{read_as}
 use Rattle.cs_document.specs.Document.{Document}
 use Rattle.cs_package.specs.Environment.{Environment}
 use Rattle.cs_tool.specs.Headline.{IsExport, IsVerdict, IsValidated}

@@ -1,6 +1,6 @@
 use Rattle.std.proofs.Common.{◌≡◌, ℕ, false, List}
 use Rattle.std.proofs.lemmas.Result.{err_from_is_err_and}
-use Rattle.cs_doc.specs.ReadAs.{read_as}
+use Rattle.cs_json.specs.ReadAs.{read_as}
 use Rattle.cs_tool.specs.Accepted.{DeclaresRoot}
 use Rattle.cs_tool.specs.Ready.{IsReady, IsReadyToVet}
 use Rattle.cs_tool.specs.CallRefusals.{VetRefusal}

@@ -1,5 +1,5 @@
 use Rattle.std.proofs.Common.{List, ◌++◌, ◌∷◌, [], ap, ◌∙◌}
-use Rattle.cs_check.specs.declared.schema.flaw.Flaw.{Flaw}
+use Rattle.cs_check.specs.declared.schema.Flaw.{Flaw}
 use Rattle.cs_check.proofs.FlawLists.{one_twice}
 use Rattle.cs_check.proofs.schema.flaws.alone.Goals as goal
 

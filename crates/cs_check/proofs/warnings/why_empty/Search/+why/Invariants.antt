@@ -2,13 +2,10 @@ use Rattle.std.proofs.Common.{◌+◌, ◌*◌}
 use Rattle.cs_check.proofs.warnings.why_empty.Search.+why.Given as goal
 
 abbrev pub decreases-why : goal.decreases-why
-decreases-why l = 4 * l.depth
-
-abbrev pub decreases-why_elements : goal.decreases-why_elements
-decreases-why_elements l = 4 * l.depth + 1
+decreases-why l = 2 * l.depth
 
 abbrev pub decreases-why_inside : goal.decreases-why_inside
-decreases-why_inside l = 4 * l.depth + 2
+decreases-why_inside l = 2 * l.depth + 1
 
 abbrev pub decreases-why_choice : goal.decreases-why_choice
-decreases-why_choice l = 4 * l.depth + 2
+decreases-why_choice l = 2 * l.depth + 1
