@@ -5,7 +5,7 @@ passed, M failed`.
     tools/checks.py test PROGRAM            those that need no proof: what can be seen from the files, the tests of the crates `cs_rows*`
                                             unproved, and PROGRAM, which is built from its sources without the proofs first
     tools/checks.py prove PROGRAM           every proof from nothing by `rt ci` (tools/kit.py); the edits that edits/GATE names, as soon as it has proved
-                                            what they stand on; and the program that it built, PROGRAM, by the same checks
+                                            what they stand on; and PROGRAM, as soon as that is proved and built, by the same checks
     tools/checks.py program PROGRAM         the checks of a program alone
 
 JOBS=N: at most so many at once; without it as many as there are processors.
@@ -39,6 +39,7 @@ OF_FILES = [
     ["tools/contracts.sh"],
     ["tools/places.py"],
     ["tools/promises.py"],
+    ["tools/widened.py"],
 ]
 # What is asked of a program, the longest first.
 OF_PROGRAMS = [
@@ -115,36 +116,44 @@ def test(checks: Checks, pool: ThreadPoolExecutor, program: str) -> list[Future]
     return [*tested, *seen, *(of_program(checks, pool, program, PATIENCE="120") if built.result() else [])]
 
 
-class GateEdits:
-    """The edits of the gate, which are tried once all crates that they stand on are proved. They give way to the proofs, so that they
-    take the processors that these leave."""
+class Behind:
+    """What begins once `rt ci` has proved some crates, beside what is still to be proved."""
 
-    def __init__(self, checks: Checks, pool: ThreadPoolExecutor):
-        crates = kit.crates()
-        edited = {path.parent.name for path in edits.gate_paths()}
-        self.waits = edited.union(*({it.name for it in crates[name].below()} for name in edited))
-        self.checks, self.pool, self.tried = checks, pool, []
+    def __init__(self, waits: set[str], begin: Callable[[], list[Future]]):
+        self.waits, self.begin, self.begun = waits, begin, []
 
     def seen(self, line: str) -> None:
-        """A line of `rt ci`: where it was the last crate that they wait for, the edits begin."""
+        """A line of `rt ci`: where it was the last crate that is waited for, that begins."""
         proved = PROVED.fullmatch(line.rstrip("\n"))
         if proved and proved[1] in self.waits:
             self.waits.remove(proved[1])
             if not self.waits:
-                self.begin()
+                self.start()
 
-    def begin(self) -> None:
-        words = ["nice", "tools/edits.py", "--gate"]
-        self.tried.append(self.pool.submit(self.checks.run, words, JOBS=str(max(1, lanes() // 2))))
+    def start(self) -> None:
+        if not self.begun:
+            self.begun = self.begin()
 
 
 def prove(checks: Checks, pool: ThreadPoolExecutor, program: str) -> list[Future]:
-    given, tried = os.environ.get("JOBS"), GateEdits(checks, pool)
-    well = checks.follow(["tools/kit.py", "ci"], tried.seen, **({"RT_JOBS": given} if given else {}))
-    # Whatever `rt ci` said of crates on its way, all of them are proved now.
-    if well and not tried.tried:
-        tried.begin()
-    return [*tried.tried, *(of_program(checks, pool, program) if well else [])]
+    crates = kit.crates()
+    edited = {path.parent.name for path in edits.gate_paths()}
+    waits = edited.union(*({it.name for it in crates[name].below()} for name in edited))
+    # The edits give way to the proofs, so that they take the processors that these leave.
+    words = ["nice", "tools/edits.py", "--gate"]
+    tried = Behind(waits, lambda: [pool.submit(checks.run, words, JOBS=str(max(1, lanes() // 2)))])
+    shown = Behind({Path(program).name}, lambda: of_program(checks, pool, program, PATIENCE="60"))
+
+    def seen(line: str) -> None:
+        tried.seen(line)
+        shown.seen(line)
+
+    given = os.environ.get("JOBS")
+    if checks.follow(["tools/kit.py", "ci"], seen, **({"RT_JOBS": given} if given else {})):
+        # Whatever `rt ci` said of crates on its way, all of them are proved now.
+        tried.start()
+        shown.start()
+    return [*tried.begun, *shown.begun]
 
 
 def main(words: list[str]) -> int:

@@ -13,12 +13,12 @@ Edits of different functions are tried in one check: where each of these functio
 own edit, since the prover doesn't judge a function that calls one that isn't proved. Else they are tried apart.
 
 The gate proves no crate a second time: `rt ci` has just proved all of them, so of each crate the functions with edits alone are
-checked, over the libraries that it left in crates/*/out/rlib. Since each such check also proves what these functions call in the
-crate, a crate whose edits don't fit into one check is checked first as it is, and each edit over what that kept.
+checked, over the libraries that it left in crates/*/out/rlib. Each such check also proves what these functions call in the crate.
+Where the edits of a crate don't fit into one check, each check begins with what those before it proved, so the one whose functions
+call the most comes first.
 """
 from __future__ import annotations
 
-import contextlib
 import os
 import re
 import shutil
@@ -26,8 +26,7 @@ import subprocess
 import sys
 import tempfile
 import threading
-from collections import Counter, deque
-from collections.abc import Iterator
+from collections import Counter
 from dataclasses import dataclass
 from pathlib import Path
 
@@ -232,6 +231,8 @@ class Lane:
     proved: Path
     # Whether an edit counts too where it is refused only because a proof names what it took away, which says little of the contract.
     takes_names = True
+    # Whether no other lane tries an edit of the same crate meanwhile.
+    is_alone_in_a_crate = False
 
     def check(self, crate: str, made: dict[str, str], paths: list[str]) -> tuple[int, str]:
         """Checks the functions at these paths, or where there are none the crate, with these texts in place of its own: the status, and what is said."""
@@ -319,43 +320,18 @@ class TreeLane(Lane):
         return ran.returncode, ran.stdout
 
 
-class Seeds:
-    """What a check of a crate as it is proved of the functions that its edits change, in a folder for each crate: later checks begin with it."""
+class Kept:
+    """What the checks of edits have proved so far, in a folder for each crate that has several: these come one after another, and each
+    begins with it."""
 
-    def __init__(self, crates: dict, batches: list[list[Edit]], room: Path):
-        self.crates, self.room, self.made = crates, room, {}
+    def __init__(self, batches: list[list[Edit]], room: Path):
         checks = Counter(batch[0].crate for batch in batches)
-        self.paths = {name: self.of_edits(name, batches) for name, count in checks.items() if count > 1}
-        self.locks = {name: threading.Lock() for name in self.paths}
+        self.folders = {name: room / name for name, count in checks.items() if count > 1}
+        for folder in self.folders.values():
+            folder.mkdir()
 
-    @staticmethod
-    def of_edits(crate: str, batches: list[list[Edit]]) -> list[str]:
-        """The functions of a crate that its edits change, none where one of them isn't known."""
-        paths = {edit.path(TOP / "crates" / crate) for batch in batches for edit in batch if edit.crate == crate}
-        return [] if None in paths else sorted(paths)
-
-    def seed(self, crate: str) -> Path | None:
-        """The folder with what was proved of a crate, where that is worth it; the first that asks for it proves it, and others wait."""
-        if crate not in self.paths:
-            return None
-        with self.locks[crate]:
-            if crate not in self.made:
-                folder = self.room / crate
-                folder.mkdir()
-                ran = kit.rt().checked(self.crates[crate], {}, words_of_check(self.paths[crate]), str(folder))
-                self.made[crate] = folder if ran.returncode == 0 else None
-            return self.made[crate]
-
-    @contextlib.contextmanager
-    def copied(self, crate: str) -> Iterator[str | None]:
-        """A copy of it that a check may write into; its files are the same, since a check replaces what it writes."""
-        seed = self.seed(crate)
-        if not seed:
-            yield None
-            return
-        with tempfile.TemporaryDirectory(dir=self.room) as folder:
-            kit.rt().linked(str(seed), f"{folder}/kept")
-            yield f"{folder}/kept"
+    def of(self, crate: str) -> str | None:
+        return str(self.folders[crate]) if crate in self.folders else None
 
 
 def words_of_check(paths: list[str]) -> list[str]:
@@ -367,13 +343,13 @@ class GateLane(Lane):
     """Checks copies of single crates, over the libraries that `rt ci` left."""
 
     takes_names = False
+    is_alone_in_a_crate = True
 
-    def __init__(self, proved: Path, crates: dict, seeds: Seeds):
-        self.proved, self.crates, self.seeds = proved, crates, seeds
+    def __init__(self, proved: Path, crates: dict, kept: Kept):
+        self.proved, self.crates, self.kept = proved, crates, kept
 
     def check(self, crate: str, made: dict[str, str], paths: list[str]) -> tuple[int, str]:
-        with self.seeds.copied(crate) as kept:
-            ran = kit.rt().checked(self.crates[crate], made, words_of_check(paths), kept)
+        ran = kit.rt().checked(self.crates[crate], made, words_of_check(paths), self.kept.of(crate))
         return ran.returncode, ran.stdout
 
 
@@ -381,7 +357,8 @@ class Trial:
     """The edits that are still to be tried, and the lanes' answers."""
 
     def __init__(self, edits: list[Edit]):
-        self.tasks, self.lock, self.passed, self.count = deque(self.batches(edits)), threading.Lock(), 0, len(edits)
+        self.tasks, self.lock, self.passed, self.count = self.batches(edits), threading.Lock(), 0, len(edits)
+        self.busy: set[str] = set()
 
     @staticmethod
     def batches(edits: list[Edit]) -> list[list[Edit]]:
@@ -416,26 +393,35 @@ class Trial:
             return False
         return not any(one != other and one in reached.get(other, set()) for one in names for other in names)
 
-    def take_crates_in_turn(self) -> None:
-        """Puts the first checks of all crates first, so that no lane waits for what another proves of the same crate."""
-        seen, turns = Counter(), {}
-        for batch in self.tasks:
-            turns[id(batch)] = seen[batch[0].crate]
-            seen[batch[0].crate] += 1
-        self.tasks = deque(sorted(self.tasks, key=lambda it: turns[id(it)]))
+    def take_the_longest_first(self) -> None:
+        """Puts the checks first whose functions call the most others of their crate."""
+        reached = {it: calls(it) for it in {batch[0].crate for batch in self.tasks}}
+
+        def called(batch: list[Edit]) -> int:
+            functions = (it.function(TOP / "crates" / it.crate) for it in batch)
+            return len(set().union(*(reached[batch[0].crate].get(it[1], set()) for it in functions if it)))
+
+        self.tasks.sort(key=called, reverse=True)
 
     def answer(self, edit: Edit, well: bool, text: str) -> None:
         with self.lock:
             self.passed += well
             print(f"{edit.label}: {text}", flush=True)
 
+    def next(self, lane: Lane) -> list[Edit] | None:
+        """The next edits for a lane, if there are some for it."""
+        with self.lock:
+            found = (it for it in self.tasks if not (lane.is_alone_in_a_crate and it[0].crate in self.busy))
+            batch = next(found, None)
+            if batch:
+                self.tasks.remove(batch)
+                self.busy.add(batch[0].crate)
+            return batch
+
     def work(self, lane: Lane) -> None:
-        while True:
-            with self.lock:
-                if not self.tasks:
-                    return
-                batch = self.tasks.popleft()
+        while batch := self.next(lane):
             self.attempt(lane, batch)
+            self.busy.discard(batch[0].crate)
 
     def attempt(self, lane: Lane, batch: list[Edit]) -> None:
         if len(batch) == 1:
@@ -537,13 +523,13 @@ def is_left(crate) -> bool:
 
 
 def gate_lanes(trial: "Trial", room: Path) -> list[Lane]:
-    crates, batches = kit.crates(), list(trial.tasks)
+    crates, batches = kit.crates(), trial.tasks
     needed = {below.name: below for batch in batches for below in crates[batch[0].crate].below()}
     lacking = [name for name, crate in needed.items() if not is_left(crate)]
     if lacking:
         sys.exit(f"{lacking[0]} isn't built as its files are: run rt ci first")
-    seeds = Seeds(crates, batches, room)
-    return [GateLane(TOP, crates, seeds) for _ in range(int(jobs()))]
+    kept = Kept(batches, room)
+    return [GateLane(TOP, crates, kept) for _ in range(int(jobs()))]
 
 
 def tried(trial: "Trial", lanes: list[Lane]) -> int:
@@ -562,7 +548,7 @@ def gate() -> int:
     if misfits():
         return 1
     trial = Trial([Edit.read(it, it.parent.name) for it in gate_paths()])
-    trial.take_crates_in_turn()
+    trial.take_the_longest_first()
     with tempfile.TemporaryDirectory() as room:
         return tried(trial, gate_lanes(trial, Path(room)))
 

@@ -1,5 +1,6 @@
 // Reports of reasons.
-ghost use Rattle.std.specs.Prelude.{◌≡◌, ◌⊎◌, ◌++◌, OnOk, OnErr, is_none, string_bytes};
+ghost use Rattle.std.specs.Prelude.{◌≡◌, ◌++◌, true, OnOk, OnErr, is_none, string_bytes};
+ghost use Rattle.cs_reason_words.specs.Formats.{asks_standard};
 ghost use Rattle.cs_reason_words.specs.Valid.{flag_text, HasLines, Reports};
 
 use crate::definitions::Definitions;
@@ -24,14 +25,14 @@ fn put_reasons(
     reasons: Option<&Reasons<InstanceCause>>,
     text: &mut String,
 ) -> Result<(), AllocError>
-    ensures flag { (form ≡ Form.Flag) ⊎ (form ≡ Form.Basic)
+    ensures flag { asks_standard form ≡ true
         → OnOk result (string_bytes text.new ≡ string_bytes text.old) }
     ensures told { OnOk result (HasLines (is_none reasons.entry) form (string_bytes text.new)) }
 {
     let Some(reasons) = reasons else {
         return Ok(());
     };
-    if matches!(form, Form::Flag | Form::Basic) {
+    if form.is_standard() {
         return Ok(()); // the verdict alone
     }
     let cut = sources_of(alloc, sources)?;
@@ -54,7 +55,7 @@ pub fn report_instance(
     reasons: Option<&Reasons<InstanceCause>>,
     output: &mut Vec<u8>,
 ) -> Result<(), AllocError>
-    ensures flag { (form ≡ Form.Flag) ⊎ (form ≡ Form.Basic)
+    ensures flag { asks_standard form ≡ true
         → OnOk result (output.new.items ≡ output.old.items ++ flag_text (is_none reasons.entry)) }
     ensures says { OnOk result
         (Reports form (is_none reasons.entry) output.old.items output.new.items) }

@@ -1,16 +1,17 @@
 -- What is told of answers, written and left.
-use Rattle.std.proofs.Common.{◌≡◌, ◌⊎◌, ℕ, ◌+◌, ◌-◌, ◌^◌, min, List, [], ◌∷◌, ◌++◌, length, Bool, true, false, Option, None, Some, Result, Ok, Err, IfOk, IfErr, refl, inl, inr, sym, ap, subst, ◌∙◌, arith, append_assoc, length-append, codes}
+use Rattle.std.proofs.Common.{◌≡◌, ℕ, ◌+◌, ◌-◌, ◌^◌, min, List, [], ◌∷◌, ◌++◌, length, Bool, true, false, Option, None, Some, Ok, Err, IfOk, IfErr, refl, sym, ap, subst, ◌∙◌, arith, append_assoc, length-append, codes, if◌then◌else◌}
 use Rattle.std.specs.Io.KnownBytes.{Appends}
 use Rattle.std.proofs.KnownBytes.{Appends-trans}
-use Rattle.cs_tool.specs.Streams.{AppendsFront}
 use Rattle.cs_place.specs.Shown.{shown}
-use Rattle.cs_reason_words.specs.Valid.{report_text, Reports}
+use Rattle.cs_reason_words.specs.Formats.{asks_standard}
+use Rattle.cs_reason_words.specs.Valid.{Reports}
 use Rattle.cs_reason_words.specs.declared.form.Form.{Form}
-use Rattle.cs_reason_words.specs.declared.form.Form.TheVariants.{Lines, Json, Flag, Basic}
+use Rattle.cs_reason_words.specs.declared.form.Form.TheVariants.{Lines, Object}
+use Rattle.cs_reason_words.specs.declared.format.Format.{Format}
 use Rattle.cs_tool.specs.declared.rules.Rules.{Rules}
 use Rattle.cs_judge.specs.Answering.{AreAnswered}
 use Rattle.cs_judge.specs.declared.lines.LineRun.{LineRun}
-use Rattle.cs_judge.specs.Explained.{IsTold, Tells, root_form, schema_form, IsReport, ReportsAsked, IsLabelled, members_text, IsObject, input_member, document_member, IsDocumentFront, IsDocumentObject, IsWrittenOf, behind, WritesLabelled, LeavesLabelled, line_number, AreObjects, no_object, one_object, AreTold, IsWritten, AreToldTo}
+use Rattle.cs_judge.specs.Explained.{IsTold, Tells, root_form, schema_form, IsReport, ReportsAsked, IsLabelled, members_text, input_member, IsDocumentFront, IsWrittenOf, behind, line_number, no_object, one_object, AreTold, IsWritten, AreToldTo}
 use Rattle.cs_judge.specs.Judged.{call_on}
 use Rattle.cs_judge.specs.Lines.{Answer, IsTextAnswer, answer_line, labelled}
 use Rattle.cs_tool.specs.Runs.{IsCallAnswer, IsCallRefusal, verdict_text}
@@ -26,12 +27,13 @@ first_report None truth old new told none same h = tt
 first_report (Some form) truth old new told none same h = (h.2.0, same ∙ h.1 ∙ ap (λ o. o ++ h.0) none ∙ h.2.1, h.2.2)
 
 -- where both sides say the same, the report says it, whichever side makes it
+by_one : (form : Form) (schema_tells : Bool) (a b : Bool) (old mid new : List ℕ) → a ≡ b → ReportsAsked (if schema_tells then None else Some form) a old mid → ReportsAsked (if schema_tells then Some form else None) b mid new → Reports form a old new
+by_one form true a b old mid new same root schema = subst (λ t. Reports form t old new) (sym same) (subst (λ m. Reports form b m new) root schema)
+by_one form false a b old mid new same root schema = subst (Reports form a old) (sym schema) root
+
 pub one_side : (form : Option Form) (a b : Bool) (old mid new : List ℕ) → a ≡ b → ReportsAsked (root_form form) a old mid → ReportsAsked (schema_form form) b mid new → ReportsAsked form a old new
 one_side None a b old mid new same root schema = schema ∙ root
-one_side (Some Lines) a b old mid new same root schema = subst (Reports Lines a old) (sym schema) root
-one_side (Some Json) a b old mid new same root schema = subst (Reports Json a old) (sym schema) root
-one_side (Some Flag) a b old mid new same root schema = subst (λ t. Reports Flag t old new) (sym same) (subst (λ m. Reports Flag b m new) root schema)
-one_side (Some Basic) a b old mid new same root schema = subst (λ t. Reports Basic t old new) (sym same) (subst (λ m. Reports Basic b m new) root schema)
+one_side (Some form) a b old mid new same root schema = by_one form (asks_standard form) a b old mid new same root schema
 
 pub reports_same : (form : Option Form) (a b : Bool) (old new : List ℕ) → a ≡ b → ReportsAsked form a old new → ReportsAsked form b old new
 reports_same form a b old new same h = subst (λ t. ReportsAsked form t old new) same h
@@ -52,13 +54,9 @@ written_refused label (Ok valid) e is = absurd (cc is)
 written_refused label (Err f) e is = refl
 
 -- the object of a document
-pub written_object : (form : Form) (label told : List ℕ) (answer : Answer) (front : List ℕ) → (form ≡ Json) ⊎ ((form ≡ Flag) ⊎ (form ≡ Basic)) → IfOk answer (λ b. IsTold (Some form) b told) → IsDocumentFront label front → IsWrittenOf (Some form) label answer (front ++ members_text answer told)
-written_object Lines label told answer front (inl is) h f = absurd (cc is)
-written_object Lines label told answer front (inr (inl is)) h f = absurd (cc is)
-written_object Lines label told answer front (inr (inr is)) h f = absurd (cc is)
-written_object Json label told answer front is h f = (front, f, (told, h, refl))
-written_object Flag label told answer front is h f = (front, f, (told, h, refl))
-written_object Basic label told answer front is h f = (front, f, (told, h, refl))
+pub written_object : (form : Form) (format : Format) (label told : List ℕ) (answer : Answer) (front : List ℕ) → form ≡ Object format → IfOk answer (λ b. IsTold (Some form) b told) → IsDocumentFront label front → IsWrittenOf (Some form) label answer (front ++ members_text answer told)
+written_object Lines format label told answer front is h f = absurd (cc is)
+written_object (Object written) format label told answer front is h f = (front, f, (told, h, refl))
 
 -- three writes, one after the other
 pub three_parts : (a b c d : Option (List ℕ)) (first second third : List ℕ) → Appends a b first → Appends b c second → Appends c d third → Appends a d (first ++ second ++ third)
@@ -70,17 +68,13 @@ three_parts a b c d first second third f s t = Appends-trans a c d (first ++ sec
 pub told_none : (form : Option Form) → AreTold form [] []
 told_none None = refl
 told_none (Some Lines) = refl
-told_none (Some Json) = no_object
-told_none (Some Flag) = no_object
-told_none (Some Basic) = no_object
+told_none (Some (Object format)) = no_object
 
 -- one more is
 told_more : (form : Option Form) (answers : List Answer) (text : List ℕ) (answer : Answer) (more : List ℕ) → AreTold form answers text → IsWritten form (line_number answers) answer more → AreTold form (answers ++ answer ∷ []) (text ++ more)
 told_more None answers text answer more h w = ap (λ m. text ++ m) w ∙ line_told answer answers text h
 told_more (Some Lines) answers text answer more h w = ap (λ m. text ++ m) w ∙ line_told answer answers text h
-told_more (Some Json) answers text answer more h w = one_object answer more h w
-told_more (Some Flag) answers text answer more h w = one_object answer more h w
-told_more (Some Basic) answers text answer more h w = one_object answer more h w
+told_more (Some (Object format)) answers text answer more h w = one_object answer more h w
 
 next : (n m most : ℕ) → m ≡ min (n + 1) most → min (m + 1) most ≡ min (n + 1 + 1) most
 next n m most is = omega arith
@@ -103,9 +97,7 @@ at_any_line form number rules start now lines run = weaker rules start now lines
 pub some_written : (form : Option Form) (number : ℕ) (answer : Answer) (told : List ℕ) → IfOk answer (λ b. IsTold form b told) → (more : List ℕ) × IsWritten form number answer more
 some_written None number answer told h = (answer_line answer, refl)
 some_written (Some Lines) number answer told h = (answer_line answer, refl)
-some_written (Some Json) number answer told h = (input_member number ++ members_text answer told, (told, h, refl))
-some_written (Some Flag) number answer told h = (input_member number ++ members_text answer told, (told, h, refl))
-some_written (Some Basic) number answer told h = (input_member number ++ members_text answer told, (told, h, refl))
+some_written (Some (Object format)) number answer told h = (input_member number ++ members_text answer told, (told, h, refl))
 
 -- ---- the answer to a text
 

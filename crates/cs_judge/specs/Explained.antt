@@ -1,11 +1,12 @@
 -- What is told of a document beside its verdict.
-use Rattle.std.specs.Prelude.{◌≡◌, ◌⊎◌, ℕ, ◌+◌, ◌-◌, ◌^◌, min, List, [], ◌∷◌, ◌++◌, length, drop, Bool, true, false, Option, None, Some, Ok, Err, IfOk, codes, decimal}
+use Rattle.std.specs.Prelude.{◌≡◌, ◌⊎◌, ℕ, ◌+◌, ◌-◌, ◌^◌, min, List, [], ◌∷◌, ◌++◌, length, drop, Bool, true, false, Option, None, Some, Ok, Err, IfOk, codes, decimal, if◌then◌else◌}
 use Rattle.std.specs.Io.KnownBytes.{Appends, Keeps}
 use Rattle.json.specs.Print.{quoted}
 use Rattle.cs_place.specs.Shown.{shown}
+use Rattle.cs_reason_words.specs.Formats.{asks_standard}
 use Rattle.cs_reason_words.specs.Valid.{EndsInLine, Says, Reports}
 use Rattle.cs_reason_words.specs.declared.form.Form.{Form}
-use Rattle.cs_reason_words.specs.declared.form.Form.TheVariants.{Lines, Json, Flag, Basic}
+use Rattle.cs_reason_words.specs.declared.form.Form.TheVariants.{Lines, Object}
 use Rattle.cs_judge.specs.declared.why.Why.{Why}
 use Rattle.cs_judge.specs.Judged.{call_on}
 use Rattle.cs_judge.specs.Lines.{Answer, AreAnswerLines, answer_line, labelled, Hands}
@@ -26,9 +27,7 @@ abbrev pub IsTold : Option Form → Bool → List ℕ → Type 0
 IsTold None truth text = text ≡ line_of (verdict_text truth)
 IsTold (Some Lines) true text = text ≡ line_of (verdict_text true)
 IsTold (Some Lines) false text = (reasons : List ℕ) × (text ≡ line_of (verdict_text false) ++ reasons) × EndsInLine reasons
-IsTold (Some Json) truth text = Says Json truth text
-IsTold (Some Flag) truth text = Says Flag truth text
-IsTold (Some Basic) truth text = Says Basic truth text
+IsTold (Some (Object format)) truth text = Says (Object format) truth text
 
 -- what is told of the verdict was added
 abbrev pub Tells : Option Form → Bool → List ℕ → List ℕ → Type 0
@@ -36,18 +35,12 @@ Tells form truth old new = (text : List ℕ) × (new ≡ old ++ text) × IsTold 
 
 -- where a document is judged on both sides, the schema tells the reasons in the output formats of JSON Schema, and else the definition
 abbrev pub root_form : Option Form → Option Form
-root_form (Some Lines) = Some Lines
-root_form (Some Json) = Some Json
-root_form (Some Flag) = None
-root_form (Some Basic) = None
 root_form None = None
+root_form (Some form) = if asks_standard form then None else Some form
 
 abbrev pub schema_form : Option Form → Option Form
-schema_form (Some Lines) = None
-schema_form (Some Json) = None
-schema_form (Some Flag) = Some Flag
-schema_form (Some Basic) = Some Basic
 schema_form None = None
+schema_form (Some form) = if asks_standard form then Some form else None
 
 -- ---- what is written of a document
 
@@ -97,9 +90,7 @@ IsDocumentObject form label answer text = (front : List ℕ) × IsDocumentFront 
 abbrev pub IsWrittenOf : Option Form → List ℕ → Answer → List ℕ → Type 0
 IsWrittenOf None label answer text = text ≡ labelled label answer
 IsWrittenOf (Some Lines) label answer text = IsLabelled label answer text
-IsWrittenOf (Some Json) label answer text = IsDocumentObject Json label answer text
-IsWrittenOf (Some Flag) label answer text = IsDocumentObject Flag label answer text
-IsWrittenOf (Some Basic) label answer text = IsDocumentObject Basic label answer text
+IsWrittenOf (Some (Object format)) label answer text = IsDocumentObject (Object format) label answer text
 
 -- the writer took it
 abbrev pub WritesLabelled : Option Form → List ℕ → Answer → Option (List ℕ) → Option (List ℕ) → Type 0
@@ -124,9 +115,7 @@ pub data AreObjects (form : Form) : List Answer → List ℕ → Type 0 where
 abbrev pub AreTold : Option Form → List Answer → List ℕ → Type 0
 AreTold None answers text = AreAnswerLines answers text
 AreTold (Some Lines) answers text = AreAnswerLines answers text
-AreTold (Some Json) answers text = AreObjects Json answers text
-AreTold (Some Flag) answers text = AreObjects Flag answers text
-AreTold (Some Basic) answers text = AreObjects Basic answers text
+AreTold (Some (Object format)) answers text = AreObjects (Object format) answers text
 
 -- ---- on the way
 
@@ -148,9 +137,7 @@ ReportsAsked (Some form) truth old new = Reports form truth old new
 abbrev pub IsWritten : Option Form → ℕ → Answer → List ℕ → Type 0
 IsWritten None number answer text = text ≡ answer_line answer
 IsWritten (Some Lines) number answer text = text ≡ answer_line answer
-IsWritten (Some Json) number answer text = IsObject Json (input_member number) answer text
-IsWritten (Some Flag) number answer text = IsObject Flag (input_member number) answer text
-IsWritten (Some Basic) number answer text = IsObject Basic (input_member number) answer text
+IsWritten (Some (Object format)) number answer text = IsObject (Object format) (input_member number) answer text
 
 -- it is held behind what was held
 abbrev pub HoldsWritten : Option Form → ℕ → Answer → Option (List ℕ) → Option (List ℕ) → List ℕ → List ℕ → Type 0

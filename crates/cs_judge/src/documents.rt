@@ -140,9 +140,7 @@ fn write_reasons<W: Write>(
 {
     match form {
         Form::Lines => write_lines(answer, label, told, output),
-        Form::Json | Form::Flag | Form::Basic => {
-            write_object(alloc, answer, label.name(), told, output)
-        }
+        Form::Object(_) => write_object(alloc, answer, label.name(), told, output),
     }
 }
 

@@ -8,7 +8,6 @@ use crate::why::Why;
 use cs_flat::{Flat, Item};
 use cs_instance::{InstanceFault, RootRules};
 use cs_instance_reasons::{InstanceCause, explain_instance};
-use cs_reason_words::Form;
 use cs_reasons::{Reasons, Telling};
 use cs_table::Verdicts;
 use cs_validate::{SchemaRules, ValidateFault};
@@ -75,7 +74,7 @@ fn asked_again<C: Drop>(
     reasons: &Reasons<C>,
 ) -> Result<Option<Telling>, AllocError> {
     let told = reasons.told.len();
-    if why.form == Form::Flag || reasons.count <= told {
+    if !why.form.has_reasons() || reasons.count <= told {
         return Ok(None);
     }
     let most = looked_at(alloc, flat, table.rules(), reasons.count)?;

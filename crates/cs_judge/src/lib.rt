@@ -15,7 +15,7 @@ mod why;
 
 pub use answers::LinesOutcome;
 pub use cs_place::Named;
-pub use cs_reason_words::Form;
+pub use cs_reason_words::{Form, Format};
 pub use cs_reasons::Telling;
 pub use documents::{run_document, write_document, write_unread};
 pub use lines::run_lines;

@@ -265,7 +265,7 @@ fn note<E: Write>(
             let reasons = told.strip_prefix(verdict_line(false));
             held.hold_text(reasons.unwrap_or(b""), notes)
         }
-        None | Some(Form::Json | Form::Flag | Form::Basic) => Ok(()),
+        None | Some(Form::Object(_)) => Ok(()),
     }
 }
 
@@ -311,7 +311,7 @@ fn hold_in_form<W: Write>(
 {
     match form {
         Form::Lines => held.hold(answer, output),
-        Form::Json | Form::Flag | Form::Basic => hold_object(held, number, answer, told, output),
+        Form::Object(_) => hold_object(held, number, answer, told, output),
     }
 }
 

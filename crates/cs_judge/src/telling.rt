@@ -29,7 +29,7 @@ pub(crate) fn tell(
         None => output.extend_from_slice(verdict_line(truth)),
         Some(Form::Lines) if truth => output.extend_from_slice(verdict_line(true)),
         Some(Form::Lines) => add_both(verdict_line(false), report, output),
-        Some(Form::Json | Form::Flag | Form::Basic) => output.extend_from_slice(report),
+        Some(Form::Object(_)) => output.extend_from_slice(report),
     }
 }
 

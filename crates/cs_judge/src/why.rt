@@ -30,10 +30,8 @@ pub(crate) fn asked_of_root<'a>(why: Option<Why<'a>>) -> Option<Why<'a>>
     ensures { asked_form result ≡ root_form (asked_form why.entry) }
 {
     let why = why?;
-    match why.form {
-        Form::Lines | Form::Json => Some(why),
-        Form::Flag | Form::Basic => None,
-    }
+    let is_standard = why.form.is_standard();
+    if is_standard { None } else { Some(why) }
 }
 
 /// What is asked of the schema, where a document is judged by a definition too: the reasons in the output formats of JSON Schema.
@@ -41,8 +39,6 @@ pub(crate) fn asked_of_schema<'a>(why: Option<Why<'a>>) -> Option<Why<'a>>
     ensures { asked_form result ≡ schema_form (asked_form why.entry) }
 {
     let why = why?;
-    match why.form {
-        Form::Lines | Form::Json => None,
-        Form::Flag | Form::Basic => Some(why),
-    }
+    let is_standard = why.form.is_standard();
+    if is_standard { Some(why) } else { None }
 }

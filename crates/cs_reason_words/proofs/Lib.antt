@@ -1,2 +1,4 @@
 pub mod Pointers
 pub mod LineEnds
+-- samples
+mod Samples

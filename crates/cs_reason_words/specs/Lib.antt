@@ -1,3 +1,4 @@
 -- What reports name.
 pub mod Pointer
+pub mod Formats
 pub mod Valid

@@ -1,7 +1,8 @@
 -- What is told of a verdict, and by the format `flag` nothing else (JSON Schema Core 2020-12, section 12.4.1).
-use Rattle.std.specs.Prelude.{◌≡◌, ◌≢◌, ℕ, Bool, true, false, List, [], ◌∷◌, ◌++◌, codes}
+use Rattle.std.specs.Prelude.{◌≡◌, ◌≢◌, ℕ, Bool, true, false, List, [], ◌∷◌, ◌++◌, codes, if◌then◌else◌}
 use Rattle.cs_reason_words.specs.declared.form.Form.{Form}
-use Rattle.cs_reason_words.specs.declared.form.Form.TheVariants.{Lines, Json, Flag, Basic}
+use Rattle.cs_reason_words.specs.declared.form.Form.TheVariants.{Lines, Object}
+use Rattle.cs_reason_words.specs.Formats.{has_reasons}
 
 -- an object that says it, and a newline
 abbrev pub flag_text : Bool → List ℕ
@@ -11,9 +12,7 @@ flag_text false = codes "{\"valid\":false}\n"
 -- nothing for people
 abbrev pub valid_text : Form → List ℕ
 valid_text Lines = []
-valid_text Json = flag_text true
-valid_text Flag = flag_text true
-valid_text Basic = flag_text true
+valid_text (Object format) = flag_text true
 
 -- an object that says first that a document is invalid, with further members, and a newline
 abbrev pub invalid_object : List ℕ → List ℕ
@@ -22,9 +21,7 @@ invalid_object members = codes "{\"valid\":false" ++ members ++ codes "}\n"
 -- what is told of reasons: to people these alone
 abbrev pub invalid_text : Form → List ℕ → List ℕ
 invalid_text Lines reasons = reasons
-invalid_text Json reasons = invalid_object reasons
-invalid_text Flag reasons = flag_text false
-invalid_text Basic reasons = invalid_object reasons
+invalid_text (Object format) reasons = if has_reasons format then invalid_object reasons else flag_text false
 
 -- what is told of a verdict, and of the reasons where a document is invalid
 abbrev pub report_text : Form → Bool → List ℕ → List ℕ
@@ -42,9 +39,7 @@ pub record EndsInLine (text : List ℕ) : Type 0 where
 abbrev pub HasLines : Bool → Form → List ℕ → Type 0
 HasLines true form reasons = Unit {0}
 HasLines false Lines reasons = EndsInLine reasons
-HasLines false Json reasons = Unit {0}
-HasLines false Flag reasons = Unit {0}
-HasLines false Basic reasons = Unit {0}
+HasLines false (Object format) reasons = Unit {0}
 
 -- the text tells that verdict, with some reasons
 abbrev pub Says : Form → Bool → List ℕ → Type 0

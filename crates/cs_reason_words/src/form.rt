@@ -1,14 +1,36 @@
 // The forms of reasons in words.
+ghost use Rattle.std.specs.Prelude.{◌≡◌};
+ghost use Rattle.cs_reason_words.specs.Formats.{asks_standard, asks_reasons};
+
+use crate::format::Format;
 
 /// How reasons are written.
-#[derive(Clone, Copy, Debug, PartialEq, Eq)]
+#[derive(Clone, Copy)]
 pub enum Form {
     /// A line for each, for people and for problem matchers.
     Lines,
-    /// One object of JSON with what the lines tell.
-    Json,
-    /// The output format `flag` (JSON Schema Core 2020-12, section 12.4.1).
-    Flag,
-    /// The output format `basic` (Core, section 12.4.2).
-    Basic,
+    /// One object of JSON.
+    Object(Format),
+}
+
+impl Form {
+    /// Whether it is one of the output formats of JSON Schema ([`Format::is_standard`]).
+    pub fn is_standard(self) -> bool
+        ensures { result ≡ asks_standard self }
+    {
+        match self {
+            Form::Lines => false,
+            Form::Object(format) => format.is_standard(),
+        }
+    }
+
+    /// Whether reasons are told in it at all ([`Format::has_reasons`]).
+    pub fn has_reasons(self) -> bool
+        ensures { result ≡ asks_reasons self }
+    {
+        match self {
+            Form::Lines => true,
+            Form::Object(format) => format.has_reasons(),
+        }
+    }
 }

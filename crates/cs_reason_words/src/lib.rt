@@ -5,6 +5,7 @@
 mod entry;
 mod finding;
 mod form;
+mod format;
 mod json;
 mod lines;
 mod once;
@@ -20,6 +21,7 @@ pub use cs_text::{put_all, put_count, put_integer, put_number, put_string};
 pub use entry::{Entry, SourcePlace, position_in};
 pub use finding::{Finding, MOST_COMPARISONS, item_at, told_apart};
 pub use form::Form;
+pub use format::Format;
 pub use lines::put_lines;
 pub use once::Told;
 pub use pointer::put_steps;

@@ -1,5 +1,6 @@
 // What is told of a verdict.
-ghost use Rattle.std.specs.Prelude.{◌≡◌, ◌⊎◌, ◌++◌, false, IfOk, OnOk, OnErr, string_bytes};
+ghost use Rattle.std.specs.Prelude.{◌≡◌, ◌++◌, true, false, IfOk, OnOk, OnErr, string_bytes};
+ghost use Rattle.cs_reason_words.specs.Formats.{asks_standard};
 ghost use Rattle.cs_reason_words.specs.Valid.{flag_text, valid_text, invalid_object, report_text, HasLines};
 
 use crate::form::Form;
@@ -20,7 +21,7 @@ fn valid_words(form: Form) -> &'static str
 {
     match form {
         Form::Lines => "",
-        Form::Json | Form::Flag | Form::Basic => VALID,
+        Form::Object(_) => VALID,
     }
 }
 
@@ -42,14 +43,14 @@ pub fn put_told(
     document: Named<'_>,
     told: &Told<'_>,
 ) -> Result<(), AllocError>
-    ensures flag { (form ≡ Form.Flag) ⊎ (form ≡ Form.Basic)
+    ensures flag { asks_standard form ≡ true
         → OnOk result (string_bytes text.new ≡ string_bytes text.old) }
     ensures lines { OnOk result (HasLines false form (string_bytes text.new)) }
 {
     match form {
-        Form::Flag | Form::Basic => Ok(()),
         Form::Lines => put_lines(text, document, &told.entries, told.more),
-        Form::Json => put_members(text, &told.entries, told.more),
+        Form::Object(format) if format.is_standard() => Ok(()),
+        Form::Object(_) => put_members(text, &told.entries, told.more),
     }
 }
 
@@ -74,10 +75,10 @@ pub fn report_verdict(
     }
     match form {
         Form::Lines => output.extend_from_slice(reasons.as_bytes()),
-        Form::Flag => output.extend_from_slice(INVALID.as_bytes()),
-        Form::Json | Form::Basic => {
+        Form::Object(format) if format.has_reasons() => {
             let object = invalid_words(alloc, reasons)?;
             output.extend_from_slice(object.as_bytes())
         }
+        Form::Object(_) => output.extend_from_slice(INVALID.as_bytes()),
     }
 }

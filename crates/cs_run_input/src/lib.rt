@@ -1,12 +1,14 @@
 // What a command is given: its words, the files that they name, and standard input, read under the limits; and what it writes.
 #![tactic(auto)]
 
+mod command_line;
 mod files;
 mod reasons;
 mod sources;
 mod unread;
 mod words;
 
+pub use command_line::{COMMAND_LINE, process_words, show};
 use cs_tool::{Fault, write_text};
 pub use files::{read_document, read_input, read_source, read_sources};
 pub use reasons::{Reasons, are_at_odds, reasons_of, told_form};

@@ -1,6 +1,6 @@
 // What the words say of reasons.
 use clap::ArgMatches;
-use cs_reason_words::Form;
+use cs_reason_words::{Form, Format};
 use cs_reasons::Telling;
 
 /// How many reasons are told at most where the words don't say.
@@ -16,10 +16,7 @@ pub struct Reasons {
 /// How the words ask for reasons; `None` where they don't.
 pub fn reasons_of(words: &ArgMatches<'_>) -> Option<Reasons> {
     let form = match words.get_str("format") {
-        Some("json") => Form::Json,
-        Some("flag") => Form::Flag,
-        Some("basic") => Form::Basic,
-        Some(_) => return None,
+        Some(name) => Form::Object(Format::named(name)?),
         None if words.contains_id("why") => Form::Lines,
         None => return None,
     };

@@ -171,7 +171,7 @@ fn write_answers(
     let is_json = matches!(
         reasons,
         Some(Reasons {
-            form: Form::Json,
+            form: Form::Object(_),
             ..
         })
     );
@@ -227,10 +227,8 @@ fn reasons_told(
     let prepared = prepare(alloc, to.rules)?;
     let told = explained(alloc, &prepared, shown, why)?;
     let bare = match reasons.form {
-        Form::Json => told.trim_ascii_end(),
-        Form::Lines | Form::Flag | Form::Basic => {
-            told.strip_prefix(b"invalid\n").unwrap_or(&told)
-        }
+        Form::Object(_) => told.trim_ascii_end(),
+        Form::Lines => told.strip_prefix(b"invalid\n").unwrap_or(&told),
     };
     Ok(bare.to_vec(alloc)?)
 }

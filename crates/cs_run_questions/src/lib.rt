@@ -11,7 +11,7 @@ use cs_check::{Checked, Findings, schema_findings, source_findings};
 use cs_fault_words::explained;
 use cs_place::Named;
 use cs_reason_words::Form;
-use cs_run_input::{named, print, read_input, sources_of};
+use cs_run_input::{COMMAND_LINE, named, print, read_input, sources_of};
 use cs_run_refusals::or_unread;
 use cs_tool::{Fault, slices_of};
 pub use listed::list;
@@ -21,8 +21,6 @@ pub use sampled::write_samples;
 const NUMBERS: &str = "the numbers are 1 to 17, 20 to 28, 30 and 31";
 /// The status of `breaking`, and of no sample.
 const INVALID: u8 = 1;
-/// The status of a faulty command line.
-const COMMAND_LINE: u8 = 3;
 /// The status of warnings alone, where they count.
 const WARNED: u8 = 1;
 /// The status of faults.

@@ -18,7 +18,8 @@ fn listed(rt: &HostRuntime, words: &ArgMatches<'_>) -> Result<u8, Fault> {
     let sources = sources_of(rt, words)?;
     let named = named(rt.alloc(), words.get_strs("FILE").unwrap_or(&[]), &sources)?;
     let form = told_form(words);
-    let answer = write_listing(rt, &sources, &named, form == Some(Form::Json));
+    let is_json = matches!(form, Some(Form::Object(_)));
+    let answer = write_listing(rt, &sources, &named, is_json);
     or_told(rt, form, about_sources(&named, ""), words, answer)
 }
 

@@ -4,7 +4,7 @@
 use clap::ArgMatches;
 use cs_fault_words::{About, why_refused, write_refusal_json};
 use cs_place::Named;
-use cs_reason_words::Form;
+use cs_reason_words::{Form, Format};
 use cs_run_input::{NO_FILE, STANDARD_INPUT, Unread, print, sizes_of, unread_file};
 use cs_tool::{Fault, write_fault, write_fault_json};
 use std::alloc::{AllocError, Global};
@@ -107,15 +107,18 @@ pub fn tell(
     match (form, fault) {
         (Form::Lines, Fault::OutOfMemory) => return Err(Fault::OutOfMemory),
         (Form::Lines, _) => tell_lines(rt, fault, about, side)?,
-        (Form::Json | Form::Flag | Form::Basic, Fault::WriteFailed) => {
-            return Err(Fault::WriteFailed);
-        }
-        (Form::Json, Fault::OutOfMemory) | (Form::Flag | Form::Basic, _) => {
+        (Form::Object(_), Fault::WriteFailed) => return Err(Fault::WriteFailed),
+        (Form::Object(format), _) if has_number_alone(format, fault) => {
             write_fault_json(rt.alloc(), fault, names, &mut rt.stdout())?;
         }
-        (Form::Json, _) => tell_object(rt, fault, about, names, side)?,
+        (Form::Object(_), _) => tell_object(rt, fault, about, names, side)?,
     }
     Ok(fault.status())
+}
+
+/// Whether a refusal is told by its number alone in a format: in the output formats of JSON Schema each, and in each want of memory.
+fn has_number_alone(format: Format, fault: &Fault) -> bool {
+    format.is_standard() || matches!(fault, Fault::OutOfMemory)
 }
 
 /// Writes the line of a refusal, and behind the word of its side what it means.

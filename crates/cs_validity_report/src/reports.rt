@@ -7,7 +7,7 @@ use crate::basic::put_basic;
 use crate::schemas::Schemas;
 use cs_flat::Flat;
 use cs_place::Named;
-use cs_reason_words::{Form, MOST_COMPARISONS, put_told, report_verdict, told_by};
+use cs_reason_words::{Form, Format, MOST_COMPARISONS, put_told, report_verdict, told_by};
 use cs_reasons::Telling;
 use cs_validate::SchemaRules;
 use cs_validity_reasons::Explanation;
@@ -53,7 +53,7 @@ fn put_explanation<'t>(
         Explanation::Untold => return put_untold(text, form),
         Explanation::Invalid(reasons) => reasons,
     };
-    if let Form::Flag = form {
+    if !form.has_reasons() {
         return Ok(());
     }
     let mut words = Schemas {
@@ -63,20 +63,18 @@ fn put_explanation<'t>(
         comparisons: MOST_COMPARISONS,
     };
     let told = told_by(alloc, &mut words, telling, document, &[], reasons)?;
-    if let Form::Basic = form {
-        return put_basic(text, &words, document, reasons, &told);
+    match form {
+        Form::Object(Format::Basic) => put_basic(text, &words, document, reasons, &told),
+        Form::Lines | Form::Object(Format::Json | Format::Flag) => {
+            put_told(text, form, document, &told)
+        }
     }
-    put_told(text, form, document, &told)
 }
 
 /// That the reasons of a document aren't told: for people, and the members for programs and in the output format `basic` (JSON
 /// Schema Core 2020-12, section 12.4.2).
 const UNTOLD_LINE: &str =
     "the reasons aren't told: values and required names make more than 67,108,864 pairs\n";
-
-const UNTOLD_MEMBERS: &str = ",\"errors\":[],\"more\":1";
-
-const UNTOLD_BASIC: &str = ",\"errors\":[]";
 
 /// Puts what is told of the reasons of a document that isn't valid, where they aren't told. There is one at least.
 fn put_untold(text: &mut String, form: Form) -> Result<(), AllocError>
@@ -87,8 +85,15 @@ fn put_untold(text: &mut String, form: Form) -> Result<(), AllocError>
             text.push_str(UNTOLD_LINE)?;
             Ok(())
         }
-        Form::Json => text.push_str(UNTOLD_MEMBERS),
-        Form::Flag => Ok(()),
-        Form::Basic => text.push_str(UNTOLD_BASIC),
+        Form::Object(format) => text.push_str(untold_members(format)),
+    }
+}
+
+/// The members that are told where the reasons aren't: for programs that there is one at least.
+fn untold_members(format: Format) -> &'static str {
+    match format {
+        Format::Json => ",\"errors\":[],\"more\":1",
+        Format::Flag => "",
+        Format::Basic => ",\"errors\":[]",
     }
 }

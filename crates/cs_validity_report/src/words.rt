@@ -69,7 +69,7 @@ pub(crate) fn put_unmet(
         return Ok("excluded");
     }
     KINDS.put_mismatch(text, value)?;
-    for (limiting, mark, limit, _) in limits(keywords) {
+    for (limiting, mark, limit) in limits(keywords) {
         if limiting.name() == keyword.name() {
             text.push_str(mark)?;
             put_integer(text, limit.unwrap_or(0))?;
@@ -114,35 +114,34 @@ fn put_negated(
     put_value(text, constant)
 }
 
-/// The limits of a schema's keywords, each with its keyword and what is put before and behind it.
-fn limits(keywords: &Keywords) -> [(Keyword, &'static str, Option<i64>, &'static str); 5] {
+/// The limits of integers in a schema, each with its keyword and its mark.
+fn limits(keywords: &Keywords) -> [(Keyword, &'static str, Option<i64>); 4] {
     [
-        (Keyword::Minimum, ">=", keywords.minimum, ""),
-        (Keyword::Maximum, "<=", keywords.maximum, ""),
-        (Keyword::ExclusiveMinimum, ">", keywords.above, ""),
-        (Keyword::ExclusiveMaximum, "<", keywords.below, ""),
-        (
-            Keyword::MinItems,
-            "at least ",
-            keywords.min_items,
-            " elements",
-        ),
+        (Keyword::Minimum, ">=", keywords.minimum),
+        (Keyword::Maximum, "<=", keywords.maximum),
+        (Keyword::ExclusiveMinimum, ">", keywords.above),
+        (Keyword::ExclusiveMaximum, "<", keywords.below),
     ]
 }
 
-/// Puts all limits of a schema's keywords.
+/// Puts all limits of a schema: those of integers, and of the elements of lists.
 fn put_limits(text: &mut String, keywords: &Keywords) -> Result<(), AllocError> {
     let mut before = 0;
-    for (_, mark, limit, behind) in limits(keywords) {
+    for (_, mark, limit) in limits(keywords) {
         if let Some(limit) = limit {
             put_between(text, before, " & ")?;
             text.push_str(mark)?;
             put_integer(text, limit)?;
-            text.push_str(behind)?;
             before = 1;
         }
     }
-    Ok(())
+    let Some(least) = keywords.min_items else {
+        return Ok(());
+    };
+    put_between(text, before, " & ")?;
+    text.push_str("at least ")?;
+    put_integer(text, least)?;
+    text.push_str(" elements")
 }
 
 /// Puts what one alternative asks.

@@ -1,4 +1,4 @@
-use Rattle.std.proofs.Common.{rules, ap, ◌∙◌}
+use Rattle.std.proofs.Common.{rules}
 use Rattle.cs_judge.proofs.reports.listed_validity.Goals as goal
 
 pub returns-clause-verdict : goal.returns-clause-verdict
