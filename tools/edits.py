@@ -6,6 +6,9 @@
     tools/edits.py --since [REV]    those of the crates whose code, specs, proofs or edits differ from the commit REV. Without
                                     REV it is where this branch left the one that it tracks
     tools/edits.py --gate           those that edits/GATE names, over the libraries that `rt ci` left
+    tools/edits.py --left CRATE..   those of these crates, or of all, that edits/TRIED doesn't have as they are, over the libraries that `rt ci`
+                                    left: each that is refused is written there, so a run that was cut off goes on
+    tools/edits.py --untried        tries none: how many of each crate edits/TRIED doesn't have as they are
     tools/edits.py --fit            tries none: says which edits don't fit the code any more
 
 The crates are proved in a scratch copy of this tree, over what earlier checks here kept, and edits over what that proved.
@@ -19,6 +22,8 @@ call the most comes first.
 """
 from __future__ import annotations
 
+import functools
+import hashlib
 import os
 import re
 import shutil
@@ -33,6 +38,8 @@ from pathlib import Path
 import kit
 from kit import TOP
 
+# The edits that were refused, each with the checksum of what it was tried on: CRATE/NAME SUM.
+TRIED = TOP / "edits/TRIED"
 MOST_AT_ONCE = 12
 MESSAGE = re.compile(r"(?:note: )?(?:\./)?([^ :]+):(\d+):\d+: (.*)")
 UNREADABLE = re.compile(r"is not in scope|has no field|is no name|operand is missing|expected the end|cannot continue")
@@ -353,6 +360,12 @@ class GateLane(Lane):
         return ran.returncode, ran.stdout
 
 
+def called_by(batch: list[Edit], reached: dict[str, dict[str, set[str]]]) -> set[str]:
+    """The functions that those which a batch changes call in their crate, also by others."""
+    functions = (edit.function(TOP / "crates" / edit.crate) for edit in batch)
+    return set().union(*(reached[batch[0].crate].get(it[1], set()) for it in functions if it))
+
+
 class Trial:
     """The edits that are still to be tried, and the lanes' answers."""
 
@@ -395,13 +408,21 @@ class Trial:
 
     def take_the_longest_first(self) -> None:
         """Puts the checks first whose functions call the most others of their crate."""
-        reached = {it: calls(it) for it in {batch[0].crate for batch in self.tasks}}
+        reached = self.reached()
+        self.tasks.sort(key=lambda batch: -len(called_by(batch, reached)))
 
-        def called(batch: list[Edit]) -> int:
-            functions = (it.function(TOP / "crates" / it.crate) for it in batch)
-            return len(set().union(*(reached[batch[0].crate].get(it[1], set()) for it in functions if it)))
+    def take_the_cheapest_first(self) -> None:
+        """Puts the checks first whose functions call few others of their crate for each edit, and last those for which a whole crate is checked."""
+        reached = self.reached()
 
-        self.tasks.sort(key=called, reverse=True)
+        def cost(batch: list[Edit]) -> tuple[bool, float]:
+            is_whole = None in [edit.path(TOP / "crates" / edit.crate) for edit in batch]
+            return is_whole, (len(called_by(batch, reached)) + 8) / len(batch)
+
+        self.tasks.sort(key=cost)
+
+    def reached(self) -> dict[str, dict[str, set[str]]]:
+        return {it: calls(it) for it in {batch[0].crate for batch in self.tasks}}
 
     def answer(self, edit: Edit, well: bool, text: str) -> None:
         with self.lock:
@@ -544,6 +565,63 @@ def tried(trial: "Trial", lanes: list[Lane]) -> int:
     return 1 if failed or not trial.count else 0
 
 
+@functools.lru_cache(maxsize=None)
+def sum_of(crate: str) -> bytes:
+    """A checksum of the code, the definitions and the proofs of a crate."""
+    made, folder = hashlib.sha256(), TOP / "crates" / crate
+    for file in sorted(it for part in ("src", "specs", "proofs") for it in (folder / part).rglob("*") if it.is_file()):
+        made.update(f"{file.relative_to(folder)}\n".encode() + hashlib.sha256(file.read_bytes()).digest())
+    return made.digest()
+
+
+def mark(edit: Edit) -> str:
+    """What edits/TRIED has of an edit that was refused: it changes with the edit and with its crate."""
+    return f"{edit.label.removesuffix('.edit')} {hashlib.sha256(sum_of(edit.crate) + repr(edit.pairs).encode()).hexdigest()[:12]}"
+
+
+def untried(crates: list[str]) -> list[Edit]:
+    """The edits of these crates, or of all, that weren't refused as they are."""
+    known = set(TRIED.read_text().split("\n")) if TRIED.is_file() else set()
+    names = crates or sorted(it.name for it in (TOP / "edits").iterdir() if it.is_dir())
+    return [edit for crate in names for edit in edits_of(crate, f"edits/{crate}") if mark(edit) not in known]
+
+
+class Recorded(Trial):
+    """A trial of which edits/TRIED keeps what was refused."""
+
+    def answer(self, edit: Edit, well: bool, text: str) -> None:
+        super().answer(edit, well, text)
+        if well:
+            with self.lock, TRIED.open("a") as file:
+                file.write(f"{mark(edit)}\n")
+
+
+def tidy_tried() -> None:
+    """Leaves in edits/TRIED what is still so, in order."""
+    whole = {mark(edit) for crate in (TOP / "edits").iterdir() if crate.is_dir() for edit in edits_of(crate.name, f"edits/{crate.name}")}
+    TRIED.write_text("".join(f"{it}\n" for it in sorted(whole & set(TRIED.read_text().split("\n")))))
+
+
+def left(crates: list[str]) -> int:
+    TRIED.touch()
+    trial = Recorded(untried(crates))
+    trial.take_the_cheapest_first()
+    with tempfile.TemporaryDirectory() as room:
+        lanes = gate_lanes(trial, Path(room))
+        for it in lanes:
+            it.takes_names = True
+        status = tried(trial, lanes)
+    tidy_tried()
+    return status
+
+
+def count_untried() -> int:
+    counts = Counter(edit.crate for edit in untried([]))
+    for crate, count in sorted(counts.items()):
+        print(f"{crate}: {count} of {len(edits_of(crate, f'edits/{crate}'))}")
+    return 0
+
+
 def gate() -> int:
     if misfits():
         return 1
@@ -558,6 +636,10 @@ def main(words: list[str]) -> int:
         return 1 if misfits() else 0
     if words == ["--gate"]:
         return gate()
+    if words == ["--untried"]:
+        return count_untried()
+    if words[:1] == ["--left"]:
+        return left(words[1:])
     crates = sorted(it.name for it in (TOP / "edits").iterdir() if it.is_dir()) if words == ["--all"] else changed_since(words[1:]) if words[:1] == ["--since"] else words
     if not crates:
         return 0 if words else 2
