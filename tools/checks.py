@@ -47,6 +47,7 @@ OF_PROGRAMS = [
     "tools/commands.sh",
     "tools/examples.sh",
     "tools/prefixes.py",
+    "tools/laid_out.py",
     "tools/natural.py",
     "tools/pages.sh",
     "tools/explained.py",

@@ -192,7 +192,8 @@ try_run 4 '{' 'error 31' 'run export --root "#P" < wide.cue | { head -c 1; echo;
 # A file that may not grow further: what it has is a front of the answer.
 seq 1000 | sed 's/.*/#D&: int/' > declared.cue
 seq 1000 | sed 's/.*/#D&: int \& string/' > contrary.cue
-for words in 'export --root "#P" wide.cue' 'export --pretty --root "#P" wide.cue' 'export --all wide.cue' 'list declared.cue' 'check contrary.cue'; do
+for words in 'export --root "#P" wide.cue' 'export --pretty --root "#P" wide.cue' 'export --all wide.cue' 'list declared.cue' 'widen declared.cue' \
+    'check contrary.cue'; do
     try_run 4 'a front' 'error 31' "run $words > whole
     (trap '' XFSZ; ulimit -f 16; run $words > part)
     [ -s part ] && head -c \"\$(wc -c < part)\" whole | cmp - part && echo 'a front'"

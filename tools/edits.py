@@ -167,9 +167,10 @@ def clauses(folder: Path) -> dict[str, set[str]]:
     return found
 
 
-def citing(names: set[str], folder: Path) -> list[str]:
-    """The paths of some functions whose clauses name one of these definitions, or else one that rests on them."""
-    functions = clauses(folder)
+def citing(names: set[str], crate: str) -> list[str]:
+    """The paths of functions whose clauses name one of these definitions, or else one that rests on them; those first that call few others."""
+    folder = TOP / "crates" / crate
+    functions, reached = clauses(folder), calls(crate)
     parts: dict[str, set[str]] = {}
     for file in (folder / "specs").rglob("*.antt"):
         lines = file.read_text().split("\n")
@@ -180,7 +181,7 @@ def citing(names: set[str], folder: Path) -> list[str]:
         found = [path for path, words in functions.items() if words & names]
         more = names | {name for name, words in parts.items() if words & names}
         if len(found) >= MOST_CITING or more == names:
-            return found[:MOST_CITING]
+            return sorted(found, key=lambda path: len(reached.get(path.split("::")[-1], ())))
         names = more
 
 
@@ -250,9 +251,9 @@ class Lane:
         the function may do, one that calls it may not, and what turns code and definition alike, only a law or a sample refuses."""
         folder = self.proved / "crates" / edit.crate
         path = edit.path(folder)
-        paths = [path] if path else citing(edit.definitions(folder), folder)
-        if paths:
-            well, text = self.answer(edit, paths)
+        paths = [path] if path else citing(edit.definitions(folder), edit.crate)
+        for some in (paths[:1], paths[1:MOST_CITING]):
+            well, text = self.answer(edit, some) if some else (False, "")
             if well:
                 return well, text
         return self.answer(edit, [])
@@ -328,14 +329,18 @@ class TreeLane(Lane):
 
 
 class Kept:
-    """What the checks of edits have proved so far, in a folder for each crate that has several: these come one after another, and each
-    begins with it."""
+    """What the checks of edits have proved so far, in a folder for each crate that has several, or of which a check is kept: these come one
+    after another, and each begins with it. It begins as what a check of the crate kept, where there is one."""
 
     def __init__(self, batches: list[list[Edit]], room: Path):
         checks = Counter(batch[0].crate for batch in batches)
-        self.folders = {name: room / name for name, count in checks.items() if count > 1}
-        for folder in self.folders.values():
-            folder.mkdir()
+        before = {name: TOP / "crates" / name / "out" / "incremental" for name in checks}
+        self.folders = {name: room / name for name, count in checks.items() if count > 1 or before[name].is_dir()}
+        for name, folder in self.folders.items():
+            if before[name].is_dir():
+                shutil.copytree(before[name], folder, copy_function=os.link)
+            else:
+                folder.mkdir()
 
     def of(self, crate: str) -> str | None:
         return str(self.folders[crate]) if crate in self.folders else None

@@ -182,6 +182,7 @@ try '1 MiB of stack: export --describe' 0 'shows "description":"Deep."' 'export 
 try '1 MiB of stack: export --pretty' 0 'shows "items": false' 'export --pretty --root #A deep.cue'
 try '1 MiB of stack: check' 0 'lines 0' 'check deep.cue'
 try '1 MiB of stack: list' 0 'lines 0 deep.cue:2:1: #A: list' 'list deep.cue'
+try '1 MiB of stack: widen' 0 "lines 0 #A: $(nested 28 '[' '' ']')" 'widen deep.cue'
 try '1 MiB of stack: samples' 0 "lines 0 $(nested 28 '[' '' ']')" 'samples --root #A deep.cue'
 try '1 MiB of stack: samples --invalid' 1000000 "shows $(nested 27 '[' null ']')" 'samples --invalid --root #A deep.cue'
 try '1 MiB of stack: compare --why' 0 \
@@ -255,6 +256,10 @@ try 'a definition declared 501 times: export --describe' 0 'shows a comment that
 listed 1000 '#a%d: {x?: #a0}' '\n' > wide.cue
 try '1,000 definitions: export --openapi' 0 'shows "a999": {' 'export --openapi --describe --pretty wide.cue'
 try '1,000 definitions: list' 0 'shows #a999: struct' 'list wide.cue'
+# A line for each field, with a tab for each struct around it: more than four times the bytes of the source. Most of the time goes into
+# its labels, which `list` sorts as well: each counts as 20 pairs here.
+{ printf '#A: '; many 26 '{a:'; printf '{'; listed 45000 'f%d:_'; printf '}'; many 26 '}'; } > wide.cue
+try '45,000 fields in 27 structs: widen' 900000 'shows f44999: _' 'widen wide.cue'
 awk 'BEGIN { for (i = 0; i < 900; i++) printf "#a%d: #a%d & #a%d\n", i, i + 1, i + 1; print "#a900: int" }' > wide.cue
 try 'chain of 900 definitions, twice each: list' 0 'error 16' 'list wide.cue'
 awk 'BEGIN { for (i = 0; i < 60; i++) printf "#a%d: #a%d & #a%d\n", i, i + 1, i + 1; print "#a60: int" }' > wide.cue
@@ -319,12 +324,15 @@ rm text
 { printf '#A: "'; fill 1048570 a; printf '"'; } > long.cue
 try 'source of a text of 1 MiB' 0 \
     "{\"A\":{\"const\":\"$(fill 1048570 a)\"}}" 'export --root #A long.cue'
+try 'source of a text of 1 MiB: widen' 0 "lines 0 #A: \"$(fill 1048570 a)\"" 'widen long.cue'
 try 'source of a text of 1 MiB: samples' 0 "lines 0 \"$(fill 1048570 a)\"" 'samples --root #A long.cue'
 try 'source of a text of 1 MiB against itself: compare' 0 'lines 0 compatible' 'compare --root #A --old long.cue --new long.cue'
 { printf '#A: "'; fill 1048569 a; printf 'b"'; } > other.cue
 try 'texts of 1 MiB, but for the last byte: compare' 0 "lines 1 breaking;\"$(fill 1048570 a)\"" 'compare --root #A --old long.cue --new other.cue'
 { printf '#A: "'; many 262142 '\t'; printf '"'; } > long.cue
 try 'source of 262,142 escapes' 1 invalid 'vet --root #A --doc null long.cue'
+{ printf '#A: "'; fill 1048570 '\001'; printf '"'; } > long.cue
+try 'source of 1,048,570 characters with escapes: widen' 0 'shows \u0001\u0001"' 'widen long.cue'
 { printf '#A: 1'; fill 1048571 0; } > long.cue
 try 'source of an integer of 1 MiB' 0 'error 6 at 4' 'export --root #A long.cue'
 { printf '#A: '; fill 1048572 a; } > long.cue
@@ -690,6 +698,7 @@ awk 'BEGIN {
         print "}"
     }
 }' > wide.cue
+try '1,000 definitions of 1 MiB: widen' 0 'shows next?: #A999' 'widen wide.cue'
 try '1,000 definitions of 1 MiB: samples' 100000000 'leaves "next":{"field_1_' 'samples --root #A0 wide.cue'
 try '1,000 definitions of 1 MiB: samples --invalid' 100000000 'leaves null' 'samples --invalid --root #A0 wide.cue'
 # Documents that have twice as many values with each definition: the steps bound what is written, and so what is kept. They are given a

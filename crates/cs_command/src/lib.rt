@@ -8,8 +8,8 @@ use crate::words::COMMANDS;
 use clap::Command;
 use std::alloc::{AllocError, Global};
 
-/// The program's command: `export`, `list`, `vet`, `validate`, `agree`, `check`, `compare`, `samples` and `explain` with their
-/// words. Sources are the values of `FILE`, and for `compare` of `old` and `new`, in the order of the words.
+/// The program's command: `export`, `list`, `widen`, `vet`, `validate`, `agree`, `check`, `compare`, `samples` and `explain` with
+/// their words. Sources are the values of `FILE`, and for `compare` of `old` and `new`, in the order of the words.
 pub fn command<'a>(alloc: Global) -> Result<Command<'a>, AllocError> {
     let commands = subcommands(alloc)?;
     Command::new(alloc, "cue2schema")

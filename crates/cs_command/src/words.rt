@@ -276,6 +276,12 @@ const FORMAT_OF_LIST: Word = Word {
     ..FORMAT
 };
 
+/// The same word for a command whose answer is no object.
+const FORMAT_OF_REFUSAL: Word = Word {
+    help: "Prints an object of JSON in place of the line of a refusal",
+    ..FORMAT
+};
+
 /// What asks for reasons.
 const REASONS: Group = Group {
     id: "reasons",
@@ -309,8 +315,8 @@ const FILES: Word = Word {
 
 /// All of them, in the order of the program's help. An array, since the prover gives up on a slice of so many tables within
 /// tables.
-pub(crate) const COMMANDS: [Subcommand; 9] = [
-    EXPORT, LIST, VET, VALIDATE, AGREE, CHECK, COMPARE, SAMPLES, EXPLAIN,
+pub(crate) const COMMANDS: [Subcommand; 10] = [
+    EXPORT, LIST, WIDEN, VET, VALIDATE, AGREE, CHECK, COMPARE, SAMPLES, EXPLAIN,
 ];
 
 const EXPORT: Subcommand = Subcommand {
@@ -335,6 +341,14 @@ const LIST: Subcommand = Subcommand {
     about: "Lists the definitions of CUE files, a line for each",
     example: "Example: cue2schema list port.cue",
     words: &[FORMAT_OF_LIST, WHY_REFUSED, FILES],
+    groups: &[],
+};
+
+const WIDEN: Subcommand = Subcommand {
+    name: "widen",
+    about: "Writes the definitions of CUE files as one source, in one layout",
+    example: "Example: cue2schema widen port.cue",
+    words: &[FORMAT_OF_REFUSAL, WHY_REFUSED, FILES],
     groups: &[],
 };
 

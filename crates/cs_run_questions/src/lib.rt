@@ -4,6 +4,7 @@
 mod compared;
 mod listed;
 mod sampled;
+mod widened;
 
 use clap::ArgMatches;
 pub use compared::compare;
@@ -16,6 +17,7 @@ use cs_run_refusals::or_unread;
 use cs_tool::{Fault, slices_of};
 pub use listed::list;
 pub use sampled::write_samples;
+pub use widened::write_widened;
 
 /// The numbers that refusals have.
 const NUMBERS: &str = "the numbers are 1 to 17, 20 to 28, 30 and 31";

@@ -5,7 +5,7 @@ use clap::ArgMatches;
 use cs_run_export::export;
 use cs_run_input::{COMMAND_LINE, are_at_odds, process_words, show};
 use cs_run_judge::judge;
-use cs_run_questions::{check, compare, explain, list, write_samples};
+use cs_run_questions::{check, compare, explain, list, write_samples, write_widened};
 use cs_tool::{Fault, command, write_fault};
 use std::process::ExitCode;
 
@@ -51,6 +51,7 @@ fn answered(rt: &HostRuntime, matches: &ArgMatches<'_>) -> Result<u8, Fault> {
         "explain" => explain(rt, words),
         "list" => list(rt, words),
         "samples" => write_samples(rt, words),
+        "widen" => write_widened(rt, words),
         _ => Ok(COMMAND_LINE),
     }
 }

@@ -1,0 +1,18 @@
+-- What the proofs of this crate show: the text of a file is cut into tokens that spell it, by induction on its trees (`Fronts`, `Tokens`, `Integers`, `Quoted`, `Trees`,
+-- `Files`); what a source spells can be written down (`Sound`); and its words nest no deeper than its bodies are high (`Deep`, `Heights`).
+
+-- texts that begin a text, and the tokens that are printed
+mod Fronts
+mod Tokens
+mod Integers
+mod Quoted
+-- trees and files
+mod Trees
+mod Files
+mod Layouts
+-- what is spelled
+mod Sound
+mod Deep
+mod Heights
+-- samples of the definitions
+mod Samples

@@ -1,0 +1,64 @@
+-- Trees that can be written down and some that can't, files that are joined, and how they are laid out.
+use Rattle.std.proofs.Common.{◌≡◌, [], ◌∷◌, true, false, Some, None, codes, refl}
+use Rattle.cs_grammar.specs.declared.ast.FieldMark.TheVariants.{Regular, Optional, Required, Every}
+use Rattle.cs_grammar.specs.Atom as A
+use Rattle.cs_grammar.specs.Spells.{every_label}
+use Rattle.cs_grammar.specs.Tree.{Tree, atom, named, reference, conjunction, disjunction, paren, struct, list, none, more, no_field, field, any, definition, FileTree, file}
+use Rattle.cs_print.specs.Layout.{file_text}
+use Rattle.cs_print.specs.Printed.{unplaced, joined_file}
+use Rattle.cs_print.specs.Written.{by_itself, of_amp, IsWritten, IsWrittenLabel, IsWrittenFile}
+
+-- ---- what can be written down
+
+abbrev none_of : Tree
+none_of = atom A.bottom
+
+-- `int | _|_` stands by itself; as an operand it needs a parenthesis
+abbrev either : Tree
+either = disjunction (more (named (codes "int") 9) (more none_of none))
+
+by_itself_alone : IsWritten by_itself either
+by_itself_alone = (tt, tt, ((refl, refl, refl), (tt, tt)))
+
+no_operand : IsWritten of_amp either → ⊥
+no_operand w = w.0
+
+in_parenthesis : IsWritten of_amp (paren either)
+in_parenthesis = by_itself_alone
+
+-- one operand alone makes no conjunction
+no_single : IsWritten by_itself (conjunction (more none_of none)) → ⊥
+no_single w = w.1
+
+-- `if` and `null` are no names of operands, and `1a` is no name
+no_word : IsWritten by_itself (named (codes "if") 0) → ⊥
+no_word w = let e = w.1 in cc
+
+no_literal : IsWritten by_itself (named (codes "null") 0) → ⊥
+no_literal w = let e = w.2 in cc
+
+-- as a label `if` is one, and a text that isn't a name has to stand in quotes
+word_label : IsWrittenLabel (record { text = codes "if"; quotes = false }) Required
+word_label = λ e. refl
+
+quoted_label : IsWrittenLabel (record { text = codes "1a"; quotes = true }) Regular
+quoted_label = λ e. absurd cc
+
+-- ---- files as one
+
+-- two references are the same apart from offsets where they have the same name
+moved : unplaced (reference (codes "A") 7) ≡ unplaced (reference (codes "A") 3)
+moved = refl
+
+abbrev plain_file : FileTree
+plain_file = file None (definition (codes "A") 1 (named (codes "int") 4) ∷ [])
+
+abbrev named_file : FileTree
+named_file = file (Some (codes "p")) (definition (codes "B") 12 (struct 15 (field (record { text = codes "a"; quotes = false }) Optional (reference (codes "A") 19) (field every_label (Every 23) (list (more none_of none) any) no_field)) true) ∷ [])
+
+-- the clause is that of the first file that has one, and the definitions stay in their order
+layout : file_text (joined_file (plain_file ∷ named_file ∷ [])) ≡ codes "package p\n\n#A: int\n#B: {\n\ta?: #A\n\t[string]: [_|_, ...]\n\t...\n}\n"
+layout = refl
+
+both_written : IsWrittenFile (joined_file (plain_file ∷ named_file ∷ []))
+both_written = (refl, ((refl, (refl, refl, refl)), ((refl, ((λ e. refl), refl, (refl, ((tt, tt), tt), tt))), tt)))

@@ -1,0 +1,116 @@
+-- How files are laid out: each definition and each field begins a line, a tab further in for each struct around it.
+use Rattle.std.specs.Prelude.{ℕ, ℤ, pos, negsuc, List, [], ◌++◌, Bool, true, false, if◌then◌else◌, Option, Some, None, codes}
+use Rattle.std.specs.Fmt.{signed_decimal}
+use Rattle.std.specs.List.{flat_map}
+use Rattle.cs_place.specs.Shown.{quoted}
+use Rattle.cs_grammar.specs.declared.ast.FieldMark.{FieldMark}
+use Rattle.cs_grammar.specs.declared.ast.FieldMark.TheVariants.{Regular, Optional, Required, Every}
+use Rattle.cs_grammar.specs.Atom.{Atom, top, bottom, null, boolean, integer, text, bound, not_integer, not_text, not_null, Relation, less, at_most, more, at_least}
+use Rattle.cs_grammar.specs.Tree as T
+use Rattle.cs_grammar.specs.Tree.{Label, Tree, atom, named, reference, conjunction, disjunction, paren, struct, list, Trees, Fields, no_field, field, End, closed, any, each, DefinitionTree, definition, definitions, package_name, FileTree}
+
+abbrev pub relation_text : Relation → List ℕ
+relation_text less = codes "<"
+relation_text at_most = codes "<="
+relation_text more = codes ">"
+relation_text at_least = codes ">="
+
+-- a blank before a `-`, since CUE reads `<-` as one token
+abbrev pub limit_text : ℤ → List ℕ
+limit_text (pos n) = signed_decimal (pos n)
+limit_text (negsuc n) = codes " " ++ signed_decimal (negsuc n)
+
+abbrev pub truth_text : Bool → List ℕ
+truth_text true = codes "true"
+truth_text false = codes "false"
+
+abbrev pub atom_text : Atom → List ℕ
+atom_text top = codes "_"
+atom_text bottom = codes "_|_"
+atom_text null = codes "null"
+atom_text (boolean b) = truth_text b
+atom_text (integer z) = signed_decimal z
+atom_text (text s) = quoted s
+atom_text (bound r z) = relation_text r ++ limit_text z
+atom_text (not_integer z) = codes "!=" ++ signed_decimal z
+atom_text (not_text s) = codes "!=" ++ quoted s
+atom_text not_null = codes "!=null"
+
+-- a label, its mark, and the colon
+abbrev pub label_text : Label → List ℕ
+label_text l = if l.quotes then quoted l.text else l.text
+
+abbrev pub head_text : Label → FieldMark → List ℕ
+head_text l Regular = label_text l ++ codes ": "
+head_text l Optional = label_text l ++ codes "?: "
+head_text l Required = label_text l ++ codes "!: "
+head_text l (Every o) = codes "[string]: "
+
+-- the line inside a struct
+abbrev pub inner : List ℕ → List ℕ
+inner line = line ++ codes "\t"
+
+-- what is behind the fields of a struct, which are none or some
+abbrev pub closing_text : List ℕ → Bool → Bool → List ℕ
+closing_text line true true = codes "...}"
+closing_text line false true = codes "}"
+closing_text line true false = inner line ++ (codes "..." ++ (line ++ codes "}"))
+closing_text line false false = line ++ codes "}"
+
+-- what parts the `...` of a list from its elements, which are none or some
+abbrev pub parting_text : Bool → List ℕ
+parting_text true = []
+parting_text false = codes ", "
+
+abbrev pub is_no_field : Fields → Bool
+is_no_field no_field = true
+is_no_field (field l m e fs) = false
+
+abbrev pub is_no_element : Trees → Bool
+is_no_element T.none = true
+is_no_element (T.more e es) = false
+
+-- a line ends and the next one begins with `line`, which is a newline and tabs
+abbrev mutual
+  pub tree_text : List ℕ → Tree → List ℕ
+  tree_text line (atom a) = atom_text a
+  tree_text line (named s o) = s
+  tree_text line (reference s o) = codes "#" ++ s
+  tree_text line (conjunction es) = parted_text line (codes " & ") es
+  tree_text line (disjunction es) = parted_text line (codes " | ") es
+  tree_text line (paren e) = codes "(" ++ (tree_text line e ++ codes ")")
+  tree_text line (struct o fs b) = codes "{" ++ (lines_text (inner line) fs ++ closing_text line b (is_no_field fs))
+  tree_text line (list es end) = codes "[" ++ (parted_text line (codes ", ") es ++ end_text line (parting_text (is_no_element es)) end)
+
+  pub parted_text : List ℕ → List ℕ → Trees → List ℕ
+  parted_text line by T.none = []
+  parted_text line by (T.more e es) = tree_text line e ++ behind_text line by es
+
+  -- each part behind what parts it from the one before
+  pub behind_text : List ℕ → List ℕ → Trees → List ℕ
+  behind_text line by T.none = []
+  behind_text line by (T.more e es) = by ++ (tree_text line e ++ behind_text line by es)
+
+  pub end_text : List ℕ → List ℕ → End → List ℕ
+  end_text line by closed = codes "]"
+  end_text line by any = by ++ codes "...]"
+  end_text line by (each e) = by ++ (codes "..." ++ (tree_text line e ++ codes "]"))
+
+  -- each field behind the end of the line before
+  pub lines_text : List ℕ → Fields → List ℕ
+  lines_text line no_field = []
+  lines_text line (field l m e fs) = line ++ (head_text l m ++ (tree_text line e ++ lines_text line fs))
+
+abbrev pub definition_text : DefinitionTree → List ℕ
+definition_text (definition s o e) = codes "#" ++ (s ++ (codes ": " ++ (tree_text (codes "\n") e ++ codes "\n")))
+
+abbrev pub definitions_text : List DefinitionTree → List ℕ
+definitions_text ds = flat_map definition_text ds
+
+-- the package clause, and an empty line
+abbrev pub clause_text : Option (List ℕ) → List ℕ
+clause_text None = []
+clause_text (Some s) = codes "package " ++ (s ++ codes "\n\n")
+
+abbrev pub file_text : FileTree → List ℕ
+file_text f = clause_text (package_name f) ++ definitions_text (definitions f)

@@ -1,0 +1,10 @@
+-- The source that files are printed as. Trees and the grammar are handed on from the crate below.
+pub use Rattle.cs_grammar.specs.Tree
+pub use Rattle.cs_grammar.specs.Spells
+pub use Rattle.cs_grammar.specs.View
+pub use Rattle.cs_grammar.specs.Source
+pub mod Written
+pub mod Printed
+-- for contracts of private functions and proofs alone
+pub mod Layout
+pub mod Texts

@@ -1,0 +1,95 @@
+-- Trees that can be written down: a name is a name, a number has 64 signed bits, and an operand of `&` or `|` needs no parenthesis that isn't in the tree (CUE, identifiers, numeric literals, operands and expressions).
+use Rattle.std.specs.Prelude.{◌≡◌, ℕ, List, ◌∷◌, false, Option, Some, None, FitsSigned}
+use Rattle.std.specs.Int.{w64}
+use Rattle.std.specs.List.{AllByRecursion}
+use Rattle.cs_grammar.specs.declared.ast.FieldMark.{FieldMark}
+use Rattle.cs_grammar.specs.declared.ast.FieldMark.TheVariants.{Regular, Optional, Required, Every}
+use Rattle.cs_grammar.specs.declared.token.Sort.TheVariants as sorts
+use Rattle.cs_grammar.specs.Spelling.{sort_of}
+use Rattle.cs_grammar.specs.Atom.{Atom, top, bottom, null, boolean, integer, text, bound, not_integer, not_text, not_null}
+use Rattle.cs_grammar.specs.Spells.{is_reserved, literal_of, every_label}
+use Rattle.cs_grammar.specs.Tree.{Label, Tree, atom, named, reference, conjunction, disjunction, paren, struct, list, Trees, none, more, Fields, no_field, field, End, closed, any, each, DefinitionTree, definition, FileTree, file}
+
+-- where an expression stands: by itself, as an operand of `|`, or as an operand of `&`
+pub data Place : Type 0 where
+  by_itself of_bar of_amp : Place
+
+abbrev pub IsName : List ℕ → Type 0
+IsName s = sort_of s ≡ Some sorts.Name
+
+-- behind a `#` (35) it is the name of a definition
+abbrev pub IsDefinitionName : List ℕ → Type 0
+IsDefinitionName s = sort_of (35 ∷ s) ≡ Some sorts.Definition
+
+abbrev pub IsWrittenAtom : Atom → Type 0
+IsWrittenAtom (integer z) = FitsSigned w64 z
+IsWrittenAtom (bound r z) = FitsSigned w64 z
+IsWrittenAtom (not_integer z) = FitsSigned w64 z
+IsWrittenAtom top = Unit {0}
+IsWrittenAtom bottom = Unit {0}
+IsWrittenAtom null = Unit {0}
+IsWrittenAtom (boolean b) = Unit {0}
+IsWrittenAtom (text s) = Unit {0}
+IsWrittenAtom (not_text s) = Unit {0}
+IsWrittenAtom not_null = Unit {0}
+
+-- `[string]` is a label of its own; another is a text or a name
+abbrev pub IsTextOrName : Label → Type 0
+IsTextOrName l = l.quotes ≡ false → IsName l.text
+
+abbrev pub IsWrittenLabel : Label → FieldMark → Type 0
+IsWrittenLabel l Regular = IsTextOrName l
+IsWrittenLabel l Optional = IsTextOrName l
+IsWrittenLabel l Required = IsTextOrName l
+IsWrittenLabel l (Every o) = l ≡ every_label
+
+-- two or more
+abbrev pub AreTwo : Trees → Type 0
+AreTwo none = ⊥
+AreTwo (more e none) = ⊥
+AreTwo (more e (more f es)) = Unit {0}
+
+abbrev pub TakesBars : Place → Type 0
+TakesBars by_itself = Unit {0}
+TakesBars of_bar = ⊥
+TakesBars of_amp = ⊥
+
+abbrev pub TakesAmps : Place → Type 0
+TakesAmps by_itself = Unit {0}
+TakesAmps of_bar = Unit {0}
+TakesAmps of_amp = ⊥
+
+abbrev mutual
+  pub IsWritten : Place → Tree → Type 0
+  IsWritten p (atom a) = IsWrittenAtom a
+  IsWritten p (named s o) = IsName s × (is_reserved s ≡ false) × (literal_of s ≡ None)
+  IsWritten p (reference s o) = IsDefinitionName s
+  IsWritten p (conjunction es) = TakesAmps p × AreTwo es × AreWritten of_amp es
+  IsWritten p (disjunction es) = TakesBars p × AreTwo es × AreWritten of_bar es
+  IsWritten p (paren e) = IsWritten by_itself e
+  IsWritten p (struct o fs b) = AreWrittenFields fs
+  IsWritten p (list es end) = AreWritten by_itself es × IsWrittenEnd end
+
+  pub AreWritten : Place → Trees → Type 0
+  AreWritten p none = Unit {0}
+  AreWritten p (more e es) = IsWritten p e × AreWritten p es
+
+  pub AreWrittenFields : Fields → Type 0
+  AreWrittenFields no_field = Unit {0}
+  AreWrittenFields (field l m e fs) = IsWrittenLabel l m × IsWritten by_itself e × AreWrittenFields fs
+
+  pub IsWrittenEnd : End → Type 0
+  IsWrittenEnd closed = Unit {0}
+  IsWrittenEnd any = Unit {0}
+  IsWrittenEnd (each e) = IsWritten by_itself e
+
+abbrev pub IsWrittenDefinition : DefinitionTree → Type 0
+IsWrittenDefinition (definition s o e) = IsDefinitionName s × IsWritten by_itself e
+
+-- the package clause has a name
+abbrev pub IsWrittenClause : Option (List ℕ) → Type 0
+IsWrittenClause None = Unit {0}
+IsWrittenClause (Some s) = IsName s
+
+abbrev pub IsWrittenFile : FileTree → Type 0
+IsWrittenFile (file c ds) = IsWrittenClause c × AllByRecursion IsWrittenDefinition ds

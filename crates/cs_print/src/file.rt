@@ -1,0 +1,89 @@
+// Files, as one.
+ghost use Rattle.std.specs.Prelude.{◌≡◌, ◌++◌, map, IfOk, OnOk, string_bytes};
+ghost use Rattle.std.specs.List.{AllByRecursion, flat_map};
+ghost use Rattle.std.specs.Option.{option_map};
+ghost use Rattle.cs_grammar.specs.View.{definition_view, file_view};
+ghost use Rattle.cs_print.specs.Layout.{clause_text, definition_text, definitions_text};
+ghost use Rattle.cs_print.specs.Printed.{IsPrinted, first_clause};
+ghost use Rattle.cs_grammar.specs.Tree.{body, definitions};
+ghost use Rattle.cs_print.specs.Texts.{HasTexts, FileHasTexts};
+ghost use Rattle.cs_print.specs.Written.{IsWrittenFile};
+
+use crate::expression::put_expr;
+use cs_grammar::{Definition, File};
+use std::alloc::{AllocError, Global};
+
+/// The source that files are printed as: the first package clause, and each definition and each field on a line of its own, with a
+/// tab for each struct around it. Comments and offsets are lost; parentheses, and the order of all, stay.
+///
+/// # Errors
+/// Memory ran out.
+pub fn source_of(alloc: Global, files: &[File]) -> Result<String, AllocError>
+    requires { AllByRecursion IsWrittenFile (map file_view files.now) }
+    ensures { IfOk result (λ s. IsPrinted (string_bytes s) (map file_view files.now)) }
+{
+    let mut source = String::new(alloc);
+    put_clause(&mut source, files)?;
+    put_files(alloc, &mut source, files)?;
+    Ok(source)
+}
+
+/// Puts the first package clause of files, and an empty line behind it.
+fn put_clause(out: &mut String, files: &[File]) -> Result<(), AllocError>
+    ensures { OnOk result (string_bytes out.new
+        ≡ string_bytes out.old ++ clause_text (first_clause (map file_view files.now))) }
+{
+    for file in files {
+        if let Some(package) = &file.package {
+            out.push_str("package ")?;
+            out.push_str(package)?;
+            return out.push_str("\n\n");
+        }
+    }
+    Ok(())
+}
+
+/// Puts the definitions of files, one after another.
+fn put_files(alloc: Global, out: &mut String, files: &[File]) -> Result<(), AllocError>
+    ensures text { OnOk result (string_bytes out.new ≡ string_bytes out.old
+        ++ definitions_text (flat_map definitions (map file_view files.now))) }
+    ensures utf8 { OnOk result (AllByRecursion FileHasTexts (map file_view files.now)) }
+{
+    for file in files {
+        put_definitions(alloc, out, &file.definitions)?;
+    }
+    Ok(())
+}
+
+/// Puts definitions, one after another.
+fn put_definitions(
+    alloc: Global,
+    out: &mut String,
+    definitions: &[Definition],
+) -> Result<(), AllocError>
+    ensures text { OnOk result (string_bytes out.new
+        ≡ string_bytes out.old ++ definitions_text (map definition_view definitions.now)) }
+    ensures utf8 { OnOk result (AllByRecursion (λ d. HasTexts (body d)) (map definition_view definitions.now)) }
+{
+    for definition in definitions {
+        put_definition(alloc, out, definition)?;
+    }
+    Ok(())
+}
+
+/// Puts a definition.
+fn put_definition(
+    alloc: Global,
+    out: &mut String,
+    definition: &Definition,
+) -> Result<(), AllocError>
+    ensures text { OnOk result (string_bytes out.new
+        ≡ string_bytes out.old ++ definition_text (definition_view definition.now)) }
+    ensures utf8 { OnOk result (HasTexts (body (definition_view definition.now))) }
+{
+    out.push_str("#")?;
+    out.push_str(&definition.name)?;
+    out.push_str(": ")?;
+    put_expr(alloc, "\n", out, &definition.body)?;
+    out.push_str("\n")
+}

@@ -1,0 +1,27 @@
+// The command that writes sources as one.
+use clap::ArgMatches;
+use cs_run_input::{named, print, sources_of, told_form};
+use cs_run_refusals::{about_sources, or_told, or_unread};
+use cs_tool::{Fault, slices_of};
+use cs_widen::widen;
+
+/// The status of `widen`: a refusal is told as the words ask for it.
+pub fn write_widened(rt: &HostRuntime, words: &ArgMatches<'_>) -> Result<u8, Fault> {
+    or_unread(rt, told_form(words), words, widened(rt, words))
+}
+
+/// The same, where the refusals of the input aren't told.
+fn widened(rt: &HostRuntime, words: &ArgMatches<'_>) -> Result<u8, Fault> {
+    let sources = sources_of(rt, words)?;
+    let named = named(rt.alloc(), words.get_strs("FILE").unwrap_or(&[]), &sources)?;
+    let form = told_form(words);
+    let answer = write_source(rt, &sources);
+    or_told(rt, form, about_sources(&named, ""), words, answer)
+}
+
+/// Writes the source that these sources stand for.
+fn write_source(rt: &HostRuntime, sources: &[Vec<u8>]) -> Result<u8, Fault> {
+    let source = widen(rt.alloc(), &slices_of(rt.alloc(), sources)?)?;
+    print(rt, source.as_bytes())?;
+    Ok(0)
+}

@@ -1,0 +1,2 @@
+-- The source of one file that sources stand for.
+pub mod Meant
