@@ -19,7 +19,7 @@ PRINTING = threading.Lock()
 
 
 def proved(crate, given: dict, jobs: int) -> bool:
-    """Proves and builds a library, unless one below it isn't, and lets other checkouts on this machine begin with it; whether it is built."""
+    """Proves and builds a library, unless one below it isn't; whether it is built."""
     if not all(given[it.name, "proof"] for it in crate.below()):
         return False
     crate = copy.copy(crate)
@@ -29,8 +29,6 @@ def proved(crate, given: dict, jobs: int) -> bool:
         crate.out.seek(0)
         with PRINTING:
             print(f"== {crate.name}\n{crate.out.read()}", end="", flush=True)
-    if not status:
-        kit.rt().offer(crate, crate.stamp())
     return not status
 
 

@@ -2,7 +2,7 @@
 use Rattle.std.proofs.Common.{ℕ, ◌≤◌, ℤ, Bool, List, ◌∷◌, length, Option, arith}
 use Rattle.cs_grammar.specs.Tree.{Label, Tree, Trees, Fields, End, DefinitionTree}
 use Rattle.cs_grammar.specs.Words.{Word, Words}
-use Rattle.cs_grammar.specs.Spells.{Comma, explicit, inserted, ClosesParen, paren_here, paren_after, ClosesList, list_here, list_after, ClosesStruct, struct_here, struct_after, SpellsNumber, positive, negative, SpellsBound, limit_is, other_number, other_text, other_null, SpellsLabel, bare_label, quoted_label, SpellsMark, regular, optional, required, SpellsOpening, unopened, opened, SpellsValue, long, short, SpellsField, labelled, every_key, SpellsExpr, one_conj, disjunction_is, SpellsBars, no_bar, a_bar, SpellsConj, one_operand, conjunction_is, SpellsAmps, no_amp, an_amp, SpellsOperand, top_is, bottom_is, reference_is, name_is, number_is, text_is, bound_is, paren_is, struct_is, list_is, SpellsStruct, no_fields, dots_alone, fields, SpellsFields, no_more_fields, next_field, SpellsList, no_elements, rest_alone, elements, SpellsElements, no_more_elements, next_element, SpellsEnd, closed_is, rest_is, SpellsRest, any_is, each_is, SpellsDefinition, defined, SpellsPackage, no_clause, clause}
+use Rattle.cs_grammar.specs.Spells.{Comma, explicit, inserted, ClosesParen, paren_here, paren_after, ClosesList, list_here, list_after, ClosesStruct, struct_here, struct_after, SpellsNumber, positive, negative, SpellsBound, limit_is, other_number, other_text, other_null, SpellsLabel, bare_label, quoted_label, SpellsMark, regular, optional, required, SpellsOpening, unopened, opened, SpellsValue, long, short, SpellsField, labelled, every_key, SpellsExpr, one_branch, disjunction_is, SpellsBars, no_bar, a_bar, SpellsBranch, unmarked, marked_is, SpellsConj, one_operand, conjunction_is, SpellsAmps, no_amp, an_amp, SpellsOperand, top_is, bottom_is, reference_is, name_is, number_is, text_is, bound_is, paren_is, struct_is, list_is, SpellsStruct, no_fields, dots_alone, fields, SpellsFields, no_more_fields, next_field, SpellsList, no_elements, rest_alone, elements, SpellsElements, no_more_elements, next_element, SpellsEnd, closed_is, rest_is, SpellsRest, any_is, each_is, SpellsDefinition, defined, SpellsPackage, no_clause, clause}
 use Rattle.cs_grammar.specs.declared.ast.FieldMark.{FieldMark}
 
 -- the last of some words, from one on
@@ -67,12 +67,16 @@ mutual
   of_field (every_key s v) = behind (behind (behind (behind (of_value v))))
 
   pub of_expr : {e : Tree} {ts r : Words} → SpellsExpr e ts r → IsRest r ts
-  of_expr (one_conj c) = of_conj c
-  of_expr (disjunction_is c b) = then (of_conj c) (of_bars b)
+  of_expr (one_branch c) = of_branch c
+  of_expr (disjunction_is c b) = then (of_branch c) (of_bars b)
 
   pub of_bars : {es : Trees} {ts r : Words} → SpellsBars es ts r → IsRest r ts
   of_bars no_bar = whole
-  of_bars (a_bar c b) = behind (then (of_conj c) (of_bars b))
+  of_bars (a_bar c b) = behind (then (of_branch c) (of_bars b))
+
+  pub of_branch : {e : Tree} {ts r : Words} → SpellsBranch e ts r → IsRest r ts
+  of_branch (unmarked c) = of_conj c
+  of_branch (marked_is c) = behind (of_conj c)
 
   pub of_conj : {e : Tree} {ts r : Words} → SpellsConj e ts r → IsRest r ts
   of_conj (one_operand o) = of_operand o

@@ -1,12 +1,13 @@
 -- Expressions, fields and words as the grammar sees them, form by form.
 use Rattle.std.proofs.Common.{◌≡◌, ℕ, Bool, List, refl, ap, rules, string_bytes, Box, Global, String, Vec}
 use Rattle.cs_grammar.specs.Tree as T
-use Rattle.cs_grammar.specs.View.{expr_view, exprs_view, fields_view, field_view, end_view}
+use Rattle.cs_grammar.specs.View.{expr_view, exprs_view, fields_view, field_view, end_view, wide_view}
 use Rattle.cs_grammar.specs.TokenWords.{word_of}
 use Rattle.cs_grammar.specs.Words.{start}
 use Rattle.cs_grammar.specs.declared.ast.Expr as Exprs
 use Rattle.cs_grammar.specs.declared.ast.Expr.{Expr}
 use Rattle.cs_grammar.specs.declared.ast.Field.{Field}
+use Rattle.cs_grammar.specs.declared.ast.Wide as Wides
 use Rattle.cs_grammar.specs.declared.ast.ListEnd as Ends
 use Rattle.cs_grammar.specs.declared.ast.ListEnd.{ListEnd}
 use Rattle.cs_grammar.specs.declared.kind.Kind.{Kind}
@@ -32,6 +33,14 @@ view-Struct at v o = search (rules, Exprs.the_lemmas)
 
 pub view-List : (v : Vec Expr Global) (end : ListEnd) → expr_view (Exprs.List v end) ≡ T.list (exprs_view v.items) (end_view end)
 view-List v end = search (rules, Exprs.the_lemmas)
+
+-- ---- forms of the wide profile
+
+pub view-Wide : (w : Wides.Wide) → expr_view (Exprs.Wide w) ≡ T.wide (wide_view w)
+view-Wide w = search (rules, Exprs.the_lemmas)
+
+pub view-Marked : (at : ℕ) (b : Box Expr Global) → wide_view (Wides.Marked at b) ≡ T.marked at (expr_view b.value)
+view-Marked at b = search (rules, Exprs.the_lemmas)
 
 -- ---- ends of lists
 

@@ -3,7 +3,7 @@
 use Rattle.std.specs.List.{AllByRecursion}
 use Rattle.cs_grammar.specs.declared.ast.FieldMark.{FieldMark}
 use Rattle.cs_grammar.specs.declared.ast.FieldMark.TheVariants.{Regular, Optional, Required, Every}
-use Rattle.cs_grammar.specs.Tree.{Tree, atom, named, reference, conjunction, disjunction, paren, struct, list, Trees, none, more, Fields, no_field, field, End, closed, any, each, body, FileTree, definitions}
+use Rattle.cs_grammar.specs.Tree.{Tree, atom, named, reference, conjunction, disjunction, paren, struct, list, wide, Wide, marked, Trees, none, more, Fields, no_field, field, End, closed, any, each, body, FileTree, definitions}
 
 -- the mark of a field with a label
 abbrev pub HasLabel : FieldMark → Type 0
@@ -23,6 +23,10 @@ abbrev mutual
   IsLabelled (paren e) = IsLabelled e
   IsLabelled (struct o fs opened) = AreLabelledFields fs
   IsLabelled (list es end) = AreLabelled es × IsLabelledEnd end
+  IsLabelled (wide w) = IsLabelledWide w
+
+  IsLabelledWide : Wide → Type 0
+  IsLabelledWide (marked o e) = IsLabelled e
 
   pub AreLabelled : Trees → Type 0
   AreLabelled none = Unit {0}

@@ -7,6 +7,7 @@ pub mod Stuck
 pub mod Atom
 pub mod Words
 pub mod TokenWords
+pub mod Taken
 pub mod Tree
 pub mod Spells
 pub mod Limits

@@ -4,9 +4,16 @@ use Rattle.cs_grammar.specs.Cut.{Lexeme, IsCut}
 use Rattle.cs_grammar.specs.Tree.{FileTree}
 use Rattle.cs_grammar.specs.Spells.{SpellsFile}
 use Rattle.cs_grammar.specs.TokenWords.{words}
+use Rattle.cs_grammar.specs.Taken.{taken}
+use Rattle.cs_grammar.specs.declared.profile.Profile.{Profile}
+use Rattle.cs_grammar.specs.declared.profile.Profile.TheVariants as profiles
 
--- the tokens of the source spell the file
-pub record IsSpelledBy (source : List ℕ) (f : FileTree) : Type 0 where
+-- the tokens of the source, as the profile takes them, spell the file
+pub record IsSpelledByIn (p : Profile) (source : List ℕ) (f : FileTree) : Type 0 where
   pub tokens : List Lexeme
   pub cut : IsCut source tokens
-  pub spelled : SpellsFile f (words tokens)
+  pub spelled : SpellsFile f (words (taken p tokens))
+
+-- in the default profile
+abbrev pub IsSpelledBy : List ℕ → FileTree → Type 0
+IsSpelledBy = IsSpelledByIn profiles.Default

@@ -7,8 +7,8 @@ use Rattle.std.specs.List.{list_any}
 use Rattle.cs_grammar.specs.declared.ast.FieldMark.{FieldMark}
 use Rattle.cs_grammar.specs.declared.ast.FieldMark.TheVariants.{Regular, Optional, Required, Every}
 use Rattle.cs_grammar.specs.Atom.{Relation, top, bottom, null, boolean, integer, text, bound, not_integer, not_text, not_null}
-use Rattle.cs_grammar.specs.Words.{Words, start, name, definition_name, top_mark, bottom_mark, numeral, quoted, open_struct, close_struct, open_list, close_list, open_paren, close_paren, comma, nl, colon, question, bang, amp, bar, dots, relation, unequal, minus, finish}
-use Rattle.cs_grammar.specs.Tree.{Label, Tree, atom, named, reference, conjunction, disjunction, paren, struct, list, Trees, none, more, Fields, no_field, field, End, closed, any, each, DefinitionTree, definition, FileTree, file}
+use Rattle.cs_grammar.specs.Words.{Words, start, name, definition_name, top_mark, bottom_mark, numeral, quoted, open_struct, close_struct, open_list, close_list, open_paren, close_paren, comma, nl, colon, question, bang, amp, bar, dots, relation, unequal, minus, star, finish}
+use Rattle.cs_grammar.specs.Tree.{Label, Tree, atom, named, reference, conjunction, disjunction, paren, struct, list, wide, marked, Trees, none, more, Fields, no_field, field, End, closed, any, each, DefinitionTree, definition, FileTree, file}
 
 -- the names that are no operands
 abbrev pub reserved_names : List (List ℕ)
@@ -106,15 +106,20 @@ mutual
     labelled : {l : Label} {m : FieldMark} {e : Tree} {ts us vs r : Words} → SpellsLabel l ts us → SpellsMark m us vs → SpellsValue e vs r → SpellsField l m e ts r
     every_key : {s : List ℕ} {o p q c : ℕ} {e : Tree} {ts r : Words} → is_string s ≡ true → SpellsValue e ts r → SpellsField every_label (Every p) e (open_list o ∷ name s p ∷ close_list q ∷ colon c ∷ ts) r
 
-  -- Expr = Conj { `|` Conj }; one alone makes no disjunction
+  -- Expr = Branch { `|` Branch }; one alone makes no disjunction
   pub data SpellsExpr : Tree → Words → Words → Type 0 where
-    one_conj : {e : Tree} {ts r : Words} → SpellsConj e ts r → SpellsExpr e ts r
-    disjunction_is : {e f : Tree} {fs : Trees} {ts us r : Words} → SpellsConj e ts us → SpellsBars (more f fs) us r → SpellsExpr (disjunction (more e (more f fs))) ts r
+    one_branch : {e : Tree} {ts r : Words} → SpellsBranch e ts r → SpellsExpr e ts r
+    disjunction_is : {e f : Tree} {fs : Trees} {ts us r : Words} → SpellsBranch e ts us → SpellsBars (more f fs) us r → SpellsExpr (disjunction (more e (more f fs))) ts r
 
-  -- { `|` Conj }
+  -- { `|` Branch }
   pub data SpellsBars : Trees → Words → Words → Type 0 where
     no_bar : {r : Words} → SpellsBars none r r
-    a_bar : {p : ℕ} {e : Tree} {es : Trees} {ts us r : Words} → SpellsConj e ts us → SpellsBars es us r → SpellsBars (more e es) (bar p ∷ ts) r
+    a_bar : {p : ℕ} {e : Tree} {es : Trees} {ts us r : Words} → SpellsBranch e ts us → SpellsBars es us r → SpellsBars (more e es) (bar p ∷ ts) r
+
+  -- Branch = [ `*` ] Conj; the words of the default profile have no `*`
+  pub data SpellsBranch : Tree → Words → Words → Type 0 where
+    unmarked : {e : Tree} {ts r : Words} → SpellsConj e ts r → SpellsBranch e ts r
+    marked_is : {p : ℕ} {e : Tree} {ts r : Words} → SpellsConj e ts r → SpellsBranch (wide (marked p e)) (star p ∷ ts) r
 
   -- Conj = Operand { `&` Operand }; one alone makes no conjunction
   pub data SpellsConj : Tree → Words → Words → Type 0 where

@@ -32,8 +32,9 @@ mark_kind t =
     if bytes_eq t (codes ">") then kinds.More else (
     if bytes_eq t (codes ">=") then kinds.AtLeast else (
     if bytes_eq t (codes "!=") then kinds.Unequal else (
-    if bytes_eq t (codes "-") then kinds.Minus else
-    kinds.LeftOut))))))))))))))))))
+    if bytes_eq t (codes "-") then kinds.Minus else (
+    if bytes_eq t (codes "*") then kinds.Star else
+    kinds.LeftOut)))))))))))))))))))
 
 -- what a token is for the grammar
 abbrev pub kind_of : Sort → List ℕ → Kind
@@ -81,6 +82,7 @@ word_of kinds.More t o = W.relation more o
 word_of kinds.AtLeast t o = W.relation at_least o
 word_of kinds.Unequal t o = W.unequal o
 word_of kinds.Minus t o = W.minus o
+word_of kinds.Star t o = W.star o
 word_of kinds.LeftOut t o = W.left_out o
 word_of kinds.Inserted t o = W.nl o
 word_of kinds.End t o = W.finish o

@@ -20,6 +20,12 @@ mutual
     paren : Tree → Tree
     struct : ℕ → Fields → Bool → Tree
     list : Trees → End → Tree
+    -- a form of the wide profile alone
+    wide : Wide → Tree
+
+  -- `*e`, where the mark is, and e
+  pub data Wide : Type 0 where
+    marked : ℕ → Tree → Wide
 
   pub data Trees : Type 0 where
     none : Trees

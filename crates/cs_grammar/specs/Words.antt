@@ -34,6 +34,8 @@ pub data Word : Type 0 where
   relation : Relation → ℕ → Word
   unequal : ℕ → Word
   minus : ℕ → Word
+  -- `*`, in the wide profile
+  star : ℕ → Word
   left_out : ℕ → Word
   finish : ℕ → Word
 
@@ -65,5 +67,6 @@ start (dots o) = o
 start (relation r o) = o
 start (unequal o) = o
 start (minus o) = o
+start (star o) = o
 start (left_out o) = o
 start (finish o) = o

@@ -63,6 +63,16 @@ pub enum Expr {
         front: Vec<Expr>,
         end: ListEnd,
     },
+    /// A form of the wide profile alone, which stands for forms of the default one.
+    Wide(Wide),
+}
+
+/// The forms of expressions that the wide profile takes beside those of the default one.
+#[cycle(ast)]
+#[derive(Debug, Drop)]
+pub enum Wide {
+    /// `*e`: the operand of a disjunction that is meant where a field is missing, and the offset of its mark (CUE, default values).
+    Marked { at: usize, value: Box<Expr> },
 }
 
 /// A field of a struct literal. Of `[string]: T` the label is empty and `quoted` is true, so no name can name it.

@@ -30,6 +30,8 @@ pub enum Kind {
     AtLeast,
     Unequal,
     Minus,
+    /// `*`, in the wide profile.
+    Star,
     LeftOut,
     Inserted,
     End,

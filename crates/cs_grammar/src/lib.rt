@@ -5,10 +5,12 @@ mod ast;
 mod fault;
 mod kind;
 mod line;
+mod profile;
 mod token;
 
-pub use ast::{Definition, Expr, Field, FieldMark, File, ListEnd, Relation};
+pub use ast::{Definition, Expr, Field, FieldMark, File, ListEnd, Relation, Wide};
 pub use fault::SyntaxFault;
 pub use kind::Kind;
 pub use line::LineState;
+pub use profile::Profile;
 pub use token::{Sort, Token};

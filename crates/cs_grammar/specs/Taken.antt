@@ -1,0 +1,19 @@
+-- The tokens as a profile takes them: in the wide one `*` is a mark of the grammar, and no longer left out (CUE, default values).
+use Rattle.std.specs.Prelude.{ℕ, List, map, if◌then◌else◌, codes}
+use Rattle.std.specs.Str.{bytes_eq}
+use Rattle.cs_grammar.specs.declared.profile.Profile.{Profile}
+use Rattle.cs_grammar.specs.declared.profile.Profile.TheVariants as profiles
+use Rattle.cs_grammar.specs.declared.token.Sort.{Sort}
+use Rattle.cs_grammar.specs.declared.token.Sort.TheVariants as sorts
+use Rattle.cs_grammar.specs.Cut.{Lexeme, lexeme}
+
+abbrev pub wide_sort : Sort → List ℕ → Sort
+wide_sort sorts.LeftOut t = if bytes_eq t (codes "*") then sorts.Mark else sorts.LeftOut
+wide_sort s t = s
+
+abbrev pub wide_lexeme : Lexeme → Lexeme
+wide_lexeme (lexeme s t o) = lexeme (wide_sort s t) t o
+
+abbrev pub taken : Profile → List Lexeme → List Lexeme
+taken profiles.Default ks = ks
+taken profiles.Wide ks = map wide_lexeme ks
