@@ -14,3 +14,4 @@ pub mod Limits
 pub mod View
 pub mod Source
 pub mod Labels
+pub mod DefaultForms
