@@ -10,6 +10,7 @@ pub mod TokenWords
 pub mod Taken
 pub mod Tree
 pub mod Spells
+pub mod Written
 pub mod Limits
 pub mod View
 pub mod Source

@@ -10,7 +10,7 @@ use Rattle.cs_grammar.specs.Words.{Words}
 use Rattle.cs_grammar.specs.Source.{IsSpelledBy}
 use Rattle.cs_grammar.specs.Tree.{Tree, DefinitionTree, definition, body, FileTree, file, definitions}
 use Rattle.cs_grammar.specs.Spells.{Comma, inserted, long, SpellsDefinition, defined, SpellsDefinitions, no_definition, next_definition, SpellsPackage, no_clause, clause, spelled}
-use Rattle.cs_print.specs.Written.{by_itself, IsWrittenDefinition, IsWrittenClause, IsWrittenFile}
+use Rattle.cs_grammar.specs.Written.{by_itself, IsWrittenDefinition, IsWrittenClause, IsWrittenFile}
 use Rattle.cs_print.specs.Printed.{unplaced_definition, unplaced_file, joined_file, first_clause, IsPrinted}
 use Rattle.cs_print.specs.Layout.{definition_text, definitions_text, clause_text, file_text}
 use Rattle.cs_print.specs.Texts.{HasTexts, FileHasTexts}

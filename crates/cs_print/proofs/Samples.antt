@@ -6,7 +6,7 @@ use Rattle.cs_grammar.specs.Spells.{every_label}
 use Rattle.cs_grammar.specs.Tree.{Tree, atom, named, reference, conjunction, disjunction, paren, struct, list, none, more, no_field, field, any, definition, FileTree, file}
 use Rattle.cs_print.specs.Layout.{file_text}
 use Rattle.cs_print.specs.Printed.{unplaced, joined_file}
-use Rattle.cs_print.specs.Written.{by_itself, of_amp, IsWritten, IsWrittenLabel, IsWrittenFile}
+use Rattle.cs_grammar.specs.Written.{by_itself, of_amp, IsWritten, IsWrittenLabel, IsWrittenFile}
 
 -- ---- what can be written down
 

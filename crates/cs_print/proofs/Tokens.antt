@@ -16,7 +16,7 @@ use Rattle.cs_grammar.specs.Words as W
 use Rattle.cs_grammar.specs.Words.{Word, Words}
 use Rattle.cs_grammar.specs.TokenWords.{word}
 use Rattle.cs_lexer.proofs.ByteClasses.{no_quotes_at, no_comment_at, letter_not_digit, letter_not_quote, letter_not_slash}
-use Rattle.cs_print.specs.Written.{IsName, IsDefinitionName}
+use Rattle.cs_grammar.specs.Written.{IsName, IsDefinitionName}
 use Rattle.cs_print.proofs.Fronts.{is_stop, is_plain, Asks, nothing, a_plain, a_stop, Answers, Follows, Front, Same, One, token_front}
 
 -- ---- the longest token that begins a text

@@ -16,7 +16,7 @@ use Rattle.cs_grammar.specs.Words as W
 use Rattle.cs_grammar.specs.Words.{Words}
 use Rattle.cs_grammar.specs.Tree.{Label, Tree, atom, named, reference, conjunction, disjunction, paren, struct, list, Trees, none, more, Fields, no_field, field, End, closed, any, each}
 use Rattle.cs_grammar.specs.Spells.{is_reserved, literal_of, inserted, ClosesParen, paren_here, ClosesList, list_here, ClosesStruct, struct_here, struct_after, SpellsNumber, limit_is, other_number, other_text, other_null, SpellsLabel, bare_label, quoted_label, SpellsMark, regular, optional, required, SpellsOpening, unopened, opened, SpellsValue, long, SpellsField, labelled, every_key, SpellsExpr, one_conj, disjunction_is, SpellsBars, no_bar, a_bar, SpellsConj, one_operand, conjunction_is, SpellsAmps, no_amp, an_amp, SpellsOperand, top_is, bottom_is, reference_is, name_is, number_is, text_is, bound_is, paren_is, struct_is, list_is, SpellsStruct, no_fields, dots_alone, fields, SpellsFields, no_more_fields, next_field, SpellsList, no_elements, rest_alone, elements, SpellsElements, no_more_elements, next_element, SpellsEnd, closed_is, rest_is, any_is, each_is}
-use Rattle.cs_print.specs.Written.{Place, by_itself, of_bar, of_amp, IsName, IsDefinitionName, IsWrittenAtom, IsWrittenLabel, AreTwo, TakesAmps, TakesBars, IsWritten, AreWritten, AreWrittenFields, IsWrittenEnd}
+use Rattle.cs_grammar.specs.Written.{Place, by_itself, of_bar, of_amp, IsName, IsDefinitionName, IsWrittenAtom, IsWrittenLabel, AreTwo, TakesAmps, TakesBars, IsWritten, AreWritten, AreWrittenFields, IsWrittenEnd}
 use Rattle.cs_print.specs.Printed.{unplaced_mark, unplaced, unplaced_all, unplaced_fields, unplaced_end}
 use Rattle.cs_print.specs.Layout.{relation_text, limit_text, atom_text, head_text, inner, closing_text, tree_text, parted_text, behind_text, end_text, lines_text, is_no_field}
 use Rattle.cs_print.specs.Texts.{HasText, HasTexts, HaveTexts, FieldsHaveTexts, EndHasTexts}

@@ -3,7 +3,6 @@ pub use Rattle.cs_grammar.specs.Tree
 pub use Rattle.cs_grammar.specs.Spells
 pub use Rattle.cs_grammar.specs.View
 pub use Rattle.cs_grammar.specs.Source
-pub mod Written
 pub mod Printed
 -- for contracts of private functions and proofs alone
 pub mod Layout

@@ -7,7 +7,7 @@ ghost use Rattle.cs_print.specs.Layout.{clause_text, definition_text, definition
 ghost use Rattle.cs_print.specs.Printed.{IsPrinted, first_clause};
 ghost use Rattle.cs_grammar.specs.Tree.{body, definitions};
 ghost use Rattle.cs_print.specs.Texts.{HasTexts, FileHasTexts};
-ghost use Rattle.cs_print.specs.Written.{IsWrittenFile};
+ghost use Rattle.cs_grammar.specs.Written.{IsWrittenFile};
 
 use crate::expression::put_expr;
 use cs_grammar::{Definition, File};

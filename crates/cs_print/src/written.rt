@@ -5,7 +5,7 @@ ghost use Rattle.cs_grammar.specs.Limits.{most_height};
 ghost use Rattle.cs_grammar.specs.Source.{IsSpelledBy};
 ghost use Rattle.cs_grammar.specs.Tree.{FileTree, definitions};
 ghost use Rattle.cs_print.specs.Printed.{IsPrinted, IsReadAs};
-ghost use Rattle.cs_print.specs.Written.{IsWrittenFile};
+ghost use Rattle.cs_grammar.specs.Written.{IsWrittenFile};
 ghost use Rattle.cs_syntax.specs.Height.{height_definitions};
 
 /// A file that a source spells can be written down.

@@ -10,7 +10,7 @@ use Rattle.cs_grammar.specs.Limits.{most_height}
 use Rattle.cs_syntax.specs.Height.{height, height_definitions}
 use Rattle.cs_syntax.proofs.NestingBounds.{max_left, max_right, max_both}
 use Rattle.std.specs.List.{flat_map}
-use Rattle.cs_print.specs.Written.{IsWrittenFile}
+use Rattle.cs_grammar.specs.Written.{IsWrittenFile}
 use Rattle.cs_tool.specs.Accepted.{AreFiles, IsAccepted}
 use Rattle.cs_tool.proofs.Declared.{one_files}
 use Rattle.cs_widen.specs.Meant.{IsMeant, CanBeRead}

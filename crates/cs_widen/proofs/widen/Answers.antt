@@ -3,7 +3,7 @@ use Rattle.std.proofs.lemmas.Result.{err_from_is_err_and}
 use Rattle.std.specs.List.{AllByRecursion}
 use Rattle.cs_grammar.specs.View.{file_view}
 use Rattle.cs_print.specs.Printed.{IsPrinted}
-use Rattle.cs_print.specs.Written.{IsWrittenFile}
+use Rattle.cs_grammar.specs.Written.{IsWrittenFile}
 use Rattle.cs_tool.specs.Given.{bytes_in}
 use Rattle.cs_widen.proofs.Read.{can_be_read, all_written, meant}
 use Rattle.cs_widen.proofs.widen.Goals as goal

@@ -8,7 +8,7 @@ use Rattle.cs_grammar.specs.declared.token.Sort.TheVariants as sorts
 use Rattle.cs_grammar.specs.Spelling.{sort_of}
 use Rattle.cs_grammar.specs.Atom.{Atom, top, bottom, null, boolean, integer, text, bound, not_integer, not_text, not_null}
 use Rattle.cs_grammar.specs.Spells.{is_reserved, literal_of, every_label}
-use Rattle.cs_grammar.specs.Tree.{Label, Tree, atom, named, reference, conjunction, disjunction, paren, struct, list, Trees, none, more, Fields, no_field, field, End, closed, any, each, DefinitionTree, definition, FileTree, file}
+use Rattle.cs_grammar.specs.Tree.{Label, Tree, atom, named, reference, conjunction, disjunction, paren, struct, list, wide, Wide, marked, Trees, none, more, Fields, no_field, field, End, closed, any, each, DefinitionTree, definition, FileTree, file}
 
 -- where an expression stands: by itself, as an operand of `|`, or as an operand of `&`
 pub data Place : Type 0 where
@@ -69,6 +69,10 @@ abbrev mutual
   IsWritten p (paren e) = IsWritten by_itself e
   IsWritten p (struct o fs b) = AreWrittenFields fs
   IsWritten p (list es end) = AreWritten by_itself es × IsWrittenEnd end
+  IsWritten p (wide w) = IsWrittenWide p w
+
+  pub IsWrittenWide : Place → Wide → Type 0
+  IsWrittenWide p (marked o e) = IsWritten p e
 
   pub AreWritten : Place → Trees → Type 0
   AreWritten p none = Unit {0}
