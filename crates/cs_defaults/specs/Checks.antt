@@ -1,0 +1,57 @@
+-- What the checks of marks answer, and what the tables tell.
+use Rattle.std.specs.Prelude.{◌≡◌, ℕ, ◌<◌, Bool, List, [], ◌∷◌, length, Option, Some, None, Result, Ok, Err, slice_get}
+use Rattle.std.specs.Borrow.{Bor}
+use Rattle.std.specs.BTreeMap.{BTreeMap, get_by}
+use Rattle.std.specs.BTreeSet.{BTreeSet, contains_by}
+use Rattle.std.specs.Cmp.Lexicographic.{slice_cmp}
+use Rattle.std.specs.Ordering.{nat_cmp}
+use Rattle.cs_grammar.specs.declared.ast.Expr.{Expr}
+use Rattle.cs_grammar.specs.Tree.{Tree, DefinitionTree}
+use Rattle.cs_grammar.specs.View.{expr_view}
+use Rattle.cs_defaults.specs.Absent.{is_repeated}
+use Rattle.cs_defaults.specs.Leading.{Leading, nowhere, by_mark, to, bodies}
+use Rattle.cs_defaults.specs.declared.leading.Lead as rust
+use Rattle.cs_defaults.specs.declared.leading.Lead.TheVariants as variants
+use Rattle.cs_defaults.specs.declared.leading.Handing.{Handing}
+use Rattle.cs_defaults.specs.declared.fault.DefaultFault.{DefaultFault}
+use Rattle.cs_defaults.specs.declared.fault.DefaultFault.TheVariants.{OutOfMemory, Mark}
+
+-- Ok where nothing is found, or else the first that is found
+abbrev pub Finds : {Y : Type 0} → Result Y ℕ → List ℕ → Type 0
+Finds (Ok y) found = found ≡ []
+Finds (Err o) found = slice_get found 0 ≡ Some o
+
+-- the same of a check that may lack memory, in the file of that number
+abbrev pub FindsIn : {Y : Type 0} → Result Y DefaultFault → ℕ → List ℕ → Type 0
+FindsIn (Ok y) file found = found ≡ []
+FindsIn (Err OutOfMemory) file found = Unit {0}
+FindsIn (Err (Mark f o)) file found = (f ≡ file) × (slice_get found 0 ≡ Some o)
+
+-- an offset, if there is one
+abbrev pub place_list : Option ℕ → List ℕ
+place_list None = []
+place_list (Some o) = o ∷ []
+
+-- how the code says that a value comes to a default
+abbrev pub leading_view : rust.Lead → Leading
+leading_view variants.Nowhere = nowhere
+leading_view (variants.Marked o) = by_mark o
+leading_view (variants.To s o) = to s.now o
+
+-- the only body of a definition; none of several
+abbrev pub TellsBody : Option (Option (Bor Expr)) → List Tree → Type 0
+TellsBody None bs = bs ≡ []
+TellsBody (Some (Some e)) bs = bs ≡ expr_view e.now ∷ []
+TellsBody (Some None) bs = 1 < length bs
+
+-- the table has the bodies of each definition
+abbrev pub TellsBodies : BTreeMap (Bor (List ℕ)) (Option (Bor Expr)) → List DefinitionTree → Type 0
+TellsBodies m ds = (s : List ℕ) → TellsBody (get_by (λ k. slice_cmp nat_cmp s k.now) m) (bodies s ds)
+
+-- the set has just the names of the definitions that hand on a default
+abbrev pub TellsHanding : Handing → (List ℕ → Bool) → Type 0
+TellsHanding h has = (s : List ℕ) → contains_by (λ k. slice_cmp nat_cmp s k.now) h.names ≡ has s
+
+-- the set has just the labels that stand there twice or more
+abbrev pub TellsRepeated : BTreeSet (Bor (List ℕ)) → List (List ℕ) → Type 0
+TellsRepeated m absent = (s : List ℕ) → contains_by (λ k. slice_cmp nat_cmp s k.now) m ≡ is_repeated s absent

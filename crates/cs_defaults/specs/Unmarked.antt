@@ -1,0 +1,46 @@
+-- What an expression stands for without its marks (CUE, default values): its present values are those of the unmarked disjunction, and a
+-- regular field whose value has a default may be missing. Nothing is filled in (own rule).
+use Rattle.std.specs.Prelude.{ℕ, Bool, true, false, List, map}
+use Rattle.cs_grammar.specs.declared.ast.FieldMark.{FieldMark}
+use Rattle.cs_grammar.specs.declared.ast.FieldMark.TheVariants.{Regular, Optional, Required, Every}
+use Rattle.cs_grammar.specs.Tree.{Tree, atom, named, reference, conjunction, disjunction, paren, struct, list, wide, marked, Trees, none, more, Fields, no_field, field, End, closed, any, each, DefinitionTree, definition, FileTree, file, package_name, definitions}
+use Rattle.cs_defaults.specs.Leading.{leading, has_default}
+
+abbrev pub optional_if : Bool → FieldMark → FieldMark
+optional_if true Regular = Optional
+optional_if true Optional = Optional
+optional_if true Required = Required
+optional_if true (Every o) = Every o
+optional_if false m = m
+
+-- where these definitions hand a default on
+abbrev mutual
+  pub unmarked : (List ℕ → Bool) → Tree → Tree
+  unmarked has (atom a) = atom a
+  unmarked has (named s o) = named s o
+  unmarked has (reference s o) = reference s o
+  unmarked has (conjunction es) = conjunction (unmarked_each has es)
+  unmarked has (disjunction es) = disjunction (unmarked_each has es)
+  unmarked has (paren e) = paren (unmarked has e)
+  unmarked has (struct o fs opened) = struct o (unmarked_fields has fs) opened
+  unmarked has (list es end) = list (unmarked_each has es) (unmarked_end has end)
+  unmarked has (wide (marked o e)) = unmarked has e
+
+  pub unmarked_each : (List ℕ → Bool) → Trees → Trees
+  unmarked_each has none = none
+  unmarked_each has (more e es) = more (unmarked has e) (unmarked_each has es)
+
+  pub unmarked_fields : (List ℕ → Bool) → Fields → Fields
+  unmarked_fields has no_field = no_field
+  unmarked_fields has (field l m e fs) = field l (optional_if (has_default has (leading e)) m) (unmarked has e) (unmarked_fields has fs)
+
+  pub unmarked_end : (List ℕ → Bool) → End → End
+  unmarked_end has closed = closed
+  unmarked_end has any = any
+  unmarked_end has (each e) = each (unmarked has e)
+
+abbrev pub unmarked_definition : (List ℕ → Bool) → DefinitionTree → DefinitionTree
+unmarked_definition has (definition s o e) = definition s o (unmarked has e)
+
+abbrev pub unmarked_file : (List ℕ → Bool) → FileTree → FileTree
+unmarked_file has f = file (package_name f) (map (unmarked_definition has) (definitions f))

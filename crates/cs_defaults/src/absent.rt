@@ -1,0 +1,145 @@
+// Defaults that another declaration of their label could exclude.
+ghost use Rattle.std.specs.Prelude.{◌≡◌, ℕ, Bool, List, IfOk};
+ghost use Rattle.cs_grammar.specs.View.{expr_view, exprs_view, fields_view, end_view};
+ghost use Rattle.cs_defaults.specs.Absent as Spec;
+ghost use Rattle.cs_defaults.specs.Absent.{clashes, clashes_each, clashes_fields, clashes_end, absent_labels};
+ghost use Rattle.cs_defaults.specs.Checks.{FindsIn, TellsHanding, TellsRepeated};
+
+use crate::DefaultFault;
+use crate::leading::Handing;
+use cs_grammar::{Expr, Field, FieldMark, ListEnd, Wide};
+use std::alloc::{AllocError, Global};
+use std::collections::BTreeSet;
+
+/// Looks for defaults that could be excluded in a file.
+#[derive(Clone, Copy)]
+pub(crate) struct Clashes<'h, 'a> {
+    pub(crate) alloc: Global,
+    pub(crate) handing: &'h Handing<'a>,
+    pub(crate) file: usize,
+}
+
+/// Of a struct literal: the labels of which two declarations or more may be absent, and whether it has a `[string]`.
+#[derive(Drop)]
+struct Absences<'e> {
+    repeated: BTreeSet<&'e str>,
+    has_every: bool,
+}
+
+fn has_every(fields: &[Field]) -> bool
+    ensures { result ≡ Spec.has_every (fields_view fields.now) }
+{
+    fields
+        .iter()
+        .any(|field| matches!(field.mark, FieldMark::Every { .. }))
+}
+
+impl Clashes<'_, '_> {
+    /// Whether the key of a declaration may be absent.
+    fn may_be_absent(&self, field: &Field) -> bool {
+        match field.mark {
+            FieldMark::Regular => self.handing.has_default(&field.value),
+            FieldMark::Optional => true,
+            FieldMark::Required | FieldMark::Every { .. } => false,
+        }
+    }
+
+    /// The labels of which two declarations or more may be absent.
+    fn repeated<'e>(&self, fields: &'e [Field]) -> Result<BTreeSet<&'e str>, AllocError>
+        ensures { (has : List ℕ → Bool) → TellsHanding self.now.handing.now has
+            → IfOk result (λ s. TellsRepeated s (absent_labels has (fields_view fields.now))) }
+    {
+        let mut seen = BTreeSet::new(self.alloc);
+        let mut repeated = BTreeSet::new(self.alloc);
+        for field in fields {
+            let label = field.label.as_str();
+            if self.may_be_absent(field) && !seen.insert(label)? {
+                repeated.insert(label)?;
+            }
+        }
+        Ok(repeated)
+    }
+
+    /// Looks for the first default in an expression that could be excluded.
+    #[cycle(clashes)]
+    pub(crate) fn check(&self, expr: &Expr) -> Result<(), DefaultFault>
+        ensures { (has : List ℕ → Bool) → TellsHanding self.now.handing.now has
+            → FindsIn result self.now.file (clashes has (expr_view expr.now)) }
+    {
+        match expr {
+            Expr::And(operands) | Expr::Or(operands) => self.check_each(operands),
+            Expr::Paren(inside) => self.check(inside),
+            Expr::Struct { fields, .. } => {
+                let absences = Absences {
+                    repeated: self.repeated(fields)?,
+                    has_every: has_every(fields),
+                };
+                self.check_fields(&absences, fields)
+            }
+            Expr::List { front, end } => {
+                self.check_each(front)?;
+                self.check_end(end)
+            }
+            Expr::Wide(Wide::Marked { value, .. }) => self.check(value),
+            Expr::Top
+            | Expr::Bottom
+            | Expr::Null
+            | Expr::Bool(_)
+            | Expr::Int(_)
+            | Expr::Text(_)
+            | Expr::Name { .. }
+            | Expr::Reference { .. }
+            | Expr::Bound { .. }
+            | Expr::NotInt(_)
+            | Expr::NotText(_)
+            | Expr::NotNull => Ok(()),
+        }
+    }
+
+    #[cycle(clashes)]
+    fn check_each(&self, exprs: &[Expr]) -> Result<(), DefaultFault>
+        ensures { (has : List ℕ → Bool) → TellsHanding self.now.handing.now has
+            → FindsIn result self.now.file (clashes_each has (exprs_view exprs.now)) }
+    {
+        for expr in exprs {
+            self.check(expr)?;
+        }
+        Ok(())
+    }
+
+    #[cycle(clashes)]
+    fn check_fields(&self, absences: &Absences<'_>, fields: &[Field]) -> Result<(), DefaultFault>
+        ensures { (has : List ℕ → Bool) (absent : List (List ℕ)) → TellsHanding self.now.handing.now has
+            → TellsRepeated absences.now.repeated absent
+            → FindsIn result self.now.file (clashes_fields has absences.now.has_every absent (fields_view fields.now)) }
+    {
+        for field in fields {
+            self.check_own(absences, field)?;
+            self.check(&field.value)?;
+        }
+        Ok(())
+    }
+
+    /// Whether the default of a declaration could be excluded by another one.
+    fn check_own(&self, absences: &Absences<'_>, field: &Field) -> Result<(), DefaultFault> {
+        let is_excluded = absences.has_every || absences.repeated.contains(field.label.as_str());
+        match (field.mark, self.handing.place_of(&field.value)) {
+            (FieldMark::Regular, Some(offset)) if is_excluded => Err(DefaultFault::Mark {
+                file: self.file,
+                offset,
+            }),
+            _ => Ok(()),
+        }
+    }
+
+    #[cycle(clashes)]
+    fn check_end(&self, end: &ListEnd) -> Result<(), DefaultFault>
+        ensures { (has : List ℕ → Bool) → TellsHanding self.now.handing.now has
+            → FindsIn result self.now.file (clashes_end has (end_view end.now)) }
+    {
+        match end {
+            ListEnd::Closed | ListEnd::Any => Ok(()),
+            ListEnd::Each(each) => self.check(each),
+        }
+    }
+}

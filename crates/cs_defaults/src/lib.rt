@@ -1,0 +1,13 @@
+// Files without the marks of defaults: where these may stand, which fields may be missing for them, and what the files stand for.
+#![tactic(auto)]
+
+mod absent;
+mod fault;
+mod files;
+mod leading;
+mod marks;
+mod unmarked;
+
+pub use cs_grammar::File;
+pub use fault::DefaultFault;
+pub use files::without_marks;

@@ -1,0 +1,163 @@
+// Expressions without their marks.
+ghost use Rattle.std.specs.Prelude.{◌≡◌, ℕ, Bool, List, map, IfOk};
+ghost use Rattle.cs_grammar.specs.View.{expr_view, exprs_view, field_view, fields_view, end_view, definition_view, file_view};
+ghost use Rattle.cs_defaults.specs.Unmarked as Spec;
+ghost use Rattle.cs_defaults.specs.Unmarked.{optional_if, unmarked_each, unmarked_fields, unmarked_end, unmarked_definition, unmarked_file};
+ghost use Rattle.cs_defaults.specs.Checks.{TellsHanding};
+
+use crate::leading::Handing;
+use cs_grammar::{Definition, Expr, Field, FieldMark, File, ListEnd, Wide};
+use std::alloc::{AllocError, Global};
+
+/// A regular declaration whose value has a default is an optional one.
+fn optional_if(has_default: bool, mark: FieldMark) -> FieldMark
+    ensures { result ≡ Spec.optional_if has_default mark }
+{
+    match mark {
+        FieldMark::Regular if has_default => FieldMark::Optional,
+        other => other,
+    }
+}
+
+/// Copies files, and leaves their marks out.
+#[derive(Clone, Copy)]
+pub(crate) struct Unmarking<'h, 'a> {
+    pub(crate) alloc: Global,
+    pub(crate) handing: &'h Handing<'a>,
+}
+
+impl Unmarking<'_, '_> {
+    /// The expression without its marks.
+    #[cycle(unmark)]
+    fn unmarked(&self, expr: &Expr) -> Result<Expr, AllocError>
+        ensures { (has : List ℕ → Bool) → TellsHanding self.now.handing.now has
+            → IfOk result (λ e. expr_view e ≡ Spec.unmarked has (expr_view expr.now)) }
+    {
+        match expr {
+            Expr::And(operands) => Ok(Expr::And(self.unmarked_each(operands)?)),
+            Expr::Or(operands) => Ok(Expr::Or(self.unmarked_each(operands)?)),
+            Expr::Paren(inside) => {
+                let inside = self.unmarked(inside)?;
+                Ok(Expr::Paren(Box::new(self.alloc, inside)?))
+            }
+            Expr::Struct { at, fields, opened } => {
+                let (at, opened) = (*at, *opened);
+                let fields = self.unmarked_fields(fields)?;
+                Ok(Expr::Struct { at, fields, opened })
+            }
+            Expr::List { front, end } => {
+                let front = self.unmarked_each(front)?;
+                let end = self.unmarked_end(end)?;
+                Ok(Expr::List { front, end })
+            }
+            Expr::Wide(Wide::Marked { value, .. }) => self.unmarked(value),
+            Expr::Top => Ok(Expr::Top),
+            Expr::Bottom => Ok(Expr::Bottom),
+            Expr::Null => Ok(Expr::Null),
+            Expr::Bool(truth) => Ok(Expr::Bool(*truth)),
+            Expr::Int(integer) => Ok(Expr::Int(*integer)),
+            Expr::Text(text) => Ok(Expr::Text(text.clone()?)),
+            Expr::Name { text, at } => Ok(Expr::Name {
+                text: text.clone()?,
+                at: *at,
+            }),
+            Expr::Reference { text, at } => Ok(Expr::Reference {
+                text: text.clone()?,
+                at: *at,
+            }),
+            Expr::Bound { relation, limit } => Ok(Expr::Bound {
+                relation: *relation,
+                limit: *limit,
+            }),
+            Expr::NotInt(integer) => Ok(Expr::NotInt(*integer)),
+            Expr::NotText(text) => Ok(Expr::NotText(text.clone()?)),
+            Expr::NotNull => Ok(Expr::NotNull),
+        }
+    }
+
+    #[cycle(unmark)]
+    fn unmarked_each(&self, exprs: &[Expr]) -> Result<Vec<Expr>, AllocError>
+        ensures { (has : List ℕ → Bool) → TellsHanding self.now.handing.now has
+            → IfOk result (λ v. exprs_view v.items ≡ unmarked_each has (exprs_view exprs.now)) }
+    {
+        let mut unmarked = Vec::with_capacity(self.alloc, exprs.len())?;
+        for expr in exprs {
+            unmarked.push(self.unmarked(expr)?)?;
+        }
+        Ok(unmarked)
+    }
+
+    #[cycle(unmark)]
+    fn unmarked_fields(&self, fields: &[Field]) -> Result<Vec<Field>, AllocError>
+        ensures { (has : List ℕ → Bool) → TellsHanding self.now.handing.now has
+            → IfOk result (λ v. fields_view v.items ≡ unmarked_fields has (fields_view fields.now)) }
+    {
+        let mut unmarked = Vec::with_capacity(self.alloc, fields.len())?;
+        for field in fields {
+            unmarked.push(self.unmarked_field(field)?)?;
+        }
+        Ok(unmarked)
+    }
+
+    #[cycle(unmark)]
+    fn unmarked_field(&self, field: &Field) -> Result<Field, AllocError> {
+        let value = self.unmarked(&field.value)?;
+        let label = field.label.clone()?;
+        let mark = optional_if(self.handing.has_default(&field.value), field.mark);
+        Ok(Field {
+            label,
+            quoted: field.quoted,
+            mark,
+            value,
+        })
+    }
+
+    #[cycle(unmark)]
+    fn unmarked_end(&self, end: &ListEnd) -> Result<ListEnd, AllocError>
+        ensures { (has : List ℕ → Bool) → TellsHanding self.now.handing.now has
+            → IfOk result (λ e. end_view e ≡ unmarked_end has (end_view end.now)) }
+    {
+        match end {
+            ListEnd::Closed => Ok(ListEnd::Closed),
+            ListEnd::Any => Ok(ListEnd::Any),
+            ListEnd::Each(each) => {
+                let each = self.unmarked(each)?;
+                Ok(ListEnd::Each(Box::new(self.alloc, each)?))
+            }
+        }
+    }
+
+    fn unmarked_definitions(
+        &self,
+        definitions: &[Definition],
+    ) -> Result<Vec<Definition>, AllocError>
+        ensures { (has : List ℕ → Bool) → TellsHanding self.now.handing.now has
+            → IfOk result (λ v. map definition_view v.items
+            ≡ map (unmarked_definition has) (map definition_view definitions.now)) }
+    {
+        let mut unmarked = Vec::with_capacity(self.alloc, definitions.len())?;
+        for definition in definitions {
+            let body = self.unmarked(&definition.body)?;
+            let name = definition.name.clone()?;
+            let at = definition.at;
+            unmarked.push(Definition { name, at, body })?;
+        }
+        Ok(unmarked)
+    }
+
+    /// The file without its marks.
+    pub(crate) fn unmarked_file(&self, file: &File) -> Result<File, AllocError>
+        ensures { (has : List ℕ → Bool) → TellsHanding self.now.handing.now has
+            → IfOk result (λ f. file_view f ≡ unmarked_file has (file_view file.now)) }
+    {
+        let definitions = self.unmarked_definitions(&file.definitions)?;
+        let package = match &file.package {
+            Some(name) => Some(name.clone()?),
+            None => None,
+        };
+        Ok(File {
+            package,
+            definitions,
+        })
+    }
+}
