@@ -5,7 +5,7 @@ use Rattle.cs_grammar.specs.Atom as atoms
 use Rattle.cs_grammar.specs.declared.kind.Kind.TheVariants as kinds
 use Rattle.cs_grammar.specs.Words.{Words, name, close_list, relation}
 use Rattle.cs_grammar.specs.Tree.{Tree, Trees, End}
-use Rattle.cs_grammar.specs.Spells.{explicit, inserted, list_here, list_after, positive, negative, limit_is, other_number, other_text, other_null, SpellsExpr, one_conj, disjunction_is, SpellsBars, no_bar, a_bar, SpellsConj, one_operand, conjunction_is, SpellsAmps, no_amp, an_amp, SpellsOperand, top_is, bottom_is, reference_is, name_is, number_is, text_is, bound_is, paren_is, struct_is, list_is, SpellsList, no_elements, rest_alone, elements, SpellsElements, no_more_elements, next_element, SpellsEnd, closed_is, rest_is}
+use Rattle.cs_grammar.specs.Spells.{explicit, inserted, list_here, list_after, positive, negative, limit_is, other_number, other_text, other_null, SpellsExpr, one_branch, disjunction_is, SpellsBars, no_bar, a_bar, SpellsBranch, unmarked, marked_is, SpellsConj, one_operand, conjunction_is, SpellsAmps, no_amp, an_amp, SpellsOperand, top_is, bottom_is, reference_is, name_is, number_is, text_is, bound_is, paren_is, struct_is, list_is, SpellsList, no_elements, rest_alone, elements, SpellsElements, no_more_elements, next_element, SpellsEnd, closed_is, rest_is}
 use Rattle.cs_syntax.specs.Reading.{begins_with, goes_on_label, begins_string, goes_on_bracket}
 
 -- ---- a list that begins with a name and `]`
@@ -48,9 +48,13 @@ conj_ends : {e : Tree} {s : List ℕ} {p q : ℕ} {ts us r : Words} → SpellsCo
 conj_ends (one_operand o) is = operand_ends o is
 conj_ends (conjunction_is o a) is = amps_end a (operand_ends o is)
 
+branch_ends : {e : Tree} {s : List ℕ} {p q : ℕ} {ts us r : Words} → SpellsBranch e ts r → ts ≡ name s p ∷ close_list q ∷ us → r ≡ close_list q ∷ us
+branch_ends (unmarked c) is = conj_ends c is
+branch_ends (marked_is c) is = absurd cc
+
 expr_ends : {e : Tree} {s : List ℕ} {p q : ℕ} {ts us r : Words} → SpellsExpr e ts r → ts ≡ name s p ∷ close_list q ∷ us → r ≡ close_list q ∷ us
-expr_ends (one_conj c) is = conj_ends c is
-expr_ends (disjunction_is c b) is = bars_end b (conj_ends c is)
+expr_ends (one_branch c) is = branch_ends c is
+expr_ends (disjunction_is c b) is = bars_end b (branch_ends c is)
 
 list_ends : {es : Trees} {end : End} {s : List ℕ} {p q : ℕ} {ts us r : Words} → SpellsList es end ts r → ts ≡ name s p ∷ close_list q ∷ us → r ≡ us
 list_ends no_elements is = absurd cc

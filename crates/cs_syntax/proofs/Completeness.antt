@@ -12,9 +12,9 @@ use Rattle.cs_grammar.specs.declared.ast.FieldMark.TheVariants.{Every}
 use Rattle.cs_grammar.specs.Words.{Words, relation, comma, name, open_list, colon, quoted, top_mark, bottom_mark, definition_name, unequal, close_struct, close_list, dots, finish}
 use Rattle.cs_grammar.specs.Tree.{Label, Tree, atom, reference, closed, named, Trees, none, more, Fields, no_field, field, End, DefinitionTree, body, FileTree}
 use Rattle.cs_grammar.specs.View.{trees_of, fields_of, Seen}
-use Rattle.cs_grammar.specs.Spells.{is_reserved, is_null, is_string, every_label, literal_of, Comma, explicit, inserted, ClosesParen, paren_here, paren_after, ClosesList, list_here, list_after, ClosesStruct, struct_here, struct_after, SpellsNumber, positive, negative, SpellsBound, limit_is, other_number, other_text, other_null, SpellsLabel, bare_label, quoted_label, SpellsMark, regular, optional, required, SpellsOpening, unopened, opened, SpellsValue, long, short, SpellsField, labelled, every_key, SpellsExpr, one_conj, disjunction_is, SpellsBars, no_bar, a_bar, SpellsConj, one_operand, conjunction_is, SpellsAmps, no_amp, an_amp, SpellsOperand, top_is, bottom_is, reference_is, name_is, number_is, text_is, bound_is, paren_is, struct_is, list_is, SpellsStruct, no_fields, dots_alone, fields, SpellsFields, no_more_fields, next_field, SpellsList, no_elements, rest_alone, elements, SpellsElements, no_more_elements, next_element, SpellsEnd, closed_is, rest_is, SpellsRest, any_is, each_is, SpellsDefinition, defined, SpellsDefinitions, no_definition, next_definition, SpellsPackage, no_clause, clause, SpellsFile, spelled}
-use Rattle.cs_grammar.proofs.Rests.{no_longer, of_field, of_expr, of_conj, of_operand, of_definition}
-use Rattle.cs_syntax.specs.Reading.{◌>>=◌, Read, after, begins_with, begins_comma, comma_at, close_at, paren_end, goes_on_label, begins_field, another_field, another_element, opening_at, may_end, many, signed, number_at, bound_at, unequal_at, integer_at, unbracketed_at, label_at, mark_at, every_key_at, head_at, expected, field_with, fields_with, struct_with, rest_with, end_with, elements_with, list_with, operand_with, amps_with, conj_with, bars_with, expr_with, inner, definition_at, line_at, before_end, definitions_at, clause_at, package_at, file_with, file_at}
+use Rattle.cs_grammar.specs.Spells.{is_reserved, is_null, is_string, every_label, literal_of, Comma, explicit, inserted, ClosesParen, paren_here, paren_after, ClosesList, list_here, list_after, ClosesStruct, struct_here, struct_after, SpellsNumber, positive, negative, SpellsBound, limit_is, other_number, other_text, other_null, SpellsLabel, bare_label, quoted_label, SpellsMark, regular, optional, required, SpellsOpening, unopened, opened, SpellsValue, long, short, SpellsField, labelled, every_key, SpellsExpr, one_branch, disjunction_is, SpellsBars, no_bar, a_bar, SpellsBranch, unmarked, marked_is, SpellsConj, one_operand, conjunction_is, SpellsAmps, no_amp, an_amp, SpellsOperand, top_is, bottom_is, reference_is, name_is, number_is, text_is, bound_is, paren_is, struct_is, list_is, SpellsStruct, no_fields, dots_alone, fields, SpellsFields, no_more_fields, next_field, SpellsList, no_elements, rest_alone, elements, SpellsElements, no_more_elements, next_element, SpellsEnd, closed_is, rest_is, SpellsRest, any_is, each_is, SpellsDefinition, defined, SpellsDefinitions, no_definition, next_definition, SpellsPackage, no_clause, clause, SpellsFile, spelled}
+use Rattle.cs_grammar.proofs.Rests.{no_longer, of_field, of_expr, of_branch, of_operand, of_definition}
+use Rattle.cs_syntax.specs.Reading.{◌>>=◌, Read, after, begins_with, begins_comma, comma_at, close_at, paren_end, goes_on_label, begins_field, another_field, another_element, opening_at, may_end, many, signed, number_at, bound_at, unequal_at, integer_at, unbracketed_at, label_at, mark_at, every_key_at, head_at, expected, field_with, fields_with, struct_with, rest_with, end_with, elements_with, list_with, operand_with, amps_with, conj_with, branch_with, bars_with, expr_with, inner, definition_at, line_at, before_end, definitions_at, clause_at, package_at, file_with, file_at}
 use Rattle.cs_syntax.specs.Nesting.{nesting}
 use Rattle.cs_syntax.proofs.BracketLabels.{list_no_label}
 use Rattle.cs_syntax.proofs.NestingBounds.{inside, inside_all, inside_elements, inside_fields, inside_end, inside_definitions, inside_file, inside_low, max_left, max_right}
@@ -118,9 +118,13 @@ conj_open : {e : Tree} {ts r : Words} → SpellsConj e ts r → IsOpen ts
 conj_open (one_operand o) = operand_open o
 conj_open (conjunction_is o a) = operand_open o
 
+branch_open : {e : Tree} {ts r : Words} → SpellsBranch e ts r → IsOpen ts
+branch_open (unmarked c) = conj_open c
+branch_open (marked_is c) = record { no_list_end = refl; no_dots = refl; not_list_end = refl; not_dots = refl; no_comma = refl }
+
 expr_open : {e : Tree} {ts r : Words} → SpellsExpr e ts r → IsOpen ts
-expr_open (one_conj c) = conj_open c
-expr_open (disjunction_is c b) = conj_open c
+expr_open (one_branch c) = branch_open c
+expr_open (disjunction_is c b) = branch_open c
 
 -- no expression with nothing behind it that goes on a label is a field
 operand_no_field : {e : Tree} {ts r : Words} → SpellsOperand e ts r → goes_on_label r ≡ false → begins_field ts ≡ false
@@ -143,9 +147,40 @@ conj_no_field : {e : Tree} {ts r : Words} → SpellsConj e ts r → goes_on_labe
 conj_no_field (one_operand o) q = operand_no_field o q
 conj_no_field (conjunction_is o a) q = operand_no_field o (no_label-amps a q)
 
+branch_no_field : {e : Tree} {ts r : Words} → SpellsBranch e ts r → goes_on_label r ≡ false → begins_field ts ≡ false
+branch_no_field (unmarked c) q = conj_no_field c q
+branch_no_field (marked_is c) q = refl
+
 expr_no_field : {e : Tree} {ts r : Words} → SpellsExpr e ts r → goes_on_label r ≡ false → begins_field ts ≡ false
-expr_no_field (one_conj c) q = conj_no_field c q
-expr_no_field (disjunction_is c b) q = conj_no_field c (no_label-bars b q)
+expr_no_field (one_branch c) q = branch_no_field c q
+expr_no_field (disjunction_is c b) q = branch_no_field c (no_label-bars b q)
+
+-- no operand begins with `*`
+relation_no_star : (b : Relation) (p : ℕ) (ts : Words) → after kinds.Star (relation b p ∷ ts) ≡ None
+relation_no_star atoms.less p ts = refl
+relation_no_star atoms.at_most p ts = refl
+relation_no_star atoms.more p ts = refl
+relation_no_star atoms.at_least p ts = refl
+
+operand_no_star : {e : Tree} {ts r : Words} → SpellsOperand e ts r → after kinds.Star ts ≡ None
+operand_no_star top_is = refl
+operand_no_star bottom_is = refl
+operand_no_star reference_is = refl
+operand_no_star (name_is h e) = refl
+operand_no_star (number_is (positive h)) = refl
+operand_no_star (number_is (negative e h)) = refl
+operand_no_star text_is = refl
+operand_no_star (bound_is (limit_is {b} {z} {p} {ts} n)) = relation_no_star b p ts
+operand_no_star (bound_is (other_number n)) = refl
+operand_no_star (bound_is other_text) = refl
+operand_no_star (bound_is (other_null h)) = refl
+operand_no_star (paren_is e c) = refl
+operand_no_star (struct_is s) = refl
+operand_no_star (list_is s) = refl
+
+conj_no_star : {e : Tree} {ts r : Words} → SpellsConj e ts r → after kinds.Star ts ≡ None
+conj_no_star (one_operand o) = operand_no_star o
+conj_no_star (conjunction_is o a) = operand_no_star o
 
 -- ---- marks
 
@@ -373,7 +408,7 @@ many_next skip p n h k m = rw (h, k, m) refl
 -- ---- the whole grammar
 
 mutual
-  unfolding operand_with conj_with expr_with inner field_with rest_with
+  unfolding operand_with conj_with branch_with expr_with inner field_with rest_with
 
   read_value : {e : Tree} {ts r : Words} → SpellsValue e ts r → (d : ℕ) → inside e ≤ d → Quiet r → inner (suc d) true ts ≡ Ok (e, r)
   read_value (long s) d h q = rw (expr_no_field s q.no_label) (read_expr s d h q)
@@ -386,13 +421,17 @@ mutual
   read_field (every_key {s} {o} {p} {q = b} {c} {ts} k v) (suc d) h q = rw (every_head s o p b c ts k, read_value v d (omega (arith, h)) q) refl
 
   read_expr : {e : Tree} {ts r : Words} → SpellsExpr e ts r → (d : ℕ) → inside e ≤ d → Quiet r → expr_with (inner d) ts ≡ Ok (e, r)
-  read_expr (one_conj {e} {ts} {r} c) d h q = rw (read_conj c d h q.no_amp_here, many_end (after kinds.Bar) (conj_with (inner d)) (length r) r q.no_bar_here) refl
-  read_expr (disjunction_is {fs = fs} {us = us} c b) d h q = rw (read_conj c d (max_left _ _ h) (no_amp-bars b q.no_amp_here), read_bars b d (length us) (max_right _ _ h) (omega arith) q, trees_back fs) refl
+  read_expr (one_branch {e} {ts} {r} c) d h q = rw (read_branch c d h q.no_amp_here, many_end (after kinds.Bar) (branch_with (inner d)) (length r) r q.no_bar_here) refl
+  read_expr (disjunction_is {fs = fs} {us = us} c b) d h q = rw (read_branch c d (max_left _ _ h) (no_amp-bars b q.no_amp_here), read_bars b d (length us) (max_right _ _ h) (omega arith) q, trees_back fs) refl
 
   read_bars : {es : Trees} {ts r : Words} → SpellsBars es ts r → (d n : ℕ) → inside_all es ≤ d → length ts ≤ n → Quiet r → bars_with (inner d) n ts ≡ Ok (trees_in es, r)
-  read_bars (no_bar {r}) d n h k q = many_end (after kinds.Bar) (conj_with (inner d)) n r q.no_bar_here
+  read_bars (no_bar {r}) d n h k q = many_end (after kinds.Bar) (branch_with (inner d)) n r q.no_bar_here
   read_bars (a_bar c b) d zero h k q = let never : ⊥ = omega arith in absurd never
-  read_bars (a_bar c b) d (suc n) h k q = many_next (after kinds.Bar) (conj_with (inner d)) n refl (read_conj c d (max_left _ _ h) (no_amp-bars b q.no_amp_here)) (read_bars b d n (max_right _ _ h) (omega (arith, no_longer (of_conj c))) q)
+  read_bars (a_bar c b) d (suc n) h k q = many_next (after kinds.Bar) (branch_with (inner d)) n refl (read_branch c d (max_left _ _ h) (no_amp-bars b q.no_amp_here)) (read_bars b d n (max_right _ _ h) (omega (arith, no_longer (of_branch c))) q)
+
+  read_branch : {e : Tree} {ts r : Words} → SpellsBranch e ts r → (d : ℕ) → inside e ≤ d → after kinds.Amp r ≡ None → branch_with (inner d) ts ≡ Ok (e, r)
+  read_branch (unmarked c) d h q = rw (conj_no_star c) (read_conj c d h q)
+  read_branch (marked_is c) d h q = rw (read_conj c d h q) refl
 
   read_conj : {e : Tree} {ts r : Words} → SpellsConj e ts r → (d : ℕ) → inside e ≤ d → after kinds.Amp r ≡ None → conj_with (inner d) ts ≡ Ok (e, r)
   read_conj (one_operand {e} {ts} {r} o) d h q = rw (read_operand o d h, many_end (after kinds.Amp) (operand_with (inner d)) (length r) r q) refl

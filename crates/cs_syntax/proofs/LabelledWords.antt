@@ -3,7 +3,7 @@ use Rattle.std.proofs.Common.{◌≡◌, ℕ, ℤ, Bool, true, false, ◌&&◌, 
 use Rattle.std.specs.List.{AllByRecursion}
 use Rattle.cs_grammar.specs.declared.ast.FieldMark.{FieldMark}
 use Rattle.cs_grammar.specs.Labels.{HasLabel, IsLabelled, AreLabelled, AreLabelledFields, IsLabelledEnd, IsLabelledFile}
-use Rattle.cs_grammar.specs.Spells.{Comma, explicit, inserted, ClosesParen, paren_here, paren_after, ClosesList, list_here, list_after, ClosesStruct, struct_here, struct_after, SpellsNumber, positive, negative, SpellsBound, limit_is, other_number, other_text, other_null, SpellsLabel, bare_label, quoted_label, SpellsMark, regular, optional, required, SpellsOpening, unopened, opened, SpellsValue, long, short, SpellsField, labelled, every_key, SpellsExpr, one_conj, disjunction_is, SpellsBars, no_bar, a_bar, SpellsConj, one_operand, conjunction_is, SpellsAmps, no_amp, an_amp, SpellsOperand, top_is, bottom_is, reference_is, name_is, number_is, text_is, bound_is, paren_is, struct_is, list_is, SpellsStruct, no_fields, dots_alone, fields, SpellsFields, no_more_fields, next_field, SpellsList, no_elements, rest_alone, elements, SpellsElements, no_more_elements, next_element, SpellsEnd, closed_is, rest_is, SpellsRest, any_is, each_is, SpellsDefinition, defined, SpellsDefinitions, no_definition, next_definition, SpellsPackage, no_clause, clause, SpellsFile, spelled}
+use Rattle.cs_grammar.specs.Spells.{Comma, explicit, inserted, ClosesParen, paren_here, paren_after, ClosesList, list_here, list_after, ClosesStruct, struct_here, struct_after, SpellsNumber, positive, negative, SpellsBound, limit_is, other_number, other_text, other_null, SpellsLabel, bare_label, quoted_label, SpellsMark, regular, optional, required, SpellsOpening, unopened, opened, SpellsValue, long, short, SpellsField, labelled, every_key, SpellsExpr, one_branch, disjunction_is, SpellsBars, no_bar, a_bar, SpellsBranch, unmarked, marked_is, SpellsConj, one_operand, conjunction_is, SpellsAmps, no_amp, an_amp, SpellsOperand, top_is, bottom_is, reference_is, name_is, number_is, text_is, bound_is, paren_is, struct_is, list_is, SpellsStruct, no_fields, dots_alone, fields, SpellsFields, no_more_fields, next_field, SpellsList, no_elements, rest_alone, elements, SpellsElements, no_more_elements, next_element, SpellsEnd, closed_is, rest_is, SpellsRest, any_is, each_is, SpellsDefinition, defined, SpellsDefinitions, no_definition, next_definition, SpellsPackage, no_clause, clause, SpellsFile, spelled}
 use Rattle.cs_grammar.specs.Tree.{Label, Tree, Trees, Fields, End, DefinitionTree, body, FileTree}
 use Rattle.cs_grammar.specs.Words.{Word, Words, close_list, colon, question, bang}
 
@@ -86,12 +86,16 @@ mutual
   of_field (every_key s v) marked is h = absurd marked
 
   of_expr : {e : Tree} {ts r : Words} → SpellsExpr e ts r → IsLabelled e → Follows r → Follows ts
-  of_expr (one_conj c) is h = of_conj c is h
-  of_expr (disjunction_is c b) is h = of_conj c is.0 (of_bars b is.1 h)
+  of_expr (one_branch c) is h = of_branch c is h
+  of_expr (disjunction_is c b) is h = of_branch c is.0 (of_bars b is.1 h)
 
   of_bars : {es : Trees} {ts r : Words} → SpellsBars es ts r → AreLabelled es → Follows r → Follows ts
   of_bars no_bar is h = h
-  of_bars (a_bar c b) is h = record { quiet = refl; apart = (refl, (of_conj c is.0 (of_bars b is.1 h)).apart) }
+  of_bars (a_bar c b) is h = record { quiet = refl; apart = (refl, (of_branch c is.0 (of_bars b is.1 h)).apart) }
+
+  of_branch : {e : Tree} {ts r : Words} → SpellsBranch e ts r → IsLabelled e → Follows r → Follows ts
+  of_branch (unmarked c) is h = of_conj c is h
+  of_branch (marked_is c) is h = record { quiet = refl; apart = (refl, (of_conj c is h).apart) }
 
   of_conj : {e : Tree} {ts r : Words} → SpellsConj e ts r → IsLabelled e → Follows r → Follows ts
   of_conj (one_operand o) is h = of_operand o is h

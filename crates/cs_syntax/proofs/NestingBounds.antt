@@ -8,7 +8,7 @@ use Rattle.cs_grammar.specs.declared.ast.FieldMark.{FieldMark}
 use Rattle.cs_grammar.specs.Words.{Word, Words, name, quoted, open_list, close_list, comma, nl, colon}
 use Rattle.cs_grammar.specs.Tree as T
 use Rattle.cs_grammar.specs.Tree.{Label, Tree, Trees, none, more, Fields, no_field, field, End, DefinitionTree, body, FileTree, definitions}
-use Rattle.cs_grammar.specs.Spells.{is_null, is_string, literal_of, Comma, explicit, inserted, ClosesParen, paren_here, paren_after, ClosesList, list_here, list_after, ClosesStruct, struct_here, struct_after, SpellsNumber, positive, negative, SpellsBound, limit_is, other_number, other_text, other_null, SpellsLabel, bare_label, quoted_label, SpellsMark, regular, optional, required, SpellsOpening, unopened, opened, SpellsValue, long, short, SpellsField, labelled, every_key, SpellsExpr, one_conj, disjunction_is, SpellsBars, no_bar, a_bar, SpellsConj, one_operand, conjunction_is, SpellsAmps, no_amp, an_amp, SpellsOperand, top_is, bottom_is, reference_is, name_is, number_is, text_is, bound_is, paren_is, struct_is, list_is, SpellsStruct, no_fields, dots_alone, fields, SpellsFields, no_more_fields, next_field, SpellsList, no_elements, rest_alone, elements, SpellsElements, no_more_elements, next_element, SpellsEnd, closed_is, rest_is, SpellsRest, any_is, each_is, defined, SpellsDefinitions, no_definition, next_definition, SpellsPackage, no_clause, clause, SpellsFile, spelled}
+use Rattle.cs_grammar.specs.Spells.{is_null, is_string, literal_of, Comma, explicit, inserted, ClosesParen, paren_here, paren_after, ClosesList, list_here, list_after, ClosesStruct, struct_here, struct_after, SpellsNumber, positive, negative, SpellsBound, limit_is, other_number, other_text, other_null, SpellsLabel, bare_label, quoted_label, SpellsMark, regular, optional, required, SpellsOpening, unopened, opened, SpellsValue, long, short, SpellsField, labelled, every_key, SpellsExpr, one_branch, disjunction_is, SpellsBars, no_bar, a_bar, SpellsBranch, unmarked, marked_is, SpellsConj, one_operand, conjunction_is, SpellsAmps, no_amp, an_amp, SpellsOperand, top_is, bottom_is, reference_is, name_is, number_is, text_is, bound_is, paren_is, struct_is, list_is, SpellsStruct, no_fields, dots_alone, fields, SpellsFields, no_more_fields, next_field, SpellsList, no_elements, rest_alone, elements, SpellsElements, no_more_elements, next_element, SpellsEnd, closed_is, rest_is, SpellsRest, any_is, each_is, defined, SpellsDefinitions, no_definition, next_definition, SpellsPackage, no_clause, clause, SpellsFile, spelled}
 use Rattle.cs_syntax.specs.Nesting.{OpenLevels, ends_with_chained_label, is_short, counted_if, behind, nesting_at, nesting_from, nesting}
 use Rattle.cs_syntax.proofs.NestingCounts.{nesting-cons}
 
@@ -22,7 +22,11 @@ abbrev mutual
   inside (T.paren e) = suc (inside e)
   inside (T.struct o fs b) = inside_fields fs
   inside (T.list es end) = max (inside_elements es) (inside_end end)
+  inside (T.wide w) = inside_wide w
   inside _ = 0
+
+  pub inside_wide : T.Wide → ℕ
+  inside_wide (T.marked o e) = inside e
 
   pub inside_all : Trees → ℕ
   inside_all none = 0
@@ -215,12 +219,16 @@ mutual
   field_low {n = n} {ns = ns} (every_key e v) f h = let b = every_begins e h in value_low v (counted_runs (n ∷ ns) f b.2)
 
   expr_low : {k n : ℕ} {e : Tree} {ws ts r : Words} {ns : OpenLevels} → SpellsExpr e ts r → Runs k ws (n ∷ ns) ts → Fits k (inside e) (n ∷ ns) × Goes k (n ∷ ns) r
-  expr_low (one_conj c) h = conj_low c h
-  expr_low (disjunction_is c b) h = let x = conj_low c h in let y = bars_low b x.1.1 in (max_plus _ _ _ x.0 y.0, y.1)
+  expr_low (one_branch c) h = branch_low c h
+  expr_low (disjunction_is c b) h = let x = branch_low c h in let y = bars_low b x.1.1 in (max_plus _ _ _ x.0 y.0, y.1)
 
   bars_low : {k n : ℕ} {es : Trees} {ws ts r : Words} {ns : OpenLevels} → SpellsBars es ts r → Runs k ws (n ∷ ns) ts → Fits k (inside_all es) (n ∷ ns) × Goes k (n ∷ ns) r
   bars_low no_bar h = (flat h, (_, h))
-  bars_low (a_bar c b) h = let x = conj_low c (pass h) in let y = bars_low b x.1.1 in (max_plus _ _ _ x.0 y.0, y.1)
+  bars_low (a_bar c b) h = let x = branch_low c (pass h) in let y = bars_low b x.1.1 in (max_plus _ _ _ x.0 y.0, y.1)
+
+  branch_low : {k n : ℕ} {e : Tree} {ws ts r : Words} {ns : OpenLevels} → SpellsBranch e ts r → Runs k ws (n ∷ ns) ts → Fits k (inside e) (n ∷ ns) × Goes k (n ∷ ns) r
+  branch_low (unmarked c) h = conj_low c h
+  branch_low (marked_is c) h = conj_low c (pass h)
 
   conj_low : {k n : ℕ} {e : Tree} {ws ts r : Words} {ns : OpenLevels} → SpellsConj e ts r → Runs k ws (n ∷ ns) ts → Fits k (inside e) (n ∷ ns) × Goes k (n ∷ ns) r
   conj_low (one_operand o) h = operand_low o h

@@ -17,7 +17,7 @@ use Rattle.cs_grammar.specs.Words.{Word, Words, start, name, quoted, definition_
 use Rattle.cs_grammar.specs.Tree.{Tree, atom, not_integer, DefinitionTree, FileTree, file}
 use Rattle.cs_grammar.specs.Spells.{is_reserved, is_null, literal_of}
 use Rattle.cs_grammar.specs.TokenWords.{words}
-use Rattle.cs_syntax.specs.Reading.{◌>>=◌, Read, word_kind, begins_with, begins_comma, fault_at, behind_if, after, after_comma, or_fault, beyond, comma_at, close_at, paren_end, expected, signed, number_or, number_at, name_or, null_or, bound_at, unequal_at, integer_at, unbracketed_at, or_more, many, another_field, another_element, opening, opening_if, opening_at, rest_behind, may_end, label_at, mark_if, mark_at, begins_string, string_at, every_key_at, head_if, head_at, field_with, fields_with, struct_if, struct_with, rest_if, rest_with, end_if, end_with, elements_with, list_if, list_with, operand_with, amps_with, conj_with, bars_with, expr_with, value_if, begins_field, inner, definition_at, line_at, before_end, definitions_at, is_clause, clause_at, package_if, package_at, whole, file_with, file_at}
+use Rattle.cs_syntax.specs.Reading.{◌>>=◌, Read, word_kind, begins_with, begins_comma, fault_at, behind_if, after, after_comma, or_fault, beyond, comma_at, close_at, paren_end, expected, signed, number_or, number_at, name_or, null_or, bound_at, unequal_at, integer_at, unbracketed_at, or_more, many, another_field, another_element, opening, opening_if, opening_at, rest_behind, may_end, label_at, mark_if, mark_at, begins_string, string_at, every_key_at, head_if, head_at, field_with, fields_with, struct_if, struct_with, rest_if, rest_with, end_if, end_with, elements_with, list_if, list_with, operand_with, amps_with, conj_with, branch_if, branch_with, bars_with, expr_with, value_if, begins_field, inner, definition_at, line_at, before_end, definitions_at, is_clause, clause_at, package_if, package_at, whole, file_with, file_at}
 use Rattle.cs_syntax.specs.Place.{is_left_out, fault_if, Ends, same, past, IsFaultIn}
 use Rattle.cs_lexer.specs.Lexed.{IsRefusal}
 use Rattle.cs_syntax.specs.Refusal.{IsFileRefusal}
@@ -282,9 +282,17 @@ module _ (r : Bool → Read Tree) (h : (b : Bool) → IsGoing (r b)) where
   unfolding conj_with
   conj_goes ts e = then ts (operand_with r ts) _ (operand_goes ts e) (λ x k. then x.1 (amps_with r (length x.1) x.1) _ (many_goes (after kinds.Amp) (after_goes kinds.Amp refl) (operand_with r) operand_goes (length x.1) x.1 k) (λ y l. (same, l)))
 
+  branch_goes : IsGoing (branch_with r)
+  unfolding branch_with
+  branch_goes ts e = by (after kinds.Star ts) (after_goes kinds.Star refl ts e)
+    where
+      by : (o : Option Words) → GoesBehind ts o → Goes ts (branch_if r ts o)
+      by None g = conj_goes ts e
+      by (Some us) g = moved ts us (branch_if r ts (Some us)) g.0 (then us (conj_with r us) _ (conj_goes us g.1) (λ x k. (same, k)))
+
   expr_goes : IsGoing (expr_with r)
   unfolding expr_with
-  expr_goes ts e = then ts (conj_with r ts) _ (conj_goes ts e) (λ x k. then x.1 (bars_with r (length x.1) x.1) _ (many_goes (after kinds.Bar) (after_goes kinds.Bar refl) (conj_with r) conj_goes (length x.1) x.1 k) (λ y l. (same, l)))
+  expr_goes ts e = then ts (branch_with r ts) _ (branch_goes ts e) (λ x k. then x.1 (bars_with r (length x.1) x.1) _ (many_goes (after kinds.Bar) (after_goes kinds.Bar refl) (branch_with r) branch_goes (length x.1) x.1 k) (λ y l. (same, l)))
 
   value_goes : (b : Bool) → IsGoing (value_if r b)
   value_goes true ts e = then ts (field_with r ts) _ (field_goes ts e) (λ x k. (same, k))

@@ -8,11 +8,11 @@ use Rattle.cs_grammar.specs.declared.kind.Kind.TheVariants as kinds
 use Rattle.cs_grammar.specs.declared.ast.FieldMark.{FieldMark}
 use Rattle.cs_grammar.specs.declared.ast.FieldMark.TheVariants.{Every}
 use Rattle.cs_grammar.specs.Atom as atoms
-use Rattle.cs_grammar.specs.Words.{Words, name, quoted, definition_name, top_mark, bottom_mark, numeral, open_paren, open_struct, open_list, close_paren, close_struct, close_list, comma, nl, colon, question, bang, amp, bar, dots, relation, unequal, minus, finish}
+use Rattle.cs_grammar.specs.Words.{Words, name, quoted, definition_name, top_mark, bottom_mark, numeral, open_paren, open_struct, open_list, close_paren, close_struct, close_list, comma, nl, colon, question, bang, amp, bar, dots, relation, unequal, minus, star, finish}
 use Rattle.cs_grammar.specs.Tree.{Label, Tree, atom, not_integer, End, DefinitionTree, FileTree, file}
 use Rattle.cs_grammar.specs.View.{trees_of, fields_of, Seen}
-use Rattle.cs_grammar.specs.Spells.{is_reserved, is_null, is_package, is_string, every_label, start_at, literal_of, Comma, explicit, inserted, ClosesParen, paren_here, paren_after, ClosesList, list_here, list_after, ClosesStruct, struct_here, struct_after, SpellsNumber, positive, negative, SpellsBound, limit_is, other_number, other_text, other_null, SpellsLabel, bare_label, quoted_label, SpellsMark, regular, optional, required, SpellsOpening, unopened, opened, SpellsValue, long, short, SpellsField, labelled, every_key, SpellsExpr, one_conj, disjunction_is, SpellsBars, no_bar, a_bar, SpellsConj, one_operand, conjunction_is, SpellsAmps, no_amp, an_amp, SpellsOperand, top_is, bottom_is, reference_is, name_is, number_is, text_is, bound_is, paren_is, struct_is, list_is, SpellsStruct, no_fields, dots_alone, fields, SpellsFields, no_more_fields, next_field, SpellsList, no_elements, rest_alone, elements, SpellsElements, no_more_elements, next_element, SpellsEnd, closed_is, rest_is, SpellsRest, any_is, each_is, SpellsDefinition, defined, SpellsDefinitions, no_definition, next_definition, SpellsPackage, no_clause, clause, SpellsFile, spelled}
-use Rattle.cs_syntax.specs.Reading.{◌>>=◌, Read, expected, begins_with, behind_if, begins_comma, comma_at, close_at, paren_end, another_field, another_element, opening, opening_if, opening_at, rest_behind, may_end, signed, number_or, number_at, name_or, null_or, bound_at, unequal_at, integer_at, unbracketed_at, or_fault, or_more, many, label_at, mark_at, string_at, every_key_at, head_at, field_with, fields_with, struct_with, rest_if, rest_with, end_if, end_with, elements_with, list_with, operand_with, amps_with, conjunction_of, conj_with, bars_with, disjunction_of, expr_with, value_if, begins_field, inner, definition_at, line_at, before_end, definitions_at, clause_at, package_if, package_at, whole, file_with, file_at}
+use Rattle.cs_grammar.specs.Spells.{is_reserved, is_null, is_package, is_string, every_label, start_at, literal_of, Comma, explicit, inserted, ClosesParen, paren_here, paren_after, ClosesList, list_here, list_after, ClosesStruct, struct_here, struct_after, SpellsNumber, positive, negative, SpellsBound, limit_is, other_number, other_text, other_null, SpellsLabel, bare_label, quoted_label, SpellsMark, regular, optional, required, SpellsOpening, unopened, opened, SpellsValue, long, short, SpellsField, labelled, every_key, SpellsExpr, one_branch, disjunction_is, SpellsBars, no_bar, a_bar, SpellsBranch, unmarked, marked_is, SpellsConj, one_operand, conjunction_is, SpellsAmps, no_amp, an_amp, SpellsOperand, top_is, bottom_is, reference_is, name_is, number_is, text_is, bound_is, paren_is, struct_is, list_is, SpellsStruct, no_fields, dots_alone, fields, SpellsFields, no_more_fields, next_field, SpellsList, no_elements, rest_alone, elements, SpellsElements, no_more_elements, next_element, SpellsEnd, closed_is, rest_is, SpellsRest, any_is, each_is, SpellsDefinition, defined, SpellsDefinitions, no_definition, next_definition, SpellsPackage, no_clause, clause, SpellsFile, spelled}
+use Rattle.cs_syntax.specs.Reading.{◌>>=◌, Read, expected, begins_with, behind_if, begins_comma, comma_at, close_at, paren_end, another_field, another_element, opening, opening_if, opening_at, rest_behind, may_end, signed, number_or, number_at, name_or, null_or, bound_at, unequal_at, integer_at, unbracketed_at, or_fault, or_more, many, label_at, mark_at, string_at, every_key_at, head_at, field_with, fields_with, struct_with, rest_if, rest_with, end_if, end_with, elements_with, list_with, operand_with, amps_with, conjunction_of, conj_with, branch_with, bars_with, disjunction_of, expr_with, value_if, begins_field, inner, definition_at, line_at, before_end, definitions_at, clause_at, package_if, package_at, whole, file_with, file_at}
 
 -- P of what was read and of what is left
 abbrev IfRead : {A : Type 0} → (A → Words → Type 0) → Result (A × Words) SyntaxFault → Type 0
@@ -385,23 +385,33 @@ module _ (r : Bool → Read Tree) (h : IsSound r) where
   unfolding conj_with
   conj_of ts = if_bind (λ e us. SpellsOperand e ts us) (λ e us. SpellsConj e ts us) (operand_with r ts) _ (operand_of ts) (λ e us s. if_bind (AmpsOf us) (λ e us. SpellsConj e ts us) (amps_with r (length us) us) _ (amps_of (length us) us) (λ es vs t. conj_made es vs s t))
 
+  unmarked_of : (ts : Words) (m : Result (Tree × Words) SyntaxFault) → IfRead (λ e us. SpellsConj e ts us) m → IfRead (λ e us. SpellsBranch e ts us) m
+  unmarked_of ts (Ok x) s = unmarked s
+  unmarked_of ts (Err f) s = tt
+
+  branch_of : (ts : Words) → IfRead (λ e us. SpellsBranch e ts us) (branch_with r ts)
+  unfolding branch_with
+  branch_of (star p ∷ ts) = if_bind (λ e us. SpellsConj e ts us) (λ e us. SpellsBranch e (star p ∷ ts) us) (conj_with r ts) _ (conj_of ts) (λ e us s. marked_is s)
+  branch_of (relation atoms.less p ∷ ts) = unmarked_of (relation atoms.less p ∷ ts) (conj_with r (relation atoms.less p ∷ ts)) (conj_of (relation atoms.less p ∷ ts))
+  branch_of ts = unmarked_of ts (conj_with r ts) (conj_of ts)
+
   abbrev BarsOf : Words → List Tree → Words → Type 0
   BarsOf ts es us = SpellsBars (trees_of es) ts us
 
   bars_of : (n : ℕ) (ts : Words) → IfRead (BarsOf ts) (bars_with r n ts)
   unfolding many
   bars_of zero ts = no_bar
-  bars_of (suc n) (bar o ∷ ts) = if_bind (λ e us. SpellsConj e ts us) (BarsOf (bar o ∷ ts)) (conj_with r ts) _ (conj_of ts) (λ e us s. if_bind (BarsOf us) (BarsOf (bar o ∷ ts)) (bars_with r n us) _ (bars_of n us) (λ es vs t. a_bar s t))
+  bars_of (suc n) (bar o ∷ ts) = if_bind (λ e us. SpellsBranch e ts us) (BarsOf (bar o ∷ ts)) (branch_with r ts) _ (branch_of ts) (λ e us s. if_bind (BarsOf us) (BarsOf (bar o ∷ ts)) (bars_with r n us) _ (bars_of n us) (λ es vs t. a_bar s t))
   bars_of (suc n) (relation atoms.less p ∷ ts) = no_bar
   bars_of (suc n) ts = no_bar
 
-  expr_made : {e : Tree} {ts us : Words} (es : List Tree) (ws : Words) → SpellsConj e ts us → BarsOf us es ws → SpellsExpr (disjunction_of e es) ts ws
-  expr_made [] ws o no_bar = one_conj o
+  expr_made : {e : Tree} {ts us : Words} (es : List Tree) (ws : Words) → SpellsBranch e ts us → BarsOf us es ws → SpellsExpr (disjunction_of e es) ts ws
+  expr_made [] ws o no_bar = one_branch o
   expr_made (f ∷ fs) ws o a = disjunction_is o a
 
   expr_of : (ts : Words) → IfRead (λ e us. SpellsExpr e ts us) (expr_with r ts)
   unfolding expr_with
-  expr_of ts = if_bind (λ e us. SpellsConj e ts us) (λ e us. SpellsExpr e ts us) (conj_with r ts) _ (conj_of ts) (λ e us s. if_bind (BarsOf us) (λ e us. SpellsExpr e ts us) (bars_with r (length us) us) _ (bars_of (length us) us) (λ es vs t. expr_made es vs s t))
+  expr_of ts = if_bind (λ e us. SpellsBranch e ts us) (λ e us. SpellsExpr e ts us) (branch_with r ts) _ (branch_of ts) (λ e us s. if_bind (BarsOf us) (λ e us. SpellsExpr e ts us) (bars_with r (length us) us) _ (bars_of (length us) us) (λ es vs t. expr_made es vs s t))
 
   long_of : (ts : Words) (m : Result (Tree × Words) SyntaxFault) → IfRead (λ e us. SpellsExpr e ts us) m → IfRead (λ e us. SpellsValue e ts us) m
   long_of ts (Ok x) s = long s

@@ -1,6 +1,6 @@
 -- How high a tree is (own rule): 1 for an expression without parts, and else one more than the greatest height of its parts.
 use Rattle.std.specs.Prelude.{ℕ, suc, max, List, [], ◌∷◌}
-use Rattle.cs_grammar.specs.Tree.{Tree, atom, named, reference, conjunction, disjunction, paren, struct, list, Trees, none, more, Fields, no_field, field, End, closed, any, each, DefinitionTree, body, FileTree, definitions}
+use Rattle.cs_grammar.specs.Tree.{Tree, atom, named, reference, conjunction, disjunction, paren, struct, list, wide, Wide, marked, Trees, none, more, Fields, no_field, field, End, closed, any, each, DefinitionTree, body, FileTree, definitions}
 
 abbrev mutual
   pub height : Tree → ℕ
@@ -12,6 +12,11 @@ abbrev mutual
   height (paren e) = suc (height e)
   height (struct o fs b) = suc (height_fields fs)
   height (list es end) = suc (max (height_all es) (height_end end))
+  height (wide w) = height_wide w
+
+  -- a mark is no level
+  pub height_wide : Wide → ℕ
+  height_wide (marked o e) = height e
 
   -- the greatest height; 0 of none
   pub height_all : Trees → ℕ

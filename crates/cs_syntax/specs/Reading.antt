@@ -9,10 +9,10 @@ use Rattle.cs_grammar.specs.Atom as atoms
 use Rattle.cs_grammar.specs.Atom.{Relation, top, bottom, integer, text, bound, not_integer, not_text, not_null}
 use Rattle.cs_grammar.specs.declared.fault.SyntaxFault.{SyntaxFault}
 use Rattle.cs_grammar.specs.declared.fault.SyntaxFault.TheVariants as faults
-use Rattle.cs_grammar.specs.Words.{Word, Words, name, definition_name, hidden, top_mark, bottom_mark, numeral, quoted, open_struct, close_struct, open_list, close_list, open_paren, close_paren, comma, nl, colon, question, bang, amp, bar, dots, relation, unequal, minus, left_out, finish}
+use Rattle.cs_grammar.specs.Words.{Word, Words, name, definition_name, hidden, top_mark, bottom_mark, numeral, quoted, open_struct, close_struct, open_list, close_list, open_paren, close_paren, comma, nl, colon, question, bang, amp, bar, dots, relation, unequal, minus, star, left_out, finish}
 use Rattle.cs_grammar.specs.declared.ast.FieldMark.{FieldMark}
 use Rattle.cs_grammar.specs.declared.ast.FieldMark.TheVariants.{Regular, Optional, Required, Every}
-use Rattle.cs_grammar.specs.Tree.{Label, Tree, atom, named, reference, conjunction, disjunction, paren, struct, list, End, closed, any, each, DefinitionTree, definition, FileTree, file}
+use Rattle.cs_grammar.specs.Tree.{Label, Tree, atom, named, reference, conjunction, disjunction, paren, struct, list, wide, marked, End, closed, any, each, DefinitionTree, definition, FileTree, file}
 use Rattle.cs_grammar.specs.View.{trees_of, fields_of, Seen}
 use Rattle.cs_grammar.specs.Spells.{is_reserved, is_null, is_package, is_string, every_label, literal_of, start_at}
 use Rattle.cs_syntax.specs.Place.{fault_of}
@@ -72,6 +72,7 @@ word_kind (relation atoms.more o) = kinds.More
 word_kind (relation atoms.at_least o) = kinds.AtLeast
 word_kind (unequal o) = kinds.Unequal
 word_kind (minus o) = kinds.Minus
+word_kind (star o) = kinds.Star
 word_kind (left_out o) = kinds.LeftOut
 word_kind (finish o) = kinds.End
 
@@ -402,9 +403,19 @@ conj_with r ts = do
   es ← amps_with r (length e.1) e.1
   Ok (conjunction_of e.0 es.0, es.1)
 
--- { `|` Conj }
+abbrev pub branch_if : (Bool → Read Tree) → Words → Option Words → Result (Tree × Words) SyntaxFault
+branch_if r ts None = conj_with r ts
+branch_if r ts (Some us) = do
+  e ← conj_with r us
+  Ok (wide (marked (start_at ts) e.0), e.1)
+
+-- [ `*` ] Conj
+unfoldable pub branch_with : (Bool → Read Tree) → Read Tree
+branch_with r ts = branch_if r ts (after kinds.Star ts)
+
+-- { `|` Branch }
 abbrev pub bars_with : (Bool → Read Tree) → ℕ → Read (List Tree)
-bars_with r = many (after kinds.Bar) (conj_with r)
+bars_with r = many (after kinds.Bar) (branch_with r)
 
 abbrev pub disjunction_of : Tree → List Tree → Tree
 disjunction_of e [] = e
@@ -412,7 +423,7 @@ disjunction_of e (f ∷ fs) = disjunction (trees_of (e ∷ f ∷ fs))
 
 unfoldable pub expr_with : (Bool → Read Tree) → Read Tree
 expr_with r ts = do
-  e ← conj_with r ts
+  e ← branch_with r ts
   es ← bars_with r (length e.1) e.1
   Ok (disjunction_of e.0 es.0, es.1)
 

@@ -1,4 +1,4 @@
--- Why `parse_file` refuses a source.
+-- Why `parse_file_in` and `parse_file` refuse a source.
 use Rattle.std.specs.Prelude.{◌⊎◌, ℕ, ◌<◌, ◌≤◌, List}
 use Rattle.cs_grammar.specs.declared.fault.SyntaxFault.{SyntaxFault}
 use Rattle.cs_grammar.specs.declared.fault.SyntaxFault.TheVariants as faults
@@ -6,31 +6,44 @@ use Rattle.cs_grammar.specs.Cut.{Lexeme, IsCut}
 use Rattle.cs_grammar.specs.Stuck.{IsStuck}
 use Rattle.cs_grammar.specs.Tree.{FileTree}
 use Rattle.cs_grammar.specs.Spells.{SpellsFile}
+use Rattle.cs_grammar.specs.Taken.{taken}
 use Rattle.cs_grammar.specs.TokenWords.{words}
 use Rattle.cs_grammar.specs.Limits.{most_height}
+use Rattle.cs_grammar.specs.declared.profile.Profile.{Profile}
+use Rattle.cs_grammar.specs.declared.profile.Profile.TheVariants as profiles
 use Rattle.cs_syntax.specs.Height.{file_height}
 use Rattle.cs_syntax.specs.Nesting.{nesting, most_nested}
 use Rattle.cs_syntax.specs.Place.{IsFaultIn}
 
--- the tokens of a source nest at most 28 deep and spell no file, of whatever height; the fault is that of one of them
-pub record IsMisplaced (source : List ℕ) (f : SyntaxFault) : Type 0 where
+-- the tokens of a source, as the profile takes them, nest at most 28 deep and spell no file, of whatever height; the fault is that of one of them
+pub record IsMisplacedIn (p : Profile) (source : List ℕ) (f : SyntaxFault) : Type 0 where
   pub tokens : List Lexeme
   pub cut : IsCut source tokens
-  pub nested : nesting (words tokens) ≤ most_nested
-  pub no_file : (t : FileTree) → SpellsFile t (words tokens) → ⊥
-  pub place : IsFaultIn f (words tokens)
+  pub nested : nesting (words (taken p tokens)) ≤ most_nested
+  pub no_file : (t : FileTree) → SpellsFile t (words (taken p tokens)) → ⊥
+  pub place : IsFaultIn f (words (taken p tokens))
 
--- the tokens of a source nest deeper than 28, or spell a file with a body higher than 28
-pub record IsTooHigh (source : List ℕ) : Type 0 where
+-- the tokens of a source, as the profile takes them, nest deeper than 28, or spell a file with a body higher than 28
+pub record IsTooHighIn (p : Profile) (source : List ℕ) : Type 0 where
   pub tokens : List Lexeme
   pub cut : IsCut source tokens
-  pub high : (most_nested < nesting (words tokens)) ⊎ ((t : FileTree) × SpellsFile t (words tokens) × (most_height < file_height t))
+  pub high : (most_nested < nesting (words (taken p tokens))) ⊎ ((t : FileTree) × SpellsFile t (words (taken p tokens)) × (most_height < file_height t))
 
--- why a source is no file: it is stuck there, its tokens spell none, or it is too high, unless memory ran out
+-- why a source is no file of a profile: it is stuck there, its tokens spell none, or it is too high, unless memory ran out
+abbrev pub IsFileRefusalIn : Profile → List ℕ → SyntaxFault → Type 0
+IsFileRefusalIn p source faults.OutOfMemory = Unit {0}
+IsFileRefusalIn p source (faults.NoToken o) = IsStuck source (faults.NoToken o)
+IsFileRefusalIn p source (faults.IntegerRange o) = IsStuck source (faults.IntegerRange o)
+IsFileRefusalIn p source (faults.Syntax o) = IsMisplacedIn p source (faults.Syntax o)
+IsFileRefusalIn p source (faults.LeftOut o) = IsMisplacedIn p source (faults.LeftOut o)
+IsFileRefusalIn p source faults.TooHigh = IsTooHighIn p source
+
+-- in the default profile
+abbrev pub IsMisplaced : List ℕ → SyntaxFault → Type 0
+IsMisplaced = IsMisplacedIn profiles.Default
+
+abbrev pub IsTooHigh : List ℕ → Type 0
+IsTooHigh = IsTooHighIn profiles.Default
+
 abbrev pub IsFileRefusal : List ℕ → SyntaxFault → Type 0
-IsFileRefusal source faults.OutOfMemory = Unit {0}
-IsFileRefusal source (faults.NoToken o) = IsStuck source (faults.NoToken o)
-IsFileRefusal source (faults.IntegerRange o) = IsStuck source (faults.IntegerRange o)
-IsFileRefusal source (faults.Syntax o) = IsMisplaced source (faults.Syntax o)
-IsFileRefusal source (faults.LeftOut o) = IsMisplaced source (faults.LeftOut o)
-IsFileRefusal source faults.TooHigh = IsTooHigh source
+IsFileRefusal = IsFileRefusalIn profiles.Default

@@ -4,7 +4,9 @@
 mod parser;
 
 pub use cs_grammar::{
-    Definition, Expr, Field, FieldMark, File, ListEnd, Relation, Sort, SyntaxFault, Token,
+    Definition, Expr, Field, FieldMark, File, ListEnd, Profile, Relation, Sort, SyntaxFault, Token,
+    Wide,
 };
 pub use cs_lexer::lex;
-pub use parser::file::{one_file, parse_file};
+pub use parser::file::{one_file, parse_file, parse_file_in};
+pub use parser::profiles::{default_files_have_default_forms, wide_reads_the_default};

@@ -11,3 +11,4 @@ mod nesting;
 mod number;
 mod operand;
 mod place;
+pub(crate) mod profiles;

@@ -5,11 +5,11 @@
 ghost use Rattle.std.specs.Prelude.{◌≡◌, ◌≤◌, map, length, true, false};
 ghost use Rattle.cs_grammar.specs.View.{expr_view, field_view, end_view};
 ghost use Rattle.cs_syntax.specs.Left.{left, Reads};
-ghost use Rattle.cs_syntax.specs.Reading.{inner, field_with, fields_with, struct_with, rest_with, end_with, elements_with, list_with, operand_with, amps_with, conj_with, bars_with, expr_with, most_depth};
+ghost use Rattle.cs_syntax.specs.Reading.{inner, field_with, fields_with, struct_with, rest_with, end_with, elements_with, list_with, operand_with, amps_with, conj_with, branch_with, bars_with, expr_with, most_depth};
 
 use crate::parser::kind::kind_of;
 use crate::parser::place::Parser;
-use cs_grammar::{Expr, Field, Kind, ListEnd, SyntaxFault};
+use cs_grammar::{Expr, Field, Kind, ListEnd, SyntaxFault, Wide};
 
 impl Parser<'_, '_> {
     /// A value, which may be a field alone, or an expression, where no such short form is allowed.
@@ -228,6 +228,24 @@ impl Parser<'_, '_> {
         Ok(Expr::And(operands))
     }
 
+    /// An operand of `|`, which may have a mark before it.
+    #[cycle(parse)]
+    #[tactic(auto, unfolding(crate::specs::Reading::branch_with))]
+    fn branch(&mut self, depth: usize) -> Result<Expr, SyntaxFault>
+        requires { depth ≤ most_depth }
+        ensures { Reads expr_view result self.new (branch_with (inner depth) (left self.old)) }
+    {
+        let at = self.start();
+        if !self.skip(Kind::Star) {
+            return self.conj(depth);
+        }
+        let value = self.conj(depth)?;
+        Ok(Expr::Wide(Wide::Marked {
+            at,
+            value: Box::new(self.alloc, value)?,
+        }))
+    }
+
     /// The operands of `|` after the first.
     #[cycle(parse)]
     fn bars(&mut self, depth: usize) -> Result<Vec<Expr>, SyntaxFault>
@@ -240,7 +258,7 @@ impl Parser<'_, '_> {
             if !self.skip(Kind::Bar) {
                 return Ok(operands);
             }
-            operands.push(self.conj(depth)?)?;
+            operands.push(self.branch(depth)?)?;
         }
         Ok(operands)
     }
@@ -252,7 +270,7 @@ impl Parser<'_, '_> {
         requires { depth ≤ most_depth }
         ensures { Reads expr_view result self.new (expr_with (inner depth) (left self.old)) }
     {
-        let first = self.conj(depth)?;
+        let first = self.branch(depth)?;
         let mut operands = self.bars(depth)?;
         if operands.is_empty() {
             return Ok(first);

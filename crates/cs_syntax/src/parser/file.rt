@@ -13,15 +13,16 @@ ghost use Rattle.cs_syntax.specs.Reading.{Gives, definition_at, line_at, definit
 ghost use Rattle.cs_syntax.specs.Within.{file_within};
 ghost use Rattle.cs_syntax.specs.Nesting.{nesting, most_nested};
 ghost use Rattle.cs_lexer.specs.Lexed.{Answers};
-ghost use Rattle.cs_syntax.specs.Answer.{IsSpelled};
-ghost use Rattle.cs_syntax.specs.Refusal.{IsFileRefusal};
+ghost use Rattle.cs_syntax.specs.Answer.{IsSpelled, IsSpelledIn};
+ghost use Rattle.cs_syntax.specs.Refusal.{IsFileRefusal, IsFileRefusalIn};
 
 use crate::parser::height::are_low_bodies;
 use crate::parser::kind::kind_of;
 use crate::parser::name::{bare_name, is_package};
 use crate::parser::nesting::{MOST_NESTED, is_too_nested};
 use crate::parser::place::{Parser, fault_of};
-use cs_grammar::{Definition, File, Kind, SyntaxFault, Token};
+use crate::parser::profiles::take_marks;
+use cs_grammar::{Definition, File, Kind, Profile, SyntaxFault, Token};
 use cs_lexer::lex;
 use std::alloc::Global;
 
@@ -158,6 +159,27 @@ fn file_within(alloc: Global, tokens: &[Token<'_>]) -> Result<File, SyntaxFault>
     Ok(file)
 }
 
+/// The file that a source spells in a profile (CUE, source file organization). In the wide one an operand of `|` may have the
+/// mark of a default, `*`, before it (CUE, default values).
+///
+/// # Errors
+/// Those of `lex`. `TooHigh` where the tokens nest deeper than 28, or a body is higher than that.
+/// `Syntax` or `LeftOut` where the tokens nest no deeper and spell no file of the profile, at one of them.
+pub fn parse_file_in(alloc: Global, profile: Profile, source: &str) -> Result<File, SyntaxFault>
+    // What is answered is spelled by the tokens of the source, as the profile takes them, within the limits.
+    ensures found { IfOk result (λ f. IsSpelledIn profile source.now (file_view f)) }
+    // A file that the tokens of the source spell so is answered, unless memory runs out.
+    ensures only { (f : FileTree)
+        → IsSpelledIn profile source.now f → Answers file_view result f }
+    // A fault other than `OutOfMemory` says where the source is stuck, that its tokens spell no
+    // file of the profile, of whatever height, and the place of one of them, or that it is too high.
+    ensures refused { IfErr result (λ f. IsFileRefusalIn profile source.now f) }
+{
+    let mut tokens = lex(alloc, source)?;
+    take_marks(profile, &mut tokens);
+    file_within(alloc, &tokens)
+}
+
 /// The file that a source spells (CUE, source file organization).
 ///
 /// # Errors
@@ -172,8 +194,7 @@ pub fn parse_file(alloc: Global, source: &str) -> Result<File, SyntaxFault>
     // file, of whatever height, and the place of one of them, or that it is too high.
     ensures refused { IfErr result (λ f. IsFileRefusal source.now f) }
 {
-    let tokens = lex(alloc, source)?;
-    file_within(alloc, &tokens)
+    parse_file_in(alloc, Profile::Default, source)
 }
 
 /// Tokens spell one file at most.

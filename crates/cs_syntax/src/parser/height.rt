@@ -1,10 +1,10 @@
 // How high expressions are.
 
 ghost use Rattle.std.specs.Prelude.{◌≡◌, map, nat_le};
-ghost use Rattle.cs_grammar.specs.View.{expr_view, exprs_view, fields_view, end_view, definition_view};
-ghost use Rattle.cs_syntax.specs.Height.{height, height_all, height_fields, height_end, height_definitions};
+ghost use Rattle.cs_grammar.specs.View.{expr_view, exprs_view, fields_view, wide_view, end_view, definition_view};
+ghost use Rattle.cs_syntax.specs.Height.{height, height_all, height_fields, height_wide, height_end, height_definitions};
 
-use cs_grammar::{Definition, Expr, Field, ListEnd};
+use cs_grammar::{Definition, Expr, Field, ListEnd, Wide};
 
 /// Whether an expression is at most so high.
 #[cycle(height)]
@@ -21,8 +21,22 @@ fn is_low(expr: &Expr, limit: usize) -> bool
         Expr::Paren(kept) => is_low(kept, inside),
         Expr::Struct { fields, .. } => are_low_fields(fields, inside),
         Expr::List { front, end } => are_low(front, inside) && is_low_end(end, inside),
+        Expr::Wide(wide) => is_low_wide(wide, limit),
         // The others have no parts.
-        _ => true,
+        Expr::Top | Expr::Bottom | Expr::Null | Expr::Bool(_) | Expr::Int(_) | Expr::Text(_) =>
+            true,
+        Expr::Name { .. } | Expr::Reference { .. } => true,
+        Expr::Bound { .. } | Expr::NotInt(_) | Expr::NotText(_) | Expr::NotNull => true,
+    }
+}
+
+/// A mark is no level.
+#[cycle(height)]
+fn is_low_wide(wide: &Wide, limit: usize) -> bool
+    ensures { result ≡ nat_le (height_wide (wide_view wide.now)) limit }
+{
+    match wide {
+        Wide::Marked { value, .. } => is_low(value, limit),
     }
 }
 

@@ -32,6 +32,7 @@ fn mark_kind(text: &str) -> Kind
         ">=" => Kind::AtLeast,
         "!=" => Kind::Unequal,
         "-" => Kind::Minus,
+        "*" => Kind::Star,
         _ => Kind::LeftOut,
     }
 }

@@ -1,20 +1,8 @@
-use Rattle.std.proofs.Common.{◌≡◌, ◌+◌, ◌*◌, drop}
+use Rattle.std.proofs.Common.{◌≡◌, drop}
 use Rattle.std.specs.Prelude.{nat_le}
 use Rattle.cs_grammar.specs.View.{exprs_view, fields_view}
 use Rattle.cs_syntax.specs.Height.{height_all, height_fields}
 use Rattle.cs_syntax.proofs.parser.height.+height.Given as goal
-
-abbrev pub decreases-is_low : goal.decreases-is_low
-decreases-is_low l = 2 * l.limit
-
-abbrev pub decreases-are_low : goal.decreases-are_low
-decreases-are_low l = 2 * l.limit + 1
-
-abbrev pub decreases-are_low_fields : goal.decreases-are_low_fields
-decreases-are_low_fields l = 2 * l.limit + 1
-
-abbrev pub decreases-is_low_end : goal.decreases-is_low_end
-decreases-is_low_end l = 2 * l.limit + 1
 
 abbrev pub invariant-are_low-loop-expr : goal.invariant-are_low-loop-expr
 invariant-are_low-loop-expr l = nat_le (height_all (exprs_view (drop l.expr-index l.expr-items))) l.limit ≡ nat_le (height_all (exprs_view l.expr-items)) l.limit

@@ -4,7 +4,7 @@ use Rattle.cs_grammar.specs.declared.kind.Kind.TheVariants as kinds
 use Rattle.cs_grammar.specs.View.{expr_view, field_view}
 use Rattle.cs_grammar.proofs.Views.{view-And, view-Or}
 use Rattle.cs_syntax.specs.Left.{left}
-use Rattle.cs_syntax.specs.Reading.{inner, field_with, operand_with, conj_with, expr_with, after, another_field, another_element}
+use Rattle.cs_syntax.specs.Reading.{inner, field_with, operand_with, conj_with, branch_with, expr_with, after, another_field, another_element}
 use Rattle.cs_syntax.proofs.WordKinds.{at_end, operand_end}
 use Rattle.cs_syntax.proofs.Reader.{goes_on, ends, out, breaks, fails-of, met, joined}
 use Rattle.cs_syntax.proofs.parser.place.Parser.+parse.Goals as goal
@@ -75,27 +75,27 @@ amps-returns-then-not-skip t c = sym c.loop.invariant ∙ ends expr_view (after 
 pub amps-returns : goal.amps-returns
 amps-returns t c = sym c.loop.invariant ∙ out expr_view (after kinds.Amp) (operand_with (inner c.args.depth)) c.loop.operands.items _ (left c.loop.self) (omega arith)
 
-pub bars-returns-in_err-conj : goal.bars-returns-in_err-conj
-bars-returns-in_err-conj t c =
+pub bars-returns-in_err-branch : goal.bars-returns-in_err-branch
+bars-returns-in_err-branch t c =
     let p = err_from_is_err_and c.from_residual.result c.from_residual.ensures.1 in
     let k = length c.args.self.now.tokens.now - c.loop.counter in
     let n = length c.args.self.now.tokens.now - (c.loop.counter + 1) in
     let is : k ≡ suc n = omega arith in
-    let f = c.in_err-conj.field-0.0 in
-    rw (p.1, p.2) (fails-of f _ _ c.loop.invariant (breaks expr_view (after kinds.Bar) (conj_with (inner c.args.depth)) c.loop.operands.items f k n (left c.loop.self) (left c.skip.new.self) is c.if-not-skip.ensures c.in_err-conj.ensures))
+    let f = c.in_err-branch.field-0.0 in
+    rw (p.1, p.2) (fails-of f _ _ c.loop.invariant (breaks expr_view (after kinds.Bar) (branch_with (inner c.args.depth)) c.loop.operands.items f k n (left c.loop.self) (left c.skip.new.self) is c.if-not-skip.ensures c.in_err-branch.ensures))
 
 pub bars-loop-preserved : goal.bars-loop-preserved
 bars-loop-preserved t c =
     let k = length c.args.self.now.tokens.now - c.loop.counter in
     let n = length c.args.self.now.tokens.now - (c.loop.counter + 1) in
     let is : k ≡ suc n = omega arith in
-    rw c.in_ok-push.ensures.items (goes_on expr_view (after kinds.Bar) (conj_with (inner c.args.depth)) c.loop.operands.items c.in_ok-conj.field-0 k n (left c.loop.self) (left c.skip.new.self) (left c.conj.new.self) is c.if-not-skip.ensures c.in_ok-conj.ensures ∙ c.loop.invariant)
+    rw c.in_ok-push.ensures.items (goes_on expr_view (after kinds.Bar) (branch_with (inner c.args.depth)) c.loop.operands.items c.in_ok-branch.field-0 k n (left c.loop.self) (left c.skip.new.self) (left c.branch.new.self) is c.if-not-skip.ensures c.in_ok-branch.ensures ∙ c.loop.invariant)
 
 pub bars-returns-then-not-skip : goal.bars-returns-then-not-skip
-bars-returns-then-not-skip t c = sym c.loop.invariant ∙ ends expr_view (after kinds.Bar) (conj_with (inner c.args.depth)) c.loop.operands.items _ (left c.loop.self) c.if-not-skip.ensures.0 ∙ ap (λ ts. Ok (map expr_view c.loop.operands.items, ts)) (sym c.if-not-skip.ensures.1)
+bars-returns-then-not-skip t c = sym c.loop.invariant ∙ ends expr_view (after kinds.Bar) (branch_with (inner c.args.depth)) c.loop.operands.items _ (left c.loop.self) c.if-not-skip.ensures.0 ∙ ap (λ ts. Ok (map expr_view c.loop.operands.items, ts)) (sym c.if-not-skip.ensures.1)
 
 pub bars-returns : goal.bars-returns
-bars-returns t c = sym c.loop.invariant ∙ out expr_view (after kinds.Bar) (conj_with (inner c.args.depth)) c.loop.operands.items _ (left c.loop.self) (omega arith)
+bars-returns t c = sym c.loop.invariant ∙ out expr_view (after kinds.Bar) (branch_with (inner c.args.depth)) c.loop.operands.items _ (left c.loop.self) (omega arith)
 
 pub conj-returns : goal.conj-returns
 unfolding conj_with

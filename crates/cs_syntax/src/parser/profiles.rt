@@ -1,0 +1,46 @@
+// The tokens as a profile takes them, and what one profile has to do with the other.
+
+ghost use Rattle.std.specs.Prelude.{◌≡◌, ℕ, List};
+ghost use Rattle.cs_grammar.specs.DefaultForms.{IsDefaultFile};
+ghost use Rattle.cs_grammar.specs.Source.{IsSpelledBy};
+ghost use Rattle.cs_grammar.specs.Taken.{taken, wide_sort};
+ghost use Rattle.cs_grammar.specs.Tree.{FileTree};
+ghost use Rattle.cs_grammar.specs.View.{lexemes_view};
+ghost use Rattle.cs_grammar.specs.declared.profile.Profile.TheVariants as profiles;
+ghost use Rattle.cs_syntax.specs.Answer.{IsSpelled, IsSpelledIn};
+
+use cs_grammar::{Profile, Sort, Token};
+
+/// The sort of a token in the wide profile: `*` is a mark of the grammar.
+fn wide_sort(sort: Sort, text: &str) -> Sort
+    ensures { result ≡ wide_sort sort text.now }
+{
+    if sort == Sort::LeftOut && text == "*" {
+        Sort::Mark
+    } else {
+        sort
+    }
+}
+
+/// Takes tokens as a profile does.
+pub(crate) fn take_marks(profile: Profile, tokens: &mut [Token<'_>])
+    ensures { lexemes_view tokens.new ≡ taken profile (lexemes_view tokens.old) }
+{
+    if profile == Profile::Default {
+        return;
+    }
+    for token in tokens.iter_mut() {
+        token.sort = wide_sort(token.sort, token.text);
+    }
+}
+
+/// A file of the default profile has no form of the wide one.
+pub fn default_files_have_default_forms()
+    ensures { (source : List ℕ) (f : FileTree) → IsSpelledBy source f → IsDefaultFile f }
+{}
+
+/// The wide profile reads a source of the default one as the same file.
+pub fn wide_reads_the_default()
+    ensures { (source : List ℕ) (f : FileTree)
+        → IsSpelled source f → IsSpelledIn profiles.Wide source f }
+{}
