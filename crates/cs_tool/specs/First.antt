@@ -3,14 +3,16 @@ use Rattle.std.specs.Prelude.{◌≡◌, ◌⊎◌, ℕ, ◌<◌, ◌≤◌, Lis
 use Rattle.std.specs.List.{AllByRecursion}
 use Rattle.cs_grammar.specs.Tree.{FileTree}
 use Rattle.cs_grammar.specs.declared.fault.SyntaxFault.{SyntaxFault}
-use Rattle.cs_syntax.specs.Refusal.{IsFileRefusal}
+use Rattle.cs_grammar.specs.declared.profile.Profile.{Profile}
+use Rattle.cs_grammar.specs.declared.profile.Profile.TheVariants as profiles
+use Rattle.cs_syntax.specs.Refusal.{IsFileRefusalIn}
 use Rattle.cs_package.specs.Environment.{Environment, Names}
 use Rattle.cs_resolve.specs.Refusal as resolve
 use Rattle.cs_resolve.specs.Resolved.{IsPackage}
 use Rattle.cs_resolve.specs.declared.fault.ResolveFault.{ResolveFault}
 use Rattle.cs_guard.specs.Cycles as guard
 use Rattle.cs_guard.specs.declared.fault.GuardFault.{GuardFault}
-use Rattle.cs_tool.specs.Accepted.{most_bytes, bytes_of, AreTexts, AreFiles, IsAccepted}
+use Rattle.cs_tool.specs.Accepted.{most_bytes, bytes_of, AreTexts, AreFilesIn, AreFiles, IsAccepted}
 use Rattle.cs_tool.specs.Conversions.{of_syntax, of_resolve, of_guard}
 use Rattle.cs_tool.specs.declared.fault.Fault.{Fault}
 use Rattle.cs_tool.specs.declared.fault.Fault.TheVariants.{SourcesTooLong, NotUtf8, NoToken, Syntax, LeftOut, IntegerRange, TooHigh, PackageName, UnknownName, FieldReference, NotOpened, Cycle, UnknownRoot, TooLarge, OutOfMemory, ChainTooLong}
@@ -24,21 +26,24 @@ pub record IsFirstOther (sources : List (List ℕ)) (number : ℕ) : Type 0 wher
   pub other : ¬ (IsUtf8 source)
   pub before : AllByRecursion IsUtf8 (take number sources)
 
--- a source spells no file, and that is its fault; those before it spell files
-pub record IsFirstMisspelled (sources : List (List ℕ)) (f : Fault) : Type 0 where
+-- a source spells no file in the profile, and that is its fault; those before it spell files
+pub record IsFirstMisspelledIn (p : Profile) (sources : List (List ℕ)) (f : Fault) : Type 0 where
   pub number : ℕ
   pub source : List ℕ
   pub there : slice_get sources number ≡ Some source
   pub files : List FileTree
-  pub before : AreFiles (take number sources) files
+  pub before : AreFilesIn p (take number sources) files
   pub fault : SyntaxFault
-  pub refused : IsFileRefusal source fault
+  pub refused : IsFileRefusalIn p source fault
   pub told : f ≡ of_syntax number fault
 
--- the sources are texts of which one spells no file
-pub record IsMisspelled (sources : List (List ℕ)) (f : Fault) : Type 0 where
+-- the sources are texts of which one spells no file in the profile
+pub record IsMisspelledIn (p : Profile) (sources : List (List ℕ)) (f : Fault) : Type 0 where
   pub texts : AreTexts sources
-  pub first : IsFirstMisspelled sources f
+  pub first : IsFirstMisspelledIn p sources f
+
+abbrev pub IsMisspelled : List (List ℕ) → Fault → Type 0
+IsMisspelled = IsMisspelledIn profiles.Default
 
 -- the sources spell files, and that is why these are no package
 pub record IsNoPackage (sources : List (List ℕ)) (f : Fault) : Type 0 where
@@ -95,9 +100,21 @@ TextsRefusal sources OutOfMemory = Unit {0}
 TextsRefusal sources (NotUtf8 number) = IsFirstOther sources number
 TextsRefusal sources _ = ⊥
 
-abbrev pub FilesRefusal : List (List ℕ) → Fault → Type 0
-FilesRefusal sources OutOfMemory = Unit {0}
-FilesRefusal sources f = IsFirstMisspelled sources f
+abbrev pub FilesRefusalIn : Profile → List (List ℕ) → Fault → Type 0
+FilesRefusalIn p sources OutOfMemory = Unit {0}
+FilesRefusalIn p sources f = IsFirstMisspelledIn p sources f
+
+-- the sources spell no files in the profile, for their size, their characters, or one that spells none
+abbrev pub SpellingRefusal : Profile → List (List ℕ) → Fault → Type 0
+SpellingRefusal p sources OutOfMemory = Unit {0}
+SpellingRefusal p sources SourcesTooLong = most_bytes < bytes_of sources
+SpellingRefusal p sources (NotUtf8 number) = (bytes_of sources ≤ most_bytes) × IsFirstOther sources number
+SpellingRefusal p sources (NoToken number offset) = IsMisspelledIn p sources (NoToken number offset)
+SpellingRefusal p sources (Syntax number offset) = IsMisspelledIn p sources (Syntax number offset)
+SpellingRefusal p sources (IntegerRange number offset) = IsMisspelledIn p sources (IntegerRange number offset)
+SpellingRefusal p sources (TooHigh number) = IsMisspelledIn p sources (TooHigh number)
+SpellingRefusal p sources (LeftOut number offset) = IsMisspelledIn p sources (LeftOut number offset)
+SpellingRefusal p sources _ = ⊥
 
 -- the refusals of the sources, whatever the root is
 abbrev pub SourcesRefusal : List (List ℕ) → Fault → Type 0

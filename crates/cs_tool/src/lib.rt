@@ -29,7 +29,7 @@ pub use fault::Fault;
 pub use judgements::{judge_both, judge_root, judge_schema};
 pub use numbering::{number_root, number_schema};
 pub use objects::{MEMBER_ROOM, put_error, write_fault_json};
-pub use packages::{MOST_BYTES, accepted_package};
+pub use packages::{MOST_BYTES, accepted_package, spelled_files};
 pub use read_rules::{read_both, read_root, read_schema_text};
 pub use reads::read_up_to;
 pub use request::Request;

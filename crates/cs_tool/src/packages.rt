@@ -4,15 +4,15 @@ ghost use Rattle.std.specs.List.{AllByRecursion};
 ghost use Rattle.cs_grammar.specs.Tree.{FileTree};
 ghost use Rattle.cs_grammar.specs.View.{file_view};
 ghost use Rattle.cs_package.specs.Environment.{Environment};
-ghost use Rattle.cs_tool.specs.Accepted.{most_bytes, bytes_of, AreFiles, IsAccepted};
+ghost use Rattle.cs_tool.specs.Accepted.{most_bytes, bytes_of, AreTexts, AreFilesIn, IsAccepted};
 ghost use Rattle.cs_tool.specs.Given.{bytes_in};
-ghost use Rattle.cs_tool.specs.First.{SourcesRefusal, TextsRefusal, FilesRefusal};
+ghost use Rattle.cs_tool.specs.First.{SourcesRefusal, SpellingRefusal, TextsRefusal, FilesRefusalIn};
 
 use crate::Fault;
 use crate::conversions::of_syntax;
 use cs_guard::{Guarded, guard};
 use cs_resolve::resolve;
-use cs_syntax::{File, parse_file};
+use cs_syntax::{File, Profile, parse_file_in};
 use std::alloc::Global;
 
 /// The bytes that all sources of a call may have together.
@@ -26,25 +26,40 @@ pub fn accepted_package(alloc: Global, sources: &[&[u8]]) -> Result<Guarded, Fau
     ensures only { (E : Environment)
         → IsAccepted (bytes_in sources.now) E → IsOkUnless result Fault.OutOfMemory }
 {
-    if !fits(sources) {
-        return Err(Fault::SourcesTooLong);
-    }
-    let texts = texts_of(alloc, sources)?;
-    let files = files_of(alloc, &texts)?;
+    let files = spelled_files(alloc, Profile::Default, sources)?;
     let package = guard(alloc, resolve(alloc, files)?)?;
     Ok(package)
 }
 
-/// The file that each text spells; the fault is that of the first one that spells none.
-fn files_of(alloc: Global, texts: &[&str]) -> Result<Vec<File>, Fault>
-    ensures spelled { IfOk result (λ v. AreFiles (bytes_in texts.now) (map file_view v.items)) }
-    ensures refused { IfErr result (λ e. FilesRefusal (bytes_in texts.now) e) }
+/// The file that each source spells in a profile.
+///
+/// # Errors
+/// `SourcesTooLong` where they are too long together, `NotUtf8` with the first that is no text, or else the refusal of the first that
+/// spells no file. `OutOfMemory`.
+pub fn spelled_files(alloc: Global, profile: Profile, sources: &[&[u8]]) -> Result<Vec<File>, Fault>
+    ensures texts { OnOk result (AreTexts (bytes_in sources.now)) }
+    ensures spelled { IfOk result (λ v. AreFilesIn profile (bytes_in sources.now) (map file_view v.items)) }
+    ensures refused { IfErr result (λ e. SpellingRefusal profile (bytes_in sources.now) e) }
+    ensures only { (fs : List FileTree) → AreTexts (bytes_in sources.now)
+        → AreFilesIn profile (bytes_in sources.now) fs → IsOkUnless result Fault.OutOfMemory }
+{
+    if !fits(sources) {
+        return Err(Fault::SourcesTooLong);
+    }
+    let texts = texts_of(alloc, sources)?;
+    files_of(alloc, profile, &texts)
+}
+
+/// The file that each text spells in a profile; the fault is that of the first one that spells none.
+fn files_of(alloc: Global, profile: Profile, texts: &[&str]) -> Result<Vec<File>, Fault>
+    ensures spelled { IfOk result (λ v. AreFilesIn profile (bytes_in texts.now) (map file_view v.items)) }
+    ensures refused { IfErr result (λ e. FilesRefusalIn profile (bytes_in texts.now) e) }
     ensures only { (fs : List FileTree)
-        → AreFiles (bytes_in texts.now) fs → IsOkUnless result Fault.OutOfMemory }
+        → AreFilesIn profile (bytes_in texts.now) fs → IsOkUnless result Fault.OutOfMemory }
 {
     let mut files = Vec::with_capacity(alloc, texts.len())?;
     for (number, text) in texts.iter().enumerate() {
-        match parse_file(alloc, text) {
+        match parse_file_in(alloc, profile, text) {
             Ok(file) => files.push(file)?,
             Err(fault) => return Err(of_syntax(number, fault)),
         }

@@ -1,2 +1,5 @@
--- The source of one file that sources stand for.
+-- What sources stand for in a profile, and the source that it is.
+pub mod Accepted
 pub mod Meant
+pub mod Refused
+pub mod Calls

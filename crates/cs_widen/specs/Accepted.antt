@@ -1,0 +1,20 @@
+-- Which sources a profile accepts, and what they declare: the files that they spell stand for files of the default profile, which are a
+-- package. Files without forms of the wide profile stand for themselves.
+use Rattle.std.specs.Prelude.{ℕ, List}
+use Rattle.cs_grammar.specs.Tree.{FileTree}
+use Rattle.cs_grammar.specs.declared.profile.Profile.{Profile}
+use Rattle.cs_package.specs.Environment.{Environment}
+use Rattle.cs_resolve.specs.Resolved.{IsPackage}
+use Rattle.cs_guard.specs.Guarded.{IsGuarded}
+use Rattle.cs_defaults.specs.Widened.{IsUnmarked}
+use Rattle.cs_tool.specs.Accepted.{AreTexts, AreFilesIn}
+
+-- the sources are accepted in the profile, and declare the environment
+pub record IsAcceptedIn (p : Profile) (sources : List (List ℕ)) (E : Environment) : Type 0 where
+  pub texts : AreTexts sources
+  pub files : List FileTree
+  pub spelled : AreFilesIn p sources files
+  pub meant : List FileTree
+  pub stand_for : IsUnmarked files meant
+  pub one_package : IsPackage meant E
+  pub guarded : IsGuarded E

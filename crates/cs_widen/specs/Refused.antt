@@ -1,0 +1,97 @@
+-- Why sources stand for no package in a profile: the first condition that they fail.
+use Rattle.std.specs.Prelude.{◌≡◌, ◌⊎◌, ℕ, List, [], ◌∷◌}
+use Rattle.cs_grammar.specs.Tree.{FileTree}
+use Rattle.cs_grammar.specs.declared.profile.Profile.{Profile}
+use Rattle.cs_grammar.specs.declared.profile.Profile.TheVariants as profiles
+use Rattle.cs_package.specs.Environment.{Environment}
+use Rattle.cs_resolve.specs.Refusal as resolve
+use Rattle.cs_resolve.specs.Resolved.{IsPackage}
+use Rattle.cs_resolve.specs.declared.fault.ResolveFault.{ResolveFault}
+use Rattle.cs_guard.specs.Cycles as guard
+use Rattle.cs_guard.specs.declared.fault.GuardFault.{GuardFault}
+use Rattle.cs_defaults.specs.Widened as defaults
+use Rattle.cs_defaults.specs.Widened.{IsUnmarked}
+use Rattle.cs_defaults.specs.declared.fault.DefaultFault.{DefaultFault}
+use Rattle.cs_defaults.specs.declared.fault.DefaultFault.TheVariants as marks
+use Rattle.cs_tool.specs.Accepted.{AreTexts, AreFilesIn}
+use Rattle.cs_tool.specs.Conversions.{of_resolve, of_guard}
+use Rattle.cs_tool.specs.First.{IsMisspelledIn, SpellingRefusal}
+use Rattle.cs_tool.specs.declared.fault.Fault.{Fault}
+use Rattle.cs_tool.specs.declared.fault.Fault.TheVariants.{SourcesTooLong, NotUtf8, NoToken, Syntax, LeftOut, IntegerRange, TooHigh, PackageName, UnknownName, FieldReference, NotOpened, Cycle, TooLarge, OutOfMemory, ChainTooLong}
+use Rattle.cs_widen.specs.Meant.{IsMeantIn, IsTaken}
+
+-- a mark that isn't taken is a form that is left out
+abbrev pub of_mark : DefaultFault → Fault
+of_mark marks.OutOfMemory = OutOfMemory
+of_mark (marks.Mark file offset) = LeftOut file offset
+
+-- the sources spell files in the profile, and that is the first mark at fault in them
+pub record IsMarkRefusal (p : Profile) (sources : List (List ℕ)) (f : Fault) : Type 0 where
+  pub texts : AreTexts sources
+  pub files : List FileTree
+  pub spelled : AreFilesIn p sources files
+  pub fault : DefaultFault
+  pub refused : defaults.IsRefusal fault files
+  pub told : f ≡ of_mark fault
+
+-- that is why the files that the sources stand for are no package
+pub record IsNoPackageIn (p : Profile) (sources : List (List ℕ)) (f : Fault) : Type 0 where
+  pub texts : AreTexts sources
+  pub files : List FileTree
+  pub spelled : AreFilesIn p sources files
+  pub meant : List FileTree
+  pub stand_for : IsUnmarked files meant
+  pub fault : ResolveFault
+  pub refused : resolve.IsRefusal fault meant
+  pub told : f ≡ of_resolve fault
+
+-- they are a package, and that is why its recursion isn't guarded
+pub record IsUnguardedIn (p : Profile) (sources : List (List ℕ)) (f : Fault) : Type 0 where
+  pub texts : AreTexts sources
+  pub files : List FileTree
+  pub spelled : AreFilesIn p sources files
+  pub meant : List FileTree
+  pub stand_for : IsUnmarked files meant
+  pub environment : Environment
+  pub one_package : IsPackage meant environment
+  pub fault : GuardFault
+  pub refused : guard.IsRefusal fault environment
+  pub told : f ≡ of_guard fault
+
+-- the refusals of sources in a profile
+abbrev pub RefusalIn : Profile → List (List ℕ) → Fault → Type 0
+RefusalIn p sources OutOfMemory = Unit {0}
+RefusalIn p sources SourcesTooLong = SpellingRefusal p sources SourcesTooLong
+RefusalIn p sources (NotUtf8 number) = SpellingRefusal p sources (NotUtf8 number)
+RefusalIn p sources (NoToken number offset) = SpellingRefusal p sources (NoToken number offset)
+RefusalIn p sources (Syntax number offset) = SpellingRefusal p sources (Syntax number offset)
+RefusalIn p sources (IntegerRange number offset) = SpellingRefusal p sources (IntegerRange number offset)
+RefusalIn p sources (TooHigh number) = SpellingRefusal p sources (TooHigh number)
+RefusalIn p sources (LeftOut number offset) = IsMisspelledIn p sources (LeftOut number offset) ⊎ IsMarkRefusal p sources (LeftOut number offset)
+RefusalIn p sources (PackageName number) = IsNoPackageIn p sources (PackageName number)
+RefusalIn p sources (TooLarge definitions) = IsNoPackageIn p sources (TooLarge definitions)
+RefusalIn p sources (UnknownName number offset) = IsNoPackageIn p sources (UnknownName number offset)
+RefusalIn p sources (FieldReference number offset) = IsNoPackageIn p sources (FieldReference number offset)
+RefusalIn p sources (NotOpened number offset) = IsNoPackageIn p sources (NotOpened number offset)
+RefusalIn p sources (Cycle names) = IsUnguardedIn p sources (Cycle names)
+RefusalIn p sources (ChainTooLong names) = IsUnguardedIn p sources (ChainTooLong names)
+RefusalIn p sources _ = ⊥
+
+-- the sources mean a source that the default profile doesn't accept, since it is too long
+pub record MeansTooMuch (sources : List (List ℕ)) : Type 0 where
+  pub source : List ℕ
+  pub meant : IsMeantIn profiles.Wide sources source
+  pub refused : ¬ (IsTaken (source ∷ []))
+
+-- the refusals of sources of which none are accepted in the wide profile; what they stand for may be too long besides
+abbrev pub MeantRefusal : List (List ℕ) → Fault → Type 0
+MeantRefusal sources (TooLarge definitions) = RefusalIn profiles.Wide sources (TooLarge definitions) ⊎ MeansTooMuch sources
+MeantRefusal sources f = RefusalIn profiles.Wide sources f
+
+abbrev pub MeantRefusalIn : Profile → List (List ℕ) → Fault → Type 0
+MeantRefusalIn profiles.Default sources f = ⊥
+MeantRefusalIn profiles.Wide sources f = MeantRefusal sources f
+
+abbrev pub IsTooLarge : Fault → Type 0
+IsTooLarge (TooLarge definitions) = Unit {0}
+IsTooLarge _ = ⊥

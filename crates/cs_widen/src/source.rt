@@ -1,0 +1,72 @@
+// The source of one file that sources stand for.
+ghost use Rattle.std.specs.Prelude.{◌≡◌, [], map, IfOk, IfErr, IsOkUnless, string_bytes};
+ghost use Rattle.cs_grammar.specs.View.{file_view};
+ghost use Rattle.cs_package.specs.Environment.{Environment};
+ghost use Rattle.cs_defaults.specs.declared.fault.DefaultFault.{DefaultFault};
+ghost use Rattle.cs_defaults.specs.Widened as defaults;
+ghost use Rattle.cs_defaults.specs.Widened.{IsUnmarked, mark_faults};
+ghost use Rattle.cs_tool.specs.Accepted.{IsAccepted};
+ghost use Rattle.cs_tool.specs.First.{SourcesRefusal};
+ghost use Rattle.cs_tool.specs.Given.{bytes_in};
+ghost use Rattle.cs_widen.specs.Accepted.{IsAcceptedIn};
+ghost use Rattle.cs_widen.specs.Meant.{IsMeant, IsMeantIn};
+ghost use Rattle.cs_widen.specs.Refused.{RefusalIn, of_mark};
+
+use cs_defaults::{DefaultFault, without_marks};
+use cs_guard::guard;
+use cs_print::source_of;
+use cs_resolve::resolve_written;
+use cs_syntax::{File, Profile};
+use cs_tool::{Fault, accepted_package, spelled_files};
+use std::alloc::Global;
+
+/// The source of one file that sources stand for in the default profile: `parse_file` answers their definitions for it, in their order.
+/// A refusal is that of `accepted_package`.
+pub fn widen(alloc: Global, sources: &[&[u8]]) -> Result<String, Fault>
+    ensures found { IfOk result (λ s. IsMeant (bytes_in sources.now) (string_bytes s)) }
+    ensures refused { IfErr result (λ e. SourcesRefusal (bytes_in sources.now) e) }
+    ensures only { (E : Environment)
+        → IsAccepted (bytes_in sources.now) E → IsOkUnless result Fault.OutOfMemory }
+{
+    accepted_package(alloc, sources)?;
+    widen_in(alloc, Profile::Default, sources)
+}
+
+/// The source of one file that sources stand for in a profile, in one layout: `parse_file` answers for it the definitions that they stand
+/// for, in their order.
+///
+/// # Errors
+/// The first condition that the sources fail, as the clause `refused` says: their size and characters, then those that spell no file in
+/// the profile, the first mark of a default at fault, and then why what they stand for is no package, or isn't guarded. `OutOfMemory`.
+pub fn widen_in(alloc: Global, profile: Profile, sources: &[&[u8]]) -> Result<String, Fault>
+    ensures found { IfOk result (λ s. IsMeantIn profile (bytes_in sources.now) (string_bytes s)) }
+    ensures refused { IfErr result (λ e. RefusalIn profile (bytes_in sources.now) e) }
+    ensures only { (E : Environment)
+        → IsAcceptedIn profile (bytes_in sources.now) E → IsOkUnless result Fault.OutOfMemory }
+{
+    let spelled = spelled_files(alloc, profile, sources)?;
+    let meant = meant_files(alloc, &spelled)?;
+    cs_print::spelled_files_are_written(); // for the proof: what a source spells can be printed
+    cs_print::printed_sources_are_read(); // for the proof: what is printed keeps the limits
+    cs_defaults::unmarked_files_have_default_forms(); // for the proof: what is meant can be printed
+    cs_defaults::unmarked_files_can_be_written(); // for the proof: what is meant can be printed
+    let source = source_of(alloc, &meant)?;
+    let package = guard(alloc, resolve_written(alloc, meant)?)?;
+    drop(package);
+    Ok(source)
+}
+
+/// The files that files stand for.
+fn meant_files(alloc: Global, spelled: &[File]) -> Result<Vec<File>, Fault>
+    ensures found { IfOk result (λ v. IsUnmarked (map file_view spelled.now) (map file_view v.items)) }
+    ensures refused { IfErr result (λ e. (f : DefaultFault) × (e ≡ of_mark f)
+        × defaults.IsRefusal f (map file_view spelled.now)) }
+    ensures only { mark_faults (map file_view spelled.now) ≡ []
+        → IsOkUnless result Fault.OutOfMemory }
+{
+    match without_marks(alloc, spelled) {
+        Ok(meant) => Ok(meant),
+        Err(DefaultFault::OutOfMemory) => Err(Fault::OutOfMemory),
+        Err(DefaultFault::Mark { file, offset }) => Err(Fault::LeftOut { file, offset }),
+    }
+}

@@ -1,0 +1,54 @@
+// What sources stand for in a profile: themselves, or one source of the default profile.
+ghost use Rattle.std.specs.Prelude.{◌≡◌, ◌⊎◌, List, IfOk, IfErr, string_bytes};
+ghost use Rattle.std.specs.Option.{option_map};
+ghost use Rattle.cs_grammar.specs.declared.profile.Profile.TheVariants as profiles;
+ghost use Rattle.cs_package.specs.Environment.{Environment};
+ghost use Rattle.cs_tool.specs.Given.{bytes_in};
+ghost use Rattle.cs_widen.specs.Accepted.{IsAcceptedIn};
+ghost use Rattle.cs_widen.specs.Meant.{StandFor, StandForIn};
+ghost use Rattle.cs_widen.specs.Refused.{MeantRefusal, MeantRefusalIn, IsTooLarge};
+
+use crate::source::widen_in;
+use cs_syntax::Profile;
+use cs_tool::{Fault, accepted_package};
+use std::alloc::Global;
+
+/// The source that sources of the wide profile stand for, or none where the default profile accepts them: they stand for themselves then,
+/// so that what is said of a source without forms of the wide profile is the same in both.
+///
+/// # Errors
+/// Those of `widen_in`. `TooLarge` too where the source that is meant is longer than the default profile takes.
+pub fn stands_for(alloc: Global, sources: &[&[u8]]) -> Result<Option<String>, Fault>
+    ensures found { IfOk result (λ s. StandFor (bytes_in sources.now) (option_map string_bytes s)) }
+    ensures refused { IfErr result (λ e. MeantRefusal (bytes_in sources.now) e) }
+    ensures only { (E : Environment) → IsAcceptedIn profiles.Wide (bytes_in sources.now) E
+        → IfErr result (λ e. (e ≡ Fault.OutOfMemory) ⊎ IsTooLarge e) }
+{
+    match accepted_package(alloc, sources) {
+        Ok(_) => return Ok(None),
+        Err(Fault::OutOfMemory) => return Err(Fault::OutOfMemory),
+        Err(_) => {}
+    }
+    let source = widen_in(alloc, Profile::Wide, sources)?;
+    match accepted_package(alloc, &[source.as_bytes()]) {
+        Ok(_) => Ok(Some(source)),
+        Err(Fault::OutOfMemory) => Err(Fault::OutOfMemory),
+        // What it spells is a package, so it is too long.
+        Err(_) => Err(Fault::TooLarge { definitions: 0 }),
+    }
+}
+
+/// The same in a profile: in the default one sources stand for themselves.
+pub fn stands_for_in(
+    alloc: Global,
+    profile: Profile,
+    sources: &[&[u8]],
+) -> Result<Option<String>, Fault>
+    ensures found { IfOk result (λ s. StandForIn profile (bytes_in sources.now) (option_map string_bytes s)) }
+    ensures refused { IfErr result (λ e. MeantRefusalIn profile (bytes_in sources.now) e) }
+{
+    match profile {
+        Profile::Default => Ok(None),
+        Profile::Wide => stands_for(alloc, sources),
+    }
+}
