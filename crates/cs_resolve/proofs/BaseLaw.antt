@@ -9,7 +9,7 @@ use Rattle.std.proofs.lemmas.Cmp.{nat_list_eq_equiv}
 use Rattle.std.proofs.lemmas.List.{length-map}
 use Rattle.std.proofs.lemmas.Map.Made.{length-le_from_is_member}
 use Rattle.std.proofs.lemmas.Slice.Eq.{bytes_eq-Decides}
-use Rattle.cs_grammar.specs.Tree.{Tree, atom, named, reference, conjunction, disjunction, paren, struct, list, Trees, Fields, DefinitionTree, defined_name, body, FileTree, definitions}
+use Rattle.cs_grammar.specs.Tree.{Tree, atom, named, reference, conjunction, disjunction, paren, struct, list, wide, Trees, Fields, DefinitionTree, defined_name, body, FileTree, definitions}
 use Rattle.cs_package.specs.Environment.{Environment}
 use Rattle.cs_package.proofs.Environments.{bytes_eq-sym}
 use Rattle.cs_resolve.specs.Declarations.{bodies_of}
@@ -37,6 +37,7 @@ no_literal (disjunction es) x h = cc
 no_literal (paren e) x h = no_literal e x h
 no_literal (struct o fs opened) x h = cc
 no_literal (list es end) x h = cc
+no_literal (wide w) x h = cc
 
 -- ---- more bases give more bases
 

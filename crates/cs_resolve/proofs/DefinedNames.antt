@@ -1,7 +1,6 @@
 -- What is said of each word that spells a file is said of the names that the file defines.
 use Rattle.std.proofs.Common.{ℕ, List}
-use Rattle.std.specs.List.{All, AllByRecursion}
-use Rattle.std.proofs.lemmas.List.Elements.{All-cons, All-nil}
+use Rattle.std.specs.List.{AllByRecursion}
 use Rattle.cs_grammar.specs.Tree.{DefinitionTree, defined_name, FileTree, definitions}
 use Rattle.cs_grammar.specs.Words.{Word, Words, definition_name}
 use Rattle.cs_grammar.specs.Spells.{SpellsDefinition, defined, SpellsDefinitions, no_definition, next_definition, SpellsFile, spelled}
@@ -23,9 +22,9 @@ module _ (P : Word → Type 0) where
     of_name : {d : DefinitionTree} {ts r : Words} → SpellsDefinition d ts r → Each ts → Named d
     of_name (defined {s} {p} v) h = named s p h.0
 
-    of_definitions : {ds : List DefinitionTree} {ts r : Words} → SpellsDefinitions ds ts r → Each ts → All Named ds
-    of_definitions no_definition h = All-nil Named
-    of_definitions (next_definition {d} {ds} s c k) h = All-cons Named d ds (of_name s h) (of_definitions k (each_rest (then (of_definition s) (of_comma c)) h))
+    of_definitions : {ds : List DefinitionTree} {ts r : Words} → SpellsDefinitions ds ts r → Each ts → AllByRecursion Named ds
+    of_definitions no_definition h = tt
+    of_definitions (next_definition s c k) h = (of_name s h, of_definitions k (each_rest (then (of_definition s) (of_comma c)) h))
 
-    pub of_file : {f : FileTree} {ts : Words} → SpellsFile f ts → Each ts → All Named (definitions f)
+    pub of_file : {f : FileTree} {ts : Words} → SpellsFile f ts → Each ts → AllByRecursion Named (definitions f)
     of_file (spelled p k) h = of_definitions k (each_rest (of_package p) h)

@@ -69,6 +69,7 @@ module _ (rs : Refinements) where
     resolved_labelled (T.paren t) h = resolved_labelled t h
     resolved_labelled (T.struct o fs opened) h = fields_labelled fs h
     resolved_labelled (T.list ts end) h = (all_labelled ts h.0, end_labelled end h.1)
+    resolved_labelled (T.wide w) h = tt
 
     all_labelled : (ts : Trees) → tree.AreLabelled ts → AreLabelled (resolved_all rs ts)
     all_labelled T.none h = tt

@@ -18,6 +18,7 @@ pub mod OnePackage
 pub mod Order
 pub mod DefinedNames
 pub mod Spellings
+pub mod FormedFiles
 -- bodies under their names, and the shapes that are made of them
 pub mod Gathered
 pub mod JoinedTrees

@@ -8,10 +8,10 @@ use Rattle.cs_grammar.specs.Source.{IsSpelledBy}
 use Rattle.cs_grammar.specs.Tree.{Label, Tree, atom, null, boolean, named, reference, conjunction, disjunction, paren, struct, list, Trees, none, more, Fields, no_field, field, End, closed, any, each, DefinitionTree, body, FileTree, definitions}
 use Rattle.cs_grammar.specs.Words as W
 use Rattle.cs_grammar.specs.Words.{Words}
-use Rattle.cs_grammar.specs.Spells.{is_null, literal_of, start_at, SpellsBound, limit_is, other_number, other_text, other_null, SpellsLabel, bare_label, quoted_label, SpellsMark, regular, optional, required, SpellsValue, long, short, SpellsField, labelled, every_key, SpellsExpr, one_conj, disjunction_is, SpellsBars, no_bar, a_bar, SpellsConj, one_operand, conjunction_is, SpellsAmps, no_amp, an_amp, SpellsOperand, top_is, bottom_is, reference_is, name_is, number_is, text_is, bound_is, paren_is, struct_is, list_is, SpellsStruct, no_fields, dots_alone, fields, SpellsFields, no_more_fields, next_field, SpellsList, no_elements, rest_alone, elements, SpellsElements, no_more_elements, next_element, SpellsEnd, closed_is, rest_is, SpellsRest, any_is, each_is, SpellsDefinition, defined, SpellsDefinitions, no_definition, next_definition, SpellsFile, spelled}
+use Rattle.cs_grammar.specs.Spells.{is_null, literal_of, start_at, SpellsBound, limit_is, other_number, other_text, other_null, SpellsLabel, bare_label, quoted_label, SpellsMark, regular, optional, required, SpellsValue, long, short, SpellsField, labelled, every_key, SpellsExpr, one_branch, disjunction_is, SpellsBars, no_bar, a_bar, SpellsBranch, unmarked, marked_is, SpellsConj, one_operand, conjunction_is, SpellsAmps, no_amp, an_amp, SpellsOperand, top_is, bottom_is, reference_is, name_is, number_is, text_is, bound_is, paren_is, struct_is, list_is, SpellsStruct, no_fields, dots_alone, fields, SpellsFields, no_more_fields, next_field, SpellsList, no_elements, rest_alone, elements, SpellsElements, no_more_elements, next_element, SpellsEnd, closed_is, rest_is, SpellsRest, any_is, each_is, SpellsDefinition, defined, SpellsDefinitions, no_definition, next_definition, SpellsFile, spelled}
 use Rattle.cs_grammar.specs.declared.ast.FieldMark.{FieldMark}
 use Rattle.cs_grammar.specs.declared.ast.FieldMark.TheVariants.{Regular, Optional, Required, Every}
-use Rattle.cs_grammar.proofs.Rests.{IsRest, whole, behind, of_comma, of_paren, of_list_end, of_struct_end, of_number, of_mark, of_opening, of_package}
+use Rattle.cs_grammar.proofs.Rests.{IsRest, whole, behind, of_comma, of_paren, of_list_end, of_struct_end, of_number, of_mark, of_opening, of_package, of_conj as of_marked}
 use Rattle.cs_resolve.proofs.WordOrder.{From, at_least, past, tail, from_cut}
 
 -- ---- marks
@@ -109,10 +109,10 @@ of_label : {l : Label} {o : ℕ} {ts r : Words} → SpellsLabel l ts r → From 
 of_label bare_label h = record { at = at_least h; follows = past h }
 of_label quoted_label h = record { at = at_least h; follows = past h }
 
-unmarked : {m : FieldMark} {ts r : Words} → SpellsMark m ts r → key_marks m ≡ []
-unmarked regular = refl
-unmarked optional = refl
-unmarked required = refl
+no_key : {m : FieldMark} {ts r : Words} → SpellsMark m ts r → key_marks m ≡ []
+no_key regular = refl
+no_key optional = refl
+no_key required = refl
 
 -- a name is a literal or has its offset
 of_name : (s : List ℕ) (p o : ℕ) (r : Words) → From o (W.name s p ∷ r) → Spans o (marks (unwrap_or (literal_of s) (named s p))) r
@@ -136,18 +136,22 @@ mutual
   of_field : {l : Label} {m : FieldMark} {e : Tree} {o : ℕ} {ts r : Words} → SpellsField l m e ts r → From o ts → (o ≤ start_at ts) × Spans (suc (start_at ts)) (key_marks m ++ marks e) r
   of_field (labelled {e} {ts} {r} l k v) h =
       let b = of_label l h in
-      (b.at, subst (λ xs. Spans (suc (start_at ts)) (xs ++ marks e) r) (sym (unmarked k)) (of_value v (rest (of_mark k) b.follows)))
+      (b.at, subst (λ xs. Spans (suc (start_at ts)) (xs ++ marks e) r) (sym (no_key k)) (of_value v (rest (of_mark k) b.follows)))
   of_field (every_key is v) h =
       let inside = past h in
       (at_least h, put (at_least inside) (of_value v (tail (tail (past inside)))))
 
   of_expr : {e : Tree} {o : ℕ} {ts r : Words} → SpellsExpr e ts r → From o ts → Spans o (marks e) r
-  of_expr (one_conj c) h = of_conj c h
-  of_expr (disjunction_is c b) h = both (of_conj c h) (λ p k. of_bars b k)
+  of_expr (one_branch b) h = of_branch b h
+  of_expr (disjunction_is b bs) h = both (of_branch b h) (λ p k. of_bars bs k)
 
   of_bars : {es : Trees} {o : ℕ} {ts r : Words} → SpellsBars es ts r → From o ts → Spans o (marks_all es) r
   of_bars no_bar h = still h
-  of_bars (a_bar c b) h = both (of_conj c (tail h)) (λ p k. of_bars b k)
+  of_bars (a_bar b bs) h = both (of_branch b (tail h)) (λ p k. of_bars bs k)
+
+  of_branch : {e : Tree} {o : ℕ} {ts r : Words} → SpellsBranch e ts r → From o ts → Spans o (marks e) r
+  of_branch (unmarked c) h = of_conj c h
+  of_branch (marked_is c) h = still (rest (of_marked c) (tail h))
 
   of_conj : {e : Tree} {o : ℕ} {ts r : Words} → SpellsConj e ts r → From o ts → Spans o (marks e) r
   of_conj (one_operand c) h = of_operand c h

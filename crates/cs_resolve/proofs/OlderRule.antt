@@ -3,7 +3,7 @@
 use Rattle.std.proofs.Common.{◌≡◌, ℕ, ◌+◌, ◌≤◌, Bool, true, false, ◌||◌, cond, List, [], ◌∷◌, ◌++◌, map, filter, inl, inr, Option, Some, None, refl, sym, ap, ap₂, ◌∙◌, subst, arith}
 use Rattle.std.specs.List.{AllByRecursion, flat_map}
 use Rattle.std.proofs.lemmas.Bool.{false≢true}
-use Rattle.cs_grammar.specs.Tree.{Tree, atom, named, reference, conjunction, disjunction, paren, struct, list, Trees, none, more, Fields, no_field, field, End, closed, any, each, DefinitionTree, defined_name, body, FileTree, definitions}
+use Rattle.cs_grammar.specs.Tree.{Tree, atom, named, reference, conjunction, disjunction, paren, struct, list, wide, Trees, none, more, Fields, no_field, field, End, closed, any, each, DefinitionTree, defined_name, body, FileTree, definitions}
 use Rattle.cs_package.specs.Expression as cue
 use Rattle.cs_package.specs.Expression.{Expression, mark_of}
 use Rattle.cs_package.specs.Environment.{Environment}
@@ -45,6 +45,7 @@ referred_unplain (named m o) n h = cc
 referred_unplain (conjunction es) n h = cc
 referred_unplain (disjunction es) n h = cc
 referred_unplain (list es end) n h = cc
+referred_unplain (wide w) n h = cc
 
 literal_unplain : (e : Tree) (fs : Fields) → closed_literal e ≡ Some fs → has_literal_or_reference e ≡ true
 literal_unplain (struct o gs opened) fs h = refl
@@ -55,6 +56,7 @@ literal_unplain (named m o) fs h = cc
 literal_unplain (conjunction es) fs h = cc
 literal_unplain (disjunction es) fs h = cc
 literal_unplain (list es end) fs h = cc
+literal_unplain (wide w) fs h = cc
 
 -- the literal doesn't end with `...`
 literal_shut : (e : Tree) (fs : Fields) → closed_literal e ≡ Some fs → ¬ Open (literals e)
@@ -70,6 +72,7 @@ literal_shut (named m o) fs h k = cc
 literal_shut (conjunction es) fs h k = cc
 literal_shut (disjunction es) fs h k = cc
 literal_shut (list es end) fs h k = cc
+literal_shut (wide w) fs h k = cc
 
 open_left : (ls ms : List Literal) → Open (ls ++ ms) → Open ls
 open_left ls ms h = kept_left (λ (l : Literal). l.opened ≡ true) ls ms h
@@ -154,6 +157,7 @@ module _ (rs : Refinements) (narrow : Narrow rs) where
     resolved_same (paren e) h = resolved_same e h
     resolved_same (struct o fs opened) h = ap (λ ds. cue.struct ds opened) (resolved_same_fields fs (kept_right KeepsRule (values_of_each (named_fields fs)) (conjunctions_fields no_refinements fs) h))
     resolved_same (list es end) h = ap₂ cue.list (resolved_same_all es (kept_left KeepsRule (conjunctions_all no_refinements es) (conjunctions_end no_refinements end) h)) (resolved_same_end end (kept_right KeepsRule (conjunctions_all no_refinements es) (conjunctions_end no_refinements end) h))
+    resolved_same (wide w) h = refl
 
     resolved_same_all : (es : Trees) → Keeps (conjunctions_all no_refinements es) → resolved_all rs es ≡ resolved_all no_refinements es
     resolved_same_all none h = refl
@@ -178,6 +182,7 @@ module _ (rs : Refinements) (narrow : Narrow rs) where
     conjunctions_same (paren e) h = conjunctions_same e h
     conjunctions_same (struct o fs opened) h = ap (λ cs. values_of_each (named_fields fs) ++ cs) (conjunctions_same_fields fs (kept_right KeepsRule (values_of_each (named_fields fs)) (conjunctions_fields no_refinements fs) h))
     conjunctions_same (list es end) h = ap₂ (λ cs ds. cs ++ ds) (conjunctions_same_all es (kept_left KeepsRule (conjunctions_all no_refinements es) (conjunctions_end no_refinements end) h)) (conjunctions_same_end end (kept_right KeepsRule (conjunctions_all no_refinements es) (conjunctions_end no_refinements end) h))
+    conjunctions_same (wide w) h = refl
 
     conjunctions_same_all : (es : Trees) → Keeps (conjunctions_all no_refinements es) → conjunctions_all rs es ≡ conjunctions_all no_refinements es
     conjunctions_same_all none h = refl

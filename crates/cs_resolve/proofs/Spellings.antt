@@ -1,23 +1,18 @@
 -- The names of definitions that a source spells.
-use Rattle.std.proofs.Common.{◌≡◌, ℕ, Bool, true, false, cond, List, [], ◌∷◌, ◌++◌, map, take, Option, Some, codes, arith, refl, sym, ap, ◌∙◌, subst}
-use Rattle.std.specs.List.{All, AllByRecursion, list_all, list_any}
+use Rattle.std.proofs.Common.{◌≡◌, ℕ, Bool, true, false, cond, List, [], ◌∷◌, take, Option, Some, codes, arith, refl, sym, ap, ◌∙◌, subst}
+use Rattle.std.specs.List.{AllByRecursion, list_all, list_any}
 use Rattle.std.specs.Str.{bytes_eq}
-use Rattle.std.proofs.lemmas.List.{map-append}
-use Rattle.std.proofs.lemmas.List.Elements.{All-push}
 use Rattle.std.specs.Prelude.{◌==◌}
 use Rattle.cs_grammar.specs.Source.{IsSpelledBy}
 use Rattle.cs_grammar.specs.Cut.{Lexeme, lexeme, Cut, blank, new_line, comment, token, finish, comma_if, line_after, line_after_mark, line_ended}
 use Rattle.cs_grammar.specs.Spelling.{is_letter, is_digit, is_name_byte, is_integer, is_definition_rest, underscore_sort, mark_sort, sort_if, sort_of, used_marks, left_out_marks}
 use Rattle.cs_grammar.specs.Tree.{FileTree, defined_name, definitions}
-use Rattle.cs_grammar.specs.View.{file_view}
 use Rattle.cs_grammar.specs.TokenWords.{bare_name, mark_kind, word_of, word, words}
 use Rattle.cs_grammar.specs.Words as W
 use Rattle.cs_grammar.specs.Words.{Word}
-use Rattle.cs_grammar.specs.declared.ast.File.{File}
 use Rattle.cs_grammar.specs.declared.token.Sort.{Sort}
 use Rattle.cs_grammar.specs.declared.token.Sort.TheVariants as sorts
 use Rattle.cs_package.specs.Environment.{IsDefinitionName}
-use Rattle.cs_resolve.specs.Refusal.{AreSpelled}
 use Rattle.cs_resolve.proofs.DefinedNames.{of_file}
 
 -- what a word names, if it is the name of a definition, is one
@@ -131,9 +126,9 @@ of_cut p (finish {o}) = p.now o (lexeme sorts.End [] o ∷ []) (refl, tt)
 -- ---- files
 
 -- each definition of a file that a source spells has the name of one
-pub names-spelled : (t : List ℕ) (f : FileTree) → IsSpelledBy t f → All (λ d. IsDefinitionName (defined_name d)) (definitions f)
+pub names-spelled : (t : List ℕ) (f : FileTree) → IsSpelledBy t f → AllByRecursion (λ d. IsDefinitionName (defined_name d)) (definitions f)
 names-spelled t f h = of_file (λ w. is_named w ≡ true) IsDefinitionName (λ n o named. named) h.spelled (of_cut plain h.cut)
 
--- one file more
-pub spelled-push : (fs : List File) (f : File) (t : List ℕ) → AreSpelled (map file_view fs) → IsSpelledBy t (file_view f) → AreSpelled (map file_view (fs ++ f ∷ []))
-spelled-push fs f t all one = subst AreSpelled (sym (map-append file_view fs (f ∷ []))) (All-push (λ (g : FileTree). (s : List ℕ) × IsSpelledBy s g) (map file_view fs) (file_view f) all (t, one))
+-- what is written behind `#` (35) so that a token names a definition
+pub name-written : (n : List ℕ) → sort_of (35 ∷ n) ≡ Some sorts.Definition → IsDefinitionName n
+name-written n h = bare (35 ∷ n) h

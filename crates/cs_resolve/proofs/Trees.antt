@@ -3,7 +3,8 @@ use Rattle.std.proofs.Common.{◌≡◌, ℕ, ◌+◌, ◌<◌, List, [], ◌∷
 use Rattle.std.proofs.lemmas.List.{take_more}
 use Rattle.cs_grammar.specs.declared.ast.Definition.{Definition}
 use Rattle.cs_grammar.specs.declared.ast.File.{File}
-use Rattle.std.specs.List.{All, flat_map}
+use Rattle.std.specs.List.{AllByRecursion, flat_map}
+use Rattle.std.proofs.lemmas.List.Elements.{All-from_recursion}
 use Rattle.std.proofs.lemmas.List.{map-append, append_assoc, append-nil, get_or-map, length-map}
 use Rattle.std.proofs.lemmas.Grind.{flat_map-append}
 use Rattle.cs_resolve.specs.Opening.{one, Named, named_fields, named_bodies, operands}
@@ -58,7 +59,7 @@ pub map_more : {X Y : Type 0} (f : X → Y) (xs : List X) (i : ℕ) (x : X) → 
 map_more f xs i x l is = ap (map f) (take_at xs i x l is) ∙ map-append f (take i xs) (x ∷ [])
 
 -- what holds of all that f gives holds of what it gives at a place
-pub mapped_at : {X Y : Type 0} (P : Y → Type 0) (f : X → Y) (xs : List X) (i : ℕ) (x : X) → i < length xs → x ≡ get_or xs i x → All P (map f xs) → P (f x)
+pub mapped_at : {X Y : Type 0} (P : Y → Type 0) (f : X → Y) (xs : List X) (i : ℕ) (x : X) → i < length xs → x ≡ get_or xs i x → AllByRecursion P (map f xs) → P (f x)
 mapped_at P f xs i x l is h =
     let there = length-map xs f in
-    subst P (get_or-map f xs i x (f x) l ∙ ap f (sym is)) (h i (f x) (omega arith))
+    subst P (get_or-map f xs i x (f x) l ∙ ap f (sym is)) (All-from_recursion P (map f xs) h i (f x) (omega arith))

@@ -21,6 +21,7 @@ pub mod Offsets
 pub mod Earlier
 -- for contracts of private functions and proofs alone
 pub use Rattle.cs_package.specs.Code
+pub mod WellFormed
 pub mod Steps
 pub mod Around
 pub mod Checks

@@ -8,7 +8,7 @@ use Rattle.cs_grammar.specs.declared.ast.FieldMark.{FieldMark}
 use Rattle.cs_grammar.specs.declared.ast.FieldMark.TheVariants.{Regular, Optional, Required, Every}
 pub use Rattle.cs_resolve.specs.Plain.{has_literal_or_reference, has_literal_or_reference_some, has_literal_or_reference_end}
 use Rattle.cs_resolve.specs.Refinement.{Refinements}
-use Rattle.cs_grammar.specs.Tree.{Label, Tree, atom, named, reference, conjunction, disjunction, paren, struct, list, Trees, none, more, Fields, no_field, field, End, closed, any, each, DefinitionTree, defined_name, body, FileTree, definitions}
+use Rattle.cs_grammar.specs.Tree.{Label, Tree, atom, named, reference, conjunction, disjunction, paren, struct, list, wide, Trees, none, more, Fields, no_field, field, End, closed, any, each, DefinitionTree, defined_name, body, FileTree, definitions}
 
 -- ---- operands, literals and conjunctions
 
@@ -28,6 +28,7 @@ abbrev mutual
   literals (paren e) = literals e
   literals (struct o fs opened) = record { at = o; opened = opened } ∷ literals_fields fs
   literals (list es end) = literals_all es ++ literals_end end
+  literals (wide w) = []
 
   pub literals_all : Trees → List Literal
   literals_all none = []
@@ -100,6 +101,7 @@ abbrev mutual
   conjunctions rs (paren e) = conjunctions rs e
   conjunctions rs (struct o fs opened) = values_of_each (named_fields fs) ++ conjunctions_fields rs fs
   conjunctions rs (list es end) = conjunctions_all rs es ++ conjunctions_end rs end
+  conjunctions rs (wide w) = []
 
   pub conjunctions_all : Refinements → Trees → List (List Tree)
   conjunctions_all rs none = []

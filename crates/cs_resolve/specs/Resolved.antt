@@ -46,6 +46,7 @@ abbrev mutual
   resolved rs (T.paren t) = resolved rs t
   resolved rs (T.struct o fs opened) = cue.struct (resolved_fields rs fs) opened
   resolved rs (T.list ts end) = cue.list (resolved_all rs ts) (resolved_end rs end)
+  resolved rs (T.wide w) = cue.atom cue.bottom
 
   pub resolved_all : Refinements → Trees → Expressions
   resolved_all rs T.none = cue.no_expressions

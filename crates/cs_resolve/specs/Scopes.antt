@@ -5,7 +5,7 @@ use Rattle.std.specs.List.{list_any, flat_map}
 use Rattle.std.specs.Str.{bytes_eq}
 use Rattle.cs_grammar.specs.declared.ast.FieldMark.{FieldMark}
 use Rattle.cs_grammar.specs.declared.ast.FieldMark.TheVariants.{Regular, Optional, Required, Every}
-use Rattle.cs_grammar.specs.Tree.{Label, Tree, atom, named, reference, conjunction, disjunction, paren, struct, list, Trees, none, more, Fields, no_field, field, End, closed, any, each}
+use Rattle.cs_grammar.specs.Tree.{Label, Tree, atom, named, reference, conjunction, disjunction, paren, struct, list, wide, Trees, none, more, Fields, no_field, field, End, closed, any, each}
 use Rattle.cs_resolve.specs.Predeclared.{predeclared}
 
 abbrev pub labels : Fields → List Label
@@ -51,6 +51,7 @@ abbrev mutual
   places around (paren e) = places around e
   places around (struct o fs opened) = places_fields (labels fs ∷ around) fs
   places around (list es end) = places_all around es ++ places_end around end
+  places around (wide w) = []
 
   pub places_all : List (List Label) → Trees → List Place
   places_all around none = []

@@ -1,7 +1,7 @@
 -- The nodes of a package (own rule): each expression in its bodies is one.
 use Rattle.std.specs.Prelude.{ℕ, ◌+◌, List, sum_by}
 use Rattle.std.specs.List.{flat_map}
-use Rattle.cs_grammar.specs.Tree.{Tree, atom, named, reference, conjunction, disjunction, paren, struct, list, Trees, none, more, Fields, no_field, field, End, closed, any, each, DefinitionTree, body, FileTree, definitions}
+use Rattle.cs_grammar.specs.Tree.{Tree, atom, named, reference, conjunction, disjunction, paren, struct, list, wide, Trees, none, more, Fields, no_field, field, End, closed, any, each, DefinitionTree, body, FileTree, definitions}
 
 -- the expressions in an expression, itself among them; a parenthesis is none, and nor is the bare `...` of a list
 abbrev mutual
@@ -14,6 +14,7 @@ abbrev mutual
   nodes (paren e) = nodes e
   nodes (struct o fs opened) = 1 + nodes_fields fs
   nodes (list es end) = 1 + (nodes_all es + nodes_end end)
+  nodes (wide w) = 1
 
   pub nodes_all : Trees → ℕ
   nodes_all none = 0

@@ -1,7 +1,7 @@
 -- The literals that break the opening rule, in order of the text, where these are the plain refinements.
 use Rattle.std.specs.Prelude.{◌≡◌, ℕ, suc, Bool, true, false, ◌&&◌, ◌||◌, not, ◌⊎◌, List, [], ◌∷◌, ◌++◌, map, count_by, nat_lt, Some, slice_get, Any, Contains}
 use Rattle.std.specs.List.{flat_map, list_any}
-use Rattle.cs_grammar.specs.Tree.{Tree, atom, named, reference, conjunction, disjunction, paren, struct, list, Trees, none, more, Fields, no_field, field, End, closed, any, each, DefinitionTree, defined_name, body, FileTree, definitions}
+use Rattle.cs_grammar.specs.Tree.{Tree, atom, named, reference, conjunction, disjunction, paren, struct, list, wide, Trees, none, more, Fields, no_field, field, End, closed, any, each, DefinitionTree, defined_name, body, FileTree, definitions}
 use Rattle.cs_resolve.specs.Opening.{has_literal_or_reference, Literal, literals, operands, Declared, one, every_key, Named, declared_for, named_fields, named_bodies, values, conjunctions}
 use Rattle.cs_resolve.specs.Refinement.{Refinements}
 
@@ -35,6 +35,7 @@ abbrev mutual
   unopened rs demanded (paren e) = unopened rs demanded e
   unopened rs demanded (struct o fs opened) = at_fault demanded opened o ++ unopened_fields rs demanded (named_fields fs) fs
   unopened rs demanded (list es end) = unopened_all rs demanded es ++ unopened_end rs demanded end
+  unopened rs demanded (wide w) = []
 
   pub unopened_all : Refinements → Bool → Trees → List ℕ
   unopened_all rs demanded none = []

@@ -19,4 +19,4 @@ pub use fault::ResolveFault;
 pub use offsets::offsets_law;
 pub use opening::opening_law;
 pub use refinement::refinement_law;
-pub use resolving::resolve;
+pub use resolving::{resolve, resolve_written};

@@ -1,15 +1,17 @@
 // From files to a package.
 ghost use Rattle.std.specs.Prelude.{◌≡◌, ℕ, List, [], ◌∷◌, ◌++◌, map, length, string_bytes, OnOk, IfOk, IfErr, IsOkUnless};
-ghost use Rattle.std.specs.List.{All, AllByRecursion};
+ghost use Rattle.std.specs.List.{AllByRecursion};
 ghost use Rattle.cs_grammar.specs.Tree.{Tree, DefinitionTree, definition, defined_name};
 ghost use Rattle.cs_grammar.specs.View.{definition_view, file_view};
+ghost use Rattle.cs_grammar.specs.Written.{IsWrittenFile};
 ghost use Rattle.cs_resolve.specs.Declarations.{distinct, names, places_of, faults_from};
-ghost use Rattle.cs_package.specs.Environment.{Environment, written, IsDefinitionName};
+ghost use Rattle.cs_package.specs.Environment.{Environment, written};
 ghost use Rattle.cs_resolve.specs.Refinement.{Refinements};
 ghost use Rattle.cs_resolve.specs.Narrowed.{TellsRefinements};
 ghost use Rattle.cs_resolve.specs.Refusal.{AreSpelled, IsRefusal};
 ghost use Rattle.cs_resolve.specs.Resolved.{IsPackage};
 ghost use Rattle.cs_resolve.specs.Steps.{declared_in, known_names, AreBodiesOf, HoldsNames, IsShapeOf, Resolves, ResolvesIn};
+ghost use Rattle.cs_resolve.specs.WellFormed.{IsWellFormedDefinition, AreWellFormedFiles};
 ghost use Rattle.cs_package.specs.View.{names_of, IsTable};
 
 use crate::opening::check_opened;
@@ -32,6 +34,31 @@ use std::collections::BTreeSet;
 /// `FieldReference`, `NotOpened`. `OutOfMemory`.
 pub fn resolve(alloc: Global, files: Vec<File>) -> Result<Package, ResolveFault>
     requires { AreSpelled (map file_view files.items) }
+    ensures found { IfOk result (λ p. IsPackage (map file_view files.items) p) }
+    ensures refused { IfErr result (λ e. IsRefusal e (map file_view files.items)) }
+    ensures only { (E : Environment) → IsPackage (map file_view files.items) E
+        → IsOkUnless result ResolveFault.OutOfMemory }
+{
+    package_of_files(alloc, files)
+}
+
+/// The same of files that can be written down: those that a text spells, or that were made of such.
+///
+/// # Errors
+/// As those of `resolve`.
+pub fn resolve_written(alloc: Global, files: Vec<File>) -> Result<Package, ResolveFault>
+    requires { AllByRecursion IsWrittenFile (map file_view files.items) }
+    ensures found { IfOk result (λ p. IsPackage (map file_view files.items) p) }
+    ensures refused { IfErr result (λ e. IsRefusal e (map file_view files.items)) }
+    ensures only { (E : Environment) → IsPackage (map file_view files.items) E
+        → IsOkUnless result ResolveFault.OutOfMemory }
+{
+    package_of_files(alloc, files)
+}
+
+/// The package that well-formed files declare.
+fn package_of_files(alloc: Global, files: Vec<File>) -> Result<Package, ResolveFault>
+    requires { AreWellFormedFiles (map file_view files.items) }
     ensures found { IfOk result (λ p. IsPackage (map file_view files.items) p) }
     ensures refused { IfErr result (λ e. IsRefusal e (map file_view files.items)) }
     ensures only { (E : Environment) → IsPackage (map file_view files.items) E
@@ -78,7 +105,7 @@ fn name_count(alloc: Global, files: &Vec<File>) -> Result<usize, AllocError>
 
 /// The names that files declare.
 fn declared_names(alloc: Global, files: &Vec<File>) -> Result<NameTable, AllocError>
-    requires { AreSpelled (map file_view files.now.items) }
+    requires { AreWellFormedFiles (map file_view files.now.items) }
     ensures table { IfOk result (λ t. IsTable t.entries) }
     ensures found { IfOk result (λ t. names_of t.entries ≡ names (declared_in files.now.items)) }
 {
@@ -96,7 +123,7 @@ fn add_names(
     definitions: &Vec<Definition>,
 ) -> Result<(), AllocError>
     requires table { IsTable names.old.entries }
-    requires spelled { All (λ d. IsDefinitionName (defined_name d))
+    requires named { AllByRecursion IsWellFormedDefinition
         (map definition_view definitions.now.items) }
     ensures table { OnOk result (IsTable names.new.entries) }
     ensures added { OnOk result ((ns : List (List ℕ))

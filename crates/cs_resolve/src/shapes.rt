@@ -187,6 +187,8 @@ impl Resolver<'_, '_> {
                 let end = self.shape_end(around, end)?;
                 Ok(Shape::List { front, end })
             }
+            // Files of the wide profile are widened before they are resolved: none of its forms is left in them.
+            Expr::Wide(_) => Ok(Shape::Bottom),
         }
     }
 

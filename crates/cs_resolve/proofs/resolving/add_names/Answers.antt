@@ -1,12 +1,13 @@
 use Rattle.std.proofs.Common.{◌≡◌, ℕ, ◌+◌, ◌<◌, List, [], ◌∷◌, ◌++◌, map, length, take, get_or, string_bytes, sym, ap, ap₂, ◌∙◌, subst}
-use Rattle.std.specs.List.{All}
+use Rattle.std.specs.List.{AllByRecursion}
 use Rattle.std.proofs.lemmas.List.{append_assoc, map-append}
-use Rattle.cs_grammar.specs.Tree.{DefinitionTree, defined_name}
+use Rattle.cs_grammar.specs.Tree.{defined_name}
 use Rattle.cs_grammar.specs.View.{definition_view}
 use Rattle.cs_grammar.specs.declared.ast.Definition.{Definition}
 use Rattle.cs_resolve.specs.Declarations.{distinct}
 use Rattle.cs_package.specs.Environment.{IsDefinitionName}
 use Rattle.cs_package.specs.View.{names_of}
+use Rattle.cs_resolve.specs.WellFormed.{IsWellFormedDefinition}
 use Rattle.cs_package.proofs.Environments.{table-insert}
 use Rattle.cs_resolve.proofs.Order.{put, put_there, names_insert, distinct_push}
 use Rattle.cs_resolve.proofs.Trees.{map_more, mapped_at}
@@ -44,10 +45,10 @@ loop-definition-preserved c =
     let old = l.names.entries in
     let new = c.insert.new.self.entries in
     let same : string_bytes name ≡ string_bytes d.name = c.in_ok-name.ensures.cases in
-    let all = subst (λ es. All (λ (e : DefinitionTree). IsDefinitionName (defined_name e)) (map definition_view es)) (sym c.deref-definition-items.ensures.value) c.requires.spelled in
-    let spelled = mapped_at (λ (e : DefinitionTree). IsDefinitionName (defined_name e)) definition_view items i d c.loop-definition-test.true c.definition-item.is all in
+    let all = subst (λ es. AllByRecursion IsWellFormedDefinition (map definition_view es)) (sym c.deref-definition-items.ensures.value) c.requires.named in
+    let formed = mapped_at IsWellFormedDefinition definition_view items i d c.loop-definition-test.true c.definition-item.is all in
     record {
-      table = table-insert old new name written l.invariant.table c.in_ok-written.ensures (subst IsDefinitionName (sym same) spelled) c.in_ok-insert.ensures.entries c.in_ok-insert.ensures.unique;
+      table = table-insert old new name written l.invariant.table c.in_ok-written.ensures (subst IsDefinitionName (sym same) formed.0) c.in_ok-insert.ensures.entries c.in_ok-insert.ensures.unique;
       added = λ ns is.
           ap names_of c.in_ok-insert.ensures.entries
           ∙ names_insert name written old

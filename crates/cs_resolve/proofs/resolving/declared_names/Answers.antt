@@ -1,14 +1,12 @@
-use Rattle.std.proofs.Common.{ℕ, List, map, take, sym, ap, ◌∙◌, subst}
+use Rattle.std.proofs.Common.{map, take, sym, ap, ◌∙◌, subst}
 use Rattle.std.specs.List.{flat_map}
 use Rattle.std.proofs.lemmas.List.{map-append}
-use Rattle.cs_grammar.specs.Source.{IsSpelledBy}
-use Rattle.cs_grammar.specs.Tree.{FileTree, defined_name, definitions}
+use Rattle.cs_grammar.specs.Tree.{defined_name, definitions}
 use Rattle.cs_grammar.specs.View.{definition_view, file_view}
 use Rattle.cs_resolve.specs.Declarations.{distinct}
-use Rattle.cs_resolve.specs.Refusal.{AreSpelled}
+use Rattle.cs_resolve.specs.WellFormed.{IsWellFormedFile, AreWellFormedFiles}
 use Rattle.cs_package.specs.View.{names_of}
 use Rattle.cs_package.proofs.Environments.{table-empty}
-use Rattle.cs_resolve.proofs.Spellings.{names-spelled}
 use Rattle.cs_resolve.proofs.Trees.{definitions_more, mapped_at}
 use Rattle.cs_resolve.proofs.resolving.declared_names.Goals as goal
 
@@ -18,13 +16,11 @@ loop-file-init c = record {
   found = ap names_of c.new-names.ensures.empty;
 }
 
-pub add_names-requires-clause-spelled : goal.add_names-requires-clause-spelled
-add_names-requires-clause-spelled c =
+pub add_names-requires-clause-named : goal.add_names-requires-clause-named
+add_names-requires-clause-named c =
     let fs = c.deref-file-items.result.now in
-    let f = c.file-item.result in
-    let all = subst (λ gs. AreSpelled (map file_view gs)) (sym c.deref-file-items.ensures.value) c.requires in
-    let one = mapped_at (λ (g : FileTree). (t : List ℕ) × IsSpelledBy t g) file_view fs c.loop-file.file-index f c.loop-file-test.true c.file-item.is all in
-    names-spelled one.0 (file_view f) one.1
+    let all = subst (λ gs. AreWellFormedFiles (map file_view gs)) (sym c.deref-file-items.ensures.value) c.requires in
+    mapped_at IsWellFormedFile file_view fs c.loop-file.file-index c.file-item.result c.loop-file-test.true c.file-item.is all
 
 pub loop-file-preserved : goal.loop-file-preserved
 loop-file-preserved c =

@@ -1,0 +1,158 @@
+-- Files are well formed where a text spells them, and where they can be written down.
+use Rattle.std.proofs.Common.{ℕ, Bool, true, false, cond, List, [], ◌∷◌, Some, None, unwrap_or, codes, sym, subst}
+use Rattle.std.specs.List.{AllByRecursion}
+use Rattle.std.specs.Str.{bytes_eq}
+use Rattle.std.proofs.lemmas.List.Elements.{recursion_from_All}
+use Rattle.cs_grammar.specs.Source.{IsSpelledBy}
+use Rattle.cs_grammar.specs.Tree as T
+use Rattle.cs_grammar.specs.Tree.{Label, Tree, Trees, Fields, End, DefinitionTree, defined_name, body, FileTree, definitions}
+use Rattle.cs_grammar.specs.Words.{Words}
+use Rattle.cs_grammar.specs.Written.{Place, IsWritten, AreWritten, AreWrittenFields, IsWrittenEnd, IsWrittenDefinition, IsWrittenFile}
+use Rattle.cs_grammar.specs.Spells.{is_null, literal_of, SpellsBound, limit_is, other_number, other_text, other_null, SpellsValue, long, short, SpellsField, labelled, every_key, SpellsExpr, one_branch, disjunction_is, SpellsBars, no_bar, a_bar, SpellsBranch, unmarked, marked_is, SpellsConj, one_operand, conjunction_is, SpellsAmps, no_amp, an_amp, SpellsOperand, top_is, bottom_is, reference_is, name_is, number_is, text_is, bound_is, paren_is, struct_is, list_is, SpellsStruct, no_fields, dots_alone, fields, SpellsFields, no_more_fields, next_field, SpellsList, no_elements, rest_alone, elements, SpellsElements, no_more_elements, next_element, SpellsEnd, closed_is, rest_is, SpellsRest, any_is, each_is, SpellsDefinition, defined, SpellsDefinitions, no_definition, next_definition, SpellsFile, spelled}
+use Rattle.cs_grammar.specs.declared.ast.FieldMark.{FieldMark}
+use Rattle.cs_package.specs.Environment.{IsDefinitionName}
+use Rattle.cs_resolve.specs.Refusal.{AreSpelled}
+use Rattle.cs_resolve.specs.WellFormed.{IsWellFormed, AreWellFormed, AreWellFormedFields, IsWellFormedEnd, IsWellFormedDefinition, IsWellFormedFile, AreWellFormedFiles}
+use Rattle.cs_resolve.proofs.Spellings.{names-spelled, name-written}
+
+-- ---- what words spell
+
+literal : (s : List ℕ) (o : ℕ) (a b c : Bool) → IsWellFormed (unwrap_or (cond a (Some (T.atom T.null)) (cond b (Some (T.atom (T.boolean true))) (cond c (Some (T.atom (T.boolean false))) None))) (T.named s o))
+literal s o true b c = tt
+literal s o false true c = tt
+literal s o false false true = tt
+literal s o false false false = tt
+
+of_name : (s : List ℕ) (o : ℕ) → IsWellFormed (unwrap_or (literal_of s) (T.named s o))
+of_name s o = literal s o (is_null s) (bytes_eq s (codes "true")) (bytes_eq s (codes "false"))
+
+of_bound : {e : Tree} {ts r : Words} → SpellsBound e ts r → IsWellFormed e
+of_bound (limit_is n) = tt
+of_bound (other_number n) = tt
+of_bound other_text = tt
+of_bound (other_null e) = tt
+
+mutual
+  of_value : {e : Tree} {ts r : Words} → SpellsValue e ts r → IsWellFormed e
+  of_value (long e) = of_expr e
+  of_value (short o f) = (of_field f, tt)
+
+  of_field : {l : Label} {m : FieldMark} {e : Tree} {ts r : Words} → SpellsField l m e ts r → IsWellFormed e
+  of_field (labelled l m v) = of_value v
+  of_field (every_key is v) = of_value v
+
+  of_expr : {e : Tree} {ts r : Words} → SpellsExpr e ts r → IsWellFormed e
+  of_expr (one_branch b) = of_branch b
+  of_expr (disjunction_is b bs) = (tt, (of_branch b, of_bars bs))
+
+  of_bars : {es : Trees} {ts r : Words} → SpellsBars es ts r → AreWellFormed es
+  of_bars no_bar = tt
+  of_bars (a_bar b bs) = (of_branch b, of_bars bs)
+
+  of_branch : {e : Tree} {ts r : Words} → SpellsBranch e ts r → IsWellFormed e
+  of_branch (unmarked c) = of_conj c
+  of_branch (marked_is c) = tt
+
+  of_conj : {e : Tree} {ts r : Words} → SpellsConj e ts r → IsWellFormed e
+  of_conj (one_operand o) = of_operand o
+  of_conj (conjunction_is o a) = (tt, (of_operand o, of_amps a))
+
+  of_amps : {es : Trees} {ts r : Words} → SpellsAmps es ts r → AreWellFormed es
+  of_amps no_amp = tt
+  of_amps (an_amp o a) = (of_operand o, of_amps a)
+
+  of_operand : {e : Tree} {ts r : Words} → SpellsOperand e ts r → IsWellFormed e
+  of_operand top_is = tt
+  of_operand bottom_is = tt
+  of_operand reference_is = tt
+  of_operand (name_is {s} {e} {p} k is) = subst IsWellFormed (sym is) (of_name s p)
+  of_operand (number_is n) = tt
+  of_operand text_is = tt
+  of_operand (bound_is b) = of_bound b
+  of_operand (paren_is e c) = of_expr e
+  of_operand (struct_is s) = of_struct s
+  of_operand (list_is l) = of_list l
+
+  of_struct : {fs : Fields} {b : Bool} {ts r : Words} → SpellsStruct fs b ts r → AreWellFormedFields fs
+  of_struct no_fields = tt
+  of_struct (dots_alone c) = tt
+  of_struct (fields f fs o) = (of_field f, of_fields fs)
+
+  of_fields : {fs : Fields} {ts r : Words} → SpellsFields fs ts r → AreWellFormedFields fs
+  of_fields no_more_fields = tt
+  of_fields (next_field c f fs) = (of_field f, of_fields fs)
+
+  of_list : {es : Trees} {end : End} {ts r : Words} → SpellsList es end ts r → AreWellFormed es × IsWellFormedEnd end
+  of_list no_elements = (tt, tt)
+  of_list (rest_alone e) = (tt, of_rest e)
+  of_list (elements e es end) = ((of_expr e, of_elements es), of_end end)
+
+  of_elements : {es : Trees} {ts r : Words} → SpellsElements es ts r → AreWellFormed es
+  of_elements no_more_elements = tt
+  of_elements (next_element e es) = (of_expr e, of_elements es)
+
+  of_end : {end : End} {ts r : Words} → SpellsEnd end ts r → IsWellFormedEnd end
+  of_end (closed_is c) = tt
+  of_end (rest_is e) = of_rest e
+
+  of_rest : {end : End} {ts r : Words} → SpellsRest end ts r → IsWellFormedEnd end
+  of_rest (any_is c) = tt
+  of_rest (each_is e c) = of_expr e
+
+abbrev AreNamed : List DefinitionTree → Type 0
+AreNamed ds = AllByRecursion (λ d. IsDefinitionName (defined_name d)) ds
+
+of_definition : {d : DefinitionTree} {ts r : Words} → SpellsDefinition d ts r → IsWellFormed (body d)
+of_definition (defined v) = of_value v
+
+of_definitions : {ds : List DefinitionTree} {ts r : Words} → SpellsDefinitions ds ts r → AreNamed ds → AllByRecursion IsWellFormedDefinition ds
+of_definitions no_definition h = tt
+of_definitions (next_definition d c ds) h = ((h.0, of_definition d), of_definitions ds h.1)
+
+of_file : {f : FileTree} {ts : Words} → SpellsFile f ts → AreNamed (definitions f) → IsWellFormedFile f
+of_file (spelled p ds) h = of_definitions ds h
+
+of_source : (f : FileTree) → (t : List ℕ) × IsSpelledBy t f → IsWellFormedFile f
+of_source f h = of_file h.1.spelled (names-spelled h.0 f h.1)
+
+each_spelled : (fs : List FileTree) → AllByRecursion (λ f. (t : List ℕ) × IsSpelledBy t f) fs → AreWellFormedFiles fs
+each_spelled [] h = tt
+each_spelled (f ∷ fs) h = (of_source f h.0, each_spelled fs h.1)
+
+pub spelled-formed : (fs : List FileTree) → AreSpelled fs → AreWellFormedFiles fs
+spelled-formed fs h = each_spelled fs (recursion_from_All (λ (f : FileTree). (t : List ℕ) × IsSpelledBy t f) fs h)
+
+-- ---- what can be written down
+
+mutual
+  written : (p : Place) (e : Tree) → IsWritten p e → IsWellFormed e
+  written p (T.atom a) h = tt
+  written p (T.named n o) h = tt
+  written p (T.reference n o) h = tt
+  written p (T.conjunction es) h = (h.1, written_all _ es h.2)
+  written p (T.disjunction es) h = (h.1, written_all _ es h.2)
+  written p (T.paren e) h = written _ e h
+  written p (T.struct o fs opened) h = written_fields fs h
+  written p (T.list es end) h = (written_all _ es h.0, written_end end h.1)
+  written p (T.wide w) h = tt
+
+  written_all : (p : Place) (es : Trees) → AreWritten p es → AreWellFormed es
+  written_all p T.none h = tt
+  written_all p (T.more e es) h = (written p e h.0, written_all p es h.1)
+
+  written_fields : (fs : Fields) → AreWrittenFields fs → AreWellFormedFields fs
+  written_fields T.no_field h = tt
+  written_fields (T.field l m e fs) h = (written _ e h.1, written_fields fs h.2)
+
+  written_end : (end : End) → IsWrittenEnd end → IsWellFormedEnd end
+  written_end T.closed h = tt
+  written_end T.any h = tt
+  written_end (T.each e) h = written _ e h
+
+written_definitions : (ds : List DefinitionTree) → AllByRecursion IsWrittenDefinition ds → AllByRecursion IsWellFormedDefinition ds
+written_definitions [] h = tt
+written_definitions (T.definition s o e ∷ ds) h = ((name-written s h.0.0, written _ e h.0.1), written_definitions ds h.1)
+
+pub written-formed : (fs : List FileTree) → AllByRecursion IsWrittenFile fs → AreWellFormedFiles fs
+written-formed [] h = tt
+written-formed (T.file c ds ∷ fs) h = (written_definitions ds h.0.1, written-formed fs h.1)
