@@ -9,6 +9,8 @@ const ALTERNATIVES: &[&str] = &["closest", "all"];
 const FORMATS: &[&str] = &["json"];
 /// The values of `--format` where documents are judged by a schema.
 const SCHEMA_FORMATS: &[&str] = &["json", "flag", "basic"];
+/// The values of `--profile`: the default profile has no word.
+const PROFILES: &[&str] = &["wide"];
 /// How many reasons may be told at most.
 const MOST_REASONS: u64 = 1_000_000;
 /// How many documents may be asked for at most.
@@ -282,6 +284,21 @@ const FORMAT_OF_REFUSAL: Word = Word {
     ..FORMAT
 };
 
+/// Which forms of CUE are taken.
+const PROFILE: Word = Word {
+    id: "profile",
+    help: "Takes ordinary CUE that stands for other CUE too: defaults, as `port: int | *8080`",
+    value_names: &["PROFILE"],
+    value_parser: ValueParser::Names(PROFILES),
+    ..VALUE
+};
+
+/// The same word for a command that judges by a schema.
+const PROFILE_OF_SCHEMA: Word = Word {
+    help: "Takes the schemas of the same profile of CUE: so far those of the default one",
+    ..PROFILE
+};
+
 /// What asks for reasons.
 const REASONS: Group = Group {
     id: "reasons",
@@ -330,6 +347,7 @@ const EXPORT: Subcommand = Subcommand {
         DESCRIBE,
         PRETTY,
         OUTPUT,
+        PROFILE,
         WHY_REFUSED,
         FILES,
     ],
@@ -340,7 +358,7 @@ const LIST: Subcommand = Subcommand {
     name: "list",
     about: "Lists the definitions of CUE files, a line for each",
     example: "Example: cue2schema list port.cue",
-    words: &[FORMAT_OF_LIST, WHY_REFUSED, FILES],
+    words: &[FORMAT_OF_LIST, PROFILE, WHY_REFUSED, FILES],
     groups: &[],
 };
 
@@ -348,7 +366,7 @@ const WIDEN: Subcommand = Subcommand {
     name: "widen",
     about: "Writes the definitions of CUE files as one source, in one layout",
     example: "Example: cue2schema widen port.cue",
-    words: &[FORMAT_OF_REFUSAL, WHY_REFUSED, FILES],
+    words: &[PROFILE, FORMAT_OF_REFUSAL, WHY_REFUSED, FILES],
     groups: &[],
 };
 
@@ -361,6 +379,7 @@ const VET: Subcommand = Subcommand {
         DOCUMENT_OF_SOURCES,
         DOCUMENTS,
         LINES_OF_SOURCES,
+        PROFILE,
         WHY,
         MOST,
         FORMAT,
@@ -378,6 +397,7 @@ const VALIDATE: Subcommand = Subcommand {
         DOCUMENT_OF_SCHEMA,
         DOCUMENTS,
         LINES,
+        PROFILE_OF_SCHEMA,
         WHY,
         MOST,
         FORMAT_OF_SCHEMA,
@@ -394,6 +414,7 @@ const AGREE: Subcommand = Subcommand {
         DOCUMENT_OF_SOURCES,
         DOCUMENTS,
         LINES_OF_SOURCES,
+        PROFILE,
         WHY,
         MOST,
         FORMAT_OF_SCHEMA,
@@ -414,7 +435,9 @@ const COMPARE: Subcommand = Subcommand {
     name: "compare",
     about: "Says whether each document of an old definition is one of the new definition, and shows one that isn't",
     example: "Example: cue2schema compare --root '#Port' --old v1/port.cue --new port.cue",
-    words: &[ROOT, NEW_ROOT, OLD, NEW, BOTH, WHY_BROKEN, MOST, FORMAT],
+    words: &[
+        ROOT, NEW_ROOT, OLD, NEW, BOTH, PROFILE, WHY_BROKEN, MOST, FORMAT,
+    ],
     groups: &[REASONS],
 };
 
@@ -427,6 +450,7 @@ const SAMPLES: Subcommand = Subcommand {
         INVALID,
         MOST_DOCUMENTS,
         STRICT_SAMPLES,
+        PROFILE,
         WHY_REFUSED,
         FILES,
     ],

@@ -5,13 +5,13 @@ use crate::values::notes_of_value;
 use cs_describe::Notes;
 use cs_place::Named;
 use cs_sources::Source;
-use cs_syntax::{File, SyntaxFault, parse_file};
+use cs_syntax::{File, Profile, SyntaxFault, parse_file_in};
 use std::alloc::{AllocError, Global};
 use std::collections::BTreeMap;
 
-/// The file that a source spells; none where it is refused.
+/// The file that a source spells, in either profile, since the wide one reads what the default one reads; none where it is refused.
 fn file_of(alloc: Global, source: &str) -> Result<Option<File>, AllocError> {
-    match parse_file(alloc, source) {
+    match parse_file_in(alloc, Profile::Wide, source) {
         Ok(file) => Ok(Some(file)),
         Err(SyntaxFault::OutOfMemory) => Err(AllocError),
         Err(

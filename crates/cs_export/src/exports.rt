@@ -7,12 +7,14 @@ ghost use Rattle.cs_tool.specs.First.{SourcesRefusal};
 ghost use Rattle.cs_tool.specs.Given.{bytes_in};
 ghost use Rattle.cs_tool.specs.Ready.{IsReady};
 ghost use Rattle.cs_export.specs.Shaped.{IsRootSchema, ArePackageSchemas};
+ghost use Rattle.cs_widen.specs.Calls.{Means, RefusesIn};
 
 use crate::layout::Layout;
 use crate::shaped::shaped_text;
 use cs_compile::{compile, compile_all};
 use cs_guard::Guarded;
 use cs_tool::{Fault, accepted_package, read_root};
+use cs_widen::{Profile, stands_for_in};
 use std::alloc::Global;
 
 /// The text of the schema of the root definition, as it is asked for, without a newline. The root is named with its `#`.
@@ -29,11 +31,7 @@ pub fn export_root(
     ensures refused { IfErr result (λ e. ExportRefusal (bytes_in sources.now) root.now e) }
     ensures only { IsReady (bytes_in sources.now) root.now → IsOkUnless result Fault.OutOfMemory }
 {
-    let package = read_root(alloc, sources, root)?;
-    let schema = compile(alloc, &package, root)?;
-    cs_instance::one_meaning(&package); // for the proof: there is one instance relation
-    cs_schema::one_meaning(&schema); // for the proof: there is one validity
-    shaped_text(alloc, &schema, sources, layout)
+    exported_root(alloc, sources, sources, root, layout)
 }
 
 /// The text of the schemas of all definitions, as it is asked for, without a newline: a schema that asks nothing itself, with
@@ -47,9 +45,86 @@ pub fn export_all(alloc: Global, sources: &[&[u8]], layout: Layout) -> Result<Ve
     ensures only { (E : Environment)
         → IsAccepted (bytes_in sources.now) E → IsOkUnless result Fault.OutOfMemory }
 {
+    exported_all(alloc, sources, sources, layout)
+}
+
+/// What [`export_root`] answers for the sources that are meant in a profile, with the comments of those that are given.
+///
+/// # Errors
+/// Those of `cs_widen::stands_for_in`, and then those of [`export_root`].
+pub fn export_root_in(
+    alloc: Global,
+    profile: Profile,
+    sources: &[&[u8]],
+    root: &str,
+    layout: Layout,
+) -> Result<Vec<u8>, Fault>
+    ensures found { IfOk result (λ text. Means profile (bytes_in sources.now)
+        (λ meant. IsRootSchema meant root.now layout text.items)) }
+    ensures refused { IfErr result (λ e. RefusesIn profile (bytes_in sources.now)
+        (λ meant. ExportRefusal meant root.now e) e) }
+{
+    match stands_for_in(alloc, profile, sources)? {
+        Some(meant) => exported_root(alloc, &[meant.as_bytes()], sources, root, layout),
+        None => exported_root(alloc, sources, sources, root, layout),
+    }
+}
+
+/// What [`export_all`] answers for the sources that are meant in a profile, with the comments of those that are given.
+///
+/// # Errors
+/// Those of `cs_widen::stands_for_in`, and then those of [`export_all`].
+pub fn export_all_in(
+    alloc: Global,
+    profile: Profile,
+    sources: &[&[u8]],
+    layout: Layout,
+) -> Result<Vec<u8>, Fault>
+    ensures found { IfOk result (λ text. Means profile (bytes_in sources.now)
+        (λ meant. ArePackageSchemas meant layout text.items)) }
+    ensures refused { IfErr result (λ e. RefusesIn profile (bytes_in sources.now)
+        (λ meant. SourcesRefusal meant e) e) }
+{
+    match stands_for_in(alloc, profile, sources)? {
+        Some(meant) => exported_all(alloc, &[meant.as_bytes()], sources, layout),
+        None => exported_all(alloc, sources, sources, layout),
+    }
+}
+
+/// The same as [`export_root`], with the comments of other sources.
+fn exported_root(
+    alloc: Global,
+    sources: &[&[u8]],
+    commented: &[&[u8]],
+    root: &str,
+    layout: Layout,
+) -> Result<Vec<u8>, Fault>
+    ensures found { IfOk result (λ text. IsRootSchema (bytes_in sources.now) root.now layout text.items) }
+    ensures refused { IfErr result (λ e. ExportRefusal (bytes_in sources.now) root.now e) }
+    ensures only { IsReady (bytes_in sources.now) root.now → IsOkUnless result Fault.OutOfMemory }
+{
+    let package = read_root(alloc, sources, root)?;
+    let schema = compile(alloc, &package, root)?;
+    cs_instance::one_meaning(&package); // for the proof: there is one instance relation
+    cs_schema::one_meaning(&schema); // for the proof: there is one validity
+    shaped_text(alloc, &schema, commented, layout)
+}
+
+/// The same as [`export_all`], with the comments of other sources.
+fn exported_all(
+    alloc: Global,
+    sources: &[&[u8]],
+    commented: &[&[u8]],
+    layout: Layout,
+) -> Result<Vec<u8>, Fault>
+    ensures found { IfOk result (λ text. ArePackageSchemas (bytes_in sources.now) layout text.items) }
+    ensures refused { IfErr result (λ e. SourcesRefusal (bytes_in sources.now) e) }
+    ensures only { (E : Environment)
+        → IsAccepted (bytes_in sources.now) E → IsOkUnless result Fault.OutOfMemory }
+{
     let package = accepted_package(alloc, sources)?;
     let schema = compile_all(alloc, &package)?;
     cs_instance::one_meaning(&package); // for the proof: there is one instance relation
     cs_schema::one_meaning(&schema); // for the proof: there is one validity
-    shaped_text(alloc, &schema, sources, layout)
+    shaped_text(alloc, &schema, commented, layout)
 }

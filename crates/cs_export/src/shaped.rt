@@ -20,7 +20,7 @@ use cs_schema::{SchemaDoc, to_doc};
 use cs_tool::Fault;
 use std::alloc::Global;
 
-/// The text of a schema of these sources, without a newline.
+/// The text of a schema, without a newline, with the comments of these sources where they are asked for.
 pub(crate) fn shaped_text(
     alloc: Global,
     schema: &SchemaDoc,

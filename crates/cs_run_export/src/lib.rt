@@ -7,9 +7,9 @@ mod replaced;
 use crate::failure::Failure;
 use crate::replaced::replace_file;
 use clap::ArgMatches;
-use cs_export::{Layout, export_all, export_root, write_all, write_root};
+use cs_export::{Layout, export_all_in, export_root_in, write_all_in, write_root_in};
 use cs_reason_words::Form;
-use cs_run_input::{Unread, files_of, named, root_of, sources_of, told_form, word_of};
+use cs_run_input::{Unread, files_of, named, profile_of, root_of, sources_of, told_form, word_of};
 use cs_run_refusals::{about_input, about_sources, or_told, or_unread};
 use cs_tool::{Fault, Request, run, slices_of};
 use std::alloc::Global;
@@ -29,6 +29,7 @@ fn is_shaped(words: &ArgMatches<'_>) -> bool {
     layout.is_described
         || layout.is_openapi
         || layout.is_pretty
+        || words.get_str("profile").is_some()
         || words.get_flag("all")
         || words.get_str("output").is_some()
 }
@@ -91,19 +92,19 @@ fn write_schema(
 
 /// Writes the schema on standard output.
 fn print_schema(rt: &HostRuntime, words: &ArgMatches<'_>, sources: &[&[u8]]) -> Result<(), Fault> {
-    let layout = layout_of(words);
+    let (alloc, profile, layout) = (rt.alloc(), profile_of(words), layout_of(words));
     match words.get_str("root") {
-        Some(root) => write_root(rt.alloc(), sources, root, layout, &mut rt.stdout()),
-        None => write_all(rt.alloc(), sources, layout, &mut rt.stdout()),
+        Some(root) => write_root_in(alloc, profile, sources, root, layout, &mut rt.stdout()),
+        None => write_all_in(alloc, profile, sources, layout, &mut rt.stdout()),
     }
 }
 
 /// The line with the schema of the root, or with those of all definitions where none is given.
 fn schema_of(alloc: Global, words: &ArgMatches<'_>, sources: &[&[u8]]) -> Result<Vec<u8>, Fault> {
-    let layout = layout_of(words);
+    let (profile, layout) = (profile_of(words), layout_of(words));
     let mut schema = match words.get_str("root") {
-        Some(root) => export_root(alloc, sources, root, layout)?,
-        None => export_all(alloc, sources, layout)?,
+        Some(root) => export_root_in(alloc, profile, sources, root, layout)?,
+        None => export_all_in(alloc, profile, sources, layout)?,
     };
     schema.push(b'\n')?;
     Ok(schema)

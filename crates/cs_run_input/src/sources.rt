@@ -36,12 +36,3 @@ pub fn named_sources<'a>(
         Rules::Root { sources, .. } | Rules::Both { sources, .. } => named(alloc, names, sources),
     }
 }
-
-/// The texts of sources.
-pub fn texts_of<'a>(alloc: Global, sources: &[Named<'a>]) -> Result<Vec<&'a [u8]>, AllocError> {
-    let mut texts: Vec<&'a [u8]> = Vec::with_capacity(alloc, sources.len())?;
-    for source in sources {
-        texts.push(source.text)?;
-    }
-    Ok(texts)
-}

@@ -8,8 +8,9 @@ use crate::input::input_of;
 use crate::judged::{judge_by, why_of};
 use clap::ArgMatches;
 use cs_fault_words::About;
+use cs_judge::Why;
 use cs_place::Named;
-use cs_run_input::{STANDARD_INPUT, named_sources, told_form, word_of};
+use cs_run_input::{STANDARD_INPUT, meant_rules, named_sources, told_form, word_of};
 use cs_run_refusals::{about_sources, or_told, or_unread};
 use cs_tool::{Fault, Rules};
 
@@ -45,8 +46,22 @@ fn answer_by(
         document,
         ..about_sources(&sources, word_of(words, "root"))
     };
-    let answer = judge_by(rt, words, rules, document, why_of(words, &sources));
+    let answer = judge_meant(rt, words, rules, document, why_of(words, &sources));
     or_told(rt, told_form(words), about, words, answer)
+}
+
+/// The same by the rules that are meant in the profile that the words ask for.
+fn judge_meant(
+    rt: &HostRuntime,
+    words: &ArgMatches<'_>,
+    rules: &Rules,
+    document: Option<Named<'_>>,
+    why: Option<Why<'_>>,
+) -> Result<u8, Fault> {
+    match meant_rules(rt.alloc(), words, rules)? {
+        Some(meant) => judge_by(rt, words, &meant, document, why),
+        None => judge_by(rt, words, rules, document, why),
+    }
 }
 
 /// The schema that is judged by, if it is one, with its path.

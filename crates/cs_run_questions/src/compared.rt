@@ -10,10 +10,10 @@ use cs_judge::{Prepared, Why, prepare};
 use cs_place::Named;
 use cs_reason_words::Form;
 use cs_run_input::{
-    NO_FILE, Reasons, first_unread, named_sources, read_sources, reasons_of, texts_of, word_of,
+    NO_FILE, Reasons, first_unread, meant_rules, named_sources, read_sources, reasons_of, word_of,
 };
 use cs_run_refusals::{about_sources, is_of_reading, tell, tell_unread};
-use cs_tool::{Fault, Rules};
+use cs_tool::{Fault, Rules, slices_of};
 use std::alloc::Global;
 
 /// The name of the document that is shown, in what is told of it.
@@ -22,7 +22,9 @@ const SHOWN: &str = "document";
 /// An edition of a definition.
 #[derive(Clone, Copy)]
 struct Edition<'a> {
+    /// What is judged by: the sources, or what they stand for.
     rules: &'a Rules,
+    /// The sources as they were given.
     sources: &'a [Named<'a>],
     root: &'a str,
 }
@@ -106,7 +108,7 @@ fn compare_editions(
     before: Edition<'_>,
     after: Edition<'_>,
 ) -> Result<u8, Fault> {
-    match write_answers(rt, words, before, after) {
+    match write_meant(rt, words, before, after) {
         Ok(is_compatible) => Ok(if is_compatible { 0 } else { INVALID }),
         Err(refusal) => tell_of_sides(rt, words, refusal, before, after),
     }
@@ -160,6 +162,44 @@ fn tell_refusal(
     tell(rt, form, &fault, about, paths, word)
 }
 
+/// The rules that those of an edition stand for in the profile that the words ask for.
+fn meant_of(
+    alloc: Global,
+    words: &ArgMatches<'_>,
+    edition: Edition<'_>,
+    side: Side,
+) -> Result<Option<Rules>, CompareRefusal> {
+    match meant_rules(alloc, words, edition.rules) {
+        Ok(meant) => Ok(meant),
+        Err(fault) => Err(CompareRefusal {
+            side: Some(side),
+            fault,
+        }),
+    }
+}
+
+/// Writes the answers for what the editions stand for.
+fn write_meant(
+    rt: &HostRuntime,
+    words: &ArgMatches<'_>,
+    before: Edition<'_>,
+    after: Edition<'_>,
+) -> Result<bool, CompareRefusal> {
+    let old = meant_of(rt.alloc(), words, before, Side::Old)?;
+    let new = meant_of(rt.alloc(), words, after, Side::New)?;
+    let before = Edition::of(
+        old.as_ref().unwrap_or(before.rules),
+        before.sources,
+        before.root,
+    );
+    let after = Edition::of(
+        new.as_ref().unwrap_or(after.rules),
+        after.sources,
+        after.root,
+    );
+    write_answers(rt, words, before, after)
+}
+
 /// Writes whether old documents are new ones, and where both directions are asked for whether new documents are old ones.
 fn write_answers(
     rt: &HostRuntime,
@@ -201,14 +241,22 @@ fn told_answer(
     })
 }
 
+/// The texts of the sources of rules; none of a schema.
+fn texts_in(alloc: Global, rules: &Rules) -> Result<Vec<&[u8]>, Fault> {
+    match rules {
+        Rules::Schema { .. } => Ok(Vec::new(alloc)),
+        Rules::Root { sources, .. } | Rules::Both { sources, .. } => Ok(slices_of(alloc, sources)?),
+    }
+}
+
 /// Whether each document of an edition is one of the other edition.
 fn comparison(
     alloc: Global,
     from: Edition<'_>,
     to: Edition<'_>,
 ) -> Result<Comparison, CompareRefusal> {
-    let admitting = texts_of(alloc, from.sources)?;
-    let refusing = texts_of(alloc, to.sources)?;
+    let admitting = texts_in(alloc, from.rules)?;
+    let refusing = texts_in(alloc, to.rules)?;
     compare_sources(alloc, &admitting, from.root, &refusing, to.root)
 }
 

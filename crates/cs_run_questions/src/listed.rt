@@ -4,7 +4,7 @@ use cs_guard::Guarded;
 use cs_listing::{put_listing, put_listing_json};
 use cs_place::Named;
 use cs_reason_words::Form;
-use cs_run_input::{named, print, sources_of, told_form};
+use cs_run_input::{meant_source, named, print, sources_of, told_form};
 use cs_run_refusals::{about_sources, or_told, or_unread};
 use cs_tool::{Fault, accepted_package, slices_of};
 
@@ -19,11 +19,25 @@ fn listed(rt: &HostRuntime, words: &ArgMatches<'_>) -> Result<u8, Fault> {
     let named = named(rt.alloc(), words.get_strs("FILE").unwrap_or(&[]), &sources)?;
     let form = told_form(words);
     let is_json = matches!(form, Some(Form::Object(_)));
-    let answer = write_listing(rt, &sources, &named, is_json);
+    let answer = write_meant(rt, words, &sources, &named, is_json);
     or_told(rt, form, about_sources(&named, ""), words, answer)
 }
 
-/// Writes the definitions of these sources.
+/// Writes the definitions of what these sources stand for.
+fn write_meant(
+    rt: &HostRuntime,
+    words: &ArgMatches<'_>,
+    sources: &[Vec<u8>],
+    named: &[Named<'_>],
+    is_json: bool,
+) -> Result<u8, Fault> {
+    match meant_source(rt.alloc(), words, sources)? {
+        Some(meant) => write_listing(rt, &vec![in rt.alloc(); meant]?, named, is_json),
+        None => write_listing(rt, sources, named, is_json),
+    }
+}
+
+/// Writes the definitions of the package of these sources, whose places are in those that are named.
 fn write_listing(
     rt: &HostRuntime,
     sources: &[Vec<u8>],

@@ -2,7 +2,7 @@
 use crate::{INVALID, WARNED};
 use clap::ArgMatches;
 use cs_compare::write_lines;
-use cs_run_input::{named, sources_of, told_form, word_of};
+use cs_run_input::{meant_source, named, sources_of, told_form, word_of};
 use cs_run_refusals::{about_sources, or_told, or_unread};
 use cs_samples::{QuestionFault, SampleTexts, Sampled, samples};
 use cs_tool::{Fault, read_root, slices_of, write_text};
@@ -21,15 +21,26 @@ pub fn write_samples(rt: &HostRuntime, words: &ArgMatches<'_>) -> Result<u8, Fau
 fn written_or_told(rt: &HostRuntime, words: &ArgMatches<'_>) -> Result<u8, Fault> {
     let sources = sources_of(rt, words)?;
     let named = named(rt.alloc(), words.get_strs("FILE").unwrap_or(&[]), &sources)?;
-    let texts = slices_of(rt.alloc(), &sources)?;
     let about = about_sources(&named, word_of(words, "root"));
     or_told(
         rt,
         told_form(words),
         about,
         words,
-        written(rt, words, &texts),
+        written_of_meant(rt, words, &sources),
     )
+}
+
+/// Writes the documents of the root of what these sources stand for.
+fn written_of_meant(
+    rt: &HostRuntime,
+    words: &ArgMatches<'_>,
+    sources: &[Vec<u8>],
+) -> Result<u8, Fault> {
+    match meant_source(rt.alloc(), words, sources)? {
+        Some(meant) => written(rt, words, &[&meant]),
+        None => written(rt, words, &slices_of(rt.alloc(), sources)?),
+    }
 }
 
 /// Writes the documents of the root of these sources, and says what is left. What can't be said changes no status.

@@ -1,9 +1,9 @@
 // The command that writes sources as one.
 use clap::ArgMatches;
-use cs_run_input::{named, print, sources_of, told_form};
+use cs_run_input::{named, print, profile_of, sources_of, told_form};
 use cs_run_refusals::{about_sources, or_told, or_unread};
 use cs_tool::{Fault, slices_of};
-use cs_widen::widen;
+use cs_widen::{Profile, widen_in};
 
 /// The status of `widen`: a refusal is told as the words ask for it.
 pub fn write_widened(rt: &HostRuntime, words: &ArgMatches<'_>) -> Result<u8, Fault> {
@@ -15,13 +15,13 @@ fn widened(rt: &HostRuntime, words: &ArgMatches<'_>) -> Result<u8, Fault> {
     let sources = sources_of(rt, words)?;
     let named = named(rt.alloc(), words.get_strs("FILE").unwrap_or(&[]), &sources)?;
     let form = told_form(words);
-    let answer = write_source(rt, &sources);
+    let answer = write_source(rt, profile_of(words), &sources);
     or_told(rt, form, about_sources(&named, ""), words, answer)
 }
 
-/// Writes the source that these sources stand for.
-fn write_source(rt: &HostRuntime, sources: &[Vec<u8>]) -> Result<u8, Fault> {
-    let source = widen(rt.alloc(), &slices_of(rt.alloc(), sources)?)?;
+/// Writes the source that these sources stand for in a profile.
+fn write_source(rt: &HostRuntime, profile: Profile, sources: &[Vec<u8>]) -> Result<u8, Fault> {
+    let source = widen_in(rt.alloc(), profile, &slices_of(rt.alloc(), sources)?)?;
     print(rt, source.as_bytes())?;
     Ok(0)
 }
