@@ -4,7 +4,6 @@ use Rattle.std.proofs.Math.Numerals.{add-one}
 use Rattle.std.proofs.lemmas.List.{drop_all}
 use Rattle.std.proofs.lemmas.Bool.Decides.{nat_tests}
 use Rattle.std.specs.Prelude.{max, nat_le, ◌&&◌}
-use Rattle.cs_grammar.specs.declared.ast.Expr as Exprs
 use Rattle.cs_grammar.specs.declared.ast.Field.{Field}
 use Rattle.cs_grammar.specs.Tree as T
 use Rattle.cs_grammar.specs.Tree.{Tree}

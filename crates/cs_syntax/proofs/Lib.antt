@@ -28,3 +28,4 @@ pub mod UsedWords
 pub mod GrammarSamples
 pub mod Samples
 pub mod EarlierSamples
+pub mod ProfileSamples

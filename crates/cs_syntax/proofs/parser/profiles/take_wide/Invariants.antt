@@ -1,4 +1,3 @@
-use Rattle.std.proofs.Common.{◌≡◌, length}
 use Rattle.cs_grammar.specs.Taken.{wide_lexeme}
 use Rattle.cs_grammar.specs.View.{lexeme_view}
 use Rattle.cs_syntax.proofs.TakenTokens.{IsChanged}
