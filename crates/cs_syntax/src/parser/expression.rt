@@ -228,7 +228,7 @@ impl Parser<'_, '_> {
         Ok(Expr::And(operands))
     }
 
-    /// An operand of `|`, which may have a mark before it.
+    /// An operand of `|`. A `*` before it marks a default (CUE, default values).
     #[cycle(parse)]
     #[tactic(auto, unfolding(crate::specs::Reading::branch_with))]
     fn branch(&mut self, depth: usize) -> Result<Expr, SyntaxFault>
