@@ -504,6 +504,14 @@ def changed_since(words: list[str]) -> list[str]:
     return crates
 
 
+def linked_or_copied(file: str, to: str) -> None:
+    """The same file at another place, or a copy where the places are on two file systems."""
+    try:
+        os.link(file, to)
+    except OSError:
+        shutil.copy2(file, to)
+
+
 def proved_tree(crates: list[str], tree: Path) -> bool:
     """Proves these crates, and those that they stand on, in a copy of this tree over its kept work, whose files a check replaces and doesn't change."""
     lines = [it for it in (TOP / "crates.txt").read_text().split("\n") if re.match(r"[a-z]", it)]
@@ -520,7 +528,7 @@ def proved_tree(crates: list[str], tree: Path) -> bool:
     for crate in needed:
         for part in ("src", "specs", "proofs", "out"):
             if (TOP / "crates" / crate / part).is_dir():
-                copied = kit.rt().link_or_copy if part == "out" else shutil.copy2
+                copied = linked_or_copied if part == "out" else shutil.copy2
                 shutil.copytree(TOP / "crates" / crate / part, tree / "crates" / crate / part, copy_function=copied)
     subprocess.run(["git", "init", "-q", "."], cwd=tree, check=True)
     ran = run(["rt", "all", "check", "--jobs", jobs()], tree)
