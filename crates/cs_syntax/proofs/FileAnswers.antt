@@ -10,12 +10,14 @@ use Rattle.cs_grammar.specs.Tree.{FileTree}
 use Rattle.cs_syntax.specs.Height.{file_height}
 use Rattle.cs_syntax.specs.Nesting.{nesting}
 use Rattle.cs_grammar.specs.Spells.{SpellsFile}
+use Rattle.cs_grammar.specs.Taken.{taken}
 use Rattle.cs_grammar.specs.TokenWords.{words}
+use Rattle.cs_grammar.specs.declared.profile.Profile.{Profile}
 use Rattle.cs_syntax.specs.Reading.{◌>>=◌, Gives, file_at}
 use Rattle.cs_syntax.specs.Within.{if_low, if_deep, file_within}
 use Rattle.cs_lexer.specs.Lexed.{Answers, IsRefusal}
-use Rattle.cs_syntax.specs.Answer.{IsSpelled}
-use Rattle.cs_syntax.specs.Refusal.{IsFileRefusal}
+use Rattle.cs_syntax.specs.Answer.{IsSpelledIn}
+use Rattle.cs_syntax.specs.Refusal.{IsFileRefusalIn}
 use Rattle.cs_lexer.proofs.CutUnique.{cut_once, cut_not_stuck}
 use Rattle.cs_syntax.proofs.Soundness.{file_found}
 use Rattle.cs_syntax.proofs.Completeness.{read_within, read_file}
@@ -95,8 +97,8 @@ within_refused ts f is = by (nat_lt 28 (nesting ts)) refl is
     by true e k = let same : f ≡ faults.TooHigh = cc in inl (same, inl (is_above (nesting ts) e))
     by false e k = read_refused ts f (file_at ts) (is_at_most (nesting ts) e) refl k
 
-module _ {X : Type 0} (view : X → FileTree) (source : List ℕ) where
-  pub stuck_only : (e : SyntaxFault) → IsRefusal source e → (f : FileTree) → IsSpelled source f → Answers {X = X} view (Err e) f
+module _ {X : Type 0} (p : Profile) (view : X → FileTree) (source : List ℕ) where
+  pub stuck_only : (e : SyntaxFault) → IsRefusal source e → (f : FileTree) → IsSpelledIn p source f → Answers {X = X} view (Err e) f
   stuck_only faults.OutOfMemory h f s = tt
   stuck_only (faults.NoToken o) h f s = cut_not_stuck s.cut h
   stuck_only (faults.Syntax o) h f s = cut_not_stuck s.cut h
@@ -104,8 +106,8 @@ module _ {X : Type 0} (view : X → FileTree) (source : List ℕ) where
   stuck_only (faults.IntegerRange o) h f s = cut_not_stuck s.cut h
   stuck_only faults.TooHigh h f s = cut_not_stuck s.cut h
 
-  pub spelled_found : (r : Result X SyntaxFault) (ks : List Lexeme) → IsCut source ks → Gives view r (file_within (words ks)) → IfOk r (λ x. IsSpelled source (view x))
-  spelled_found (Ok x) ks cut g = let w = within_sound (words ks) (view x) g in record { tokens = ks; cut = cut; nested = w.0; spelled = w.1; low = w.2 }
+  pub spelled_found : (r : Result X SyntaxFault) (ks : List Lexeme) → IsCut source ks → Gives view r (file_within (words (taken p ks))) → IfOk r (λ x. IsSpelledIn p source (view x))
+  spelled_found (Ok x) ks cut g = let w = within_sound (words (taken p ks)) (view x) g in record { tokens = ks; cut = cut; nested = w.0; spelled = w.1; low = w.2 }
   spelled_found (Err e) ks cut g = tt
 
   answered : (r : Result X SyntaxFault) (f : FileTree) → Gives view r (Ok f) → Answers view r f
@@ -117,41 +119,41 @@ module _ {X : Type 0} (view : X → FileTree) (source : List ℕ) where
   answered (Err (faults.IntegerRange o)) f g = cc
   answered (Err faults.TooHigh) f g = cc
 
-  pub spelled_only : (r : Result X SyntaxFault) (ks : List Lexeme) → IsCut source ks → Gives view r (file_within (words ks)) → (f : FileTree) → IsSpelled source f → Answers view r f
+  pub spelled_only : (r : Result X SyntaxFault) (ks : List Lexeme) → IsCut source ks → Gives view r (file_within (words (taken p ks))) → (f : FileTree) → IsSpelledIn p source f → Answers view r f
   spelled_only r ks cut g f s =
       let same : s.tokens ≡ ks = cut_once s.cut cut in
-      let read : file_within (words ks) ≡ Ok f = sym (ap (λ js. file_within (words js)) same) ∙ within_complete (words s.tokens) f s.nested s.spelled s.low in
+      let read : file_within (words (taken p ks)) ≡ Ok f = sym (ap (λ js. file_within (words (taken p js))) same) ∙ within_complete (words (taken p s.tokens)) f s.nested s.spelled s.low in
       answered r f (subst (λ m. Gives view r m) read g)
 
-module _ (source : List ℕ) (ks : List Lexeme) (cut : IsCut source ks) where
-  fault_read : (e : SyntaxFault) (f : FileTree) → nesting (words ks) ≤ 28 → file_at (words ks) ≡ Err e → SpellsFile f (words ks) → ⊥
+module _ (p : Profile) (source : List ℕ) (ks : List Lexeme) (cut : IsCut source ks) where
+  fault_read : (e : SyntaxFault) (f : FileTree) → nesting (words (taken p ks)) ≤ 28 → file_at (words (taken p ks)) ≡ Err e → SpellsFile f (words (taken p ks)) → ⊥
   fault_read e f n h s = apart (sym h ∙ read_file n s)
     where
       apart : ◌≡◌ {A = Result FileTree SyntaxFault} (Err e) (Ok f) → ⊥
       apart k = cc
 
   -- a fault of reading is at a word
-  never : (e : SyntaxFault) → is_of_word e ≡ false → file_at (words ks) ≡ Err e → ⊥
-  never e n h = let w = fault_of_word (words ks) e (file_fault (words ks) (cut_ended cut) e h) in absurd cc
+  never : (e : SyntaxFault) → is_of_word e ≡ false → file_at (words (taken p ks)) ≡ Err e → ⊥
+  never e n h = let w = fault_of_word (words (taken p ks)) e (file_fault (words (taken p ks)) (cut_ended p cut) e h) in absurd cc
 
-  refusal : (e : SyntaxFault) → Refused e (words ks) → IsFileRefusal source e
+  refusal : (e : SyntaxFault) → Refused e (words (taken p ks)) → IsFileRefusalIn p source e
   refusal faults.OutOfMemory r = tt
   refusal (faults.NoToken o) (inl h) = let e = h.0 in absurd cc
   refusal (faults.NoToken o) (inr h) = absurd (never (faults.NoToken o) refl h.1)
   refusal (faults.IntegerRange o) (inl h) = let e = h.0 in absurd cc
   refusal (faults.IntegerRange o) (inr h) = absurd (never (faults.IntegerRange o) refl h.1)
   refusal (faults.Syntax o) (inl h) = let e = h.0 in absurd cc
-  refusal (faults.Syntax o) (inr h) = record { tokens = ks; cut = cut; nested = h.0; no_file = λ t s. fault_read (faults.Syntax o) t h.0 h.1 s; place = file_fault (words ks) (cut_ended cut) (faults.Syntax o) h.1 }
+  refusal (faults.Syntax o) (inr h) = record { tokens = ks; cut = cut; nested = h.0; no_file = λ t s. fault_read (faults.Syntax o) t h.0 h.1 s; place = file_fault (words (taken p ks)) (cut_ended p cut) (faults.Syntax o) h.1 }
   refusal (faults.LeftOut o) (inl h) = let e = h.0 in absurd cc
-  refusal (faults.LeftOut o) (inr h) = record { tokens = ks; cut = cut; nested = h.0; no_file = λ t s. fault_read (faults.LeftOut o) t h.0 h.1 s; place = file_fault (words ks) (cut_ended cut) (faults.LeftOut o) h.1 }
+  refusal (faults.LeftOut o) (inr h) = record { tokens = ks; cut = cut; nested = h.0; no_file = λ t s. fault_read (faults.LeftOut o) t h.0 h.1 s; place = file_fault (words (taken p ks)) (cut_ended p cut) (faults.LeftOut o) h.1 }
   refusal faults.TooHigh (inl h) = record { tokens = ks; cut = cut; high = h.1 }
   refusal faults.TooHigh (inr h) = absurd (never faults.TooHigh refl h.1)
 
-pub file_refused : {X : Type 0} (view : X → FileTree) (source : List ℕ) (r : Result X SyntaxFault) (ks : List Lexeme) → IsCut source ks → Gives view r (file_within (words ks)) → IfErr r (λ f. IsFileRefusal source f)
-file_refused view source (Ok x) ks cut g = tt
-file_refused view source (Err faults.OutOfMemory) ks cut g = tt
-file_refused view source (Err (faults.Syntax o)) ks cut g = refusal source ks cut (faults.Syntax o) (within_refused (words ks) (faults.Syntax o) g)
-file_refused view source (Err (faults.LeftOut o)) ks cut g = refusal source ks cut (faults.LeftOut o) (within_refused (words ks) (faults.LeftOut o) g)
-file_refused view source (Err (faults.NoToken o)) ks cut g = refusal source ks cut (faults.NoToken o) (within_refused (words ks) (faults.NoToken o) g)
-file_refused view source (Err (faults.IntegerRange o)) ks cut g = refusal source ks cut (faults.IntegerRange o) (within_refused (words ks) (faults.IntegerRange o) g)
-file_refused view source (Err faults.TooHigh) ks cut g = refusal source ks cut faults.TooHigh (within_refused (words ks) faults.TooHigh g)
+pub file_refused : {X : Type 0} (p : Profile) (view : X → FileTree) (source : List ℕ) (r : Result X SyntaxFault) (ks : List Lexeme) → IsCut source ks → Gives view r (file_within (words (taken p ks))) → IfErr r (λ f. IsFileRefusalIn p source f)
+file_refused p view source (Ok x) ks cut g = tt
+file_refused p view source (Err faults.OutOfMemory) ks cut g = tt
+file_refused p view source (Err (faults.Syntax o)) ks cut g = refusal p source ks cut (faults.Syntax o) (within_refused (words (taken p ks)) (faults.Syntax o) g)
+file_refused p view source (Err (faults.LeftOut o)) ks cut g = refusal p source ks cut (faults.LeftOut o) (within_refused (words (taken p ks)) (faults.LeftOut o) g)
+file_refused p view source (Err (faults.NoToken o)) ks cut g = refusal p source ks cut (faults.NoToken o) (within_refused (words (taken p ks)) (faults.NoToken o) g)
+file_refused p view source (Err (faults.IntegerRange o)) ks cut g = refusal p source ks cut (faults.IntegerRange o) (within_refused (words (taken p ks)) (faults.IntegerRange o) g)
+file_refused p view source (Err faults.TooHigh) ks cut g = refusal p source ks cut faults.TooHigh (within_refused (words (taken p ks)) faults.TooHigh g)

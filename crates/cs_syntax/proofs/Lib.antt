@@ -20,6 +20,10 @@ pub mod LabelledWords
 pub mod EarlierNesting
 pub mod Depths
 pub mod Heights
+-- what the profiles have to do with each other
+pub mod TakenTokens
+pub mod StarlessWords
+pub mod UsedWords
 -- samples
 pub mod GrammarSamples
 pub mod Samples

@@ -170,9 +170,9 @@ chained_text s p (colon q ∷ ws) = refl
 chained_text s p (w ∷ ws) = refl
 
 -- behind a label without a mark
-unmarked : (b : Bool) → b || false ≡ b
-unmarked true = refl
-unmarked false = refl
+or_false : (b : Bool) → b || false ≡ b
+or_false true = refl
+or_false false = refl
 
 chained_bracket : (s : List ℕ) (q p o : ℕ) (ws : Words) → is_string s ≡ true → is_short (close_list q ∷ name s p ∷ open_list o ∷ ws) ≡ begins_colon ws
 chained_bracket s q p o [] e = refl
@@ -183,10 +183,10 @@ counted_runs : {k : ℕ} {ws ts : Words} {b c : Bool} (ns : OpenLevels) → b �
 counted_runs {k} {ws} {ts} ns e h = subst (λ b. Runs k ws (counted_if b ns) ts) e h
 
 value_begins : {k : ℕ} {l : Label} {m : FieldMark} {ws ts us vs : Words} {ns : OpenLevels} → SpellsLabel l ts us → SpellsMark m us vs → Runs k ws ns ts → ToValue k (counted_if (begins_colon ws) ns) vs
-value_begins {ws = ws} {ns = ns} (bare_label {s} {p}) regular h = (_, _, counted_runs ns (unmarked _ ∙ chained_name s p ws) (pass (pass h)))
+value_begins {ws = ws} {ns = ns} (bare_label {s} {p}) regular h = (_, _, counted_runs ns (or_false _ ∙ chained_name s p ws) (pass (pass h)))
 value_begins {ws = ws} {ns = ns} (bare_label {s} {p}) optional h = (_, _, counted_runs ns (chained_name s p ws) (pass (pass (pass h))))
 value_begins {ws = ws} {ns = ns} (bare_label {s} {p}) required h = (_, _, counted_runs ns (chained_name s p ws) (pass (pass (pass h))))
-value_begins {ws = ws} {ns = ns} (quoted_label {s} {p}) regular h = (_, _, counted_runs ns (unmarked _ ∙ chained_text s p ws) (pass (pass h)))
+value_begins {ws = ws} {ns = ns} (quoted_label {s} {p}) regular h = (_, _, counted_runs ns (or_false _ ∙ chained_text s p ws) (pass (pass h)))
 value_begins {ws = ws} {ns = ns} (quoted_label {s} {p}) optional h = (_, _, counted_runs ns (chained_text s p ws) (pass (pass (pass h))))
 value_begins {ws = ws} {ns = ns} (quoted_label {s} {p}) required h = (_, _, counted_runs ns (chained_text s p ws) (pass (pass (pass h))))
 

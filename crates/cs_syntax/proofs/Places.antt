@@ -9,7 +9,11 @@ use Rattle.cs_grammar.specs.declared.kind.Kind.TheVariants as kinds
 use Rattle.cs_grammar.specs.Atom as atoms
 use Rattle.cs_grammar.specs.declared.line.LineState.{LineState}
 use Rattle.cs_grammar.specs.declared.line.LineState.TheVariants.{Plain, WantsComma, Minus}
-use Rattle.cs_grammar.specs.Cut.{Lexeme, comma_if, Cut, blank, new_line, comment, token, finish}
+use Rattle.cs_grammar.specs.declared.profile.Profile.{Profile}
+use Rattle.cs_grammar.specs.declared.profile.Profile.TheVariants as profiles
+use Rattle.cs_grammar.specs.declared.token.Sort.TheVariants as sorts
+use Rattle.cs_grammar.specs.Taken.{taken}
+use Rattle.cs_grammar.specs.Cut.{Lexeme, lexeme, comma_if, Cut, blank, new_line, comment, token, finish}
 use Rattle.cs_grammar.specs.Stuck.{Stuck, no_token, too_large, past_blank, past_line, past_comment, past_token}
 use Rattle.cs_grammar.specs.Words as W
 use Rattle.std.specs.Prelude.{◌&&◌, ◌||◌, not, cond}
@@ -20,7 +24,7 @@ use Rattle.cs_grammar.specs.TokenWords.{words}
 use Rattle.cs_syntax.specs.Reading.{◌>>=◌, Read, word_kind, begins_with, begins_comma, fault_at, behind_if, after, after_comma, or_fault, beyond, comma_at, close_at, paren_end, expected, signed, number_or, number_at, name_or, null_or, bound_at, unequal_at, integer_at, unbracketed_at, or_more, many, another_field, another_element, opening, opening_if, opening_at, rest_behind, may_end, label_at, mark_if, mark_at, begins_string, string_at, every_key_at, head_if, head_at, field_with, fields_with, struct_if, struct_with, rest_if, rest_with, end_if, end_with, elements_with, list_if, list_with, operand_with, amps_with, conj_with, branch_if, branch_with, bars_with, expr_with, value_if, begins_field, inner, definition_at, line_at, before_end, definitions_at, is_clause, clause_at, package_if, package_at, whole, file_with, file_at}
 use Rattle.cs_syntax.specs.Place.{is_left_out, fault_if, Ends, same, past, IsFaultIn}
 use Rattle.cs_lexer.specs.Lexed.{IsRefusal}
-use Rattle.cs_syntax.specs.Refusal.{IsFileRefusal}
+use Rattle.cs_syntax.specs.Refusal.{IsFileRefusalIn}
 
 -- ---- the words of a source end with the end
 
@@ -28,17 +32,26 @@ pub data WellEnded : Words → Type 0 where
   last : {p : ℕ} → WellEnded (W.finish p ∷ [])
   before : {w : Word} {ts : Words} → WellEnded ts → WellEnded (w ∷ ts)
 
-comma_ended : (l : LineState) (o : ℕ) (ks : List Lexeme) → WellEnded (words ks) → WellEnded (words (comma_if l o ks))
-comma_ended WantsComma o ks h = before h
-comma_ended Plain o ks h = h
-comma_ended Minus o ks h = h
+-- in either profile
+one_before : (p : Profile) (k : Lexeme) (ks : List Lexeme) → WellEnded (words (taken p ks)) → WellEnded (words (taken p (k ∷ ks)))
+one_before profiles.Default k ks h = before h
+one_before profiles.Wide k ks h = before h
 
-pub cut_ended : {bs : List ℕ} {o : ℕ} {l : LineState} {ks : List Lexeme} → Cut bs o l ks → WellEnded (words ks)
-cut_ended (blank h k) = cut_ended k
-cut_ended (new_line {o = o} {l = l} {ks = ks} h k) = comma_ended l o ks (cut_ended k)
-cut_ended (comment {o = o} {l = l} {ks = ks} h k) = comma_ended l o ks (cut_ended k)
-cut_ended (token h k) = before (cut_ended k)
-cut_ended (finish {o} {l}) = comma_ended l o _ last
+comma_ended : (p : Profile) (l : LineState) (o : ℕ) (ks : List Lexeme) → WellEnded (words (taken p ks)) → WellEnded (words (taken p (comma_if l o ks)))
+comma_ended p WantsComma o ks h = one_before p _ ks h
+comma_ended p Plain o ks h = h
+comma_ended p Minus o ks h = h
+
+end_last : (p : Profile) (o : ℕ) → WellEnded (words (taken p (lexeme sorts.End [] o ∷ [])))
+end_last profiles.Default o = last
+end_last profiles.Wide o = last
+
+pub cut_ended : (p : Profile) {bs : List ℕ} {o : ℕ} {l : LineState} {ks : List Lexeme} → Cut bs o l ks → WellEnded (words (taken p ks))
+cut_ended p (blank h k) = cut_ended p k
+cut_ended p (new_line {o = o} {l = l} {ks = ks} h k) = comma_ended p l o ks (cut_ended p k)
+cut_ended p (comment {o = o} {l = l} {ks = ks} h k) = comma_ended p l o ks (cut_ended p k)
+cut_ended p (token h k) = one_before p _ _ (cut_ended p k)
+cut_ended p (finish {o} {l}) = comma_ended p l o _ (end_last p o)
 
 -- ---- reading goes on, or stops at a word
 
@@ -373,13 +386,13 @@ stuck_lexical (past_line h k) = stuck_lexical k
 stuck_lexical (past_comment h k) = stuck_lexical k
 stuck_lexical (past_token h k) = stuck_lexical k
 
-pub stuck_refused : (source : List ℕ) (f : SyntaxFault) → IsRefusal source f → IsFileRefusal source f
-stuck_refused source faults.OutOfMemory h = tt
-stuck_refused source (faults.NoToken o) h = h
-stuck_refused source (faults.IntegerRange o) h = h
-stuck_refused source (faults.Syntax o) h = let e = stuck_lexical h in absurd cc
-stuck_refused source (faults.LeftOut o) h = let e = stuck_lexical h in absurd cc
-stuck_refused source faults.TooHigh h = let e = stuck_lexical h in absurd cc
+pub stuck_refused : (p : Profile) (source : List ℕ) (f : SyntaxFault) → IsRefusal source f → IsFileRefusalIn p source f
+stuck_refused p source faults.OutOfMemory h = tt
+stuck_refused p source (faults.NoToken o) h = h
+stuck_refused p source (faults.IntegerRange o) h = h
+stuck_refused p source (faults.Syntax o) h = let e = stuck_lexical h in absurd cc
+stuck_refused p source (faults.LeftOut o) h = let e = stuck_lexical h in absurd cc
+stuck_refused p source faults.TooHigh h = let e = stuck_lexical h in absurd cc
 
 abbrev pub is_of_word : SyntaxFault → Bool
 is_of_word (faults.Syntax o) = true

@@ -12,7 +12,10 @@ use Rattle.cs_grammar.specs.declared.line.LineState.TheVariants.{Plain, WantsCom
 use Rattle.cs_grammar.specs.declared.kind.Kind.{Kind}
 use Rattle.cs_grammar.specs.declared.kind.Kind.TheVariants as kinds
 use Rattle.cs_grammar.specs.Spelling.{is_letter, is_digit, is_name_byte, is_integer, is_definition_rest, used_marks, left_out_marks, mark_sort, sort_if, underscore_sort, sort_of}
-use Rattle.cs_grammar.specs.Cut.{Lexeme, comma_if, Cut, blank, new_line, comment, token, finish}
+use Rattle.cs_grammar.specs.declared.profile.Profile.{Profile}
+use Rattle.cs_grammar.specs.declared.profile.Profile.TheVariants as profiles
+use Rattle.cs_grammar.specs.Taken.{wide_sort, taken}
+use Rattle.cs_grammar.specs.Cut.{Lexeme, lexeme, comma_if, Cut, blank, new_line, comment, token, finish}
 use Rattle.cs_grammar.specs.View.{lexemes_view}
 use Rattle.cs_grammar.specs.TokenWords.{mark_kind, kind_of}
 use Rattle.cs_lexer.specs.Quoted.{begins_quote, is_quoted, are_quoted}
@@ -81,6 +84,22 @@ cut_quoted (comment {l} h k) = comma_quoted l _ _ (cut_quoted k)
 cut_quoted (token h k) = rw (sort_quoted _ _ h.token.spelled, cut_quoted k) refl
 cut_quoted (finish {l}) = comma_quoted l _ _ refl
 
+-- in the wide profile, too
+wide_quoted : (s : Sort) (t : List ℕ) → is_quoted s t ≡ true → is_quoted (wide_sort s t) t ≡ true
+wide_quoted sorts.LeftOut t h = by (bytes_eq t (codes "*"))
+  where
+    by : (b : Bool) → is_quoted (cond b sorts.Mark sorts.LeftOut) t ≡ true
+    by true = refl
+    by false = refl
+wide_quoted s t h = h
+
+pub taken_quoted : (p : Profile) (ks : List Lexeme) → are_quoted ks ≡ true → are_quoted (taken p ks) ≡ true
+taken_quoted profiles.Default ks h = h
+taken_quoted profiles.Wide [] h = refl
+taken_quoted profiles.Wide (lexeme s t o ∷ ks) h =
+    let q = and_parts (is_quoted s t) (are_quoted ks) h in
+    rw (wide_quoted s t q.0, taken_quoted profiles.Wide ks q.1) refl
+
 -- ---- a token among them
 
 abbrev is_text_kind : Kind → Bool
@@ -115,7 +134,8 @@ mark_no_text t =
     unless (bytes_eq t (codes ">=")) kinds.AtLeast refl (
     unless (bytes_eq t (codes "!=")) kinds.Unequal refl (
     unless (bytes_eq t (codes "-")) kinds.Minus refl (
-    record { is = refl })))))))))))))))))))
+    unless (bytes_eq t (codes "*")) kinds.Star refl (
+    record { is = refl }))))))))))))))))))))
 
 text_quoted : (s : Sort) (t : List ℕ) → kind_of s t ≡ kinds.Text → is_quoted s t ≡ true → begins_quote t ≡ true
 text_quoted sorts.Text t k h = h

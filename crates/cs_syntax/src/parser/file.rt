@@ -21,7 +21,7 @@ use crate::parser::kind::kind_of;
 use crate::parser::name::{bare_name, is_package};
 use crate::parser::nesting::{MOST_NESTED, is_too_nested};
 use crate::parser::place::{Parser, fault_of};
-use crate::parser::profiles::take_marks;
+use crate::parser::profiles::taken;
 use cs_grammar::{Definition, File, Kind, Profile, SyntaxFault, Token};
 use cs_lexer::lex;
 use std::alloc::Global;
@@ -175,9 +175,8 @@ pub fn parse_file_in(alloc: Global, profile: Profile, source: &str) -> Result<Fi
     // file of the profile, of whatever height, and the place of one of them, or that it is too high.
     ensures refused { IfErr result (λ f. IsFileRefusalIn profile source.now f) }
 {
-    let mut tokens = lex(alloc, source)?;
-    take_marks(profile, &mut tokens);
-    file_within(alloc, &tokens)
+    let tokens = lex(alloc, source)?;
+    file_within(alloc, &taken(profile, tokens))
 }
 
 /// The file that a source spells (CUE, source file organization).

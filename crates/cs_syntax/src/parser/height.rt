@@ -23,8 +23,8 @@ fn is_low(expr: &Expr, limit: usize) -> bool
         Expr::List { front, end } => are_low(front, inside) && is_low_end(end, inside),
         Expr::Wide(wide) => is_low_wide(wide, limit),
         // The others have no parts.
-        Expr::Top | Expr::Bottom | Expr::Null | Expr::Bool(_) | Expr::Int(_) | Expr::Text(_) =>
-            true,
+        Expr::Top | Expr::Bottom | Expr::Null => true,
+        Expr::Bool(_) | Expr::Int(_) | Expr::Text(_) => true,
         Expr::Name { .. } | Expr::Reference { .. } => true,
         Expr::Bound { .. } | Expr::NotInt(_) | Expr::NotText(_) | Expr::NotNull => true,
     }

@@ -1,9 +1,9 @@
 // The tokens as a profile takes them, and what one profile has to do with the other.
 
-ghost use Rattle.std.specs.Prelude.{◌≡◌, ℕ, List};
+ghost use Rattle.std.specs.Prelude.{◌≡◌, ℕ, List, map};
 ghost use Rattle.cs_grammar.specs.DefaultForms.{IsDefaultFile};
 ghost use Rattle.cs_grammar.specs.Source.{IsSpelledBy};
-ghost use Rattle.cs_grammar.specs.Taken.{taken, wide_sort};
+ghost use Rattle.cs_grammar.specs.Taken.{taken, wide_lexeme, wide_sort};
 ghost use Rattle.cs_grammar.specs.Tree.{FileTree};
 ghost use Rattle.cs_grammar.specs.View.{lexemes_view};
 ghost use Rattle.cs_grammar.specs.declared.profile.Profile.TheVariants as profiles;
@@ -22,16 +22,24 @@ fn wide_sort(sort: Sort, text: &str) -> Sort
     }
 }
 
-/// Takes tokens as a profile does.
-pub(crate) fn take_marks(profile: Profile, tokens: &mut [Token<'_>])
-    ensures { lexemes_view tokens.new ≡ taken profile (lexemes_view tokens.old) }
+/// Takes tokens as the wide profile does.
+fn take_wide(tokens: &mut [Token<'_>])
+    ensures { lexemes_view tokens.new ≡ map wide_lexeme (lexemes_view tokens.old) }
 {
-    if profile == Profile::Default {
-        return;
-    }
     for token in tokens.iter_mut() {
         token.sort = wide_sort(token.sort, token.text);
     }
+}
+
+/// Tokens as a profile takes them.
+pub(crate) fn taken<'a>(profile: Profile, mut tokens: Vec<Token<'a>>) -> Vec<Token<'a>>
+    ensures { lexemes_view result.items ≡ taken profile (lexemes_view tokens.entry.items) }
+{
+    match profile {
+        Profile::Default => {}
+        Profile::Wide => take_wide(&mut tokens),
+    }
+    tokens
 }
 
 /// A file of the default profile has no form of the wide one.

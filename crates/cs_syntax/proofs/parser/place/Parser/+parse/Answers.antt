@@ -89,7 +89,7 @@ bars-loop-preserved t c =
     let k = length c.args.self.now.tokens.now - c.loop.counter in
     let n = length c.args.self.now.tokens.now - (c.loop.counter + 1) in
     let is : k ≡ suc n = omega arith in
-    rw c.in_ok-push.ensures.items (goes_on expr_view (after kinds.Bar) (branch_with (inner c.args.depth)) c.loop.operands.items c.in_ok-branch.field-0 k n (left c.loop.self) (left c.skip.new.self) (left c.branch.new.self) is c.if-not-skip.ensures c.in_ok-branch.ensures ∙ c.loop.invariant)
+    rw c.in_ok-push.ensures.items (goes_on expr_view (after kinds.Bar) (branch_with (inner c.args.depth)) c.loop.operands.items c.in_ok-branch.field-0 k n (left c.loop.self) (left c.skip.new.self) (left c.branch-self.new.self) is c.if-not-skip.ensures c.in_ok-branch.ensures ∙ c.loop.invariant)
 
 pub bars-returns-then-not-skip : goal.bars-returns-then-not-skip
 bars-returns-then-not-skip t c = sym c.loop.invariant ∙ ends expr_view (after kinds.Bar) (branch_with (inner c.args.depth)) c.loop.operands.items _ (left c.loop.self) c.if-not-skip.ensures.0 ∙ ap (λ ts. Ok (map expr_view c.loop.operands.items, ts)) (sym c.if-not-skip.ensures.1)

@@ -1,0 +1,169 @@
+-- Words that spell a file have none of a form that is left out, so the wide profile takes the same words.
+use Rattle.std.proofs.Common.{◌≡◌, ℕ, ◌≤◌, ℤ, Bool, true, false, List, [], ◌∷◌, map, Option, refl, sym, subst}
+use Rattle.cs_grammar.specs.declared.ast.FieldMark.{FieldMark}
+use Rattle.cs_grammar.specs.declared.profile.Profile.TheVariants as profiles
+use Rattle.cs_grammar.specs.declared.token.Sort.TheVariants as sorts
+use Rattle.cs_grammar.specs.Cut.{Lexeme, lexeme}
+use Rattle.cs_grammar.specs.Spells.{Comma, explicit, inserted, ClosesParen, paren_here, paren_after, ClosesList, list_here, list_after, ClosesStruct, struct_here, struct_after, SpellsNumber, positive, negative, SpellsBound, limit_is, other_number, other_text, other_null, SpellsLabel, bare_label, quoted_label, SpellsMark, regular, optional, required, SpellsOpening, unopened, opened, SpellsValue, long, short, SpellsField, labelled, every_key, SpellsExpr, one_branch, disjunction_is, SpellsBars, no_bar, a_bar, SpellsBranch, unmarked, marked_is, SpellsConj, one_operand, conjunction_is, SpellsAmps, no_amp, an_amp, SpellsOperand, top_is, bottom_is, reference_is, name_is, number_is, text_is, bound_is, paren_is, struct_is, list_is, SpellsStruct, no_fields, dots_alone, fields, SpellsFields, no_more_fields, next_field, SpellsList, no_elements, rest_alone, elements, SpellsElements, no_more_elements, next_element, SpellsEnd, closed_is, rest_is, SpellsRest, any_is, each_is, SpellsDefinition, defined, SpellsDefinitions, no_definition, next_definition, SpellsPackage, no_clause, clause, SpellsFile, spelled}
+use Rattle.cs_grammar.specs.Taken.{wide_lexeme}
+use Rattle.cs_grammar.specs.TokenWords.{word, words}
+use Rattle.cs_grammar.specs.Tree.{Label, Tree, Trees, Fields, End, DefinitionTree, FileTree}
+use Rattle.cs_grammar.specs.Words.{Word, Words, left_out}
+use Rattle.cs_syntax.specs.Answer.{IsSpelled, IsSpelledIn}
+use Rattle.cs_syntax.specs.Nesting.{nesting, most_nested}
+
+abbrev is_unused : Word → Bool
+is_unused (left_out o) = true
+is_unused _ = false
+
+-- each of the words is one of the grammar
+abbrev Used : Words → Type 0
+Used [] = Unit {0}
+Used (w ∷ ts) = (is_unused w ≡ false) × Used ts
+
+-- ---- marks, numbers and labels
+
+of_comma : {ts r : Words} → Comma ts r → Used r → Used ts
+of_comma explicit h = (refl, h)
+of_comma inserted h = (refl, h)
+
+of_paren_end : {ts r : Words} → ClosesParen ts r → Used r → Used ts
+of_paren_end paren_here h = (refl, h)
+of_paren_end paren_after h = (refl, (refl, h))
+
+of_list_end : {ts r : Words} → ClosesList ts r → Used r → Used ts
+of_list_end list_here h = (refl, h)
+of_list_end (list_after c) h = of_comma c (refl, h)
+
+of_struct_end : {ts r : Words} → ClosesStruct ts r → Used r → Used ts
+of_struct_end struct_here h = (refl, h)
+of_struct_end (struct_after c) h = of_comma c (refl, h)
+
+of_number : {z : ℤ} {ts r : Words} → SpellsNumber z ts r → Used r → Used ts
+of_number (positive fits) h = (refl, h)
+of_number (negative is fits) h = (refl, (refl, h))
+
+of_bound : {e : Tree} {ts r : Words} → SpellsBound e ts r → Used r → Used ts
+of_bound (limit_is n) h = (refl, of_number n h)
+of_bound (other_number n) h = (refl, of_number n h)
+of_bound other_text h = (refl, (refl, h))
+of_bound (other_null is) h = (refl, (refl, h))
+
+of_label : {l : Label} {ts r : Words} → SpellsLabel l ts r → Used r → Used ts
+of_label bare_label h = (refl, h)
+of_label quoted_label h = (refl, h)
+
+of_mark : {m : FieldMark} {ts r : Words} → SpellsMark m ts r → Used r → Used ts
+of_mark regular h = (refl, h)
+of_mark optional h = (refl, (refl, h))
+of_mark required h = (refl, (refl, h))
+
+of_opening : {b : Bool} {ts r : Words} → SpellsOpening b ts r → Used r → Used ts
+of_opening (unopened c) h = of_struct_end c h
+of_opening (opened c d) h = of_comma c (refl, of_struct_end d h)
+
+-- ---- values
+
+mutual
+  of_value : {e : Tree} {ts r : Words} → SpellsValue e ts r → Used r → Used ts
+  of_value (long e) h = of_expr e h
+  of_value (short o f) h = of_field f h
+
+  of_field : {l : Label} {m : FieldMark} {e : Tree} {ts r : Words} → SpellsField l m e ts r → Used r → Used ts
+  of_field (labelled l m v) h = of_label l (of_mark m (of_value v h))
+  of_field (every_key s v) h = (refl, (refl, (refl, (refl, of_value v h))))
+
+  of_expr : {e : Tree} {ts r : Words} → SpellsExpr e ts r → Used r → Used ts
+  of_expr (one_branch c) h = of_branch c h
+  of_expr (disjunction_is c b) h = of_branch c (of_bars b h)
+
+  of_bars : {es : Trees} {ts r : Words} → SpellsBars es ts r → Used r → Used ts
+  of_bars no_bar h = h
+  of_bars (a_bar c b) h = (refl, of_branch c (of_bars b h))
+
+  of_branch : {e : Tree} {ts r : Words} → SpellsBranch e ts r → Used r → Used ts
+  of_branch (unmarked c) h = of_conj c h
+  of_branch (marked_is c) h = (refl, of_conj c h)
+
+  of_conj : {e : Tree} {ts r : Words} → SpellsConj e ts r → Used r → Used ts
+  of_conj (one_operand o) h = of_operand o h
+  of_conj (conjunction_is o a) h = of_operand o (of_amps a h)
+
+  of_amps : {es : Trees} {ts r : Words} → SpellsAmps es ts r → Used r → Used ts
+  of_amps no_amp h = h
+  of_amps (an_amp o a) h = (refl, of_operand o (of_amps a h))
+
+  of_operand : {e : Tree} {ts r : Words} → SpellsOperand e ts r → Used r → Used ts
+  of_operand top_is h = (refl, h)
+  of_operand bottom_is h = (refl, h)
+  of_operand reference_is h = (refl, h)
+  of_operand (name_is k e) h = (refl, h)
+  of_operand (number_is n) h = of_number n h
+  of_operand text_is h = (refl, h)
+  of_operand (bound_is b) h = of_bound b h
+  of_operand (paren_is e c) h = (refl, of_expr e (of_paren_end c h))
+  of_operand (struct_is s) h = (refl, of_struct s h)
+  of_operand (list_is s) h = (refl, of_list s h)
+
+  of_struct : {fs : Fields} {b : Bool} {ts r : Words} → SpellsStruct fs b ts r → Used r → Used ts
+  of_struct no_fields h = (refl, h)
+  of_struct (dots_alone c) h = (refl, of_struct_end c h)
+  of_struct (fields f fs o) h = of_field f (of_fields fs (of_opening o h))
+
+  of_fields : {fs : Fields} {ts r : Words} → SpellsFields fs ts r → Used r → Used ts
+  of_fields no_more_fields h = h
+  of_fields (next_field c f fs) h = of_comma c (of_field f (of_fields fs h))
+
+  of_list : {es : Trees} {end : End} {ts r : Words} → SpellsList es end ts r → Used r → Used ts
+  of_list no_elements h = (refl, h)
+  of_list (rest_alone s) h = (refl, of_rest s h)
+  of_list (elements e es s) h = of_expr e (of_elements es (of_end s h))
+
+  of_elements : {es : Trees} {ts r : Words} → SpellsElements es ts r → Used r → Used ts
+  of_elements no_more_elements h = h
+  of_elements (next_element e es) h = (refl, of_expr e (of_elements es h))
+
+  of_end : {end : End} {ts r : Words} → SpellsEnd end ts r → Used r → Used ts
+  of_end (closed_is c) h = of_list_end c h
+  of_end (rest_is s) h = (refl, (refl, of_rest s h))
+
+  of_rest : {end : End} {ts r : Words} → SpellsRest end ts r → Used r → Used ts
+  of_rest (any_is c) h = of_list_end c h
+  of_rest (each_is e c) h = of_expr e (of_list_end c h)
+
+-- ---- files
+
+of_definition : {d : DefinitionTree} {ts r : Words} → SpellsDefinition d ts r → Used r → Used ts
+of_definition (defined v) h = (refl, (refl, of_value v h))
+
+of_definitions : {ds : List DefinitionTree} {ts r : Words} → SpellsDefinitions ds ts r → Used r → Used ts
+of_definitions no_definition h = h
+of_definitions (next_definition d c ds) h = of_definition d (of_comma c (of_definitions ds h))
+
+of_package : {c : Option (List ℕ)} {ts r : Words} → SpellsPackage c ts r → Used r → Used ts
+of_package no_clause h = h
+of_package (clause is c) h = (refl, (refl, of_comma c h))
+
+of_file : {f : FileTree} {ts : Words} → SpellsFile f ts → Used ts
+of_file (spelled p ds) = of_package p (of_definitions ds (refl, tt))
+
+-- ---- the tokens of the wide profile
+
+same_word : (k : Lexeme) → is_unused (word k) ≡ false → word (wide_lexeme k) ≡ word k
+same_word (lexeme sorts.LeftOut t o) h = let never : true ≡ false = h in absurd cc
+same_word (lexeme s t o) h = refl
+
+same_words : (ks : List Lexeme) → Used (words ks) → words (map wide_lexeme ks) ≡ words ks
+same_words [] h = refl
+same_words (k ∷ ks) h = rw (same_word k h.0, same_words ks h.1) refl
+
+pub spelled_wide : (source : List ℕ) (f : FileTree) → IsSpelled source f → IsSpelledIn profiles.Wide source f
+spelled_wide source f h =
+    let same = sym (same_words h.tokens (of_file h.spelled)) in
+    record {
+      tokens = h.tokens;
+      cut = h.cut;
+      nested = subst (λ ts. nesting ts ≤ most_nested) same h.nested;
+      spelled = subst (SpellsFile f) same h.spelled;
+      low = h.low;
+    }
