@@ -60,6 +60,8 @@ pub(crate) fn put_expr(
             put_parted(alloc, line, ", ", out, front)?;
             put_end(alloc, line, before_rest(are_no_elements(front)), out, end)
         }
+        // No form of the wide profile stands in the files of `source_of`.
+        Expr::Wide(_) => Ok(()),
     }
 }
 
