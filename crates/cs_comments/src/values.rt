@@ -20,6 +20,8 @@ pub(crate) fn notes_of_value(
         Expr::And(operands) => notes.all_of = notes_of_each(alloc, operands, texts)?,
         Expr::Or(operands) => notes.any_of = notes_of_each(alloc, operands, texts)?,
         Expr::Paren(inside) => return notes_of_value(alloc, inside, texts),
+        // A mark of a default is dropped where it is widened.
+        Expr::Wide(Wide::Marked { value, .. }) => return notes_of_value(alloc, value, texts),
         Expr::Struct { fields, .. } => return notes_of_fields(alloc, fields, texts),
         // Where it is widened, the mark is dropped.
         Expr::Wide(Wide::Marked { value, .. }) => return notes_of_value(alloc, value, texts),

@@ -5,7 +5,7 @@ use Rattle.cs_grammar.specs.declared.ast.FieldMark.{FieldMark}
 use Rattle.cs_grammar.specs.Words.{Word, Words, name, quoted, open_list, close_list, comma, nl, colon, finish}
 use Rattle.cs_grammar.specs.Tree as T
 use Rattle.cs_grammar.specs.Tree.{Label, Tree, Trees, none, more, Fields, no_field, field, End, DefinitionTree, body, FileTree, definitions}
-use Rattle.cs_grammar.specs.Spells.{is_string, Comma, explicit, inserted, ClosesParen, paren_here, paren_after, ClosesList, list_here, list_after, ClosesStruct, struct_here, struct_after, SpellsNumber, positive, negative, SpellsBound, limit_is, other_number, other_text, other_null, SpellsLabel, bare_label, quoted_label, SpellsMark, regular, optional, required, SpellsOpening, unopened, opened, SpellsValue, long, short, SpellsField, labelled, every_key, SpellsExpr, one_conj, disjunction_is, SpellsBars, no_bar, a_bar, SpellsConj, one_operand, conjunction_is, SpellsAmps, no_amp, an_amp, SpellsOperand, top_is, bottom_is, reference_is, name_is, number_is, text_is, bound_is, paren_is, struct_is, list_is, SpellsStruct, no_fields, dots_alone, fields, SpellsFields, no_more_fields, next_field, SpellsList, no_elements, rest_alone, elements, SpellsElements, no_more_elements, next_element, SpellsEnd, closed_is, rest_is, SpellsRest, any_is, each_is, SpellsDefinition, defined, SpellsDefinitions, no_definition, next_definition, SpellsPackage, no_clause, clause, SpellsFile, spelled}
+use Rattle.cs_grammar.specs.Spells.{is_string, Comma, explicit, inserted, ClosesParen, paren_here, paren_after, ClosesList, list_here, list_after, ClosesStruct, struct_here, struct_after, SpellsNumber, positive, negative, SpellsBound, limit_is, other_number, other_text, other_null, SpellsLabel, bare_label, quoted_label, SpellsMark, regular, optional, required, SpellsOpening, unopened, opened, SpellsValue, long, short, SpellsField, labelled, every_key, SpellsExpr, one_branch, disjunction_is, SpellsBars, no_bar, a_bar, SpellsBranch, unmarked, marked_is, SpellsConj, one_operand, conjunction_is, SpellsAmps, no_amp, an_amp, SpellsOperand, top_is, bottom_is, reference_is, name_is, number_is, text_is, bound_is, paren_is, struct_is, list_is, SpellsStruct, no_fields, dots_alone, fields, SpellsFields, no_more_fields, next_field, SpellsList, no_elements, rest_alone, elements, SpellsElements, no_more_elements, next_element, SpellsEnd, closed_is, rest_is, SpellsRest, any_is, each_is, SpellsDefinition, defined, SpellsDefinitions, no_definition, next_definition, SpellsPackage, no_clause, clause, SpellsFile, spelled}
 use Rattle.cs_syntax.specs.Height.{height, height_all, height_fields, height_end, height_definitions, file_height}
 use Rattle.cs_syntax.specs.Nesting.{OpenLevels, ends_with_chained_label, is_short, counted_if, behind, nesting_at, nesting_from, nesting}
 use Rattle.cs_syntax.proofs.NestingBounds.{max_left, max_right, max_both}
@@ -88,9 +88,9 @@ chained_text s p [] = refl
 chained_text s p (colon q ∷ ws) = refl
 chained_text s p (w ∷ ws) = refl
 
-unmarked : (b : Bool) → b || false ≡ b
-unmarked true = refl
-unmarked false = refl
+or_false : (b : Bool) → b || false ≡ b
+or_false true = refl
+or_false false = refl
 
 chained_bracket : (s : List ℕ) (q p o : ℕ) (ws : Words) → is_string s ≡ true → is_short (close_list q ∷ name s p ∷ open_list o ∷ ws) ≡ begins_colon ws
 chained_bracket s q p o [] e = refl
@@ -102,10 +102,10 @@ counted : {k : ℕ} {ws ts : Words} {b c : Bool} (ns : OpenLevels) → b ≡ c �
 counted {k} {ws} {ts} ns e r = subst (λ b. Runs k ws (counted_if b ns) ts) (sym e) r
 
 label_low : {k : ℕ} {l : Label} {m : FieldMark} {ts us vs : Words} (ns : OpenLevels) (ws : Words) → SpellsLabel l ts us → SpellsMark m us vs → nesting_at ns ≤ k → Low k (counted_if (begins_colon ws) ns) vs → Runs k ws ns ts
-label_low ns ws (bare_label {s} {p}) regular h f = pass _ h (pass _ h (counted ns (unmarked _ ∙ chained_name s p ws) (f _)))
+label_low ns ws (bare_label {s} {p}) regular h f = pass _ h (pass _ h (counted ns (or_false _ ∙ chained_name s p ws) (f _)))
 label_low ns ws (bare_label {s} {p}) optional h f = pass _ h (pass _ h (pass _ h (counted ns (chained_name s p ws) (f _))))
 label_low ns ws (bare_label {s} {p}) required h f = pass _ h (pass _ h (pass _ h (counted ns (chained_name s p ws) (f _))))
-label_low ns ws (quoted_label {s} {p}) regular h f = pass _ h (pass _ h (counted ns (unmarked _ ∙ chained_text s p ws) (f _)))
+label_low ns ws (quoted_label {s} {p}) regular h f = pass _ h (pass _ h (counted ns (or_false _ ∙ chained_text s p ws) (f _)))
 label_low ns ws (quoted_label {s} {p}) optional h f = pass _ h (pass _ h (pass _ h (counted ns (chained_text s p ws) (f _))))
 label_low ns ws (quoted_label {s} {p}) required h f = pass _ h (pass _ h (pass _ h (counted ns (chained_text s p ws) (f _))))
 
@@ -136,6 +136,7 @@ some_height (T.disjunction es) = omega arith
 some_height (T.paren e) = omega arith
 some_height (T.struct o fs b) = omega arith
 some_height (T.list es end) = omega arith
+some_height (T.wide (T.marked o e)) = some_height e
 
 -- what stands inside a bracket may be as high as is left behind it
 bracket : {h : ℕ} {ts r : Words} (w : Word) (m : ℕ) → suc m ≤ h → ((j : ℕ) → m ≤ j → (k n : ℕ) (ns : OpenLevels) → nesting_at (0 ∷ n ∷ ns) + j ≤ k → Low k (n ∷ ns) r → (ws : Words) → Runs k (w ∷ ws) (0 ∷ n ∷ ns) ts)
@@ -168,14 +169,18 @@ mutual
   field_fresh (every_key {e = e} is v) h le k n ns low f ws new = every_low ns ws is (omega (arith, low, le, some_height e)) (plain_value h (value_deep v h le) (begins_colon ws) new k n ns low f)
 
   expression_deep : {e : Tree} {ts r : Words} → SpellsExpr e ts r → (h : ℕ) → height e ≤ h → Deep h ts r
-  expression_deep (one_conj v) h le k n ns low f = conj_deep v h le k n ns low f
+  expression_deep (one_branch v) h le k n ns low f = branch_deep v h le k n ns low f
   expression_deep (disjunction_is {e = e} {f = g} {fs = gs} v vs) h le k n ns low f =
       let all : height_all (more e (more g gs)) ≤ h = omega arith in
-      conj_deep v h (max_left (height e) _ all) k n ns low (bars_deep vs h (max_right (height e) _ all) k n ns low f)
+      branch_deep v h (max_left (height e) _ all) k n ns low (bars_deep vs h (max_right (height e) _ all) k n ns low f)
 
   bars_deep : {es : Trees} {ts r : Words} → SpellsBars es ts r → (h : ℕ) → height_all es ≤ h → Deep h ts r
   bars_deep no_bar h le k n ns low f = f
-  bars_deep (a_bar {p} {e} {es} v vs) h le k n ns low f = λ ws. pass _ (omega arith) (conj_deep v h (max_left (height e) _ le) k n ns low (bars_deep vs h (max_right (height e) _ le) k n ns low f) _)
+  bars_deep (a_bar {p} {e} {es} v vs) h le k n ns low f = λ ws. pass _ (omega arith) (branch_deep v h (max_left (height e) _ le) k n ns low (bars_deep vs h (max_right (height e) _ le) k n ns low f) _)
+
+  branch_deep : {e : Tree} {ts r : Words} → SpellsBranch e ts r → (h : ℕ) → height e ≤ h → Deep h ts r
+  branch_deep (unmarked v) h le k n ns low f = conj_deep v h le k n ns low f
+  branch_deep (marked_is {p} {e} v) h le k n ns low f = λ ws. pass _ (omega arith) (conj_deep v h le k n ns low f _)
 
   conj_deep : {e : Tree} {ts r : Words} → SpellsConj e ts r → (h : ℕ) → height e ≤ h → Deep h ts r
   conj_deep (one_operand v) h le k n ns low f = operand_deep v h le k n ns low f

@@ -10,6 +10,7 @@ use Rattle.cs_grammar.specs.Words.{Words}
 use Rattle.cs_grammar.specs.Source.{IsSpelledBy}
 use Rattle.cs_grammar.specs.Tree.{Tree, DefinitionTree, definition, body, FileTree, file, definitions}
 use Rattle.cs_grammar.specs.Spells.{Comma, inserted, long, SpellsDefinition, defined, SpellsDefinitions, no_definition, next_definition, SpellsPackage, no_clause, clause, spelled}
+use Rattle.cs_grammar.specs.DefaultForms.{IsDefault, IsDefaultFile}
 use Rattle.cs_grammar.specs.Written.{by_itself, IsWrittenDefinition, IsWrittenClause, IsWrittenFile}
 use Rattle.cs_print.specs.Printed.{unplaced_definition, unplaced_file, joined_file, first_clause, IsPrinted}
 use Rattle.cs_print.specs.Layout.{definition_text, definitions_text, clause_text, file_text}
@@ -38,9 +39,9 @@ definition_made s o e ws us k = record {
   same = rw k.2.2.1.same refl;
 }
 
-definition_line : (d : DefinitionTree) → IsWrittenDefinition d → HasTexts (body d) → Front nothing (definition_text d) Plain Plain (Defined d)
-definition_line (definition s o e) w x = read (Defined (definition s o e)) (definition_made s o e)
-    (behind {xs = 35 ∷ s} (λ rest ok. refl) (definition_front s w.0) (behind {xs = codes ": "} (λ rest ok. tt) colon_text (behind {ys = codes "\n"} (λ rest ok. refl) (tree_front (codes "\n") refl Plain tt by_itself e w.1 x) (line_front (codes "\n") refl))))
+definition_line : (d : DefinitionTree) → IsWrittenDefinition d → IsDefault (body d) → HasTexts (body d) → Front nothing (definition_text d) Plain Plain (Defined d)
+definition_line (definition s o e) w d x = read (Defined (definition s o e)) (definition_made s o e)
+    (behind {xs = 35 ∷ s} (λ rest ok. refl) (definition_front s w.0) (behind {xs = codes ": "} (λ rest ok. tt) colon_text (behind {ys = codes "\n"} (λ rest ok. refl) (tree_front (codes "\n") refl Plain tt by_itself e w.1 d x) (line_front (codes "\n") refl))))
 
 -- ---- definitions
 
@@ -55,9 +56,9 @@ no_definitions ws us k = record { trees = []; spelled = rw k no_definition; same
 more_definitions : (d : DefinitionTree) (ds : List DefinitionTree) (ws us : Words) → Then (Defined d) (SpeltDefinitions ds) ws us → SpeltDefinitions (d ∷ ds) ws us
 more_definitions d ds ws us k = record { trees = k.1.tree ∷ k.2.trees; spelled = next_definition k.1.spelled k.1.comma k.2.spelled; same = rw (k.1.same, k.2.same) refl }
 
-definitions_front : (ds : List DefinitionTree) → AllByRecursion IsWrittenDefinition ds → AllByRecursion (λ d. HasTexts (body d)) ds → Front nothing (definitions_text ds) Plain Plain (SpeltDefinitions ds)
-definitions_front [] w x = read (SpeltDefinitions []) no_definitions empty
-definitions_front (d ∷ ds) w x = read (SpeltDefinitions (d ∷ ds)) (more_definitions d ds) (behind (λ rest ok. tt) (definition_line d w.0 x.0) (definitions_front ds w.1 x.1))
+definitions_front : (ds : List DefinitionTree) → AllByRecursion IsWrittenDefinition ds → AllByRecursion (λ d. IsDefault (body d)) ds → AllByRecursion (λ d. HasTexts (body d)) ds → Front nothing (definitions_text ds) Plain Plain (SpeltDefinitions ds)
+definitions_front [] w y x = read (SpeltDefinitions []) no_definitions empty
+definitions_front (d ∷ ds) w y x = read (SpeltDefinitions (d ∷ ds)) (more_definitions d ds) (behind (λ rest ok. tt) (definition_line d w.0 y.0 x.0) (definitions_front ds w.1 y.1 x.1))
 
 -- ---- the package clause
 
@@ -79,10 +80,10 @@ record SpeltFile (f : FileTree) (source : List ℕ) : Type 0 where
   pub spelled : IsSpelledBy source tree
   pub same : unplaced_file tree ≡ unplaced_file f
 
-file_spelt : (f : FileTree) → IsWrittenFile f → FileHasTexts f → SpeltFile f (file_text f)
-file_spelt (file c ds) w x =
+file_spelt : (f : FileTree) → IsWrittenFile f → IsDefaultFile f → FileHasTexts f → SpeltFile f (file_text f)
+file_spelt (file c ds) w d x =
     let text : List ℕ = clause_text c ++ definitions_text ds in
-    let front = behind {b = nothing} (λ rest ok. tt) (clause_front c w.0) (definitions_front ds w.1 x) in
+    let front = behind {b = nothing} (λ rest ok. tt) (clause_front c w.0) (definitions_front ds w.1 d x) in
     let o : ℕ = 0 + length text in
     let cut = front.before 0 [] (lexeme sorts.End [] o ∷ []) tt (finish {o = o} {l = Plain}) in
     record {
@@ -105,11 +106,15 @@ written_joined : (fs : List FileTree) → AllByRecursion IsWrittenFile fs → Is
 written_joined [] h = (tt, tt)
 written_joined (file c ds ∷ fs) h = let k = written_joined fs h.1 in (written_clause c (first_clause fs) h.0.0 k.0, all_append IsWrittenDefinition ds (flat_map definitions fs) h.0.1 k.1)
 
+default_joined : (fs : List FileTree) → AllByRecursion IsDefaultFile fs → IsDefaultFile (joined_file fs)
+default_joined [] h = tt
+default_joined (f ∷ fs) h = all_append (λ d. IsDefault (body d)) (definitions f) (flat_map definitions fs) h.0 (default_joined fs h.1)
+
 texts_joined : (fs : List FileTree) → AllByRecursion FileHasTexts fs → FileHasTexts (joined_file fs)
 texts_joined [] h = tt
 texts_joined (f ∷ fs) h = all_append (λ d. HasTexts (body d)) (definitions f) (flat_map definitions fs) h.0 (texts_joined fs h.1)
 
-pub printed : (fs : List FileTree) → AllByRecursion IsWrittenFile fs → AllByRecursion FileHasTexts fs → (source : List ℕ) → source ≡ file_text (joined_file fs) → IsPrinted source fs
-printed fs w x source is =
-    let k = file_spelt (joined_file fs) (written_joined fs w) (texts_joined fs x) in
+pub printed : (fs : List FileTree) → AllByRecursion IsWrittenFile fs → AllByRecursion IsDefaultFile fs → AllByRecursion FileHasTexts fs → (source : List ℕ) → source ≡ file_text (joined_file fs) → IsPrinted source fs
+printed fs w d x source is =
+    let k = file_spelt (joined_file fs) (written_joined fs w) (default_joined fs d) (texts_joined fs x) in
     subst (λ s. IsPrinted s fs) (sym is) (record { tree = k.tree; spelled = k.spelled; same = k.same })

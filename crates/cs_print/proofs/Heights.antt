@@ -2,7 +2,7 @@
 use Rattle.std.proofs.Common.{◌≡◌, ℕ, suc, ◌≤◌, List, [], ◌∷◌, map, refl, sym, ap, ◌∙◌, arith}
 use Rattle.std.specs.List.{flat_map}
 use Rattle.cs_grammar.specs.Limits.{most_height}
-use Rattle.cs_grammar.specs.Tree.{Tree, atom, named, reference, conjunction, disjunction, paren, struct, list, Trees, none, more, Fields, no_field, field, End, closed, any, each, DefinitionTree, definition, definitions, FileTree}
+use Rattle.cs_grammar.specs.Tree.{Tree, atom, named, reference, conjunction, disjunction, paren, struct, list, wide, Trees, none, more, Fields, no_field, field, End, closed, any, each, DefinitionTree, definition, definitions, FileTree}
 use Rattle.cs_syntax.specs.Height.{height, height_all, height_fields, height_end, height_definitions, file_height}
 use Rattle.cs_print.specs.Printed.{unplaced, unplaced_all, unplaced_fields, unplaced_end, unplaced_definition, IsPrinted, IsReadAs}
 use Rattle.cs_print.proofs.Deep.{nests_low}
@@ -17,6 +17,7 @@ mutual
   same_height (paren e) = ap suc (same_height e)
   same_height (struct o fs b) = ap suc (same_fields fs)
   same_height (list es end) = rw (same_all es, same_end end) refl
+  same_height (wide w) = refl
 
   same_all : (es : Trees) → height_all (unplaced_all es) ≡ height_all es
   same_all none = refl

@@ -2,8 +2,9 @@
 use Rattle.std.proofs.Common.{◌≡◌, [], ◌∷◌, true, false, Some, None, codes, refl}
 use Rattle.cs_grammar.specs.declared.ast.FieldMark.TheVariants.{Regular, Optional, Required, Every}
 use Rattle.cs_grammar.specs.Atom as A
+use Rattle.cs_grammar.specs.DefaultForms.{IsDefault}
 use Rattle.cs_grammar.specs.Spells.{every_label}
-use Rattle.cs_grammar.specs.Tree.{Tree, atom, named, reference, conjunction, disjunction, paren, struct, list, none, more, no_field, field, any, definition, FileTree, file}
+use Rattle.cs_grammar.specs.Tree.{Tree, atom, named, reference, conjunction, disjunction, paren, struct, list, wide, marked, none, more, no_field, field, any, definition, FileTree, file}
 use Rattle.cs_print.specs.Layout.{file_text}
 use Rattle.cs_print.specs.Printed.{unplaced, joined_file}
 use Rattle.cs_grammar.specs.Written.{by_itself, of_amp, IsWritten, IsWrittenLabel, IsWrittenFile}
@@ -29,6 +30,16 @@ in_parenthesis = by_itself_alone
 -- one operand alone makes no conjunction
 no_single : IsWritten by_itself (conjunction (more none_of none)) → ⊥
 no_single w = w.1
+
+-- `*int | _|_` can be written down, and isn't of the default profile
+abbrev with_default : Tree
+with_default = disjunction (more (wide (marked 0 (named (codes "int") 1))) (more none_of none))
+
+with_default_written : IsWritten by_itself with_default
+with_default_written = (tt, tt, ((refl, refl, refl), (tt, tt)))
+
+no_default_form : IsDefault with_default → ⊥
+no_default_form d = d.0
 
 -- `if` and `null` are no names of operands, and `1a` is no name
 no_word : IsWritten by_itself (named (codes "if") 0) → ⊥

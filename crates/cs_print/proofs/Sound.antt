@@ -1,5 +1,5 @@
 -- What a source spells can be written down: the words of a source are those of its tokens.
-use Rattle.std.proofs.Common.{◌≡◌, ℕ, ℤ, List, [], ◌∷◌, Bool, true, false, cond, Option, Some, None, codes, refl, subst, ◌∙◌, arith}
+use Rattle.std.proofs.Common.{◌≡◌, ℕ, ℤ, List, [], ◌∷◌, Bool, true, false, cond, map, Option, Some, None, codes, refl, subst, ◌∙◌, arith}
 use Rattle.std.proofs.lemmas.Bool.Decides.{nat_tests}
 use Rattle.std.specs.Prelude.{◌==◌, FitsSigned}
 use Rattle.std.specs.Int.{w64}
@@ -10,17 +10,20 @@ use Rattle.cs_grammar.specs.declared.ast.FieldMark.{FieldMark}
 use Rattle.cs_grammar.specs.declared.kind.Kind.TheVariants as kinds
 use Rattle.cs_grammar.specs.declared.line.LineState.{LineState}
 use Rattle.cs_grammar.specs.declared.line.LineState.TheVariants.{Plain, WantsComma, Minus}
+use Rattle.cs_grammar.specs.declared.profile.Profile.{Profile}
+use Rattle.cs_grammar.specs.declared.profile.Profile.TheVariants as profiles
 use Rattle.cs_grammar.specs.declared.token.Sort.{Sort}
 use Rattle.cs_grammar.specs.declared.token.Sort.TheVariants as sorts
 use Rattle.cs_grammar.specs.Atom as A
 use Rattle.cs_grammar.specs.Spelling.{is_letter, is_digit, is_name_byte, is_definition_rest, sort_if, underscore_sort, mark_sort, used_marks, left_out_marks, sort_of}
 use Rattle.cs_grammar.specs.Cut.{Lexeme, lexeme, Cut, blank, new_line, comment, token, finish, comma_if}
-use Rattle.cs_grammar.specs.Source.{IsSpelledBy}
+use Rattle.cs_grammar.specs.Source.{IsSpelledByIn}
+use Rattle.cs_grammar.specs.Taken.{wide_lexeme, taken}
 use Rattle.cs_grammar.specs.TokenWords.{mark_kind, bare_name, word_of, word, words}
 use Rattle.cs_grammar.specs.Words as W
 use Rattle.cs_grammar.specs.Words.{Word, Words}
-use Rattle.cs_grammar.specs.Tree.{Label, Tree, atom, named, reference, conjunction, disjunction, paren, struct, list, Trees, Fields, End, DefinitionTree, FileTree}
-use Rattle.cs_grammar.specs.Spells.{is_null, is_reserved, literal_of, Comma, explicit, inserted, ClosesParen, paren_here, paren_after, ClosesList, list_here, list_after, ClosesStruct, struct_here, struct_after, SpellsNumber, positive, negative, SpellsBound, limit_is, other_number, other_text, other_null, SpellsLabel, bare_label, quoted_label, SpellsMark, regular, optional, required, SpellsOpening, unopened, opened, SpellsValue, long, short, SpellsField, labelled, every_key, SpellsExpr, one_conj, disjunction_is, SpellsBars, no_bar, a_bar, SpellsConj, one_operand, conjunction_is, SpellsAmps, no_amp, an_amp, SpellsOperand, top_is, bottom_is, reference_is, name_is, number_is, text_is, bound_is, paren_is, struct_is, list_is, SpellsStruct, no_fields, dots_alone, fields, SpellsFields, no_more_fields, next_field, SpellsList, no_elements, rest_alone, elements, SpellsElements, no_more_elements, next_element, SpellsEnd, closed_is, rest_is, SpellsRest, any_is, each_is, SpellsDefinition, defined, SpellsDefinitions, no_definition, next_definition, SpellsPackage, no_clause, clause, SpellsFile, spelled}
+use Rattle.cs_grammar.specs.Tree.{Label, Tree, atom, named, reference, conjunction, disjunction, paren, struct, list, wide, marked, Trees, Fields, End, DefinitionTree, FileTree}
+use Rattle.cs_grammar.specs.Spells.{is_null, is_reserved, literal_of, Comma, explicit, inserted, ClosesParen, paren_here, paren_after, ClosesList, list_here, list_after, ClosesStruct, struct_here, struct_after, SpellsNumber, positive, negative, SpellsBound, limit_is, other_number, other_text, other_null, SpellsLabel, bare_label, quoted_label, SpellsMark, regular, optional, required, SpellsOpening, unopened, opened, SpellsValue, long, short, SpellsField, labelled, every_key, SpellsExpr, one_branch, disjunction_is, SpellsBars, no_bar, a_bar, SpellsBranch, unmarked, marked_is, SpellsConj, one_operand, conjunction_is, SpellsAmps, no_amp, an_amp, SpellsOperand, top_is, bottom_is, reference_is, name_is, number_is, text_is, bound_is, paren_is, struct_is, list_is, SpellsStruct, no_fields, dots_alone, fields, SpellsFields, no_more_fields, next_field, SpellsList, no_elements, rest_alone, elements, SpellsElements, no_more_elements, next_element, SpellsEnd, closed_is, rest_is, SpellsRest, any_is, each_is, SpellsDefinition, defined, SpellsDefinitions, no_definition, next_definition, SpellsPackage, no_clause, clause, SpellsFile, spelled}
 use Rattle.cs_grammar.specs.Written.{Place, by_itself, of_bar, of_amp, IsName, IsDefinitionName, IsTextOrName, IsWrittenLabel, IsWritten, AreWritten, AreWrittenFields, IsWrittenEnd, IsWrittenDefinition, IsWrittenClause, IsWrittenFile}
 use Rattle.cs_print.proofs.Tokens.{clash}
 
@@ -37,29 +40,30 @@ AreGood ws = AllByRecursion Good ws
 
 -- no mark is a name
 mark_good : (t : List ℕ) (o : ℕ) → Good (word_of (mark_kind t) t o)
-mark_good t o = by (bytes_eq t (codes "{")) (bytes_eq t (codes "}")) (bytes_eq t (codes "[")) (bytes_eq t (codes "]")) (bytes_eq t (codes "(")) (bytes_eq t (codes ")")) (bytes_eq t (codes ",")) (bytes_eq t (codes ":")) (bytes_eq t (codes "?")) (bytes_eq t (codes "!")) (bytes_eq t (codes "&")) (bytes_eq t (codes "|")) (bytes_eq t (codes "...")) (bytes_eq t (codes "<")) (bytes_eq t (codes "<=")) (bytes_eq t (codes ">")) (bytes_eq t (codes ">=")) (bytes_eq t (codes "!=")) (bytes_eq t (codes "-"))
+mark_good t o = by (bytes_eq t (codes "{")) (bytes_eq t (codes "}")) (bytes_eq t (codes "[")) (bytes_eq t (codes "]")) (bytes_eq t (codes "(")) (bytes_eq t (codes ")")) (bytes_eq t (codes ",")) (bytes_eq t (codes ":")) (bytes_eq t (codes "?")) (bytes_eq t (codes "!")) (bytes_eq t (codes "&")) (bytes_eq t (codes "|")) (bytes_eq t (codes "...")) (bytes_eq t (codes "<")) (bytes_eq t (codes "<=")) (bytes_eq t (codes ">")) (bytes_eq t (codes ">=")) (bytes_eq t (codes "!=")) (bytes_eq t (codes "-")) (bytes_eq t (codes "*"))
   where
-    by : (b0 b1 b2 b3 b4 b5 b6 b7 b8 b9 b10 b11 b12 b13 b14 b15 b16 b17 b18 : Bool) → Good (word_of (cond b0 kinds.OpenStruct (cond b1 kinds.CloseStruct (cond b2 kinds.OpenList (cond b3 kinds.CloseList (cond b4 kinds.OpenParen (cond b5 kinds.CloseParen (cond b6 kinds.Comma (cond b7 kinds.Colon (cond b8 kinds.Question (cond b9 kinds.Bang (cond b10 kinds.Amp (cond b11 kinds.Bar (cond b12 kinds.Dots (cond b13 kinds.Less (cond b14 kinds.AtMost (cond b15 kinds.More (cond b16 kinds.AtLeast (cond b17 kinds.Unequal (cond b18 kinds.Minus kinds.LeftOut))))))))))))))))))) t o)
-    by true b1 b2 b3 b4 b5 b6 b7 b8 b9 b10 b11 b12 b13 b14 b15 b16 b17 b18 = tt
-    by false true b2 b3 b4 b5 b6 b7 b8 b9 b10 b11 b12 b13 b14 b15 b16 b17 b18 = tt
-    by false false true b3 b4 b5 b6 b7 b8 b9 b10 b11 b12 b13 b14 b15 b16 b17 b18 = tt
-    by false false false true b4 b5 b6 b7 b8 b9 b10 b11 b12 b13 b14 b15 b16 b17 b18 = tt
-    by false false false false true b5 b6 b7 b8 b9 b10 b11 b12 b13 b14 b15 b16 b17 b18 = tt
-    by false false false false false true b6 b7 b8 b9 b10 b11 b12 b13 b14 b15 b16 b17 b18 = tt
-    by false false false false false false true b7 b8 b9 b10 b11 b12 b13 b14 b15 b16 b17 b18 = tt
-    by false false false false false false false true b8 b9 b10 b11 b12 b13 b14 b15 b16 b17 b18 = tt
-    by false false false false false false false false true b9 b10 b11 b12 b13 b14 b15 b16 b17 b18 = tt
-    by false false false false false false false false false true b10 b11 b12 b13 b14 b15 b16 b17 b18 = tt
-    by false false false false false false false false false false true b11 b12 b13 b14 b15 b16 b17 b18 = tt
-    by false false false false false false false false false false false true b12 b13 b14 b15 b16 b17 b18 = tt
-    by false false false false false false false false false false false false true b13 b14 b15 b16 b17 b18 = tt
-    by false false false false false false false false false false false false false true b14 b15 b16 b17 b18 = tt
-    by false false false false false false false false false false false false false false true b15 b16 b17 b18 = tt
-    by false false false false false false false false false false false false false false false true b16 b17 b18 = tt
-    by false false false false false false false false false false false false false false false false true b17 b18 = tt
-    by false false false false false false false false false false false false false false false false false true b18 = tt
-    by false false false false false false false false false false false false false false false false false false true = tt
-    by false false false false false false false false false false false false false false false false false false false = tt
+    by : (b0 b1 b2 b3 b4 b5 b6 b7 b8 b9 b10 b11 b12 b13 b14 b15 b16 b17 b18 b19 : Bool) → Good (word_of (cond b0 kinds.OpenStruct (cond b1 kinds.CloseStruct (cond b2 kinds.OpenList (cond b3 kinds.CloseList (cond b4 kinds.OpenParen (cond b5 kinds.CloseParen (cond b6 kinds.Comma (cond b7 kinds.Colon (cond b8 kinds.Question (cond b9 kinds.Bang (cond b10 kinds.Amp (cond b11 kinds.Bar (cond b12 kinds.Dots (cond b13 kinds.Less (cond b14 kinds.AtMost (cond b15 kinds.More (cond b16 kinds.AtLeast (cond b17 kinds.Unequal (cond b18 kinds.Minus (cond b19 kinds.Star kinds.LeftOut)))))))))))))))))))) t o)
+    by true b1 b2 b3 b4 b5 b6 b7 b8 b9 b10 b11 b12 b13 b14 b15 b16 b17 b18 b19 = tt
+    by false true b2 b3 b4 b5 b6 b7 b8 b9 b10 b11 b12 b13 b14 b15 b16 b17 b18 b19 = tt
+    by false false true b3 b4 b5 b6 b7 b8 b9 b10 b11 b12 b13 b14 b15 b16 b17 b18 b19 = tt
+    by false false false true b4 b5 b6 b7 b8 b9 b10 b11 b12 b13 b14 b15 b16 b17 b18 b19 = tt
+    by false false false false true b5 b6 b7 b8 b9 b10 b11 b12 b13 b14 b15 b16 b17 b18 b19 = tt
+    by false false false false false true b6 b7 b8 b9 b10 b11 b12 b13 b14 b15 b16 b17 b18 b19 = tt
+    by false false false false false false true b7 b8 b9 b10 b11 b12 b13 b14 b15 b16 b17 b18 b19 = tt
+    by false false false false false false false true b8 b9 b10 b11 b12 b13 b14 b15 b16 b17 b18 b19 = tt
+    by false false false false false false false false true b9 b10 b11 b12 b13 b14 b15 b16 b17 b18 b19 = tt
+    by false false false false false false false false false true b10 b11 b12 b13 b14 b15 b16 b17 b18 b19 = tt
+    by false false false false false false false false false false true b11 b12 b13 b14 b15 b16 b17 b18 b19 = tt
+    by false false false false false false false false false false false true b12 b13 b14 b15 b16 b17 b18 b19 = tt
+    by false false false false false false false false false false false false true b13 b14 b15 b16 b17 b18 b19 = tt
+    by false false false false false false false false false false false false false true b14 b15 b16 b17 b18 b19 = tt
+    by false false false false false false false false false false false false false false true b15 b16 b17 b18 b19 = tt
+    by false false false false false false false false false false false false false false false true b16 b17 b18 b19 = tt
+    by false false false false false false false false false false false false false false false false true b17 b18 b19 = tt
+    by false false false false false false false false false false false false false false false false false true b18 b19 = tt
+    by false false false false false false false false false false false false false false false false false false true b19 = tt
+    by false false false false false false false false false false false false false false false false false false false true = tt
+    by false false false false false false false false false false false false false false false false false false false false = tt
 
 abbrev is_defined : Option Sort → Bool
 is_defined None = false
@@ -142,6 +146,32 @@ words_good (comment {o} {bs} {l} {ks} h k) = comma_good l o ks (words_good k)
 words_good (token {n} {o} {s} {bs} {l} {ks} h k) = (word_good s _ o h.token.spelled, words_good k)
 words_good (finish {o} {l}) = comma_good l o _ (tt, tt)
 
+-- a mark that a profile takes is no name either
+star_good : (b : Bool) (t : List ℕ) (o : ℕ) → Good (word (lexeme (cond b sorts.Mark sorts.LeftOut) t o))
+star_good true t o = mark_good t o
+star_good false t o = tt
+
+wide_good : (k : Lexeme) → Good (word k) → Good (word (wide_lexeme k))
+wide_good (lexeme sorts.LeftOut t o) h = star_good (bytes_eq t (codes "*")) t o
+wide_good (lexeme sorts.Name t o) h = h
+wide_good (lexeme sorts.Definition t o) h = h
+wide_good (lexeme sorts.Hidden t o) h = h
+wide_good (lexeme sorts.Top t o) h = h
+wide_good (lexeme sorts.Bottom t o) h = h
+wide_good (lexeme sorts.Integer t o) h = h
+wide_good (lexeme sorts.Text t o) h = h
+wide_good (lexeme sorts.Mark t o) h = h
+wide_good (lexeme sorts.Inserted t o) h = h
+wide_good (lexeme sorts.End t o) h = h
+
+all_wide_good : (ks : List Lexeme) → AreGood (words ks) → AreGood (words (map wide_lexeme ks))
+all_wide_good [] h = tt
+all_wide_good (k ∷ ks) h = (wide_good k h.0, all_wide_good ks h.1)
+
+taken_good : (p : Profile) (ks : List Lexeme) → AreGood (words ks) → AreGood (words (taken p ks))
+taken_good profiles.Default ks h = h
+taken_good profiles.Wide ks h = all_wide_good ks h
+
 -- ---- what words spell
 
 -- what is written as an operand is written anywhere
@@ -154,6 +184,7 @@ written_anywhere p (disjunction es) w = absurd w.0
 written_anywhere p (paren e) w = w
 written_anywhere p (struct o fs b) w = w
 written_anywhere p (list es end) w = w
+written_anywhere p (wide (marked o e)) w = written_anywhere p e w
 
 written_itself : (t : Tree) → IsWritten of_bar t → IsWritten by_itself t
 written_itself (atom a) w = w
@@ -164,6 +195,7 @@ written_itself (disjunction es) w = absurd w.0
 written_itself (paren e) w = w
 written_itself (struct o fs b) w = w
 written_itself (list es end) w = w
+written_itself (wide (marked o e)) w = written_itself e w
 
 name_written : (s : List ℕ) (p : ℕ) (e : Tree) → IsName s → is_reserved s ≡ false → e ≡ unwrap_or (literal_of s) (named s p) → IsWritten of_amp e
 name_written s p e name free is = by (is_null s) (bytes_eq s (codes "true")) (bytes_eq s (codes "false")) refl refl refl
@@ -234,18 +266,22 @@ mutual
   field_left (every_key is k) g = let v = value_left k g.1.1.1.1 in (refl, v.0, v.1)
 
   expression_left : {e : Tree} {ws us : Words} → SpellsExpr e ws us → AreGood ws → IsWritten by_itself e × AreGood us
-  expression_left (one_conj {e} k) g = let r = conj_left k g in (written_itself e r.0, r.1)
+  expression_left (one_branch {e} k) g = let r = branch_left k g in (written_itself e r.0, r.1)
   expression_left (disjunction_is k ks) g =
-      let a = conj_left k g in
+      let a = branch_left k g in
       let b = bars_left ks a.1 in
       ((tt, tt, (a.0, b.0)), b.1)
 
   bars_left : {es : Trees} {ws us : Words} → SpellsBars es ws us → AreGood ws → AreWritten of_bar es × AreGood us
   bars_left no_bar g = (tt, g)
   bars_left (a_bar k ks) g =
-      let a = conj_left k g.1 in
+      let a = branch_left k g.1 in
       let b = bars_left ks a.1 in
       ((a.0, b.0), b.1)
+
+  branch_left : {e : Tree} {ws us : Words} → SpellsBranch e ws us → AreGood ws → IsWritten of_bar e × AreGood us
+  branch_left (unmarked k) g = conj_left k g
+  branch_left (marked_is k) g = conj_left k g.1
 
   conj_left : {e : Tree} {ws us : Words} → SpellsConj e ws us → AreGood ws → IsWritten of_bar e × AreGood us
   conj_left (one_operand {e} k) g = let r = operand_left k g in (written_anywhere of_bar e r.0, r.1)
@@ -331,5 +367,5 @@ clause_left (clause is c) g = (g.1.0, comma_left c g.1.1)
 file_written : {f : FileTree} {ws : Words} → SpellsFile f ws → AreGood ws → IsWrittenFile f
 file_written (spelled k ks) g = let c = clause_left k g in (c.0, (definitions_left ks c.1).0)
 
-pub written : (source : List ℕ) (f : FileTree) → IsSpelledBy source f → IsWrittenFile f
-written source f k = file_written k.spelled (words_good k.cut)
+pub written : (p : Profile) (source : List ℕ) (f : FileTree) → IsSpelledByIn p source f → IsWrittenFile f
+written p source f k = file_written k.spelled (taken_good p k.tokens (words_good k.cut))

@@ -14,8 +14,9 @@ use Rattle.cs_grammar.specs.Atom as A
 use Rattle.cs_grammar.specs.Atom.{Atom, Relation}
 use Rattle.cs_grammar.specs.Words as W
 use Rattle.cs_grammar.specs.Words.{Words}
-use Rattle.cs_grammar.specs.Tree.{Label, Tree, atom, named, reference, conjunction, disjunction, paren, struct, list, Trees, none, more, Fields, no_field, field, End, closed, any, each}
-use Rattle.cs_grammar.specs.Spells.{is_reserved, literal_of, inserted, ClosesParen, paren_here, ClosesList, list_here, ClosesStruct, struct_here, struct_after, SpellsNumber, limit_is, other_number, other_text, other_null, SpellsLabel, bare_label, quoted_label, SpellsMark, regular, optional, required, SpellsOpening, unopened, opened, SpellsValue, long, SpellsField, labelled, every_key, SpellsExpr, one_conj, disjunction_is, SpellsBars, no_bar, a_bar, SpellsConj, one_operand, conjunction_is, SpellsAmps, no_amp, an_amp, SpellsOperand, top_is, bottom_is, reference_is, name_is, number_is, text_is, bound_is, paren_is, struct_is, list_is, SpellsStruct, no_fields, dots_alone, fields, SpellsFields, no_more_fields, next_field, SpellsList, no_elements, rest_alone, elements, SpellsElements, no_more_elements, next_element, SpellsEnd, closed_is, rest_is, any_is, each_is}
+use Rattle.cs_grammar.specs.Tree.{Label, Tree, atom, named, reference, conjunction, disjunction, paren, struct, list, wide, Trees, none, more, Fields, no_field, field, End, closed, any, each}
+use Rattle.cs_grammar.specs.Spells.{is_reserved, literal_of, inserted, ClosesParen, paren_here, ClosesList, list_here, ClosesStruct, struct_here, struct_after, SpellsNumber, limit_is, other_number, other_text, other_null, SpellsLabel, bare_label, quoted_label, SpellsMark, regular, optional, required, SpellsOpening, unopened, opened, SpellsValue, long, SpellsField, labelled, every_key, SpellsExpr, one_branch, disjunction_is, SpellsBars, no_bar, a_bar, unmarked, SpellsConj, one_operand, conjunction_is, SpellsAmps, no_amp, an_amp, SpellsOperand, top_is, bottom_is, reference_is, name_is, number_is, text_is, bound_is, paren_is, struct_is, list_is, SpellsStruct, no_fields, dots_alone, fields, SpellsFields, no_more_fields, next_field, SpellsList, no_elements, rest_alone, elements, SpellsElements, no_more_elements, next_element, SpellsEnd, closed_is, rest_is, any_is, each_is}
+use Rattle.cs_grammar.specs.DefaultForms.{IsDefault, AreDefault, AreDefaultFields, IsDefaultEnd}
 use Rattle.cs_grammar.specs.Written.{Place, by_itself, of_bar, of_amp, IsName, IsDefinitionName, IsWrittenAtom, IsWrittenLabel, AreTwo, TakesAmps, TakesBars, IsWritten, AreWritten, AreWrittenFields, IsWrittenEnd}
 use Rattle.cs_print.specs.Printed.{unplaced_mark, unplaced, unplaced_all, unplaced_fields, unplaced_end}
 use Rattle.cs_print.specs.Layout.{relation_text, limit_text, atom_text, head_text, inner, closing_text, tree_text, parted_text, behind_text, end_text, lines_text, is_no_field}
@@ -42,7 +43,7 @@ At p t ws us = Spelt unplaced (SpellsAt p) t ws us
 
 -- an operand stands anywhere
 anywhere : (p : Place) (t : Tree) (ws us : Words) → Spelt unplaced SpellsOperand t ws us → At p t ws us
-anywhere by_itself t ws us s = record { tree = s.tree; spelled = one_conj (one_operand s.spelled); same = s.same }
+anywhere by_itself t ws us s = record { tree = s.tree; spelled = one_branch (unmarked (one_operand s.spelled)); same = s.same }
 anywhere of_bar t ws us s = record { tree = s.tree; spelled = one_operand s.spelled; same = s.same }
 anywhere of_amp t ws us s = s
 
@@ -120,7 +121,7 @@ more_amps : (e : Tree) (es : Trees) (ws us : Words) → Then (One W.amp) (Then (
 more_amps e es ws us k = record { tree = more k.2.1.tree k.2.2.tree; spelled = rw k.1.1 (an_amp k.2.1.spelled k.2.2.spelled); same = rw (k.2.1.same, k.2.2.same) refl }
 
 more_bars : (e : Tree) (es : Trees) (ws us : Words) → Then (One W.bar) (Then (At of_bar e) (Spelt unplaced_all SpellsBars es)) ws us → Spelt unplaced_all SpellsBars (more e es) ws us
-more_bars e es ws us k = record { tree = more k.2.1.tree k.2.2.tree; spelled = rw k.1.1 (a_bar k.2.1.spelled k.2.2.spelled); same = rw (k.2.1.same, k.2.2.same) refl }
+more_bars e es ws us k = record { tree = more k.2.1.tree k.2.2.tree; spelled = rw k.1.1 (a_bar (unmarked k.2.1.spelled) k.2.2.spelled); same = rw (k.2.1.same, k.2.2.same) refl }
 
 more_elements : (e : Tree) (es : Trees) (ws us : Words) → Then (One W.comma) (Then (At by_itself e) (Spelt unplaced_all SpellsElements es)) ws us → Spelt unplaced_all SpellsElements (more e es) ws us
 more_elements e es ws us k = record { tree = more k.2.1.tree k.2.2.tree; spelled = rw k.1.1 (next_element k.2.1.spelled k.2.2.spelled); same = rw (k.2.1.same, k.2.2.same) refl }
@@ -132,7 +133,7 @@ conjunction_made p takes e (more f fs) two ws us k = by p takes k.2.tree k.2.spe
   where
     by : (p : Place) → TakesAmps p → (t : Trees) → SpellsAmps t k.0 us → unplaced_all t ≡ unplaced_all (more f fs) → At p (conjunction (more e (more f fs))) ws us
     by p takes none s same = absurd cc
-    by by_itself takes (more g gs) s same = record { tree = conjunction (more k.1.tree (more g gs)); spelled = one_conj (conjunction_is k.1.spelled s); same = rw (k.1.same, same) refl }
+    by by_itself takes (more g gs) s same = record { tree = conjunction (more k.1.tree (more g gs)); spelled = one_branch (unmarked (conjunction_is k.1.spelled s)); same = rw (k.1.same, same) refl }
     by of_bar takes (more g gs) s same = record { tree = conjunction (more k.1.tree (more g gs)); spelled = conjunction_is k.1.spelled s; same = rw (k.1.same, same) refl }
     by of_amp takes (more g gs) s same = absurd takes
 
@@ -142,7 +143,7 @@ disjunction_made p takes e (more f fs) two ws us k = by p takes k.2.tree k.2.spe
   where
     by : (p : Place) → TakesBars p → (t : Trees) → SpellsBars t k.0 us → unplaced_all t ≡ unplaced_all (more f fs) → At p (disjunction (more e (more f fs))) ws us
     by p takes none s same = absurd cc
-    by by_itself takes (more g gs) s same = record { tree = disjunction (more k.1.tree (more g gs)); spelled = disjunction_is k.1.spelled s; same = rw (k.1.same, same) refl }
+    by by_itself takes (more g gs) s same = record { tree = disjunction (more k.1.tree (more g gs)); spelled = disjunction_is (unmarked k.1.spelled) s; same = rw (k.1.same, same) refl }
     by of_bar takes (more g gs) s same = absurd takes
     by of_amp takes (more g gs) s same = absurd takes
 
@@ -343,49 +344,50 @@ list_front l line p (more e es) end f ends = read (At p (list (more e es) end)) 
 -- ---- trees
 
 mutual
-  pub tree_front : (line : List ℕ) → is_line line ≡ true → (l : LineState) → IsNoMinus l → (p : Place) (t : Tree) → IsWritten p t → HasTexts t → Front a_stop (tree_text line t) l WantsComma (At p t)
-  tree_front line h l u p (atom a) w x = atom_front l u p a w x
-  tree_front line h l u p (named s o) w x = named_front p s o w.0 w.1 w.2
-  tree_front line h l u p (reference s o) w x = reference_front p s o w
-  tree_front line h l u p (conjunction es) w x = amps_front line h l u p w.0 es w.1 w.2 x
-  tree_front line h l u p (disjunction es) w x = bars_front line h l u p w.0 es w.1 w.2 x
-  tree_front line h l u p (paren e) w x = asked (read (At p (paren e)) (paren_made p e) (behind {xs = codes "("} (λ rest ok. tt) open_paren_front (behind {ys = codes ")"} (λ rest ok. refl) (tree_front line h Plain tt by_itself e w x) close_paren_front)))
-  tree_front line h l u p (struct o fs b) w x = asked (read (At p (struct o fs b)) (struct_made p o fs b) (behind {xs = codes "{"} (λ rest ok. tt) open_struct_front (struct_front line h b fs w x)))
-  tree_front line h l u p (list es end) w x = asked (list_front l line p es end (elements_front line h es w.0 x.0) (end_fronts line h end w.1 x.1))
+  pub tree_front : (line : List ℕ) → is_line line ≡ true → (l : LineState) → IsNoMinus l → (p : Place) (t : Tree) → IsWritten p t → IsDefault t → HasTexts t → Front a_stop (tree_text line t) l WantsComma (At p t)
+  tree_front line h l u p (atom a) w d x = atom_front l u p a w x
+  tree_front line h l u p (named s o) w d x = named_front p s o w.0 w.1 w.2
+  tree_front line h l u p (reference s o) w d x = reference_front p s o w
+  tree_front line h l u p (conjunction es) w d x = amps_front line h l u p w.0 es w.1 w.2 d x
+  tree_front line h l u p (disjunction es) w d x = bars_front line h l u p w.0 es w.1 w.2 d x
+  tree_front line h l u p (paren e) w d x = asked (read (At p (paren e)) (paren_made p e) (behind {xs = codes "("} (λ rest ok. tt) open_paren_front (behind {ys = codes ")"} (λ rest ok. refl) (tree_front line h Plain tt by_itself e w d x) close_paren_front)))
+  tree_front line h l u p (struct o fs b) w d x = asked (read (At p (struct o fs b)) (struct_made p o fs b) (behind {xs = codes "{"} (λ rest ok. tt) open_struct_front (struct_front line h b fs w d x)))
+  tree_front line h l u p (list es end) w d x = asked (list_front l line p es end (elements_front line h es w.0 d.0 x.0) (end_fronts line h end w.1 d.1 x.1))
+  tree_front line h l u p (wide v) w d x = absurd d
 
-  amps_front : (line : List ℕ) → is_line line ≡ true → (l : LineState) → IsNoMinus l → (p : Place) → TakesAmps p → (es : Trees) → AreTwo es → AreWritten of_amp es → HaveTexts es → Front a_stop (parted_text line (codes " & ") es) l WantsComma (At p (conjunction es))
-  amps_front line h l u p takes none two w x = absurd two
-  amps_front line h l u p takes (more e es) two w x = read (At p (conjunction (more e es))) (conjunction_made p takes e es two) (behind (parts_stop line (codes " & ") (λ rest. refl) es) (tree_front line h l u of_amp e w.0 x.0) (more_amps_front line h es w.1 x.1))
+  amps_front : (line : List ℕ) → is_line line ≡ true → (l : LineState) → IsNoMinus l → (p : Place) → TakesAmps p → (es : Trees) → AreTwo es → AreWritten of_amp es → AreDefault es → HaveTexts es → Front a_stop (parted_text line (codes " & ") es) l WantsComma (At p (conjunction es))
+  amps_front line h l u p takes none two w d x = absurd two
+  amps_front line h l u p takes (more e es) two w d x = read (At p (conjunction (more e es))) (conjunction_made p takes e es two) (behind (parts_stop line (codes " & ") (λ rest. refl) es) (tree_front line h l u of_amp e w.0 d.0 x.0) (more_amps_front line h es w.1 d.1 x.1))
 
-  more_amps_front : (line : List ℕ) → is_line line ≡ true → (es : Trees) → AreWritten of_amp es → HaveTexts es → Front a_stop (behind_text line (codes " & ") es) WantsComma WantsComma (Spelt unplaced_all SpellsAmps es)
-  more_amps_front line h none w x = read (Spelt unplaced_all SpellsAmps none) no_amps empty
-  more_amps_front line h (more e es) w x = read (Spelt unplaced_all SpellsAmps (more e es)) (more_amps e es) (behind {xs = codes " & "} (λ rest ok. tt) amp_between (behind (parts_stop line (codes " & ") (λ rest. refl) es) (tree_front line h Plain tt of_amp e w.0 x.0) (more_amps_front line h es w.1 x.1)))
+  more_amps_front : (line : List ℕ) → is_line line ≡ true → (es : Trees) → AreWritten of_amp es → AreDefault es → HaveTexts es → Front a_stop (behind_text line (codes " & ") es) WantsComma WantsComma (Spelt unplaced_all SpellsAmps es)
+  more_amps_front line h none w d x = read (Spelt unplaced_all SpellsAmps none) no_amps empty
+  more_amps_front line h (more e es) w d x = read (Spelt unplaced_all SpellsAmps (more e es)) (more_amps e es) (behind {xs = codes " & "} (λ rest ok. tt) amp_between (behind (parts_stop line (codes " & ") (λ rest. refl) es) (tree_front line h Plain tt of_amp e w.0 d.0 x.0) (more_amps_front line h es w.1 d.1 x.1)))
 
-  bars_front : (line : List ℕ) → is_line line ≡ true → (l : LineState) → IsNoMinus l → (p : Place) → TakesBars p → (es : Trees) → AreTwo es → AreWritten of_bar es → HaveTexts es → Front a_stop (parted_text line (codes " | ") es) l WantsComma (At p (disjunction es))
-  bars_front line h l u p takes none two w x = absurd two
-  bars_front line h l u p takes (more e es) two w x = read (At p (disjunction (more e es))) (disjunction_made p takes e es two) (behind (parts_stop line (codes " | ") (λ rest. refl) es) (tree_front line h l u of_bar e w.0 x.0) (more_bars_front line h es w.1 x.1))
+  bars_front : (line : List ℕ) → is_line line ≡ true → (l : LineState) → IsNoMinus l → (p : Place) → TakesBars p → (es : Trees) → AreTwo es → AreWritten of_bar es → AreDefault es → HaveTexts es → Front a_stop (parted_text line (codes " | ") es) l WantsComma (At p (disjunction es))
+  bars_front line h l u p takes none two w d x = absurd two
+  bars_front line h l u p takes (more e es) two w d x = read (At p (disjunction (more e es))) (disjunction_made p takes e es two) (behind (parts_stop line (codes " | ") (λ rest. refl) es) (tree_front line h l u of_bar e w.0 d.0 x.0) (more_bars_front line h es w.1 d.1 x.1))
 
-  more_bars_front : (line : List ℕ) → is_line line ≡ true → (es : Trees) → AreWritten of_bar es → HaveTexts es → Front a_stop (behind_text line (codes " | ") es) WantsComma WantsComma (Spelt unplaced_all SpellsBars es)
-  more_bars_front line h none w x = read (Spelt unplaced_all SpellsBars none) no_bars empty
-  more_bars_front line h (more e es) w x = read (Spelt unplaced_all SpellsBars (more e es)) (more_bars e es) (behind {xs = codes " | "} (λ rest ok. tt) bar_between (behind (parts_stop line (codes " | ") (λ rest. refl) es) (tree_front line h Plain tt of_bar e w.0 x.0) (more_bars_front line h es w.1 x.1)))
+  more_bars_front : (line : List ℕ) → is_line line ≡ true → (es : Trees) → AreWritten of_bar es → AreDefault es → HaveTexts es → Front a_stop (behind_text line (codes " | ") es) WantsComma WantsComma (Spelt unplaced_all SpellsBars es)
+  more_bars_front line h none w d x = read (Spelt unplaced_all SpellsBars none) no_bars empty
+  more_bars_front line h (more e es) w d x = read (Spelt unplaced_all SpellsBars (more e es)) (more_bars e es) (behind {xs = codes " | "} (λ rest ok. tt) bar_between (behind (parts_stop line (codes " | ") (λ rest. refl) es) (tree_front line h Plain tt of_bar e w.0 d.0 x.0) (more_bars_front line h es w.1 d.1 x.1)))
 
-  elements_front : (line : List ℕ) → is_line line ≡ true → (es : Trees) → AreWritten by_itself es → HaveTexts es → ElementsFront line es
-  elements_front line h none w x = tt
-  elements_front line h (more e es) w x = behind (parts_stop line (codes ", ") (λ rest. refl) es) (tree_front line h Plain tt by_itself e w.0 x.0) (more_elements_front line h es w.1 x.1)
+  elements_front : (line : List ℕ) → is_line line ≡ true → (es : Trees) → AreWritten by_itself es → AreDefault es → HaveTexts es → ElementsFront line es
+  elements_front line h none w d x = tt
+  elements_front line h (more e es) w d x = behind (parts_stop line (codes ", ") (λ rest. refl) es) (tree_front line h Plain tt by_itself e w.0 d.0 x.0) (more_elements_front line h es w.1 d.1 x.1)
 
-  more_elements_front : (line : List ℕ) → is_line line ≡ true → (es : Trees) → AreWritten by_itself es → HaveTexts es → Front a_stop (behind_text line (codes ", ") es) WantsComma WantsComma (Spelt unplaced_all SpellsElements es)
-  more_elements_front line h none w x = read (Spelt unplaced_all SpellsElements none) no_elements_left empty
-  more_elements_front line h (more e es) w x = read (Spelt unplaced_all SpellsElements (more e es)) (more_elements e es) (behind {xs = codes ", "} (λ rest ok. tt) comma_between (behind (parts_stop line (codes ", ") (λ rest. refl) es) (tree_front line h Plain tt by_itself e w.0 x.0) (more_elements_front line h es w.1 x.1)))
+  more_elements_front : (line : List ℕ) → is_line line ≡ true → (es : Trees) → AreWritten by_itself es → AreDefault es → HaveTexts es → Front a_stop (behind_text line (codes ", ") es) WantsComma WantsComma (Spelt unplaced_all SpellsElements es)
+  more_elements_front line h none w d x = read (Spelt unplaced_all SpellsElements none) no_elements_left empty
+  more_elements_front line h (more e es) w d x = read (Spelt unplaced_all SpellsElements (more e es)) (more_elements e es) (behind {xs = codes ", "} (λ rest ok. tt) comma_between (behind (parts_stop line (codes ", ") (λ rest. refl) es) (tree_front line h Plain tt by_itself e w.0 d.0 x.0) (more_elements_front line h es w.1 d.1 x.1)))
 
-  end_fronts : (line : List ℕ) → is_line line ≡ true → (end : End) → IsWrittenEnd end → EndHasTexts end → EndFronts line end
-  end_fronts line h closed w x = closed_fronts line
-  end_fronts line h any w x = any_fronts line
-  end_fronts line h (each e) w x = each_fronts line e (tree_front line h WantsComma tt by_itself e w x)
+  end_fronts : (line : List ℕ) → is_line line ≡ true → (end : End) → IsWrittenEnd end → IsDefaultEnd end → EndHasTexts end → EndFronts line end
+  end_fronts line h closed w d x = closed_fronts line
+  end_fronts line h any w d x = any_fronts line
+  end_fronts line h (each e) w d x = each_fronts line e (tree_front line h WantsComma tt by_itself e w d x)
 
-  struct_front : (line : List ℕ) → is_line line ≡ true → (b : Bool) (fs : Fields) → AreWrittenFields fs → FieldsHaveTexts fs → Front nothing (lines_text (inner line) fs ++ closing_text line b (is_no_field fs)) Plain WantsComma (SpeltStruct fs b)
-  struct_front line h b no_field w x = empty_struct line b
-  struct_front line h b (field l m e fs) w x = read (SpeltStruct (field l m e fs) b) (fields_made l m e fs b) (first_field line h b l m e fs w.0 x.0 (tree_front (inner line) (inner_line line h) Plain tt by_itself e w.1 x.1) (fields_front (inner line) (inner_line line h) fs w.2 x.2))
+  struct_front : (line : List ℕ) → is_line line ≡ true → (b : Bool) (fs : Fields) → AreWrittenFields fs → AreDefaultFields fs → FieldsHaveTexts fs → Front nothing (lines_text (inner line) fs ++ closing_text line b (is_no_field fs)) Plain WantsComma (SpeltStruct fs b)
+  struct_front line h b no_field w d x = empty_struct line b
+  struct_front line h b (field l m e fs) w d x = read (SpeltStruct (field l m e fs) b) (fields_made l m e fs b) (first_field line h b l m e fs w.0 x.0 (tree_front (inner line) (inner_line line h) Plain tt by_itself e w.1 d.0 x.1) (fields_front (inner line) (inner_line line h) fs w.2 d.1 x.2))
 
-  fields_front : (line : List ℕ) → is_line line ≡ true → (fs : Fields) → AreWrittenFields fs → FieldsHaveTexts fs → Front a_stop (lines_text line fs) WantsComma WantsComma (Spelt unplaced_fields SpellsFields fs)
-  fields_front line h no_field w x = read (Spelt unplaced_fields SpellsFields no_field) no_fields_left empty
-  fields_front line h (field l m e fs) w x = read (Spelt unplaced_fields SpellsFields (field l m e fs)) (more_fields l m e fs) (behind (λ rest ok. tt) (line_front line h) (behind (λ rest ok. tt) (head_front l m w.0 x.0) (behind (lines_stop line h fs) (tree_front line h Plain tt by_itself e w.1 x.1) (fields_front line h fs w.2 x.2))))
+  fields_front : (line : List ℕ) → is_line line ≡ true → (fs : Fields) → AreWrittenFields fs → AreDefaultFields fs → FieldsHaveTexts fs → Front a_stop (lines_text line fs) WantsComma WantsComma (Spelt unplaced_fields SpellsFields fs)
+  fields_front line h no_field w d x = read (Spelt unplaced_fields SpellsFields no_field) no_fields_left empty
+  fields_front line h (field l m e fs) w d x = read (Spelt unplaced_fields SpellsFields (field l m e fs)) (more_fields l m e fs) (behind (λ rest ok. tt) (line_front line h) (behind (λ rest ok. tt) (head_front l m w.0 x.0) (behind (lines_stop line h fs) (tree_front line h Plain tt by_itself e w.1 d.0 x.1) (fields_front line h fs w.2 d.1 x.2))))

@@ -7,7 +7,7 @@ use Rattle.cs_grammar.specs.declared.ast.FieldMark.{FieldMark}
 use Rattle.cs_grammar.specs.declared.ast.FieldMark.TheVariants.{Regular, Optional, Required, Every}
 use Rattle.cs_grammar.specs.Atom.{Atom, top, bottom, null, boolean, integer, text, bound, not_integer, not_text, not_null, Relation, less, at_most, more, at_least}
 use Rattle.cs_grammar.specs.Tree as T
-use Rattle.cs_grammar.specs.Tree.{Label, Tree, atom, named, reference, conjunction, disjunction, paren, struct, list, Trees, Fields, no_field, field, End, closed, any, each, DefinitionTree, definition, definitions, package_name, FileTree}
+use Rattle.cs_grammar.specs.Tree.{Label, Tree, atom, named, reference, conjunction, disjunction, paren, struct, list, wide, Trees, Fields, no_field, field, End, closed, any, each, DefinitionTree, definition, definitions, package_name, FileTree}
 
 abbrev pub relation_text : Relation → List ℕ
 relation_text less = codes "<"
@@ -70,7 +70,7 @@ abbrev pub is_no_element : Trees → Bool
 is_no_element T.none = true
 is_no_element (T.more e es) = false
 
--- a line ends and the next one begins with `line`, which is a newline and tabs
+-- a line ends and the next one begins with `line`, which is a newline and tabs; forms of the wide profile aren't printed
 abbrev mutual
   pub tree_text : List ℕ → Tree → List ℕ
   tree_text line (atom a) = atom_text a
@@ -81,6 +81,7 @@ abbrev mutual
   tree_text line (paren e) = codes "(" ++ (tree_text line e ++ codes ")")
   tree_text line (struct o fs b) = codes "{" ++ (lines_text (inner line) fs ++ closing_text line b (is_no_field fs))
   tree_text line (list es end) = codes "[" ++ (parted_text line (codes ", ") es ++ end_text line (parting_text (is_no_element es)) end)
+  tree_text line (wide w) = []
 
   pub parted_text : List ℕ → List ℕ → Trees → List ℕ
   parted_text line by T.none = []

@@ -6,7 +6,7 @@ use Rattle.cs_grammar.specs.declared.ast.FieldMark.{FieldMark}
 use Rattle.cs_grammar.specs.declared.ast.FieldMark.TheVariants.{Regular, Optional, Required, Every}
 use Rattle.cs_grammar.specs.Source.{IsSpelledBy}
 use Rattle.cs_syntax.specs.Answer.{IsSpelled}
-use Rattle.cs_grammar.specs.Tree.{Tree, atom, named, reference, conjunction, disjunction, paren, struct, list, Trees, none, more, Fields, no_field, field, End, closed, any, each, DefinitionTree, definition, definitions, package_name, FileTree, file}
+use Rattle.cs_grammar.specs.Tree.{Tree, atom, named, reference, conjunction, disjunction, paren, struct, list, wide, Trees, none, more, Fields, no_field, field, End, closed, any, each, DefinitionTree, definition, definitions, package_name, FileTree, file}
 
 -- a tree with 0 in place of each offset
 abbrev pub unplaced_mark : FieldMark → FieldMark
@@ -25,6 +25,7 @@ abbrev mutual
   unplaced (paren e) = paren (unplaced e)
   unplaced (struct o fs b) = struct 0 (unplaced_fields fs) b
   unplaced (list es end) = list (unplaced_all es) (unplaced_end end)
+  unplaced (wide w) = wide w
 
   pub unplaced_all : Trees → Trees
   unplaced_all none = none

@@ -2,7 +2,7 @@
 use Rattle.std.specs.Prelude.{IsUtf8}
 use Rattle.std.specs.List.{AllByRecursion}
 use Rattle.cs_grammar.specs.Atom.{Atom, top, bottom, null, boolean, integer, text, bound, not_integer, not_text, not_null}
-use Rattle.cs_grammar.specs.Tree.{Tree, atom, named, reference, conjunction, disjunction, paren, struct, list, Trees, none, more, Fields, no_field, field, End, closed, any, each, body, FileTree, definitions}
+use Rattle.cs_grammar.specs.Tree.{Tree, atom, named, reference, conjunction, disjunction, paren, struct, list, wide, Trees, none, more, Fields, no_field, field, End, closed, any, each, body, FileTree, definitions}
 
 abbrev pub HasText : Atom → Type 0
 HasText (text s) = IsUtf8 s
@@ -26,6 +26,7 @@ abbrev mutual
   HasTexts (paren e) = HasTexts e
   HasTexts (struct o fs b) = FieldsHaveTexts fs
   HasTexts (list es end) = HaveTexts es × EndHasTexts end
+  HasTexts (wide w) = Unit {0}
 
   pub HaveTexts : Trees → Type 0
   HaveTexts none = Unit {0}

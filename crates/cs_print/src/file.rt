@@ -2,6 +2,7 @@
 ghost use Rattle.std.specs.Prelude.{◌≡◌, ◌++◌, map, IfOk, OnOk, string_bytes};
 ghost use Rattle.std.specs.List.{AllByRecursion, flat_map};
 ghost use Rattle.std.specs.Option.{option_map};
+ghost use Rattle.cs_grammar.specs.DefaultForms.{IsDefaultFile};
 ghost use Rattle.cs_grammar.specs.View.{definition_view, file_view};
 ghost use Rattle.cs_print.specs.Layout.{clause_text, definition_text, definitions_text};
 ghost use Rattle.cs_print.specs.Printed.{IsPrinted, first_clause};
@@ -19,7 +20,8 @@ use std::alloc::{AllocError, Global};
 /// # Errors
 /// Memory ran out.
 pub fn source_of(alloc: Global, files: &[File]) -> Result<String, AllocError>
-    requires { AllByRecursion IsWrittenFile (map file_view files.now) }
+    requires written { AllByRecursion IsWrittenFile (map file_view files.now) }
+    requires default_forms { AllByRecursion IsDefaultFile (map file_view files.now) }
     ensures { IfOk result (λ s. IsPrinted (string_bytes s) (map file_view files.now)) }
 {
     let mut source = String::new(alloc);

@@ -1,6 +1,6 @@
 -- Samples of every form of tree and of every limit, worked by the definitions. A wrong expectation stops the check here.
 use Rattle.std.proofs.Common.{◌≡◌, ℕ, ◌-◌, ◌^◌, true, false, List, [], ◌∷◌, map, Option, Some, None, pos, neg_ℤ, codes, inl, inr, refl, arith}
-use Rattle.cs_grammar.specs.Tree.{Label, Tree, atom, named, reference, conjunction, disjunction, paren, struct, list, none, more, no_field, field, closed, any, each, DefinitionTree, definition, FileTree, file}
+use Rattle.cs_grammar.specs.Tree.{Label, Tree, atom, named, reference, conjunction, disjunction, paren, struct, list, wide, marked, none, more, no_field, field, closed, any, each, DefinitionTree, definition, FileTree, file}
 use Rattle.cs_grammar.specs.Atom as atoms
 use Rattle.cs_grammar.specs.Atom.{top, bottom, null, boolean, integer, text, bound, not_integer, not_text, not_null}
 use Rattle.cs_grammar.specs.declared.ast.FieldMark.TheVariants.{Regular, Optional, Required}
@@ -17,6 +17,7 @@ use Rattle.cs_resolve.specs.Earlier.{no_refinements}
 use Rattle.cs_resolve.specs.Resolved.{resolved}
 use Rattle.cs_resolve.specs.Scopes.{names_field, innermost, Place, a_name, a_reference, places, faults, unknown, of_field}
 use Rattle.cs_resolve.specs.Size.{nodes}
+use Rattle.cs_resolve.specs.WellFormed.{IsWellFormed, IsWellFormedFile}
 use Rattle.cs_resolve.proofs.Refined.{unopened_of}
 
 -- ---- short forms
@@ -77,6 +78,21 @@ no_names : map predeclared (codes "uint64" ∷ codes "int128" ∷ codes "uint128
     ≡ None ∷ None ∷ None ∷ None ∷ None ∷ None ∷ None ∷ None ∷ None ∷ None ∷ None ∷ None ∷ []
 no_names = refl
 
+-- ---- forms of the wide profile
+
+-- `*int` is as `_|_`
+abbrev marked_kind : Tree
+marked_kind = wide (marked 3 (named (codes "int") 4))
+
+marked_is_bottom : resolved no_refinements marked_kind ≡ resolved no_refinements (atom bottom)
+marked_is_bottom = refl
+
+marked_is_one_node : nodes marked_kind ≡ 1
+marked_is_one_node = refl
+
+marked_is_plain : has_literal_or_reference marked_kind ≡ false
+marked_is_plain = refl
+
 -- ---- nodes
 
 nodes_of_leaves : map nodes leaves ≡ 1 ∷ 1 ∷ 1 ∷ 1 ∷ 1 ∷ 1 ∷ 1 ∷ 1 ∷ 1 ∷ 1 ∷ 1 ∷ 1 ∷ []
@@ -88,6 +104,22 @@ nodes_of_forms = refl
 
 nodes_of_empty : map nodes (empty ∷ list none closed ∷ list none any ∷ []) ≡ 1 ∷ 1 ∷ 1 ∷ []
 nodes_of_empty = refl
+
+-- ---- what is used of files
+
+-- one operand is too few, at any depth, and two are enough
+no_operand_alone : IsWellFormed (paren (disjunction (more (atom top) none))) → ⊥
+no_operand_alone h = h.0
+
+two_operands : IsWellFormed (disjunction (more (atom top) (more (paren (conjunction (more (atom null) (more empty none)))) none)))
+two_operands = (tt, (tt, ((tt, (tt, (tt, tt))), tt)))
+
+-- `#A: _`, and what would be `#1: _`
+well_named : IsWellFormedFile (file_of (definition (codes "A") 0 (atom top) ∷ []))
+well_named = ((refl, tt), tt)
+
+no_digit_first : IsWellFormedFile (file_of (definition (codes "1") 0 (atom top) ∷ [])) → ⊥
+no_digit_first h = let e = h.0.0 in cc
 
 -- ---- the opening rule
 

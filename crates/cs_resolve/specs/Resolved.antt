@@ -35,7 +35,7 @@ narrowed_operands true es = all_opened es
 narrowed_operands false es = es
 
 -- names are replaced by what they name: where no name is at fault, every one is predeclared. These are the plain
--- refinements.
+-- refinements. A form of the wide profile is as `_|_`, here and in all that is counted or checked: files are widened first.
 abbrev mutual
   pub resolved : Refinements → Tree → Expression
   resolved rs (T.atom a) = cue.atom a

@@ -6,7 +6,7 @@ use Rattle.cs_grammar.specs.Tree.{Tree, atom, named, reference, conjunction, dis
 use Rattle.cs_grammar.specs.Written.{AreTwo}
 use Rattle.cs_package.specs.Environment.{IsDefinitionName}
 
--- at any depth; a form of the wide profile is resolved as a whole
+-- each `&` and each `|` in it, at any depth; of a form of the wide profile nothing is used
 abbrev mutual
   pub IsWellFormed : Tree → Type 0
   IsWellFormed (atom a) = Unit {0}

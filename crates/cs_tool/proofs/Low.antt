@@ -1,9 +1,11 @@
 -- What files of low bodies declare is low.
 use Rattle.std.proofs.Common.{◌≡◌, ℕ, ◌≤◌, Bool, true, false, cond, List, [], ◌∷◌, ◌++◌, map, Some, unwrap_or, max, refl, sym, ap₂, subst, arith}
 use Rattle.std.specs.List.{AllByRecursion, flat_map}
-use Rattle.std.specs.Prelude.{filter}
+use Rattle.std.specs.Prelude.{filter, nat_le}
+use Rattle.std.proofs.lemmas.Bool.Decides.{nat_tests}
 use Rattle.std.specs.Str.{bytes_eq}
 use Rattle.cs_syntax.specs.Height as tree
+use Rattle.cs_syntax.proofs.Heights.{no_height}
 use Rattle.cs_grammar.specs.Tree as T
 use Rattle.cs_grammar.specs.Tree.{Tree, Trees, Fields, End, DefinitionTree, body, defined_name, FileTree, definitions}
 use Rattle.cs_resolve.specs.Declarations as declared
@@ -49,6 +51,10 @@ narrowed_height : (b : Bool) (es : Expressions) → height_all (narrowed_operand
 narrowed_height true es = all_height es
 narrowed_height false es = refl
 
+-- what stands for a form of the wide profile has no parts
+at_least_one : (n : ℕ) → nat_le n 0 ≡ false → 1 ≤ n
+at_least_one n h = grind (arith, nat_tests)
+
 -- the same of trees, where these are the plain refinements
 module _ (rs : Refinements) where
   mutual
@@ -61,6 +67,7 @@ module _ (rs : Refinements) where
     low (T.list ts end) = omega (arith, low_all ts, low_end end)
     low (T.atom a) = omega arith
     low (T.reference t o) = omega arith
+    low (T.wide w) = at_least_one (tree.height (T.wide w)) (no_height (T.wide w) 0 refl)
 
     low_all : (ts : Trees) → height_all (resolved_all rs ts) ≤ tree.height_all ts
     low_all T.none = omega arith

@@ -12,5 +12,5 @@ returns c =
     let fs = map file_view c.args.files.now in
     let clause = clause_text (first_clause fs) in
     let rest = definitions_text (flat_map definitions fs) in
-    printed fs c.requires c.in_ok-put_files.ensures.utf8 _
+    printed fs c.requires.written c.requires.default_forms c.in_ok-put_files.ensures.utf8 _
     (c.in_ok-put_files.ensures.text ∙ ap (λ t. t ++ rest) (c.in_ok-put_clause.ensures ∙ ap (λ t. t ++ clause) c.new-source.ensures.bytes))
