@@ -29,6 +29,8 @@ pub fn widen(alloc: Global, sources: &[&[u8]]) -> Result<String, Fault>
         → IsAccepted (bytes_in sources.now) E → IsOkUnless result Fault.OutOfMemory }
 {
     accepted_package(alloc, sources)?;
+    cs_syntax::default_files_have_default_forms(); // for the proof: no mark stands in what they spell
+    cs_defaults::default_files_stay(); // for the proof: so the files stand for themselves
     widen_in(alloc, Profile::Default, sources)
 }
 
