@@ -3,6 +3,7 @@ ghost use Rattle.std.specs.Prelude.{◌≡◌, ℕ, List, [], ◌∷◌, ◌++�
 ghost use Rattle.std.specs.List.{AllByRecursion};
 ghost use Rattle.cs_grammar.specs.Tree.{Tree, DefinitionTree, definition, defined_name};
 ghost use Rattle.cs_grammar.specs.View.{definition_view, file_view};
+ghost use Rattle.cs_grammar.specs.DefaultForms.{IsDefaultFile};
 ghost use Rattle.cs_grammar.specs.Written.{IsWrittenFile};
 ghost use Rattle.cs_resolve.specs.Declarations.{distinct, names, places_of, faults_from};
 ghost use Rattle.cs_package.specs.Environment.{Environment, written};
@@ -42,12 +43,14 @@ pub fn resolve(alloc: Global, files: Vec<File>) -> Result<Package, ResolveFault>
     package_of_files(alloc, files)
 }
 
-/// The same of files that can be written down: those that a text spells, or that were made of such.
+/// The same of files that can be written down, without forms of the wide profile: those that a text of the default profile spells, or that
+/// were made of such.
 ///
 /// # Errors
 /// As those of `resolve`.
 pub fn resolve_written(alloc: Global, files: Vec<File>) -> Result<Package, ResolveFault>
-    requires { AllByRecursion IsWrittenFile (map file_view files.items) }
+    requires written { AllByRecursion IsWrittenFile (map file_view files.items) }
+    requires default_forms { AllByRecursion IsDefaultFile (map file_view files.items) }
     ensures found { IfOk result (λ p. IsPackage (map file_view files.items) p) }
     ensures refused { IfErr result (λ e. IsRefusal e (map file_view files.items)) }
     ensures only { (E : Environment) → IsPackage (map file_view files.items) E
