@@ -1,4 +1,4 @@
-use Rattle.std.proofs.Common.{◌≡◌, ℕ, List, [], ◌∷◌, Bor, map, refl, sym, ap, subst, ◌∙◌}
+use Rattle.std.proofs.Common.{◌≡◌, ℕ, List, [], ◌∷◌, map, refl, sym, ap, subst}
 use Rattle.std.proofs.lemmas.List.Elements.{All-from_recursion}
 use Rattle.std.proofs.lemmas.Result.{err_from_is_err_and}
 use Rattle.std.specs.List.{AllByRecursion}
@@ -13,11 +13,26 @@ use Rattle.cs_guard.specs.Guarded.{IsGuarded}
 use Rattle.cs_guard.specs.declared.fault.GuardFault.{GuardFault}
 use Rattle.cs_guard.specs.declared.fault.GuardFault.TheVariants as guard
 use Rattle.cs_tool.specs.Accepted.{AreTexts, AreFiles, IsAccepted}
-use Rattle.cs_tool.specs.First.{IsUnguarded, SourcesRefusal}
+use Rattle.cs_grammar.specs.declared.profile.Profile.TheVariants as profiles
+use Rattle.cs_tool.specs.First.{IsUnguarded, SpellingRefusal, SourcesRefusal}
 use Rattle.cs_tool.specs.Conversions.{of_resolve, of_guard}
+use Rattle.cs_tool.specs.Given.{bytes_in}
 use Rattle.cs_tool.specs.declared.fault.Fault.{Fault}
+use Rattle.cs_tool.specs.declared.fault.Fault.TheVariants.{SourcesTooLong, NotUtf8, NoToken, Syntax, LeftOut, IntegerRange, TooHigh, OutOfMemory}
 use Rattle.cs_tool.proofs.Declared.{one_files}
 use Rattle.cs_tool.proofs.packages.accepted_package.Goals as goal
+
+-- what spells no file is refused as it was
+by_spelling : (ss : List (List ℕ)) (e : Fault) → SpellingRefusal profiles.Default ss e → SourcesRefusal ss e
+by_spelling ss OutOfMemory h = tt
+by_spelling ss SourcesTooLong h = h
+by_spelling ss (NotUtf8 n) h = h
+by_spelling ss (NoToken n o) h = h
+by_spelling ss (Syntax n o) h = h
+by_spelling ss (LeftOut n o) h = h
+by_spelling ss (IntegerRange n o) h = h
+by_spelling ss (TooHigh n) h = h
+by_spelling ss _ h = absurd h
 
 each_spelled : (ss : List (List ℕ)) (fs : List FileTree) → AreFiles ss fs → AllByRecursion (λ f. (t : List ℕ) × IsSpelledBy t f) fs
 each_spelled [] [] h = tt
@@ -54,45 +69,41 @@ module _ (sources : List (List ℕ)) (files : List FileTree) (spelled : AreFiles
 pub resolve-requires : goal.resolve-requires
 resolve-requires c = All-from_recursion _ _ (each_spelled _ (map file_view c.in_ok-files.files.items) c.in_ok-files.ensures.spelled)
 
+pub returns-in_err-files-clause-refused : goal.returns-in_err-files-clause-refused
+returns-in_err-files-clause-refused c =
+    let p = err_from_is_err_and c.from_residual.result c.from_residual.ensures.1 in
+    rw (p.1, p.2) (by_spelling (bytes_in c.args.sources.now) c.in_err-files.field-0.0 c.in_err-files.ensures.refused)
+
+pub returns-in_err-files-clause-only : goal.returns-in_err-files-clause-only
+returns-in_err-files-clause-only c = λ E accepted.
+    let p = err_from_is_err_and c.from_residual.result c.from_residual.ensures.1 in
+    rw (p.1, p.2) (c.in_err-files.ensures.only accepted.files accepted.texts accepted.spelled)
+
 pub returns-in_err-package-clause-refused : goal.returns-in_err-package-clause-refused
 returns-in_err-package-clause-refused c =
-    let now : Bor (List ℕ) → List ℕ = λ s. s.now in
-    let sources = map now c.args.sources.now in
-    let texts : AreTexts sources = record { within = c.if-not-fits.ensures.0 refl; utf8 = c.in_ok-texts.ensures.utf8 } in
+    let sources = bytes_in c.args.sources.now in
     let files = map file_view c.in_ok-files.files.items in
-    let same = ap (map now) c.deref.ensures.value ∙ c.in_ok-texts.ensures.texts in
-    let spelled = subst (λ ss. AreFiles ss files) same c.in_ok-files.ensures.spelled in
     let e = c.in_err-package.field-0.0 in
     let p = err_from_is_err_and c.from_residual-in_err-package.result c.from_residual-in_err-package.ensures.1 in
-    rw (p.1, p.2) (by_guard sources texts files spelled _ c.in_ok-resolve.ensures.found e c.in_err-package.ensures.refused)
+    rw (p.1, p.2) (by_guard sources c.in_ok-files.ensures.texts files c.in_ok-files.ensures.spelled _ c.in_ok-resolve.ensures.found e c.in_err-package.ensures.refused)
 
 pub returns-in_err-resolve-clause-only : goal.returns-in_err-resolve-clause-only
 returns-in_err-resolve-clause-only c = λ E accepted.
-    let now : Bor (List ℕ) → List ℕ = λ s. s.now in
-    let sources = map now c.args.sources.now in
+    let sources = bytes_in c.args.sources.now in
     let files = map file_view c.in_ok-files.files.items in
-    let same = ap (map now) c.deref.ensures.value ∙ c.in_ok-texts.ensures.texts in
-    let spelled = subst (λ ss. AreFiles ss files) same c.in_ok-files.ensures.spelled in
     let p = err_from_is_err_and c.from_residual-in_err-resolve.result c.from_residual-in_err-resolve.ensures.1 in
-    rw (p.1, p.2) (ap of_resolve (c.in_err-resolve.ensures.only E (are_package sources files spelled E accepted)))
+    rw (p.1, p.2) (ap of_resolve (c.in_err-resolve.ensures.only E (are_package sources files c.in_ok-files.ensures.spelled E accepted)))
 
 pub returns-in_err-package-clause-only : goal.returns-in_err-package-clause-only
 returns-in_err-package-clause-only c = λ E accepted.
-    let now : Bor (List ℕ) → List ℕ = λ s. s.now in
-    let sources = map now c.args.sources.now in
+    let sources = bytes_in c.args.sources.now in
     let files = map file_view c.in_ok-files.files.items in
-    let same = ap (map now) c.deref.ensures.value ∙ c.in_ok-texts.ensures.texts in
-    let spelled = subst (λ ss. AreFiles ss files) same c.in_ok-files.ensures.spelled in
-    let guarded = is_guarded sources files spelled E accepted _ c.in_ok-resolve.ensures.found in
+    let guarded = is_guarded sources files c.in_ok-files.ensures.spelled E accepted _ c.in_ok-resolve.ensures.found in
     let p = err_from_is_err_and c.from_residual-in_err-package.result c.from_residual-in_err-package.ensures.1 in
     rw (p.1, p.2) (ap of_guard (c.in_err-package.ensures.only guarded))
 
 pub returns-clause-accepted : goal.returns-clause-accepted
 returns-clause-accepted c =
-    let now : Bor (List ℕ) → List ℕ = λ s. s.now in
-    let sources = map now c.args.sources.now in
-    let texts : AreTexts sources = record { within = c.if-not-fits.ensures.0 refl; utf8 = c.in_ok-texts.ensures.utf8 } in
+    let sources = bytes_in c.args.sources.now in
     let files = map file_view c.in_ok-files.files.items in
-    let same = ap (map now) c.deref.ensures.value ∙ c.in_ok-texts.ensures.texts in
-    let spelled = subst (λ ss. AreFiles ss files) same c.in_ok-files.ensures.spelled in
-    accepted sources texts files spelled _ c.in_ok-resolve.ensures.found _ c.in_ok-package.ensures.found c.in_ok-package.ensures.guarded
+    accepted sources c.in_ok-files.ensures.texts files c.in_ok-files.ensures.spelled _ c.in_ok-resolve.ensures.found _ c.in_ok-package.ensures.found c.in_ok-package.ensures.guarded
