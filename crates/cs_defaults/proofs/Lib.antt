@@ -1,1 +1,1 @@
--- Proofs.
+pub mod Found

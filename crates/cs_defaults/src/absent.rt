@@ -1,8 +1,8 @@
 // Defaults that another declaration of their label could exclude.
-ghost use Rattle.std.specs.Prelude.{◌≡◌, ℕ, Bool, List, IfOk};
+ghost use Rattle.std.specs.Prelude.{◌≡◌, ℕ, Bool, List, IfOk, string_bytes};
 ghost use Rattle.cs_grammar.specs.View.{expr_view, exprs_view, fields_view, end_view};
 ghost use Rattle.cs_defaults.specs.Absent as Spec;
-ghost use Rattle.cs_defaults.specs.Absent.{clashes, clashes_each, clashes_fields, clashes_end, absent_labels};
+ghost use Rattle.cs_defaults.specs.Absent.{clashes, clashes_each, clashes_fields, clashes_end, absent_labels, excluded};
 ghost use Rattle.cs_defaults.specs.Checks.{FindsIn, TellsHanding, TellsRepeated};
 
 use crate::DefaultFault;
@@ -26,17 +26,24 @@ struct Absences<'e> {
     has_every: bool,
 }
 
+/// Whether a declaration is `[string]: T`.
 fn has_every(fields: &[Field]) -> bool
     ensures { result ≡ Spec.has_every (fields_view fields.now) }
 {
-    fields
-        .iter()
-        .any(|field| matches!(field.mark, FieldMark::Every { .. }))
+    for field in fields {
+        if let FieldMark::Every { .. } = field.mark {
+            return true;
+        }
+    }
+    false
 }
 
 impl Clashes<'_, '_> {
     /// Whether the key of a declaration may be absent.
-    fn may_be_absent(&self, field: &Field) -> bool {
+    fn may_be_absent(&self, field: &Field) -> bool
+        ensures { (has : List ℕ → Bool) → TellsHanding self.now.handing.now has
+            → result ≡ Spec.may_be_absent has field.now.mark (expr_view field.now.value) }
+    {
         match field.mark {
             FieldMark::Regular => self.handing.has_default(&field.value),
             FieldMark::Optional => true,
@@ -121,7 +128,12 @@ impl Clashes<'_, '_> {
     }
 
     /// Whether the default of a declaration could be excluded by another one.
-    fn check_own(&self, absences: &Absences<'_>, field: &Field) -> Result<(), DefaultFault> {
+    fn check_own(&self, absences: &Absences<'_>, field: &Field) -> Result<(), DefaultFault>
+        ensures { (has : List ℕ → Bool) (absent : List (List ℕ)) → TellsHanding self.now.handing.now has
+            → TellsRepeated absences.now.repeated absent
+            → FindsIn result self.now.file (excluded has absences.now.has_every absent (string_bytes field.now.label)
+            field.now.mark (expr_view field.now.value)) }
+    {
         let is_excluded = absences.has_every || absences.repeated.contains(field.label.as_str());
         match (field.mark, self.handing.place_of(&field.value)) {
             (FieldMark::Regular, Some(offset)) if is_excluded => Err(DefaultFault::Mark {

@@ -3,7 +3,7 @@ ghost use Rattle.std.specs.Prelude.{◌≡◌, ℕ, Bool, List, map, IfOk};
 ghost use Rattle.cs_grammar.specs.View.{expr_view, exprs_view, field_view, fields_view, end_view, definition_view, file_view};
 ghost use Rattle.cs_defaults.specs.Unmarked as Spec;
 ghost use Rattle.cs_defaults.specs.Unmarked.{optional_if, unmarked_each, unmarked_fields, unmarked_end, unmarked_definition, unmarked_file};
-ghost use Rattle.cs_defaults.specs.Checks.{TellsHanding};
+ghost use Rattle.cs_defaults.specs.Checks.{TellsHanding, unmarked_seen};
 
 use crate::leading::Handing;
 use cs_grammar::{Definition, Expr, Field, FieldMark, File, ListEnd, Wide};
@@ -100,7 +100,10 @@ impl Unmarking<'_, '_> {
     }
 
     #[cycle(unmark)]
-    fn unmarked_field(&self, field: &Field) -> Result<Field, AllocError> {
+    fn unmarked_field(&self, field: &Field) -> Result<Field, AllocError>
+        ensures { (has : List ℕ → Bool) → TellsHanding self.now.handing.now has
+            → IfOk result (λ f. field_view f ≡ unmarked_seen has (field_view field.now)) }
+    {
         let value = self.unmarked(&field.value)?;
         let label = field.label.clone()?;
         let mark = optional_if(self.handing.has_default(&field.value), field.mark);
