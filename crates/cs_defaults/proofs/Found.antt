@@ -1,11 +1,14 @@
 -- What the parts of a list find, one after another.
-use Rattle.std.proofs.Common.{◌≡◌, ℕ, suc, ◌+◌, ◌<◌, List, [], ◌∷◌, ◌++◌, Some, drop, length, get_or, slice_get, false, refl, sym, ap, ◌∙◌, add-one, arith}
+use Rattle.std.proofs.Common.{◌≡◌, ℕ, suc, ◌+◌, ◌<◌, List, [], ◌∷◌, ◌++◌, Some, map, drop, length, get_or, slice_get, false, refl, sym, ap, ◌∙◌, add-one, arith}
 use Rattle.std.proofs.Math.Seq.{drop-cons}
 use Rattle.std.proofs.lemmas.Bool.Decides.{nat_tests}
 use Rattle.std.specs.Prelude.{◌==◌}
 use Rattle.cs_grammar.specs.View.{fields_view}
 use Rattle.cs_grammar.specs.declared.ast.Field.{Field}
+use Rattle.cs_defaults.specs.Checks.{Fails, FailsAny}
 use Rattle.cs_defaults.specs.Marks.{is_no_field}
+use Rattle.cs_defaults.specs.declared.fault.DefaultFault.{DefaultFault}
+use Rattle.cs_defaults.specs.declared.fault.DefaultFault.TheVariants.{OutOfMemory, Mark}
 
 not_zero : (n : ℕ) → (suc n == 0) ≡ false
 not_zero n = grind (arith, nat_tests)
@@ -29,6 +32,29 @@ first_right xs ys x none h = rw none h
 pub none_left : {X : Type 0} (xs ys : List X) → xs ≡ [] → xs ++ ys ≡ ys
 none_left xs ys none = rw none refl
 
+abbrev first_is : {X : Type 0} → X → List X → Type 0
+first_is x xs = slice_get xs 0 ≡ Some x
+
+-- a check that fails for the first part fails for the whole
+pub fails_left : (e : DefaultFault) (file : ℕ) (xs ys : List ℕ) → Fails e file xs → Fails e file (xs ++ ys)
+fails_left OutOfMemory file xs ys h = tt
+fails_left (Mark f o) file xs ys h = (h.0, first_left xs ys o h.1)
+
+pub fails_right : (e : DefaultFault) (file : ℕ) (xs ys : List ℕ) → xs ≡ [] → Fails e file ys → Fails e file (xs ++ ys)
+fails_right e file xs ys none h = rw none h
+
+pub fails_any : (e : DefaultFault) (xs ys : List (ℕ × ℕ)) → FailsAny e xs → FailsAny e (xs ++ ys)
+fails_any OutOfMemory xs ys h = tt
+fails_any (Mark f o) xs ys h = first_left xs ys (f, o) h
+
+pub first_numbered : (i : ℕ) (os : List ℕ) (o : ℕ) → slice_get os 0 ≡ Some o → slice_get {X = ℕ × ℕ} (map (λ p. (i, p)) os) 0 ≡ Some (i, o)
+first_numbered i [] o h = cc
+first_numbered i (p ∷ os) o h = cc
+
+pub fails_numbered : (e : DefaultFault) (file : ℕ) (os : List ℕ) → Fails e file os → FailsAny e (map (λ o. (file, o)) os)
+fails_numbered OutOfMemory file os h = tt
+fails_numbered (Mark f o) file os h = rw h.0 (first_numbered file os o h.1)
+
 -- F gathers what the elements of a list have, one after another
 module _ {A X : Type 0} (F : List A → List X) (own : A → List X) (parts : (a : A) (rest : List A) → F (a ∷ rest) ≡ own a ++ F rest) (xs : List A) (i : ℕ) (a : A) (l : i < length xs) (is : a ≡ get_or xs i a) (all : F xs ≡ F (drop i xs)) where
   cut : F xs ≡ own a ++ F (drop (i + 1) xs)
@@ -38,6 +64,10 @@ module _ {A X : Type 0} (F : List A → List X) (own : A → List X) (parts : (a
   pub none_more : own a ≡ [] → F xs ≡ F (drop (i + 1) xs)
   none_more none = cut ∙ none_left (own a) (F (drop (i + 1) xs)) none
 
+  -- what holds of this element's holds of all
+  pub whole_from : (P : List X → Type 0) → ((ys zs : List X) → P ys → P (ys ++ zs)) → P (own a) → P (F xs)
+  whole_from P kept here = rw cut (kept (own a) (F (drop (i + 1) xs)) here)
+
   -- the first is that of this element
   pub first_here : (x : X) → slice_get (own a) 0 ≡ Some x → slice_get (F xs) 0 ≡ Some x
-  first_here x here = ap (λ ys. slice_get ys 0) cut ∙ first_left (own a) (F (drop (i + 1) xs)) x here
+  first_here x = whole_from (first_is x) (λ ys zs. first_left ys zs x)

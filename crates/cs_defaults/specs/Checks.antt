@@ -24,17 +24,24 @@ abbrev pub Finds : {Y : Type 0} → Result Y ℕ → List ℕ → Type 0
 Finds (Ok y) found = found ≡ []
 Finds (Err o) found = slice_get found 0 ≡ Some o
 
+-- it is the first of those that are found in the file of that number, or memory ran out
+abbrev pub Fails : DefaultFault → ℕ → List ℕ → Type 0
+Fails OutOfMemory file found = Unit {0}
+Fails (Mark f o) file found = (f ≡ file) × (slice_get found 0 ≡ Some o)
+
 -- the same of a check that may lack memory, in the file of that number
 abbrev pub FindsIn : {Y : Type 0} → Result Y DefaultFault → ℕ → List ℕ → Type 0
 FindsIn (Ok y) file found = found ≡ []
-FindsIn (Err OutOfMemory) file found = Unit {0}
-FindsIn (Err (Mark f o)) file found = (f ≡ file) × (slice_get found 0 ≡ Some o)
+FindsIn (Err e) file found = Fails e file found
 
 -- the same in several files
+abbrev pub FailsAny : DefaultFault → List (ℕ × ℕ) → Type 0
+FailsAny OutOfMemory found = Unit {0}
+FailsAny (Mark f o) found = slice_get found 0 ≡ Some (f, o)
+
 abbrev pub FindsAny : {Y : Type 0} → Result Y DefaultFault → List (ℕ × ℕ) → Type 0
 FindsAny (Ok y) found = found ≡ []
-FindsAny (Err OutOfMemory) found = Unit {0}
-FindsAny (Err (Mark f o)) found = slice_get found 0 ≡ Some (f, o)
+FindsAny (Err e) found = FailsAny e found
 
 -- an offset, if there is one
 abbrev pub place_list : Option ℕ → List ℕ

@@ -62,7 +62,23 @@ fn is_default(expr: &Expr) -> bool
 {
     match expr {
         Expr::Wide(Wide::Marked { value, .. }) => is_literal(value),
-        _ => false,
+        Expr::Top
+        | Expr::Bottom
+        | Expr::Null
+        | Expr::Bool(_)
+        | Expr::Int(_)
+        | Expr::Text(_)
+        | Expr::Name { .. }
+        | Expr::Reference { .. }
+        | Expr::Bound { .. }
+        | Expr::NotInt(_)
+        | Expr::NotText(_)
+        | Expr::NotNull
+        | Expr::And(_)
+        | Expr::Or(_)
+        | Expr::Paren(_)
+        | Expr::Struct { .. }
+        | Expr::List { .. } => false,
     }
 }
 

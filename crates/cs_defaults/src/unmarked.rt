@@ -1,6 +1,7 @@
 // Expressions without their marks.
 ghost use Rattle.std.specs.Prelude.{◌≡◌, ℕ, Bool, List, map, IfOk};
-ghost use Rattle.cs_grammar.specs.View.{expr_view, exprs_view, field_view, fields_view, end_view, definition_view, file_view};
+ghost use Rattle.cs_grammar.specs.Tree.{wide};
+ghost use Rattle.cs_grammar.specs.View.{expr_view, exprs_view, field_view, fields_view, end_view, wide_view, definition_view, file_view};
 ghost use Rattle.cs_defaults.specs.Unmarked as Spec;
 ghost use Rattle.cs_defaults.specs.Unmarked.{optional_if, unmarked_each, unmarked_fields, unmarked_end, unmarked_definition, unmarked_file};
 ghost use Rattle.cs_defaults.specs.Checks.{TellsHanding, unmarked_seen};
@@ -50,7 +51,7 @@ impl Unmarking<'_, '_> {
                 let end = self.unmarked_end(end)?;
                 Ok(Expr::List { front, end })
             }
-            Expr::Wide(Wide::Marked { value, .. }) => self.unmarked(value),
+            Expr::Wide(form) => self.unmarked_form(form),
             Expr::Top => Ok(Expr::Top),
             Expr::Bottom => Ok(Expr::Bottom),
             Expr::Null => Ok(Expr::Null),
@@ -72,6 +73,17 @@ impl Unmarking<'_, '_> {
             Expr::NotInt(integer) => Ok(Expr::NotInt(*integer)),
             Expr::NotText(text) => Ok(Expr::NotText(text.clone()?)),
             Expr::NotNull => Ok(Expr::NotNull),
+        }
+    }
+
+    /// What a form of the wide profile stands for.
+    #[cycle(unmark)]
+    fn unmarked_form(&self, form: &Wide) -> Result<Expr, AllocError>
+        ensures { (has : List ℕ → Bool) → TellsHanding self.now.handing.now has
+            → IfOk result (λ e. expr_view e ≡ Spec.unmarked has (wide (wide_view form.now))) }
+    {
+        match form {
+            Wide::Marked { value, .. } => self.unmarked(value),
         }
     }
 
