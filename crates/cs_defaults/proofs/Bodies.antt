@@ -1,7 +1,7 @@
 -- Definitions one after another: their bodies, and their names.
 use Rattle.std.proofs.Common.{◌≡◌, ℕ, ◌+◌, ◌<◌, Bool, true, false, ◌||◌, ◌&&◌, cond, List, [], ◌∷◌, ◌++◌, Option, Some, None, is_some, map, filter, take, length, get_or, refl, sym, ap, ap₂, ◌∙◌, subst, string_bytes, arith}
 use Rattle.std.specs.Borrow.{Bor}
-use Rattle.std.specs.BTreeMap.{BTreeMap, get_by}
+use Rattle.std.specs.BTreeMap.{BTreeMap, get_by, is_at}
 use Rattle.std.specs.BTreeSet.{BTreeSet}
 use Rattle.std.specs.Cmp.Lexicographic.{slice_cmp}
 use Rattle.std.specs.Ordering.{nat_cmp}
@@ -21,7 +21,7 @@ use Rattle.cs_grammar.specs.declared.ast.File.{File}
 use Rattle.cs_defaults.specs.Checks.{TellsBody, TellsBodies, TellsHandingOf, is_declared}
 use Rattle.cs_defaults.specs.Leading.{bodies, hands_on, leads, most_passed, leading_of, to}
 use Rattle.cs_defaults.proofs.AbsentLabels.{take_at}
-use Rattle.cs_defaults.proofs.TextSets.{Puts, has_text, has_text_put, or_nothing}
+use Rattle.cs_defaults.proofs.TextSets.{Puts, has_text_put, or_nothing, and_false}
 
 -- ---- bodies
 
@@ -70,6 +70,9 @@ put_again (Some x) e h = refl
 
 declared_push : (s : List ℕ) (ds : List DefinitionTree) (d : DefinitionTree) → is_declared (ds ++ d ∷ []) s ≡ (is_declared ds s || bytes_eq (defined_name d) s)
 declared_push s ds d = list_any-append (λ (x : DefinitionTree). bytes_eq (defined_name x) s) ds (d ∷ []) ∙ ap (λ b. is_declared ds s || b) (or_nothing (bytes_eq (defined_name d) s))
+
+pub none_told : (names : BTreeSet (Bor (List ℕ))) (has : List ℕ → Bool) → names.keys ≡ [] → TellsHandingOf names has []
+none_told names has empty s = ap (λ ks. list_any (is_at (λ (k : Bor (List ℕ)). slice_cmp nat_cmp s k.now)) ks) empty ∙ sym (and_false (has s))
 
 module _ (names : BTreeSet (Bor (List ℕ))) (has : List ℕ → Bool) (ds : List DefinitionTree) (d : DefinitionTree) (told : TellsHandingOf names has ds) where
   pub name_added : (after : BTreeSet (Bor (List ℕ))) (k : Bor (List ℕ)) → defined_name d ≡ k.now → has k.now ≡ true → Puts names after k → TellsHandingOf after has (ds ++ d ∷ [])

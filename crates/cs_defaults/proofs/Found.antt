@@ -3,10 +3,14 @@ use Rattle.std.proofs.Common.{◌≡◌, ℕ, suc, ◌+◌, ◌<◌, List, [], �
 use Rattle.std.proofs.Math.Seq.{drop-cons}
 use Rattle.std.proofs.lemmas.Bool.Decides.{nat_tests}
 use Rattle.std.specs.Prelude.{◌==◌}
-use Rattle.cs_grammar.specs.View.{fields_view}
+use Rattle.std.specs.List.{flat_map}
+use Rattle.cs_grammar.specs.Tree.{Tree, body}
+use Rattle.cs_grammar.specs.View.{definition_view, fields_view, file_view}
 use Rattle.cs_grammar.specs.declared.ast.Field.{Field}
+use Rattle.cs_grammar.specs.declared.ast.File.{File}
 use Rattle.cs_defaults.specs.Checks.{Fails, FailsAny}
 use Rattle.cs_defaults.specs.Marks.{is_no_field}
+use Rattle.cs_defaults.specs.Widened.{places_from}
 use Rattle.cs_defaults.specs.declared.fault.DefaultFault.{DefaultFault}
 use Rattle.cs_defaults.specs.declared.fault.DefaultFault.TheVariants.{OutOfMemory, Mark}
 
@@ -71,3 +75,15 @@ module _ {A X : Type 0} (F : List A → List X) (own : A → List X) (parts : (a
   -- the first is that of this element
   pub first_here : (x : X) → slice_get (own a) 0 ≡ Some x → slice_get (F xs) 0 ≡ Some x
   first_here x = whole_from (first_is x) (λ ys zs. first_left ys zs x)
+
+-- ---- files, which are numbered
+
+abbrev pub in_file : (Tree → List ℕ) → ℕ → File → List (ℕ × ℕ)
+in_file found i f = map (λ o. (i, o)) (flat_map (λ d. found (body d)) (map definition_view f.definitions.items))
+
+-- the places from a file on
+pub files_cut : (found : Tree → List ℕ) (fs : List File) (i : ℕ) (f : File) → i < length fs → f ≡ get_or fs i f → places_from found i (map file_view (drop i fs)) ≡ in_file found i f ++ places_from found (i + 1) (map file_view (drop (i + 1) fs))
+files_cut found fs i f l is = ap (λ gs. places_from found i (map file_view gs)) (at_place fs i f l is) ∙ ap (λ j. in_file found i f ++ places_from found j (map file_view (drop (i + 1) fs))) (sym (add-one i))
+
+pub files_more : (found : Tree → List ℕ) (fs : List File) (i : ℕ) (f : File) → i < length fs → f ≡ get_or fs i f → places_from found 0 (map file_view fs) ≡ places_from found i (map file_view (drop i fs)) → flat_map (λ d. found (body d)) (map definition_view f.definitions.items) ≡ [] → places_from found 0 (map file_view fs) ≡ places_from found (i + 1) (map file_view (drop (i + 1) fs))
+files_more found fs i f l is all none = all ∙ files_cut found fs i f l is ∙ ap (λ os. map (λ o. (i, o)) os ++ places_from found (i + 1) (map file_view (drop (i + 1) fs))) none
