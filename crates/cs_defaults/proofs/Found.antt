@@ -1,7 +1,8 @@
 -- What the parts of a list find, one after another.
-use Rattle.std.proofs.Common.{◌≡◌, ℕ, suc, ◌+◌, ◌<◌, List, [], ◌∷◌, ◌++◌, Some, map, drop, length, get_or, slice_get, false, refl, sym, ap, ◌∙◌, add-one, arith}
+use Rattle.std.proofs.Common.{◌≡◌, ℕ, suc, ◌+◌, ◌<◌, List, [], ◌∷◌, ◌++◌, Some, map, drop, length, get_or, slice_get, false, refl, sym, ap, ap₂, take, ◌∙◌, add-one, arith}
 use Rattle.std.proofs.Math.Seq.{drop-cons}
 use Rattle.std.proofs.lemmas.Bool.Decides.{nat_tests}
+use Rattle.std.proofs.lemmas.List.{map-append}
 use Rattle.std.specs.Prelude.{◌==◌}
 use Rattle.std.specs.List.{flat_map}
 use Rattle.cs_grammar.specs.Tree.{Tree, body}
@@ -9,6 +10,7 @@ use Rattle.cs_grammar.specs.View.{definition_view, fields_view, file_view}
 use Rattle.cs_grammar.specs.declared.ast.Field.{Field}
 use Rattle.cs_grammar.specs.declared.ast.File.{File}
 use Rattle.cs_defaults.specs.Checks.{Fails, FailsAny}
+use Rattle.cs_defaults.proofs.AbsentLabels.{take_at}
 use Rattle.cs_defaults.specs.Marks.{is_no_field}
 use Rattle.cs_defaults.specs.Widened.{places_from}
 use Rattle.cs_defaults.specs.declared.fault.DefaultFault.{DefaultFault}
@@ -87,3 +89,12 @@ files_cut found fs i f l is = ap (λ gs. places_from found i (map file_view gs))
 
 pub files_more : (found : Tree → List ℕ) (fs : List File) (i : ℕ) (f : File) → i < length fs → f ≡ get_or fs i f → places_from found 0 (map file_view fs) ≡ places_from found i (map file_view (drop i fs)) → flat_map (λ d. found (body d)) (map definition_view f.definitions.items) ≡ [] → places_from found 0 (map file_view fs) ≡ places_from found (i + 1) (map file_view (drop (i + 1) fs))
 files_more found fs i f l is all none = all ∙ files_cut found fs i f l is ∙ ap (λ os. map (λ o. (i, o)) os ++ places_from found (i + 1) (map file_view (drop (i + 1) fs))) none
+
+-- ---- copies, one after another
+
+pub map_pushed : {X Y Z : Type 0} (own : X → Z) (view : Y → Z) (xs : List X) (i : ℕ) (x : X) → i < length xs → x ≡ get_or xs i x → (ys zs : List Y) (y : Y) → zs ≡ ys ++ y ∷ [] → map view ys ≡ map own (take i xs) → view y ≡ own x → map view zs ≡ map own (take (i + 1) xs)
+map_pushed own view xs i x l is ys zs y grown before same =
+    ap (map view) grown
+    ∙ map-append view ys (y ∷ [])
+    ∙ ap₂ (λ zs z. zs ++ z ∷ []) before same
+    ∙ sym (ap (map own) (take_at xs i x l is) ∙ map-append own (take i xs) (x ∷ []))

@@ -35,11 +35,7 @@ pub fn without_marks(alloc: Global, files: &[File]) -> Result<Vec<File>, Default
         alloc,
         handing: &handing,
     };
-    let mut unmarked = Vec::with_capacity(alloc, files.len())?;
-    for file in files {
-        unmarked.push(unmarking.unmarked_file(file)?)?;
-    }
-    Ok(unmarked)
+    Ok(unmarking.unmarked_files(files)?)
 }
 
 /// Looks for the first mark out of place.

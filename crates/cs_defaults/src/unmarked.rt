@@ -142,6 +142,16 @@ impl Unmarking<'_, '_> {
         }
     }
 
+    fn unmarked_definition(&self, definition: &Definition) -> Result<Definition, AllocError>
+        ensures { (has : List ℕ → Bool) → TellsHanding self.now.handing.now has
+            → IfOk result (λ d. definition_view d ≡ unmarked_definition has (definition_view definition.now)) }
+    {
+        let body = self.unmarked(&definition.body)?;
+        let name = definition.name.clone()?;
+        let at = definition.at;
+        Ok(Definition { name, at, body })
+    }
+
     fn unmarked_definitions(
         &self,
         definitions: &[Definition],
@@ -152,16 +162,13 @@ impl Unmarking<'_, '_> {
     {
         let mut unmarked = Vec::with_capacity(self.alloc, definitions.len())?;
         for definition in definitions {
-            let body = self.unmarked(&definition.body)?;
-            let name = definition.name.clone()?;
-            let at = definition.at;
-            unmarked.push(Definition { name, at, body })?;
+            unmarked.push(self.unmarked_definition(definition)?)?;
         }
         Ok(unmarked)
     }
 
     /// The file without its marks.
-    pub(crate) fn unmarked_file(&self, file: &File) -> Result<File, AllocError>
+    fn unmarked_file(&self, file: &File) -> Result<File, AllocError>
         ensures { (has : List ℕ → Bool) → TellsHanding self.now.handing.now has
             → IfOk result (λ f. file_view f ≡ unmarked_file has (file_view file.now)) }
     {
@@ -174,5 +181,16 @@ impl Unmarking<'_, '_> {
             package,
             definitions,
         })
+    }
+    /// The files without their marks.
+    pub(crate) fn unmarked_files(&self, files: &[File]) -> Result<Vec<File>, AllocError>
+        ensures { (has : List ℕ → Bool) → TellsHanding self.now.handing.now has
+            → IfOk result (λ v. map file_view v.items ≡ map (unmarked_file has) (map file_view files.now)) }
+    {
+        let mut unmarked = Vec::with_capacity(self.alloc, files.len())?;
+        for file in files {
+            unmarked.push(self.unmarked_file(file)?)?;
+        }
+        Ok(unmarked)
     }
 }

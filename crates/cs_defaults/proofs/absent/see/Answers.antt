@@ -1,4 +1,4 @@
-use Rattle.std.proofs.Common.{rules, ◌≡◌, true, false, sym, ◌∙◌}
+use Rattle.std.proofs.Common.{rules, ◌≡◌, true, false}
 use Rattle.cs_defaults.proofs.TextSets.{has_text, seen_first, seen_again}
 use Rattle.cs_defaults.proofs.absent.see.Goals as goal
 

@@ -1,4 +1,4 @@
-use Rattle.std.proofs.Common.{◌≡◌, refl, sym, ◌∙◌}
+use Rattle.std.proofs.Common.{refl, sym, ◌∙◌}
 use Rattle.std.proofs.lemmas.Map.Text.{btree_map_updates_str}
 use Rattle.cs_defaults.proofs.Bodies.{put_first, put_again, body_added}
 use Rattle.cs_defaults.proofs.leading.add_body.Goals as goal

@@ -1,4 +1,4 @@
-use Rattle.std.proofs.Common.{◌++◌, map, take, sym, ap, ◌∙◌, subst}
+use Rattle.std.proofs.Common.{◌++◌, map, take, sym, ◌∙◌, subst}
 use Rattle.std.proofs.lemmas.List.{take_all}
 use Rattle.cs_grammar.specs.View.{definition_view}
 use Rattle.cs_defaults.specs.Checks.{TellsHandingOf}

@@ -1,4 +1,4 @@
-use Rattle.std.proofs.Common.{◌≡◌, ◌||◌, List, ℕ, [], cond, string_bytes, sym, ap, ◌∙◌}
+use Rattle.std.proofs.Common.{◌||◌, [], cond, string_bytes, sym, ap, ◌∙◌}
 use Rattle.cs_grammar.specs.View.{expr_view}
 use Rattle.cs_defaults.specs.Absent.{is_repeated, excluded}
 use Rattle.cs_defaults.specs.Leading.{leading, place_of}

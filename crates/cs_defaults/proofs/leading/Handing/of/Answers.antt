@@ -1,4 +1,4 @@
-use Rattle.std.proofs.Common.{◌≡◌, false, ◌&&◌, map, take, sym, ap, ◌∙◌, subst}
+use Rattle.std.proofs.Common.{◌&&◌, map, take, sym, ap, ◌∙◌, subst}
 use Rattle.std.proofs.lemmas.List.{take_all}
 use Rattle.std.specs.List.{flat_map}
 use Rattle.cs_grammar.specs.Tree.{definitions}

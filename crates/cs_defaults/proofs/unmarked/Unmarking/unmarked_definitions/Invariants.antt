@@ -5,4 +5,4 @@ use Rattle.cs_defaults.specs.Checks.{TellsHanding}
 use Rattle.cs_defaults.proofs.unmarked.Unmarking.unmarked_definitions.Given as goal
 
 abbrev pub invariant-loop-definition : goal.invariant-loop-definition
-invariant-loop-definition l = (has : List ℕ → Bool) → TellsHanding l.self.handing.now has → map definition_view l.unmarked.items ≡ map (unmarked_definition has) (map definition_view (take l.definition-index l.definitions))
+invariant-loop-definition l = (has : List ℕ → Bool) → TellsHanding l.self.handing.now has → map definition_view l.unmarked.items ≡ map (λ d. unmarked_definition has (definition_view d)) (take l.definition-index l.definitions)

@@ -1,8 +1,0 @@
-use Rattle.std.proofs.Common.{◌≡◌, ℕ, Bool, List, map, take}
-use Rattle.cs_grammar.specs.View.{file_view}
-use Rattle.cs_defaults.specs.Unmarked.{unmarked_file}
-use Rattle.cs_defaults.specs.Checks.{TellsHanding}
-use Rattle.cs_defaults.proofs.files.without_marks.Given as goal
-
-abbrev pub invariant-loop-file : goal.invariant-loop-file
-invariant-loop-file l = (has : List ℕ → Bool) → TellsHanding l.handing has → map file_view l.unmarked.items ≡ map (unmarked_file has) (map file_view (take l.file-index l.files))
