@@ -1,1 +1,5 @@
--- Proofs.
+pub mod AbsentLabels
+pub mod Bodies
+pub mod Found
+pub mod Leads
+pub mod TextSets

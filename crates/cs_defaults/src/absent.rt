@@ -1,9 +1,9 @@
 // Defaults that another declaration of their label could exclude.
-ghost use Rattle.std.specs.Prelude.{◌≡◌, ℕ, Bool, List, IfOk};
+ghost use Rattle.std.specs.Prelude.{◌≡◌, ℕ, Bool, ◌||◌, List, [], ◌∷◌, ◌++◌, IfOk, OnOk, string_bytes};
 ghost use Rattle.cs_grammar.specs.View.{expr_view, exprs_view, fields_view, end_view};
 ghost use Rattle.cs_defaults.specs.Absent as Spec;
-ghost use Rattle.cs_defaults.specs.Absent.{clashes, clashes_each, clashes_fields, clashes_end, absent_labels};
-ghost use Rattle.cs_defaults.specs.Checks.{FindsIn, TellsHanding, TellsRepeated};
+ghost use Rattle.cs_defaults.specs.Absent.{clashes, clashes_each, clashes_fields, clashes_end, absent_labels, excluded, is_repeated};
+ghost use Rattle.cs_defaults.specs.Checks.{FindsIn, place_list, TellsHanding, TellsRepeated, TellsSeen};
 
 use crate::DefaultFault;
 use crate::leading::Handing;
@@ -26,17 +26,49 @@ struct Absences<'e> {
     has_every: bool,
 }
 
+impl Absences<'_> {
+    /// Whether another declaration could exclude the default of one with that label.
+    fn exclude(&self, label: &str) -> bool
+        ensures { (absent : List (List ℕ)) → TellsRepeated self.now.repeated absent
+            → result ≡ (self.now.has_every || is_repeated label.now absent) }
+    {
+        self.has_every || self.repeated.contains(label)
+    }
+}
+
+/// Whether a declaration is `[string]: T`.
 fn has_every(fields: &[Field]) -> bool
     ensures { result ≡ Spec.has_every (fields_view fields.now) }
 {
-    fields
-        .iter()
-        .any(|field| matches!(field.mark, FieldMark::Every { .. }))
+    for field in fields {
+        if let FieldMark::Every { .. } = field.mark {
+            return true;
+        }
+    }
+    false
+}
+
+/// Puts a label into the first set, and into the second one if it is there already.
+fn see<'e>(
+    seen: &mut BTreeSet<&'e str>,
+    repeated: &mut BTreeSet<&'e str>,
+    label: &'e str,
+) -> Result<(), AllocError>
+    ensures { OnOk result ((labels : List (List ℕ)) → TellsSeen seen.old repeated.old labels
+        → TellsSeen seen.new repeated.new (labels ++ label.now ∷ [])) }
+{
+    if !seen.insert(label)? {
+        repeated.insert(label)?;
+    }
+    Ok(())
 }
 
 impl Clashes<'_, '_> {
     /// Whether the key of a declaration may be absent.
-    fn may_be_absent(&self, field: &Field) -> bool {
+    fn may_be_absent(&self, field: &Field) -> bool
+        ensures { (has : List ℕ → Bool) → TellsHanding self.now.handing.now has
+            → result ≡ Spec.may_be_absent has field.now.mark (expr_view field.now.value) }
+    {
         match field.mark {
             FieldMark::Regular => self.handing.has_default(&field.value),
             FieldMark::Optional => true,
@@ -52,9 +84,8 @@ impl Clashes<'_, '_> {
         let mut seen = BTreeSet::new(self.alloc);
         let mut repeated = BTreeSet::new(self.alloc);
         for field in fields {
-            let label = field.label.as_str();
-            if self.may_be_absent(field) && !seen.insert(label)? {
-                repeated.insert(label)?;
+            if self.may_be_absent(field) {
+                see(&mut seen, &mut repeated, &field.label)?;
             }
         }
         Ok(repeated)
@@ -120,15 +151,37 @@ impl Clashes<'_, '_> {
         Ok(())
     }
 
-    /// Whether the default of a declaration could be excluded by another one.
-    fn check_own(&self, absences: &Absences<'_>, field: &Field) -> Result<(), DefaultFault> {
-        let is_excluded = absences.has_every || absences.repeated.contains(field.label.as_str());
-        match (field.mark, self.handing.place_of(&field.value)) {
-            (FieldMark::Regular, Some(offset)) if is_excluded => Err(DefaultFault::Mark {
+    /// The offset of the default of a declaration, where another one could exclude it.
+    fn excluded(&self, absences: &Absences<'_>, field: &Field) -> Option<usize>
+        ensures { (has : List ℕ → Bool) (absent : List (List ℕ)) → TellsHanding self.now.handing.now has
+            → TellsRepeated absences.now.repeated absent
+            → place_list result ≡ excluded has absences.now.has_every absent (string_bytes field.now.label)
+            field.now.mark (expr_view field.now.value) }
+    {
+        match field.mark {
+            FieldMark::Regular if absences.exclude(&field.label) => {
+                self.handing.place_of(&field.value)
+            }
+            FieldMark::Regular
+            | FieldMark::Optional
+            | FieldMark::Required
+            | FieldMark::Every { .. } => None,
+        }
+    }
+
+    /// Looks for a default of a declaration that another one could exclude.
+    fn check_own(&self, absences: &Absences<'_>, field: &Field) -> Result<(), DefaultFault>
+        ensures { (has : List ℕ → Bool) (absent : List (List ℕ)) → TellsHanding self.now.handing.now has
+            → TellsRepeated absences.now.repeated absent
+            → FindsIn result self.now.file (excluded has absences.now.has_every absent (string_bytes field.now.label)
+            field.now.mark (expr_view field.now.value)) }
+    {
+        match self.excluded(absences, field) {
+            Some(offset) => Err(DefaultFault::Mark {
                 file: self.file,
                 offset,
             }),
-            _ => Ok(()),
+            None => Ok(()),
         }
     }
 

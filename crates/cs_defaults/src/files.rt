@@ -1,7 +1,12 @@
 // What files stand for without their marks.
-ghost use Rattle.std.specs.Prelude.{◌≡◌, [], map, IfOk, IfErr, IsOkUnless};
-ghost use Rattle.cs_grammar.specs.View.{file_view};
-ghost use Rattle.cs_defaults.specs.Widened.{IsUnmarked, IsRefusal, mark_faults};
+ghost use Rattle.std.specs.Prelude.{◌≡◌, ℕ, Bool, true, List, [], map, IfOk, IfErr, IsOkUnless};
+ghost use Rattle.std.specs.List.{flat_map};
+ghost use Rattle.cs_grammar.specs.Tree.{body};
+ghost use Rattle.cs_grammar.specs.View.{definition_view, file_view};
+ghost use Rattle.cs_defaults.specs.Absent as Absent;
+ghost use Rattle.cs_defaults.specs.Checks.{Finds, FindsIn, FindsAny, TellsHanding};
+ghost use Rattle.cs_defaults.specs.Marks.{misplaced};
+ghost use Rattle.cs_defaults.specs.Widened.{IsUnmarked, IsRefusal, mark_faults, places_from};
 
 use crate::DefaultFault;
 use crate::absent::Clashes;
@@ -30,15 +35,13 @@ pub fn without_marks(alloc: Global, files: &[File]) -> Result<Vec<File>, Default
         alloc,
         handing: &handing,
     };
-    let mut unmarked = Vec::with_capacity(alloc, files.len())?;
-    for file in files {
-        unmarked.push(unmarking.unmarked_file(file)?)?;
-    }
-    Ok(unmarked)
+    Ok(unmarking.unmarked_files(files)?)
 }
 
 /// Looks for the first mark out of place.
-fn check_places(files: &[File]) -> Result<(), DefaultFault> {
+fn check_places(files: &[File]) -> Result<(), DefaultFault>
+    ensures { FindsAny result (places_from (misplaced true) 0 (map file_view files.now)) }
+{
     for (file, parsed) in files.iter().enumerate() {
         match check_bodies(&parsed.definitions) {
             Ok(()) => {}
@@ -48,7 +51,9 @@ fn check_places(files: &[File]) -> Result<(), DefaultFault> {
     Ok(())
 }
 
-fn check_bodies(definitions: &[Definition]) -> Result<(), usize> {
+fn check_bodies(definitions: &[Definition]) -> Result<(), usize>
+    ensures { Finds result (flat_map (λ d. misplaced true (body d)) (map definition_view definitions.now)) }
+{
     for definition in definitions {
         check_marks(&definition.body, true)?;
     }
@@ -56,7 +61,10 @@ fn check_bodies(definitions: &[Definition]) -> Result<(), usize> {
 }
 
 /// Looks for the first default that could be excluded.
-fn check_clashes(alloc: Global, handing: &Handing<'_>, files: &[File]) -> Result<(), DefaultFault> {
+fn check_clashes(alloc: Global, handing: &Handing<'_>, files: &[File]) -> Result<(), DefaultFault>
+    ensures { (has : List ℕ → Bool) → TellsHanding handing.now has
+        → FindsAny result (places_from (Absent.clashes has) 0 (map file_view files.now)) }
+{
     for (file, parsed) in files.iter().enumerate() {
         let clashes = Clashes {
             alloc,
@@ -68,7 +76,10 @@ fn check_clashes(alloc: Global, handing: &Handing<'_>, files: &[File]) -> Result
     Ok(())
 }
 
-fn check_file(clashes: &Clashes<'_, '_>, definitions: &[Definition]) -> Result<(), DefaultFault> {
+fn check_file(clashes: &Clashes<'_, '_>, definitions: &[Definition]) -> Result<(), DefaultFault>
+    ensures { (has : List ℕ → Bool) → TellsHanding clashes.now.handing.now has
+        → FindsIn result clashes.now.file (flat_map (λ d. Absent.clashes has (body d)) (map definition_view definitions.now)) }
+{
     for definition in definitions {
         clashes.check(&definition.body)?;
     }

@@ -1,11 +1,11 @@
 // Which values have a default, of their own or by a definition.
-ghost use Rattle.std.specs.Prelude.{◌≡◌, ℕ, Bool, List, ◌++◌, map, IfOk, OnOk};
+ghost use Rattle.std.specs.Prelude.{◌≡◌, ℕ, Bool, List, [], ◌∷◌, ◌++◌, map, IfOk, OnOk};
 ghost use Rattle.std.specs.List.{flat_map};
-ghost use Rattle.cs_grammar.specs.Tree.{DefinitionTree, definitions};
+ghost use Rattle.cs_grammar.specs.Tree.{DefinitionTree, defined_name, definitions};
 ghost use Rattle.cs_grammar.specs.View.{expr_view, exprs_view, definition_view, file_view};
 ghost use Rattle.cs_defaults.specs.Leading as Spec;
 ghost use Rattle.cs_defaults.specs.Leading.{leads, to};
-ghost use Rattle.cs_defaults.specs.Checks.{leading_view, place_list, TellsBodies, TellsHanding};
+ghost use Rattle.cs_defaults.specs.Checks.{leading_view, place_list, TellsBodies, TellsHanding, TellsHandingOf};
 
 use cs_grammar::{Definition, Expr, File, Wide};
 use std::alloc::{AllocError, Global};
@@ -84,6 +84,21 @@ fn hands_on(bodies: &Bodies<'_>, name: &str, most: usize) -> bool
     }
 }
 
+/// Adds the body of a definition: none of a name that has one already.
+fn add_body<'a>(bodies: &mut Bodies<'a>, definition: &'a Definition) -> Result<(), AllocError>
+    ensures { OnOk result ((ds : List DefinitionTree) → TellsBodies bodies.old ds
+        → TellsBodies bodies.new (ds ++ definition_view definition.now ∷ [])) }
+{
+    let name = definition.name.as_str();
+    let body = if bodies.contains_key(name) {
+        None
+    } else {
+        Some(&definition.body)
+    };
+    bodies.insert(name, body)?;
+    Ok(())
+}
+
 /// Adds the definitions of a file to the table of bodies.
 fn add_bodies<'a>(
     bodies: &mut Bodies<'a>,
@@ -93,13 +108,7 @@ fn add_bodies<'a>(
         (ds ++ map definition_view definitions.now.items)) }
 {
     for definition in definitions {
-        let name = definition.name.as_str();
-        let body = if bodies.contains_key(name) {
-            None
-        } else {
-            Some(&definition.body)
-        };
-        bodies.insert(name, body)?;
+        add_body(bodies, definition)?;
     }
     Ok(())
 }
@@ -114,17 +123,34 @@ fn bodies_of<'a>(alloc: Global, files: &'a [File]) -> Result<Bodies<'a>, AllocEr
     Ok(bodies)
 }
 
+/// Adds the name of a definition, if it hands on a default.
+fn add_name<'a>(
+    names: &mut BTreeSet<&'a str>,
+    bodies: &Bodies<'_>,
+    name: &'a str,
+) -> Result<(), AllocError>
+    ensures { OnOk result ((all ds : List DefinitionTree) (d : DefinitionTree) → TellsBodies bodies.now all
+        → TellsHandingOf names.old (Spec.hands_on all) ds → defined_name d ≡ name.now
+        → TellsHandingOf names.new (Spec.hands_on all) (ds ++ d ∷ [])) }
+{
+    if hands_on(bodies, name, MOST_PASSED) {
+        names.insert(name)?;
+    }
+    Ok(())
+}
+
 /// Adds the names of those definitions of a file that hand on a default.
 fn add_handing<'a>(
     names: &mut BTreeSet<&'a str>,
     bodies: &Bodies<'_>,
     definitions: &'a Vec<Definition>,
-) -> Result<(), AllocError> {
+) -> Result<(), AllocError>
+    ensures { OnOk result ((all ds : List DefinitionTree) → TellsBodies bodies.now all
+        → TellsHandingOf names.old (Spec.hands_on all) ds
+        → TellsHandingOf names.new (Spec.hands_on all) (ds ++ map definition_view definitions.now.items)) }
+{
     for definition in definitions {
-        let name = definition.name.as_str();
-        if hands_on(bodies, name, MOST_PASSED) {
-            names.insert(name)?;
-        }
+        add_name(names, bodies, &definition.name)?;
     }
     Ok(())
 }

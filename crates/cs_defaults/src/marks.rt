@@ -62,7 +62,23 @@ fn is_default(expr: &Expr) -> bool
 {
     match expr {
         Expr::Wide(Wide::Marked { value, .. }) => is_literal(value),
-        _ => false,
+        Expr::Top
+        | Expr::Bottom
+        | Expr::Null
+        | Expr::Bool(_)
+        | Expr::Int(_)
+        | Expr::Text(_)
+        | Expr::Name { .. }
+        | Expr::Reference { .. }
+        | Expr::Bound { .. }
+        | Expr::NotInt(_)
+        | Expr::NotText(_)
+        | Expr::NotNull
+        | Expr::And(_)
+        | Expr::Or(_)
+        | Expr::Paren(_)
+        | Expr::Struct { .. }
+        | Expr::List { .. } => false,
     }
 }
 
@@ -111,12 +127,12 @@ fn check_each(exprs: &[Expr], are_whole: bool) -> Result<(), usize>
 fn check_operands(operands: &[Expr], may_be_marked: bool) -> Result<(), usize>
     ensures { Finds result (misplaced_operands may_be_marked (exprs_view operands.now)) }
 {
-    let mut may_be_marked = may_be_marked;
+    let mut may_mark = may_be_marked;
     for operand in operands {
-        if !(may_be_marked && is_default(operand)) {
+        if !(may_mark && is_default(operand)) {
             check_marks(operand, false)?;
         }
-        may_be_marked = may_be_marked && !is_marked(operand);
+        may_mark = may_mark && !is_marked(operand);
     }
     Ok(())
 }

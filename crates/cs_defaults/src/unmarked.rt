@@ -1,9 +1,10 @@
 // Expressions without their marks.
 ghost use Rattle.std.specs.Prelude.{◌≡◌, ℕ, Bool, List, map, IfOk};
-ghost use Rattle.cs_grammar.specs.View.{expr_view, exprs_view, field_view, fields_view, end_view, definition_view, file_view};
+ghost use Rattle.cs_grammar.specs.Tree.{wide};
+ghost use Rattle.cs_grammar.specs.View.{expr_view, exprs_view, field_view, fields_view, end_view, wide_view, definition_view, file_view};
 ghost use Rattle.cs_defaults.specs.Unmarked as Spec;
 ghost use Rattle.cs_defaults.specs.Unmarked.{optional_if, unmarked_each, unmarked_fields, unmarked_end, unmarked_definition, unmarked_file};
-ghost use Rattle.cs_defaults.specs.Checks.{TellsHanding};
+ghost use Rattle.cs_defaults.specs.Checks.{TellsHanding, unmarked_seen};
 
 use crate::leading::Handing;
 use cs_grammar::{Definition, Expr, Field, FieldMark, File, ListEnd, Wide};
@@ -50,7 +51,7 @@ impl Unmarking<'_, '_> {
                 let end = self.unmarked_end(end)?;
                 Ok(Expr::List { front, end })
             }
-            Expr::Wide(Wide::Marked { value, .. }) => self.unmarked(value),
+            Expr::Wide(form) => self.unmarked_form(form),
             Expr::Top => Ok(Expr::Top),
             Expr::Bottom => Ok(Expr::Bottom),
             Expr::Null => Ok(Expr::Null),
@@ -72,6 +73,17 @@ impl Unmarking<'_, '_> {
             Expr::NotInt(integer) => Ok(Expr::NotInt(*integer)),
             Expr::NotText(text) => Ok(Expr::NotText(text.clone()?)),
             Expr::NotNull => Ok(Expr::NotNull),
+        }
+    }
+
+    /// What a form of the wide profile stands for.
+    #[cycle(unmark)]
+    fn unmarked_form(&self, form: &Wide) -> Result<Expr, AllocError>
+        ensures { (has : List ℕ → Bool) → TellsHanding self.now.handing.now has
+            → IfOk result (λ e. expr_view e ≡ Spec.unmarked has (wide (wide_view form.now))) }
+    {
+        match form {
+            Wide::Marked { value, .. } => self.unmarked(value),
         }
     }
 
@@ -100,7 +112,10 @@ impl Unmarking<'_, '_> {
     }
 
     #[cycle(unmark)]
-    fn unmarked_field(&self, field: &Field) -> Result<Field, AllocError> {
+    fn unmarked_field(&self, field: &Field) -> Result<Field, AllocError>
+        ensures { (has : List ℕ → Bool) → TellsHanding self.now.handing.now has
+            → IfOk result (λ f. field_view f ≡ unmarked_seen has (field_view field.now)) }
+    {
         let value = self.unmarked(&field.value)?;
         let label = field.label.clone()?;
         let mark = optional_if(self.handing.has_default(&field.value), field.mark);
@@ -127,6 +142,16 @@ impl Unmarking<'_, '_> {
         }
     }
 
+    fn unmarked_definition(&self, definition: &Definition) -> Result<Definition, AllocError>
+        ensures { (has : List ℕ → Bool) → TellsHanding self.now.handing.now has
+            → IfOk result (λ d. definition_view d ≡ unmarked_definition has (definition_view definition.now)) }
+    {
+        let body = self.unmarked(&definition.body)?;
+        let name = definition.name.clone()?;
+        let at = definition.at;
+        Ok(Definition { name, at, body })
+    }
+
     fn unmarked_definitions(
         &self,
         definitions: &[Definition],
@@ -137,16 +162,13 @@ impl Unmarking<'_, '_> {
     {
         let mut unmarked = Vec::with_capacity(self.alloc, definitions.len())?;
         for definition in definitions {
-            let body = self.unmarked(&definition.body)?;
-            let name = definition.name.clone()?;
-            let at = definition.at;
-            unmarked.push(Definition { name, at, body })?;
+            unmarked.push(self.unmarked_definition(definition)?)?;
         }
         Ok(unmarked)
     }
 
     /// The file without its marks.
-    pub(crate) fn unmarked_file(&self, file: &File) -> Result<File, AllocError>
+    fn unmarked_file(&self, file: &File) -> Result<File, AllocError>
         ensures { (has : List ℕ → Bool) → TellsHanding self.now.handing.now has
             → IfOk result (λ f. file_view f ≡ unmarked_file has (file_view file.now)) }
     {
@@ -159,5 +181,16 @@ impl Unmarking<'_, '_> {
             package,
             definitions,
         })
+    }
+    /// The files without their marks.
+    pub(crate) fn unmarked_files(&self, files: &[File]) -> Result<Vec<File>, AllocError>
+        ensures { (has : List ℕ → Bool) → TellsHanding self.now.handing.now has
+            → IfOk result (λ v. map file_view v.items ≡ map (unmarked_file has) (map file_view files.now)) }
+    {
+        let mut unmarked = Vec::with_capacity(self.alloc, files.len())?;
+        for file in files {
+            unmarked.push(self.unmarked_file(file)?)?;
+        }
+        Ok(unmarked)
     }
 }

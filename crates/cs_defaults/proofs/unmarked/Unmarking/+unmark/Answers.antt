@@ -1,0 +1,44 @@
+use Rattle.std.proofs.Common.{rules, ◌≡◌, ℕ, List, [], ◌∷◌, Bool, map, refl, sym, ap, ◌∙◌, subst}
+use Rattle.std.proofs.lemmas.List.{take_all}
+use Rattle.std.specs.Result.{IfOk}
+use Rattle.cs_grammar.specs.View.{expr_view, exprs_view, trees_of, fields_of, field_view, fields_view, Seen, wide_view}
+use Rattle.cs_grammar.specs.Tree.{Fields, more, field, wide}
+use Rattle.cs_grammar.specs.declared.ast.Expr.{Expr}
+use Rattle.cs_grammar.specs.declared.ast.Field.{Field}
+use Rattle.cs_grammar.proofs.Views.{view-Wide, view-Marked}
+use Rattle.cs_defaults.specs.Unmarked as Spec
+use Rattle.cs_defaults.specs.Unmarked.{unmarked_each, unmarked_fields}
+use Rattle.cs_defaults.specs.Checks.{unmarked_seen}
+use Rattle.cs_defaults.proofs.unmarked.Unmarking.+unmark.Goals as goal
+
+abbrev put : Seen → Fields → Fields
+put f fs = field f.label f.mark f.value fs
+
+module _ (has : List ℕ → Bool) where
+  trees : (es : List Expr) → trees_of (map (λ e. Spec.unmarked has (expr_view e)) es) ≡ unmarked_each has (exprs_view es)
+  trees [] = refl
+  trees (e ∷ es) = ap (λ ts. more (Spec.unmarked has (expr_view e)) ts) (trees es)
+
+  fields : (fs : List Field) → fields_of (map (λ f. unmarked_seen has (field_view f)) fs) ≡ unmarked_fields has (fields_view fs)
+  fields [] = refl
+  fields (f ∷ fs) = ap (λ gs. put (unmarked_seen has (field_view f)) gs) (fields fs)
+
+pub unmarked_each-returns : goal.unmarked_each-returns
+unmarked_each-returns t c has tells =
+    let xs = c.args.exprs.now in
+    ap trees_of (c.loop-expr.invariant has tells ∙ ap (map (λ e. Spec.unmarked has (expr_view e))) (take_all c.loop-expr.expr-index xs c.loop-expr-test.false)) ∙ trees has xs
+
+pub unmarked_fields-returns : goal.unmarked_fields-returns
+unmarked_fields-returns t c has tells =
+    let xs = c.args.fields.now in
+    ap fields_of (c.loop-field.invariant has tells ∙ ap (map (λ f. unmarked_seen has (field_view f))) (take_all c.loop-field.field-index xs c.loop-field-test.false)) ∙ fields has xs
+
+pub unmarked-returns-in-Wide : goal.unmarked-returns-in-Wide
+unmarked-returns-in-Wide t c has tells =
+    let is = ap expr_view c.in-Wide.is ∙ view-Wide c.in-Wide.form in
+    subst (λ e. IfOk c.unmarked_form.result (λ f. expr_view f ≡ Spec.unmarked has e)) (sym is) (c.unmarked_form.ensures has tells)
+
+pub unmarked_form-returns : goal.unmarked_form-returns
+unmarked_form-returns t c has tells =
+    let is : Spec.unmarked has (wide (wide_view c.args.form.now)) ≡ Spec.unmarked has (expr_view c.deref.result.now) = search (rules, view-Marked, c.deref.ensures) in
+    subst (λ e. IfOk c.unmarked.result (λ f. expr_view f ≡ e)) (sym is) (c.unmarked.ensures has tells)
