@@ -1,5 +1,5 @@
 -- The labels of a literal's first declarations that may be absent.
-use Rattle.std.proofs.Common.{◌≡◌, ℕ, ◌+◌, ◌<◌, Bool, true, false, cond, List, [], ◌∷◌, ◌++◌, take, length, get_or, string_bytes, refl, sym, ap, ap₂, ◌∙◌}
+use Rattle.std.proofs.Common.{◌≡◌, ℕ, ◌+◌, ◌<◌, Bool, true, false, cond, List, [], ◌∷◌, ◌++◌, take, length, get_or, string_bytes, sym, ap, ap₂, ◌∙◌}
 use Rattle.std.proofs.lemmas.List.{take_more}
 use Rattle.cs_grammar.specs.View.{expr_view, field_view, fields_view}
 use Rattle.cs_grammar.specs.declared.ast.Field.{Field}

@@ -1,5 +1,5 @@
 -- Definitions one after another: their bodies, and their names.
-use Rattle.std.proofs.Common.{◌≡◌, ℕ, ◌+◌, ◌<◌, Bool, true, false, ◌||◌, ◌&&◌, cond, List, [], ◌∷◌, ◌++◌, Option, Some, None, is_some, map, filter, take, length, get_or, refl, sym, ap, ap₂, ◌∙◌, subst, string_bytes, arith}
+use Rattle.std.proofs.Common.{◌≡◌, ℕ, ◌+◌, ◌<◌, Bool, true, false, ◌||◌, ◌&&◌, cond, List, [], ◌∷◌, ◌++◌, Option, Some, None, is_some, map, filter, take, length, get_or, refl, sym, ap, ◌∙◌, subst, string_bytes, arith}
 use Rattle.std.specs.Borrow.{Bor}
 use Rattle.std.specs.BTreeMap.{BTreeMap, get_by, is_at}
 use Rattle.std.specs.BTreeSet.{BTreeSet}
@@ -19,7 +19,7 @@ use Rattle.cs_grammar.specs.declared.ast.Definition.{Definition}
 use Rattle.cs_grammar.specs.declared.ast.Expr.{Expr}
 use Rattle.cs_grammar.specs.declared.ast.File.{File}
 use Rattle.cs_defaults.specs.Checks.{TellsBody, TellsBodies, TellsHandingOf, is_declared}
-use Rattle.cs_defaults.specs.Leading.{bodies, hands_on, leads, most_passed, leading_of, to}
+use Rattle.cs_defaults.specs.Leading.{bodies, hands_on, leads, leading_of}
 use Rattle.cs_defaults.proofs.AbsentLabels.{take_at}
 use Rattle.cs_defaults.proofs.TextSets.{Puts, has_text_put, or_nothing, and_false}
 

@@ -1,5 +1,5 @@
 -- Sets of texts, and what is counted of labels.
-use Rattle.std.proofs.Common.{◌≡◌, ℕ, ◌+◌, Bool, true, false, ◌||◌, ◌&&◌, not, nat_lt, cond, List, [], ◌∷◌, ◌++◌, count_by, refl, sym, ap, ap₂, ◌∙◌, zero-add, arith}
+use Rattle.std.proofs.Common.{◌≡◌, ℕ, ◌+◌, Bool, true, false, ◌||◌, ◌&&◌, nat_lt, cond, List, [], ◌∷◌, ◌++◌, count_by, refl, sym, ap, ap₂, ◌∙◌, zero-add, arith}
 use Rattle.std.specs.Borrow.{Bor}
 use Rattle.std.specs.BTreeSet.{BTreeSet, Updates, contains_by}
 use Rattle.std.specs.Cmp.Lexicographic.{slice_cmp}

@@ -1,16 +1,23 @@
-// What holds of files without marks.
+// Laws of the definitions, whatever files there are.
 ghost use Rattle.std.specs.Prelude.{ℕ, Bool, List};
+ghost use Rattle.std.specs.List.{AllByRecursion};
 ghost use Rattle.cs_grammar.specs.DefaultForms.{IsDefaultFile};
 ghost use Rattle.cs_grammar.specs.Tree.{FileTree};
 ghost use Rattle.cs_grammar.specs.Written.{IsWrittenFile};
 ghost use Rattle.cs_defaults.specs.Unmarked.{unmarked_file};
+ghost use Rattle.cs_defaults.specs.Widened.{IsUnmarked};
 
-/// A file without its marks has no form of the wide profile.
+/// A law: a file without its marks has no form of the wide profile, at any depth.
 pub fn unmarked_files_have_default_forms()
     ensures { (has : List ℕ → Bool) (f : FileTree) → IsDefaultFile (unmarked_file has f) }
 {}
 
-/// A file that can be written down can be written down without its marks.
+/// A law: what can be written down with marks can be written down without them.
 pub fn unmarked_files_can_be_written()
     ensures { (has : List ℕ → Bool) (f : FileTree) → IsWrittenFile f → IsWrittenFile (unmarked_file has f) }
+{}
+
+/// A law: files without forms of the wide profile stand for themselves.
+pub fn default_files_stay()
+    ensures { (fs : List FileTree) → AllByRecursion IsDefaultFile fs → IsUnmarked fs fs }
 {}

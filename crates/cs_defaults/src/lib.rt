@@ -12,4 +12,6 @@ mod unmarked;
 pub use cs_grammar::File;
 pub use fault::DefaultFault;
 pub use files::without_marks;
-pub use laws::{unmarked_files_can_be_written, unmarked_files_have_default_forms};
+pub use laws::{
+    default_files_stay, unmarked_files_can_be_written, unmarked_files_have_default_forms,
+};

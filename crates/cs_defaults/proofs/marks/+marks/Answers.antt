@@ -1,7 +1,6 @@
 use Rattle.std.proofs.Common.{rules, ◌≡◌, ℕ, ◌+◌, Bool, true, false, ◌&&◌, not, List, [], ◌∷◌, ◌++◌, Some, slice_get, cond, drop, refl, sym, ap, ◌∙◌}
 use Rattle.std.proofs.lemmas.Result.{err_from_is_err_and}
 use Rattle.cs_grammar.specs.View.{expr_view, exprs_view, fields_view, end_view}
-use Rattle.cs_grammar.specs.declared.ast.Expr.{Expr}
 use Rattle.cs_grammar.specs.declared.ast.Field.{Field}
 use Rattle.cs_grammar.specs.Tree.{Tree, Trees, more}
 use Rattle.cs_grammar.proofs.Views.{view-List, view-value}

@@ -1,8 +1,6 @@
-use Rattle.std.proofs.Common.{◌≡◌, ℕ, Bool, List, ◌∷◌, ◌++◌, Some, slice_get, string_bytes, refl, sym, ap, ap₂, ◌∙◌, subst, append_assoc}
+use Rattle.std.proofs.Common.{◌≡◌, ℕ, Bool, List, ◌∷◌, ◌++◌, string_bytes, refl, sym, ap, ap₂, ◌∙◌, subst, append_assoc}
 use Rattle.std.proofs.lemmas.Result.{err_from_is_err_and}
-use Rattle.cs_grammar.specs.Tree.{Tree}
 use Rattle.cs_grammar.specs.View.{expr_view, exprs_view, fields_view, end_view, field_view}
-use Rattle.cs_grammar.specs.declared.ast.Expr.{Expr}
 use Rattle.cs_grammar.specs.declared.ast.Field.{Field}
 use Rattle.cs_grammar.proofs.Views.{view-List, view-value, view-text, view-mark}
 use Rattle.cs_defaults.specs.Absent.{clashes, clashes_each, clashes_fields, clashes_end, excluded}
