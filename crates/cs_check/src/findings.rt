@@ -1,17 +1,18 @@
 // What a check of sources or of a schema finds, in lines.
 ghost use Rattle.std.specs.Prelude.{◌≡◌, IfOk, None};
-ghost use Rattle.cs_check.specs.Told.{AreAccepted};
+ghost use Rattle.cs_check.specs.Told.{AreAccepted, AreAcceptedIn};
 ghost use Rattle.cs_tool.specs.CallRefusals.{IsSchemaText};
 ghost use Rattle.cs_tool.specs.Given.{bytes_in};
 
 use crate::schema::check_schema;
-use crate::sources::check;
+use crate::sources::{check, check_in};
 use crate::warnings::{put_warning, warned};
 use cs_fault_words::put_finding;
 use cs_guard::Guarded;
 use cs_place::Named;
 use cs_sources::{declared_in, sources_of};
 use cs_tool::{Fault, accepted_package};
+use cs_widen::{Profile, stands_for_in};
 use std::alloc::Global;
 
 /// What came of a check.
@@ -54,6 +55,44 @@ pub fn source_findings(
     if !faults.is_empty() {
         return faulty(alloc, &faults, root.unwrap_or(""), None, named);
     }
+    package_findings(alloc, sources, named, root)
+}
+
+/// What is found in the sources in a profile, as by [`source_findings`].
+///
+/// That what is told is so is proved where it is found: by `check_in` and `warned`. The words and the places in lines are tested.
+///
+/// # Errors
+/// Memory alone.
+pub fn source_findings_in(
+    alloc: Global,
+    profile: Profile,
+    sources: &[&[u8]],
+    named: &[Named<'_>],
+    root: Option<&str>,
+) -> Result<Findings, Fault>
+    ensures { IfOk result
+        (λ f. ¬ (f.checked ≡ Checked.Faulty) → AreAcceptedIn profile (bytes_in sources.now)) }
+{
+    let faults = check_in(alloc, profile, sources)?;
+    if !faults.is_empty() {
+        return faulty(alloc, &faults, root.unwrap_or(""), None, named);
+    }
+    match stands_for_in(alloc, profile, sources)? {
+        Some(meant) => package_findings(alloc, &[meant.as_bytes()], named, root),
+        None => package_findings(alloc, sources, named, root),
+    }
+}
+
+/// What is found in the package of sources without faults: that it hasn't the root, or else its warnings.
+fn package_findings(
+    alloc: Global,
+    sources: &[&[u8]],
+    named: &[Named<'_>],
+    root: Option<&str>,
+) -> Result<Findings, Fault>
+    ensures { root.entry ≡ None → IfOk result (λ f. ¬ (f.checked ≡ Checked.Faulty)) }
+{
     let package = accepted_package(alloc, sources)?;
     match root {
         Some(root) if package.package().find(root).is_none() => {

@@ -7,9 +7,10 @@ mod schema;
 mod sources;
 mod warnings;
 
-pub use findings::{Checked, Findings, schema_findings, source_findings};
+pub use cs_widen::Profile;
+pub use findings::{Checked, Findings, schema_findings, source_findings, source_findings_in};
 pub use schema::check_schema;
-pub use sources::check;
+pub use sources::{check, check_in};
 pub use warnings::{Warning, warned};
 
 /// The most faults that are told.

@@ -1,7 +1,8 @@
 // The faults of sources: the first one as they are, and then those that mending one after another meets.
 ghost use Rattle.std.specs.Prelude.{◌≡◌, ◌≤◌, ◌↔◌, [], length, IfOk, IsOkUnless};
+ghost use Rattle.cs_grammar.specs.declared.profile.Profile.TheVariants as profiles;
 ghost use Rattle.cs_tool.specs.Given.{bytes_in};
-ghost use Rattle.cs_check.specs.Told.{AreAccepted, BeginsWithFirst, BeginsWith};
+ghost use Rattle.cs_check.specs.Told.{AreAccepted, AreAcceptedIn, BeginsWithFirst, BeginsWithFirstIn, BeginsWith};
 
 mod draft;
 mod mends;
@@ -10,6 +11,7 @@ mod reading;
 use crate::MOST_FAULTS;
 use crate::sources::reading::further_faults;
 use cs_tool::{Fault, accepted_package};
+use cs_widen::{Profile, stands_for};
 use std::alloc::{AllocError, Global};
 
 /// The faults of sources, 50 at most. The first one is what the sources fail first, and each further one is what they fail first once
@@ -31,17 +33,55 @@ pub fn check(alloc: Global, sources: &[&[u8]]) -> Result<Vec<Fault>, Fault>
             if first.number() == Fault::OutOfMemory.number() {
                 return Err(Fault::OutOfMemory);
             }
-            Ok(faults_from(alloc, sources, first)?)
+            Ok(faults_from(alloc, Profile::Default, sources, first)?)
         }
     }
 }
 
-/// The first fault and those behind it.
-fn faults_from(alloc: Global, sources: &[&[u8]], first: Fault) -> Result<Vec<Fault>, AllocError>
+/// The faults of sources in a profile, as those of [`check`].
+pub fn check_in(alloc: Global, profile: Profile, sources: &[&[u8]]) -> Result<Vec<Fault>, Fault>
+    ensures first { IfOk result (λ faults. BeginsWithFirstIn profile (bytes_in sources.now) faults.items) }
+    ensures none { IfOk result
+        (λ faults. faults.items ≡ [] → AreAcceptedIn profile (bytes_in sources.now)) }
+    ensures most { IfOk result (λ faults. length faults.items ≤ 50) }
+    ensures memory { IsOkUnless result Fault.OutOfMemory }
+{
+    match profile {
+        Profile::Default => check(alloc, sources),
+        Profile::Wide => check_wide(alloc, sources),
+    }
+}
+
+/// The faults of sources in the wide profile.
+fn check_wide(alloc: Global, sources: &[&[u8]]) -> Result<Vec<Fault>, Fault>
+    ensures first { IfOk result (λ faults. BeginsWithFirstIn profiles.Wide (bytes_in sources.now) faults.items) }
+    ensures none { IfOk result
+        (λ faults. faults.items ≡ [] → AreAcceptedIn profiles.Wide (bytes_in sources.now)) }
+    ensures most { IfOk result (λ faults. length faults.items ≤ 50) }
+    ensures memory { IsOkUnless result Fault.OutOfMemory }
+{
+    match stands_for(alloc, sources) {
+        Ok(_) => Ok(Vec::new(alloc)),
+        Err(first) => {
+            if first.number() == Fault::OutOfMemory.number() {
+                return Err(Fault::OutOfMemory);
+            }
+            Ok(faults_from(alloc, Profile::Wide, sources, first)?)
+        }
+    }
+}
+
+/// The first fault in a profile and those behind it.
+fn faults_from(
+    alloc: Global,
+    profile: Profile,
+    sources: &[&[u8]],
+    first: Fault,
+) -> Result<Vec<Fault>, AllocError>
     ensures begins { IfOk result (λ faults. BeginsWith first faults.items) }
     ensures most { IfOk result (λ faults. length faults.items ≤ 50) }
 {
-    let mut faults = further_faults(alloc, sources, &first)?;
+    let mut faults = further_faults(alloc, profile, sources, &first)?;
     faults.truncate(MOST_FAULTS - 1);
     faults.insert(0, first)?;
     Ok(faults)

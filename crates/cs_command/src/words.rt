@@ -427,7 +427,7 @@ const CHECK: Subcommand = Subcommand {
     name: "check",
     about: "Tells all faults of CUE files or of a schema, and the definitions that nothing is an instance of",
     example: "Example: cue2schema check port.cue",
-    words: &[OPTIONAL_ROOT, SCHEMA_IN_PLACE, STRICT, FILES],
+    words: &[OPTIONAL_ROOT, SCHEMA_IN_PLACE, PROFILE, STRICT, FILES],
     groups: &[],
 };
 

@@ -3,6 +3,7 @@ use crate::MOST_FAULTS;
 use crate::sources::draft::{Draft, mend_fault};
 use crate::sources::mends::mend_at;
 use cs_tool::{Fault, accepted_package, slices_of};
+use cs_widen::{Profile, stands_for};
 use std::alloc::{AllocError, Global};
 use std::collections::BTreeSet;
 use std::slice;
@@ -14,6 +15,7 @@ const MOST_READS: usize = 2 * MOST_FAULTS;
 #[derive(Drop)]
 struct Told<'f, 'a> {
     alloc: Global,
+    profile: Profile,
     first: &'f Fault,
     rest: Vec<Fault>,
     /// The words that mends took out until the sources were files.
@@ -52,6 +54,22 @@ fn is_same(told: &Fault, fault: &Fault) -> bool {
     !is_cycle && told.number() == fault.number() && place_of(told) == place_of(fault)
 }
 
+/// The first fault of sources in a profile; none where it accepts them.
+fn first_fault(
+    alloc: Global,
+    profile: Profile,
+    sources: &[&[u8]],
+) -> Result<Option<Fault>, AllocError> {
+    let refused = match profile {
+        Profile::Default => accepted_package(alloc, sources).err(),
+        Profile::Wide => stands_for(alloc, sources).err(),
+    };
+    match refused {
+        Some(Fault::OutOfMemory) => Err(AllocError),
+        fault => Ok(fault),
+    }
+}
+
 impl<'f, 'a> Told<'f, 'a> {
     /// The first fault of drafts as they are mended; none where they spell a package, or where no more faults are told.
     fn next_fault(&self, drafts: &[Draft<'_>]) -> Result<Option<Fault>, AllocError> {
@@ -60,11 +78,7 @@ impl<'f, 'a> Told<'f, 'a> {
         }
         let texts = drafts.iter().map(|draft| draft.mended(self.alloc));
         let texts: Vec<Vec<u8>> = texts.try_collect(self.alloc)?;
-        match accepted_package(self.alloc, &slices_of(self.alloc, &texts)?) {
-            Ok(_) => Ok(None),
-            Err(Fault::OutOfMemory) => Err(AllocError),
-            Err(fault) => Ok(Some(fault)),
-        }
+        first_fault(self.alloc, self.profile, &slices_of(self.alloc, &texts)?)
     }
 
     /// Tells a fault, and says whether it is new.
@@ -163,11 +177,13 @@ impl<'f, 'a> Told<'f, 'a> {
 /// The faults behind the first one, in the order of their places; none where what that is about isn't a place that can be mended.
 pub(crate) fn further_faults(
     alloc: Global,
+    profile: Profile,
     sources: &[&[u8]],
     first: &Fault,
 ) -> Result<Vec<Fault>, AllocError> {
     let mut told = Told {
         alloc,
+        profile,
         first,
         rest: Vec::new(alloc),
         taken: BTreeSet::new(alloc),
