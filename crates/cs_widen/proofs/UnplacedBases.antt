@@ -122,15 +122,19 @@ same_base bs (e ∷ f ∷ es) = refl
 
 -- ---- definitions
 
+-- the first of the bodies, if it is one, and the others
+first_too : (b : Bool) (d : DefinitionTree) (ds es : List DefinitionTree) → map body es ≡ map unplaced (map body ds)
+    → map body (cond b (unplaced_definition d ∷ es) es) ≡ map unplaced (map body (cond b (d ∷ ds) ds))
+first_too true (definition s o e) ds es rest = ap (λ bodies. unplaced e ∷ bodies) rest
+first_too false d ds es rest = rest
+
+abbrev of_name : List ℕ → List DefinitionTree → List DefinitionTree
+of_name n ds = filter (λ d. bytes_eq (defined_name d) n) ds
+
 pub same_bodies : (n : List ℕ) (ds : List DefinitionTree) → bodies_of n (map unplaced_definition ds) ≡ map unplaced (bodies_of n ds)
 same_bodies n [] = refl
-same_bodies n (definition s o e ∷ ds) = by (bytes_eq s n) (same_bodies n ds)
-  where
-    by : (b : Bool) → bodies_of n (map unplaced_definition ds) ≡ map unplaced (bodies_of n ds)
-        → map body (cond b (definition s 0 (unplaced e) ∷ filter (λ d. bytes_eq (defined_name d) n) (map unplaced_definition ds)) (filter (λ d. bytes_eq (defined_name d) n) (map unplaced_definition ds)))
-        ≡ map unplaced (map body (cond b (definition s o e ∷ filter (λ d. bytes_eq (defined_name d) n) ds) (filter (λ d. bytes_eq (defined_name d) n) ds)))
-    by true rest = ap (λ es. unplaced e ∷ es) rest
-    by false rest = rest
+same_bodies n (definition s o e ∷ ds) =
+    first_too (bytes_eq s n) (definition s o e) (of_name n ds) (of_name n (map unplaced_definition ds)) (same_bodies n ds)
 
 same_within : (k : ℕ) (ds : List DefinitionTree) → bases_within k (map unplaced_definition ds) ≡ bases_within k ds
 same_within zero ds = refl
@@ -139,6 +143,7 @@ same_within (suc k) ds = fun_ext (λ n. ap₂ base_of (same_within k ds) (same_b
 same_bases : (ds : List DefinitionTree) → bases (map unplaced_definition ds) ≡ bases ds
 same_bases ds = ap (λ k. bases_within k (map unplaced_definition ds)) (length-map ds unplaced_definition) ∙ same_within (length ds) ds
 
-pub same_refinements : (ds : List DefinitionTree) (es : Trees) → is_refinement (bases (map unplaced_definition ds)) (unplaced_all es) ≡ is_refinement (bases ds) es
+pub same_refinements : (ds : List DefinitionTree) (es : Trees)
+    → is_refinement (bases (map unplaced_definition ds)) (unplaced_all es) ≡ is_refinement (bases ds) es
 same_refinements ds es =
     ap₂ (λ bs n. is_some_labels (narrowed bs n)) (same_bases ds) (same_narrowing es) ∙ ap is_some_labels (same_narrowed (bases ds) (narrowing es))

@@ -78,7 +78,8 @@ module _ (rs qs : Refinements) (same : (es : Trees) → qs (unplaced_all es) ≡
   same_all_resolved [] = refl
   same_all_resolved (e ∷ es) = ap₂ (λ x xs. x ∷ xs) (same_expression e) (same_all_resolved es)
 
-  same_declared : (ds : List DefinitionTree) (ns : List (List ℕ)) → map (with_resolved qs) (map (with_bodies (without ds)) ns) ≡ map (with_resolved rs) (map (with_bodies ds) ns)
+  same_declared : (ds : List DefinitionTree) (ns : List (List ℕ))
+      → map (with_resolved qs) (map (with_bodies (without ds)) ns) ≡ map (with_resolved rs) (map (with_bodies ds) ns)
   same_declared ds [] = refl
   same_declared ds (n ∷ ns) =
       let here = ap (map (resolved qs)) (same_bodies n ds) ∙ same_all_resolved (bodies_of n ds) in

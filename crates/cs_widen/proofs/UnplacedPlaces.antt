@@ -1,9 +1,8 @@
 -- A name is at fault in files without their offsets where it is in the files.
-use Rattle.std.proofs.Common.{◌≡◌, ℕ, suc, Bool, true, false, ◌↔◌, List, [], ◌∷◌, ◌++◌, map, is_some, refl, sym, ap, ap₂, ◌∙◌}
+use Rattle.std.proofs.Common.{◌≡◌, ℕ, suc, Bool, true, false, ◌↔◌, List, [], ◌∷◌, ◌++◌, map, is_some, refl, sym, ap, ◌∙◌}
 use Rattle.std.specs.List.{flat_map, list_any}
 use Rattle.std.specs.Str.{bytes_eq}
 use Rattle.std.proofs.lemmas.Grind.{flat_map-append}
-use Rattle.std.proofs.lemmas.List.{map-append}
 use Rattle.cs_grammar.specs.declared.ast.FieldMark.{FieldMark}
 use Rattle.cs_grammar.specs.declared.ast.FieldMark.TheVariants.{Regular, Optional, Required, Every}
 use Rattle.cs_grammar.specs.Tree.{Label, Tree, atom, named, reference, conjunction, disjunction, paren, struct, list, wide, Trees, none, more, Fields, no_field, field, End, closed, any, each, DefinitionTree, definition, body, FileTree, definitions}
@@ -12,7 +11,7 @@ use Rattle.cs_resolve.specs.Declarations.{places_of, names, faults_from, faults_
 use Rattle.cs_resolve.specs.Predeclared.{predeclared}
 use Rattle.cs_resolve.specs.Scopes.{labels, names_field, Place, a_name, a_reference, key_places, places, places_all, places_fields, places_end, NameFault, unknown, of_field, name_faults, reference_faults, place_faults, faults}
 use Rattle.cs_resolve.proofs.Refusals.{nil_left, nil_right}
-use Rattle.cs_widen.proofs.UnplacedTrees.{same_labels}
+use Rattle.cs_widen.proofs.UnplacedTrees.{behind, same_labels}
 
 -- ---- files, and their definitions
 
@@ -68,8 +67,8 @@ abbrev unplaced_faults : List NameFault → List NameFault
 unplaced_faults xs = map unplaced_fault xs
 
 -- places one behind the other
-behind : {ps qs : List Place} (xs ys : List Place) → ps ≡ unplaced_places xs → qs ≡ unplaced_places ys → ps ++ qs ≡ unplaced_places (xs ++ ys)
-behind xs ys p q = ap₂ (λ front rest. front ++ rest) p q ∙ sym (map-append unplaced_place xs ys)
+next : {ps qs : List Place} (xs ys : List Place) → ps ≡ unplaced_places xs → qs ≡ unplaced_places ys → ps ++ qs ≡ unplaced_places (xs ++ ys)
+next xs ys p q = behind unplaced_place xs ys p q
 
 same_keys : (around : List (List Label)) (m : FieldMark) → key_places around (unplaced_mark m) ≡ unplaced_places (key_places around m)
 same_keys around Regular = refl
@@ -86,18 +85,18 @@ mutual
   same_places around (disjunction es) = same_places_all around es
   same_places around (paren e) = same_places around e
   same_places around (struct o fs b) = ap (λ ls. places_fields (ls ∷ around) (unplaced_fields fs)) (same_labels fs) ∙ same_places_fields (labels fs ∷ around) fs
-  same_places around (list es end) = behind (places_all around es) (places_end around end) (same_places_all around es) (same_places_end around end)
+  same_places around (list es end) = next (places_all around es) (places_end around end) (same_places_all around es) (same_places_end around end)
   same_places around (wide w) = refl
 
   same_places_all : (around : List (List Label)) (es : Trees) → places_all around (unplaced_all es) ≡ unplaced_places (places_all around es)
   same_places_all around none = refl
-  same_places_all around (more e es) = behind (places around e) (places_all around es) (same_places around e) (same_places_all around es)
+  same_places_all around (more e es) = next (places around e) (places_all around es) (same_places around e) (same_places_all around es)
 
   same_places_fields : (around : List (List Label)) (fs : Fields) → places_fields around (unplaced_fields fs) ≡ unplaced_places (places_fields around fs)
   same_places_fields around no_field = refl
   same_places_fields around (field l m e fs) =
-      behind (key_places around m ++ places around e) (places_fields around fs)
-      (behind (key_places around m) (places around e) (same_keys around m) (same_places around e)) (same_places_fields around fs)
+      let first = next (key_places around m) (places around e) (same_keys around m) (same_places around e) in
+      next (key_places around m ++ places around e) (places_fields around fs) first (same_places_fields around fs)
 
   same_places_end : (around : List (List Label)) (end : End) → places_end around (unplaced_end end) ≡ unplaced_places (places_end around end)
   same_places_end around closed = refl
@@ -106,7 +105,7 @@ mutual
 
 same_places_of : (ds : List DefinitionTree) → places_of (map unplaced_definition ds) ≡ unplaced_places (places_of ds)
 same_places_of [] = refl
-same_places_of (definition s o e ∷ ds) = behind (places [] e) (places_of ds) (same_places [] e) (same_places_of ds)
+same_places_of (definition s o e ∷ ds) = next (places [] e) (places_of ds) (same_places [] e) (same_places_of ds)
 
 same_place : (ns : List (List ℕ)) (p : Place) → place_faults ns (unplaced_place p) ≡ unplaced_faults (place_faults ns p)
 same_place ns (a_name around t o) = by (names_field t around) (is_some (predeclared t))
@@ -123,7 +122,7 @@ same_place ns (a_reference t o) = by (list_any (bytes_eq t) ns)
 
 same_faults : (ns : List (List ℕ)) (ps : List Place) → faults ns (unplaced_places ps) ≡ unplaced_faults (faults ns ps)
 same_faults ns [] = refl
-same_faults ns (p ∷ ps) = ap₂ (λ xs ys. xs ++ ys) (same_place ns p) (same_faults ns ps) ∙ sym (map-append unplaced_fault (place_faults ns p) (faults ns ps))
+same_faults ns (p ∷ ps) = behind unplaced_fault (place_faults ns p) (faults ns ps) (same_place ns p) (same_faults ns ps)
 
 unplaced_none : (xs : List NameFault) → unplaced_faults xs ≡ [] → xs ≡ []
 unplaced_none [] h = refl

@@ -1,7 +1,6 @@
 -- Definitions without their offsets keep the opening rule where the definitions do.
 use Rattle.std.proofs.Common.{◌≡◌, ℕ, ◌+◌, ◌≤◌, Bool, true, false, cond, ◌↔◌, inl, inr, List, [], ◌∷◌, ◌++◌, map, filter, count_by, refl, sym, ap, ap₂, ◌∙◌, subst}
 use Rattle.std.specs.List.{AllByRecursion, flat_map}
-use Rattle.std.proofs.lemmas.List.{map-append}
 use Rattle.std.proofs.lemmas.List.Sums.{sum_by-cons}
 use Rattle.cs_grammar.specs.declared.ast.FieldMark.{FieldMark}
 use Rattle.cs_grammar.specs.declared.ast.FieldMark.TheVariants.{Regular, Optional, Required, Every}
@@ -10,13 +9,7 @@ use Rattle.cs_print.specs.Printed.{unplaced_mark, unplaced, unplaced_all, unplac
 use Rattle.cs_resolve.specs.Opening.{Literal, literals, literals_all, literals_fields, literals_end, operands, Declared, one, Named, declared_for, named_fields, named_bodies, covers, values, values_of_each, joined, conjunctions, conjunctions_all, conjunctions_fields, conjunctions_end, all_conjunctions, KeepsRule}
 use Rattle.cs_resolve.specs.Plain.{has_literal_or_reference}
 use Rattle.cs_resolve.specs.Refinement.{Refinements}
-use Rattle.cs_widen.proofs.UnplacedTrees.{same_plain}
-
--- ---- lists
-
--- what f gives for lists, one behind the other
-behind : {X Y : Type 0} (f : X → Y) {ps qs : List Y} (xs ys : List X) → ps ≡ map f xs → qs ≡ map f ys → ps ++ qs ≡ map f (xs ++ ys)
-behind f xs ys p q = ap₂ (λ front rest. front ++ rest) p q ∙ sym (map-append f xs ys)
+use Rattle.cs_widen.proofs.UnplacedTrees.{behind, same_plain}
 
 -- ---- literals
 
@@ -120,22 +113,38 @@ same_named_bodies : (ds : List DefinitionTree) → named_bodies (map unplaced_de
 same_named_bodies [] = refl
 same_named_bodies (definition s o e ∷ ds) = ap (λ ns. unplaced_named (record { name = one s; value = e }) ∷ ns) (same_named_bodies ds)
 
+-- the first of the values, if it is one, and the others
+first_too : (b : Bool) (n : Named) (ns ms : List Named) → map (λ (m : Named). m.value) ms ≡ map unplaced (map (λ (m : Named). m.value) ns)
+    → map (λ (m : Named). m.value) (cond b (unplaced_named n ∷ ms) ms) ≡ map unplaced (map (λ (m : Named). m.value) (cond b (n ∷ ns) ns))
+first_too true n ns ms rest = ap (λ es. unplaced n.value ∷ es) rest
+first_too false n ns ms rest = rest
+
+abbrev of_name : Declared → List Named → List Named
+of_name d ns = filter (λ (n : Named). covers n.name d) ns
+
 same_values : (d : Declared) (ns : List Named) → values d (map unplaced_named ns) ≡ map unplaced (values d ns)
 same_values d [] = refl
-same_values d (n ∷ ns) = by (covers n.name d) (same_values d ns)
-  where
-    by : (b : Bool) → values d (map unplaced_named ns) ≡ map unplaced (values d ns)
-        → map (λ (m : Named). m.value) (cond b (unplaced_named n ∷ filter (λ (m : Named). covers m.name d) (map unplaced_named ns)) (filter (λ (m : Named). covers m.name d) (map unplaced_named ns)))
-        ≡ map unplaced (map (λ (m : Named). m.value) (cond b (n ∷ filter (λ (m : Named). covers m.name d) ns) (filter (λ (m : Named). covers m.name d) ns)))
-    by true rest = ap (λ es. unplaced n.value ∷ es) rest
-    by false rest = rest
+same_values d (n ∷ ns) = first_too (covers n.name d) n (of_name d ns) (of_name d (map unplaced_named ns)) (same_values d ns)
 
-same_values_of : (all ns : List Named) → map (λ (n : Named). values n.name (map unplaced_named all)) (map unplaced_named ns) ≡ unplaced_conjunctions (map (λ (n : Named). values n.name all) ns)
-same_values_of all [] = refl
-same_values_of all (n ∷ ns) = ap₂ (λ es cs. es ∷ cs) (same_values n.name all) (same_values_of all ns)
+-- the values of the name of each of some
+abbrev values_among : List Named → List Named → List (List Tree)
+values_among all ns = map (λ (n : Named). values n.name all) ns
 
-same_values_of_each : (ns : List Named) → values_of_each (map unplaced_named ns) ≡ unplaced_conjunctions (values_of_each ns)
-same_values_of_each ns = same_values_of ns ns
+same_among : (all ns : List Named) → values_among (map unplaced_named all) (map unplaced_named ns) ≡ unplaced_conjunctions (values_among all ns)
+same_among all [] = refl
+same_among all (n ∷ ns) = ap₂ (λ es cs. es ∷ cs) (same_values n.name all) (same_among all ns)
+
+same_values_of_each : (ns ms : List Named) → ms ≡ map unplaced_named ns → values_of_each ms ≡ unplaced_conjunctions (values_of_each ns)
+same_values_of_each ns ms same = ap values_of_each same ∙ same_among ns ns
+
+-- conjunctions one behind the other
+next : {ps qs : List (List Tree)} (cs ds : List (List Tree)) → ps ≡ unplaced_conjunctions cs → qs ≡ unplaced_conjunctions ds
+    → ps ++ qs ≡ unplaced_conjunctions (cs ++ ds)
+next cs ds p q = behind (map unplaced) cs ds p q
+
+-- those inside the bodies
+abbrev inside : Refinements → List DefinitionTree → List (List Tree)
+inside rs ds = flat_map (λ d. conjunctions rs (body d)) ds
 
 -- the plain refinements of one are those of the other
 module _ (rs qs : Refinements) (same : (es : Trees) → qs (unplaced_all es) ≡ rs es) where
@@ -151,22 +160,24 @@ module _ (rs qs : Refinements) (same : (es : Trees) → qs (unplaced_all es) ≡
     same_conjunctions (atom a) = refl
     same_conjunctions (named s o) = refl
     same_conjunctions (reference s o) = refl
-    same_conjunctions (conjunction es) = behind (map unplaced) (joined rs es) (conjunctions_all rs es) (same_joined es) (same_conjunctions_all es)
+    same_conjunctions (conjunction es) = next (joined rs es) (conjunctions_all rs es) (same_joined es) (same_conjunctions_all es)
     same_conjunctions (disjunction es) = same_conjunctions_all es
     same_conjunctions (paren e) = same_conjunctions e
     same_conjunctions (struct o fs b) =
-        behind (map unplaced) (values_of_each (named_fields fs)) (conjunctions_fields rs fs)
-        (ap values_of_each (same_named fs) ∙ same_values_of_each (named_fields fs)) (same_conjunctions_fields fs)
-    same_conjunctions (list es end) = behind (map unplaced) (conjunctions_all rs es) (conjunctions_end rs end) (same_conjunctions_all es) (same_conjunctions_end end)
+        let own = same_values_of_each (named_fields fs) (named_fields (unplaced_fields fs)) (same_named fs) in
+        next (values_of_each (named_fields fs)) (conjunctions_fields rs fs) own (same_conjunctions_fields fs)
+    same_conjunctions (list es end) =
+        next (conjunctions_all rs es) (conjunctions_end rs end) (same_conjunctions_all es) (same_conjunctions_end end)
     same_conjunctions (wide w) = refl
 
     same_conjunctions_all : (es : Trees) → conjunctions_all qs (unplaced_all es) ≡ unplaced_conjunctions (conjunctions_all rs es)
     same_conjunctions_all none = refl
-    same_conjunctions_all (more e es) = behind (map unplaced) (conjunctions rs e) (conjunctions_all rs es) (same_conjunctions e) (same_conjunctions_all es)
+    same_conjunctions_all (more e es) = next (conjunctions rs e) (conjunctions_all rs es) (same_conjunctions e) (same_conjunctions_all es)
 
     same_conjunctions_fields : (fs : Fields) → conjunctions_fields qs (unplaced_fields fs) ≡ unplaced_conjunctions (conjunctions_fields rs fs)
     same_conjunctions_fields no_field = refl
-    same_conjunctions_fields (field l m e fs) = behind (map unplaced) (conjunctions rs e) (conjunctions_fields rs fs) (same_conjunctions e) (same_conjunctions_fields fs)
+    same_conjunctions_fields (field l m e fs) =
+        next (conjunctions rs e) (conjunctions_fields rs fs) (same_conjunctions e) (same_conjunctions_fields fs)
 
     same_conjunctions_end : (end : End) → conjunctions_end qs (unplaced_end end) ≡ unplaced_conjunctions (conjunctions_end rs end)
     same_conjunctions_end closed = refl
@@ -175,14 +186,14 @@ module _ (rs qs : Refinements) (same : (es : Trees) → qs (unplaced_all es) ≡
 
   -- ---- definitions
 
-  same_inside : (ds : List DefinitionTree) → flat_map (λ d. conjunctions qs (body d)) (map unplaced_definition ds) ≡ unplaced_conjunctions (flat_map (λ d. conjunctions rs (body d)) ds)
+  same_inside : (ds : List DefinitionTree) → inside qs (map unplaced_definition ds) ≡ unplaced_conjunctions (inside rs ds)
   same_inside [] = refl
-  same_inside (definition s o e ∷ ds) = behind (map unplaced) (conjunctions rs e) (flat_map (λ d. conjunctions rs (body d)) ds) (same_conjunctions e) (same_inside ds)
+  same_inside (definition s o e ∷ ds) = next (conjunctions rs e) (inside rs ds) (same_conjunctions e) (same_inside ds)
 
   same_all : (ds : List DefinitionTree) → all_conjunctions qs (map unplaced_definition ds) ≡ unplaced_conjunctions (all_conjunctions rs ds)
   same_all ds =
-      behind (map unplaced) (values_of_each (named_bodies ds)) (flat_map (λ d. conjunctions rs (body d)) ds)
-      (ap values_of_each (same_named_bodies ds) ∙ same_values_of_each (named_bodies ds)) (same_inside ds)
+      let names = same_values_of_each (named_bodies ds) (named_bodies (map unplaced_definition ds)) (same_named_bodies ds) in
+      next (values_of_each (named_bodies ds)) (inside rs ds) names (same_inside ds)
 
   pub same_rule : (ds : List DefinitionTree) → Keeps (all_conjunctions qs (map unplaced_definition ds)) ↔ Keeps (all_conjunctions rs ds)
   same_rule ds = (

@@ -1,10 +1,15 @@
--- Trees without their offsets have the same names, labels, nodes and literals.
-use Rattle.std.proofs.Common.{◌≡◌, ◌+◌, ◌||◌, ◌∷◌, refl, ap, ap₂}
+-- Trees without their offsets are plain where the trees are, and have the same names, labels and nodes.
+use Rattle.std.proofs.Common.{◌≡◌, ◌+◌, ◌||◌, List, ◌∷◌, ◌++◌, map, refl, sym, ap, ap₂, ◌∙◌}
+use Rattle.std.proofs.lemmas.List.{map-append}
 use Rattle.cs_grammar.specs.Tree.{Tree, atom, named, reference, conjunction, disjunction, paren, struct, list, wide, Trees, none, more, Fields, no_field, field, End, closed, any, each, DefinitionTree, definition, defined_name, body}
 use Rattle.cs_print.specs.Printed.{unplaced, unplaced_all, unplaced_fields, unplaced_end, unplaced_definition}
 use Rattle.cs_resolve.specs.Plain.{has_literal_or_reference, has_literal_or_reference_some, has_literal_or_reference_end}
 use Rattle.cs_resolve.specs.Scopes.{labels}
 use Rattle.cs_resolve.specs.Size.{nodes, nodes_all, nodes_fields, nodes_end}
+
+-- what f gives for lists, one behind the other
+pub behind : {X Y : Type 0} (f : X → Y) {ps qs : List Y} (xs ys : List X) → ps ≡ map f xs → qs ≡ map f ys → ps ++ qs ≡ map f (xs ++ ys)
+behind f xs ys p q = ap₂ (λ front rest. front ++ rest) p q ∙ sym (map-append f xs ys)
 
 -- ---- plain expressions
 
