@@ -1,5 +1,11 @@
--- What is meant can be printed and is read again (`Printed`), what is accepted in the default profile stands for itself (`Default`), and which
--- refusal is which (`Refusals`).
+-- What is meant can be printed and is read again (`Printed`), what is accepted in the default profile stands for itself (`Default`), which
+-- refusal is which (`Refusals`), and what is printed declares the same environment (`printed_package` in `UnplacedPackages`).
 mod Printed
 mod Default
 mod Refusals
+-- offsets change nothing of trees, of closed bases, of which names are at fault, of the opening rule, and so of packages
+mod UnplacedTrees
+mod UnplacedBases
+mod UnplacedPlaces
+mod UnplacedRule
+mod UnplacedPackages
