@@ -1,18 +1,18 @@
 // What a check of sources or of a schema finds, in lines.
 ghost use Rattle.std.specs.Prelude.{◌≡◌, IfOk, None};
-ghost use Rattle.cs_check.specs.Told.{AreAccepted, AreAcceptedIn};
+ghost use Rattle.cs_check.specs.Told.{AreAccepted, AreWideAccepted};
 ghost use Rattle.cs_tool.specs.CallRefusals.{IsSchemaText};
 ghost use Rattle.cs_tool.specs.Given.{bytes_in};
 
 use crate::schema::check_schema;
-use crate::sources::{check, check_in};
+use crate::sources::{check, check_wide};
 use crate::warnings::{put_warning, warned};
 use cs_fault_words::put_finding;
 use cs_guard::Guarded;
 use cs_place::Named;
 use cs_sources::{declared_in, sources_of};
 use cs_tool::{Fault, accepted_package};
-use cs_widen::{Profile, stands_for_in};
+use cs_widen::stands_for;
 use std::alloc::Global;
 
 /// What came of a check.
@@ -58,27 +58,26 @@ pub fn source_findings(
     package_findings(alloc, sources, named, root)
 }
 
-/// What is found in the sources in a profile, as by [`source_findings`].
+/// What is found in the sources in the wide profile, as by [`source_findings`].
 ///
-/// That what is told is so is proved where it is found: by `check_in` and `warned`. The words and the places in lines are tested.
+/// That what is told is so is proved where it is found: by `check_wide` and `warned`. The words and the places in lines are tested.
 ///
 /// # Errors
 /// Memory alone.
-pub fn source_findings_in(
+pub fn wide_findings(
     alloc: Global,
-    profile: Profile,
     sources: &[&[u8]],
     named: &[Named<'_>],
     root: Option<&str>,
 ) -> Result<Findings, Fault>
     ensures { IfOk result
-        (λ f. ¬ (f.checked ≡ Checked.Faulty) → AreAcceptedIn profile (bytes_in sources.now)) }
+        (λ f. ¬ (f.checked ≡ Checked.Faulty) → AreWideAccepted (bytes_in sources.now)) }
 {
-    let faults = check_in(alloc, profile, sources)?;
+    let faults = check_wide(alloc, sources)?;
     if !faults.is_empty() {
         return faulty(alloc, &faults, root.unwrap_or(""), None, named);
     }
-    match stands_for_in(alloc, profile, sources)? {
+    match stands_for(alloc, sources)? {
         Some(meant) => package_findings(alloc, &[meant.as_bytes()], named, root),
         None => package_findings(alloc, sources, named, root),
     }

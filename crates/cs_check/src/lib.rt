@@ -7,10 +7,9 @@ mod schema;
 mod sources;
 mod warnings;
 
-pub use cs_widen::Profile;
-pub use findings::{Checked, Findings, schema_findings, source_findings, source_findings_in};
+pub use findings::{Checked, Findings, schema_findings, source_findings, wide_findings};
 pub use schema::check_schema;
-pub use sources::{check, check_in};
+pub use sources::{check, check_wide};
 pub use warnings::{Warning, warned};
 
 /// The most faults that are told.

@@ -1,8 +1,7 @@
 // The faults of sources: the first one as they are, and then those that mending one after another meets.
 ghost use Rattle.std.specs.Prelude.{◌≡◌, ◌≤◌, ◌↔◌, [], length, IfOk, IsOkUnless};
-ghost use Rattle.cs_grammar.specs.declared.profile.Profile.TheVariants as profiles;
 ghost use Rattle.cs_tool.specs.Given.{bytes_in};
-ghost use Rattle.cs_check.specs.Told.{AreAccepted, AreAcceptedIn, BeginsWithFirst, BeginsWithFirstIn, BeginsWith};
+ghost use Rattle.cs_check.specs.Told.{AreAccepted, AreWideAccepted, BeginsWithFirst, BeginsWithWideFirst, BeginsWith};
 
 mod draft;
 mod mends;
@@ -38,25 +37,11 @@ pub fn check(alloc: Global, sources: &[&[u8]]) -> Result<Vec<Fault>, Fault>
     }
 }
 
-/// The faults of sources in a profile, as those of [`check`].
-pub fn check_in(alloc: Global, profile: Profile, sources: &[&[u8]]) -> Result<Vec<Fault>, Fault>
-    ensures first { IfOk result (λ faults. BeginsWithFirstIn profile (bytes_in sources.now) faults.items) }
+/// The faults of sources in the wide profile, as those of [`check`].
+pub fn check_wide(alloc: Global, sources: &[&[u8]]) -> Result<Vec<Fault>, Fault>
+    ensures first { IfOk result (λ faults. BeginsWithWideFirst (bytes_in sources.now) faults.items) }
     ensures none { IfOk result
-        (λ faults. faults.items ≡ [] → AreAcceptedIn profile (bytes_in sources.now)) }
-    ensures most { IfOk result (λ faults. length faults.items ≤ 50) }
-    ensures memory { IsOkUnless result Fault.OutOfMemory }
-{
-    match profile {
-        Profile::Default => check(alloc, sources),
-        Profile::Wide => check_wide(alloc, sources),
-    }
-}
-
-/// The faults of sources in the wide profile.
-fn check_wide(alloc: Global, sources: &[&[u8]]) -> Result<Vec<Fault>, Fault>
-    ensures first { IfOk result (λ faults. BeginsWithFirstIn profiles.Wide (bytes_in sources.now) faults.items) }
-    ensures none { IfOk result
-        (λ faults. faults.items ≡ [] → AreAcceptedIn profiles.Wide (bytes_in sources.now)) }
+        (λ faults. faults.items ≡ [] → AreWideAccepted (bytes_in sources.now)) }
     ensures most { IfOk result (λ faults. length faults.items ≤ 50) }
     ensures memory { IsOkUnless result Fault.OutOfMemory }
 {

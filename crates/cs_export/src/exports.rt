@@ -60,9 +60,9 @@ pub fn export_root_in(
     layout: Layout,
 ) -> Result<Vec<u8>, Fault>
     ensures found { IfOk result (λ text. Means profile (bytes_in sources.now)
-        (λ meant. IsRootSchema meant root.now layout text.items)) }
+        (λ judged. IsRootSchema judged root.now layout text.items)) }
     ensures refused { IfErr result (λ e. RefusesIn profile (bytes_in sources.now)
-        (λ meant. ExportRefusal meant root.now e) e) }
+        (λ judged. ExportRefusal judged root.now e) e) }
 {
     match stands_for_in(alloc, profile, sources)? {
         Some(meant) => exported_root(alloc, &[meant.as_bytes()], sources, root, layout),
@@ -81,9 +81,9 @@ pub fn export_all_in(
     layout: Layout,
 ) -> Result<Vec<u8>, Fault>
     ensures found { IfOk result (λ text. Means profile (bytes_in sources.now)
-        (λ meant. ArePackageSchemas meant layout text.items)) }
+        (λ judged. ArePackageSchemas judged layout text.items)) }
     ensures refused { IfErr result (λ e. RefusesIn profile (bytes_in sources.now)
-        (λ meant. SourcesRefusal meant e) e) }
+        (λ judged. SourcesRefusal judged e) e) }
 {
     match stands_for_in(alloc, profile, sources)? {
         Some(meant) => exported_all(alloc, &[meant.as_bytes()], sources, layout),

@@ -80,11 +80,11 @@ pub fn write_root_in<W: Write>(
     output: &mut W,
 ) -> Result<(), Fault>
     ensures done { OnOk result (WritesSchema
-        (λ text. Means profile (bytes_in sources.now) (λ meant. IsRootSchema meant root.now layout text))
+        (λ text. Means profile (bytes_in sources.now) (λ judged. IsRootSchema judged root.now layout text))
         (W.contents output.old) (W.contents output.new)) }
     ensures refused { IfErr result (λ e. LeavesSchema
-        (λ text. Means profile (bytes_in sources.now) (λ meant. IsRootSchema meant root.now layout text))
-        (λ f. RefusesIn profile (bytes_in sources.now) (λ meant. ExportRefusal meant root.now f) f) e
+        (λ text. Means profile (bytes_in sources.now) (λ judged. IsRootSchema judged root.now layout text))
+        (λ f. RefusesIn profile (bytes_in sources.now) (λ judged. ExportRefusal judged root.now f) f) e
         (W.contents output.old) (W.contents output.new)) }
 {
     let mut text = export_root_in(alloc, profile, sources, root, layout)?;
@@ -105,11 +105,11 @@ pub fn write_all_in<W: Write>(
     output: &mut W,
 ) -> Result<(), Fault>
     ensures done { OnOk result (WritesSchema
-        (λ text. Means profile (bytes_in sources.now) (λ meant. ArePackageSchemas meant layout text))
+        (λ text. Means profile (bytes_in sources.now) (λ judged. ArePackageSchemas judged layout text))
         (W.contents output.old) (W.contents output.new)) }
     ensures refused { IfErr result (λ e. LeavesSchema
-        (λ text. Means profile (bytes_in sources.now) (λ meant. ArePackageSchemas meant layout text))
-        (λ f. RefusesIn profile (bytes_in sources.now) (λ meant. SourcesRefusal meant f) f) e
+        (λ text. Means profile (bytes_in sources.now) (λ judged. ArePackageSchemas judged layout text))
+        (λ f. RefusesIn profile (bytes_in sources.now) (λ judged. SourcesRefusal judged f) f) e
         (W.contents output.old) (W.contents output.new)) }
 {
     let mut text = export_all_in(alloc, profile, sources, layout)?;

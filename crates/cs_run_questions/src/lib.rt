@@ -8,13 +8,14 @@ mod widened;
 
 use clap::ArgMatches;
 pub use compared::compare;
-use cs_check::{Checked, Findings, schema_findings, source_findings_in};
+use cs_check::{Checked, Findings, schema_findings, source_findings, wide_findings};
 use cs_fault_words::explained;
 use cs_place::Named;
 use cs_reason_words::Form;
 use cs_run_input::{COMMAND_LINE, named, print, profile_of, read_input, sources_of};
 use cs_run_refusals::or_unread;
 use cs_tool::{Fault, slices_of};
+use cs_widen::Profile;
 pub use listed::list;
 pub use sampled::write_samples;
 pub use widened::write_widened;
@@ -47,7 +48,10 @@ fn check_sources(rt: &HostRuntime, words: &ArgMatches<'_>) -> Result<u8, Fault> 
     let named = named(rt.alloc(), words.get_strs("FILE").unwrap_or(&[]), &sources)?;
     let texts = slices_of(rt.alloc(), &sources)?;
     let root = words.get_str("root");
-    let findings = source_findings_in(rt.alloc(), profile_of(words), &texts, &named, root)?;
+    let findings = match profile_of(words) {
+        Profile::Default => source_findings(rt.alloc(), &texts, &named, root)?,
+        Profile::Wide => wide_findings(rt.alloc(), &texts, &named, root)?,
+    };
     write_findings(rt, &findings, words.get_flag("strict"))
 }
 

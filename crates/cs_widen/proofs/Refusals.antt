@@ -6,7 +6,7 @@ use Rattle.cs_package.specs.Environment.{Environment}
 use Rattle.cs_resolve.specs.Refusal as resolve
 use Rattle.cs_resolve.specs.Resolved.{IsPackage}
 use Rattle.cs_resolve.specs.declared.fault.ResolveFault.{ResolveFault}
-use Rattle.cs_resolve.specs.declared.fault.ResolveFault.TheVariants as package
+use Rattle.cs_resolve.specs.declared.fault.ResolveFault.TheVariants as unresolved
 use Rattle.cs_guard.specs.Cycles as guard
 use Rattle.cs_guard.specs.declared.fault.GuardFault.{GuardFault}
 use Rattle.cs_guard.specs.declared.fault.GuardFault.TheVariants as cycles
@@ -42,12 +42,12 @@ module _ (p : Profile) (ss : List (List ℕ)) (texts : AreTexts ss) (fs : List F
     no_package f h = record { texts = texts; files = fs; spelled = spelled; meant = gs; stand_for = stand_for; fault = f; refused = h; told = refl }
 
     pub by_resolve : (f : ResolveFault) → resolve.IsRefusal f gs → RefusalIn p ss (of_resolve f)
-    by_resolve package.OutOfMemory h = tt
-    by_resolve (package.PackageName n) h = no_package (package.PackageName n) h
-    by_resolve (package.UnknownName n o) h = no_package (package.UnknownName n o) h
-    by_resolve (package.FieldReference n o) h = no_package (package.FieldReference n o) h
-    by_resolve (package.NotOpened n o) h = no_package (package.NotOpened n o) h
-    by_resolve (package.TooLarge n) h = no_package (package.TooLarge n) h
+    by_resolve unresolved.OutOfMemory h = tt
+    by_resolve (unresolved.PackageName n) h = no_package (unresolved.PackageName n) h
+    by_resolve (unresolved.UnknownName n o) h = no_package (unresolved.UnknownName n o) h
+    by_resolve (unresolved.FieldReference n o) h = no_package (unresolved.FieldReference n o) h
+    by_resolve (unresolved.NotOpened n o) h = no_package (unresolved.NotOpened n o) h
+    by_resolve (unresolved.TooLarge n) h = no_package (unresolved.TooLarge n) h
 
     module _ (E : Environment) (one_package : IsPackage gs E) where
       unguarded : (f : GuardFault) → guard.IsRefusal f E → IsUnguardedIn p ss (of_guard f)

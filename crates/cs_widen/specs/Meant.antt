@@ -1,8 +1,9 @@
--- Which source is what sources stand for in a profile: it spells, as one file, the files that theirs stand for, apart from offsets.
-use Rattle.std.specs.Prelude.{◌≡◌, ◌⊎◌, ℕ, List, [], ◌∷◌, Option, Some, None}
+-- Which source is what sources stand for in a profile: it spells, as one file, the files that theirs stand for, apart from offsets. And which
+-- sources of the default profile are judged by in their place: they declare the same environment.
+use Rattle.std.specs.Prelude.{◌≡◌, ℕ, List, [], ◌∷◌, Option, Some, None}
 use Rattle.cs_grammar.specs.declared.profile.Profile.{Profile}
 use Rattle.cs_grammar.specs.declared.profile.Profile.TheVariants as profiles
-use Rattle.cs_package.specs.Environment.{Environment}
+use Rattle.cs_package.specs.Environment.{Environment, Names}
 use Rattle.cs_print.specs.Printed.{IsReadAs}
 use Rattle.cs_tool.specs.Accepted.{IsAccepted}
 use Rattle.cs_widen.specs.Accepted.{IsAcceptedIn}
@@ -19,22 +20,22 @@ pub record IsMeant (sources : List (List ℕ)) (source : List ℕ) : Type 0 wher
   pub accepted : IsAccepted sources environment
   pub read : IsReadAs source accepted.files
 
--- the default profile accepts the sources
-abbrev pub IsTaken : List (List ℕ) → Type 0
-IsTaken sources = (E : Environment) × IsAccepted sources E
+-- sources of the default profile declare what the sources declare in a profile
+pub record Declare (p : Profile) (sources judged : List (List ℕ)) : Type 0 where
+  pub environment : Environment
+  pub given : IsAcceptedIn p sources environment
+  pub taken : IsAccepted judged environment
 
--- what sources stand for in the wide profile: themselves where the default profile accepts them, or else a source that it accepts, which
--- is what they mean
+-- what sources of the wide profile stand for: themselves, or a source that is what they mean; either declares what they declare
 abbrev pub StandFor : List (List ℕ) → Option (List ℕ) → Type 0
-StandFor sources None = IsTaken sources
-StandFor sources (Some source) = IsMeantIn profiles.Wide sources source × IsTaken (source ∷ [])
+StandFor sources None = Declare profiles.Wide sources sources
+StandFor sources (Some source) = IsMeantIn profiles.Wide sources source × Declare profiles.Wide sources (source ∷ [])
 
--- the sources of the default profile for which sources stand in a profile
-abbrev pub AreMeantIn : Profile → List (List ℕ) → List (List ℕ) → Type 0
-AreMeantIn profiles.Default sources meant = meant ≡ sources
-AreMeantIn profiles.Wide sources meant = ((meant ≡ sources) × IsTaken sources) ⊎ ((source : List ℕ) × (meant ≡ source ∷ []) × IsMeantIn profiles.Wide sources source × IsTaken meant)
-
--- in the default profile they stand for themselves
+-- in the default profile sources stand for themselves, whatever they are
 abbrev pub StandForIn : Profile → List (List ℕ) → Option (List ℕ) → Type 0
 StandForIn profiles.Default sources s = s ≡ None
 StandForIn profiles.Wide sources s = StandFor sources s
+
+-- the sources are accepted in a profile, and declare the root
+abbrev pub DeclaresRootIn : Profile → List (List ℕ) → List ℕ → Type 0
+DeclaresRootIn p sources root = (E : Environment) × (n : List ℕ) × IsAcceptedIn p sources E × Names E root n

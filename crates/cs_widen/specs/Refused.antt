@@ -1,5 +1,5 @@
 -- Why sources stand for no package in a profile: the first condition that they fail.
-use Rattle.std.specs.Prelude.{◌≡◌, ◌⊎◌, ℕ, List, [], ◌∷◌}
+use Rattle.std.specs.Prelude.{◌≡◌, ◌⊎◌, ℕ, ◌<◌, List, length}
 use Rattle.cs_grammar.specs.Tree.{FileTree}
 use Rattle.cs_grammar.specs.declared.profile.Profile.{Profile}
 use Rattle.cs_grammar.specs.declared.profile.Profile.TheVariants as profiles
@@ -13,12 +13,12 @@ use Rattle.cs_defaults.specs.Widened as defaults
 use Rattle.cs_defaults.specs.Widened.{IsUnmarked}
 use Rattle.cs_defaults.specs.declared.fault.DefaultFault.{DefaultFault}
 use Rattle.cs_defaults.specs.declared.fault.DefaultFault.TheVariants as marks
-use Rattle.cs_tool.specs.Accepted.{AreTexts, AreFilesIn}
+use Rattle.cs_tool.specs.Accepted.{most_bytes, AreTexts, AreFilesIn}
 use Rattle.cs_tool.specs.Conversions.{of_resolve, of_guard}
 use Rattle.cs_tool.specs.First.{IsMisspelledIn, SpellingRefusal}
 use Rattle.cs_tool.specs.declared.fault.Fault.{Fault}
 use Rattle.cs_tool.specs.declared.fault.Fault.TheVariants.{SourcesTooLong, NotUtf8, NoToken, Syntax, LeftOut, IntegerRange, TooHigh, PackageName, UnknownName, FieldReference, NotOpened, Cycle, TooLarge, OutOfMemory, ChainTooLong}
-use Rattle.cs_widen.specs.Meant.{IsMeantIn, IsTaken}
+use Rattle.cs_widen.specs.Meant.{IsMeantIn}
 
 -- a mark that isn't taken is a form that is left out
 abbrev pub of_mark : DefaultFault → Fault
@@ -77,13 +77,13 @@ RefusalIn p sources (Cycle names) = IsUnguardedIn p sources (Cycle names)
 RefusalIn p sources (ChainTooLong names) = IsUnguardedIn p sources (ChainTooLong names)
 RefusalIn p sources _ = ⊥
 
--- the sources mean a source that the default profile doesn't accept, since it is too long
+-- the sources mean a source that is longer than sources may be
 pub record MeansTooMuch (sources : List (List ℕ)) : Type 0 where
   pub source : List ℕ
   pub meant : IsMeantIn profiles.Wide sources source
-  pub refused : ¬ (IsTaken (source ∷ []))
+  pub long : most_bytes < length source
 
--- the refusals of sources of which none are accepted in the wide profile; what they stand for may be too long besides
+-- the refusals of sources in the wide profile; what they stand for may be too long besides
 abbrev pub MeantRefusal : List (List ℕ) → Fault → Type 0
 MeantRefusal sources (TooLarge definitions) = RefusalIn profiles.Wide sources (TooLarge definitions) ⊎ MeansTooMuch sources
 MeantRefusal sources f = RefusalIn profiles.Wide sources f
@@ -92,6 +92,7 @@ abbrev pub MeantRefusalIn : Profile → List (List ℕ) → Fault → Type 0
 MeantRefusalIn profiles.Default sources f = ⊥
 MeantRefusalIn profiles.Wide sources f = MeantRefusal sources f
 
-abbrev pub IsTooLarge : Fault → Type 0
-IsTooLarge (TooLarge definitions) = Unit {0}
-IsTooLarge _ = ⊥
+-- the one refusal of sources that are accepted in a profile
+abbrev pub MeansTooMuchAs : Fault → List (List ℕ) → Type 0
+MeansTooMuchAs (TooLarge definitions) sources = MeansTooMuch sources
+MeansTooMuchAs _ sources = ⊥

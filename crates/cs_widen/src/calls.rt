@@ -1,10 +1,11 @@
 // The calls over bytes in a profile.
-ghost use Rattle.std.specs.Prelude.{IfOk, IfErr};
+ghost use Rattle.std.specs.Prelude.{◌≡◌, ◌⊎◌, IfOk, IfErr};
 ghost use Rattle.cs_tool.specs.Agreement.{IsAgreement};
 ghost use Rattle.cs_tool.specs.CallRefusals.{ExportRefusal, VetRefusal, AgreeRefusal};
 ghost use Rattle.cs_tool.specs.Given.{bytes_in};
-ghost use Rattle.cs_tool.specs.Headline.{IsExport, IsVerdict};
-ghost use Rattle.cs_widen.specs.Calls.{Means, RefusesIn};
+ghost use Rattle.cs_widen.specs.Calls.{Means, IsExportIn, IsVerdictIn, RefusesIn};
+ghost use Rattle.cs_widen.specs.Meant.{DeclaresRootIn};
+ghost use Rattle.cs_widen.specs.Refused.{MeansTooMuchAs};
 
 use crate::standing::stands_for_in;
 use cs_syntax::Profile;
@@ -12,7 +13,7 @@ use cs_tool::{Fault, agree, export, vet};
 use std::alloc::Global;
 
 /// The text of the schema that admits the documents that the root definition of the sources admits in a profile, without a newline: what
-/// `export` answers for the sources that are meant.
+/// `export` answers for sources of the default profile that declare the same.
 ///
 /// # Errors
 /// Those of `stands_for_in`, and then those of `export`.
@@ -22,10 +23,11 @@ pub fn export_in(
     sources: &[&[u8]],
     root: &str,
 ) -> Result<Vec<u8>, Fault>
-    ensures found { IfOk result (λ text. Means profile (bytes_in sources.now)
-        (λ meant. IsExport meant root.now text.items)) }
+    ensures found { IfOk result (λ text. IsExportIn profile (bytes_in sources.now) root.now text.items) }
     ensures refused { IfErr result (λ e. RefusesIn profile (bytes_in sources.now)
-        (λ meant. ExportRefusal meant root.now e) e) }
+        (λ judged. ExportRefusal judged root.now e) e) }
+    ensures only { DeclaresRootIn profile (bytes_in sources.now) root.now
+        → IfErr result (λ e. (e ≡ Fault.OutOfMemory) ⊎ MeansTooMuchAs e (bytes_in sources.now)) }
 {
     match stands_for_in(alloc, profile, sources)? {
         Some(meant) => export(alloc, &[meant.as_bytes()], root),
@@ -45,10 +47,9 @@ pub fn vet_in(
     root: &str,
     doc: &[u8],
 ) -> Result<bool, Fault>
-    ensures found { IfOk result (λ b. Means profile (bytes_in sources.now)
-        (λ meant. IsVerdict meant root.now doc.now b)) }
+    ensures found { IfOk result (λ b. IsVerdictIn profile (bytes_in sources.now) root.now doc.now b) }
     ensures refused { IfErr result (λ e. RefusesIn profile (bytes_in sources.now)
-        (λ meant. VetRefusal meant root.now doc.now e) e) }
+        (λ judged. VetRefusal judged root.now doc.now e) e) }
 {
     match stands_for_in(alloc, profile, sources)? {
         Some(meant) => vet(alloc, &[meant.as_bytes()], root, doc),
@@ -68,9 +69,9 @@ pub fn agree_in(
     doc: &[u8],
 ) -> Result<bool, Fault>
     ensures found { IfOk result (λ b. Means profile (bytes_in sources.now)
-        (λ meant. IsAgreement meant root.now doc.now b)) }
+        (λ judged. IsAgreement judged root.now doc.now b)) }
     ensures refused { IfErr result (λ e. RefusesIn profile (bytes_in sources.now)
-        (λ meant. AgreeRefusal meant root.now doc.now e) e) }
+        (λ judged. AgreeRefusal judged root.now doc.now e) e) }
 {
     match stands_for_in(alloc, profile, sources)? {
         Some(meant) => agree(alloc, &[meant.as_bytes()], root, doc),

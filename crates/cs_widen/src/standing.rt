@@ -6,15 +6,15 @@ ghost use Rattle.cs_package.specs.Environment.{Environment};
 ghost use Rattle.cs_tool.specs.Given.{bytes_in};
 ghost use Rattle.cs_widen.specs.Accepted.{IsAcceptedIn};
 ghost use Rattle.cs_widen.specs.Meant.{StandFor, StandForIn};
-ghost use Rattle.cs_widen.specs.Refused.{MeantRefusal, MeantRefusalIn, IsTooLarge};
+ghost use Rattle.cs_widen.specs.Refused.{MeantRefusal, MeantRefusalIn, MeansTooMuchAs};
 
 use crate::source::widen_in;
 use cs_syntax::Profile;
 use cs_tool::{Fault, accepted_package};
 use std::alloc::Global;
 
-/// The source that sources of the wide profile stand for, or none where the default profile accepts them: they stand for themselves then,
-/// so that what is said of a source without forms of the wide profile is the same in both.
+/// The source that sources of the wide profile stand for, which declares what they declare; or none where the default profile accepts
+/// them: they stand for themselves then, so that all that is said of them is the same in both profiles.
 ///
 /// # Errors
 /// Those of `widen_in`. `TooLarge` too where the source that is meant is longer than the default profile takes.
@@ -22,8 +22,11 @@ pub fn stands_for(alloc: Global, sources: &[&[u8]]) -> Result<Option<String>, Fa
     ensures found { IfOk result (λ s. StandFor (bytes_in sources.now) (option_map string_bytes s)) }
     ensures refused { IfErr result (λ e. MeantRefusal (bytes_in sources.now) e) }
     ensures only { (E : Environment) → IsAcceptedIn profiles.Wide (bytes_in sources.now) E
-        → IfErr result (λ e. (e ≡ Fault.OutOfMemory) ⊎ IsTooLarge e) }
+        → IfErr result (λ e. (e ≡ Fault.OutOfMemory) ⊎ MeansTooMuchAs e (bytes_in sources.now)) }
 {
+    cs_syntax::default_files_have_default_forms(); // for the proof: no mark stands in what they spell
+    cs_syntax::wide_reads_the_default(); // for the proof: the wide profile reads them as the default one
+    cs_defaults::default_files_stay(); // for the proof: so the files stand for themselves
     match accepted_package(alloc, sources) {
         Ok(_) => return Ok(None),
         Err(Fault::OutOfMemory) => return Err(Fault::OutOfMemory),
@@ -33,7 +36,7 @@ pub fn stands_for(alloc: Global, sources: &[&[u8]]) -> Result<Option<String>, Fa
     match accepted_package(alloc, &[source.as_bytes()]) {
         Ok(_) => Ok(Some(source)),
         Err(Fault::OutOfMemory) => Err(Fault::OutOfMemory),
-        // What it spells is a package, so it is too long.
+        // It declares what the sources declare, so it is too long.
         Err(_) => Err(Fault::TooLarge { definitions: 0 }),
     }
 }
@@ -46,6 +49,8 @@ pub fn stands_for_in(
 ) -> Result<Option<String>, Fault>
     ensures found { IfOk result (λ s. StandForIn profile (bytes_in sources.now) (option_map string_bytes s)) }
     ensures refused { IfErr result (λ e. MeantRefusalIn profile (bytes_in sources.now) e) }
+    ensures only { (E : Environment) → IsAcceptedIn profile (bytes_in sources.now) E
+        → IfErr result (λ e. (e ≡ Fault.OutOfMemory) ⊎ MeansTooMuchAs e (bytes_in sources.now)) }
 {
     match profile {
         Profile::Default => Ok(None),
