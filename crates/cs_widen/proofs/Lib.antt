@@ -3,6 +3,8 @@
 mod Printed
 mod Default
 mod Refusals
+-- a literal with defaults, read as it is written
+mod Direct
 -- offsets change nothing of trees, of closed bases, of which names are at fault, of the opening rule, and so of packages
 mod UnplacedTrees
 mod UnplacedBases

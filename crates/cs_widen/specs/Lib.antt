@@ -3,3 +3,4 @@ pub mod Accepted
 pub mod Meant
 pub mod Refused
 pub mod Calls
+pub mod Direct

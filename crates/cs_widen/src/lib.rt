@@ -2,10 +2,12 @@
 #![tactic(auto)]
 
 mod calls;
+mod laws;
 mod source;
 mod standing;
 
 pub use calls::{agree_in, export_in, vet_in};
 pub use cs_syntax::Profile;
+pub use laws::defaults_are_read_directly;
 pub use source::{widen, widen_in};
 pub use standing::{stands_for, stands_for_in};
