@@ -1,8 +1,10 @@
 #!/usr/bin/env python3
 """Has the program write each package of cases/ and examples/ as one source, by `widen`, and compares: that source is accepted, it is
 written as the same text again, and each root that a case names has the same schema by both, to the byte; all definitions have where no
-case names one. A package that `widen` refuses has to be one that `list` refuses by the same lines and with the same status. A line for
-each difference, and a closing count.
+case names one. A package that `widen` refuses has to be one that `list` refuses by the same lines and with the same status.
+
+The same is asked of `--profile wide`: what it writes is a source of the default profile. A package that the default profile accepts is
+written as the same text with these words, and has the same schemas. A line for each difference, and a closing count.
 
     tools/laid_out.py PROGRAM
 
@@ -25,6 +27,8 @@ from prefixes import PATIENCE, TOP, Report, rows_of, spelled
 
 MOST_BYTES = 1_048_576
 NOT_UTF8 = "\\xff"
+# The words that ask for the wide profile.
+WIDE = ["--profile", "wide"]
 # The sources of a package, and a root or an empty text.
 Package = tuple[tuple[bytes, ...], str]
 
@@ -65,6 +69,7 @@ def of_args(path: Path) -> Iterator[Package]:
 # What the rows of each form have.
 FORMS: dict[str, Callable[[list[str]], list[Package]]] = {
     "packages": lambda row: [(texts(row[0]), spelled(row[1]))],
+    "widened": lambda row: [(texts(row[0]), spelled(row[1]))],
     "sources": lambda row: [(texts(row[1]), root_in(row[0].split()))],
     "samples": lambda row: [(texts(row[1]), root_in(row[0].split()))],
     "instances": lambda row: [(texts(row[0]), first_of(row[0]))],
@@ -114,11 +119,11 @@ class Program:
         return ran.returncode, ran.stdout, ran.stderr
 
 
-def differences(program: Program, roots: list[str]) -> Iterator[str]:
+def differences(program: Program, roots: list[str], profile: list[str]) -> Iterator[str]:
     """What differs; an empty text for whatever doesn't."""
-    first = program.run(["widen", "--why"], program.files)
+    first = program.run(["widen", "--why", *profile], program.files)
     if first[0] != 0:
-        listed = program.run(["list", "--why"], program.files)
+        listed = program.run(["list", "--why", *profile], program.files)
         yield "" if first == listed else f"refused by {first}, and `list` by {listed}"
         return
     (program.room / "written").write_bytes(first[1])
@@ -126,16 +131,31 @@ def differences(program: Program, roots: list[str]) -> Iterator[str]:
         return
     again = program.run(["widen", "--why"], ["written"])
     yield "" if again == first else f"written as {first}, and that as {again}"
-    for words in [["--root", it] for it in roots] or [["--all"]]:
-        by_files, by_written = (program.run(["export", *words], it) for it in (program.files, ["written"]))
+    for words in exports(roots):
+        by_files, by_written = program.run(["export", *words, *profile], program.files), program.run(["export", *words], ["written"])
         yield "" if by_files == by_written else f"export {words}: {by_files}, and of what is written {by_written}"
+
+
+def exports(roots: list[str]) -> list[list[str]]:
+    """The words that name each root, or ask for all definitions."""
+    return [["--root", it] for it in roots] or [["--all"]]
+
+
+def changes(program: Program, roots: list[str]) -> Iterator[str]:
+    """What the words of the wide profile change where the default one accepts the package, which is nothing."""
+    if program.run(["widen"], program.files)[0] != 0:
+        return
+    for words in [["widen"], *(["export", *it] for it in exports(roots))]:
+        plain, wide = program.run(words, program.files), program.run([*words, *WIDE], program.files)
+        yield "" if plain == wide else f"{words}: {plain}, and in the wide profile {wide}"
 
 
 def tried(given: tuple[str, tuple[bytes, ...], list[str]]) -> Report:
     program, sources, roots = given
     report = Report()
     with tempfile.TemporaryDirectory() as room:
-        for wrong in differences(Program(program, sources, Path(room)), roots):
+        by_files = Program(program, sources, Path(room))
+        for wrong in [*differences(by_files, roots, []), *differences(by_files, roots, WIDE), *changes(by_files, roots)]:
             report.add(str(sources)[:200], wrong[:400])
     return report
 

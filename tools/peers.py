@@ -3,12 +3,13 @@
 each wrong verdict, and a closing count of verdicts.
 
     tools/peers.py PROGRAM [PACKAGE..]        a file is a package, and so are the files of a folder together; where none is named,
-                                              each file of examples/ and of the folders in cases/
+                                              each file of examples/ and of the folders in cases/, and the packages of the rows
+                                              `widened` there, by `--profile wide`
 
 Of each definition that `export` takes, up to 1,000 documents of `samples` have to be valid, and up to 1,000 of `samples --invalid`
 invalid: by the definition (`vet`), by the exported schema (`validate`), and by that schema, as it is printed plainly, with
-`--describe --pretty`, with `--all` and with `--openapi`, in each validator of draft 2020-12 that the
-Python has which runs this: `jsonschema`, Debian's package python3-jsonschema, and `openapi_schema_validator`, which reads schemas as
+`--describe --pretty`, with `--all` and with `--openapi`. The documents of a row have to get the verdicts that it has. So judges each validator of draft
+2020-12 that the Python has which runs this: `jsonschema`, Debian's package python3-jsonschema, and `openapi_schema_validator`, which reads schemas as
 OpenAPI 3.1 does. Python's integers have no limit and its maps take any key, so what docs/USAGE.md says of other validators excuses no
 verdict of these two. Where there is `node`, and ajv 8 in the folder of modules that NODE_MODULES names (Debian 13 has it as node-ajv), ajv judges
 too, with the options in docs/USAGE.md; of its wrong verdicts those that this page tells of are counted apart: of integers beyond 2^53, and of
@@ -31,7 +32,8 @@ import tempfile
 from collections.abc import Callable
 from pathlib import Path
 
-TOP = Path(__file__).resolve().parent.parent
+from prefixes import TOP, on_a_line, rows_of, spelled
+
 MOST = 1000
 # The library, the class of its validators, and its package.
 VALIDATORS = [
@@ -113,8 +115,8 @@ class Refused(Exception):
 class Package:
     """The files of a package, and what the program says of them."""
 
-    def __init__(self, program: str, path: Path) -> None:
-        self.program, self.path = program, path
+    def __init__(self, program: str, path: Path, profile: tuple[str, ...] = ()) -> None:
+        self.program, self.path, self.profile = program, path, profile
         self.files = [path] if path.is_file() else sorted(path.glob("*.cue"))
 
     def run(self, *words: str, text: str = "") -> list[str]:
@@ -125,7 +127,7 @@ class Package:
         return run.stdout.splitlines()
 
     def on_files(self, command: str, root: str, *words: str, text: str = "") -> list[str]:
-        return self.run(command, "--root", root, *words, "--", *map(str, self.files), text=text)
+        return self.run(command, "--root", root, *words, *self.profile, "--", *map(str, self.files), text=text)
 
     def schemas(self) -> dict[str, str]:
         """The schema of each definition."""
@@ -145,7 +147,7 @@ class Package:
         definition beside it."""
         name = root.removeprefix("#")
         described = self.on_files("export", root, "--describe", "--pretty")
-        every = self.run("export", "--all", "--describe", "--", *map(str, self.files))
+        every = self.run("export", "--all", "--describe", *self.profile, "--", *map(str, self.files))
         components = self.on_files("export", root, "--openapi", "--describe")
         return {
             "plainly": schema,
@@ -191,14 +193,19 @@ class Report:
         where, wanted = f"{package.path} {root}", said(is_valid)
         try:
             docs = package.samples(root, *[] if is_valid else ["--invalid"])
-            verdicts = package.verdicts(root, schema, docs)
-            forms = package.forms(root, schema)
+            self.judge(package, root, schema, docs, is_valid)
         except Refused as refusal:
             # Where the search for documents meets its limits, nothing can be judged.
-            self.limited += str(refusal) == "error 17"
-            if str(refusal) != "error 17":
+            is_limited = str(refusal) == "error 17" or str(refusal).endswith("a limit was met")
+            self.limited += is_limited
+            if not is_limited:
                 self.fail(f"{where}: {wanted} samples: {refusal}")
-            return
+
+    def judge(self, package: Package, root: str, schema: str, docs: list[str], is_valid: bool) -> None:
+        """The verdicts of documents, which all of them have to get."""
+        where, wanted = f"{package.path} {root}", said(is_valid)
+        verdicts = package.verdicts(root, schema, docs)
+        forms = package.forms(root, schema)
         self.documents += len(docs)
         for name, judge in self.validators.items():
             for form, text in forms.items():
@@ -212,7 +219,7 @@ class Report:
                 elif name.startswith("ajv ") and OTHERWISE.search(doc + schema):
                     self.excused += 1
                 else:
-                    self.fail(f"{where}: {name} says {verdict} of {doc}, a sample that is {wanted}")
+                    self.fail(f"{where}: {name} says {verdict} of {doc}, which is {wanted}")
 
     def add_package(self, package: Package) -> None:
         try:
@@ -225,8 +232,27 @@ class Report:
             self.add(package, root, schema, True)
             self.add(package, root, schema, False)
 
+    def add_row(self, package: Package, root: str, cells: list[str]) -> None:
+        """A row whose sources are accepted: its documents, and the samples of its definitions."""
+        schema = package.on_files("export", root)[0]
+        for verdict, _, docs in (cell.partition(": ") for cell in cells):
+            self.judge(package, root, schema, [on_a_line(spelled(it)) for it in docs.split(" ")], verdict == "valid")
+        self.add_package(package)
 
-def main(program: str, paths: list[Path]) -> int:
+
+def add_rows(report: Report, program: str) -> None:
+    """The rows `widened` of the cases that have documents."""
+    for file in sorted((TOP / "cases").glob("*/widened")):
+        for number, (sources, root, *cells) in enumerate(rows_of(file), 1):
+            if not cells[2:]:
+                continue
+            with tempfile.TemporaryDirectory(prefix=f"{file.parent.name}-{number}-") as room:
+                for name, source in enumerate(sources.split(" % "), 1):
+                    (Path(room) / f"{name}.cue").write_text(spelled(source), encoding="utf-8")
+                report.add_row(Package(program, Path(room), ("--profile", "wide")), root, cells[2:])
+
+
+def main(program: str, paths: list[Path], with_rows: bool) -> int:
     sys.setrecursionlimit(DEEPEST)
     validators = found_validators()
     if not validators:
@@ -235,6 +261,8 @@ def main(program: str, paths: list[Path]) -> int:
     report = Report(validators)
     for path in paths:
         report.add_package(Package(program, path))
+    if with_rows:
+        add_rows(report, program)
     print(f"{report.documents} documents of {report.definitions} definitions; {report.refused} packages are refused by `export`")
     if report.limited:
         print(f"{report.limited} times the search for documents met its limits")
@@ -250,4 +278,4 @@ if __name__ == "__main__":
     named = [Path(it) for it in sys.argv[2:]]
     folders = sorted({file.parent for file in (TOP / "examples").glob("*/*.cue")})
     stored = [*sorted((TOP / "examples").glob("*.cue")), *folders, *sorted((TOP / "cases").glob("*/*.cue"))]
-    sys.exit(main(str(Path(sys.argv[1]).resolve()), named or stored))
+    sys.exit(main(str(Path(sys.argv[1]).resolve()), named or stored, with_rows=not named))

@@ -75,7 +75,7 @@ try_pre_commit() {
     git rm -qf servers/b.json
     echo '#Log: *"on" | "off"' >> server.cue
     git add .
-    check 'a fault of a definition' prints 1 'pre-commit run' 'server.cue:3:7: error 5: default marks are left out'
+    check 'a fault of a definition' prints 1 'pre-commit run' 'server.cue:3:7: error 5: `--profile wide` takes defaults; without it default marks are left out'
     cd ..
 }
 
@@ -117,7 +117,7 @@ for (const line of readFileSync("lines", "utf8").trim().split("\n")) {
 }
 END2
         check 'a reason is matched' prints 0 'node matcher.cjs' 'servers/b.json|1|20|||/port: found 0, want >=1 [server.cue:2:14 #Port]'
-        check 'a fault is matched' prints 0 'node matcher.cjs' 'faulty.cue|1|5|error|5|default marks are left out'
+        check 'a fault is matched' prints 0 'node matcher.cjs' 'faulty.cue|1|5|error|5|`--profile wide` takes defaults; without it default marks are left out'
         check 'a warning is matched' prints 0 'node matcher.cjs' 'faulty.cue|1|1|warning||no document is an instance of #B'
     fi
     if [ -f "${archive#file://}" ] && is_there curl curl --version; then

@@ -1,6 +1,9 @@
 # The forms of cases whose rows have cells with ` => ` between them; cases/README.md says how each is written. cases.sh sets `program`, and
 # its `run` runs that on $room/in; wanted.sh says whether a run did what is wanted.
 
+# The words that name the profile of the sources.
+profile=
+
 # for_rows FILE FOLDER COMMAND: runs the command for each `row` of a table; a line that begins with two blanks and `…` goes on with the
 # one before it
 for_rows() {
@@ -69,11 +72,22 @@ put_sources() {
     }')
 }
 
-# call NAME: judges `document` by the package of `files`, or by the schema
+# put_package: takes the sources and the root off `row`
+put_package() {
+    cut_cell
+    put_sources "$cell"
+    cut_cell
+    put word "$cell"
+    word=$(cat word)
+    root=${word#\#}
+}
+
+# call NAME: judges `document` by the package of `files`, or by the schema; `validate_in` names the profile too
 call() {
     case $1 in
         validate) run validate --schema schema.json --doc document ;;
-        *) run "$1" --root "$word" --doc document $files ;;
+        validate_in) run validate $profile --schema schema.json --doc document ;;
+        *) run "$1" --root "$word" $profile --doc document $files ;;
     esac
 }
 
@@ -97,7 +111,7 @@ each() {
 is_cycle() {
     put names "$1"
     printf 1 > document
-    run agree --format flag --root "$word" --doc document $files
+    run agree --format flag --root "$word" $profile --doc document $files
     is_run 2 "{\"error\":12,\"names\":[\"$(sed 's/ /","/g' names)\"]}" ''
 }
 
@@ -105,14 +119,14 @@ is_cycle() {
 is_refused_in() {
     printf 1 > document
     number=$(sed -n '1s/^error \([0-9]*\).*/\1/p' "$room/said")
-    run vet --format json --root "$word" --doc document $files
+    run vet --format json --root "$word" $profile --doc document $files
     case $(cat "$room/out") in "{\"error\":$number,\"file\":\"$1\","*) true ;; *) false ;; esac
 }
 
 # exported WANTED: exports the root, and judges that; behind ` in ` stands the file that a refusal is about, and behind ` of ` the names
 # of a cycle
 exported() {
-    run export --root "$word" $files
+    run export --root "$word" $profile $files
     cp "$room/out" schema.json
     case $1 in
         'error '*' in '*) put wanted "${1% in *}" ;;
@@ -129,12 +143,7 @@ exported() {
 # The rows of `packages`: sources, a root, what is wanted of `export`, and cells of what is wanted of documents, by `vet` and
 # `agree`, and by `validate` where they have a verdict.
 package() {
-    cut_cell
-    put_sources "$cell"
-    cut_cell
-    put word "$cell"
-    word=$(cat word)
-    root=${word#\#}
+    put_package
     cut_cell
     exported "$cell"
     while [ -n "$row" ]; do
@@ -143,6 +152,61 @@ package() {
     done
 }
 packages() { for_rows packages "$1" package; } # folder
+
+# refused_in WANTED: whether each call refuses the sources so, where they stand for nothing
+refused_in() {
+    exported "$1"
+    printf 1 > document
+    for it in widen list "samples --root $word"; do
+        run $it $profile $files
+        judge "$label: $it" "$(cat wanted)"
+    done
+    for it in vet agree; do
+        call "$it"
+        judge "$label: $it" "$(cat wanted)"
+    done
+}
+
+# is_widened WORD..: whether the sources are written as `wanted_text`
+is_widened() {
+    run widen "$@"
+    if is_run 0 "$(cat wanted_text)" ''; then count "$label: widen" yes; else count "$label: widen $1" no; fi
+}
+
+# is_meant: the schema of the text that the sources stand for, and both compared
+is_meant() {
+    run export --root "$word" meant
+    if [ "$status" = 0 ] && cmp -s "$room/out" schema.json; then count "$label: export of it" yes; else count "$label: export of it" no; fi
+    run compare --root "$word" $profile --old $files --new meant
+    judge "$label: compare with it" 'lines 0 compatible'
+    run compare --root "$word" $profile --old meant --new $files
+    judge "$label: compare it" 'lines 0 compatible'
+}
+
+# The rows of `widened`: sources of the wide profile, a root, what they stand for or why that is nothing, what is wanted of `export`, and
+# cells of documents.
+widening() {
+    put_package
+    cut_cell
+    case $cell in 'error '*) refused_in "$cell"; return ;; esac
+    put wanted_text "$cell"
+    is_widened $profile $files
+    cp "$room/out" meant
+    is_widened meant
+    cut_cell
+    exported "$cell"
+    case $cell in 'error '*) return ;; esac
+    is_meant
+    while [ -n "$row" ]; do
+        cut_cell
+        each "$cell" vet agree validate validate_in
+    done
+}
+widened() { # folder
+    profile='--profile wide'
+    for_rows widened "$1" widening
+    profile=
+}
 
 # The rows of `schemas`: a schema, and cells of what is wanted of documents by `validate`.
 schema() {

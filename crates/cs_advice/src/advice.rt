@@ -1,6 +1,6 @@
 // What is said of a form at its place, with the names that the source has there.
 use crate::bases::put_not_opened;
-use crate::labels::{field_without, labels_inside, text_between};
+use crate::labels::{field_without, label_over, labels_inside, text_between};
 use crate::names::{put_field_reference, put_unknown};
 use crate::text::{put_around, put_filled, put_tokens};
 use cs_forms::{Form, Found, said_of_form, said_of_shown};
@@ -28,6 +28,7 @@ pub fn put_advice(
     };
     match found.form {
         Form::DefaultMark => put_default(text, near),
+        Form::ExcludedDefault => put_excluded(text, said, near),
         Form::Let => {
             let more = "; write `#{}: ..` at the top of a file, and `#{}` for `{}`";
             put_with_name(text, said, near.behind(1), more)
@@ -56,6 +57,11 @@ fn put_default(text: &mut String, mark: Near<'_, '_>) -> Written {
         Some(field) => put_filled(text, said, &[field.label, field.before, field.behind]),
         None => text.push_str("; take it out"),
     }
+}
+
+/// Puts what could exclude a default, with the label that has it.
+fn put_excluded(text: &mut String, said: &str, near: Near<'_, '_>) -> Written {
+    put_filled(text, said, &[label_over(near).unwrap_or("x"); 3])
 }
 
 /// Puts what is said of a form, and behind it more, where a token is a name, which that names.

@@ -59,6 +59,14 @@ pub(crate) fn field_without<'a>(mark: Near<'_, 'a>) -> Option<Marked<'a>> {
     })
 }
 
+/// The label of the field whose value a token is in, in parentheses or in none.
+pub(crate) fn label_over<'a>(near: Near<'_, 'a>) -> Option<&'a str> {
+    let source = near.source;
+    let place = source.held_in_declaration(near.place);
+    let colon = Near { source, place }.colon()?;
+    Some(source.token(source.label_before(colon.place)?).text)
+}
+
 /// The labels of the struct that a bracket opens, in their order; one that it has twice is there twice. None without a bracket.
 pub(crate) fn labels_inside<'s, 'a>(
     alloc: Global,

@@ -7,6 +7,7 @@ mod objects;
 mod schemas;
 mod told;
 
+pub use cs_grammar::Profile;
 pub use lines::{explained, put_finding, why_refused};
 pub use objects::write_refusal_json;
 pub use told::About;

@@ -1,6 +1,8 @@
 // Refusals in lines, for people and for problem matchers.
 use crate::told::{About, tell};
 use cs_advice::{Told, Written, put_all, put_excerpt, put_filled, put_offset};
+use cs_forms::Form;
+use cs_grammar::Profile;
 use cs_meanings::EXPLANATIONS;
 use cs_place::Named;
 use cs_sources::{Source, sources_of};
@@ -60,8 +62,17 @@ pub fn put_finding<'a>(
     let mut told = Told::new(alloc);
     tell(&mut told, fault, about_schema(schema), root, sources)?;
     let mut buffer = Buffer::new();
-    let words = ["error ", buffer.format(fault.number()), ": "];
+    let (number, taken) = (buffer.format(fault.number()), taken_by(told.form));
+    let words = ["error ", number, ": ", taken];
     put_told(text, &told, fault.offset().or(told.start), &words)
+}
+
+/// What is said before anything else of a form that another profile takes.
+fn taken_by(form: Option<Form>) -> &'static str {
+    match form {
+        Some(Form::DefaultMark) => "`--profile wide` takes defaults; without it ",
+        Some(_) | None => "",
+    }
 }
 
 /// What is known where a schema is, or nothing but the sources.
@@ -71,6 +82,7 @@ fn about_schema<'a>(schema: Option<Named<'a>>) -> About<'a> {
     About {
         sources,
         root: "",
+        profile: Profile::Default,
         schema,
         document: None,
         path: None,

@@ -5,7 +5,8 @@ use cs_advice::{
     Told, Written, put_advice, put_all, put_filled, put_no_root, put_too_large, tell_chain,
     tell_cycle, tell_package_name, tell_too_high,
 };
-use cs_forms::{Form, Found, form_left_out, form_out_of_place, form_stuck, form_unknown};
+use cs_forms::{Form, Found, form_left_out_in, form_out_of_place, form_stuck, form_unknown};
+use cs_grammar::Profile;
 use cs_meanings::explanation;
 use cs_place::Named;
 use cs_sources::{Near, Source};
@@ -18,6 +19,8 @@ pub struct About<'a> {
     pub sources: &'a [Named<'a>],
     /// The root as it was asked for.
     pub root: &'a str,
+    /// The profile that the sources were read in.
+    pub profile: Profile,
     pub schema: Option<Named<'a>>,
     pub document: Option<Named<'a>>,
     /// The file that could not be read, or was too long.
@@ -53,10 +56,11 @@ pub(crate) fn tell<'a>(
     }
 }
 
-/// Tells the form of CUE at the place of a fault; nothing without its source, and where that has no token there or behind.
+/// Tells the form of CUE at the place of a fault in a profile; nothing without its source, and where that has no token there or behind.
 fn tell_form<'a>(
     told: &mut Told<'a>,
     fault: &Fault,
+    profile: Profile,
     source: Option<&Source<'a>>,
     sources: &[Source<'a>],
 ) -> Written {
@@ -70,7 +74,7 @@ fn tell_form<'a>(
         Fault::NoToken { .. } => form_stuck(source.named.text, offset),
         Fault::IntegerRange { .. } => Found::at(near, Form::LargeInteger),
         Fault::Syntax { .. } => form_out_of_place(near),
-        Fault::LeftOut { .. } => form_left_out(near),
+        Fault::LeftOut { .. } => form_left_out_in(profile, near),
         Fault::UnknownName { .. } => form_unknown(near),
         Fault::FieldReference { .. } => Found::at(near, Form::FieldReference),
         Fault::NotOpened { .. } => Found::at(near, Form::NotOpened),
@@ -99,7 +103,7 @@ fn tell_by_kind<'a>(
         | Fault::IntegerRange { .. }
         | Fault::UnknownName { .. }
         | Fault::FieldReference { .. }
-        | Fault::NotOpened { .. } => tell_form(told, fault, source, sources),
+        | Fault::NotOpened { .. } => tell_form(told, fault, about.profile, source, sources),
         Fault::TooHigh { .. } => tell_too_high(told, source),
         Fault::PackageName { .. } => tell_package_name(told, source, sources),
         Fault::Cycle { names } => tell_cycle(told, sources, names),

@@ -32,6 +32,14 @@ pub enum Form {
     // Forms that are left out, or that begin like one of the profile (4, 5).
     /// `*1 | int`.
     DefaultMark,
+    /// `*1`, `(*1 | int) & >0`: a mark that isn't in a disjunction which is a whole value, in the wide profile, as the next three.
+    MisplacedDefault,
+    /// `*1 | *2`.
+    SecondDefault,
+    /// `*int | string`.
+    DefaultValue,
+    /// `{x: *1 | int, x?: >3}`: a default that another declaration could exclude.
+    ExcludedDefault,
     /// `import "net"`.
     Import,
     /// `net.FQDN`.

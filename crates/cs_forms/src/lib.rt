@@ -1,14 +1,16 @@
 // Forms of CUE at the places of refusals, by the tokens there, and the words for them.
 #![tactic(auto)]
 
+mod defaults;
 mod forms;
 mod names;
 mod stuck;
 mod syntax;
 mod words;
 
+pub use defaults::form_left_out_in;
 pub use forms::{Form, Found};
-pub use names::{form_left_out, form_unknown};
+pub use names::form_unknown;
 pub use stuck::form_stuck;
 pub use syntax::form_out_of_place;
 pub use words::{form_name, kind_meant, said_of_form, said_of_shown};

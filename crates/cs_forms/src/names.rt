@@ -15,8 +15,8 @@ pub fn form_unknown(near: Near<'_, '_>) -> Found {
     Found::at(near, form)
 }
 
-/// The form at a token that the profile leaves out, wherever it stands.
-pub fn form_left_out(near: Near<'_, '_>) -> Found {
+/// The form at a token that the default profile leaves out, wherever it stands.
+pub(crate) fn form_left_out(near: Near<'_, '_>) -> Found {
     let here = near.here();
     let form = match here.sort {
         Sort::Hidden => Form::HiddenName,

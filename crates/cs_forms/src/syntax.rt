@@ -138,7 +138,11 @@ fn is_end(token: Token<'_>) -> bool {
 
 /// Whether a value has to follow a token.
 fn wants_value(token: Token<'_>) -> bool {
-    is_relation(token) || matches!(token.text.as_bytes(), [b':' | b'&' | b'|' | b'-' | b'('])
+    is_relation(token)
+        || matches!(
+            token.text.as_bytes(),
+            [b':' | b'&' | b'|' | b'-' | b'(' | b'*']
+        )
 }
 
 /// The form at the end of a source, or at a closing bracket that closes nothing.

@@ -10,7 +10,7 @@ type Sayings = &'static [(&'static [&'static str], &'static str)];
 
 /// What programs call each form, and what is said of it, in their order: a `{}` stands for what its place tells. A form without a row is
 /// refused by the prover.
-const FORMS: [(&str, &str); 57] = rows! {
+const FORMS: [(&str, &str); 61] = rows! {
     "byte-order-mark" => "a byte order mark: save the file as UTF-8 without it",
     "float" => "floats are left out: scale it (percent, milliseconds)",
     "number-spelling" => "`{}`: {}",
@@ -23,6 +23,10 @@ const FORMS: [(&str, &str); 57] = rows! {
     "unclosed-text" => "this text doesn't end on its line",
     "stray-character" => "no token begins with this character",
     "default-mark" => "default marks are left out",
+    "misplaced-default" => "a default is an operand of a disjunction that is a whole value, as in `x: *1 | int`: take the mark out, or move it there",
+    "second-default" => "a disjunction has one default, and an operand before this one is marked: take one of the marks out",
+    "default-value" => "a default is null, a truth value, an integer, a text, an empty struct or a list of these: take the mark out",
+    "excluded-default" => "another declaration of `{}` that may be absent, as `{}?`, `[string]` or a default, could exclude this one: write `{}?` here",
     "import" => "imports are left out; remove it and write what it gives by hand (`net.FQDN`, `time.Time`: `string`)",
     "package-value" => "`{}`: packages are left out{}",
     "package-call" => "`{}`: calls of packages are left out{}",

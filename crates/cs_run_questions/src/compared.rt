@@ -12,7 +12,7 @@ use cs_reason_words::Form;
 use cs_run_input::{
     NO_FILE, Reasons, first_unread, meant_rules, named_sources, read_sources, reasons_of, word_of,
 };
-use cs_run_refusals::{about_sources, is_of_reading, tell, tell_unread};
+use cs_run_refusals::{about_sources, is_of_reading, read_as_asked, tell, tell_unread};
 use cs_tool::{Fault, Rules, slices_of};
 use std::alloc::Global;
 
@@ -159,6 +159,7 @@ fn tell_refusal(
         let found = first_unread(rt, &fault, paths).unwrap_or(NO_FILE);
         return tell_unread(rt, form, &fault, found, paths, word);
     }
+    let about = read_as_asked(about, words);
     tell(rt, form, &fault, about, paths, word)
 }
 

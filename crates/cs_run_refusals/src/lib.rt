@@ -2,10 +2,10 @@
 #![tactic(auto)]
 
 use clap::ArgMatches;
-use cs_fault_words::{About, why_refused, write_refusal_json};
+use cs_fault_words::{About, Profile, why_refused, write_refusal_json};
 use cs_place::Named;
 use cs_reason_words::{Form, Format};
-use cs_run_input::{NO_FILE, STANDARD_INPUT, Unread, print, sizes_of, unread_file};
+use cs_run_input::{NO_FILE, STANDARD_INPUT, Unread, print, profile_of, sizes_of, unread_file};
 use cs_tool::{Fault, write_fault, write_fault_json};
 use std::alloc::{AllocError, Global};
 use std::io::Write;
@@ -23,6 +23,7 @@ pub fn about_input<'a>(unread: Unread<'a>, sizes: &'a [(&'a str, u64)]) -> About
     About {
         sources: &[],
         root: "",
+        profile: Profile::Default,
         schema: None,
         document: None,
         path: unread.path,
@@ -31,12 +32,20 @@ pub fn about_input<'a>(unread: Unread<'a>, sizes: &'a [(&'a str, u64)]) -> About
     }
 }
 
-/// What is known of a call by its sources and its root.
+/// What is known of a call by its sources and its root, read in the default profile.
 pub fn about_sources<'a>(sources: &'a [Named<'a>], root: &'a str) -> About<'a> {
     About {
         sources,
         root,
         ..about_input(NO_FILE, &[])
+    }
+}
+
+/// The same where the sources were read in the profile that the words ask for.
+pub fn read_as_asked<'a>(about: About<'a>, words: &ArgMatches<'_>) -> About<'a> {
+    About {
+        profile: profile_of(words),
+        ..about
     }
 }
 
@@ -51,6 +60,7 @@ pub fn or_told(
     if let (Err(fault), Some(form)) = (&answer, form) {
         if !is_of_reading(fault) {
             let names = or_unnamed(words.get_strs("FILE").unwrap_or(&[]));
+            let about = read_as_asked(about, words);
             return tell(rt, form, fault, about, names, None);
         }
     }
