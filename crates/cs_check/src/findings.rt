@@ -7,7 +7,7 @@ ghost use Rattle.cs_tool.specs.Given.{bytes_in};
 use crate::schema::check_schema;
 use crate::sources::{check, check_wide};
 use crate::warnings::{put_warning, warned};
-use cs_fault_words::put_finding;
+use cs_fault_words::{Profile, put_finding};
 use cs_guard::Guarded;
 use cs_place::Named;
 use cs_sources::{declared_in, sources_of};
@@ -53,7 +53,14 @@ pub fn source_findings(
 {
     let faults = check(alloc, sources)?;
     if !faults.is_empty() {
-        return faulty(alloc, &faults, root.unwrap_or(""), None, named);
+        return faulty(
+            alloc,
+            &faults,
+            Profile::Default,
+            root.unwrap_or(""),
+            None,
+            named,
+        );
     }
     package_findings(alloc, sources, named, root)
 }
@@ -75,7 +82,14 @@ pub fn wide_findings(
 {
     let faults = check_wide(alloc, sources)?;
     if !faults.is_empty() {
-        return faulty(alloc, &faults, root.unwrap_or(""), None, named);
+        return faulty(
+            alloc,
+            &faults,
+            Profile::Wide,
+            root.unwrap_or(""),
+            None,
+            named,
+        );
     }
     match stands_for(alloc, sources)? {
         Some(meant) => package_findings(alloc, &[meant.as_bytes()], named, root),
@@ -95,7 +109,14 @@ fn package_findings(
     let package = accepted_package(alloc, sources)?;
     match root {
         Some(root) if package.package().find(root).is_none() => {
-            faulty(alloc, &[Fault::UnknownRoot], root, None, named)
+            faulty(
+                alloc,
+                &[Fault::UnknownRoot],
+                Profile::Default,
+                root,
+                None,
+                named,
+            )
         }
         Some(_) | None => unfaulty(alloc, &package, named),
     }
@@ -118,13 +139,14 @@ pub fn schema_findings(alloc: Global, schema: Named<'_>) -> Result<Findings, Fau
         let (checked, lines) = (Checked::Well, String::new(alloc));
         return Ok(Findings { checked, lines });
     }
-    faulty(alloc, &faults, "", Some(schema), &[])
+    faulty(alloc, &faults, Profile::Default, "", Some(schema), &[])
 }
 
-/// Faults of a schema, or of sources and the root that was asked for, with a line for each.
+/// Faults of a schema, or of sources in a profile and the root that was asked for, with a line for each.
 fn faulty<'a>(
     alloc: Global,
     faults: &[Fault],
+    profile: Profile,
     root: &str,
     schema: Option<Named<'a>>,
     named: &[Named<'a>],
@@ -134,7 +156,7 @@ fn faulty<'a>(
     let mut lines = String::new(alloc);
     let sources = sources_of(alloc, named)?;
     for fault in faults {
-        put_finding(alloc, &mut lines, fault, root, schema, &sources)?;
+        put_finding(alloc, &mut lines, fault, profile, root, schema, &sources)?;
     }
     let checked = Checked::Faulty;
     Ok(Findings { checked, lines })

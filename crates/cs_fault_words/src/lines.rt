@@ -49,18 +49,23 @@ fn put_refusal(text: &mut String, told: &Told<'_>, sizes: &[(&str, u64)]) -> Wri
     Ok(())
 }
 
-/// Puts a line for a fault of sources, of the root that was asked for, or of a schema: its place, as `FILE:LINE:COLUMN: `, its
-/// number, and what to do. `sources` are those of the call, cut into tokens. Only memory can run out.
+/// Puts a line for a fault of sources that were read in a profile, of the root that was asked for, or of a schema: its place, as
+/// `FILE:LINE:COLUMN: `, its number, and what to do. `sources` are those of the call, cut into tokens. Only memory can run out.
 pub fn put_finding<'a>(
     alloc: Global,
     text: &mut String,
     fault: &Fault,
+    profile: Profile,
     root: &str,
     schema: Option<Named<'a>>,
     sources: &[Source<'a>],
 ) -> Written {
     let mut told = Told::new(alloc);
-    tell(&mut told, fault, about_schema(schema), root, sources)?;
+    let about = About {
+        profile,
+        ..about_schema(schema)
+    };
+    tell(&mut told, fault, about, root, sources)?;
     let mut buffer = Buffer::new();
     let (number, taken) = (buffer.format(fault.number()), taken_by(told.form));
     let words = ["error ", number, ": ", taken];
