@@ -23,8 +23,6 @@ pub(crate) fn notes_of_value(
         // A mark of a default is dropped where it is widened.
         Expr::Wide(Wide::Marked { value, .. }) => return notes_of_value(alloc, value, texts),
         Expr::Struct { fields, .. } => return notes_of_fields(alloc, fields, texts),
-        // Where it is widened, the mark is dropped.
-        Expr::Wide(Wide::Marked { value, .. }) => return notes_of_value(alloc, value, texts),
         Expr::List { front, end } => {
             notes.prefix = notes_of_each(alloc, front, texts)?;
             notes.rest = notes_of_rest(alloc, end, texts)?;
