@@ -10,9 +10,10 @@ cd "$(dirname "$0")/.."
 
 # The parser goes down by the brackets that are open, of which it refuses the 29th; the height of a body is followed 28 deep; a
 # document is read 127 levels deep. Literals are looked for 16 rules deep, and two edits are looked for between names. Why a definition
-# has no instance is looked for 64 parts deep.
+# has no instance is looked for 64 parts deep. At most 65 definitions are passed on the way to the mark of a default.
 limited='crates/cs_check/proofs/schema/mending/+cut
 crates/cs_check/proofs/warnings/why_empty/Search/+why
+crates/cs_defaults/proofs/leading/+hands_on
 crates/cs_json/proofs/listing/Listing/+read
 crates/cs_instance_reasons/proofs/near/literals/Search/+leading
 crates/cs_instance_reasons/proofs/near/names/+are_near
