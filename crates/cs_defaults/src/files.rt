@@ -51,6 +51,7 @@ fn check_places(files: &[File]) -> Result<(), DefaultFault>
     Ok(())
 }
 
+/// Looks for the first mark out of place in a file.
 fn check_bodies(definitions: &[Definition]) -> Result<(), usize>
     ensures { Finds result (flat_map (λ d. misplaced true (body d)) (map definition_view definitions.now)) }
 {
@@ -76,6 +77,7 @@ fn check_clashes(alloc: Global, handing: &Handing<'_>, files: &[File]) -> Result
     Ok(())
 }
 
+/// Looks for the first default of a file that could be excluded.
 fn check_file(clashes: &Clashes<'_, '_>, definitions: &[Definition]) -> Result<(), DefaultFault>
     ensures { (has : List ℕ → Bool) → TellsHanding clashes.now.handing.now has
         → FindsIn result clashes.now.file (flat_map (λ d. Absent.clashes has (body d)) (map definition_view definitions.now)) }

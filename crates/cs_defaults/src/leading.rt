@@ -113,6 +113,7 @@ fn add_bodies<'a>(
     Ok(())
 }
 
+/// The table of the bodies of all files.
 fn bodies_of<'a>(alloc: Global, files: &'a [File]) -> Result<Bodies<'a>, AllocError>
     ensures { IfOk result (λ b. TellsBodies b (flat_map definitions (map file_view files.now))) }
 {
@@ -162,6 +163,7 @@ pub(crate) struct Handing<'a> {
 }
 
 impl<'a> Handing<'a> {
+    /// The definitions of the files that hand on a default.
     pub(crate) fn of(alloc: Global, files: &'a [File]) -> Result<Self, AllocError>
         ensures { IfOk result (λ h. TellsHanding h (Spec.hands_on (flat_map definitions (map file_view files.now)))) }
     {
@@ -173,6 +175,7 @@ impl<'a> Handing<'a> {
         Ok(Handing { names })
     }
 
+    /// Whether the definition of that name hands on a default.
     fn has(&self, name: &str) -> bool
         ensures { (has : List ℕ → Bool) → TellsHanding self.now has → result ≡ has name.now }
     {
