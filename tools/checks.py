@@ -50,6 +50,7 @@ OF_PROGRAMS = [
     "tools/laid_out.py",
     "tools/natural.py",
     "tools/pages.sh",
+    "tools/widened.py --random 1000 --program",
     "tools/explained.py",
 ]
 
@@ -100,7 +101,7 @@ class Checks:
 
 
 def of_program(checks: Checks, pool: ThreadPoolExecutor, program: str, **environment: str) -> list[Future]:
-    return [pool.submit(checks.run, [it, program], **environment) for it in OF_PROGRAMS]
+    return [pool.submit(checks.run, [*it.split(" "), program], **environment) for it in OF_PROGRAMS]
 
 
 def test_crates() -> list[str]:

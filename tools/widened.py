@@ -1,21 +1,30 @@
 #!/usr/bin/env python3
-"""Tries the model of tools/widening.py. A line for each difference, and a closing count.
+"""Tries the model of tools/widening.py, and a program by it. A line for each difference, and a closing count.
 
     tools/widened.py [--random N] [--seed N]
+    tools/widened.py [--random N] [--seed N] --program PROGRAM
 
 - Each row of tools/widening.rows: a source, what it stands for (`=>`) or the number by which it is refused, and documents that are
   instances of `#P` and that aren't.
 - Random packages, 200 where no number is given: each document has to be an instance by a direct reading of the source exactly where it is
   one of the package that is meant. By that reading a document is an instance of a literal with embedded expressions when, for some choice
   of an alternative for each, one for a name, every declared field is as all of them ask, and every other key is allowed by one of them.
+- With a program: random packages with defaults and no other form of the wide profile. Where the model refuses a mark, `widen --profile wide`
+  refuses by 5. Elsewhere it says of the package what `widen` says of the one that the model means: the number of the same refusal, or a
+  text that is read as the same package; and then `vet --profile wide` judges documents as the model does.
 """
 from __future__ import annotations
 
 import argparse
 import json
+import os
 import random
+import subprocess
 import sys
+import tempfile
+from collections import Counter
 from collections.abc import Iterator
+from concurrent.futures import ThreadPoolExecutor
 from pathlib import Path
 
 sys.path.insert(0, str(Path(__file__).resolve().parent))
@@ -236,7 +245,152 @@ def fault_of_package(chance: random.Random, package: Package) -> str | None:
     return None
 
 
+# A program, on random packages with defaults alone.
+
+ATOMS = ["int", "string", "bool", "uint8", "1", '"x"', "null", ">0", "!=1", "-1", "true", "_"]
+DEFAULTS = ["1", '"x"', "null", "-1", "false", "[]", "{}", '[1, ["x"], {}]', "(1)"]
+
+
+class Sources:
+    """Random sources whose only form of the wide profile are marks of defaults, most of them in place."""
+
+    def __init__(self, chance: random.Random, names: list[str]) -> None:
+        self.chance, self.names = chance, names
+
+    def value(self, depth: int) -> str:
+        form = self.chance.random()
+        if depth <= 0 or form < 0.25:
+            return self.chance.choice(ATOMS)
+        if form < 0.45:
+            return self.struct(depth)
+        if form < 0.58:
+            return self.chance.choice(self.names)
+        if form < 0.82:
+            return self.disjunction(depth)
+        if form < 0.88:
+            return " & ".join(self.operand(depth) for _ in range(2))
+        if form < 0.96:
+            return self.listing(depth)
+        return f"({self.value(depth - 1)})"
+
+    def operand(self, depth: int) -> str:
+        found = self.value(depth - 1)
+        return f"({found})" if any(it in found for it in "|&*") and found[0] not in "{[" else found
+
+    def disjunction(self, depth: int) -> str:
+        operands = [self.operand(depth) for _ in range(self.chance.randint(1, 2))]
+        form = self.chance.random()
+        if form < 0.75:
+            operands.insert(self.chance.randint(0, len(operands)), "*" + self.chance.choice(DEFAULTS))
+        elif form < 0.8:
+            operands.append("*" + self.operand(depth))
+        return " | ".join(operands)
+
+    def struct(self, depth: int) -> str:
+        fields = [self.field(depth) for _ in range(self.chance.randint(0, 3))]
+        return "{" + ", ".join(fields + ["..."] * (self.chance.random() < 0.4)) + "}"
+
+    def field(self, depth: int) -> str:
+        label = self.chance.choice(LABELS)
+        form = self.chance.random()
+        if form < 0.06:
+            return f"[string]: {self.value(depth - 1)}"
+        label = json.dumps(label) if form < 0.2 else label
+        return f"{label}{self.chance.choice(['', '', '', '?', '!'])}: {self.field(depth) if form > 0.95 else self.value(depth - 1)}"
+
+    def listing(self, depth: int) -> str:
+        front = [self.value(depth - 1) for _ in range(self.chance.randint(0, 2))]
+        end = self.chance.choice(["", "...", "..." + self.value(depth - 1)])
+        return f"[{', '.join(front + [end] * bool(end))}]"
+
+
+def source_of(chance: random.Random) -> str:
+    """A random package. A definition refers to those behind it most of the time, and has one body."""
+    names = ["#P", "#A", "#B", "#C"][: chance.randint(1, 4)]
+    lines = []
+    for place, name in enumerate(names):
+        sources = Sources(chance, (names[place + 1 :] if chance.random() < 0.93 else names) or ["int"])
+        body = sources.value if chance.random() < 0.3 else sources.struct if name == "#P" else sources.disjunction
+        lines += [f"{name}: {body(3)}" for _ in range(1 + (chance.random() < 0.05))]
+    return "\n".join(lines) + "\n"
+
+
+def without_marks(source: str) -> Package:
+    """What a source with defaults alone means, where the model refuses no mark."""
+    package = WideReader(source).package()
+    return {name: [Widening(package).unmarked(body, True) for body in bodies] for name, bodies in package.items()}
+
+
+class Tried:
+    """A program, with the files of a random package."""
+
+    def __init__(self, program: str, room: Path) -> None:
+        self.program, self.room = program, room
+
+    def run(self, words: list[str], source: str, given: str = "") -> tuple[str, str]:
+        """What it prints of a source, and the refusal that it says."""
+        (self.room / "source.cue").write_text(source)
+        words = [self.program, *words, "source.cue"]
+        ran = subprocess.run(words, cwd=self.room, input=given, capture_output=True, encoding="utf-8", timeout=60)
+        return ran.stdout, " ".join(ran.stderr.split()[:2])
+
+    def faults(self, chance: random.Random, source: str) -> Iterator[str]:
+        """Why the package is refused, and then what differs."""
+        text, refusal = self.run(["widen", "--profile", "wide"], source)
+        try:
+            meant = without_marks(source)
+        except Refused as why:
+            yield f"error {why.number}"
+            if refusal != f"error {why.number}":
+                yield f"is refused by the model ({why}), and the program says {refusal!r} {text}"
+            return
+        wanted = self.run(["widen"], spelled(meant))[1]
+        yield wanted
+        if refusal != wanted:
+            yield f"means {spelled(meant)}which says {wanted!r}, and the program says {refusal!r}"
+        elif not wanted:
+            yield from self.differences(chance, source, text, meant)
+
+    def differences(self, chance: random.Random, source: str, text: str, meant: Package) -> Iterator[str]:
+        if parsed(text) != parsed(spelled(meant)):
+            yield f"means {spelled(meant)}and is written as {text}"
+        docs = [document(chance, 3) for _ in range(DOCUMENTS)]
+        lines = "".join(json.dumps(it) + "\n" for it in docs)
+        verdicts = self.run(["vet", "--profile", "wide", "--root", "#P", "--lines"], source, lines)[0].split()
+        wanted = ["valid" if is_instance(meant, "#P", it) else "invalid" for it in docs]
+        for doc, verdict, asked in zip(docs, verdicts, wanted, strict=True):
+            if verdict != asked:
+                yield f"means {spelled(meant)}where {json.dumps(doc)} is {asked}, and the program says {verdict}"
+
+
+def try_program(given: tuple[str, int]) -> tuple[str, list[str]]:
+    """How the random package of a seed is refused, and what differs."""
+    program, seed = given
+    chance = random.Random(seed)
+    source = source_of(chance)
+    with tempfile.TemporaryDirectory() as room:
+        refusal, *faults = Tried(program, Path(room)).faults(chance, source)
+    return refusal, [f"seed {seed}: {source}{it}" for it in faults]
+
+
+def on_program(words: argparse.Namespace) -> int:
+    program = str(words.program.resolve())
+    seeds = range(words.seed, words.seed + words.random)
+    with ThreadPoolExecutor(int(os.environ.get("JOBS") or len(os.sched_getaffinity(0)))) as pool:
+        answers = list(pool.map(try_program, [(program, it) for it in seeds]))
+    for _refusal, faults in answers:
+        for it in faults:
+            print(it)
+    refusals = Counter(refusal or "accepted" for refusal, _faults in answers)
+    print(", ".join(f"{many} {said}" for said, many in refusals.most_common()))
+    failed = sum(bool(faults) for _refusal, faults in answers)
+    print(f"{len(answers) - failed} passed, {failed} failed")
+    return 1 if failed or not answers else 0
+
+
 def main(words: argparse.Namespace) -> int:
+    if words.program:
+        return on_program(words)
     passed = failed = refused = 0
     for row in ROWS.read_text().split("\n\n"):
         lines = [it for it in row.split("\n") if it and not it.startswith("# ")]
@@ -259,4 +413,5 @@ if __name__ == "__main__":
     parser = argparse.ArgumentParser(description=__doc__, formatter_class=argparse.RawDescriptionHelpFormatter)
     parser.add_argument("--random", type=int, default=200)
     parser.add_argument("--seed", type=int, default=1)
+    parser.add_argument("--program", type=Path)
     sys.exit(main(parser.parse_args()))
