@@ -731,4 +731,48 @@ awk 'BEGIN { for (i = 0; i < 64; i++) printf "#A%d: #A%d | #A%d\n", i, i + 1, i 
 try '64 doublings by both: compare' 0 'lines 0 backward: compatible;forward: compatible' 'compare --both --root #A0 --old wide.cue --new other.cue'
 doubling 65 '&' > wide.cue
 try 'doubling 65 times: vet' 0 'error 16' 'vet --root #A0 --doc seven wide.cue'
+# Defaults of the wide profile: a mark behind all other operands, chains of definitions that hand a default on, labels that could exclude
+# one, marks alone, and what is longer in one layout than as it was written.
+{ printf '#A: '; many 49998 '1 | '; printf '*2\n'; } > wide.cue
+try 'wide: 49,999 operands and a mark: widen' 0 'shows | 1 | 2' 'widen --profile=wide wide.cue'
+try 'wide: 49,999 operands and a mark: export' 0 '{"A":{"enum":[1,2]}}' 'export --profile=wide --root #A wide.cue'
+{ printf '#A: '; many 49999 '1 | '; printf '*2\n'; } > wide.cue
+try 'wide: 50,000 operands and a mark: export' 0 'error 14' 'export --profile=wide --root #A wide.cue'
+{ printf '#A: '; many 49998 '*1 | '; printf '*2\n'; } > wide.cue
+try 'wide: 49,999 marks: export' 0 'error 5 at 9' 'export --profile=wide --root #A wide.cue'
+try 'wide: 49,999 marks: widen --why' 0 'told error 5 at 9' 'widen --profile=wide --why wide.cue'
+{ printf '#A: '; many 49998 '1 | '; printf '*int\n'; } > wide.cue
+try 'wide: 49,999 operands and a kind that is marked: widen --why' 0 'told error 5 at 199996' 'widen --profile=wide --why wide.cue'
+awk 'BEGIN { for (i = 0; i < 64; i++) printf "#A%d: #A%d\n", i, i + 1; print "#A64: *1 | int\n#P: [...{x: #A0}]" }' > wide.cue
+try 'wide: 64 definitions that hand a default on: widen' 0 'shows x?: #A0' 'widen --profile=wide wide.cue'
+awk 'BEGIN { for (i = 0; i < 998; i++) printf "#A%d: #A%d\n", i, i + 1; print "#A998: *1 | int\n#P: {x: #A0}" }' > wide.cue
+try 'wide: 999 definitions that hand a default on: widen' 0 'error 16' 'widen --profile=wide wide.cue'
+awk 'BEGIN { for (i = 0; i < 999; i++) printf "#A%d: #A%d\n", i, i + 1; print "#A999: #A0" }' > wide.cue
+try 'wide: 1,000 definitions in a circle: widen' 0 'error 12' 'widen --profile=wide wide.cue'
+awk 'BEGIN { for (i = 0; i < 60; i++) printf "#A%d: #A%d\n", i, i + 1; printf "#A60: *1 | int\n#P: {"; for (i = 0; i < 40000; i++) printf "x: #A%d, ", i % 60; print "}" }' > wide.cue
+try 'wide: 40,000 references of one label: widen' 0 'error 5 at 664' 'widen --profile=wide wide.cue'
+{ printf '#A: {'; many 40000 'x: *1 | int, '; printf '}\n'; } > wide.cue
+try 'wide: 40,000 defaults of one label: widen' 0 'error 5 at 8' 'widen --profile=wide wide.cue'
+try 'wide: 40,000 defaults of one label: widen --why' 0 'told error 5 at 8' 'widen --profile=wide --why wide.cue'
+{ printf '#A: {'; listed 12000 'a%d: *1 | int' ', '; printf '}\n'; } > wide.cue
+try 'wide: 12,000 defaults: export' 0 'shows "a11999":{"anyOf":' 'export --profile=wide --root #A wide.cue'
+printf '{}' > empty
+try 'wide: 12,000 defaults: vet' 12000 valid 'vet --profile=wide --root #A --doc empty wide.cue'
+{ printf '#A: {'; listed 12000 'a%d: *1 | int' ', '; printf ', [string]: int}\n'; } > wide.cue
+try 'wide: 12,000 defaults and all keys: export' 0 'error 5 at 9' 'export --profile=wide --root #A wide.cue'
+fill 1048576 '*' > wide.cue
+try 'wide: 1 MiB of marks: widen' 0 'error 5 at 0' 'widen --profile=wide wide.cue'
+try 'wide: 1 MiB of marks: widen --why' 0 'told error 5 at 0' 'widen --profile=wide --why wide.cue'
+{ printf '#A: '; fill 1048572 '*'; } > wide.cue
+try 'wide: 1 MiB of marks of a definition: widen' 0 'error 5 at 5' 'widen --profile=wide wide.cue'
+try 'wide: 1 MiB of marks of a definition: widen --why' 0 'told error 5 at 5' 'widen --profile=wide --why wide.cue'
+{ printf '#A: '; nested 26 '(' '*1 | int' ')'; } > wide.cue
+try 'wide: 26 parentheses around a mark: export' 0 'shows {"anyOf":[{"const":1},' 'export --profile=wide --root #A wide.cue'
+{ printf '#A: '; nested 26 '(' '*1' ')'; printf ' | int'; } > wide.cue
+try 'wide: 26 parentheses around a mark alone: widen --why' 0 'told error 5 at 30' 'widen --profile=wide --why wide.cue'
+{ printf '#A: '; nested 500000 '(' '*1' ')'; } > wide.cue
+try 'wide: 500,000 parentheses around a mark: export' 0 'error 7' 'export --profile=wide --root #A wide.cue'
+{ printf '#A: '; many 24 '{a: '; printf '{y: *1 | int, '; many 45000 'x: 1, '; printf '}'; many 24 '}'; printf '\n'; } > wide.cue
+try 'wide: 45,000 fields 25 levels deep: widen' 0 'shows y?: 1 | int' 'widen --profile=wide wide.cue'
+try 'wide: 45,000 fields 25 levels deep: export' 0 'error 14' 'export --profile=wide --root #A wide.cue'
 closing
