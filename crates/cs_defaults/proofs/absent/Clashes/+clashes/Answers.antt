@@ -4,7 +4,7 @@ use Rattle.cs_grammar.specs.View.{expr_view, exprs_view, fields_view, end_view, 
 use Rattle.cs_grammar.specs.declared.ast.Field.{Field}
 use Rattle.cs_grammar.proofs.Views.{view-List, view-value, view-text, view-mark}
 use Rattle.cs_defaults.specs.Absent.{clashes, clashes_each, clashes_fields, clashes_end, excluded}
-use Rattle.cs_defaults.specs.Checks.{Fails}
+use Rattle.cs_defaults.specs.Checks.{Fails, FindsIn}
 use Rattle.cs_defaults.proofs.Found.{none_left, fails_left, fails_right, none_more, whole_from}
 use Rattle.cs_defaults.proofs.absent.Clashes.+clashes.Goals as goal
 
@@ -51,3 +51,13 @@ check_fields-loop-field-preserved t c has absent tells told =
     let f = c.field-item.result in
     let none = none_left (excluded has every absent (string_bytes f.label) f.mark (expr_view f.value)) (clashes has (expr_view f.value)) (c.in_ok-check_own.ensures has absent tells told) ∙ c.in_ok-check.ensures has tells in
     none_more (λ fs. clashes_fields has every absent (fields_view fs)) (of_field has every absent) (field_parts has every absent) c.args.fields.now c.loop-field.field-index f c.loop-field-test.true c.field-item.is (c.loop-field.invariant has absent tells told) none
+
+pub check-returns-in_ok-check_each-in-List : goal.check-returns-in_ok-check_each-in-List
+check-returns-in_ok-check_each-in-List t c has tells =
+    let v = c.in-List.front in
+    let end = c.in-List.end in
+    let file = c.args.self.now.file in
+    let is = ap (λ e. clashes has (expr_view e)) c.in-List.is ∙ ap (clashes has) (view-List v end) in
+    let none = ap (λ es. clashes_each has (exprs_view es)) (sym c.deref-in-List.ensures.value) ∙ c.in_ok-check_each-in-List.ensures has tells in
+    let whole = is ∙ none_left (clashes_each has (exprs_view v.items)) (clashes_end has (end_view end)) none in
+    subst (λ os. FindsIn c.check_end.result file os) (sym whole) (c.check_end.ensures has tells)
