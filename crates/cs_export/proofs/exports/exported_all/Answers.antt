@@ -7,7 +7,7 @@ use Rattle.cs_schema.specs.SchemaDocument.{document_of}
 use Rattle.cs_tool.proofs.Low.{low_accepted}
 use Rattle.cs_export.specs.Shaped.{asked_for, IsShaped, ArePackageSchemas}
 use Rattle.cs_export.proofs.Deep.{asked_deep}
-use Rattle.cs_export.proofs.exports.export_all.Goals as goal
+use Rattle.cs_export.proofs.exports.exported_all.Goals as goal
 
 pub returns-clause-found : goal.returns-clause-found
 returns-clause-found c =

@@ -10,7 +10,7 @@ use Rattle.cs_tool.proofs.Low.{low_accepted}
 use Rattle.cs_export.specs.Components.{components_of}
 use Rattle.cs_export.specs.Shaped.{asked_for, IsShaped, IsRootSchema}
 use Rattle.cs_export.proofs.Deep.{asked_deep}
-use Rattle.cs_export.proofs.exports.export_root.Goals as goal
+use Rattle.cs_export.proofs.exports.exported_root.Goals as goal
 
 pub returns-clause-found : goal.returns-clause-found
 returns-clause-found c =
