@@ -192,8 +192,9 @@ try_run 4 '{' 'error 31' 'run export --root "#P" < wide.cue | { head -c 1; echo;
 # A file that may not grow further: what it has is a front of the answer.
 seq 1000 | sed 's/.*/#D&: int/' > declared.cue
 seq 1000 | sed 's/.*/#D&: int \& string/' > contrary.cue
+seq 1000 | sed 's/.*/#D&: *1 | int/' > defaults.cue
 for words in 'export --root "#P" wide.cue' 'export --pretty --root "#P" wide.cue' 'export --all wide.cue' 'list declared.cue' 'widen declared.cue' \
-    'check contrary.cue'; do
+    'check contrary.cue' 'export --all --profile wide defaults.cue' 'list --profile wide defaults.cue' 'widen --profile wide defaults.cue'; do
     try_run 4 'a front' 'error 31' "run $words > whole
     (trap '' XFSZ; ulimit -f 16; run $words > part)
     [ -s part ] && head -c \"\$(wc -c < part)\" whole | cmp - part && echo 'a front'"
@@ -621,6 +622,23 @@ try_run 2 'old' 'error 13' 'run export --root "#Q" -o kept.json port.cue; cat ke
 try_run 2 'old' 'error 4 at 9' 'run export --describe --all -o kept.json syntax.cue; cat kept.json'
 try_run 4 'old' 'error 30' 'run export --root "#P" -o kept.json missing.cue; cat kept.json'
 try_run 3 'old' '' 'run export -o kept.json port.cue 2> words; cat kept.json'
+printf '#P: {x: *1 | int}\n' > default.cue
+printf '#P: {x: *int | 1}\n' > excess.cue
+echo '{}' > empty.json
+try_run 0 "{\"\$defs\":{\"P\":{\"enum\":[1,2]}},\"\$ref\":\"#/\$defs/P\",$dialect}" '' \
+    'echo "#P: *1 | 2" > two.cue; run export --root "#P" --profile wide -o new.json two.cue; cat new.json'
+try_run 2 'old' 'error 5 at 8' 'run export --root "#P" --profile wide -o kept.json excess.cue; cat kept.json'
+try_run 2 'old' 'error 13' 'run export --root "#Q" --profile wide -o kept.json default.cue; cat kept.json'
+try_run 2 'old' 'error 5 at 8' 'run export --root "#P" -o kept.json default.cue; cat kept.json'
+# The text that sources stand for, handed on by a pipe, is a source without these words.
+try_run 0 valid '' 'run widen --profile wide default.cue > meant.cue; echo "{}" | run vet --root "#P" --doc /dev/stdin meant.cue'
+try_run 0 valid '' 'echo "{}" | run vet --root "#P" --profile wide --doc /dev/stdin default.cue'
+try_run 0 valid '' 'cat default.cue | run vet --root "#P" --profile wide --doc empty.json'
+try 'says 4 error 30⏎folder: this is a folder' 'run widen --why --profile wide default.cue folder'
+try 'says 4 error 30⏎folder: this is a folder' 'run vet --why --profile wide --root "#P" --doc folder default.cue'
+try 'lines 1 breaking;{}' 'echo "#P: {x: int}" > asked.cue; run compare --profile wide --root "#P" --old default.cue --new asked.cue'
+try 'error 1' 'head -c 1048577 /dev/zero | tr "\0" " " | run widen --profile wide'
+try 'error 2' 'printf "\377" | run widen --profile wide'
 chmod 640 kept.json
 try_run 0 "640
 $port_text" '' 'run export --root "#P" -o kept.json port.cue; stat -c %a kept.json; cat kept.json'

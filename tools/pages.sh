@@ -104,9 +104,11 @@ compare() {
 run_input() {
     status=0
     case $1 in
-        source)
+        source | 'ordinary source')
             root=$(sed -n 's/^\(#[A-Za-z0-9_$]*\).*/\1/p' "$2" | tail -n 1)
-            "$program" export --root "${root:-#P}" "$2" > "$room/out" 2> "$room/said" || status=$? ;;
+            profile=
+            if [ "$1" != source ]; then profile=--profile=wide; fi
+            "$program" export --root "${root:-#P}" $profile "$2" > "$room/out" 2> "$room/said" || status=$? ;;
         schema) echo null | "$program" validate --schema "$2" > "$room/out" 2> "$room/said" || status=$? ;;
         document)
             echo true > "$room/true.json"
