@@ -1,17 +1,19 @@
--- What the default profile accepts stands for itself.
+-- What the default profile accepts stands for itself, in either profile.
 use Rattle.std.proofs.Common.{◌≡◌, ℕ, List, [], ◌∷◌, sym, subst, ◌∙◌}
 use Rattle.std.specs.List.{AllByRecursion}
 use Rattle.cs_grammar.specs.declared.profile.Profile.TheVariants as profiles
 use Rattle.cs_grammar.specs.DefaultForms.{IsDefaultFile}
 use Rattle.cs_grammar.specs.Source.{IsSpelledBy}
 use Rattle.cs_grammar.specs.Tree.{FileTree}
+use Rattle.cs_syntax.specs.Answer.{IsSpelled, IsSpelledIn}
 use Rattle.cs_package.specs.Environment.{Environment}
+use Rattle.cs_resolve.specs.Resolved.{IsPackage}
 use Rattle.cs_print.specs.Printed.{IsReadAs}
 use Rattle.cs_defaults.specs.Widened.{IsUnmarked}
-use Rattle.cs_tool.specs.Accepted.{AreFiles, IsAccepted}
+use Rattle.cs_tool.specs.Accepted.{AreFiles, AreFilesIn, IsAccepted}
 use Rattle.cs_tool.proofs.Declared.{one_files}
 use Rattle.cs_widen.specs.Accepted.{IsAcceptedIn}
-use Rattle.cs_widen.specs.Meant.{IsMeant, IsMeantIn}
+use Rattle.cs_widen.specs.Meant.{IsMeant, IsMeantIn, Declare}
 
 abbrev pub HaveDefaultForms : Type 0
 HaveDefaultForms = (source : List ℕ) (f : FileTree) → IsSpelledBy source f → IsDefaultFile f
@@ -19,18 +21,71 @@ HaveDefaultForms = (source : List ℕ) (f : FileTree) → IsSpelledBy source f �
 abbrev pub Stay : Type 0
 Stay = (fs : List FileTree) → AllByRecursion IsDefaultFile fs → IsUnmarked fs fs
 
+abbrev pub AreReadWide : Type 0
+AreReadWide = (source : List ℕ) (f : FileTree) → IsSpelled source f → IsSpelledIn profiles.Wide source f
+
 all_default : HaveDefaultForms → (ss : List (List ℕ)) (fs : List FileTree) → AreFiles ss fs → AllByRecursion IsDefaultFile fs
 all_default law [] [] h = tt
 all_default law [] (f ∷ fs) h = absurd h
 all_default law (s ∷ ss) [] h = absurd h
-all_default law (s ∷ ss) (f ∷ fs) h = (law s f (record { tokens = h.0.tokens; cut = h.0.cut; spelled = h.0.spelled }), all_default law ss fs h.1)
+all_default law (s ∷ ss) (f ∷ fs) h =
+    let spelled : IsSpelledBy s f = record { tokens = h.0.tokens; cut = h.0.cut; spelled = h.0.spelled } in
+    (law s f spelled, all_default law ss fs h.1)
 
-pub accepted_in_default : HaveDefaultForms → Stay → (ss : List (List ℕ)) (E : Environment) → IsAccepted ss E → IsAcceptedIn profiles.Default ss E
-accepted_in_default law stay ss E h = record { texts = h.texts; files = h.files; spelled = h.spelled; meant = h.files; stand_for = stay h.files (all_default law ss h.files h.spelled); one_package = h.one_package; guarded = h.guarded }
+all_wide : AreReadWide → (ss : List (List ℕ)) (fs : List FileTree) → AreFiles ss fs → AreFilesIn profiles.Wide ss fs
+all_wide law [] [] h = tt
+all_wide law [] (f ∷ fs) h = absurd h
+all_wide law (s ∷ ss) [] h = absurd h
+all_wide law (s ∷ ss) (f ∷ fs) h = (law s f h.0, all_wide law ss fs h.1)
 
-pub meant_in_default : HaveDefaultForms → Stay → (ss : List (List ℕ)) (s : List ℕ) (E : Environment) → IsAccepted ss E → IsMeantIn profiles.Default ss s → IsMeant ss s
-meant_in_default law stay ss s E accepted h =
-    let fs = h.accepted.files in
-    let same = h.accepted.stand_for.unmarked ∙ sym (stay fs (all_default law ss fs h.accepted.spelled)).unmarked in
-    let files = same ∙ one_files ss fs accepted.files h.accepted.spelled accepted.spelled in
-    record { environment = E; accepted = accepted; read = subst (IsReadAs s) files h.read }
+module _ (law : HaveDefaultForms) (stay : Stay) (ss : List (List ℕ)) where
+  themselves : (fs : List FileTree) → AreFiles ss fs → IsUnmarked fs fs
+  themselves fs spelled = stay fs (all_default law ss fs spelled)
+
+  -- what such files stand for is they
+  only_themselves : (fs gs : List FileTree) → AreFiles ss fs → IsUnmarked fs gs → gs ≡ fs
+  only_themselves fs gs spelled h = h.unmarked ∙ sym (themselves fs spelled).unmarked
+
+  pub accepted_in_default : (E : Environment) → IsAccepted ss E → IsAcceptedIn profiles.Default ss E
+  accepted_in_default E h = record {
+    texts = h.texts;
+    files = h.files;
+    spelled = h.spelled;
+    meant = h.files;
+    stand_for = themselves h.files h.spelled;
+    one_package = h.one_package;
+    guarded = h.guarded;
+  }
+
+  pub default_accepted : (E : Environment) → IsAcceptedIn profiles.Default ss E → IsAccepted ss E
+  default_accepted E h = record {
+    texts = h.texts;
+    files = h.files;
+    spelled = h.spelled;
+    one_package = subst (λ fs. IsPackage fs E) (only_themselves h.files h.meant h.spelled h.stand_for) h.one_package;
+    guarded = h.guarded;
+  }
+
+  pub meant_in_default : (s : List ℕ) (E : Environment) → IsAccepted ss E → IsMeantIn profiles.Default ss s → IsMeant ss s
+  meant_in_default s E accepted h =
+      let same = only_themselves h.accepted.files h.accepted.meant h.accepted.spelled h.accepted.stand_for in
+      let files = same ∙ one_files ss h.accepted.files accepted.files h.accepted.spelled accepted.spelled in
+      record { environment = E; accepted = accepted; read = subst (λ fs. IsReadAs s fs) files h.read }
+
+  pub declare_in_default : (E : Environment) → IsAccepted ss E → Declare profiles.Default ss ss
+  declare_in_default E h = record { environment = E; given = accepted_in_default E h; taken = h }
+
+  pub declare_in_wide : AreReadWide → (E : Environment) → IsAccepted ss E → Declare profiles.Wide ss ss
+  declare_in_wide wide E h = record {
+    environment = E;
+    given = record {
+      texts = h.texts;
+      files = h.files;
+      spelled = all_wide wide ss h.files h.spelled;
+      meant = h.files;
+      stand_for = themselves h.files h.spelled;
+      one_package = h.one_package;
+      guarded = h.guarded;
+    };
+    taken = h;
+  }

@@ -1,8 +1,12 @@
--- What is meant can be printed and is read again (`Printed`), what is accepted in the default profile stands for itself (`Default`), which
--- refusal is which (`Refusals`), and what is printed declares the same environment (`printed_package` in `UnplacedPackages`).
+-- What is meant can be printed and is read again (`Printed`), what is accepted in the default profile stands for itself (`Default`), sources
+-- declare one environment in a profile (`Once`), which refusal is which (`Refusals`), what is printed declares the same environment
+-- (`printed_package` in `UnplacedPackages`, `Judged`), and so what a call answers of it is the answer in the profile (`Judgements`).
 mod Printed
 mod Default
+mod Once
 mod Refusals
+mod Judged
+pub mod Judgements
 -- a literal with defaults, read as it is written
 mod Direct
 -- offsets change nothing of trees, of closed bases, of which names are at fault, of the opening rule, and so of packages

@@ -29,6 +29,8 @@ pub fn export_in(
     ensures only { DeclaresRootIn profile (bytes_in sources.now) root.now
         → IfErr result (λ e. (e ≡ Fault.OutOfMemory) ⊎ MeansTooMuchAs e (bytes_in sources.now)) }
 {
+    cs_syntax::default_files_have_default_forms(); // for the proof: no mark stands in what they spell
+    cs_defaults::default_files_stay(); // for the proof: so the files stand for themselves
     match stands_for_in(alloc, profile, sources)? {
         Some(meant) => export(alloc, &[meant.as_bytes()], root),
         None => export(alloc, sources, root),
@@ -51,6 +53,8 @@ pub fn vet_in(
     ensures refused { IfErr result (λ e. RefusesIn profile (bytes_in sources.now)
         (λ judged. VetRefusal judged root.now doc.now e) e) }
 {
+    cs_syntax::default_files_have_default_forms(); // for the proof: no mark stands in what they spell
+    cs_defaults::default_files_stay(); // for the proof: so the files stand for themselves
     match stands_for_in(alloc, profile, sources)? {
         Some(meant) => vet(alloc, &[meant.as_bytes()], root, doc),
         None => vet(alloc, sources, root, doc),
@@ -73,6 +77,8 @@ pub fn agree_in(
     ensures refused { IfErr result (λ e. RefusesIn profile (bytes_in sources.now)
         (λ judged. AgreeRefusal judged root.now doc.now e) e) }
 {
+    cs_syntax::default_files_have_default_forms(); // for the proof: no mark stands in what they spell
+    cs_defaults::default_files_stay(); // for the proof: so the files stand for themselves
     match stands_for_in(alloc, profile, sources)? {
         Some(meant) => agree(alloc, &[meant.as_bytes()], root, doc),
         None => agree(alloc, sources, root, doc),

@@ -10,7 +10,7 @@ ghost use Rattle.cs_widen.specs.Refused.{MeantRefusal, MeantRefusalIn, MeansTooM
 
 use crate::source::widen_in;
 use cs_syntax::Profile;
-use cs_tool::{Fault, accepted_package};
+use cs_tool::{Fault, MOST_BYTES, accepted_package};
 use std::alloc::Global;
 
 /// The source that sources of the wide profile stand for, which declares what they declare; or none where the default profile accepts
@@ -33,12 +33,11 @@ pub fn stands_for(alloc: Global, sources: &[&[u8]]) -> Result<Option<String>, Fa
         Err(_) => {}
     }
     let source = widen_in(alloc, Profile::Wide, sources)?;
-    match accepted_package(alloc, &[source.as_bytes()]) {
-        Ok(_) => Ok(Some(source)),
-        Err(Fault::OutOfMemory) => Err(Fault::OutOfMemory),
-        // It declares what the sources declare, so it is too long.
-        Err(_) => Err(Fault::TooLarge { definitions: 0 }),
+    // It declares what the sources declare, so that nothing but its length can keep the default profile from it.
+    if source.len() > MOST_BYTES {
+        return Err(Fault::TooLarge { definitions: 0 });
     }
+    Ok(Some(source))
 }
 
 /// The same in a profile: in the default one sources stand for themselves.
