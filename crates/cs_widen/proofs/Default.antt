@@ -75,17 +75,16 @@ module _ (law : HaveDefaultForms) (stay : Stay) (ss : List (List ℕ)) where
   pub declare_in_default : (E : Environment) → IsAccepted ss E → Declare profiles.Default ss ss
   declare_in_default E h = record { environment = E; given = accepted_in_default E h; taken = h }
 
-  pub declare_in_wide : AreReadWide → (E : Environment) → IsAccepted ss E → Declare profiles.Wide ss ss
-  declare_in_wide wide E h = record {
-    environment = E;
-    given = record {
-      texts = h.texts;
-      files = h.files;
-      spelled = all_wide wide ss h.files h.spelled;
-      meant = h.files;
-      stand_for = themselves h.files h.spelled;
-      one_package = h.one_package;
-      guarded = h.guarded;
-    };
-    taken = h;
+  pub accepted_in_wide : AreReadWide → (E : Environment) → IsAccepted ss E → IsAcceptedIn profiles.Wide ss E
+  accepted_in_wide wide E h = record {
+    texts = h.texts;
+    files = h.files;
+    spelled = all_wide wide ss h.files h.spelled;
+    meant = h.files;
+    stand_for = themselves h.files h.spelled;
+    one_package = h.one_package;
+    guarded = h.guarded;
   }
+
+  pub declare_in_wide : AreReadWide → (E : Environment) → IsAccepted ss E → Declare profiles.Wide ss ss
+  declare_in_wide wide E h = record { environment = E; given = accepted_in_wide wide E h; taken = h }

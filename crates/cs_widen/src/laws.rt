@@ -1,8 +1,11 @@
 // What holds of what sources stand for.
-ghost use Rattle.std.specs.Prelude.{Bool};
+ghost use Rattle.std.specs.Prelude.{◌↔◌, ℕ, List, Bool};
 ghost use Rattle.cs_document.specs.Document.{Document};
 ghost use Rattle.cs_instance.specs.Instance.{Rule, IsInstance};
+ghost use Rattle.cs_grammar.specs.declared.profile.Profile.TheVariants as profiles;
 ghost use Rattle.cs_package.specs.Environment.{Environment};
+ghost use Rattle.cs_tool.specs.Accepted.{IsAccepted};
+ghost use Rattle.cs_widen.specs.Accepted.{IsAcceptedIn};
 ghost use Rattle.cs_widen.specs.Direct.{AreReadDirectly};
 
 /// A law: a map is an instance of what a struct literal with defaults stands for exactly where each key that is missing is that of a field
@@ -10,3 +13,16 @@ ghost use Rattle.cs_widen.specs.Direct.{AreReadDirectly};
 pub fn defaults_are_read_directly()
     ensures { (E : Environment) (I : Rule → Document → Bool) → IsInstance E I → AreReadDirectly I }
 {}
+
+/// A law: in the default profile sources declare what they declare by `cs_tool` alone; and what the default profile accepts, the wide one
+/// accepts, with the same definitions, and so with the same instances.
+pub fn wide_law()
+    ensures default { (sources : List (List ℕ)) (E : Environment)
+        → IsAccepted sources E ↔ IsAcceptedIn profiles.Default sources E }
+    ensures wide { (sources : List (List ℕ)) (E : Environment)
+        → IsAccepted sources E → IsAcceptedIn profiles.Wide sources E }
+{
+    cs_syntax::default_files_have_default_forms(); // for the proof: no mark stands in what they spell
+    cs_syntax::wide_reads_the_default(); // for the proof: the wide profile reads them as the default one
+    cs_defaults::default_files_stay(); // for the proof: so the files stand for themselves
+}

@@ -30,7 +30,7 @@ returns-in_err-accepted_package-clause-only c = λ E accepted.
 pub returns-clause-found : goal.returns-clause-found
 returns-clause-found c =
     found string_bytes (bytes_in c.args.sources.now) c.default_files_have_default_forms.ensures c.default_files_stay.ensures
-        _ c.in_ok-accepted_package.ensures.accepted c.widen_in.result c.widen_in.ensures.found
+    _ c.in_ok-accepted_package.ensures.accepted c.widen_in.result c.widen_in.ensures.found
 
 pub returns-clause-refused : goal.returns-clause-refused
 returns-clause-refused c =
