@@ -749,7 +749,12 @@ awk 'BEGIN { for (i = 0; i < 998; i++) printf "#A%d: #A%d\n", i, i + 1; print "#
 try 'wide: 999 definitions that hand a default on: widen' 0 'error 16' 'widen --profile=wide wide.cue'
 awk 'BEGIN { for (i = 0; i < 999; i++) printf "#A%d: #A%d\n", i, i + 1; print "#A999: #A0" }' > wide.cue
 try 'wide: 1,000 definitions in a circle: widen' 0 'error 12' 'widen --profile=wide wide.cue'
-awk 'BEGIN { for (i = 0; i < 60; i++) printf "#A%d: #A%d\n", i, i + 1; printf "#A60: *1 | int\n#P: {"; for (i = 0; i < 40000; i++) printf "x: #A%d, ", i % 60; print "}" }' > wide.cue
+awk 'BEGIN {
+    for (i = 0; i < 60; i++) printf "#A%d: #A%d\n", i, i + 1
+    printf "#A60: *1 | int\n#P: {"
+    for (i = 0; i < 40000; i++) printf "x: #A%d, ", i % 60
+    print "}"
+}' > wide.cue
 try 'wide: 40,000 references of one label: widen' 0 'error 5 at 664' 'widen --profile=wide wide.cue'
 { printf '#A: {'; many 40000 'x: *1 | int, '; printf '}\n'; } > wide.cue
 try 'wide: 40,000 defaults of one label: widen' 0 'error 5 at 8' 'widen --profile=wide wide.cue'
