@@ -20,7 +20,7 @@ use Rattle.cs_widen.specs.Accepted.{IsAcceptedIn}
 one_file : (p : Profile) (s : List ℕ) (f g : FileTree) → IsSpelledIn p s f → IsSpelledIn p s g → f ≡ g
 one_file p s f g a b =
     file_once f g (words (taken p a.tokens)) a.spelled
-        (subst (λ (ks : List Lexeme). SpellsFile g (words (taken p ks))) (cut_once b.cut a.cut) b.spelled)
+    (subst (λ (ks : List Lexeme). SpellsFile g (words (taken p ks))) (cut_once b.cut a.cut) b.spelled)
 
 pub one_files : (p : Profile) (ss : List (List ℕ)) (fs gs : List FileTree) → AreFilesIn p ss fs → AreFilesIn p ss gs → fs ≡ gs
 one_files p [] [] [] a b = refl

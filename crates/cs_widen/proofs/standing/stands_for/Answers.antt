@@ -1,4 +1,4 @@
-use Rattle.std.proofs.Common.{◌≡◌, ℕ, ◌≤◌, length, string_bytes, inl, arith, rules}
+use Rattle.std.proofs.Common.{◌≤◌, length, string_bytes, inl, arith, rules}
 use Rattle.std.proofs.lemmas.Result.{err_from_is_err_and}
 use Rattle.std.proofs.lemmas.Str.{IsUtf8-string_bytes}
 use Rattle.cs_tool.specs.Accepted.{most_bytes}
@@ -10,7 +10,7 @@ use Rattle.cs_widen.proofs.standing.stands_for.Goals as goal
 pub returns-in-Ok-clause-found : goal.returns-in-Ok-clause-found
 returns-in-Ok-clause-found c =
     declare_in_wide c.default_files_have_default_forms.ensures c.default_files_stay.ensures (bytes_in c.args.sources.now)
-        c.wide_reads_the_default.ensures c.in-Ok.field-0 c.in-Ok.ensures.accepted
+    c.wide_reads_the_default.ensures c.in-Ok.field-0 c.in-Ok.ensures.accepted
 
 pub returns-in_err-source : goal.returns-in_err-source
 returns-in_err-source c =
