@@ -1,9 +1,9 @@
 -- What a call answers of the sources that are judged is what it answers in the profile.
-use Rattle.std.proofs.Common.{◌≡◌, ℕ, List, [], ◌∷◌, Result, Ok, Err, Bool, Some, None, sym, subst, inl, inr}
+use Rattle.std.proofs.Common.{◌≡◌, ℕ, List, [], ◌∷◌, Result, Ok, Err, Bool, Some, None, subst, inl, inr}
 use Rattle.std.specs.Prelude.{◌⊎◌, IfErr, IsOkUnless}
 use Rattle.cs_grammar.specs.declared.profile.Profile.{Profile}
 use Rattle.cs_grammar.specs.declared.profile.Profile.TheVariants as profiles
-use Rattle.cs_package.specs.Environment.{Environment, Names}
+use Rattle.cs_package.specs.Environment.{Environment}
 use Rattle.cs_tool.specs.Accepted.{IsAccepted}
 use Rattle.cs_tool.specs.Headline.{IsExport, IsVerdict}
 use Rattle.cs_tool.specs.Ready.{IsReady}

@@ -1,4 +1,4 @@
-use Rattle.std.proofs.Common.{◌≡◌, ℕ, List, Result, Ok, Err, string_bytes, sym, subst}
+use Rattle.std.proofs.Common.{ℕ, List, Result, Ok, Err, string_bytes, sym, subst}
 use Rattle.std.proofs.lemmas.Result.{err_from_is_err_and}
 use Rattle.std.specs.Prelude.{IfOk, IfErr, IsOkUnless}
 use Rattle.cs_grammar.specs.declared.profile.Profile.TheVariants as profiles
@@ -12,15 +12,14 @@ use Rattle.cs_widen.specs.Meant.{IsMeant, IsMeantIn}
 use Rattle.cs_widen.proofs.Default.{HaveDefaultForms, Stay, accepted_in_default, meant_in_default}
 use Rattle.cs_widen.proofs.source.widen.Goals as goal
 
-module _ {S : Type 0} (bytes : S → List ℕ) (ss : List (List ℕ)) where
-  found : HaveDefaultForms → Stay → (E : Environment) → IsAccepted ss E → (r : Result S Fault)
-      → IfOk r (λ s. IsMeantIn profiles.Default ss (bytes s)) → IfOk r (λ s. IsMeant ss (bytes s))
-  found law stay E accepted (Ok s) h = meant_in_default law stay ss (bytes s) E accepted h
-  found law stay E accepted (Err e) h = tt
+found : {S : Type 0} (bytes : S → List ℕ) (ss : List (List ℕ)) → HaveDefaultForms → Stay → (E : Environment) → IsAccepted ss E → (r : Result S Fault)
+    → IfOk r (λ s. IsMeantIn profiles.Default ss (bytes s)) → IfOk r (λ s. IsMeant ss (bytes s))
+found bytes ss law stay E accepted (Ok s) h = meant_in_default law stay ss (bytes s) E accepted h
+found bytes ss law stay E accepted (Err e) h = tt
 
-  by_memory : (r : Result S Fault) → IsOkUnless r OutOfMemory → IfErr r (λ e. SourcesRefusal ss e)
-  by_memory (Ok s) h = tt
-  by_memory (Err e) h = subst (λ f. SourcesRefusal ss f) (sym h) tt
+by_memory : {S : Type 0} (ss : List (List ℕ)) (r : Result S Fault) → IsOkUnless r OutOfMemory → IfErr r (λ e. SourcesRefusal ss e)
+by_memory ss (Ok s) h = tt
+by_memory ss (Err e) h = subst (λ f. SourcesRefusal ss f) (sym h) tt
 
 pub returns-in_err-accepted_package-clause-only : goal.returns-in_err-accepted_package-clause-only
 returns-in_err-accepted_package-clause-only c = λ E accepted.
@@ -37,7 +36,7 @@ returns-clause-refused c =
     let ss = bytes_in c.args.sources.now in
     let E = c.in_ok-accepted_package.field-0 in
     let accepted = accepted_in_default c.default_files_have_default_forms.ensures c.default_files_stay.ensures ss E c.in_ok-accepted_package.ensures.accepted in
-    by_memory string_bytes ss c.widen_in.result (c.widen_in.ensures.only E accepted)
+    by_memory ss c.widen_in.result (c.widen_in.ensures.only E accepted)
 
 pub returns-clause-only : goal.returns-clause-only
 returns-clause-only c = λ E accepted.

@@ -21,85 +21,113 @@ lent p ss xs ys same h = subst (λ zs. AreFilesIn p ss (map file_view zs)) (sym 
 
 pub returns-in_err-meant-clause-only : goal.returns-in_err-meant-clause-only
 returns-in_err-meant-clause-only c = λ E accepted.
+    let p = c.args.profile in
     let ss = bytes_in c.args.sources.now in
     let xs = c.deref.result.now in
-    let spelled = lent c.args.profile ss xs c.in_ok-spelled.spelled.items c.deref.ensures.value c.in_ok-spelled.ensures.spelled in
-    let p = err_from_is_err_and c.from_residual-in_err-meant.result c.from_residual-in_err-meant.ensures.1 in
-    rw (p.1, p.2) (c.in_err-meant.ensures.only (no_fault c.args.profile ss (map file_view xs) spelled E accepted))
+    let fs = map file_view xs in
+    let spelled = lent p ss xs c.in_ok-spelled.spelled.items c.deref.ensures.value c.in_ok-spelled.ensures.spelled in
+    let r = err_from_is_err_and c.from_residual-in_err-meant.result c.from_residual-in_err-meant.ensures.1 in
+    rw (r.1, r.2) (c.in_err-meant.ensures.only (no_fault p ss fs spelled E accepted))
 
 pub source_of-requires-clause-written : goal.source_of-requires-clause-written
 source_of-requires-clause-written c =
+    let p = c.args.profile in
     let ss = bytes_in c.args.sources.now in
     let xs = c.deref.result.now in
-    let spelled = lent c.args.profile ss xs c.in_ok-spelled.spelled.items c.deref.ensures.value c.in_ok-spelled.ensures.spelled in
-    let written = meant_written c.args.profile ss (map file_view xs) spelled (map file_view c.in_ok-meant.meant.items) c.in_ok-meant.ensures.found c.spelled_files_are_written.ensures c.unmarked_files_can_be_written.ensures in
+    let fs = map file_view xs in
+    let spelled = lent p ss xs c.in_ok-spelled.spelled.items c.deref.ensures.value c.in_ok-spelled.ensures.spelled in
+    let gs = map file_view c.in_ok-meant.meant.items in
+    let written = meant_written p ss fs spelled gs c.in_ok-meant.ensures.found
+        c.spelled_files_are_written.ensures c.unmarked_files_can_be_written.ensures in
     subst (λ gs. AllByRecursion IsWrittenFile (map file_view gs)) (sym c.deref-2.ensures.value) written
 
 pub source_of-requires-clause-default_forms : goal.source_of-requires-clause-default_forms
 source_of-requires-clause-default_forms c =
+    let p = c.args.profile in
     let ss = bytes_in c.args.sources.now in
     let xs = c.deref.result.now in
-    let spelled = lent c.args.profile ss xs c.in_ok-spelled.spelled.items c.deref.ensures.value c.in_ok-spelled.ensures.spelled in
-    let forms = meant_default c.args.profile ss (map file_view xs) spelled (map file_view c.in_ok-meant.meant.items) c.in_ok-meant.ensures.found c.unmarked_files_have_default_forms.ensures in
+    let fs = map file_view xs in
+    let spelled = lent p ss xs c.in_ok-spelled.spelled.items c.deref.ensures.value c.in_ok-spelled.ensures.spelled in
+    let gs = map file_view c.in_ok-meant.meant.items in
+    let forms = meant_default p ss fs spelled gs c.in_ok-meant.ensures.found c.unmarked_files_have_default_forms.ensures in
     subst (λ gs. AllByRecursion IsDefaultFile (map file_view gs)) (sym c.deref-2.ensures.value) forms
 
 pub resolve_written-requires-clause-written : goal.resolve_written-requires-clause-written
 resolve_written-requires-clause-written c =
+    let p = c.args.profile in
     let ss = bytes_in c.args.sources.now in
     let xs = c.deref.result.now in
-    let spelled = lent c.args.profile ss xs c.in_ok-spelled.spelled.items c.deref.ensures.value c.in_ok-spelled.ensures.spelled in
-    meant_written c.args.profile ss (map file_view xs) spelled (map file_view c.in_ok-meant.meant.items) c.in_ok-meant.ensures.found c.spelled_files_are_written.ensures c.unmarked_files_can_be_written.ensures
+    let fs = map file_view xs in
+    let spelled = lent p ss xs c.in_ok-spelled.spelled.items c.deref.ensures.value c.in_ok-spelled.ensures.spelled in
+    let gs = map file_view c.in_ok-meant.meant.items in
+    meant_written p ss fs spelled gs c.in_ok-meant.ensures.found
+        c.spelled_files_are_written.ensures c.unmarked_files_can_be_written.ensures
 
 pub resolve_written-requires-clause-default_forms : goal.resolve_written-requires-clause-default_forms
 resolve_written-requires-clause-default_forms c =
+    let p = c.args.profile in
     let ss = bytes_in c.args.sources.now in
     let xs = c.deref.result.now in
-    let spelled = lent c.args.profile ss xs c.in_ok-spelled.spelled.items c.deref.ensures.value c.in_ok-spelled.ensures.spelled in
-    meant_default c.args.profile ss (map file_view xs) spelled (map file_view c.in_ok-meant.meant.items) c.in_ok-meant.ensures.found c.unmarked_files_have_default_forms.ensures
+    let fs = map file_view xs in
+    let spelled = lent p ss xs c.in_ok-spelled.spelled.items c.deref.ensures.value c.in_ok-spelled.ensures.spelled in
+    let gs = map file_view c.in_ok-meant.meant.items in
+    meant_default p ss fs spelled gs c.in_ok-meant.ensures.found c.unmarked_files_have_default_forms.ensures
 
 pub returns-in_err-resolve_written-clause-only : goal.returns-in_err-resolve_written-clause-only
 returns-in_err-resolve_written-clause-only c = λ E accepted.
+    let p = c.args.profile in
     let ss = bytes_in c.args.sources.now in
     let xs = c.deref.result.now in
-    let spelled = lent c.args.profile ss xs c.in_ok-spelled.spelled.items c.deref.ensures.value c.in_ok-spelled.ensures.spelled in
-    let one_package = are_package c.args.profile ss (map file_view xs) spelled E accepted (map file_view c.in_ok-meant.meant.items) c.in_ok-meant.ensures.found in
-    let p = err_from_is_err_and c.from_residual-in_err-resolve_written.result c.from_residual-in_err-resolve_written.ensures.1 in
-    rw (p.1, p.2) (ap of_resolve (c.in_err-resolve_written.ensures.only E one_package))
+    let fs = map file_view xs in
+    let spelled = lent p ss xs c.in_ok-spelled.spelled.items c.deref.ensures.value c.in_ok-spelled.ensures.spelled in
+    let gs = map file_view c.in_ok-meant.meant.items in
+    let one_package = are_package p ss fs spelled E accepted gs c.in_ok-meant.ensures.found in
+    let r = err_from_is_err_and c.from_residual-in_err-resolve_written.result c.from_residual-in_err-resolve_written.ensures.1 in
+    rw (r.1, r.2) (ap of_resolve (c.in_err-resolve_written.ensures.only E one_package))
 
 pub returns-in_err-package-clause-refused : goal.returns-in_err-package-clause-refused
 returns-in_err-package-clause-refused c =
+    let p = c.args.profile in
     let ss = bytes_in c.args.sources.now in
     let xs = c.deref.result.now in
-    let spelled = lent c.args.profile ss xs c.in_ok-spelled.spelled.items c.deref.ensures.value c.in_ok-spelled.ensures.spelled in
-    let p = err_from_is_err_and c.from_residual-in_err-package.result c.from_residual-in_err-package.ensures.1 in
-    rw (p.1, p.2) (by_guard c.args.profile ss c.in_ok-spelled.ensures.texts (map file_view xs) spelled (map file_view c.in_ok-meant.meant.items) c.in_ok-meant.ensures.found _ c.in_ok-resolve_written.ensures.found c.in_err-package.field-0.0 c.in_err-package.ensures.refused)
+    let fs = map file_view xs in
+    let spelled = lent p ss xs c.in_ok-spelled.spelled.items c.deref.ensures.value c.in_ok-spelled.ensures.spelled in
+    let gs = map file_view c.in_ok-meant.meant.items in
+    let r = err_from_is_err_and c.from_residual-in_err-package.result c.from_residual-in_err-package.ensures.1 in
+    let why = by_guard p ss c.in_ok-spelled.ensures.texts fs spelled gs c.in_ok-meant.ensures.found in
+    rw (r.1, r.2) (why _ c.in_ok-resolve_written.ensures.found c.in_err-package.field-0.0 c.in_err-package.ensures.refused)
 
 pub returns-in_err-package-clause-only : goal.returns-in_err-package-clause-only
 returns-in_err-package-clause-only c = λ E accepted.
+    let p = c.args.profile in
     let ss = bytes_in c.args.sources.now in
     let xs = c.deref.result.now in
-    let spelled = lent c.args.profile ss xs c.in_ok-spelled.spelled.items c.deref.ensures.value c.in_ok-spelled.ensures.spelled in
-    let guarded = is_guarded c.args.profile ss (map file_view xs) spelled E accepted (map file_view c.in_ok-meant.meant.items) c.in_ok-meant.ensures.found _ c.in_ok-resolve_written.ensures.found in
-    let p = err_from_is_err_and c.from_residual-in_err-package.result c.from_residual-in_err-package.ensures.1 in
-    rw (p.1, p.2) (ap of_guard (c.in_err-package.ensures.only guarded))
+    let fs = map file_view xs in
+    let spelled = lent p ss xs c.in_ok-spelled.spelled.items c.deref.ensures.value c.in_ok-spelled.ensures.spelled in
+    let gs = map file_view c.in_ok-meant.meant.items in
+    let guarded = is_guarded p ss fs spelled E accepted gs c.in_ok-meant.ensures.found _ c.in_ok-resolve_written.ensures.found in
+    let r = err_from_is_err_and c.from_residual-in_err-package.result c.from_residual-in_err-package.ensures.1 in
+    rw (r.1, r.2) (ap of_guard (c.in_err-package.ensures.only guarded))
 
 pub returns-clause-found : goal.returns-clause-found
 returns-clause-found c =
+    let p = c.args.profile in
     let ss = bytes_in c.args.sources.now in
     let xs = c.deref.result.now in
+    let fs = map file_view xs in
     let gs = map file_view c.in_ok-meant.meant.items in
-    let spelled = lent c.args.profile ss xs c.in_ok-spelled.spelled.items c.deref.ensures.value c.in_ok-spelled.ensures.spelled in
+    let spelled = lent p ss xs c.in_ok-spelled.spelled.items c.deref.ensures.value c.in_ok-spelled.ensures.spelled in
     let printed = subst (λ ys. IsPrinted (string_bytes c.in_ok-source.source) (map file_view ys)) c.deref-2.ensures.value c.in_ok-source.ensures in
     record {
       environment = c.in_ok-resolve_written.field-0;
       accepted = record {
         texts = c.in_ok-spelled.ensures.texts;
-        files = map file_view xs;
+        files = fs;
         spelled = spelled;
         meant = gs;
         stand_for = c.in_ok-meant.ensures.found;
         one_package = c.in_ok-resolve_written.ensures.found;
         guarded = c.in_ok-package.ensures.guarded;
       };
-      read = meant_read c.args.profile ss (map file_view xs) spelled gs c.in_ok-meant.ensures.found c.printed_sources_are_read.ensures (string_bytes c.in_ok-source.source) printed;
+      read = meant_read p ss fs spelled gs c.in_ok-meant.ensures.found c.printed_sources_are_read.ensures (string_bytes c.in_ok-source.source) printed;
     }

@@ -1,4 +1,4 @@
-use Rattle.std.proofs.Common.{◌≡◌, ℕ, ◌≤◌, length, string_bytes, inl, arith, rules}
+use Rattle.std.proofs.Common.{◌≤◌, length, string_bytes, inl, arith, rules}
 use Rattle.std.proofs.lemmas.Result.{err_from_is_err_and}
 use Rattle.std.proofs.lemmas.Str.{IsUtf8-string_bytes}
 use Rattle.cs_tool.specs.Accepted.{most_bytes}
@@ -26,4 +26,5 @@ returns c =
     let s = c.in_ok-source.source in
     let meant = c.in_ok-source.ensures.found in
     let short : length (string_bytes s) ≤ most_bytes = first_of (omega arith, search rules) in
-    record { found = (meant, declares (bytes_in c.args.sources.now) (string_bytes s) meant (IsUtf8-string_bytes s) short); refused = tt; only = λ E accepted. tt }
+    let declare = declares (bytes_in c.args.sources.now) (string_bytes s) meant (IsUtf8-string_bytes s) short in
+    record { found = (meant, declare); refused = tt; only = λ E accepted. tt }

@@ -1,0 +1,49 @@
+use Rattle.std.proofs.Common.{◌≡◌, [], ◌∷◌, Bool, Some, string_bytes, sym, ap, subst, ◌∙◌}
+use Rattle.std.proofs.lemmas.Result.{IfOk-weaker, IfErr-weaker}
+use Rattle.std.specs.Option.{option_map}
+use Rattle.cs_tool.specs.Agreement.{IsAgreement}
+use Rattle.cs_tool.specs.CallRefusals.{AgreeRefusal}
+use Rattle.cs_tool.specs.Given.{bytes_in}
+use Rattle.cs_tool.specs.declared.fault.Fault.{Fault}
+use Rattle.cs_widen.specs.Calls.{Means, RefusesIn}
+use Rattle.cs_widen.specs.Meant.{StandForIn}
+use Rattle.cs_widen.proofs.Judgements.{by_meant, by_themselves, refused_meant, refused_themselves}
+use Rattle.cs_widen.proofs.calls.agree_in.Goals as goal
+
+pub returns-in-Some-clause-found : goal.returns-in-Some-clause-found
+returns-in-Some-clause-found c =
+    let p = c.args.profile in
+    let ss = bytes_in c.args.sources.now in
+    let m = c.as_bytes.result.now in
+    let same : option_map string_bytes c.in_ok-meant.field-0 ≡ Some m = ap (option_map string_bytes) c.in-Some.is ∙ ap Some (sym c.as_bytes.ensures.value) in
+    let stand = subst (λ s. StandForIn p ss s) same c.in_ok-meant.ensures.found in
+    IfOk-weaker c.agree.result (λ (b : Bool). IsAgreement (m ∷ []) c.args.root.now c.args.doc.now b) (λ (b : Bool). Means p ss (λ judged. IsAgreement judged c.args.root.now c.args.doc.now b))
+    (λ b x. (m ∷ [], by_meant p ss m stand, x)) c.agree.ensures.found
+
+pub returns-in-Some-clause-refused : goal.returns-in-Some-clause-refused
+returns-in-Some-clause-refused c =
+    let p = c.args.profile in
+    let ss = bytes_in c.args.sources.now in
+    let m = c.as_bytes.result.now in
+    let same : option_map string_bytes c.in_ok-meant.field-0 ≡ Some m = ap (option_map string_bytes) c.in-Some.is ∙ ap Some (sym c.as_bytes.ensures.value) in
+    let stand = subst (λ s. StandForIn p ss s) same c.in_ok-meant.ensures.found in
+    IfErr-weaker c.agree.result (λ (e : Fault). AgreeRefusal (m ∷ []) c.args.root.now c.args.doc.now e) (λ (e : Fault). RefusesIn p ss (λ judged. AgreeRefusal judged c.args.root.now c.args.doc.now e) e)
+    (λ e h. refused_meant ss (λ judged. AgreeRefusal judged c.args.root.now c.args.doc.now e) p e m stand h) c.agree.ensures.refused
+
+pub returns-in-None-clause-found : goal.returns-in-None-clause-found
+returns-in-None-clause-found c =
+    let p = c.args.profile in
+    let ss = bytes_in c.args.sources.now in
+    let stand = subst (λ s. StandForIn p ss s) (ap (option_map string_bytes) c.in-None.is) c.in_ok-meant.ensures.found in
+    let law = c.default_files_have_default_forms.ensures in
+    let stay = c.default_files_stay.ensures in
+    IfOk-weaker c.agree-in-None.result (λ (b : Bool). IsAgreement ss c.args.root.now c.args.doc.now b) (λ (b : Bool). Means p ss (λ judged. IsAgreement judged c.args.root.now c.args.doc.now b))
+    (λ b x. (ss, by_themselves law stay p ss stand x.verdict.environment x.verdict.declares.accepted, x)) c.agree-in-None.ensures.found
+
+pub returns-in-None-clause-refused : goal.returns-in-None-clause-refused
+returns-in-None-clause-refused c =
+    let p = c.args.profile in
+    let ss = bytes_in c.args.sources.now in
+    let stand = subst (λ s. StandForIn p ss s) (ap (option_map string_bytes) c.in-None.is) c.in_ok-meant.ensures.found in
+    IfErr-weaker c.agree-in-None.result (λ (e : Fault). AgreeRefusal ss c.args.root.now c.args.doc.now e) (λ (e : Fault). RefusesIn p ss (λ judged. AgreeRefusal judged c.args.root.now c.args.doc.now e) e)
+    (λ e h. refused_themselves ss (λ judged. AgreeRefusal judged c.args.root.now c.args.doc.now e) p e stand h) c.agree-in-None.ensures.refused
