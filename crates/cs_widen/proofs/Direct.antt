@@ -1,16 +1,16 @@
 -- A literal with defaults, read as it is written, is what it stands for.
 use Rattle.std.proofs.Common.{◌≡◌, ℕ, Bool, true, false, List, [], ◌∷◌, Option, Some, None, refl, ap, ◌∙◌}
-use Rattle.std.specs.Prelude.{◌&&◌, ◌||◌}
+use Rattle.std.specs.Prelude.{◌||◌}
 use Rattle.std.specs.List.{list_all, list_any}
 use Rattle.std.specs.Str.{bytes_eq}
-use Rattle.cs_document.specs.Document.{Document, object, Entry, Members, entries, under}
+use Rattle.cs_document.specs.Document.{Document, object, Entry, entries, under}
 use Rattle.cs_grammar.specs.declared.ast.FieldMark.{FieldMark}
 use Rattle.cs_grammar.specs.declared.ast.FieldMark.TheVariants.{Regular, Optional, Required, Every}
 use Rattle.cs_grammar.specs.Tree.{Label, Tree, struct, Fields, no_field, field}
 use Rattle.cs_instance.specs.Constraint.{declaration_holds, value_holds, allows}
 use Rattle.cs_instance.specs.Instance.{Rule, node, IsInstance}
 use Rattle.cs_package.specs.Environment.{Environment}
-use Rattle.cs_package.specs.Expression.{Expression, declarations, Declaration, DeclarationMark, mark_of}
+use Rattle.cs_package.specs.Expression.{Expression, declarations, Declaration, mark_of}
 use Rattle.cs_resolve.specs.Refinement.{Refinements}
 use Rattle.cs_resolve.specs.Resolved.{resolved, resolved_fields}
 use Rattle.cs_defaults.specs.Leading.{leading, has_default}

@@ -1,6 +1,6 @@
 -- Struct literals with defaults, read as they are written (CUE, default values; that nothing is filled in is an own rule): no file without
 -- marks is made of them here. A law says that this is what they stand for.
-use Rattle.std.specs.Prelude.{◌≡◌, ℕ, Bool, true, false, ◌&&◌, ◌||◌, List, [], ◌∷◌, Option, Some, None}
+use Rattle.std.specs.Prelude.{◌≡◌, ℕ, Bool, true, false, ◌&&◌, ◌||◌, List, Option, Some, None}
 use Rattle.std.specs.List.{list_all}
 use Rattle.std.specs.Str.{bytes_eq}
 use Rattle.cs_document.specs.Document.{Document, object, Entry, Members, entries, under}

@@ -39,8 +39,8 @@ returns-in-None-clause-found c =
     let stay = c.default_files_stay.ensures in
     IfOk-weaker c.vet-in-None.result (λ (b : Bool). IsVerdict ss c.args.root.now c.args.doc.now b) (λ (b : Bool). IsVerdictIn p ss c.args.root.now c.args.doc.now b)
     (λ b x.
-            let declare = by_themselves law stay p ss stand x.environment x.declares.accepted in
-            judged_in p ss ss declare c.args.root.now c.args.doc.now b x) c.vet-in-None.ensures.found
+    let declare = by_themselves law stay p ss stand x.environment x.declares.accepted in
+    judged_in p ss ss declare c.args.root.now c.args.doc.now b x) c.vet-in-None.ensures.found
 
 pub returns-in-None-clause-refused : goal.returns-in-None-clause-refused
 returns-in-None-clause-refused c =

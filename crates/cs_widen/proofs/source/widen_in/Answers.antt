@@ -38,7 +38,7 @@ source_of-requires-clause-written c =
     let spelled = lent p ss xs c.in_ok-spelled.spelled.items c.deref.ensures.value c.in_ok-spelled.ensures.spelled in
     let gs = map file_view c.in_ok-meant.meant.items in
     let written = meant_written p ss fs spelled gs c.in_ok-meant.ensures.found
-        c.spelled_files_are_written.ensures c.unmarked_files_can_be_written.ensures in
+    c.spelled_files_are_written.ensures c.unmarked_files_can_be_written.ensures in
     subst (λ gs. AllByRecursion IsWrittenFile (map file_view gs)) (sym c.deref-2.ensures.value) written
 
 pub source_of-requires-clause-default_forms : goal.source_of-requires-clause-default_forms
@@ -61,7 +61,7 @@ resolve_written-requires-clause-written c =
     let spelled = lent p ss xs c.in_ok-spelled.spelled.items c.deref.ensures.value c.in_ok-spelled.ensures.spelled in
     let gs = map file_view c.in_ok-meant.meant.items in
     meant_written p ss fs spelled gs c.in_ok-meant.ensures.found
-        c.spelled_files_are_written.ensures c.unmarked_files_can_be_written.ensures
+    c.spelled_files_are_written.ensures c.unmarked_files_can_be_written.ensures
 
 pub resolve_written-requires-clause-default_forms : goal.resolve_written-requires-clause-default_forms
 resolve_written-requires-clause-default_forms c =
