@@ -1,5 +1,5 @@
 // The export of a schema from sources, as it is asked for.
-ghost use Rattle.std.specs.Prelude.{◌≡◌, IfOk, IfErr, IsOkUnless};
+ghost use Rattle.std.specs.Prelude.{◌≡◌, false, None, IfOk, IfErr, IsOkUnless};
 ghost use Rattle.cs_package.specs.Environment.{Environment};
 ghost use Rattle.cs_tool.specs.Accepted.{IsAccepted};
 ghost use Rattle.cs_tool.specs.CallRefusals.{ExportRefusal};
@@ -10,7 +10,7 @@ ghost use Rattle.cs_export.specs.Shaped.{IsRootSchema, ArePackageSchemas};
 ghost use Rattle.cs_widen.specs.Calls.{Means, RefusesIn};
 
 use crate::layout::Layout;
-use crate::shaped::shaped_text;
+use crate::shaped::{Comments, notes_if, shaped_text};
 use cs_compile::{compile, compile_all};
 use cs_guard::Guarded;
 use cs_tool::{Fault, accepted_package, read_root};
@@ -31,7 +31,8 @@ pub fn export_root(
     ensures refused { IfErr result (λ e. ExportRefusal (bytes_in sources.now) root.now e) }
     ensures only { IsReady (bytes_in sources.now) root.now → IsOkUnless result Fault.OutOfMemory }
 {
-    exported_root(alloc, sources, sources, root, layout)
+    let notes = notes_if(alloc, sources, layout)?;
+    exported_root(alloc, sources, &notes, root, layout)
 }
 
 /// The text of the schemas of all definitions, as it is asked for, without a newline: a schema that asks nothing itself, with
@@ -45,7 +46,8 @@ pub fn export_all(alloc: Global, sources: &[&[u8]], layout: Layout) -> Result<Ve
     ensures only { (E : Environment)
         → IsAccepted (bytes_in sources.now) E → IsOkUnless result Fault.OutOfMemory }
 {
-    exported_all(alloc, sources, sources, layout)
+    let notes = notes_if(alloc, sources, layout)?;
+    exported_all(alloc, sources, &notes, layout)
 }
 
 /// What [`export_root`] answers for the sources that are meant in a profile, with the comments of those that are given.
@@ -64,9 +66,11 @@ pub fn export_root_in(
     ensures refused { IfErr result (λ e. RefusesIn profile (bytes_in sources.now)
         (λ judged. ExportRefusal judged root.now e) e) }
 {
+    cs_widen::wide_law(); // for the proof: what the default profile accepts declares the same in it
+    let notes = notes_if(alloc, sources, layout)?;
     match stands_for_in(alloc, profile, sources)? {
-        Some(meant) => exported_root(alloc, &[meant.as_bytes()], sources, root, layout),
-        None => exported_root(alloc, sources, sources, root, layout),
+        Some(meant) => exported_root(alloc, &[meant.as_bytes()], &notes, root, layout),
+        None => exported_root(alloc, sources, &notes, root, layout),
     }
 }
 
@@ -85,20 +89,23 @@ pub fn export_all_in(
     ensures refused { IfErr result (λ e. RefusesIn profile (bytes_in sources.now)
         (λ judged. SourcesRefusal judged e) e) }
 {
+    cs_widen::wide_law(); // for the proof: what the default profile accepts declares the same in it
+    let notes = notes_if(alloc, sources, layout)?;
     match stands_for_in(alloc, profile, sources)? {
-        Some(meant) => exported_all(alloc, &[meant.as_bytes()], sources, layout),
-        None => exported_all(alloc, sources, sources, layout),
+        Some(meant) => exported_all(alloc, &[meant.as_bytes()], &notes, layout),
+        None => exported_all(alloc, sources, &notes, layout),
     }
 }
 
-/// The same as [`export_root`], with the comments of other sources.
+/// The same as [`export_root`], with these comments.
 fn exported_root(
     alloc: Global,
     sources: &[&[u8]],
-    commented: &[&[u8]],
+    notes: &Comments,
     root: &str,
     layout: Layout,
 ) -> Result<Vec<u8>, Fault>
+    requires { layout.is_described ≡ false → notes.now ≡ None }
     ensures found { IfOk result (λ text. IsRootSchema (bytes_in sources.now) root.now layout text.items) }
     ensures refused { IfErr result (λ e. ExportRefusal (bytes_in sources.now) root.now e) }
     ensures only { IsReady (bytes_in sources.now) root.now → IsOkUnless result Fault.OutOfMemory }
@@ -107,16 +114,17 @@ fn exported_root(
     let schema = compile(alloc, &package, root)?;
     cs_instance::one_meaning(&package); // for the proof: there is one instance relation
     cs_schema::one_meaning(&schema); // for the proof: there is one validity
-    shaped_text(alloc, &schema, commented, layout)
+    shaped_text(alloc, &schema, notes, layout)
 }
 
-/// The same as [`export_all`], with the comments of other sources.
+/// The same as [`export_all`], with these comments.
 fn exported_all(
     alloc: Global,
     sources: &[&[u8]],
-    commented: &[&[u8]],
+    notes: &Comments,
     layout: Layout,
 ) -> Result<Vec<u8>, Fault>
+    requires { layout.is_described ≡ false → notes.now ≡ None }
     ensures found { IfOk result (λ text. ArePackageSchemas (bytes_in sources.now) layout text.items) }
     ensures refused { IfErr result (λ e. SourcesRefusal (bytes_in sources.now) e) }
     ensures only { (E : Environment)
@@ -126,5 +134,5 @@ fn exported_all(
     let schema = compile_all(alloc, &package)?;
     cs_instance::one_meaning(&package); // for the proof: there is one instance relation
     cs_schema::one_meaning(&schema); // for the proof: there is one validity
-    shaped_text(alloc, &schema, commented, layout)
+    shaped_text(alloc, &schema, notes, layout)
 }

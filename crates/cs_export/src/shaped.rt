@@ -1,5 +1,5 @@
 // From a schema to the text that is asked for.
-ghost use Rattle.std.specs.Prelude.{◌≡◌, ◌≤◌, suc, false, IfOk, IsOkUnless, if◌then◌else◌};
+ghost use Rattle.std.specs.Prelude.{◌≡◌, ◌≤◌, suc, false, None, IfOk, IsOkUnless, if◌then◌else◌};
 ghost use Rattle.cs_json.specs.Texts.{text_of as compact_text};
 ghost use Rattle.cs_document.specs.Document.{depth};
 ghost use Rattle.cs_document.specs.View.{doc_view};
@@ -13,20 +13,36 @@ ghost use Rattle.cs_export.specs.Shaped.{IsShaped, IsSameSchema, IsTextOf};
 use crate::components::components;
 use crate::layout::Layout;
 use cs_comments::notes_of;
-use cs_describe::described;
+use cs_describe::{Notes, described};
 use cs_document::Doc;
 use cs_json::{write_doc, write_pretty};
 use cs_schema::{SchemaDoc, to_doc};
 use cs_tool::Fault;
 use std::alloc::Global;
+use std::collections::BTreeMap;
 
-/// The text of a schema, without a newline, with the comments of these sources where they are asked for.
+/// The comments of definitions by their names, where they are asked for.
+pub(crate) type Comments = Option<BTreeMap<String, Notes>>;
+
+/// The comments of sources, if they are asked for.
+pub(crate) fn notes_if(alloc: Global, sources: &[&[u8]], layout: Layout) -> Result<Comments, Fault>
+    ensures none { layout.is_described ≡ false → IfOk result (λ notes. notes ≡ None) }
+    ensures memory { IsOkUnless result Fault.OutOfMemory }
+{
+    if !layout.is_described {
+        return Ok(None);
+    }
+    Ok(Some(notes_of(alloc, sources)?))
+}
+
+/// The text of a schema, without a newline, with these comments.
 pub(crate) fn shaped_text(
     alloc: Global,
     schema: &SchemaDoc,
-    sources: &[&[u8]],
+    notes: &Comments,
     layout: Layout,
 ) -> Result<Vec<u8>, Fault>
+    requires { layout.is_described ≡ false → notes.now ≡ None }
     ensures shaped { IfOk result (λ text. IsShaped layout (document_of schema.now) text.items) }
     ensures profile { IsSchema (document_of schema.now) }
     ensures trimmed { trim (document_of schema.now) ≡ document_of schema.now }
@@ -34,29 +50,23 @@ pub(crate) fn shaped_text(
 {
     cs_schema::one_meaning(schema); // for the proof: there is one validity
     let plain = to_doc(alloc, schema)?;
-    let described = described_if(alloc, plain, sources, layout.is_described)?;
+    let described = described_if(alloc, plain, notes)?;
     let shaped = components_if(alloc, described, layout.is_openapi)?;
     text_of(alloc, &shaped, layout.is_pretty)
 }
 
-/// A schema with the comments of the sources, if they are asked for.
-fn described_if(
-    alloc: Global,
-    doc: Doc,
-    sources: &[&[u8]],
-    is_described: bool,
-) -> Result<Doc, Fault>
+/// A schema with these comments.
+fn described_if(alloc: Global, doc: Doc, notes: &Comments) -> Result<Doc, Fault>
     ensures schema { IfOk result (λ d. IsSchema (doc_view doc) → OneMeaning (doc_view doc)
         → IsSameSchema (doc_view doc) (doc_view d)) }
-    ensures same { is_described ≡ false → IfOk result (λ d. d ≡ doc) }
+    ensures same { notes.now ≡ None → IfOk result (λ d. d ≡ doc) }
     ensures nested { IfOk result (λ d. depth (doc_view d) ≤ suc (depth (doc_view doc))) }
     ensures memory { IsOkUnless result Fault.OutOfMemory }
 {
-    if !is_described {
-        return Ok(doc);
+    match notes {
+        Some(notes) => Ok(described(alloc, doc, notes)?),
+        None => Ok(doc),
     }
-    let notes = notes_of(alloc, sources)?;
-    Ok(described(alloc, doc, &notes)?)
 }
 
 /// A schema's definitions as components, if they are asked for.

@@ -26,8 +26,8 @@ returns-clause-shaped c =
       document = described;
       same_schema = subst (λ d. IsSameSchema d described) written same_schema;
       nested = subst (λ (d : Document). depth described ≤ suc (depth d)) written made.nested;
-      same = λ bare. ap doc_view (made.same bare) ∙ written;
+      same = λ bare. ap doc_view (made.same (c.requires bare)) ∙ written;
       put_back = definitions_back described same_schema.profile;
       written = subst (λ d. IsTextOf d v.items) asked text.0;
-      bare = λ b. text.1 b.compact ∙ ap text_of (asked ∙ ap (λ t. if t then components_of described else described) b.whole ∙ ap doc_view (made.same b.undescribed) ∙ written);
+      bare = λ b. text.1 b.compact ∙ ap text_of (asked ∙ ap (λ t. if t then components_of described else described) b.whole ∙ ap doc_view (made.same (c.requires b.undescribed)) ∙ written);
     }) c.text_of.ensures.written
