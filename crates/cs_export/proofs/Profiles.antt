@@ -1,5 +1,5 @@
 -- Sources that stand for themselves in a profile declare there what they declare; and no call before a write is refused for that write.
-use Rattle.std.proofs.Common.{◌≡◌, ℕ, List, [], ◌∷◌, Option, None, inl, inr}
+use Rattle.std.proofs.Common.{ℕ, List, Option, None, inl, inr}
 use Rattle.std.specs.Prelude.{◌↔◌}
 use Rattle.std.specs.Io.KnownBytes.{Keeps}
 use Rattle.cs_grammar.specs.declared.profile.Profile.{Profile}
@@ -22,7 +22,7 @@ by_law law profiles.Wide ss h E a = h
 module _ (root : List ℕ) where
   no_write : (ss : List (List ℕ)) → ¬ (ExportRefusal ss root WriteFailed)
   no_write ss (inl h) = h
-  no_write ss (inr h) = absurd h.0
+  no_write ss (inr (e, h)) = absurd cc
 
   no_write_in : (p : Profile) (ss : List (List ℕ)) → ¬ (RefusesIn p ss (λ judged. ExportRefusal judged root WriteFailed) WriteFailed)
   no_write_in profiles.Default ss h = no_write ss h
