@@ -1,13 +1,14 @@
 -- Expressions, fields and words as the grammar sees them, form by form.
 use Rattle.std.proofs.Common.{◌≡◌, ℕ, Bool, List, refl, ap, rules, string_bytes, Box, Global, String, Vec}
 use Rattle.cs_grammar.specs.Tree as T
-use Rattle.cs_grammar.specs.View.{expr_view, exprs_view, fields_view, field_view, end_view, wide_view}
+use Rattle.cs_grammar.specs.View.{expr_view, exprs_view, fields_view, field_view, end_view, wide_view, declaration_view, declarations_view, field_seen, embedding_seen}
 use Rattle.cs_grammar.specs.TokenWords.{word_of}
 use Rattle.cs_grammar.specs.Words.{start}
 use Rattle.cs_grammar.specs.declared.ast.Expr as Exprs
 use Rattle.cs_grammar.specs.declared.ast.Expr.{Expr}
 use Rattle.cs_grammar.specs.declared.ast.Field.{Field}
 use Rattle.cs_grammar.specs.declared.ast.Wide as Wides
+use Rattle.cs_grammar.specs.declared.ast.Declaration as Declarations
 use Rattle.cs_grammar.specs.declared.ast.ListEnd as Ends
 use Rattle.cs_grammar.specs.declared.ast.ListEnd.{ListEnd}
 use Rattle.cs_grammar.specs.declared.kind.Kind.{Kind}
@@ -38,6 +39,15 @@ view-List v end = search (rules, Exprs.the_lemmas)
 
 pub view-Wide : (w : Wides.Wide) → expr_view (Exprs.Wide w) ≡ T.wide (wide_view w)
 view-Wide w = search (rules, Exprs.the_lemmas)
+
+pub view-Merged : (at : ℕ) (v : Vec Declarations.Declaration Global) (b : Bool) → wide_view (Wides.Merged at v b) ≡ T.merged at (declarations_view v.items) b
+view-Merged at v b = search (rules, Exprs.the_lemmas)
+
+pub view-declared-field : (f : Field) → declaration_view (Declarations.Field f) ≡ field_seen (field_view f)
+view-declared-field f = search (rules, Exprs.the_lemmas)
+
+pub view-embedded : (at : ℕ) (e : Expr) → declaration_view (Declarations.Embedded at e) ≡ embedding_seen at (expr_view e)
+view-embedded at e = search (rules, Exprs.the_lemmas)
 
 pub view-Marked : (at : ℕ) (b : Box Expr Global) → wide_view (Wides.Marked at b) ≡ T.marked at (expr_view b.value)
 view-Marked at b = search (rules, Exprs.the_lemmas)

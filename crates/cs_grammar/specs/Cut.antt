@@ -79,6 +79,7 @@ line_after sorts.Bottom t = WantsComma
 line_after sorts.Integer t = WantsComma
 line_after sorts.Text t = WantsComma
 line_after sorts.Mark t = line_after_mark t
+line_after sorts.Wide t = Plain
 line_after sorts.LeftOut t = Plain
 line_after sorts.Inserted t = Plain
 line_after sorts.End t = Plain

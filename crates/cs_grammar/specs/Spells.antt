@@ -1,14 +1,14 @@
 -- The grammar: which words spell a tree (CUE, source file organization, operands and expressions). `SpellsX t ts r`: the words ts begin with a spelling of t as an X, and r is what follows it.
 use Rattle.std.specs.Prelude.{◌≡◌, ℕ, ℤ, pos, neg_ℤ, List, [], ◌∷◌, Option, Some, None, Bool, true, false, if◌then◌else◌, codes, FitsSigned}
 use Rattle.std.specs.Int.{w64}
-use Rattle.std.specs.Option.{unwrap_or}
+use Rattle.std.specs.Option.{option_map, unwrap_or}
 use Rattle.std.specs.Str.{bytes_eq}
 use Rattle.std.specs.List.{list_any}
 use Rattle.cs_grammar.specs.declared.ast.FieldMark.{FieldMark}
 use Rattle.cs_grammar.specs.declared.ast.FieldMark.TheVariants.{Regular, Optional, Required, Every}
 use Rattle.cs_grammar.specs.Atom.{Relation, top, bottom, null, boolean, integer, text, bound, not_integer, not_text, not_null}
-use Rattle.cs_grammar.specs.Words.{Words, start, name, definition_name, top_mark, bottom_mark, numeral, quoted, open_struct, close_struct, open_list, close_list, open_paren, close_paren, comma, nl, colon, question, bang, amp, bar, dots, relation, unequal, minus, star, finish}
-use Rattle.cs_grammar.specs.Tree.{Label, Tree, atom, named, reference, conjunction, disjunction, paren, struct, list, wide, marked, Trees, none, more, Fields, no_field, field, End, closed, any, each, DefinitionTree, definition, FileTree, file}
+use Rattle.cs_grammar.specs.Words.{Words, start, name, definition_name, top_mark, bottom_mark, numeral, quoted, open_struct, open_wide, close_struct, open_list, close_list, open_paren, close_paren, comma, nl, colon, question, bang, amp, bar, dots, relation, unequal, minus, star, finish}
+use Rattle.cs_grammar.specs.Tree.{Label, Tree, atom, named, reference, conjunction, disjunction, paren, struct, list, wide, marked, merged, Declarations, no_declaration, declared, embedded, Trees, none, more, Fields, no_field, field, End, closed, any, each, DefinitionTree, definition, FileTree, file}
 
 -- the names that are no operands
 abbrev pub reserved_names : List (List ℕ)
@@ -93,6 +93,22 @@ pub data SpellsOpening : Bool → Words → Words → Type 0 where
   unopened : {ts r : Words} → ClosesStruct ts r → SpellsOpening false ts r
   opened : {p : ℕ} {ts us r : Words} → Comma ts (dots p ∷ us) → ClosesStruct us r → SpellsOpening true ts r
 
+-- ---- literals of the wide profile
+
+-- the fields that the declarations are, if none is an embedding
+abbrev pub fields_alone : Declarations → Option Fields
+fields_alone no_declaration = Some no_field
+fields_alone (declared l m e ds) = option_map (field l m e) (fields_alone ds)
+fields_alone (embedded o e ds) = None
+
+abbrev pub literal_if : ℕ → Declarations → Bool → Option Fields → Tree
+literal_if o ds b (Some fs) = struct o fs b
+literal_if o ds b None = wide (merged o ds b)
+
+-- a literal with these declarations is one of the default profile where none is an embedding
+abbrev pub literal : ℕ → Declarations → Bool → Tree
+literal o ds b = literal_if o ds b (fields_alone ds)
+
 -- ---- values
 
 mutual
@@ -143,6 +159,7 @@ mutual
     paren_is : {p : ℕ} {e : Tree} {ts us r : Words} → SpellsExpr e ts us → ClosesParen us r → SpellsOperand (paren e) (open_paren p ∷ ts) r
     struct_is : {p : ℕ} {fs : Fields} {b : Bool} {ts r : Words} → SpellsStruct fs b ts r → SpellsOperand (struct p fs b) (open_struct p ∷ ts) r
     list_is : {p : ℕ} {es : Trees} {end : End} {ts r : Words} → SpellsList es end ts r → SpellsOperand (list es end) (open_list p ∷ ts) r
+    wide_struct_is : {p : ℕ} {ds : Declarations} {b : Bool} {e : Tree} {ts r : Words} → e ≡ literal p ds b → SpellsWideStruct ds b ts r → SpellsOperand e (open_wide p ∷ ts) r
 
   -- what is behind `{`: `}`; `...` [ comma ] `}`; or Field { comma Field } [ comma `...` ] [ comma ] `}`
   pub data SpellsStruct : Fields → Bool → Words → Words → Type 0 where
@@ -154,6 +171,22 @@ mutual
   pub data SpellsFields : Fields → Words → Words → Type 0 where
     no_more_fields : {r : Words} → SpellsFields no_field r r
     next_field : {l : Label} {m : FieldMark} {e : Tree} {fs : Fields} {ts us vs r : Words} → Comma ts us → SpellsField l m e us vs → SpellsFields fs vs r → SpellsFields (field l m e fs) ts r
+
+  -- what is behind `{` in the wide profile: `}`; `...` [ comma ] `}`; or Declaration { comma Declaration } [ comma `...` ] [ comma ] `}`
+  pub data SpellsWideStruct : Declarations → Bool → Words → Words → Type 0 where
+    no_declarations : {p : ℕ} {r : Words} → SpellsWideStruct no_declaration false (close_struct p ∷ r) r
+    wide_dots_alone : {p : ℕ} {ts r : Words} → ClosesStruct ts r → SpellsWideStruct no_declaration true (dots p ∷ ts) r
+    some_declarations : {ds : Declarations} {b : Bool} {ts us r : Words} → SpellsDeclarations ds ts us → SpellsOpening b us r → SpellsWideStruct ds b ts r
+
+  -- Declaration { comma Declaration }
+  pub data SpellsDeclarations : Declarations → Words → Words → Type 0 where
+    a_field : {l : Label} {m : FieldMark} {e : Tree} {ds : Declarations} {ts us r : Words} → SpellsField l m e ts us → SpellsMore ds us r → SpellsDeclarations (declared l m e ds) ts r
+    an_embedding : {o : ℕ} {e : Tree} {ds : Declarations} {ts us r : Words} → o ≡ start_at ts → SpellsExpr e ts us → SpellsMore ds us r → SpellsDeclarations (embedded o e ds) ts r
+
+  -- { comma Declaration }
+  pub data SpellsMore : Declarations → Words → Words → Type 0 where
+    no_more : {r : Words} → SpellsMore no_declaration r r
+    next_declaration : {ds : Declarations} {ts us r : Words} → Comma ts us → SpellsDeclarations ds us r → SpellsMore ds ts r
 
   -- what is behind `[`: `]`; `...` [ Expr ] [ comma ] `]`; or Expr { `,` Expr } [ `,` `...` [ Expr ] ] [ comma ] `]`
   pub data SpellsList : Trees → End → Words → Words → Type 0 where

@@ -36,6 +36,10 @@ mark_kind t =
     if bytes_eq t (codes "*") then kinds.Star else
     kinds.LeftOut)))))))))))))))))))
 
+-- what a mark is for the grammar where the wide profile reads it in its own way
+abbrev pub wide_kind : List ℕ → Kind
+wide_kind t = if bytes_eq t (codes "{") then kinds.OpenWide else kinds.LeftOut
+
 -- what a token is for the grammar
 abbrev pub kind_of : Sort → List ℕ → Kind
 kind_of sorts.Name t = kinds.Name
@@ -46,6 +50,7 @@ kind_of sorts.Bottom t = kinds.Bottom
 kind_of sorts.Integer t = kinds.Integer
 kind_of sorts.Text t = kinds.Text
 kind_of sorts.Mark t = mark_kind t
+kind_of sorts.Wide t = wide_kind t
 kind_of sorts.LeftOut t = kinds.LeftOut
 kind_of sorts.Inserted t = kinds.Inserted
 kind_of sorts.End t = kinds.End
@@ -64,6 +69,7 @@ word_of kinds.Bottom t o = W.bottom_mark o
 word_of kinds.Integer t o = W.numeral (integer_value t) o
 word_of kinds.Text t o = W.quoted (unescaped t) o
 word_of kinds.OpenStruct t o = W.open_struct o
+word_of kinds.OpenWide t o = W.open_wide o
 word_of kinds.CloseStruct t o = W.close_struct o
 word_of kinds.OpenList t o = W.open_list o
 word_of kinds.CloseList t o = W.close_list o

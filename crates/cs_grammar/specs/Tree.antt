@@ -23,9 +23,16 @@ mutual
     -- a form of the wide profile alone
     wide : Wide → Tree
 
-  -- `*e`, where the mark is, and e
+  -- `*e`, where the mark is, and e; and a struct literal with embeddings, where it is, its declarations, and whether it is opened
   pub data Wide : Type 0 where
     marked : ℕ → Tree → Wide
+    merged : ℕ → Declarations → Bool → Wide
+
+  -- the declarations of a literal with embeddings: fields, and expressions that are embedded, with where they are
+  pub data Declarations : Type 0 where
+    no_declaration : Declarations
+    declared : Label → FieldMark → Tree → Declarations → Declarations
+    embedded : ℕ → Tree → Declarations → Declarations
 
   pub data Trees : Type 0 where
     none : Trees

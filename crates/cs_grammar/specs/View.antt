@@ -2,11 +2,12 @@
 use Rattle.std.specs.Prelude.{ℕ, Bool, List, [], ◌∷◌, map, string_bytes}
 use Rattle.std.specs.Option.{option_map}
 use Rattle.cs_grammar.specs.declared.ast.Expr.{Expr, fold-Expr}
-use Rattle.cs_grammar.specs.declared.ast.Expr.TheOpen.{Expr-F, Field-F, ListEnd-F, Wide-F}
+use Rattle.cs_grammar.specs.declared.ast.Declaration.TheOpen.{Expr-F, Field-F, ListEnd-F, Wide-F, Declaration-F}
 use Rattle.cs_grammar.specs.declared.ast.ListEnd.{ListEnd, fold-ListEnd}
 use Rattle.cs_grammar.specs.declared.ast.Field.{Field, fold-Field}
 use Rattle.cs_grammar.specs.declared.ast.FieldMark.{FieldMark}
 use Rattle.cs_grammar.specs.declared.ast.Wide as rust
+use Rattle.cs_grammar.specs.declared.ast.Declaration as declarations
 use Rattle.cs_grammar.specs.declared.ast.Relation as ast
 use Rattle.cs_grammar.specs.declared.ast.Relation.TheVariants as relations
 use Rattle.cs_grammar.specs.declared.ast.Definition.{Definition}
@@ -15,7 +16,7 @@ use Rattle.cs_grammar.specs.declared.token.Token.{Token}
 use Rattle.cs_grammar.specs.Cut.{Lexeme, lexeme}
 use Rattle.cs_grammar.specs.Atom.{Relation, less, at_most, more, at_least}
 use Rattle.cs_grammar.specs.Tree as T
-use Rattle.cs_grammar.specs.Tree.{Label, Tree, Trees, Fields, End, Wide, DefinitionTree, FileTree}
+use Rattle.cs_grammar.specs.Tree.{Label, Tree, Trees, Fields, End, Wide, Declarations, DefinitionTree, FileTree}
 
 -- ---- tokens
 
@@ -47,8 +48,18 @@ abbrev pub fields_of : List Seen → Fields
 fields_of [] = T.no_field
 fields_of (f ∷ fs) = T.field f.label f.mark f.value (fields_of fs)
 
+-- a declaration of a literal with embeddings
+pub data SeenDeclaration : Type 0 where
+  field_seen : Seen → SeenDeclaration
+  embedding_seen : ℕ → Tree → SeenDeclaration
+
+abbrev pub declarations_of : List SeenDeclaration → Declarations
+declarations_of [] = T.no_declaration
+declarations_of (field_seen f ∷ ds) = T.declared f.label f.mark f.value (declarations_of ds)
+declarations_of (embedding_seen o e ∷ ds) = T.embedded o e (declarations_of ds)
+
 -- one level, with each expression inside already seen as its tree
-abbrev pub expr_step : Expr-F Tree End Wide Seen → Tree
+abbrev pub expr_step : Expr-F SeenDeclaration Tree End Wide Seen → Tree
 expr_step Expr-F.Top = T.atom T.top
 expr_step Expr-F.Bottom = T.atom T.bottom
 expr_step Expr-F.Null = T.atom T.null
@@ -68,7 +79,7 @@ expr_step (Expr-F.Struct o v opened) = T.struct o (fields_of v.items) opened
 expr_step (Expr-F.List v end) = T.list (trees_of v.items) end
 expr_step (Expr-F.Wide w) = T.wide w
 
-abbrev pub end_step : ListEnd-F Tree End Wide Seen → End
+abbrev pub end_step : ListEnd-F SeenDeclaration Tree End Wide Seen → End
 end_step ListEnd-F.Closed = T.closed
 end_step ListEnd-F.Any = T.any
 end_step (ListEnd-F.Each b) = T.each b.value
@@ -77,30 +88,41 @@ end_step (ListEnd-F.Each b) = T.each b.value
 abbrev pub label_of : List ℕ → Bool → Label
 label_of s b = record { text = s; quotes = b }
 
-abbrev pub field_step : Field-F Tree End Wide Seen → Seen
+abbrev pub field_step : Field-F SeenDeclaration Tree End Wide Seen → Seen
 field_step f = record { label = record { text = string_bytes f.label; quotes = f.quoted }; mark = f.mark; value = f.value }
 
-abbrev pub wide_step : Wide-F Tree End Wide Seen → Wide
+abbrev pub wide_step : Wide-F SeenDeclaration Tree End Wide Seen → Wide
 wide_step (Wide-F.Marked o b) = T.marked o b.value
+wide_step (Wide-F.Merged o v opened) = T.merged o (declarations_of v.items) opened
+
+abbrev pub declaration_step : Declaration-F SeenDeclaration Tree End Wide Seen → SeenDeclaration
+declaration_step (Declaration-F.Field f) = field_seen f
+declaration_step (Declaration-F.Embedded o e) = embedding_seen o e
 
 abbrev pub expr_view : Expr → Tree
-expr_view = fold-Expr Tree End Wide Seen expr_step end_step wide_step field_step
+expr_view = fold-Expr SeenDeclaration Tree End Wide Seen declaration_step expr_step end_step wide_step field_step
 
 -- the parts of an expression; for private contracts alone
 abbrev pub end_view : ListEnd → End
-end_view = fold-ListEnd Tree End Wide Seen expr_step end_step wide_step field_step
+end_view = fold-ListEnd SeenDeclaration Tree End Wide Seen declaration_step expr_step end_step wide_step field_step
 
 abbrev pub field_view : Field → Seen
-field_view = fold-Field Tree End Wide Seen expr_step end_step wide_step field_step
+field_view = fold-Field SeenDeclaration Tree End Wide Seen declaration_step expr_step end_step wide_step field_step
 
 abbrev pub wide_view : rust.Wide → Wide
-wide_view = rust.fold-Wide Tree End Wide Seen expr_step end_step wide_step field_step
+wide_view = rust.fold-Wide SeenDeclaration Tree End Wide Seen declaration_step expr_step end_step wide_step field_step
+
+abbrev pub declaration_view : declarations.Declaration → SeenDeclaration
+declaration_view = declarations.fold-Declaration SeenDeclaration Tree End Wide Seen declaration_step expr_step end_step wide_step field_step
 
 abbrev pub exprs_view : List Expr → Trees
 exprs_view es = trees_of (map expr_view es)
 
 abbrev pub fields_view : List Field → Fields
 fields_view fs = fields_of (map field_view fs)
+
+abbrev pub declarations_view : List declarations.Declaration → Declarations
+declarations_view ds = declarations_of (map declaration_view ds)
 
 -- definitions and files
 abbrev pub definition_view : Definition → DefinitionTree

@@ -15,6 +15,8 @@ pub data Word : Type 0 where
   quoted : List ℕ → ℕ → Word
   -- `{` and `}`, `[` and `]`, `(` and `)`
   open_struct : ℕ → Word
+  -- `{` in the wide profile, where a literal may have embeddings
+  open_wide : ℕ → Word
   close_struct : ℕ → Word
   open_list : ℕ → Word
   close_list : ℕ → Word
@@ -51,6 +53,7 @@ start (bottom_mark o) = o
 start (numeral n o) = o
 start (quoted s o) = o
 start (open_struct o) = o
+start (open_wide o) = o
 start (close_struct o) = o
 start (open_list o) = o
 start (close_list o) = o

@@ -8,7 +8,7 @@ use Rattle.cs_grammar.specs.declared.token.Sort.TheVariants as sorts
 use Rattle.cs_grammar.specs.Spelling.{sort_of}
 use Rattle.cs_grammar.specs.Atom.{Atom, top, bottom, null, boolean, integer, text, bound, not_integer, not_text, not_null}
 use Rattle.cs_grammar.specs.Spells.{is_reserved, literal_of, every_label}
-use Rattle.cs_grammar.specs.Tree.{Label, Tree, atom, named, reference, conjunction, disjunction, paren, struct, list, wide, Wide, marked, Trees, none, more, Fields, no_field, field, End, closed, any, each, DefinitionTree, definition, FileTree, file}
+use Rattle.cs_grammar.specs.Tree.{Label, Tree, atom, named, reference, conjunction, disjunction, paren, struct, list, wide, Wide, marked, merged, Declarations, no_declaration, declared, embedded, Trees, none, more, Fields, no_field, field, End, closed, any, each, DefinitionTree, definition, FileTree, file}
 
 -- where an expression stands: by itself, as an operand of `|`, or as an operand of `&`
 pub data Place : Type 0 where
@@ -73,6 +73,12 @@ abbrev mutual
 
   pub IsWrittenWide : Place → Wide → Type 0
   IsWrittenWide p (marked o e) = IsWritten p e
+  IsWrittenWide p (merged o ds b) = AreWrittenDeclarations ds
+
+  pub AreWrittenDeclarations : Declarations → Type 0
+  AreWrittenDeclarations no_declaration = Unit {0}
+  AreWrittenDeclarations (declared l m e ds) = IsWrittenLabel l m × IsWritten by_itself e × AreWrittenDeclarations ds
+  AreWrittenDeclarations (embedded o e ds) = IsWritten by_itself e × AreWrittenDeclarations ds
 
   pub AreWritten : Place → Trees → Type 0
   AreWritten p none = Unit {0}

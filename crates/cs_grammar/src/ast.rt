@@ -72,7 +72,25 @@ pub enum Expr {
 #[derive(Debug, Drop)]
 pub enum Wide {
     /// `*e`: the operand of a disjunction that is meant where a field is missing, and the offset of its mark (CUE, default values).
-    Marked { at: usize, value: Box<Expr> },
+    Marked {
+        at: usize,
+        value: Box<Expr>,
+    },
+    /// A struct literal with one embedding or more, its offset, and whether it ends with `...` (CUE, structs: embedding).
+    Merged {
+        at: usize,
+        declarations: Vec<Declaration>,
+        opened: bool,
+    },
+}
+
+/// A declaration of a struct literal with embeddings.
+#[cycle(ast)]
+#[derive(Debug, Drop)]
+pub enum Declaration {
+    Field(Field),
+    /// An expression that is embedded, and the offset at which it begins.
+    Embedded { at: usize, value: Expr },
 }
 
 /// A field of a struct literal. Of `[string]: T` the label is empty and `quoted` is true, so no name can name it.

@@ -12,6 +12,8 @@ pub enum Kind {
     Integer,
     Text,
     OpenStruct,
+    /// `{` in the wide profile, where a literal may have embeddings.
+    OpenWide,
     CloseStruct,
     OpenList,
     CloseList,

@@ -8,7 +8,7 @@ mod line;
 mod profile;
 mod token;
 
-pub use ast::{Definition, Expr, Field, FieldMark, File, ListEnd, Relation, Wide};
+pub use ast::{Declaration, Definition, Expr, Field, FieldMark, File, ListEnd, Relation, Wide};
 pub use fault::SyntaxFault;
 pub use kind::Kind;
 pub use line::LineState;

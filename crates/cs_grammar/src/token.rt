@@ -19,6 +19,8 @@ pub enum Sort {
     Text,
     /// A mark of the grammar.
     Mark,
+    /// A mark that the wide profile reads in its own way.
+    Wide,
     /// A mark of CUE that this profile leaves out.
     LeftOut,
     /// A comma that the end of a line inserts.
