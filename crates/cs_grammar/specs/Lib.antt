@@ -12,6 +12,8 @@ pub mod Tree
 pub mod Spells
 pub mod Written
 pub mod Limits
+pub mod Height
+pub mod Size
 pub mod View
 pub mod Source
 pub mod Labels
