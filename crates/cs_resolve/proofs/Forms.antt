@@ -16,7 +16,7 @@ use Rattle.cs_resolve.specs.Predeclared.{predeclared}
 use Rattle.cs_resolve.specs.Earlier.{no_refinements}
 use Rattle.cs_resolve.specs.Resolved.{resolved}
 use Rattle.cs_resolve.specs.Scopes.{names_field, innermost, Place, a_name, a_reference, places, faults, unknown, of_field}
-use Rattle.cs_resolve.specs.Size.{nodes}
+use Rattle.cs_grammar.specs.Size.{nodes}
 use Rattle.cs_resolve.specs.WellFormed.{IsWellFormed, IsWellFormedFile}
 use Rattle.cs_resolve.proofs.Refined.{unopened_of}
 

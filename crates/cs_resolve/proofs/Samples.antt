@@ -11,7 +11,7 @@ use Rattle.cs_resolve.specs.Resolved.{environment_of_files}
 use Rattle.cs_resolve.specs.Opening.{conjunctions}
 use Rattle.cs_resolve.specs.Unopened.{unopened}
 use Rattle.cs_resolve.specs.Earlier.{no_refinements}
-use Rattle.cs_resolve.specs.Size.{nodes}
+use Rattle.cs_grammar.specs.Size.{nodes}
 use Rattle.cs_resolve.specs.Scopes.{places, faults, unknown, of_field}
 use Rattle.cs_resolve.specs.Declarations.{names, faults_of_files}
 use Rattle.cs_resolve.specs.PackageName.{differing_file}

@@ -13,7 +13,6 @@ pub mod Refinement
 pub mod ClosedBases
 pub mod Opening
 pub mod Unopened
-pub mod Size
 pub mod PackageName
 pub mod Resolved
 pub mod Refusal
