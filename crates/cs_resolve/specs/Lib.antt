@@ -13,6 +13,7 @@ pub mod Refinement
 pub mod ClosedBases
 pub mod Opening
 pub mod Unopened
+pub use Rattle.cs_grammar.specs.Size
 pub mod PackageName
 pub mod Resolved
 pub mod Refusal
