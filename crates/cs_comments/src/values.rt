@@ -1,7 +1,7 @@
 // The notes of values, as their translation to schemas has places for them.
 use crate::declared::Declarations;
 use cs_describe::Notes;
-use cs_grammar::{Expr, Field, FieldMark, ListEnd, Wide};
+use cs_grammar::{Declaration, Expr, Field, FieldMark, ListEnd, Wide};
 use std::alloc::{AllocError, Global};
 use std::vec::IntoIter;
 
@@ -22,6 +22,9 @@ pub(crate) fn notes_of_value(
         Expr::Paren(inside) => return notes_of_value(alloc, inside, texts),
         // A mark of a default is dropped where it is widened.
         Expr::Wide(Wide::Marked { value, .. }) => return notes_of_value(alloc, value, texts),
+        Expr::Wide(Wide::Merged { declarations, .. }) => {
+            return notes_of_declarations(alloc, declarations, texts);
+        },
         Expr::Struct { fields, .. } => return notes_of_fields(alloc, fields, texts),
         Expr::List { front, end } => {
             notes.prefix = notes_of_each(alloc, front, texts)?;
@@ -83,21 +86,54 @@ fn notes_of_fields(
     let mut notes = Notes::new(alloc);
     let mut labels = Declarations::new(alloc);
     for field in fields {
-        let text = texts.next().flatten();
-        let value = notes_of_value(alloc, &field.value, texts)?;
-        match field.mark {
-            FieldMark::Every { .. } => {
-                notes
-                    .all_of
-                    .push(notes_under_every_key(alloc, text, value)?)?;
-            },
-            FieldMark::Regular | FieldMark::Optional | FieldMark::Required => {
-                labels.add(alloc, field.label.clone()?, text, value)?;
-            },
+        add_field(alloc, field, texts, &mut notes, &mut labels)?;
+    }
+    notes.properties = labels.into_notes(alloc)?;
+    Ok(notes)
+}
+
+/// The notes of a struct with embeddings: those of its own fields, since what it embeds has no schema of its own.
+#[cycle(values)]
+fn notes_of_declarations(
+    alloc: Global,
+    declarations: &[Declaration],
+    texts: &mut Texts,
+) -> Result<Notes, AllocError> {
+    let mut notes = Notes::new(alloc);
+    let mut labels = Declarations::new(alloc);
+    for declaration in declarations {
+        match declaration {
+            Declaration::Field(field) => add_field(alloc, field, texts, &mut notes, &mut labels)?,
+            // The texts of the fields in it are passed.
+            Declaration::Embedded { value, .. } => drop(notes_of_value(alloc, value, texts)?),
         }
     }
     notes.properties = labels.into_notes(alloc)?;
     Ok(notes)
+}
+
+/// Adds the notes of a field: among the labels, or for `[string]: T` under `allOf`.
+#[cycle(values)]
+fn add_field(
+    alloc: Global,
+    field: &Field,
+    texts: &mut Texts,
+    notes: &mut Notes,
+    labels: &mut Declarations,
+) -> Result<(), AllocError> {
+    let text = texts.next().flatten();
+    let value = notes_of_value(alloc, &field.value, texts)?;
+    match field.mark {
+        FieldMark::Every { .. } => {
+            notes
+                .all_of
+                .push(notes_under_every_key(alloc, text, value)?)?;
+        },
+        FieldMark::Regular | FieldMark::Optional | FieldMark::Required => {
+            labels.add(alloc, field.label.clone()?, text, value)?;
+        },
+    }
+    Ok(())
 }
 
 /// The notes of `[string]: T`, by its text and the notes of T.
