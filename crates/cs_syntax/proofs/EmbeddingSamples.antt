@@ -11,7 +11,7 @@ use Rattle.cs_grammar.proofs.CutSamples.{begins}
 use Rattle.cs_grammar.specs.Cut.{Lexeme, lexeme, IsCut, blank, token, finish}
 use Rattle.cs_grammar.specs.Spells.{every_label}
 use Rattle.cs_grammar.specs.Taken.{wide_sort, taken}
-use Rattle.cs_grammar.specs.TokenWords.{kind_of, word, words}
+use Rattle.cs_grammar.specs.TokenWords.{kind_of, words}
 use Rattle.cs_grammar.specs.Tree as T
 use Rattle.cs_grammar.specs.Tree.{Label, Tree, FileTree, file, definition}
 use Rattle.cs_grammar.specs.Words as W
@@ -207,9 +207,6 @@ marks_kept = refl
 
 kinds_of : map (λ s. kind_of s (codes "{")) (sorts.Mark ∷ sorts.Wide ∷ sorts.LeftOut ∷ []) ≡ kinds.OpenStruct ∷ kinds.OpenWide ∷ kinds.LeftOut ∷ []
 kinds_of = refl
-
-other_wide : map (λ t. word (lexeme sorts.Wide t 7)) (codes "{" ∷ codes "}" ∷ codes "*" ∷ [] ∷ []) ≡ W.open_wide 7 ∷ W.left_out 7 ∷ W.left_out 7 ∷ W.left_out 7 ∷ []
-other_wide = refl
 
 kinds_of_words : map word_kind (W.open_struct 7 ∷ W.open_wide 7 ∷ W.close_struct 7 ∷ []) ≡ kinds.OpenStruct ∷ kinds.OpenWide ∷ kinds.CloseStruct ∷ []
 kinds_of_words = refl
