@@ -18,8 +18,7 @@ use Rattle.cs_grammar.specs.Words as W
 use Rattle.cs_grammar.specs.Words.{Words}
 use Rattle.cs_syntax.specs.Answer.{IsSpelledIn}
 use Rattle.cs_syntax.specs.Height.{height}
-use Rattle.cs_syntax.specs.Nesting.{behind, nesting}
-use Rattle.cs_syntax.specs.Place.{is_left_out}
+use Rattle.cs_syntax.specs.Nesting.{nesting}
 use Rattle.cs_syntax.specs.Reading.{word_kind, unbracketed_at, many, label_at, every_key_at, head_at, field_with, struct_with, declaration_with, wide_struct_with, operand_with, conj_with, branch_with, expr_with, inner, definition_at, line_at, package_at, file_with, file_at}
 use Rattle.cs_syntax.proofs.Soundness.{file_found}
 
@@ -190,12 +189,6 @@ heights = refl
 
 nestings : map nesting (between ∷ inside ∷ choice ∷ words_with (W.open_wide 4) ∷ words_with (W.open_struct 4) ∷ []) ≡ 1 ∷ 2 ∷ 2 ∷ 1 ∷ 1 ∷ []
 nestings = refl
-
-level_behind : behind (W.name (codes "b") 0 ∷ W.colon 0 ∷ []) (W.open_wide 7) (2 ∷ 1 ∷ []) ≡ 0 ∷ 2 ∷ 1 ∷ []
-level_behind = refl
-
-not_left_out : is_left_out (W.open_wide 7) ≡ false
-not_left_out = refl
 
 -- ---- the sort, the kind and the word of `{` in each profile, and of other marks and sorts
 
