@@ -18,7 +18,7 @@ pub(crate) fn line_after(sort: Sort, text: &[u8]) -> LineState
         | Sort::Integer
         | Sort::Text => LineState::WantsComma,
         Sort::Mark => line_after_mark(text),
-        Sort::LeftOut | Sort::Inserted | Sort::End => LineState::Plain,
+        Sort::Wide | Sort::LeftOut | Sort::Inserted | Sort::End => LineState::Plain,
     }
 }
 

@@ -45,6 +45,7 @@ level_closed l (n ∷ ns) = record { nested = l.level - 1; level = n; outer = ns
 -- the levels at the next word
 abbrev pub levels_next : PrecedingToken → Kind → NestingState → NestingState
 levels_next b kinds.OpenStruct l = level_opened l
+levels_next b kinds.OpenWide l = level_opened l
 levels_next b kinds.OpenList l = level_opened l
 levels_next b kinds.OpenParen l = level_opened l
 levels_next b kinds.CloseStruct l = level_closed l l.outer

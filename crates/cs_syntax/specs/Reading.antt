@@ -9,12 +9,12 @@ use Rattle.cs_grammar.specs.Atom as atoms
 use Rattle.cs_grammar.specs.Atom.{Relation, top, bottom, integer, text, bound, not_integer, not_text, not_null}
 use Rattle.cs_grammar.specs.declared.fault.SyntaxFault.{SyntaxFault}
 use Rattle.cs_grammar.specs.declared.fault.SyntaxFault.TheVariants as faults
-use Rattle.cs_grammar.specs.Words.{Word, Words, name, definition_name, hidden, top_mark, bottom_mark, numeral, quoted, open_struct, close_struct, open_list, close_list, open_paren, close_paren, comma, nl, colon, question, bang, amp, bar, dots, relation, unequal, minus, star, left_out, finish}
+use Rattle.cs_grammar.specs.Words.{Word, Words, name, definition_name, hidden, top_mark, bottom_mark, numeral, quoted, open_struct, open_wide, close_struct, open_list, close_list, open_paren, close_paren, comma, nl, colon, question, bang, amp, bar, dots, relation, unequal, minus, star, left_out, finish}
 use Rattle.cs_grammar.specs.declared.ast.FieldMark.{FieldMark}
 use Rattle.cs_grammar.specs.declared.ast.FieldMark.TheVariants.{Regular, Optional, Required, Every}
 use Rattle.cs_grammar.specs.Tree.{Label, Tree, atom, named, reference, conjunction, disjunction, paren, struct, list, wide, marked, End, closed, any, each, DefinitionTree, definition, FileTree, file}
-use Rattle.cs_grammar.specs.View.{trees_of, fields_of, Seen}
-use Rattle.cs_grammar.specs.Spells.{is_reserved, is_null, is_package, is_string, every_label, literal_of, start_at}
+use Rattle.cs_grammar.specs.View.{trees_of, fields_of, Seen, declarations_of, SeenDeclaration, field_seen, embedding_seen}
+use Rattle.cs_grammar.specs.Spells.{is_reserved, is_null, is_package, is_string, every_label, literal_of, literal, start_at}
 use Rattle.cs_syntax.specs.Place.{fault_of}
 use Rattle.cs_syntax.specs.Nesting.{most_nested}
 
@@ -53,6 +53,7 @@ word_kind (bottom_mark o) = kinds.Bottom
 word_kind (numeral n o) = kinds.Integer
 word_kind (quoted s o) = kinds.Text
 word_kind (open_struct o) = kinds.OpenStruct
+word_kind (open_wide o) = kinds.OpenWide
 word_kind (close_struct o) = kinds.CloseStruct
 word_kind (open_list o) = kinds.OpenList
 word_kind (close_list o) = kinds.CloseList
@@ -328,6 +329,39 @@ struct_if r ts None None = do
 unfoldable pub struct_with : (Bool → Read Tree) → Read (List Seen × Bool)
 struct_with r ts = struct_if r ts (after kinds.CloseStruct ts) (after kinds.Dots ts)
 
+-- ---- literals of the wide profile
+
+abbrev pub declaration_if : (Bool → Read Tree) → Bool → Read SeenDeclaration
+declaration_if r true ts = do
+  f ← field_with r ts
+  Ok (field_seen f.0, f.1)
+declaration_if r false ts = do
+  e ← r false ts
+  Ok (embedding_seen (start_at ts) e.0, e.1)
+
+-- a field where one begins, and else an expression that is embedded
+unfoldable pub declaration_with : (Bool → Read Tree) → Read SeenDeclaration
+declaration_with r ts = declaration_if r (begins_field ts) ts
+
+-- { comma Declaration }
+abbrev pub declarations_with : (Bool → Read Tree) → ℕ → Read (List SeenDeclaration)
+declarations_with r = many another_field (declaration_with r)
+
+abbrev pub wide_struct_if : (Bool → Read Tree) → Words → Option Words → Option Words → Result ((List SeenDeclaration × Bool) × Words) SyntaxFault
+wide_struct_if r ts (Some us) d = Ok (([], false), us)
+wide_struct_if r ts None (Some us) = do
+  vs ← close_at kinds.CloseStruct us
+  Ok (([], true), vs)
+wide_struct_if r ts None None = do
+  x ← declaration_with r ts
+  xs ← declarations_with r (length x.1) x.1
+  b ← opening_at xs.1
+  Ok ((x.0 ∷ xs.0, b.0), b.1)
+
+-- what is behind `{` in the wide profile
+unfoldable pub wide_struct_with : (Bool → Read Tree) → Read (List SeenDeclaration × Bool)
+wide_struct_with r ts = wide_struct_if r ts (after kinds.CloseStruct ts) (after kinds.Dots ts)
+
 -- ---- lists
 
 abbrev pub rest_if : (Bool → Read Tree) → Bool → Words → Result (End × Words) SyntaxFault
@@ -384,6 +418,9 @@ operand_with r (open_paren p ∷ ts) = do
 operand_with r (open_struct p ∷ ts) = do
   x ← struct_with r ts
   Ok (struct p (fields_of x.0.0) x.0.1, x.1)
+operand_with r (open_wide p ∷ ts) = do
+  x ← wide_struct_with r ts
+  Ok (literal p (declarations_of x.0.0) x.0.1, x.1)
 operand_with r (open_list p ∷ ts) = do
   x ← list_with r ts
   Ok (list (trees_of x.0.0) x.0.1, x.1)

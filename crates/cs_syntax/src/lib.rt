@@ -4,8 +4,8 @@
 mod parser;
 
 pub use cs_grammar::{
-    Definition, Expr, Field, FieldMark, File, ListEnd, Profile, Relation, Sort, SyntaxFault, Token,
-    Wide,
+    Declaration, Definition, Expr, Field, FieldMark, File, ListEnd, Profile, Relation, Sort,
+    SyntaxFault, Token, Wide,
 };
 pub use cs_lexer::lex;
 pub use parser::file::{one_file, parse_file, parse_file_in};

@@ -6,6 +6,7 @@ mod field;
 pub(crate) mod file;
 mod height;
 mod kind;
+mod literal;
 mod name;
 mod nesting;
 mod number;

@@ -3,13 +3,14 @@
 // tokens within the limit of nesting need: however long a source is, the stack bears it.
 
 ghost use Rattle.std.specs.Prelude.{◌≡◌, ◌≤◌, map, length, true, false};
-ghost use Rattle.cs_grammar.specs.View.{expr_view, field_view, end_view};
+ghost use Rattle.cs_grammar.specs.View.{expr_view, field_view, declaration_view, end_view};
 ghost use Rattle.cs_syntax.specs.Left.{left, Reads};
-ghost use Rattle.cs_syntax.specs.Reading.{inner, field_with, fields_with, struct_with, rest_with, end_with, elements_with, list_with, operand_with, amps_with, conj_with, branch_with, bars_with, expr_with, most_depth};
+ghost use Rattle.cs_syntax.specs.Reading.{inner, field_with, fields_with, struct_with, declaration_with, declarations_with, wide_struct_with, rest_with, end_with, elements_with, list_with, operand_with, amps_with, conj_with, branch_with, bars_with, expr_with, most_depth};
 
 use crate::parser::kind::kind_of;
+use crate::parser::literal::literal;
 use crate::parser::place::Parser;
-use cs_grammar::{Expr, Field, Kind, ListEnd, SyntaxFault, Wide};
+use cs_grammar::{Declaration, Expr, Field, Kind, ListEnd, SyntaxFault, Wide};
 
 impl Parser<'_, '_> {
     /// A value, which may be a field alone, or an expression, where no such short form is allowed.
@@ -91,6 +92,61 @@ impl Parser<'_, '_> {
         let opened = self.opening()?;
         fields.insert(0, first)?;
         Ok((fields, opened))
+    }
+
+    /// A declaration of a literal of the wide profile: a field, or an expression that is embedded.
+    #[cycle(parse)]
+    #[tactic(auto, unfolding(crate::specs::Reading::declaration_with))]
+    fn declaration(&mut self, depth: usize) -> Result<Declaration, SyntaxFault>
+        requires { depth ≤ most_depth }
+        ensures { Reads declaration_view result self.new
+            (declaration_with (inner depth) (left self.old)) }
+    {
+        if self.begins_field() {
+            return Ok(Declaration::Field(self.field(depth)?));
+        }
+        let at = self.start();
+        let value = self.inside(depth, false)?;
+        Ok(Declaration::Embedded { at, value })
+    }
+
+    /// The declarations after the first.
+    #[cycle(parse)]
+    fn declarations(&mut self, depth: usize) -> Result<Vec<Declaration>, SyntaxFault>
+        requires { depth ≤ most_depth }
+        ensures { Reads (λ v. map declaration_view v.items) result self.new
+            (declarations_with (inner depth) (length (left self.old)) (left self.old)) }
+    {
+        let mut declarations = Vec::new(self.alloc);
+        for _ in self.next..self.tokens.len() {
+            if !self.skip_to_field() {
+                return Ok(declarations);
+            }
+            declarations.push(self.declaration(depth)?)?;
+        }
+        Ok(declarations)
+    }
+
+    /// What follows the bracket that opens a literal of the wide profile: its declarations, and whether it is opened.
+    #[cycle(parse)]
+    #[tactic(auto, unfolding(crate::specs::Reading::wide_struct_with))]
+    fn wide_structure(&mut self, depth: usize) -> Result<(Vec<Declaration>, bool), SyntaxFault>
+        requires { depth ≤ most_depth }
+        ensures { Reads (λ x. (map declaration_view x.0.items, x.1)) result self.new
+            (wide_struct_with (inner depth) (left self.old)) }
+    {
+        if self.skip(Kind::CloseStruct) {
+            return Ok((Vec::new(self.alloc), false));
+        }
+        if self.skip(Kind::Dots) {
+            self.close(Kind::CloseStruct)?;
+            return Ok((Vec::new(self.alloc), true));
+        }
+        let first = self.declaration(depth)?;
+        let mut declarations = self.declarations(depth)?;
+        let opened = self.opening()?;
+        declarations.insert(0, first)?;
+        Ok((declarations, opened))
     }
 
     /// What follows the `...` of a list.
@@ -185,6 +241,11 @@ impl Parser<'_, '_> {
                 let (fields, opened) = self.structure(depth)?;
                 let at = token.start;
                 Ok(Expr::Struct { at, fields, opened })
+            }
+            Kind::OpenWide => {
+                self.next += 1;
+                let (declarations, opened) = self.wide_structure(depth)?;
+                Ok(literal(self.alloc, token.start, declarations, opened)?)
             }
             Kind::OpenList => {
                 self.next += 1;

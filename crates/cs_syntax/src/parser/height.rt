@@ -1,10 +1,10 @@
 // How high expressions are.
 
 ghost use Rattle.std.specs.Prelude.{◌≡◌, map, nat_le};
-ghost use Rattle.cs_grammar.specs.View.{expr_view, exprs_view, fields_view, wide_view, end_view, definition_view};
-ghost use Rattle.cs_syntax.specs.Height.{height, height_all, height_fields, height_wide, height_end, height_definitions};
+ghost use Rattle.cs_grammar.specs.View.{expr_view, exprs_view, fields_view, wide_view, declarations_view, declaration_view, end_view, definition_view};
+ghost use Rattle.cs_syntax.specs.Height.{height, height_all, height_fields, height_wide, height_declarations, declaration_height, height_end, height_definitions};
 
-use cs_grammar::{Definition, Expr, Field, ListEnd, Wide};
+use cs_grammar::{Declaration, Definition, Expr, Field, ListEnd, Wide};
 
 /// Whether an expression is at most so high.
 #[cycle(height)]
@@ -30,13 +30,16 @@ fn is_low(expr: &Expr, limit: usize) -> bool
     }
 }
 
-/// A mark is no level.
+/// A mark is no level, and a literal with embeddings is one.
 #[cycle(height)]
 fn is_low_wide(wide: &Wide, limit: usize) -> bool
     ensures { result ≡ nat_le (height_wide (wide_view wide.now)) limit }
 {
     match wide {
         Wide::Marked { value, .. } => is_low(value, limit),
+        Wide::Merged { declarations, .. } => {
+            limit > 0 && are_low_declarations(declarations, limit - 1)
+        }
     }
 }
 
@@ -62,6 +65,29 @@ fn are_low_fields(fields: &Vec<Field>, limit: usize) -> bool
         }
     }
     true
+}
+
+#[cycle(height)]
+fn are_low_declarations(declarations: &Vec<Declaration>, limit: usize) -> bool
+    ensures { result
+        ≡ nat_le (height_declarations (declarations_view declarations.now.items)) limit }
+{
+    for declaration in declarations {
+        if !is_low_declaration(declaration, limit) {
+            return false;
+        }
+    }
+    true
+}
+
+#[cycle(height)]
+fn is_low_declaration(declaration: &Declaration, limit: usize) -> bool
+    ensures { result ≡ nat_le (declaration_height (declaration_view declaration.now)) limit }
+{
+    match declaration {
+        Declaration::Field(field) => is_low(&field.value, limit),
+        Declaration::Embedded { value, .. } => is_low(value, limit),
+    }
 }
 
 #[cycle(height)]

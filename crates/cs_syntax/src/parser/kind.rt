@@ -2,7 +2,7 @@
 
 ghost use Rattle.std.specs.Prelude.{◌≡◌};
 ghost use Rattle.cs_grammar.specs.View.{lexeme_view};
-ghost use Rattle.cs_grammar.specs.TokenWords.{mark_kind, kind_of, word};
+ghost use Rattle.cs_grammar.specs.TokenWords.{mark_kind, wide_kind, kind_of, word};
 ghost use Rattle.cs_syntax.specs.Reading.{names_string};
 
 use crate::parser::name::is_string;
@@ -37,6 +37,16 @@ fn mark_kind(text: &str) -> Kind
     }
 }
 
+/// What a mark is where the wide profile reads it in its own way.
+fn wide_kind(text: &str) -> Kind
+    ensures { result ≡ wide_kind text.now }
+{
+    match text {
+        "{" => Kind::OpenWide,
+        _ => Kind::LeftOut,
+    }
+}
+
 /// What a token is for the grammar.
 pub(crate) fn kind_of(token: &Token<'_>) -> Kind
     ensures { result ≡ kind_of token.now.sort token.now.text.now }
@@ -50,6 +60,7 @@ pub(crate) fn kind_of(token: &Token<'_>) -> Kind
         Sort::Integer => Kind::Integer,
         Sort::Text => Kind::Text,
         Sort::Mark => mark_kind(token.text),
+        Sort::Wide => wide_kind(token.text),
         Sort::LeftOut => Kind::LeftOut,
         Sort::Inserted => Kind::Inserted,
         Sort::End => Kind::End,

@@ -1,0 +1,58 @@
+// Literals of the wide profile.
+
+ghost use Rattle.std.specs.Prelude.{◌≡◌, Some, IfOk};
+ghost use Rattle.cs_grammar.specs.View.{expr_view, fields_view, declarations_view};
+ghost use Rattle.cs_grammar.specs.Spells.{fields_alone, literal};
+ghost use Rattle.cs_grammar.specs.Tree.{Fields};
+ghost use Rattle.std.specs.Option.{is_some};
+
+use cs_grammar::{Declaration, Expr, Field, Wide};
+use std::alloc::{AllocError, Global};
+
+/// Whether no declaration is an embedding.
+fn are_fields(declarations: &[Declaration]) -> bool
+    ensures { result ≡ is_some (fields_alone (declarations_view declarations.now)) }
+{
+    for declaration in declarations {
+        if let Declaration::Embedded { .. } = declaration {
+            return false;
+        }
+    }
+    true
+}
+
+/// The fields among the declarations.
+fn fields_among(alloc: Global, declarations: Vec<Declaration>) -> Result<Vec<Field>, AllocError>
+    ensures { IfOk result (λ v. (fs : Fields)
+        → fields_alone (declarations_view declarations.items) ≡ Some fs
+        → fields_view v.items ≡ fs) }
+{
+    let mut fields = Vec::new(alloc);
+    for declaration in declarations {
+        if let Declaration::Field(field) = declaration {
+            fields.push(field)?;
+        }
+    }
+    Ok(fields)
+}
+
+/// A literal with these declarations, which is one of the default profile where none is an embedding.
+pub(crate) fn literal(
+    alloc: Global,
+    at: usize,
+    declarations: Vec<Declaration>,
+    opened: bool,
+) -> Result<Expr, AllocError>
+    ensures { IfOk result (λ e. expr_view e
+        ≡ literal at (declarations_view declarations.items) opened) }
+{
+    if are_fields(&declarations) {
+        let fields = fields_among(alloc, declarations)?;
+        return Ok(Expr::Struct { at, fields, opened });
+    }
+    Ok(Expr::Wide(Wide::Merged {
+        at,
+        declarations,
+        opened,
+    }))
+}
