@@ -8,5 +8,6 @@ pub mod Bodies
 -- laws of the definitions
 pub mod Copies
 pub mod DefaultFiles
+pub mod Sizes
 -- samples
 pub mod Samples

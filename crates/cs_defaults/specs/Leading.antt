@@ -1,7 +1,6 @@
 -- Which values have a default (CUE, default values; that a definition hands its default on where it has one body alone is an own rule).
-use Rattle.std.specs.Prelude.{ℕ, zero, suc, Bool, true, false, List, [], ◌∷◌, map, filter, if◌then◌else◌}
-use Rattle.std.specs.Str.{bytes_eq}
-use Rattle.cs_grammar.specs.Tree.{Tree, atom, named, reference, conjunction, disjunction, paren, struct, list, wide, marked, Trees, none, more, DefinitionTree, defined_name, body}
+use Rattle.std.specs.Prelude.{ℕ, zero, suc, Bool, true, false, List, [], ◌∷◌, if◌then◌else◌}
+use Rattle.cs_grammar.specs.Tree.{Tree, atom, named, reference, conjunction, disjunction, paren, struct, list, wide, marked, merged, Trees, none, more, DefinitionTree, bodies}
 
 -- how a value comes to a default: not at all, by its own mark, or by a definition that it refers to, each with its place
 pub data Leading : Type 0 where
@@ -12,6 +11,7 @@ pub data Leading : Type 0 where
 -- by the mark of an operand, or else by those behind it
 abbrev pub or_behind : Tree → Leading → Leading
 or_behind (wide (marked o e)) behind = by_mark o
+or_behind (wide (merged o ds opened)) behind = behind
 or_behind (atom a) behind = behind
 or_behind (named s o) behind = behind
 or_behind (reference s o) behind = behind
@@ -36,10 +36,6 @@ leading (paren e) = leading e
 leading (struct o fs opened) = nowhere
 leading (list es end) = nowhere
 leading (wide w) = nowhere
-
--- the bodies of a definition
-abbrev pub bodies : List ℕ → List DefinitionTree → List Tree
-bodies s ds = map body (filter (λ d. bytes_eq (defined_name d) s) ds)
 
 -- a definition with one body leads where that one does, and every other one nowhere
 abbrev pub leading_of : List Tree → Leading

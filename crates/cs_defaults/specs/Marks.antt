@@ -2,7 +2,7 @@
 -- a definition, an element of a list or all keys, parentheses aside, one operand may be marked, and it is a literal.
 use Rattle.std.specs.Prelude.{ℕ, Bool, true, false, ◌&&◌, not, List, [], ◌∷◌, ◌++◌, if◌then◌else◌}
 use Rattle.cs_grammar.specs.Atom.{Atom, top, bottom, null, boolean, integer, text, bound, not_integer, not_text, not_null}
-use Rattle.cs_grammar.specs.Tree.{Tree, atom, named, reference, conjunction, disjunction, paren, struct, list, wide, marked, Trees, none, more, Fields, no_field, field, End, closed, any, each}
+use Rattle.cs_grammar.specs.Tree.{Tree, atom, named, reference, conjunction, disjunction, paren, struct, list, wide, marked, merged, Trees, none, more, Fields, no_field, field, End, closed, any, each}
 
 abbrev pub is_literal_atom : Atom → Bool
 is_literal_atom null = true
@@ -52,6 +52,7 @@ is_marked (paren e) = false
 is_marked (struct o fs opened) = false
 is_marked (list es end) = false
 is_marked (wide (marked o e)) = true
+is_marked (wide (merged o ds opened)) = false
 
 -- a literal that is marked
 abbrev pub is_default : Tree → Bool
@@ -64,8 +65,10 @@ is_default (paren e) = false
 is_default (struct o fs opened) = false
 is_default (list es end) = false
 is_default (wide (marked o e)) = is_literal e
+is_default (wide (merged o ds opened)) = false
 
--- where the marks at fault are, in order of the text, in an expression that is a whole value or isn't
+-- where the marks at fault are, in order of the text, in an expression that is a whole value or isn't; a literal with embeddings is one of them,
+-- as files come here without these
 abbrev mutual
   pub misplaced : Bool → Tree → List ℕ
   misplaced whole (atom a) = []
@@ -77,6 +80,7 @@ abbrev mutual
   misplaced whole (struct o fs opened) = misplaced_fields fs
   misplaced whole (list es end) = misplaced_each true es ++ misplaced_end end
   misplaced whole (wide (marked o e)) = o ∷ misplaced false e
+  misplaced whole (wide (merged o ds opened)) = o ∷ []
 
   pub misplaced_each : Bool → Trees → List ℕ
   misplaced_each whole none = []

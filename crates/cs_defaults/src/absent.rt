@@ -123,7 +123,8 @@ impl Clashes<'_, '_> {
             | Expr::Bound { .. }
             | Expr::NotInt(_)
             | Expr::NotText(_)
-            | Expr::NotNull => Ok(()),
+            | Expr::NotNull
+            | Expr::Wide(Wide::Merged { .. }) => Ok(()),
         }
     }
 

@@ -1,7 +1,9 @@
 // Laws of the definitions, whatever files there are.
-ghost use Rattle.std.specs.Prelude.{ℕ, Bool, List};
+ghost use Rattle.std.specs.Prelude.{ℕ, ◌≤◌, Bool, List, map};
 ghost use Rattle.std.specs.List.{AllByRecursion};
 ghost use Rattle.cs_grammar.specs.DefaultForms.{IsDefaultFile};
+ghost use Rattle.cs_grammar.specs.Height.{file_height};
+ghost use Rattle.cs_grammar.specs.Size.{nodes_of_files};
 ghost use Rattle.cs_grammar.specs.Tree.{FileTree};
 ghost use Rattle.cs_grammar.specs.Written.{IsWrittenFile};
 ghost use Rattle.cs_defaults.specs.Unmarked.{unmarked_file};
@@ -15,6 +17,17 @@ pub fn unmarked_files_have_default_forms()
 /// A law: what can be written down with marks can be written down without them.
 pub fn unmarked_files_can_be_written()
     ensures { (has : List ℕ → Bool) (f : FileTree) → IsWrittenFile f → IsWrittenFile (unmarked_file has f) }
+{}
+
+/// A law: a file without its marks is no higher than with them.
+pub fn unmarked_files_are_no_higher()
+    ensures { (has : List ℕ → Bool) (f : FileTree) → file_height (unmarked_file has f) ≤ file_height f }
+{}
+
+/// A law: files without their marks have no fewer nodes than with them, where a form of the wide profile counts as one.
+pub fn unmarked_files_are_no_smaller()
+    ensures { (has : List ℕ → Bool) (fs : List FileTree)
+        → nodes_of_files fs ≤ nodes_of_files (map (unmarked_file has) fs) }
 {}
 
 /// A law: files without forms of the wide profile stand for themselves.

@@ -13,5 +13,6 @@ pub use cs_grammar::File;
 pub use fault::DefaultFault;
 pub use files::without_marks;
 pub use laws::{
-    default_files_stay, unmarked_files_can_be_written, unmarked_files_have_default_forms,
+    default_files_stay, unmarked_files_are_no_higher, unmarked_files_are_no_smaller,
+    unmarked_files_can_be_written, unmarked_files_have_default_forms,
 };

@@ -78,7 +78,8 @@ fn is_default(expr: &Expr) -> bool
         | Expr::Or(_)
         | Expr::Paren(_)
         | Expr::Struct { .. }
-        | Expr::List { .. } => false,
+        | Expr::List { .. }
+        | Expr::Wide(Wide::Merged { .. }) => false,
     }
 }
 
@@ -96,7 +97,7 @@ pub(crate) fn check_marks(expr: &Expr, is_whole: bool) -> Result<(), usize>
             check_each(front, true)?;
             check_end(end)
         }
-        Expr::Wide(Wide::Marked { at, .. }) => Err(*at),
+        Expr::Wide(Wide::Marked { at, .. } | Wide::Merged { at, .. }) => Err(*at),
         Expr::Top
         | Expr::Bottom
         | Expr::Null

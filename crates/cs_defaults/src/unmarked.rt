@@ -84,6 +84,8 @@ impl Unmarking<'_, '_> {
     {
         match form {
             Wide::Marked { value, .. } => self.unmarked(value),
+            // Never asked for: a literal with embeddings is at fault.
+            Wide::Merged { .. } => Ok(Expr::Bottom),
         }
     }
 

@@ -1,8 +1,8 @@
 use Rattle.std.proofs.Common.{◌≡◌, ℕ, suc, List, [], ◌∷◌, Some, sym, ap, ◌∙◌, subst, arith}
-use Rattle.cs_grammar.specs.Tree.{Tree, DefinitionTree}
+use Rattle.cs_grammar.specs.Tree.{Tree, DefinitionTree, bodies}
 use Rattle.cs_grammar.specs.View.{expr_view}
 use Rattle.cs_defaults.specs.Checks.{TellsBody}
-use Rattle.cs_defaults.specs.Leading.{bodies, leading, leading_of, leads, to}
+use Rattle.cs_defaults.specs.Leading.{leading, leading_of, leads, to}
 use Rattle.cs_defaults.proofs.leading.+hands_on.Goals as goal
 
 -- the only body refers to the definition s

@@ -38,7 +38,7 @@ unmarked-returns-in-Wide t c has tells =
     let is = ap expr_view c.in-Wide.is ∙ view-Wide c.in-Wide.form in
     subst (λ e. IfOk c.unmarked_form.result (λ f. expr_view f ≡ Spec.unmarked has e)) (sym is) (c.unmarked_form.ensures has tells)
 
-pub unmarked_form-returns : goal.unmarked_form-returns
-unmarked_form-returns t c has tells =
-    let is : Spec.unmarked has (wide (wide_view c.args.form.now)) ≡ Spec.unmarked has (expr_view c.deref.result.now) = search (rules, view-Marked, c.deref.ensures) in
+pub unmarked_form-returns-in-Marked : goal.unmarked_form-returns-in-Marked
+unmarked_form-returns-in-Marked t c has tells =
+    let is : Spec.unmarked has (wide (wide_view c.args.form.now)) ≡ Spec.unmarked has (expr_view c.deref.result.now) = search (rules, view-Marked, c.deref.ensures, c.in-Marked.is) in
     subst (λ e. IfOk c.unmarked.result (λ f. expr_view f ≡ e)) (sym is) (c.unmarked.ensures has tells)
