@@ -1,7 +1,7 @@
 // The notes of values, as their translation to schemas has places for them.
 use crate::declared::Declarations;
 use cs_describe::Notes;
-use cs_grammar::{Expr, Field, FieldMark, ListEnd, Wide};
+use cs_grammar::{Declaration, Expr, Field, FieldMark, ListEnd, Wide};
 use std::alloc::{AllocError, Global};
 use std::vec::IntoIter;
 
@@ -22,6 +22,9 @@ pub(crate) fn notes_of_value(
         Expr::Paren(inside) => return notes_of_value(alloc, inside, texts),
         // A mark of a default is dropped where it is widened.
         Expr::Wide(Wide::Marked { value, .. }) => return notes_of_value(alloc, value, texts),
+        Expr::Wide(Wide::Merged { declarations, .. }) => {
+            return notes_of_declarations(alloc, declarations, texts);
+        },
         Expr::Struct { fields, .. } => return notes_of_fields(alloc, fields, texts),
         Expr::List { front, end } => {
             notes.prefix = notes_of_each(alloc, front, texts)?;
@@ -80,22 +83,62 @@ fn notes_of_fields(
     fields: &[Field],
     texts: &mut Texts,
 ) -> Result<Notes, AllocError> {
-    let mut notes = Notes::new(alloc);
+    let mut every = Vec::new(alloc);
     let mut labels = Declarations::new(alloc);
     for field in fields {
-        let text = texts.next().flatten();
-        let value = notes_of_value(alloc, &field.value, texts)?;
-        match field.mark {
-            FieldMark::Every { .. } => {
-                notes
-                    .all_of
-                    .push(notes_under_every_key(alloc, text, value)?)?;
+        add_field(alloc, field, texts, &mut labels, &mut every)?;
+    }
+    notes_of_struct(alloc, labels, every)
+}
+
+/// The same of a literal with embeddings, which has the notes of the fields that it declares itself.
+#[cycle(values)]
+fn notes_of_declarations(
+    alloc: Global,
+    declarations: &[Declaration],
+    texts: &mut Texts,
+) -> Result<Notes, AllocError> {
+    let mut every = Vec::new(alloc);
+    let mut labels = Declarations::new(alloc);
+    for declaration in declarations {
+        match declaration {
+            Declaration::Field(field) => {
+                add_field(alloc, field, texts, &mut labels, &mut every)?;
             },
-            FieldMark::Regular | FieldMark::Optional | FieldMark::Required => {
-                labels.add(alloc, field.label.clone()?, text, value)?;
-            },
+            // Its texts are passed over.
+            Declaration::Embedded { value, .. } => drop(notes_of_value(alloc, value, texts)?),
         }
     }
+    notes_of_struct(alloc, labels, every)
+}
+
+/// Adds a field: under its label, or to those under every key.
+#[cycle(values)]
+fn add_field(
+    alloc: Global,
+    field: &Field,
+    texts: &mut Texts,
+    labels: &mut Declarations,
+    every: &mut Vec<Notes>,
+) -> Result<(), AllocError> {
+    let text = texts.next().flatten();
+    let value = notes_of_value(alloc, &field.value, texts)?;
+    match field.mark {
+        FieldMark::Every { .. } => Ok(every.push(notes_under_every_key(alloc, text, value)?)?),
+        FieldMark::Regular | FieldMark::Optional | FieldMark::Required => {
+            labels.add(alloc, field.label.clone()?, text, value)
+        },
+    }
+}
+
+/// The notes of a struct, by those of its labels and those under every key.
+fn notes_of_struct(
+    alloc: Global,
+    labels: Declarations,
+    every: Vec<Notes>,
+) -> Result<Notes, AllocError> {
+    let mut notes = Notes::new(alloc);
+    notes.all_of = every;
     notes.properties = labels.into_notes(alloc)?;
     Ok(notes)
 }

@@ -115,7 +115,12 @@ fn is_of_literal(token: Token<'_>) -> bool {
         Sort::Integer | Sort::Text | Sort::Inserted => true,
         Sort::Name => ["null", "true", "false"].contains(&token.text),
         Sort::Mark => ["-", ",", "[", "]", "{", "}", "(", ")"].contains(&token.text),
-        Sort::Definition | Sort::Hidden | Sort::Top | Sort::Bottom | Sort::LeftOut | Sort::End =>
-            false,
+        Sort::Definition
+        | Sort::Hidden
+        | Sort::Top
+        | Sort::Bottom
+        | Sort::Wide
+        | Sort::LeftOut
+        | Sort::End => false,
     }
 }
