@@ -20,12 +20,15 @@ pub mod LabelledWords
 pub mod EarlierNesting
 pub mod Depths
 pub mod Heights
+pub mod Declared
 -- what the profiles have to do with each other
 pub mod TakenTokens
-pub mod StarlessWords
+pub mod DefaultWords
+pub mod WideWords
 pub mod UsedWords
 -- samples
 pub mod GrammarSamples
 pub mod Samples
 pub mod EarlierSamples
 pub mod ProfileSamples
+pub mod EmbeddingSamples
