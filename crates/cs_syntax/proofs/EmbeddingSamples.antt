@@ -17,7 +17,7 @@ use Rattle.cs_grammar.specs.Tree.{Label, Tree, FileTree, file, definition}
 use Rattle.cs_grammar.specs.Words as W
 use Rattle.cs_grammar.specs.Words.{Words}
 use Rattle.cs_syntax.specs.Answer.{IsSpelledIn}
-use Rattle.cs_syntax.specs.Height.{height}
+use Rattle.cs_grammar.specs.Height.{height}
 use Rattle.cs_syntax.specs.Nesting.{behind, nesting}
 use Rattle.cs_syntax.specs.Place.{is_left_out}
 use Rattle.cs_syntax.specs.Reading.{word_kind, unbracketed_at, many, label_at, every_key_at, head_at, field_with, struct_with, declaration_with, wide_struct_with, operand_with, conj_with, branch_with, expr_with, inner, definition_at, line_at, package_at, file_with, file_at}
