@@ -11,15 +11,14 @@ use Rattle.cs_grammar.proofs.CutSamples.{begins}
 use Rattle.cs_grammar.specs.Cut.{Lexeme, lexeme, IsCut, blank, token, finish}
 use Rattle.cs_grammar.specs.Spells.{every_label}
 use Rattle.cs_grammar.specs.Taken.{wide_sort, taken}
-use Rattle.cs_grammar.specs.TokenWords.{kind_of, word, words}
+use Rattle.cs_grammar.specs.TokenWords.{kind_of, words}
 use Rattle.cs_grammar.specs.Tree as T
 use Rattle.cs_grammar.specs.Tree.{Label, Tree, FileTree, file, definition}
 use Rattle.cs_grammar.specs.Words as W
 use Rattle.cs_grammar.specs.Words.{Words}
 use Rattle.cs_syntax.specs.Answer.{IsSpelledIn}
 use Rattle.cs_grammar.specs.Height.{height}
-use Rattle.cs_syntax.specs.Nesting.{behind, nesting}
-use Rattle.cs_syntax.specs.Place.{is_left_out}
+use Rattle.cs_syntax.specs.Nesting.{nesting}
 use Rattle.cs_syntax.specs.Reading.{word_kind, unbracketed_at, many, label_at, every_key_at, head_at, field_with, struct_with, declaration_with, wide_struct_with, operand_with, conj_with, branch_with, expr_with, inner, definition_at, line_at, package_at, file_with, file_at}
 use Rattle.cs_syntax.proofs.Soundness.{file_found}
 
@@ -191,12 +190,6 @@ heights = refl
 nestings : map nesting (between ∷ inside ∷ choice ∷ words_with (W.open_wide 4) ∷ words_with (W.open_struct 4) ∷ []) ≡ 1 ∷ 2 ∷ 2 ∷ 1 ∷ 1 ∷ []
 nestings = refl
 
-level_behind : behind (W.name (codes "b") 0 ∷ W.colon 0 ∷ []) (W.open_wide 7) (2 ∷ 1 ∷ []) ≡ 0 ∷ 2 ∷ 1 ∷ []
-level_behind = refl
-
-not_left_out : is_left_out (W.open_wide 7) ≡ false
-not_left_out = refl
-
 -- ---- the sort, the kind and the word of `{` in each profile, and of other marks and sorts
 
 sorts_taken : map (λ s. wide_sort s (codes "{")) (sorts.LeftOut ∷ sorts.Mark ∷ sorts.Wide ∷ sorts.Text ∷ []) ≡ sorts.LeftOut ∷ sorts.Wide ∷ sorts.Wide ∷ sorts.Text ∷ []
@@ -207,9 +200,6 @@ marks_kept = refl
 
 kinds_of : map (λ s. kind_of s (codes "{")) (sorts.Mark ∷ sorts.Wide ∷ sorts.LeftOut ∷ []) ≡ kinds.OpenStruct ∷ kinds.OpenWide ∷ kinds.LeftOut ∷ []
 kinds_of = refl
-
-other_wide : map (λ t. word (lexeme sorts.Wide t 7)) (codes "{" ∷ codes "}" ∷ codes "*" ∷ [] ∷ []) ≡ W.open_wide 7 ∷ W.left_out 7 ∷ W.left_out 7 ∷ W.left_out 7 ∷ []
-other_wide = refl
 
 kinds_of_words : map word_kind (W.open_struct 7 ∷ W.open_wide 7 ∷ W.close_struct 7 ∷ []) ≡ kinds.OpenStruct ∷ kinds.OpenWide ∷ kinds.CloseStruct ∷ []
 kinds_of_words = refl

@@ -6,8 +6,9 @@
 pub mod WordKinds
 pub mod QuotedTexts
 pub mod Reader
--- completeness, with the lists that a label's bracket begins
+-- completeness, with the lists that a label's bracket begins, and what begins and follows an expression
 pub mod BracketLabels
+pub mod Boundaries
 pub mod Completeness
 -- soundness, faults, and what the call answers
 pub mod Soundness
