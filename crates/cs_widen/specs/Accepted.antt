@@ -6,8 +6,8 @@ use Rattle.cs_grammar.specs.declared.profile.Profile.{Profile}
 use Rattle.cs_package.specs.Environment.{Environment}
 use Rattle.cs_resolve.specs.Resolved.{IsPackage}
 use Rattle.cs_guard.specs.Guarded.{IsGuarded}
-use Rattle.cs_defaults.specs.Widened.{IsUnmarked}
 use Rattle.cs_tool.specs.Accepted.{AreTexts, AreFilesIn}
+use Rattle.cs_widen.specs.Stands.{AreMeant}
 
 -- the sources are accepted in the profile, and declare the environment
 pub record IsAcceptedIn (p : Profile) (sources : List (List ℕ)) (E : Environment) : Type 0 where
@@ -15,6 +15,6 @@ pub record IsAcceptedIn (p : Profile) (sources : List (List ℕ)) (E : Environme
   pub files : List FileTree
   pub spelled : AreFilesIn p sources files
   pub meant : List FileTree
-  pub stand_for : IsUnmarked files meant
+  pub stand_for : AreMeant files meant
   pub one_package : IsPackage meant E
   pub guarded : IsGuarded E

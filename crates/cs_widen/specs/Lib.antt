@@ -1,4 +1,5 @@
 -- What sources stand for in a profile, and the source that it is.
+pub mod Stands
 pub mod Accepted
 pub mod Meant
 pub mod Refused

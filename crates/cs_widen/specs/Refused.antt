@@ -10,28 +10,52 @@ use Rattle.cs_resolve.specs.declared.fault.ResolveFault.{ResolveFault}
 use Rattle.cs_guard.specs.Cycles as guard
 use Rattle.cs_guard.specs.declared.fault.GuardFault.{GuardFault}
 use Rattle.cs_defaults.specs.Widened as defaults
-use Rattle.cs_defaults.specs.Widened.{IsUnmarked}
 use Rattle.cs_defaults.specs.declared.fault.DefaultFault.{DefaultFault}
 use Rattle.cs_defaults.specs.declared.fault.DefaultFault.TheVariants as marks
+use Rattle.cs_embeddings.specs.Without as embeddings
+use Rattle.cs_embeddings.specs.Without.{IsJoined}
+use Rattle.cs_embeddings.specs.declared.fault.EmbeddingFault.{EmbeddingFault}
+use Rattle.cs_embeddings.specs.declared.fault.EmbeddingFault.TheVariants as joins
 use Rattle.cs_tool.specs.Accepted.{most_bytes, AreTexts, AreFilesIn}
 use Rattle.cs_tool.specs.Conversions.{of_resolve, of_guard}
 use Rattle.cs_tool.specs.First.{IsMisspelledIn, SpellingRefusal}
 use Rattle.cs_tool.specs.declared.fault.Fault.{Fault}
 use Rattle.cs_tool.specs.declared.fault.Fault.TheVariants.{SourcesTooLong, NotUtf8, NoToken, Syntax, LeftOut, IntegerRange, TooHigh, PackageName, UnknownName, FieldReference, NotOpened, Cycle, TooLarge, OutOfMemory, ChainTooLong}
 use Rattle.cs_widen.specs.Meant.{IsMeantIn}
+use Rattle.cs_widen.specs.Stands.{AreMeant}
+
+-- what can't be embedded, or would be opened by an embedding, is a literal that isn't opened
+abbrev pub of_embedding : EmbeddingFault → Fault
+of_embedding joins.OutOfMemory = OutOfMemory
+of_embedding (joins.UnknownName file offset) = UnknownName file offset
+of_embedding (joins.NoStruct file offset) = NotOpened file offset
+of_embedding (joins.Reopened file offset) = NotOpened file offset
+of_embedding (joins.TooHigh file) = TooHigh file
+of_embedding joins.TooLarge = TooLarge 0
 
 -- a mark that isn't taken is a form that is left out
 abbrev pub of_mark : DefaultFault → Fault
 of_mark marks.OutOfMemory = OutOfMemory
 of_mark (marks.Mark file offset) = LeftOut file offset
 
--- the sources spell files in the profile, and that is the first mark at fault in them
+-- the sources spell files in the profile, and that is why these don't stand for files without embeddings
+pub record IsEmbeddingRefusal (p : Profile) (sources : List (List ℕ)) (f : Fault) : Type 0 where
+  pub texts : AreTexts sources
+  pub files : List FileTree
+  pub spelled : AreFilesIn p sources files
+  pub fault : EmbeddingFault
+  pub refused : embeddings.IsRefusal fault files
+  pub told : f ≡ of_embedding fault
+
+-- they stand for files without embeddings, and that is the first mark at fault in these
 pub record IsMarkRefusal (p : Profile) (sources : List (List ℕ)) (f : Fault) : Type 0 where
   pub texts : AreTexts sources
   pub files : List FileTree
   pub spelled : AreFilesIn p sources files
+  pub joined : List FileTree
+  pub are_joined : IsJoined files joined
   pub fault : DefaultFault
-  pub refused : defaults.IsRefusal fault files
+  pub refused : defaults.IsRefusal fault joined
   pub told : f ≡ of_mark fault
 
 -- that is why the files that the sources stand for are no package
@@ -40,7 +64,7 @@ pub record IsNoPackageIn (p : Profile) (sources : List (List ℕ)) (f : Fault) :
   pub files : List FileTree
   pub spelled : AreFilesIn p sources files
   pub meant : List FileTree
-  pub stand_for : IsUnmarked files meant
+  pub stand_for : AreMeant files meant
   pub fault : ResolveFault
   pub refused : resolve.IsRefusal fault meant
   pub told : f ≡ of_resolve fault
@@ -51,7 +75,7 @@ pub record IsUnguardedIn (p : Profile) (sources : List (List ℕ)) (f : Fault) :
   pub files : List FileTree
   pub spelled : AreFilesIn p sources files
   pub meant : List FileTree
-  pub stand_for : IsUnmarked files meant
+  pub stand_for : AreMeant files meant
   pub environment : Environment
   pub one_package : IsPackage meant environment
   pub fault : GuardFault
@@ -66,13 +90,13 @@ RefusalIn p sources (NotUtf8 number) = SpellingRefusal p sources (NotUtf8 number
 RefusalIn p sources (NoToken number offset) = SpellingRefusal p sources (NoToken number offset)
 RefusalIn p sources (Syntax number offset) = SpellingRefusal p sources (Syntax number offset)
 RefusalIn p sources (IntegerRange number offset) = SpellingRefusal p sources (IntegerRange number offset)
-RefusalIn p sources (TooHigh number) = SpellingRefusal p sources (TooHigh number)
+RefusalIn p sources (TooHigh number) = SpellingRefusal p sources (TooHigh number) ⊎ IsEmbeddingRefusal p sources (TooHigh number)
 RefusalIn p sources (LeftOut number offset) = IsMisspelledIn p sources (LeftOut number offset) ⊎ IsMarkRefusal p sources (LeftOut number offset)
 RefusalIn p sources (PackageName number) = IsNoPackageIn p sources (PackageName number)
-RefusalIn p sources (TooLarge definitions) = IsNoPackageIn p sources (TooLarge definitions)
-RefusalIn p sources (UnknownName number offset) = IsNoPackageIn p sources (UnknownName number offset)
+RefusalIn p sources (TooLarge definitions) = IsEmbeddingRefusal p sources (TooLarge definitions) ⊎ IsNoPackageIn p sources (TooLarge definitions)
+RefusalIn p sources (UnknownName number offset) = IsEmbeddingRefusal p sources (UnknownName number offset) ⊎ IsNoPackageIn p sources (UnknownName number offset)
 RefusalIn p sources (FieldReference number offset) = IsNoPackageIn p sources (FieldReference number offset)
-RefusalIn p sources (NotOpened number offset) = IsNoPackageIn p sources (NotOpened number offset)
+RefusalIn p sources (NotOpened number offset) = IsEmbeddingRefusal p sources (NotOpened number offset) ⊎ IsNoPackageIn p sources (NotOpened number offset)
 RefusalIn p sources (Cycle names) = IsUnguardedIn p sources (Cycle names)
 RefusalIn p sources (ChainTooLong names) = IsUnguardedIn p sources (ChainTooLong names)
 RefusalIn p sources _ = ⊥

@@ -5,14 +5,18 @@ ghost use Rattle.cs_package.specs.Environment.{Environment};
 ghost use Rattle.cs_defaults.specs.declared.fault.DefaultFault.{DefaultFault};
 ghost use Rattle.cs_defaults.specs.Widened as defaults;
 ghost use Rattle.cs_defaults.specs.Widened.{IsUnmarked, mark_faults};
+ghost use Rattle.cs_embeddings.specs.declared.fault.EmbeddingFault.{EmbeddingFault};
+ghost use Rattle.cs_embeddings.specs.Without as embeddings;
+ghost use Rattle.cs_embeddings.specs.Without.{IsJoined, IsWithin, flaws_of_files, clashes_of_files};
 ghost use Rattle.cs_tool.specs.Accepted.{IsAccepted};
 ghost use Rattle.cs_tool.specs.First.{SourcesRefusal};
 ghost use Rattle.cs_tool.specs.Given.{bytes_in};
 ghost use Rattle.cs_widen.specs.Accepted.{IsAcceptedIn};
 ghost use Rattle.cs_widen.specs.Meant.{IsMeant, IsMeantIn};
-ghost use Rattle.cs_widen.specs.Refused.{RefusalIn, of_mark};
+ghost use Rattle.cs_widen.specs.Refused.{RefusalIn, of_embedding, of_mark};
 
 use cs_defaults::{DefaultFault, without_marks};
+use cs_embeddings::{EmbeddingFault, without_embeddings};
 use cs_guard::guard;
 use cs_print::source_of;
 use cs_resolve::resolve_written;
@@ -39,7 +43,8 @@ pub fn widen(alloc: Global, sources: &[&[u8]]) -> Result<String, Fault>
 ///
 /// # Errors
 /// The first condition that the sources fail, as the clause `refused` says: their size and characters, then those that spell no file in
-/// the profile, the first mark of a default at fault, and then why what they stand for is no package, or isn't guarded. `OutOfMemory`.
+/// the profile, what is embedded and can't be, the first mark of a default at fault, and then why what they stand for is no package, or
+/// isn't guarded. `OutOfMemory`.
 pub fn widen_in(alloc: Global, profile: Profile, sources: &[&[u8]]) -> Result<String, Fault>
     ensures found { IfOk result (λ s. IsMeantIn profile (bytes_in sources.now) (string_bytes s)) }
     ensures refused { IfErr result (λ e. RefusalIn profile (bytes_in sources.now) e) }
@@ -47,9 +52,12 @@ pub fn widen_in(alloc: Global, profile: Profile, sources: &[&[u8]]) -> Result<St
         → IsAcceptedIn profile (bytes_in sources.now) E → IsOkUnless result Fault.OutOfMemory }
 {
     let spelled = spelled_files(alloc, profile, sources)?;
-    let meant = meant_files(alloc, &spelled)?;
+    let joined = joined_files(alloc, &spelled)?;
+    let meant = meant_files(alloc, &joined)?;
     cs_print::spelled_files_are_written(); // for the proof: what a source spells can be printed
     cs_print::printed_sources_are_read(); // for the proof: what is printed keeps the limits
+    cs_embeddings::joined_files_can_be_written(); // for the proof: what has no embeddings can be printed
+    cs_defaults::unmarked_files_are_no_higher(); // for the proof: what is printed keeps the limits
     cs_defaults::unmarked_files_have_default_forms(); // for the proof: what is meant can be printed
     cs_defaults::unmarked_files_can_be_written(); // for the proof: what is meant can be printed
     let source = source_of(alloc, &meant)?;
@@ -58,7 +66,29 @@ pub fn widen_in(alloc: Global, profile: Profile, sources: &[&[u8]]) -> Result<St
     Ok(source)
 }
 
-/// The files that files stand for.
+/// Files without embeddings.
+fn joined_files(alloc: Global, spelled: &[File]) -> Result<Vec<File>, Fault>
+    ensures found { IfOk result (λ v. IsJoined (map file_view spelled.now) (map file_view v.items)) }
+    ensures within { IfOk result (λ v. IsWithin (map file_view v.items)) }
+    ensures refused { IfErr result (λ e. (f : EmbeddingFault) × (e ≡ of_embedding f)
+        × embeddings.IsRefusal f (map file_view spelled.now)) }
+    ensures only { flaws_of_files (map file_view spelled.now) ≡ [] → clashes_of_files (map file_view spelled.now) ≡ []
+        → IsWithin (embeddings.joined_files (map file_view spelled.now)) → IsOkUnless result Fault.OutOfMemory }
+{
+    match without_embeddings(alloc, spelled) {
+        Ok(joined) => Ok(joined),
+        Err(EmbeddingFault::OutOfMemory) => Err(Fault::OutOfMemory),
+        Err(EmbeddingFault::UnknownName { file, offset }) => {
+            Err(Fault::UnknownName { file, offset })
+        }
+        Err(EmbeddingFault::NoStruct { file, offset }) => Err(Fault::NotOpened { file, offset }),
+        Err(EmbeddingFault::Reopened { file, offset }) => Err(Fault::NotOpened { file, offset }),
+        Err(EmbeddingFault::TooHigh { file }) => Err(Fault::TooHigh { file }),
+        Err(EmbeddingFault::TooLarge) => Err(Fault::TooLarge { definitions: 0 }),
+    }
+}
+
+/// Files without marks of defaults, that have no embeddings.
 fn meant_files(alloc: Global, spelled: &[File]) -> Result<Vec<File>, Fault>
     ensures found { IfOk result (λ v. IsUnmarked (map file_view spelled.now) (map file_view v.items)) }
     ensures refused { IfErr result (λ e. (f : DefaultFault) × (e ≡ of_mark f)

@@ -1,0 +1,107 @@
+-- What the checks of embeddings answer, and what the tables tell.
+use Rattle.std.specs.Prelude.{◌≡◌, ℕ, zero, suc, ◌+◌, ◌<◌, ◌≤◌, Bool, true, false, nat_le, List, [], ◌∷◌, map, length, Option, Some, None, Result, Ok, Err, slice_get}
+use Rattle.std.specs.List.{list_any, AllByRecursion}
+use Rattle.std.specs.Str.{bytes_eq}
+use Rattle.std.specs.declared.alloc.Global.{Global}
+use Rattle.std.specs.declared.vec.Vec.{Vec}
+use Rattle.std.specs.Borrow.{Bor}
+use Rattle.std.specs.BTreeMap.{BTreeMap, get_by}
+use Rattle.std.specs.Cmp.Lexicographic.{slice_cmp}
+use Rattle.std.specs.Ordering.{nat_cmp}
+use Rattle.cs_grammar.specs.declared.ast.Expr.{Expr}
+use Rattle.cs_grammar.specs.Height.{height}
+use Rattle.cs_grammar.specs.Tree.{Tree, reference, DefinitionTree, bodies, body}
+use Rattle.cs_grammar.specs.View.{expr_view}
+use Rattle.cs_embeddings.specs.Alternatives.{Alternative, most_steps}
+use Rattle.cs_embeddings.specs.Embedded.{can_be_embedded, embeds_well}
+use Rattle.cs_embeddings.specs.Flaws.{Flaw, unknown, no_struct, is_none}
+use Rattle.cs_embeddings.specs.Size.{size}
+use Rattle.cs_embeddings.specs.Views.{alternatives_view, IsTooMuch}
+use Rattle.cs_embeddings.specs.declared.found.Found.{Found}
+use Rattle.cs_embeddings.specs.declared.definitions.Bodies.{Bodies}
+use Rattle.cs_embeddings.specs.declared.embedded.Embeddable.{Embeddable}
+use Rattle.cs_embeddings.specs.declared.flaws.Flaw as seen
+use Rattle.cs_embeddings.specs.declared.flaws.Flaw.TheVariants as flaws
+use Rattle.cs_embeddings.specs.declared.flaws.Flaws.{Flaws}
+use Rattle.cs_embeddings.specs.declared.fault.EmbeddingFault.{EmbeddingFault}
+use Rattle.cs_embeddings.specs.declared.fault.EmbeddingFault.TheVariants.{OutOfMemory, UnknownName, NoStruct, Reopened, TooHigh, TooLarge}
+
+abbrev pub bodies_view : List (Bor Expr) → List Tree
+bodies_view es = map (λ e. expr_view e.now) es
+
+abbrev pub TellsEntry : Option (Vec (Bor Expr) Global) → List Tree → Type 0
+TellsEntry None es = es ≡ []
+TellsEntry (Some v) es = bodies_view v.items ≡ es
+
+-- the table has the bodies of each definition
+abbrev pub TellsTable : BTreeMap (Bor (List ℕ)) (Vec (Bor Expr) Global) → List DefinitionTree → Type 0
+TellsTable m ds = (s : List ℕ) → TellsEntry (get_by (λ k. slice_cmp nat_cmp s k.now) m) (bodies s ds)
+
+-- it has them, and the list has the name of each definition
+pub record TellsBodies (b : Bodies) (ds : List DefinitionTree) : Type 0 where
+  pub table : TellsTable b.by_name ds
+  pub none : b.none.items ≡ []
+  pub named : (s : List ℕ) → is_none (bodies s ds) ≡ false → list_any (λ t. bytes_eq s t.now) b.names.items ≡ true
+
+-- whether a definition can be embedded in so many steps, as the table tells it
+abbrev pub takes_by : Option ℕ → Bool → ℕ → Bool
+takes_by None undeclared zero = false
+takes_by None undeclared (suc n) = undeclared
+takes_by (Some least) undeclared n = nat_le least n
+
+abbrev pub takes : BTreeMap (Bor (List ℕ)) ℕ → List DefinitionTree → List ℕ → ℕ → Bool
+takes m ds s n = takes_by (get_by (λ k. slice_cmp nat_cmp s k.now) m) (is_none (bodies s ds)) n
+
+-- the table tells it of each definition, for at most so many steps
+abbrev pub TellsSteps : Embeddable → List DefinitionTree → ℕ → Type 0
+TellsSteps e ds most = (s : List ℕ) (o n : ℕ) → n ≤ most → takes e.steps ds s n ≡ can_be_embedded ds n (reference s o)
+
+-- ---- flaws
+
+-- Ok where nothing is found, or else the first that is found
+abbrev pub Finds : {Y E A : Type 0} → (E → A) → Result Y E → List A → Type 0
+Finds view (Ok y) found = found ≡ []
+Finds view (Err e) found = slice_get found 0 ≡ Some (view e)
+
+abbrev pub flaw_view : seen.Flaw → Flaw
+flaw_view (flaws.Unknown o) = unknown o
+flaw_view (flaws.NoStruct o) = no_struct o
+
+-- the tables of definitions tell these
+pub record TellsEmbeddable (f : Flaws) (ds : List DefinitionTree) : Type 0 where
+  pub bodies : TellsBodies f.bodies.now ds
+  pub steps : TellsSteps f.embeddable.now ds most_steps
+  pub same : TellsBodies f.embeddable.now.bodies.now ds
+
+-- ---- alternatives
+
+-- the alternatives that are answered are these, unless memory ran out or these are more than there is room for
+abbrev pub ReachesAll : Result Found EmbeddingFault → ℕ → List Alternative → Type 0
+ReachesAll (Ok f) room xs = alternatives_view f.alternatives.items ≡ xs
+ReachesAll (Err e) room xs = IsTooMuch e room xs
+
+-- ---- trees
+
+-- why a tree isn't made of an expression in a file: of what would be opened this is the first
+abbrev pub IsNoRoom : EmbeddingFault → ℕ → ℕ → ℕ → Tree → List ℕ → Type 0
+IsNoRoom OutOfMemory file levels nodes t clashes = Unit {0}
+IsNoRoom (Reopened f o) file levels nodes t clashes = (f ≡ file) × (slice_get clashes 0 ≡ Some o)
+IsNoRoom (TooHigh f) file levels nodes t clashes = (f ≡ file) × (levels < height t)
+IsNoRoom TooLarge file levels nodes t clashes = nodes < size t
+IsNoRoom (UnknownName f o) file levels nodes t clashes = ⊥
+IsNoRoom (NoStruct f o) file levels nodes t clashes = ⊥
+
+-- the tree t is made, it is no higher than it may be, it leaves so many of the nodes, and nothing would be opened; or there is a reason
+pub record IsMade (levels nodes rest : ℕ) (tree t : Tree) (clashes : List ℕ) : Type 0 where
+  pub made : tree ≡ t
+  pub low : height t ≤ levels
+  pub left : rest + size t ≡ nodes
+  pub apart : clashes ≡ []
+
+abbrev pub Makes : Result (Expr × ℕ) EmbeddingFault → ℕ → ℕ → ℕ → Tree → List ℕ → Type 0
+Makes (Ok x) file levels nodes t clashes = IsMade levels nodes x.1 (expr_view x.0) t clashes
+Makes (Err e) file levels nodes t clashes = IsNoRoom e file levels nodes t clashes
+
+-- each expression that the bodies embed can be embedded
+abbrev pub AreWell : List DefinitionTree → Type 0
+AreWell ds = AllByRecursion (λ d. embeds_well (can_be_embedded ds most_steps) (body d) ≡ true) ds

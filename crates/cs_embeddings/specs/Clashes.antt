@@ -1,0 +1,136 @@
+-- What an embedding would open (own rule): in a literal with embeddings a label has one value that holds a struct literal or a reference, or the
+-- same reference each time. CUE opens what is closed there.
+use Rattle.std.specs.Prelude.{ℕ, zero, suc, Bool, true, false, ◌&&◌, ◌||◌, not, List, [], ◌∷◌, ◌++◌, if◌then◌else◌, Option, Some, None}
+use Rattle.std.specs.List.{list_any, flat_map}
+use Rattle.std.specs.Str.{bytes_eq}
+use Rattle.cs_grammar.specs.declared.ast.FieldMark.{FieldMark}
+use Rattle.cs_grammar.specs.declared.ast.FieldMark.TheVariants.{Regular, Optional, Required, Every}
+use Rattle.cs_grammar.specs.Limits.{most_height}
+use Rattle.cs_grammar.specs.Tree.{Tree, atom, named, reference, conjunction, disjunction, paren, struct, list, wide, marked, merged, Declarations, no_declaration, declared, embedded, Trees, none, more, Fields, no_field, field, End, closed, any, each, DefinitionTree}
+use Rattle.cs_embeddings.specs.Alternatives.{Brought, Alternative, at, alternatives_of}
+
+-- where the first struct literal or reference of an expression is, at any depth; a value without one is plain
+abbrev pub or_else : Option ℕ → Option ℕ → Option ℕ
+or_else (Some o) behind = Some o
+or_else None behind = behind
+
+abbrev mutual
+  pub holds : Tree → Option ℕ
+  holds (atom a) = None
+  holds (named s o) = None
+  holds (reference s o) = Some o
+  holds (conjunction es) = hold es
+  holds (disjunction es) = hold es
+  holds (paren e) = holds e
+  holds (struct o fs b) = Some o
+  holds (list es end) = or_else (hold es) (end_holds end)
+  holds (wide (marked o e)) = holds e
+  holds (wide (merged o cs b)) = Some o
+
+  pub hold : Trees → Option ℕ
+  hold none = None
+  hold (more e es) = or_else (holds e) (hold es)
+
+  pub end_holds : End → Option ℕ
+  end_holds closed = None
+  end_holds any = None
+  end_holds (each e) = holds e
+
+abbrev pub is_some_place : Option ℕ → Bool
+is_some_place None = false
+is_some_place (Some o) = true
+
+abbrev pub is_plain : Brought → Bool
+is_plain d = not (is_some_place (holds d.value))
+
+abbrev pub is_every : FieldMark → Bool
+is_every Regular = false
+is_every Optional = false
+is_every Required = false
+is_every (Every o) = true
+
+-- both refer to one definition
+abbrev pub refers_to : List ℕ → Tree → Bool
+refers_to s (reference t o) = bytes_eq s t
+refers_to s (atom a) = false
+refers_to s (named t o) = false
+refers_to s (conjunction es) = false
+refers_to s (disjunction es) = false
+refers_to s (paren e) = false
+refers_to s (struct o fs b) = false
+refers_to s (list es end) = false
+refers_to s (wide w) = false
+
+abbrev pub is_same_reference : Tree → Tree → Bool
+is_same_reference (reference s o) f = refers_to s f
+is_same_reference (atom a) f = false
+is_same_reference (named t o) f = false
+is_same_reference (conjunction es) f = false
+is_same_reference (disjunction es) f = false
+is_same_reference (paren e) f = false
+is_same_reference (struct o fs b) f = false
+is_same_reference (list es end) f = false
+is_same_reference (wide w) f = false
+
+-- two declarations that aren't plain are of one label, and aren't the same reference; `[string]` is of every label
+abbrev pub differ : Brought → Brought → Bool
+differ c d = is_every c.mark || (is_every d.mark || (bytes_eq c.label.text d.label.text && not (is_same_reference c.value d.value)))
+
+-- the declarations that aren't plain
+abbrev pub held : List Brought → List Brought
+held [] = []
+held (d ∷ ds) = if is_plain d then held ds else d ∷ held ds
+
+-- where it is, or the place of the reference that brought it
+abbrev pub place_in : Option ℕ → Option ℕ → List ℕ
+place_in p None = []
+place_in p (Some o) = at p o ∷ []
+
+-- the declarations that differ from one before them
+abbrev pub clashes_behind : List Brought → List Brought → List ℕ
+clashes_behind before [] = []
+clashes_behind before (d ∷ ds) = (if list_any (λ c. differ c d) before then place_in d.place (holds d.value) else []) ++ clashes_behind (before ++ d ∷ []) ds
+
+abbrev pub clashes_in : Alternative → List ℕ
+clashes_in a = clashes_behind [] (held a.declarations)
+
+-- `value p e`: those in the value e of a declaration that a reference at p brought
+module _ (value : Option ℕ → Tree → List ℕ) where
+  abbrev pub clashes_of : Alternative → List ℕ
+  clashes_of a = clashes_in a ++ flat_map (λ d. value d.place d.value) a.declarations
+
+module _ (ds : List DefinitionTree) (value : Option ℕ → Tree → List ℕ) where
+  abbrev mutual
+    pub clashes_with : Option ℕ → Tree → List ℕ
+    clashes_with p (atom a) = []
+    clashes_with p (named s o) = []
+    clashes_with p (reference s o) = []
+    clashes_with p (conjunction es) = clashes_each p es
+    clashes_with p (disjunction es) = clashes_each p es
+    clashes_with p (paren e) = clashes_with p e
+    clashes_with p (struct o fs b) = clashes_fields p fs
+    clashes_with p (list es end) = clashes_each p es ++ clashes_end p end
+    clashes_with p (wide (marked o e)) = clashes_with p e
+    clashes_with p (wide (merged o cs b)) = flat_map (clashes_of value) (alternatives_of ds p cs b)
+
+    pub clashes_each : Option ℕ → Trees → List ℕ
+    clashes_each p none = []
+    clashes_each p (more e es) = clashes_with p e ++ clashes_each p es
+
+    pub clashes_fields : Option ℕ → Fields → List ℕ
+    clashes_fields p no_field = []
+    clashes_fields p (field l m e fs) = clashes_with p e ++ clashes_fields p fs
+
+    pub clashes_end : Option ℕ → End → List ℕ
+    clashes_end p closed = []
+    clashes_end p any = []
+    clashes_end p (each e) = clashes_with p e
+
+-- with so many literals with embeddings one inside of the other at most
+unfoldable pub clashes_value : List DefinitionTree → ℕ → Option ℕ → Tree → List ℕ
+clashes_value ds zero p e = []
+clashes_value ds (suc n) p e = clashes_with ds (clashes_value ds n) p e
+
+-- those of a body, as they are met where it is joined
+abbrev pub clashes : List DefinitionTree → Tree → List ℕ
+clashes ds e = clashes_value ds (suc most_height) None e

@@ -1,0 +1,81 @@
+-- What an expression stands for without embeddings: each literal with embeddings for the disjunction of its alternatives, or for its only one.
+-- What a reference brought has the place of that reference.
+use Rattle.std.specs.Prelude.{ℕ, zero, suc, Bool, true, false, List, [], ◌∷◌, map, Option, None}
+use Rattle.cs_grammar.specs.declared.ast.FieldMark.{FieldMark}
+use Rattle.cs_grammar.specs.declared.ast.FieldMark.TheVariants.{Regular, Optional, Required, Every}
+use Rattle.cs_grammar.specs.Limits.{most_height}
+use Rattle.cs_grammar.specs.Tree.{Tree, atom, bottom, named, reference, conjunction, disjunction, paren, struct, list, wide, marked, merged, Trees, none, more, Fields, no_field, field, End, closed, any, each, DefinitionTree, definition, FileTree, file, package_name, definitions}
+use Rattle.cs_embeddings.specs.Alternatives.{Brought, Alternative, at, alternatives_of}
+
+abbrev pub placed : Option ℕ → FieldMark → FieldMark
+placed p Regular = Regular
+placed p Optional = Optional
+placed p Required = Required
+placed p (Every o) = Every (at p o)
+
+-- a disjunction that is no whole value has parentheses
+abbrev pub parted : Bool → Trees → Tree
+parted true es = disjunction es
+parted false es = paren (disjunction es)
+
+-- `value p e`: what the value e of a declaration stands for, which a reference at p brought
+module _ (value : Option ℕ → Tree → Tree) where
+  abbrev pub fields_of_brought : List Brought → Fields
+  fields_of_brought [] = no_field
+  fields_of_brought (d ∷ ds) = field d.label (placed d.place d.mark) (value d.place d.value) (fields_of_brought ds)
+
+  abbrev pub literal_of : ℕ → Alternative → Tree
+  literal_of o a = struct o (fields_of_brought a.declarations) a.opened
+
+  abbrev pub literals_of : ℕ → List Alternative → Trees
+  literals_of o [] = none
+  literals_of o (a ∷ xs) = more (literal_of o a) (literals_of o xs)
+
+  -- `whole` says whether the literal is a whole value
+  abbrev pub one_of : Bool → ℕ → List Alternative → Tree
+  one_of whole o [] = atom bottom
+  one_of whole o (a ∷ []) = literal_of o a
+  one_of whole o (a ∷ b ∷ xs) = parted whole (literals_of o (a ∷ b ∷ xs))
+
+-- where declarations that embeddings brought have values that `value` joins
+module _ (ds : List DefinitionTree) (value : Option ℕ → Tree → Tree) where
+  abbrev mutual
+    pub joined_with : Bool → Option ℕ → Tree → Tree
+    joined_with whole p (atom a) = atom a
+    joined_with whole p (named s o) = named s (at p o)
+    joined_with whole p (reference s o) = reference s (at p o)
+    joined_with whole p (conjunction es) = conjunction (joined_each false p es)
+    joined_with whole p (disjunction es) = disjunction (joined_each false p es)
+    joined_with whole p (paren e) = paren (joined_with true p e)
+    joined_with whole p (struct o fs b) = struct (at p o) (joined_fields p fs) b
+    joined_with whole p (list es end) = list (joined_each true p es) (joined_end p end)
+    joined_with whole p (wide (marked o e)) = wide (marked (at p o) (joined_with false p e))
+    joined_with whole p (wide (merged o cs b)) = one_of value whole (at p o) (alternatives_of ds p cs b)
+
+    pub joined_each : Bool → Option ℕ → Trees → Trees
+    joined_each whole p none = none
+    joined_each whole p (more e es) = more (joined_with whole p e) (joined_each whole p es)
+
+    pub joined_fields : Option ℕ → Fields → Fields
+    joined_fields p no_field = no_field
+    joined_fields p (field l m e fs) = field l (placed p m) (joined_with true p e) (joined_fields p fs)
+
+    pub joined_end : Option ℕ → End → End
+    joined_end p closed = closed
+    joined_end p any = any
+    joined_end p (each e) = each (joined_with true p e)
+
+-- the same with so many literals with embeddings one inside of the other at most
+unfoldable pub joined_value : List DefinitionTree → ℕ → Option ℕ → Tree → Tree
+joined_value ds zero p e = atom bottom
+joined_value ds (suc n) p e = joined_with ds (joined_value ds n) true p e
+
+-- a body; one that has more literals inside one another is too high
+abbrev pub joined : List DefinitionTree → Tree → Tree
+joined ds e = joined_value ds (suc most_height) None e
+
+abbrev pub joined_definition : List DefinitionTree → DefinitionTree → DefinitionTree
+joined_definition ds (definition s o e) = definition s o (joined ds e)
+
+abbrev pub joined_file : List DefinitionTree → FileTree → FileTree
+joined_file ds f = file (package_name f) (map (joined_definition ds) (definitions f))

@@ -1,0 +1,11 @@
+-- Embeddings: what a literal with embeddings can be, which expressions can be embedded, and what files stand for without embeddings.
+pub mod Alternatives
+pub mod Embedded
+pub mod Joined
+pub mod Clashes
+pub mod Flaws
+pub mod Size
+pub mod Without
+-- for private contracts alone
+pub mod Views
+pub mod Checks

@@ -1,0 +1,146 @@
+// What of the embeddings is at fault.
+ghost use Rattle.std.specs.Prelude.{◌≡◌, List};
+ghost use Rattle.cs_grammar.specs.Tree.{DefinitionTree};
+ghost use Rattle.cs_grammar.specs.View.{expr_view, exprs_view, fields_view, declarations_view, end_view};
+ghost use Rattle.cs_embeddings.specs.Checks.{Finds, TellsEmbeddable, flaw_view};
+ghost use Rattle.cs_embeddings.specs.Flaws as Spec;
+
+use crate::definitions::Bodies;
+use crate::embedded::{Embeddable, MOST_STEPS};
+use cs_grammar::{Declaration, Expr, Field, ListEnd, Wide};
+
+/// What is at fault, with its offset.
+#[derive(Clone, Copy)]
+pub(crate) enum Flaw {
+    /// A definition that is embedded and not declared.
+    Unknown { at: usize },
+    /// What is embedded and can't be.
+    NoStruct { at: usize },
+}
+
+/// Looks for flaws.
+#[derive(Clone, Copy)]
+pub(crate) struct Flaws<'e, 'b, 'a> {
+    pub(crate) bodies: &'b Bodies<'a>,
+    pub(crate) embeddable: &'e Embeddable<'b, 'a>,
+}
+
+impl Flaws<'_, '_, '_> {
+    /// Looks for a flaw in an expression. `Err` has the first one.
+    #[cycle(flaws)]
+    pub(crate) fn check(&self, expr: &Expr) -> Result<(), Flaw>
+        ensures { (ds : List DefinitionTree) → TellsEmbeddable self.now ds
+            → Finds flaw_view result (Spec.flaws ds (expr_view expr.now)) }
+    {
+        match expr {
+            Expr::And(operands) | Expr::Or(operands) => self.check_each(operands),
+            Expr::Paren(inside) => self.check(inside),
+            Expr::Struct { fields, .. } => self.check_fields(fields),
+            Expr::List { front, end } => {
+                self.check_each(front)?;
+                self.check_end(end)
+            }
+            Expr::Wide(Wide::Marked { value, .. }) => self.check(value),
+            Expr::Wide(Wide::Merged { declarations, .. }) => self.check_declarations(declarations),
+            Expr::Top
+            | Expr::Bottom
+            | Expr::Null
+            | Expr::Bool(_)
+            | Expr::Int(_)
+            | Expr::Text(_)
+            | Expr::Name { .. }
+            | Expr::Reference { .. }
+            | Expr::Bound { .. }
+            | Expr::NotInt(_)
+            | Expr::NotText(_)
+            | Expr::NotNull => Ok(()),
+        }
+    }
+
+    #[cycle(flaws)]
+    fn check_each(&self, exprs: &[Expr]) -> Result<(), Flaw> {
+        for expr in exprs {
+            self.check(expr)?;
+        }
+        Ok(())
+    }
+
+    #[cycle(flaws)]
+    fn check_fields(&self, fields: &[Field]) -> Result<(), Flaw> {
+        for field in fields {
+            self.check(&field.value)?;
+        }
+        Ok(())
+    }
+
+    #[cycle(flaws)]
+    fn check_declarations(&self, declarations: &[Declaration]) -> Result<(), Flaw> {
+        for declaration in declarations {
+            match declaration {
+                Declaration::Field(field) => self.check(&field.value)?,
+                Declaration::Embedded { at, value } => {
+                    self.check_embedded(*at, value)?;
+                    self.check(value)?;
+                }
+            }
+        }
+        Ok(())
+    }
+
+    #[cycle(flaws)]
+    fn check_end(&self, end: &ListEnd) -> Result<(), Flaw> {
+        match end {
+            ListEnd::Closed | ListEnd::Any => Ok(()),
+            ListEnd::Each(each) => self.check(each),
+        }
+    }
+
+    /// Looks for what is at fault with an expression that is embedded at an offset.
+    fn check_embedded(&self, at: usize, expr: &Expr) -> Result<(), Flaw>
+        ensures { (ds : List DefinitionTree) → TellsEmbeddable self.now ds
+            → Finds flaw_view result (Spec.flaws_here ds at (expr_view expr.now)) }
+    {
+        self.check_names(expr)?;
+        if self.embeddable.can_embed(expr, MOST_STEPS) {
+            Ok(())
+        } else {
+            Err(Flaw::NoStruct { at })
+        }
+    }
+
+    /// Looks for a name that is embedded and not declared.
+    #[cycle(names)]
+    fn check_names(&self, expr: &Expr) -> Result<(), Flaw> {
+        match expr {
+            Expr::Reference { text, at } if self.bodies.of_name(text).is_empty() => {
+                Err(Flaw::Unknown { at: *at })
+            }
+            Expr::Paren(inside) => self.check_names(inside),
+            Expr::Or(operands) => self.check_names_of(operands),
+            Expr::Top
+            | Expr::Bottom
+            | Expr::Null
+            | Expr::Bool(_)
+            | Expr::Int(_)
+            | Expr::Text(_)
+            | Expr::Name { .. }
+            | Expr::Reference { .. }
+            | Expr::Bound { .. }
+            | Expr::NotInt(_)
+            | Expr::NotText(_)
+            | Expr::NotNull
+            | Expr::And(_)
+            | Expr::Struct { .. }
+            | Expr::List { .. }
+            | Expr::Wide(_) => Ok(()),
+        }
+    }
+
+    #[cycle(names)]
+    fn check_names_of(&self, exprs: &[Expr]) -> Result<(), Flaw> {
+        for expr in exprs {
+            self.check_names(expr)?;
+        }
+        Ok(())
+    }
+}

@@ -1,0 +1,197 @@
+// What a literal with embeddings can be.
+ghost use Rattle.std.specs.Prelude.{◌≡◌, ℕ, List, ◌++◌, map, true};
+ghost use Rattle.cs_grammar.specs.Tree.{DefinitionTree};
+ghost use Rattle.cs_grammar.specs.View.{expr_view, exprs_view, declarations_view};
+ghost use Rattle.cs_embeddings.specs.Alternatives as Spec;
+ghost use Rattle.cs_embeddings.specs.Checks.{TellsBodies, bodies_view, ReachesAll};
+ghost use Rattle.cs_embeddings.specs.Embedded.{can_be_embedded, declarations_embed_well};
+ghost use Rattle.cs_embeddings.specs.Views.{alternative_view, alternatives_view, Reaches};
+
+use crate::EmbeddingFault;
+use crate::alternatives::{Alternative, Brought};
+use crate::definitions::Bodies;
+use crate::embedded::MOST_STEPS;
+use crate::found::Found;
+use cs_grammar::{Declaration, Expr, Field, Wide};
+use std::alloc::Global;
+
+/// Puts literals together.
+#[derive(Clone, Copy)]
+pub(crate) struct Joining<'b, 'a> {
+    pub(crate) alloc: Global,
+    pub(crate) bodies: &'b Bodies<'a>,
+    /// How much the alternatives of one literal may be.
+    pub(crate) room: usize,
+}
+
+impl<'a> Joining<'_, 'a> {
+    /// What a literal with these declarations can be. `TooLarge` where that is more than there is room for.
+    pub(crate) fn alternatives_of(
+        self,
+        place: Option<usize>,
+        declarations: &'a [Declaration],
+        is_opened: bool,
+    ) -> Result<Found<'a>, EmbeddingFault>
+        ensures { (ds : List DefinitionTree) → TellsBodies self.entry.bodies.now ds
+            → declarations_embed_well (can_be_embedded ds Spec.most_steps) (declarations_view declarations.now) ≡ true
+            → ReachesAll result self.entry.room (Spec.alternatives_of ds place (declarations_view declarations.now) is_opened) }
+    {
+        let mut nothing = Alternative::nothing(self.alloc);
+        nothing.opened = is_opened;
+        self.join_declarations(MOST_STEPS, place, declarations, nothing)
+    }
+
+    /// Adds the alternatives of an expression, each joined to what is before it, to those that were found.
+    #[cycle(join)]
+    fn join(
+        self,
+        steps: usize,
+        place: Option<usize>,
+        expr: &'a Expr,
+        mut before: Alternative<'a>,
+        found: &mut Found<'a>,
+    ) -> Result<(), EmbeddingFault>
+        ensures { (ds : List DefinitionTree) → TellsBodies self.entry.bodies.now ds → can_be_embedded ds steps (expr_view expr.now) ≡ true
+            → Reaches result self.entry.room (alternatives_view found.old.alternatives.items
+            ++ Spec.alternatives ds steps place (expr_view expr.now) (alternative_view before.entry))
+            (alternatives_view found.new.alternatives.items) }
+    {
+        let Some(left) = steps.checked_sub(1) else {
+            return Ok(());
+        };
+        match expr {
+            Expr::Struct { fields, opened, .. } => {
+                before.add(place, fields)?;
+                before.opened |= *opened;
+                found.push(self.room, before)
+            }
+            Expr::Wide(
+                Wide::Merged {
+                    declarations,
+                    opened,
+                    ..
+                },
+            ) => {
+                before.opened |= *opened;
+                let joined = self.join_declarations(left, place, declarations, before)?;
+                found.append(self.room, joined)
+            }
+            Expr::Paren(inside) => self.join(left, place, inside, before, found),
+            Expr::Or(operands) => self.join_operands(left, place, operands, &before, found),
+            Expr::Reference { text, at } if before.meets(text) => found.push(self.room, before),
+            Expr::Reference { text, at } => {
+                let at = place.unwrap_or(*at);
+                let joined = self.join_definition(left, at, text, before)?;
+                found.append(self.room, joined)
+            }
+            Expr::Top
+            | Expr::Bottom
+            | Expr::Null
+            | Expr::Bool(_)
+            | Expr::Int(_)
+            | Expr::Text(_)
+            | Expr::Name { .. }
+            | Expr::Bound { .. }
+            | Expr::NotInt(_)
+            | Expr::NotText(_)
+            | Expr::NotNull
+            | Expr::And(_)
+            | Expr::List { .. }
+            | Expr::Wide(Wide::Marked { .. }) => Ok(()),
+        }
+    }
+
+    /// The alternatives of an expression, each joined to each of those before it.
+    #[cycle(join)]
+    fn join_each(
+        self,
+        steps: usize,
+        place: Option<usize>,
+        expr: &'a Expr,
+        before: Found<'a>,
+    ) -> Result<Found<'a>, EmbeddingFault> {
+        let mut found = Found::nothing(self.alloc);
+        for alternative in before.alternatives {
+            self.join(steps, place, expr, alternative, &mut found)?;
+        }
+        Ok(found)
+    }
+
+    /// Declarations one behind the other.
+    #[cycle(join)]
+    fn join_declarations(
+        self,
+        steps: usize,
+        place: Option<usize>,
+        declarations: &'a [Declaration],
+        before: Alternative<'a>,
+    ) -> Result<Found<'a>, EmbeddingFault> {
+        let mut found = Found::nothing(self.alloc);
+        found.push(self.room, before)?;
+        for declaration in declarations {
+            found = match declaration {
+                Declaration::Field(field) => self.join_field(place, field, found)?,
+                Declaration::Embedded { value, .. } => self.join_each(steps, place, value, found)?,
+            };
+        }
+        Ok(found)
+    }
+
+    /// A field behind each of those before it.
+    fn join_field(
+        self,
+        place: Option<usize>,
+        field: &'a Field,
+        before: Found<'a>,
+    ) -> Result<Found<'a>, EmbeddingFault> {
+        let mut found = Found::nothing(self.alloc);
+        for mut alternative in before.alternatives {
+            alternative.declarations.push(Brought { field, place })?;
+            found.push(self.room, alternative)?;
+        }
+        Ok(found)
+    }
+
+    /// The bodies of a definition one behind the other, behind what is before them.
+    #[cycle(join)]
+    fn join_definition(
+        self,
+        steps: usize,
+        at: usize,
+        name: &'a str,
+        before: Alternative<'a>,
+    ) -> Result<Found<'a>, EmbeddingFault> {
+        let mut found = Found::nothing(self.alloc);
+        found.push(self.room, before)?;
+        for body in self.bodies.of_name(name) {
+            found = self.join_each(steps, Some(at), *body, found)?;
+        }
+        self.meet(name, found)
+    }
+
+    /// Those before it, which embed the definition of that name.
+    fn meet(self, name: &'a str, before: Found<'a>) -> Result<Found<'a>, EmbeddingFault> {
+        let mut found = Found::nothing(self.alloc);
+        for mut alternative in before.alternatives {
+            alternative.met.push(name)?;
+            found.push(self.room, alternative)?;
+        }
+        Ok(found)
+    }
+
+    /// Adds the alternatives of one operand or the other.
+    #[cycle(join)]
+    fn join_operands(
+        self,
+        steps: usize,
+        place: Option<usize>,
+        operands: &'a [Expr],
+        before: &Alternative<'a>,
+        found: &mut Found<'a>,
+    ) -> Result<(), EmbeddingFault> {
+        for operand in operands {
+            self.join(steps, place, operand, before.copy(self.alloc)?, found)?;
+        }
+        Ok(())
+    }
+}

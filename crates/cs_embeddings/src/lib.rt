@@ -1,0 +1,19 @@
+// Files without embeddings: which expressions can be embedded, what a literal with embeddings can be, and what the files stand for.
+#![tactic(auto)]
+
+mod alternatives;
+mod clashes;
+mod definitions;
+mod embedded;
+mod fault;
+mod files;
+mod flaws;
+mod found;
+mod joined;
+mod joining;
+mod laws;
+
+pub use cs_grammar::File;
+pub use fault::EmbeddingFault;
+pub use files::without_embeddings;
+pub use laws::{default_files_have_no_embeddings, joined_files_can_be_written};

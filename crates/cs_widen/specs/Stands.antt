@@ -1,0 +1,16 @@
+-- Which files files of the wide profile stand for: first they have no embeddings, and then no marks of defaults. Files without forms of the wide
+-- profile stand for themselves.
+use Rattle.std.specs.Prelude.{◌≤◌, List}
+use Rattle.std.specs.List.{flat_map}
+use Rattle.cs_grammar.specs.Height.{height_definitions}
+use Rattle.cs_grammar.specs.Limits.{most_height}
+use Rattle.cs_grammar.specs.Tree.{FileTree, definitions}
+use Rattle.cs_defaults.specs.Widened.{IsUnmarked}
+use Rattle.cs_embeddings.specs.Without.{IsJoined}
+
+-- the files gs are what the files fs stand for, and no body is too high with what it embeds
+pub record AreMeant (fs gs : List FileTree) : Type 0 where
+  pub joined : List FileTree
+  pub are_joined : IsJoined fs joined
+  pub low : height_definitions (flat_map definitions joined) ≤ most_height
+  pub unmarked : IsUnmarked joined gs
