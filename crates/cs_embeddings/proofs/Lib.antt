@@ -1,0 +1,2 @@
+-- what can be embedded in so many steps can be embedded in more
+pub mod Monotone
