@@ -3,3 +3,4 @@ pub mod Monotone
 -- what alternatives are, and how much they are
 pub mod Weights
 pub mod Left
+pub mod Joins
