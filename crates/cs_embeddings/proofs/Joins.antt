@@ -77,21 +77,18 @@ module _ (ds : List DefinitionTree) where
     unfolding can_be_embedded alternatives step stands
     at_disjunction e es is h = ((and_parts (has_operand es) (all_embedded (can_be_embedded ds left) es) (step e (disjunction es) is h)).1, stands e (disjunction es) is)
 
-    at_reference : (e : Tree) (s : List ℕ) (o : ℕ) → e ≡ reference s o → can_be_embedded ds n e ≡ true → (list_all (can_be_embedded ds left) (bodies s ds) ≡ true) × (alternatives ds n p e a ≡ join_definition (alternatives ds left) s (at p o) (bodies s ds) a)
+    pub at_reference : (e : Tree) (s : List ℕ) (o : ℕ) → e ≡ reference s o → can_be_embedded ds n e ≡ true → (list_all (can_be_embedded ds left) (bodies s ds) ≡ true) × (alternatives ds n p e a ≡ join_definition (alternatives ds left) s (at p o) (bodies s ds) a)
     unfolding can_be_embedded alternatives step stands
     at_reference e s o is h = (step e (reference s o) is h, stands e (reference s o) is)
 
-    -- a definition that stands there already
-    pub at_met : (e : Tree) (s : List ℕ) (o : ℕ) → e ≡ reference s o → can_be_embedded ds n e ≡ true → meets s a ≡ true → alternatives ds n p e a ≡ a ∷ []
-    unfolding at_reference
-    at_met e s o is h met =
-        (at_reference e s o is h).1 ∙ cond-true (meets s a) (a ∷ []) (map (meet s) (join_bodies (alternatives ds left) (Some (at p o)) (bodies s ds) (a ∷ []))) met
+-- ---- a definition, which stands there already or not
 
-    pub at_unmet : (e : Tree) (s : List ℕ) (o : ℕ) → e ≡ reference s o → can_be_embedded ds n e ≡ true → meets s a ≡ false → (list_all (can_be_embedded ds left) (bodies s ds) ≡ true) × (alternatives ds n p e a ≡ map (meet s) (join_bodies (alternatives ds left) (Some (at p o)) (bodies s ds) (a ∷ [])))
-    unfolding at_reference
-    at_unmet e s o is h unmet =
-        let r = at_reference e s o is h in
-        (r.0, r.1 ∙ cond-false (meets s a) (a ∷ []) (map (meet s) (join_bodies (alternatives ds left) (Some (at p o)) (bodies s ds) (a ∷ []))) unmet)
+module _ (inner : Option ℕ → Tree → Alternative → List Alternative) (s : List ℕ) (o : ℕ) (es : List Tree) (a : Alternative) where
+  pub met_alone : meets s a ≡ true → join_definition inner s o es a ≡ a ∷ []
+  met_alone met = cond-true (meets s a) (a ∷ []) (map (meet s) (join_bodies inner (Some o) es (a ∷ []))) met
+
+  pub unmet_bodies : meets s a ≡ false → join_definition inner s o es a ≡ map (meet s) (join_bodies inner (Some o) es (a ∷ []))
+  unmet_bodies unmet = cond-false (meets s a) (a ∷ []) (map (meet s) (join_bodies inner (Some o) es (a ∷ []))) unmet
 
 -- ---- one after another
 

@@ -79,11 +79,8 @@ impl<'a> Joining<'_, 'a> {
             }
             Expr::Paren(inside) => self.join(left, place, inside, before, found),
             Expr::Or(operands) => self.join_operands(left, place, operands, &before, found),
-            Expr::Reference { text, at } if before.meets(text) => found.push(self.room, before),
             Expr::Reference { text, at } => {
-                let at = place.unwrap_or(*at);
-                let joined = self.join_definition(left, at, text, before)?;
-                found.append(self.room, joined)
+                self.join_definition(left, place.unwrap_or(*at), text, before, found)
             }
             Expr::Top
             | Expr::Bottom
@@ -164,9 +161,31 @@ impl<'a> Joining<'_, 'a> {
         Ok(found)
     }
 
-    /// The bodies of a definition one behind the other, behind what is before them.
+    /// Adds the alternatives of the definition of that name; what is before it alone where the definition is embedded already.
     #[cycle(join)]
     fn join_definition(
+        self,
+        steps: usize,
+        at: usize,
+        name: &'a str,
+        before: Alternative<'a>,
+        found: &mut Found<'a>,
+    ) -> Result<(), EmbeddingFault>
+        ensures { (ds : List DefinitionTree) → TellsBodies self.entry.bodies.now ds → list_all (can_be_embedded ds steps) (bodies name.now ds) ≡ true
+            → Reaches result self.entry.room (alternatives_view found.old.alternatives.items
+            ++ Spec.join_definition (Spec.alternatives ds steps) name.now at (bodies name.now ds) (alternative_view before.entry))
+            (alternatives_view found.new.alternatives.items) }
+    {
+        if before.meets(name) {
+            return found.push(self.room, before);
+        }
+        let joined = self.join_bodies(steps, at, name, before)?;
+        found.append(self.room, joined)
+    }
+
+    /// The bodies of a definition one behind the other, behind what is before them.
+    #[cycle(join)]
+    fn join_bodies(
         self,
         steps: usize,
         at: usize,

@@ -2,7 +2,7 @@ use Rattle.std.proofs.Common.{rules, ◌≡◌, ℕ, suc, ◌+◌, ◌∷◌, []
 use Rattle.std.specs.List.{flat_map, list_all}
 use Rattle.std.specs.Vec.Iter.{into_iter_items}
 use Rattle.std.proofs.lemmas.Result.{err_from_is_err_and}
-use Rattle.cs_grammar.specs.Tree.{disjunction, paren, wide, merged, bodies}
+use Rattle.cs_grammar.specs.Tree.{reference, disjunction, paren, wide, merged, bodies}
 use Rattle.cs_grammar.specs.View.{expr_view, exprs_view, fields_view, field_view, wide_view, declarations_view}
 use Rattle.cs_grammar.specs.declared.ast.Expr as Exprs
 use Rattle.cs_grammar.proofs.Views.{view-Struct, view-Wide, view-Merged, view-Paren, view-Or, view-Reference}
@@ -11,7 +11,7 @@ use Rattle.cs_embeddings.specs.Checks.{ReachesAll, bodies_view}
 use Rattle.cs_embeddings.specs.Embedded.{can_be_embedded}
 use Rattle.cs_embeddings.specs.Views.{alternative_view, alternatives_view, with_field, Reaches, IsTooMuch}
 use Rattle.cs_embeddings.specs.declared.found.Found.{Found}
-use Rattle.cs_embeddings.proofs.Joins.{is_put_together, no_steps, no_form, at_struct, at_merged, at_paren, at_disjunction, at_met, at_unmet, field_step, embedded_step, body_step, operand_step, too_much_of_right, declarations_too_much, bodies_too_much}
+use Rattle.cs_embeddings.proofs.Joins.{is_put_together, no_steps, no_form, at_struct, at_merged, at_paren, at_disjunction, at_reference, met_alone, unmet_bodies, field_step, embedded_step, body_step, operand_step, too_much_of_right, declarations_too_much, bodies_too_much}
 use Rattle.cs_embeddings.proofs.Left.{too_much_here}
 use Rattle.cs_embeddings.proofs.Weights.{alternatives_grow}
 use Rattle.cs_embeddings.proofs.joining.Joining.+join.Goals as goal
@@ -27,22 +27,22 @@ join-returns-in_default t c ds tells can =
 
 pub join-returns-in-Top : goal.join-returns-in-Top
 join-returns-in-Top t c ds tells can =
-    let no : is_put_together (expr_view c.args.expr.now) ≡ false = elim c.in-Top-1.branch
-        [ join-in-Wide+in-Marked-1 w ↦ search (rules, Exprs.the_lemmas)
-        | join-in-Top-1 w ↦ search (rules, Exprs.the_lemmas)
-        | join-in-Bottom-1 w ↦ search (rules, Exprs.the_lemmas)
-        | join-in-Null-1 w ↦ search (rules, Exprs.the_lemmas)
-        | join-in-Bool-1 w ↦ search (rules, Exprs.the_lemmas)
-        | join-in-Int-1 w ↦ search (rules, Exprs.the_lemmas)
-        | join-in-Text-1 w ↦ search (rules, Exprs.the_lemmas)
-        | join-in-Name-1 w ↦ search (rules, Exprs.the_lemmas)
-        | join-in-Bound-1 w ↦ search (rules, Exprs.the_lemmas)
-        | join-in-NotInt-1 w ↦ search (rules, Exprs.the_lemmas)
-        | join-in-NotText-1 w ↦ search (rules, Exprs.the_lemmas)
-        | join-in-NotNull-1 w ↦ search (rules, Exprs.the_lemmas)
-        | join-in-And-1 w ↦ search (rules, Exprs.the_lemmas)
-        | join-in-List-1 w ↦ search (rules, Exprs.the_lemmas)
-        ] in
+    let no : is_put_together (expr_view c.args.expr.now) ≡ false = elim c.in-Top-1.branch [
+      | join-in-Wide+in-Marked-1 w ↦ search (rules, Exprs.the_lemmas)
+      | join-in-Top-1 w ↦ search (rules, Exprs.the_lemmas)
+      | join-in-Bottom-1 w ↦ search (rules, Exprs.the_lemmas)
+      | join-in-Null-1 w ↦ search (rules, Exprs.the_lemmas)
+      | join-in-Bool-1 w ↦ search (rules, Exprs.the_lemmas)
+      | join-in-Int-1 w ↦ search (rules, Exprs.the_lemmas)
+      | join-in-Text-1 w ↦ search (rules, Exprs.the_lemmas)
+      | join-in-Name-1 w ↦ search (rules, Exprs.the_lemmas)
+      | join-in-Bound-1 w ↦ search (rules, Exprs.the_lemmas)
+      | join-in-NotInt-1 w ↦ search (rules, Exprs.the_lemmas)
+      | join-in-NotText-1 w ↦ search (rules, Exprs.the_lemmas)
+      | join-in-NotNull-1 w ↦ search (rules, Exprs.the_lemmas)
+      | join-in-And-1 w ↦ search (rules, Exprs.the_lemmas)
+      | join-in-List-1 w ↦ search (rules, Exprs.the_lemmas)
+    ] in
     absurd (no_form ds c.args.steps (expr_view c.args.expr.now) no can)
 
 pub join-returns-in_ok-add-in-Struct : goal.join-returns-in_ok-add-in-Struct
@@ -108,48 +108,45 @@ join-returns-in-Reference t c ds tells can =
     let one : c.args.steps ≡ suc c.in-Some.left = omega (arith, c.in-Some.ensures) in
     let a = alternative_view c.args.before in
     let x = c.in-Reference in
-    let s = string_bytes x.text in
-    let is = ap expr_view x.is ∙ view-Reference x.text x.at in
-    let met : Spec.meets s a ≡ true = cc in
-    let here = at_met ds c.args.steps c.in-Some.left c.args.place a one (expr_view c.args.expr.now) s x.at is can met in
-    subst (λ xs. Reaches c.push-in-Reference.result c.args.self.room (alternatives_view c.args.found.now.alternatives.items ++ xs) (alternatives_view c.push-in-Reference.new.self.alternatives.items)) (sym here) c.push-in-Reference.ensures
+    let s = c.deref-in-Reference.result.now in
+    let read = ap (λ t. reference t x.at) (sym c.deref-in-Reference.ensures) in
+    let is = ap expr_view x.is ∙ view-Reference x.text x.at ∙ read in
+    let here = at_reference ds c.args.steps c.in-Some.left c.args.place a one (expr_view c.args.expr.now) s x.at is can in
+    let placed : Spec.at c.args.place x.at ≡ c.unwrap_or.result = sym c.unwrap_or.ensures in
+    let made = here.1 ∙ ap (λ o. Spec.join_definition (Spec.alternatives ds c.in-Some.left) s o (bodies s ds) a) placed in
+    subst (λ xs. Reaches c.join_definition.result c.args.self.room (alternatives_view c.args.found.now.alternatives.items ++ xs) (alternatives_view c.join_definition.new.found.alternatives.items)) (sym made) (c.join_definition.ensures ds tells here.0)
 
-pub join-returns-in_err-joined-in-Reference-2 : goal.join-returns-in_err-joined-in-Reference-2
-join-returns-in_err-joined-in-Reference-2 t c ds tells can =
-    let p = err_from_is_err_and c.from_residual-in_err-joined-in-Reference-2.result c.from_residual-in_err-joined-in-Reference-2.ensures.1 in
-    let e = c.in_err-joined-in-Reference-2.field-0.0 in
-    let one : c.args.steps ≡ suc c.in-Some.left = omega (arith, c.in-Some.ensures) in
+-- ---- a definition
+
+pub join_definition-returns-then-meets : goal.join_definition-returns-then-meets
+join_definition-returns-then-meets t c ds tells well =
+    let inner = Spec.alternatives ds c.args.steps in
+    let s = c.args.name.now in
     let a = alternative_view c.args.before in
-    let x = c.in-Reference-2 in
-    let s = string_bytes x.text in
-    let is = ap expr_view x.is ∙ view-Reference x.text x.at in
-    let unmet : Spec.meets s a ≡ false = cc in
-    let here = at_unmet ds c.args.steps c.in-Some.left c.args.place a one (expr_view c.args.expr.now) s x.at is can unmet in
-    let inner = Spec.alternatives ds c.in-Some.left in
-    let read : s ≡ c.deref-in-Reference-2.result.now = cc in
-    let placed : Spec.at c.args.place x.at ≡ c.unwrap_or-at.result = cc in
-    let well = subst (λ n. list_all (can_be_embedded ds c.in-Some.left) (bodies n ds) ≡ true) read here.0 in
-    let same = sym (here.1 ∙ ap₂ (λ n o. map (Spec.meet n) (Spec.join_bodies inner (Some o) (bodies n ds) (a ∷ []))) read placed) in
     let found = alternatives_view c.args.found.now.alternatives.items in
-    let all = Spec.alternatives ds c.args.steps c.args.place (expr_view c.args.expr.now) a in
-    rw (p.1, p.2) (too_much_of_right e c.args.self.room found all (subst (IsTooMuch e c.args.self.room) same (c.in_err-joined-in-Reference-2.ensures ds tells well)))
+    let alone = met_alone inner s c.args.at (bodies s ds) a (sym c.if-meets.ensures) in
+    subst (λ xs. Reaches c.push.result c.args.self.room (found ++ xs) (alternatives_view c.push.new.self.alternatives.items)) (sym alone) c.push.ensures
 
-pub join-returns-in_ok-joined-in-Reference-2 : goal.join-returns-in_ok-joined-in-Reference-2
-join-returns-in_ok-joined-in-Reference-2 t c ds tells can =
-    let one : c.args.steps ≡ suc c.in-Some.left = omega (arith, c.in-Some.ensures) in
+pub join_definition-returns-in_err-joined : goal.join_definition-returns-in_err-joined
+join_definition-returns-in_err-joined t c ds tells well =
+    let p = err_from_is_err_and c.from_residual.result c.from_residual.ensures.1 in
+    let e = c.in_err-joined.field-0.0 in
+    let inner = Spec.alternatives ds c.args.steps in
+    let s = c.args.name.now in
     let a = alternative_view c.args.before in
-    let x = c.in-Reference-2 in
-    let s = string_bytes x.text in
-    let is = ap expr_view x.is ∙ view-Reference x.text x.at in
-    let unmet : Spec.meets s a ≡ false = cc in
-    let here = at_unmet ds c.args.steps c.in-Some.left c.args.place a one (expr_view c.args.expr.now) s x.at is can unmet in
-    let inner = Spec.alternatives ds c.in-Some.left in
-    let read : s ≡ c.deref-in-Reference-2.result.now = cc in
-    let placed : Spec.at c.args.place x.at ≡ c.unwrap_or-at.result = cc in
-    let well = subst (λ n. list_all (can_be_embedded ds c.in-Some.left) (bodies n ds) ≡ true) read here.0 in
-    let same = sym (here.1 ∙ ap₂ (λ n o. map (Spec.meet n) (Spec.join_bodies inner (Some o) (bodies n ds) (a ∷ []))) read placed) in
-    let all = c.in_ok-joined-in-Reference-2.ensures ds tells well ∙ same in
-    subst (λ xs. Reaches c.append-in-Reference-2.result c.args.self.room (alternatives_view c.args.found.now.alternatives.items ++ xs) (alternatives_view c.append-in-Reference-2.new.self.alternatives.items)) all c.append-in-Reference-2.ensures
+    let found = alternatives_view c.args.found.now.alternatives.items in
+    let joined = unmet_bodies inner s c.args.at (bodies s ds) a (sym c.if-meets.ensures) in
+    let all = Spec.join_definition inner s c.args.at (bodies s ds) a in
+    rw (p.1, p.2) (too_much_of_right e c.args.self.room found all (subst (IsTooMuch e c.args.self.room) (sym joined) (c.in_err-joined.ensures ds tells well)))
+
+pub join_definition-returns : goal.join_definition-returns
+join_definition-returns t c ds tells well =
+    let inner = Spec.alternatives ds c.args.steps in
+    let s = c.args.name.now in
+    let a = alternative_view c.args.before in
+    let found = alternatives_view c.args.found.now.alternatives.items in
+    let joined = c.in_ok-joined.ensures ds tells well ∙ sym (unmet_bodies inner s c.args.at (bodies s ds) a (sym c.if-meets.ensures)) in
+    subst (λ xs. Reaches c.append.result c.args.self.room (found ++ xs) (alternatives_view c.append.new.self.alternatives.items)) joined c.append.ensures
 
 -- ---- each of those before it
 
@@ -217,30 +214,30 @@ join_declarations-loop-declaration-preserved t c ds tells well =
     let all = Spec.join_declarations inner c.args.place (declarations_view cs) (alternative_view c.args.before ∷ []) in
     let before = c.loop-declaration.invariant ds tells well in
     let rest = declarations_view (drop (i + 1) cs) in
-    elim c.match-declaration.branch
-        [ join_declarations-in-Field+in_ok-found-in-Field w ↦
-            let s = field_step can inner c.args.place cs i d c.loop-declaration-test.true c.declaration-item.is found all before.0 before.1 w.in-Field.field w.in-Field.is in
-            let made = ap (λ (f : Found). alternatives_view f.alternatives.items) w.found-is ∙ w.in_ok-found-in-Field.ensures in
-            (s.0, ap (Spec.join_declarations inner c.args.place rest) made ∙ s.1)
-        | join_declarations-in-Embedded+in_ok-found-in-Embedded w ↦
-            let x = w.in-Embedded in
-            let s = embedded_step can inner c.args.place cs i d c.loop-declaration-test.true c.declaration-item.is found all before.0 before.1 x.at x.value x.is in
-            let made = ap (λ (f : Found). alternatives_view f.alternatives.items) w.found-is ∙ w.in_ok-found-in-Embedded.ensures ds tells s.0 in
-            (s.1, ap (Spec.join_declarations inner c.args.place rest) made ∙ s.2)
-        ]
+    elim c.match-declaration.branch [
+      | join_declarations-in-Field+in_ok-found-in-Field w ↦
+          let s = field_step can inner c.args.place cs i d c.loop-declaration-test.true c.declaration-item.is found all before.0 before.1 w.in-Field.field w.in-Field.is in
+          let made = ap (λ (f : Found). alternatives_view f.alternatives.items) w.found-is ∙ w.in_ok-found-in-Field.ensures in
+          (s.0, ap (Spec.join_declarations inner c.args.place rest) made ∙ s.1)
+      | join_declarations-in-Embedded+in_ok-found-in-Embedded w ↦
+          let x = w.in-Embedded in
+          let s = embedded_step can inner c.args.place cs i d c.loop-declaration-test.true c.declaration-item.is found all before.0 before.1 x.at x.value x.is in
+          let made = ap (λ (f : Found). alternatives_view f.alternatives.items) w.found-is ∙ w.in_ok-found-in-Embedded.ensures ds tells s.0 in
+          (s.1, ap (Spec.join_declarations inner c.args.place rest) made ∙ s.2)
+    ]
 
 -- ---- the bodies of a definition
 
-pub join_definition-returns-in_err-push : goal.join_definition-returns-in_err-push
-join_definition-returns-in_err-push t c ds tells well =
+pub join_bodies-returns-in_err-push : goal.join_bodies-returns-in_err-push
+join_bodies-returns-in_err-push t c ds tells well =
     let p = err_from_is_err_and c.from_residual.result c.from_residual.ensures.1 in
     let e = c.in_err-push.field-0.0 in
     let a = alternative_view c.args.before in
     let here = subst (λ xs. IsTooMuch e c.args.self.room (xs ++ a ∷ [])) c.nothing-found.ensures c.in_err-push.ensures in
     rw (p.1, p.2) (bodies_too_much (can_be_embedded ds c.args.steps) (Spec.alternatives ds c.args.steps) (alternatives_grow ds c.args.steps) (Some c.args.at) e c.args.self.room (a ∷ []) _ c.args.name.now (bodies c.args.name.now ds) well refl here)
 
-pub join_definition-returns-in_err-found : goal.join_definition-returns-in_err-found
-join_definition-returns-in_err-found t c ds tells well =
+pub join_bodies-returns-in_err-found : goal.join_bodies-returns-in_err-found
+join_bodies-returns-in_err-found t c ds tells well =
     let p = err_from_is_err_and c.from_residual-in_err-found.result c.from_residual-in_err-found.ensures.1 in
     let e = c.in_err-found.field-0.0 in
     let can = can_be_embedded ds c.args.steps in

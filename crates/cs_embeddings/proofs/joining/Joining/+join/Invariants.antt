@@ -10,19 +10,22 @@ use Rattle.cs_embeddings.specs.Views.{alternative_view, alternatives_view}
 use Rattle.cs_embeddings.proofs.joining.Joining.+join.Given as goal
 
 abbrev pub decreases-join : goal.decreases-join
-decreases-join l = 3 * l.steps
+decreases-join l = 4 * l.steps
 
 abbrev pub decreases-join_declarations : goal.decreases-join_declarations
-decreases-join_declarations l = 3 * l.steps + 2
+decreases-join_declarations l = 4 * l.steps + 2
 
 abbrev pub decreases-join_definition : goal.decreases-join_definition
-decreases-join_definition l = 3 * l.steps + 2
+decreases-join_definition l = 4 * l.steps + 3
+
+abbrev pub decreases-join_bodies : goal.decreases-join_bodies
+decreases-join_bodies l = 4 * l.steps + 2
 
 abbrev pub decreases-join_each : goal.decreases-join_each
-decreases-join_each l = 3 * l.steps + 1
+decreases-join_each l = 4 * l.steps + 1
 
 abbrev pub decreases-join_operands : goal.decreases-join_operands
-decreases-join_operands l = 3 * l.steps + 1
+decreases-join_operands l = 4 * l.steps + 1
 
 abbrev pub invariant-join_declarations-loop-declaration : goal.invariant-join_declarations-loop-declaration
 invariant-join_declarations-loop-declaration l =
@@ -32,8 +35,8 @@ invariant-join_declarations-loop-declaration l =
     × (Spec.join_declarations (Spec.alternatives ds l.steps) l.place (declarations_view (drop l.declaration-index l.declarations)) (alternatives_view l.found.alternatives.items)
     ≡ Spec.join_declarations (Spec.alternatives ds l.steps) l.place (declarations_view l.declarations) (alternative_view l.fn.before ∷ []))
 
-abbrev pub invariant-join_definition-loop-body : goal.invariant-join_definition-loop-body
-invariant-join_definition-loop-body l =
+abbrev pub invariant-join_bodies-loop-body : goal.invariant-join_bodies-loop-body
+invariant-join_bodies-loop-body l =
     (ds : List DefinitionTree) → TellsBodies l.self.bodies.now ds
     → list_all (can_be_embedded ds l.steps) (bodies l.name ds) ≡ true
     → (list_all (can_be_embedded ds l.steps) (bodies_view (drop l.body-index l.body-items)) ≡ true)
