@@ -62,23 +62,31 @@ module _ (ds : List DefinitionTree) where
     stands e f is = ap₂ (λ m g. alternatives ds m p g a) one is
 
     pub at_struct : (e : Tree) (o : ℕ) (fs : Fields) (b : Bool) → e ≡ struct o fs b → alternatives ds n p e a ≡ opened_if b (with_fields p fs a) ∷ []
-    unfolding alternatives stands
+    unfolding alternatives
     at_struct e o fs b is = stands e (struct o fs b) is
 
-    pub at_merged : (e : Tree) (o : ℕ) (cs : Declarations) (b : Bool) → e ≡ wide (merged o cs b) → can_be_embedded ds n e ≡ true → (declarations_embed_well (can_be_embedded ds left) cs ≡ true) × (alternatives ds n p e a ≡ join_declarations (alternatives ds left) p cs (opened_if b a ∷ []))
-    unfolding can_be_embedded alternatives step stands
+    pub at_merged : (e : Tree) (o : ℕ) (cs : Declarations) (b : Bool) → e ≡ wide (merged o cs b) → can_be_embedded ds n e ≡ true
+        → (declarations_embed_well (can_be_embedded ds left) cs ≡ true)
+        × (alternatives ds n p e a ≡ join_declarations (alternatives ds left) p cs (opened_if b a ∷ []))
+    unfolding can_be_embedded alternatives
     at_merged e o cs b is h = (step e (wide (merged o cs b)) is h, stands e (wide (merged o cs b)) is)
 
-    pub at_paren : (e f : Tree) → e ≡ paren f → can_be_embedded ds n e ≡ true → (can_be_embedded ds left f ≡ true) × (alternatives ds n p e a ≡ alternatives ds left p f a)
-    unfolding can_be_embedded alternatives step stands
+    pub at_paren : (e f : Tree) → e ≡ paren f → can_be_embedded ds n e ≡ true
+        → (can_be_embedded ds left f ≡ true) × (alternatives ds n p e a ≡ alternatives ds left p f a)
+    unfolding can_be_embedded alternatives
     at_paren e f is h = (step e (paren f) is h, stands e (paren f) is)
 
-    pub at_disjunction : (e : Tree) (es : Trees) → e ≡ disjunction es → can_be_embedded ds n e ≡ true → (all_embedded (can_be_embedded ds left) es ≡ true) × (alternatives ds n p e a ≡ join_operands (alternatives ds left) p es a)
-    unfolding can_be_embedded alternatives step stands
-    at_disjunction e es is h = ((and_parts (has_operand es) (all_embedded (can_be_embedded ds left) es) (step e (disjunction es) is h)).1, stands e (disjunction es) is)
+    pub at_disjunction : (e : Tree) (es : Trees) → e ≡ disjunction es → can_be_embedded ds n e ≡ true
+        → (all_embedded (can_be_embedded ds left) es ≡ true) × (alternatives ds n p e a ≡ join_operands (alternatives ds left) p es a)
+    unfolding can_be_embedded alternatives
+    at_disjunction e es is h =
+        let w = and_parts (has_operand es) (all_embedded (can_be_embedded ds left) es) (step e (disjunction es) is h) in
+        (w.1, stands e (disjunction es) is)
 
-    pub at_reference : (e : Tree) (s : List ℕ) (o : ℕ) → e ≡ reference s o → can_be_embedded ds n e ≡ true → (list_all (can_be_embedded ds left) (bodies s ds) ≡ true) × (alternatives ds n p e a ≡ join_definition (alternatives ds left) s (at p o) (bodies s ds) a)
-    unfolding can_be_embedded alternatives step stands
+    pub at_reference : (e : Tree) (s : List ℕ) (o : ℕ) → e ≡ reference s o → can_be_embedded ds n e ≡ true
+        → (list_all (can_be_embedded ds left) (bodies s ds) ≡ true)
+        × (alternatives ds n p e a ≡ join_definition (alternatives ds left) s (at p o) (bodies s ds) a)
+    unfolding can_be_embedded alternatives
     at_reference e s o is h = (step e (reference s o) is h, stands e (reference s o) is)
 
 -- ---- a definition, which stands there already or not
@@ -98,36 +106,42 @@ at_place xs i x l is = drop_more xs i x l ∙ ap (λ y. y ∷ drop (i + 1) xs) (
 module _ (can : Tree → Bool) (inner : Option ℕ → Tree → Alternative → List Alternative) (p : Option ℕ) where
   module _ (cs : List Declared.Declaration) (i : ℕ) (d : Declared.Declaration) (within : i < length cs) (read : d ≡ get_or cs i d) where
     cut_at : (s : SeenDeclaration) → declaration_view d ≡ s → declarations_view (drop i cs) ≡ declarations_of (s ∷ map declaration_view (drop (i + 1) cs))
-    unfolding at_place
     cut_at s is = ap declarations_view (at_place cs i d within read) ∙ ap (λ t. declarations_of (t ∷ map declaration_view (drop (i + 1) cs))) is
 
-    module _ (xs all : List Alternative) (well : declarations_embed_well can (declarations_view (drop i cs)) ≡ true) (whole : join_declarations inner p (declarations_view (drop i cs)) xs ≡ all) where
-      pub field_step : (f : Field) → d ≡ Declared.Field f → (declarations_embed_well can (declarations_view (drop (i + 1) cs)) ≡ true) × (join_declarations inner p (declarations_view (drop (i + 1) cs)) (map (with_field p (field_view f)) xs) ≡ all)
-      unfolding cut_at
+    module _ (xs all : List Alternative) (well : declarations_embed_well can (declarations_view (drop i cs)) ≡ true)
+        (whole : join_declarations inner p (declarations_view (drop i cs)) xs ≡ all) where
+      pub field_step : (f : Field) → d ≡ Declared.Field f
+          → (declarations_embed_well can (declarations_view (drop (i + 1) cs)) ≡ true)
+          × (join_declarations inner p (declarations_view (drop (i + 1) cs)) (map (with_field p (field_view f)) xs) ≡ all)
       field_step f is =
           let cut = cut_at (field_seen (field_view f)) (ap declaration_view is ∙ view-declared-field f) in
           let w = subst (λ ts. declarations_embed_well can ts ≡ true) cut well in
           let q = and_parts (embeds_well can (field_view f).value) (declarations_embed_well can (declarations_view (drop (i + 1) cs))) w in
           (q.1, ap (λ ts. join_declarations inner p ts xs) (sym cut) ∙ whole)
 
-      pub embedded_step : (o : ℕ) (e : Expr) → d ≡ Declared.Embedded o e → (can (expr_view e) ≡ true) × (declarations_embed_well can (declarations_view (drop (i + 1) cs)) ≡ true) × (join_declarations inner p (declarations_view (drop (i + 1) cs)) (flat_map (inner p (expr_view e)) xs) ≡ all)
-      unfolding cut_at
+      pub embedded_step : (o : ℕ) (e : Expr) → d ≡ Declared.Embedded o e
+          → (can (expr_view e) ≡ true) × (declarations_embed_well can (declarations_view (drop (i + 1) cs)) ≡ true)
+          × (join_declarations inner p (declarations_view (drop (i + 1) cs)) (flat_map (inner p (expr_view e)) xs) ≡ all)
       embedded_step o e is =
           let cut = cut_at (embedding_seen o (expr_view e)) (ap declaration_view is ∙ view-embedded o e) in
           let w = subst (λ ts. declarations_embed_well can ts ≡ true) cut well in
           let q = and_parts (can (expr_view e)) (declarations_embed_well can (declarations_view (drop (i + 1) cs))) w in
           (q.0, q.1, ap (λ ts. join_declarations inner p ts xs) (sym cut) ∙ whole)
 
-  pub body_step : (bs : List (Bor Expr)) (i : ℕ) (b : Bor Expr) → i < length bs → b ≡ get_or bs i b → (xs all : List Alternative) → list_all can (bodies_view (drop i bs)) ≡ true → join_bodies inner p (bodies_view (drop i bs)) xs ≡ all → (can (expr_view b.now) ≡ true) × (list_all can (bodies_view (drop (i + 1) bs)) ≡ true) × (join_bodies inner p (bodies_view (drop (i + 1) bs)) (flat_map (inner p (expr_view b.now)) xs) ≡ all)
-  unfolding at_place
+  pub body_step : (bs : List (Bor Expr)) (i : ℕ) (b : Bor Expr) → i < length bs → b ≡ get_or bs i b → (xs all : List Alternative)
+      → list_all can (bodies_view (drop i bs)) ≡ true → join_bodies inner p (bodies_view (drop i bs)) xs ≡ all
+      → (can (expr_view b.now) ≡ true) × (list_all can (bodies_view (drop (i + 1) bs)) ≡ true)
+      × (join_bodies inner p (bodies_view (drop (i + 1) bs)) (flat_map (inner p (expr_view b.now)) xs) ≡ all)
   body_step bs i b within read xs all well whole =
       let cut = ap bodies_view (at_place bs i b within read) in
       let w = subst (λ ts. list_all can ts ≡ true) cut well in
       let q = and_parts (can (expr_view b.now)) (list_all can (bodies_view (drop (i + 1) bs))) w in
       (q.0, q.1, ap (λ ts. join_bodies inner p ts xs) (sym cut) ∙ whole)
 
-  pub operand_step : (es : List Expr) (i : ℕ) (e : Expr) → i < length es → e ≡ get_or es i e → (a : Alternative) (xs all : List Alternative) → all_embedded can (exprs_view (drop i es)) ≡ true → xs ++ join_operands inner p (exprs_view (drop i es)) a ≡ all → (can (expr_view e) ≡ true) × (all_embedded can (exprs_view (drop (i + 1) es)) ≡ true) × (xs ++ (inner p (expr_view e) a ++ join_operands inner p (exprs_view (drop (i + 1) es)) a) ≡ all)
-  unfolding at_place
+  pub operand_step : (es : List Expr) (i : ℕ) (e : Expr) → i < length es → e ≡ get_or es i e → (a : Alternative) (xs all : List Alternative)
+      → all_embedded can (exprs_view (drop i es)) ≡ true → xs ++ join_operands inner p (exprs_view (drop i es)) a ≡ all
+      → (can (expr_view e) ≡ true) × (all_embedded can (exprs_view (drop (i + 1) es)) ≡ true)
+      × (xs ++ (inner p (expr_view e) a ++ join_operands inner p (exprs_view (drop (i + 1) es)) a) ≡ all)
   operand_step es i e within read a xs all well whole =
       let cut = ap exprs_view (at_place es i e within read) in
       let w = subst (λ ts. all_embedded can ts ≡ true) cut well in
@@ -139,13 +153,16 @@ module _ (can : Tree → Bool) (inner : Option ℕ → Tree → Alternative → 
 pub too_much_of_right : (e : EmbeddingFault) (room : ℕ) (xs ys : List Alternative) → IsTooMuch e room ys → IsTooMuch e room (xs ++ ys)
 too_much_of_right e room xs ys = too_much_of_more e room ys (xs ++ ys) (omega (arith, weight-append xs ys))
 
-module _ (can : Tree → Bool) (inner : Option ℕ → Tree → Alternative → List Alternative) (grows : (p : Option ℕ) (e : Tree) → can e ≡ true → Grows (inner p e)) (p : Option ℕ) (e : EmbeddingFault) (room : ℕ) (xs all : List Alternative) where
-  pub declarations_too_much : (cs : Declarations) → declarations_embed_well can cs ≡ true → join_declarations inner p cs xs ≡ all → IsTooMuch e room xs → IsTooMuch e room all
+module _ (can : Tree → Bool) (inner : Option ℕ → Tree → Alternative → List Alternative)
+    (grows : (p : Option ℕ) (e : Tree) → can e ≡ true → Grows (inner p e)) (p : Option ℕ) (e : EmbeddingFault) (room : ℕ) (xs all : List Alternative) where
+  pub declarations_too_much : (cs : Declarations) → declarations_embed_well can cs ≡ true → join_declarations inner p cs xs ≡ all → IsTooMuch e room xs
+      → IsTooMuch e room all
   declarations_too_much cs well whole =
       too_much_of_more e room xs all (subst (λ ys. weight_of xs ≤ weight_of ys) whole (declarations_grow can inner grows p cs well xs))
 
   -- of the bodies of a definition
-  pub bodies_too_much : (s : List ℕ) (es : List Tree) → list_all can es ≡ true → join_bodies inner p es xs ≡ all → IsTooMuch e room xs → IsTooMuch e room (map (meet s) all)
+  pub bodies_too_much : (s : List ℕ) (es : List Tree) → list_all can es ≡ true → join_bodies inner p es xs ≡ all → IsTooMuch e room xs
+      → IsTooMuch e room (map (meet s) all)
   bodies_too_much s es well whole =
       let bodies_more = subst (λ ys. weight_of xs ≤ weight_of ys) whole (bodies_grow can inner grows p es well xs) in
       let kept = map_grows (meet s) (meet_keeps s) all in

@@ -23,20 +23,26 @@ pub found_more : (before own rest all found : List Alternative) → before ++ (o
 found_more before own rest all found whole more = ap (λ xs. xs ++ rest) more ∙ append_assoc before own rest ∙ whole
 
 -- what is too much with it shows that all are
-pub too_much_here : (e : EmbeddingFault) (room : ℕ) (before own rest all : List Alternative) → before ++ (own ++ rest) ≡ all → IsTooMuch e room (before ++ own) → IsTooMuch e room all
-too_much_here e room before own rest all whole h = subst (IsTooMuch e room) (append_assoc before own rest ∙ whole) (too_much_of_left e room (before ++ own) rest h)
+pub too_much_here : (e : EmbeddingFault) (room : ℕ) (before own rest all : List Alternative) → before ++ (own ++ rest) ≡ all
+    → IsTooMuch e room (before ++ own) → IsTooMuch e room all
+too_much_here e room before own rest all whole h = subst (IsTooMuch e room) (append_assoc before own rest ∙ whole)
+    (too_much_of_left e room (before ++ own) rest h)
 
 -- ---- how much is found
 
 -- it is as much as is counted
-pub weight_pushed : (xs ys : List rust.Alternative) (a : rust.Alternative) (w n : ℕ) → ys ≡ xs ++ a ∷ [] → w ≡ weight_of (alternatives_view xs) → n ≡ length a.declarations.items → w + (n + 1) ≡ weight_of (alternatives_view ys)
+pub weight_pushed : (xs ys : List rust.Alternative) (a : rust.Alternative) (w n : ℕ) → ys ≡ xs ++ a ∷ [] → w ≡ weight_of (alternatives_view xs)
+    → n ≡ length a.declarations.items → w + (n + 1) ≡ weight_of (alternatives_view ys)
 weight_pushed xs ys a w n grown weighed counted =
-    let e = ap (λ zs. weight_of (alternatives_view zs)) grown ∙ ap weight_of (map-append alternative_view xs (a ∷ [])) ∙ weight-append (alternatives_view xs) (alternative_view a ∷ []) in
+    let e = ap (λ zs. weight_of (alternatives_view zs)) grown ∙ ap weight_of (map-append alternative_view xs (a ∷ []))
+    ∙ weight-append (alternatives_view xs) (alternative_view a ∷ []) in
     omega (arith, length-map a.declarations.items brought_view)
 
 -- it would be more than there is room for
-pub weight_above : (xs : List rust.Alternative) (a : rust.Alternative) (room w n : ℕ) → room - w < n + 1 → w ≡ weight_of (alternatives_view xs) → n ≡ length a.declarations.items → room < weight_of (alternatives_view xs ++ alternative_view a ∷ [])
-weight_above xs a room w n above weighed counted = omega (arith, length-map a.declarations.items brought_view, weight-append (alternatives_view xs) (alternative_view a ∷ []))
+pub weight_above : (xs : List rust.Alternative) (a : rust.Alternative) (room w n : ℕ) → room - w < n + 1 → w ≡ weight_of (alternatives_view xs)
+    → n ≡ length a.declarations.items → room < weight_of (alternatives_view xs ++ alternative_view a ∷ [])
+weight_above xs a room w n above weighed counted = omega
+    (arith, length-map a.declarations.items brought_view, weight-append (alternatives_view xs) (alternative_view a ∷ []))
 
 -- ---- what stands in an alternative
 
@@ -44,15 +50,15 @@ weight_above xs a room w n above weighed counted = omega (arith, length-map a.de
 pub met_more : (xs ys : List (Bor (List ℕ))) (s : Bor (List ℕ)) → ys ≡ xs ++ s ∷ [] → map (λ t. t.now) ys ≡ map (λ t. t.now) xs ++ s.now ∷ []
 met_more xs ys s grown = ap (map (λ t. t.now)) grown ∙ map-append (λ (t : Bor (List ℕ)). t.now) xs (s ∷ [])
 
-brought_field : Option ℕ → Field → Brought
+-- a field as a declaration
+abbrev pub brought_field : Option ℕ → Field → Brought
 brought_field p f = record { label = (field_view f).label; mark = (field_view f).mark; value = (field_view f).value; place = p }
 
 seen_field : (f : Bor Field) (p : Option ℕ) → brought_view (record { field = f; place = p }) ≡ brought_field p f.now
-unfolding brought_field
 seen_field f p = ap₂ (λ m v. record { label = (field_view f.now).label; mark = m; value = v; place = p }) (sym (view-mark f.now)) (sym (view-value f.now))
 
 -- one field more is declared
-pub declared_more : (xs ys : List brought.Brought) (f : Bor Field) (p : Option ℕ) → ys ≡ xs ++ record { field = f; place = p } ∷ [] → map brought_view ys ≡ map brought_view xs ++ record { label = (field_view f.now).label; mark = (field_view f.now).mark; value = (field_view f.now).value; place = p } ∷ []
-unfolding brought_field
+pub declared_more : (xs ys : List brought.Brought) (f : Bor Field) (p : Option ℕ) → ys ≡ xs ++ record { field = f; place = p } ∷ []
+    → map brought_view ys ≡ map brought_view xs ++ brought_field p f.now ∷ []
 declared_more xs ys f p grown =
     ap (map brought_view) grown ∙ map-append brought_view xs (record { field = f; place = p } ∷ []) ∙ ap (λ b. map brought_view xs ++ b ∷ []) (seen_field f p)

@@ -4,3 +4,4 @@ pub mod Monotone
 pub mod Weights
 pub mod Left
 pub mod Joins
+pub mod WellAlternatives

@@ -67,7 +67,8 @@ module _ (ds : List DefinitionTree) where
   step_more (suc n) (paren e) h = step_more n e h
   step_more (suc n) (disjunction es) h =
       let p = and_parts (has_operand es) (all_embedded (can_be_embedded ds n) es) h in
-      and_from (has_operand es) (all_embedded (can_be_embedded ds (suc n)) es) p.0 (all_more (can_be_embedded ds n) (can_be_embedded ds (suc n)) (step_more n) es p.1)
+      and_from (has_operand es) (all_embedded (can_be_embedded ds (suc n)) es) p.0
+      (all_more (can_be_embedded ds n) (can_be_embedded ds (suc n)) (step_more n) es p.1)
   step_more (suc n) (reference s o) h = bodies_more (can_be_embedded ds n) (can_be_embedded ds (suc n)) (step_more n) (bodies s ds) h
   step_more (suc n) (atom a) h = h
   step_more (suc n) (named s o) h = h
@@ -90,8 +91,10 @@ module _ (ds : List DefinitionTree) where
   pub embeds_well_more : (n m : ℕ) (e : Tree) → n ≤ m → embeds_well (can_be_embedded ds n) e ≡ true → embeds_well (can_be_embedded ds m) e ≡ true
   embeds_well_more n m e l = well_more (can_be_embedded ds n) (can_be_embedded ds m) (λ f h. steps_more n m f l h) e
 
-  pub declarations_embed_more : (n m : ℕ) (cs : Declarations) → n ≤ m → declarations_embed_well (can_be_embedded ds n) cs ≡ true → declarations_embed_well (can_be_embedded ds m) cs ≡ true
+  pub declarations_embed_more : (n m : ℕ) (cs : Declarations) → n ≤ m → declarations_embed_well (can_be_embedded ds n) cs ≡ true
+      → declarations_embed_well (can_be_embedded ds m) cs ≡ true
   declarations_embed_more n m cs l = declarations_well_more (can_be_embedded ds n) (can_be_embedded ds m) (λ f h. steps_more n m f l h) cs
 
-  pub fields_embed_more : (n m : ℕ) (fs : Fields) → n ≤ m → fields_embed_well (can_be_embedded ds n) fs ≡ true → fields_embed_well (can_be_embedded ds m) fs ≡ true
+  pub fields_embed_more : (n m : ℕ) (fs : Fields) → n ≤ m → fields_embed_well (can_be_embedded ds n) fs ≡ true
+      → fields_embed_well (can_be_embedded ds m) fs ≡ true
   fields_embed_more n m fs l = fields_well_more (can_be_embedded ds n) (can_be_embedded ds m) (λ f h. steps_more n m f l h) fs

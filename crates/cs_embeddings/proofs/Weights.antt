@@ -64,8 +64,10 @@ fields_keep p (field l m e fs) a =
 
 -- ---- where `inner` joins what `can` takes
 
-module _ (can : Tree → Bool) (inner : Option ℕ → Tree → Alternative → List Alternative) (grows : (p : Option ℕ) (e : Tree) → can e ≡ true → Grows (inner p e)) where
-  pub declarations_grow : (p : Option ℕ) (cs : Declarations) → declarations_embed_well can cs ≡ true → (xs : List Alternative) → weight_of xs ≤ weight_of (join_declarations inner p cs xs)
+module _ (can : Tree → Bool) (inner : Option ℕ → Tree → Alternative → List Alternative)
+    (grows : (p : Option ℕ) (e : Tree) → can e ≡ true → Grows (inner p e)) where
+  pub declarations_grow : (p : Option ℕ) (cs : Declarations) → declarations_embed_well can cs ≡ true → (xs : List Alternative)
+      → weight_of xs ≤ weight_of (join_declarations inner p cs xs)
   declarations_grow p no_declaration h xs = omega arith
   declarations_grow p (declared l m e cs) h xs =
       let w = and_parts (embeds_well can e) (declarations_embed_well can cs) h in

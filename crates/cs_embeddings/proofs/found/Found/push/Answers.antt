@@ -1,4 +1,4 @@
-use Rattle.std.proofs.Common.{◌≡◌, ◌+◌, ◌-◌, ◌<◌, length, arith}
+use Rattle.std.proofs.Common.{◌≡◌, length, arith}
 use Rattle.cs_embeddings.proofs.Left.{weight_above, weight_pushed}
 use Rattle.cs_embeddings.proofs.found.Found.push.Goals as goal
 

@@ -1,13 +1,13 @@
-use Rattle.std.proofs.Common.{rules, ◌≡◌, ℕ, suc, ◌+◌, ◌∷◌, [], ◌++◌, true, false, List, Some, map, drop, string_bytes, refl, sym, ap, ap₂, ◌∙◌, subst, arith}
-use Rattle.std.specs.List.{flat_map, list_all}
+use Rattle.std.proofs.Common.{rules, ◌≡◌, suc, ◌+◌, ◌∷◌, [], ◌++◌, false, Some, map, drop, refl, sym, ap, ◌∙◌, subst, arith}
+use Rattle.std.specs.List.{flat_map}
 use Rattle.std.specs.Vec.Iter.{into_iter_items}
 use Rattle.std.proofs.lemmas.Result.{err_from_is_err_and}
 use Rattle.cs_grammar.specs.Tree.{reference, disjunction, paren, wide, merged, bodies}
-use Rattle.cs_grammar.specs.View.{expr_view, exprs_view, fields_view, field_view, wide_view, declarations_view}
+use Rattle.cs_grammar.specs.View.{expr_view, exprs_view, fields_view, field_view, declarations_view}
 use Rattle.cs_grammar.specs.declared.ast.Expr as Exprs
-use Rattle.cs_grammar.proofs.Views.{view-Struct, view-Wide, view-Merged, view-Paren, view-Or, view-Reference}
+use Rattle.cs_grammar.proofs.Views.{view-Struct, view-Paren, view-Or, view-Reference}
 use Rattle.cs_embeddings.specs.Alternatives as Spec
-use Rattle.cs_embeddings.specs.Checks.{ReachesAll, bodies_view}
+use Rattle.cs_embeddings.specs.Checks.{bodies_view}
 use Rattle.cs_embeddings.specs.Embedded.{can_be_embedded}
 use Rattle.cs_embeddings.specs.Views.{alternative_view, alternatives_view, with_field, Reaches, IsTooMuch}
 use Rattle.cs_embeddings.specs.declared.found.Found.{Found}
@@ -54,7 +54,8 @@ join-returns-in_ok-add-in-Struct t c ds tells can =
     let here = at_struct ds c.args.steps c.in-Some.left c.args.place a one (expr_view c.args.expr.now) x.at (fields_view x.fields.items) x.opened is in
     let fields = ap (λ fs. Spec.with_fields c.args.place (fields_view fs) a) c.deref.ensures.value in
     let made = here ∙ ap (λ b. Spec.opened_if x.opened b ∷ []) (sym (c.in_ok-add-in-Struct.ensures ∙ fields)) in
-    subst (λ xs. Reaches c.push.result c.args.self.room (alternatives_view c.args.found.now.alternatives.items ++ xs) (alternatives_view c.push.new.self.alternatives.items)) (sym made) c.push.ensures
+    subst (λ xs. Reaches c.push.result c.args.self.room (alternatives_view c.args.found.now.alternatives.items ++ xs)
+    (alternatives_view c.push.new.self.alternatives.items)) (sym made) c.push.ensures
 
 pub join-returns-in_err-joined-in-Wide-Merged : goal.join-returns-in_err-joined-in-Wide-Merged
 join-returns-in_err-joined-in-Wide-Merged t c ds tells can =
@@ -69,7 +70,8 @@ join-returns-in_err-joined-in-Wide-Merged t c ds tells can =
     let here = at_merged ds c.args.steps c.in-Some.left c.args.place a one (expr_view c.args.expr.now) x.field-0-0 cs x.opened (is ∙ read) can in
     let found = alternatives_view c.args.found.now.alternatives.items in
     let all = Spec.alternatives ds c.args.steps c.args.place (expr_view c.args.expr.now) a in
-    rw (p.1, p.2) (too_much_of_right e c.args.self.room found all (subst (IsTooMuch e c.args.self.room) (sym here.1) (c.in_err-joined-in-Wide-Merged.ensures ds tells here.0)))
+    rw (p.1, p.2) (too_much_of_right e c.args.self.room found all
+    (subst (IsTooMuch e c.args.self.room) (sym here.1) (c.in_err-joined-in-Wide-Merged.ensures ds tells here.0)))
 
 pub join-returns-in_ok-joined-in-Wide-Merged : goal.join-returns-in_ok-joined-in-Wide-Merged
 join-returns-in_ok-joined-in-Wide-Merged t c ds tells can =
@@ -81,7 +83,8 @@ join-returns-in_ok-joined-in-Wide-Merged t c ds tells can =
     let read = ap (λ ts. wide (merged x.field-0-0 (declarations_view ts) x.opened)) (sym c.deref-in-Wide-Merged.ensures.value) in
     let here = at_merged ds c.args.steps c.in-Some.left c.args.place a one (expr_view c.args.expr.now) x.field-0-0 cs x.opened (is ∙ read) can in
     let all = c.in_ok-joined-in-Wide-Merged.ensures ds tells here.0 ∙ sym here.1 in
-    subst (λ xs. Reaches c.append.result c.args.self.room (alternatives_view c.args.found.now.alternatives.items ++ xs) (alternatives_view c.append.new.self.alternatives.items)) all c.append.ensures
+    subst (λ xs. Reaches c.append.result c.args.self.room (alternatives_view c.args.found.now.alternatives.items ++ xs)
+    (alternatives_view c.append.new.self.alternatives.items)) all c.append.ensures
 
 pub join-returns-in-Paren : goal.join-returns-in-Paren
 join-returns-in-Paren t c ds tells can =
@@ -91,7 +94,8 @@ join-returns-in-Paren t c ds tells can =
     let read = ap (λ e. paren (expr_view e)) (sym c.deref-in-Paren.ensures) in
     let is = ap expr_view c.in-Paren.is ∙ view-Paren c.in-Paren.inside ∙ read in
     let here = at_paren ds c.args.steps c.in-Some.left c.args.place a one (expr_view c.args.expr.now) f is can in
-    subst (λ xs. Reaches c.join.result c.args.self.room (alternatives_view c.args.found.now.alternatives.items ++ xs) (alternatives_view c.join.new.found.alternatives.items)) (sym here.1) (c.join.ensures ds tells here.0)
+    subst (λ xs. Reaches c.join.result c.args.self.room (alternatives_view c.args.found.now.alternatives.items ++ xs)
+    (alternatives_view c.join.new.found.alternatives.items)) (sym here.1) (c.join.ensures ds tells here.0)
 
 pub join-returns-in-Or : goal.join-returns-in-Or
 join-returns-in-Or t c ds tells can =
@@ -101,7 +105,8 @@ join-returns-in-Or t c ds tells can =
     let read = ap (λ ts. disjunction (exprs_view ts)) (sym c.deref-in-Or.ensures.value) in
     let is = ap expr_view c.in-Or.is ∙ view-Or c.in-Or.operands ∙ read in
     let here = at_disjunction ds c.args.steps c.in-Some.left c.args.place a one (expr_view c.args.expr.now) es is can in
-    subst (λ xs. Reaches c.join_operands.result c.args.self.room (alternatives_view c.args.found.now.alternatives.items ++ xs) (alternatives_view c.join_operands.new.found.alternatives.items)) (sym here.1) (c.join_operands.ensures ds tells here.0)
+    subst (λ xs. Reaches c.join_operands.result c.args.self.room (alternatives_view c.args.found.now.alternatives.items ++ xs)
+    (alternatives_view c.join_operands.new.found.alternatives.items)) (sym here.1) (c.join_operands.ensures ds tells here.0)
 
 pub join-returns-in-Reference : goal.join-returns-in-Reference
 join-returns-in-Reference t c ds tells can =
@@ -114,7 +119,8 @@ join-returns-in-Reference t c ds tells can =
     let here = at_reference ds c.args.steps c.in-Some.left c.args.place a one (expr_view c.args.expr.now) s x.at is can in
     let placed : Spec.at c.args.place x.at ≡ c.unwrap_or.result = sym c.unwrap_or.ensures in
     let made = here.1 ∙ ap (λ o. Spec.join_definition (Spec.alternatives ds c.in-Some.left) s o (bodies s ds) a) placed in
-    subst (λ xs. Reaches c.join_definition.result c.args.self.room (alternatives_view c.args.found.now.alternatives.items ++ xs) (alternatives_view c.join_definition.new.found.alternatives.items)) (sym made) (c.join_definition.ensures ds tells here.0)
+    subst (λ xs. Reaches c.join_definition.result c.args.self.room (alternatives_view c.args.found.now.alternatives.items ++ xs)
+    (alternatives_view c.join_definition.new.found.alternatives.items)) (sym made) (c.join_definition.ensures ds tells here.0)
 
 -- ---- a definition
 
@@ -169,7 +175,8 @@ join_declarations-returns-in_err-push t c ds tells well =
     let e = c.in_err-push.field-0.0 in
     let a = alternative_view c.args.before in
     let here = subst (λ xs. IsTooMuch e c.args.self.room (xs ++ a ∷ [])) c.nothing-found.ensures c.in_err-push.ensures in
-    rw (p.1, p.2) (declarations_too_much (can_be_embedded ds c.args.steps) (Spec.alternatives ds c.args.steps) (alternatives_grow ds c.args.steps) c.args.place e c.args.self.room (a ∷ []) _ (declarations_view c.args.declarations.now) well refl here)
+    rw (p.1, p.2) (declarations_too_much (can_be_embedded ds c.args.steps) (Spec.alternatives ds c.args.steps)
+    (alternatives_grow ds c.args.steps) c.args.place e c.args.self.room (a ∷ []) _ (declarations_view c.args.declarations.now) well refl here)
 
 pub join_declarations-returns-in_err-found-in-Field : goal.join_declarations-returns-in_err-found-in-Field
 join_declarations-returns-in_err-found-in-Field t c ds tells well =
@@ -185,7 +192,8 @@ join_declarations-returns-in_err-found-in-Field t c ds tells well =
     let before = c.loop-declaration.invariant ds tells well in
     let f = c.in-Field.field in
     let s = field_step can inner c.args.place cs i d c.loop-declaration-test.true c.declaration-item.is found all before.0 before.1 f c.in-Field.is in
-    rw (p.1, p.2) (declarations_too_much can inner (alternatives_grow ds c.args.steps) c.args.place e c.args.self.room (map (with_field c.args.place (field_view f)) found) all (declarations_view (drop (i + 1) cs)) s.0 s.1 c.in_err-found-in-Field.ensures)
+    rw (p.1, p.2) (declarations_too_much can inner (alternatives_grow ds c.args.steps) c.args.place e c.args.self.room
+    (map (with_field c.args.place (field_view f)) found) all (declarations_view (drop (i + 1) cs)) s.0 s.1 c.in_err-found-in-Field.ensures)
 
 pub join_declarations-returns-in_err-found-in-Embedded : goal.join_declarations-returns-in_err-found-in-Embedded
 join_declarations-returns-in_err-found-in-Embedded t c ds tells well =
@@ -201,7 +209,9 @@ join_declarations-returns-in_err-found-in-Embedded t c ds tells well =
     let before = c.loop-declaration.invariant ds tells well in
     let x = c.in-Embedded in
     let s = embedded_step can inner c.args.place cs i d c.loop-declaration-test.true c.declaration-item.is found all before.0 before.1 x.at x.value x.is in
-    rw (p.1, p.2) (declarations_too_much can inner (alternatives_grow ds c.args.steps) c.args.place e c.args.self.room (flat_map (inner c.args.place (expr_view x.value)) found) all (declarations_view (drop (i + 1) cs)) s.1 s.2 (c.in_err-found-in-Embedded.ensures ds tells s.0))
+    rw (p.1, p.2) (declarations_too_much can inner (alternatives_grow ds c.args.steps) c.args.place e c.args.self.room
+    (flat_map (inner c.args.place (expr_view x.value)) found) all (declarations_view (drop (i + 1) cs)) s.1 s.2
+    (c.in_err-found-in-Embedded.ensures ds tells s.0))
 
 pub join_declarations-loop-declaration-preserved : goal.join_declarations-loop-declaration-preserved
 join_declarations-loop-declaration-preserved t c ds tells well =
@@ -214,14 +224,16 @@ join_declarations-loop-declaration-preserved t c ds tells well =
     let all = Spec.join_declarations inner c.args.place (declarations_view cs) (alternative_view c.args.before ∷ []) in
     let before = c.loop-declaration.invariant ds tells well in
     let rest = declarations_view (drop (i + 1) cs) in
+    let add_field = field_step can inner c.args.place cs i d c.loop-declaration-test.true c.declaration-item.is found all before.0 before.1 in
+    let embed = embedded_step can inner c.args.place cs i d c.loop-declaration-test.true c.declaration-item.is found all before.0 before.1 in
     elim c.match-declaration.branch [
       | join_declarations-in-Field+in_ok-found-in-Field w ↦
-          let s = field_step can inner c.args.place cs i d c.loop-declaration-test.true c.declaration-item.is found all before.0 before.1 w.in-Field.field w.in-Field.is in
+          let s = add_field w.in-Field.field w.in-Field.is in
           let made = ap (λ (f : Found). alternatives_view f.alternatives.items) w.found-is ∙ w.in_ok-found-in-Field.ensures in
           (s.0, ap (Spec.join_declarations inner c.args.place rest) made ∙ s.1)
       | join_declarations-in-Embedded+in_ok-found-in-Embedded w ↦
           let x = w.in-Embedded in
-          let s = embedded_step can inner c.args.place cs i d c.loop-declaration-test.true c.declaration-item.is found all before.0 before.1 x.at x.value x.is in
+          let s = embed x.at x.value x.is in
           let made = ap (λ (f : Found). alternatives_view f.alternatives.items) w.found-is ∙ w.in_ok-found-in-Embedded.ensures ds tells s.0 in
           (s.1, ap (Spec.join_declarations inner c.args.place rest) made ∙ s.2)
     ]
@@ -234,7 +246,8 @@ join_bodies-returns-in_err-push t c ds tells well =
     let e = c.in_err-push.field-0.0 in
     let a = alternative_view c.args.before in
     let here = subst (λ xs. IsTooMuch e c.args.self.room (xs ++ a ∷ [])) c.nothing-found.ensures c.in_err-push.ensures in
-    rw (p.1, p.2) (bodies_too_much (can_be_embedded ds c.args.steps) (Spec.alternatives ds c.args.steps) (alternatives_grow ds c.args.steps) (Some c.args.at) e c.args.self.room (a ∷ []) _ c.args.name.now (bodies c.args.name.now ds) well refl here)
+    rw (p.1, p.2) (bodies_too_much (can_be_embedded ds c.args.steps) (Spec.alternatives ds c.args.steps) (alternatives_grow ds c.args.steps)
+    (Some c.args.at) e c.args.self.room (a ∷ []) _ c.args.name.now (bodies c.args.name.now ds) well refl here)
 
 pub join_bodies-returns-in_err-found : goal.join_bodies-returns-in_err-found
 join_bodies-returns-in_err-found t c ds tells well =
@@ -249,7 +262,8 @@ join_bodies-returns-in_err-found t c ds tells well =
     let found = alternatives_view c.loop-body.found.alternatives.items in
     let before = c.loop-body.invariant ds tells well in
     let s = body_step can inner at bs i b c.loop-body-test.true c.body-item.is found _ before.0 before.1 in
-    rw (p.1, p.2) (bodies_too_much can inner (alternatives_grow ds c.args.steps) at e c.args.self.room (flat_map (inner at (expr_view b.now)) found) _ c.args.name.now (bodies_view (drop (i + 1) bs)) s.1 s.2 (c.in_err-found.ensures ds tells s.0))
+    rw (p.1, p.2) (bodies_too_much can inner (alternatives_grow ds c.args.steps) at e c.args.self.room
+    (flat_map (inner at (expr_view b.now)) found) _ c.args.name.now (bodies_view (drop (i + 1) bs)) s.1 s.2 (c.in_err-found.ensures ds tells s.0))
 
 -- ---- operands
 
@@ -266,5 +280,7 @@ join_operands-returns-in_err-join t c ds tells well =
     let found = alternatives_view c.loop-operand.found.alternatives.items in
     let before = c.loop-operand.invariant ds tells well in
     let s = operand_step can inner c.args.place es i o c.loop-operand-test.true c.operand-item.is a found _ before.0 before.1 in
-    let here = subst (λ b. IsTooMuch e c.args.self.room (found ++ inner c.args.place (expr_view o) b)) c.in_ok-copy.ensures (c.in_err-join.ensures ds tells s.0) in
-    rw (p.1, p.2) (too_much_here e c.args.self.room found (inner c.args.place (expr_view o) a) (Spec.join_operands inner c.args.place (exprs_view (drop (i + 1) es)) a) _ s.2 here)
+    let here = subst (λ b. IsTooMuch e c.args.self.room (found ++ inner c.args.place (expr_view o) b)) c.in_ok-copy.ensures
+    (c.in_err-join.ensures ds tells s.0) in
+    rw (p.1, p.2) (too_much_here e c.args.self.room found (inner c.args.place (expr_view o) a)
+    (Spec.join_operands inner c.args.place (exprs_view (drop (i + 1) es)) a) _ s.2 here)

@@ -1,4 +1,4 @@
-use Rattle.std.proofs.Common.{◌≡◌, ℕ, ◌+◌, ◌*◌, true, List, [], ◌∷◌, ◌++◌, Some, drop}
+use Rattle.std.proofs.Common.{◌≡◌, ◌+◌, ◌*◌, true, List, [], ◌∷◌, ◌++◌, Some, drop}
 use Rattle.std.specs.List.{flat_map, list_all}
 use Rattle.std.specs.Vec.Iter.{into_iter_items}
 use Rattle.cs_grammar.specs.Tree.{DefinitionTree, bodies}
@@ -32,7 +32,8 @@ invariant-join_declarations-loop-declaration l =
     (ds : List DefinitionTree) → TellsBodies l.self.bodies.now ds
     → declarations_embed_well (can_be_embedded ds l.steps) (declarations_view l.declarations) ≡ true
     → (declarations_embed_well (can_be_embedded ds l.steps) (declarations_view (drop l.declaration-index l.declarations)) ≡ true)
-    × (Spec.join_declarations (Spec.alternatives ds l.steps) l.place (declarations_view (drop l.declaration-index l.declarations)) (alternatives_view l.found.alternatives.items)
+    × (Spec.join_declarations (Spec.alternatives ds l.steps) l.place (declarations_view (drop l.declaration-index l.declarations))
+    (alternatives_view l.found.alternatives.items)
     ≡ Spec.join_declarations (Spec.alternatives ds l.steps) l.place (declarations_view l.declarations) (alternative_view l.fn.before ∷ []))
 
 abbrev pub invariant-join_bodies-loop-body : goal.invariant-join_bodies-loop-body

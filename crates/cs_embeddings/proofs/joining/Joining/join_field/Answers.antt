@@ -18,5 +18,6 @@ returns-in_err-push-2 c =
     let e = c.in_err-push-2.field-0.0 in
     let a = c.in-Some.alternative in
     let declared = declared_more a.declarations.items c.push.new.self.items c.args.field c.args.place c.in_ok-push.ensures.items in
-    let here = subst (λ ds. IsTooMuch e c.args.self.room (found ++ record { declarations = ds; opened = a.opened; met = map (λ s. s.now) a.met.items } ∷ [])) declared c.in_err-push-2.ensures in
+    let here = subst (λ ds. IsTooMuch e c.args.self.room
+    (found ++ record { declarations = ds; opened = a.opened; met = map (λ s. s.now) a.met.items } ∷ [])) declared c.in_err-push-2.ensures in
     rw (p.1, p.2) (too_much_here e c.args.self.room found own rest all whole here)

@@ -18,5 +18,6 @@ returns-in_err-push-2 c =
     let e = c.in_err-push-2.field-0.0 in
     let a = c.in-Some.alternative in
     let met = met_more a.met.items c.push.new.self.items c.args.name c.in_ok-push.ensures.items in
-    let here = subst (λ m. IsTooMuch e c.args.self.room (found ++ record { declarations = map brought_view a.declarations.items; opened = a.opened; met = m } ∷ [])) met c.in_err-push-2.ensures in
+    let here = subst (λ m. IsTooMuch e c.args.self.room
+    (found ++ record { declarations = map brought_view a.declarations.items; opened = a.opened; met = m } ∷ [])) met c.in_err-push-2.ensures in
     rw (p.1, p.2) (too_much_here e c.args.self.room found own rest all whole here)
