@@ -1,9 +1,7 @@
--- Alternatives that are found one after another, while others are left.
+-- Alternatives that are found one after another, while others are left, and how much they are.
 use Rattle.std.proofs.Common.{◌≡◌, ℕ, ◌+◌, ◌-◌, ◌<◌, List, [], ◌∷◌, ◌++◌, length, map, Option, append_assoc, sym, ap, ap₂, ◌∙◌, subst, arith}
-use Rattle.std.proofs.lemmas.List.{nil_from_length, map-append, length-map}
+use Rattle.std.proofs.lemmas.List.{map-append, length-map}
 use Rattle.std.specs.Borrow.{Bor}
-use Rattle.std.specs.Vec.Iter.{into_iter_items, into_iter_len}
-use Rattle.std.specs.declared.vec.IntoIter.{IntoIter}
 use Rattle.cs_grammar.specs.View.{field_view}
 use Rattle.cs_grammar.specs.declared.ast.Field.{Field}
 use Rattle.cs_grammar.proofs.Views.{view-mark, view-value}
@@ -13,14 +11,6 @@ use Rattle.cs_embeddings.specs.declared.alternatives.Alternative as rust
 use Rattle.cs_embeddings.specs.declared.alternatives.Brought as brought
 use Rattle.cs_embeddings.specs.declared.fault.EmbeddingFault.{EmbeddingFault}
 use Rattle.cs_embeddings.proofs.Weights.{weight-append, too_much_of_left}
-
--- an iterator at its end has nothing left
-pub nothing_left : {X Z : Type 0} (s : IntoIter X Z) → into_iter_len s ≡ 0 → into_iter_items s ≡ []
-nothing_left s h = nil_from_length (into_iter_items s) (sym s.rest.ok.0 ∙ h)
-
--- what the next one becomes is found
-pub found_more : (before own rest all found : List Alternative) → before ++ (own ++ rest) ≡ all → found ≡ before ++ own → found ++ rest ≡ all
-found_more before own rest all found whole more = ap (λ xs. xs ++ rest) more ∙ append_assoc before own rest ∙ whole
 
 -- what is too much with it shows that all are
 pub too_much_here : (e : EmbeddingFault) (room : ℕ) (before own rest all : List Alternative) → before ++ (own ++ rest) ≡ all
