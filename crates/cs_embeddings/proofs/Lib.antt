@@ -1,6 +1,6 @@
 -- what can be embedded in so many steps can be embedded in more
 pub mod Monotone
--- what alternatives are, and how much they are
+-- how much alternatives are, how they are found and joined, and what they declare
 pub mod Weights
 pub mod Left
 pub mod Joins

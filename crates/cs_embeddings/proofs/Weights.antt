@@ -1,8 +1,8 @@
 -- Alternatives only grow: what is joined to alternatives is as much as they are, at least. So where some on the way are more than there is room
 -- for, all are.
-use Rattle.std.proofs.Common.{◌≡◌, ℕ, zero, suc, ◌+◌, ◌<◌, ◌≤◌, Bool, true, false, cond, List, [], ◌∷◌, ◌++◌, map, length, Option, Some, refl, sym, ap, ◌∙◌, subst, arith}
+use Rattle.std.proofs.Common.{◌≡◌, ℕ, zero, suc, ◌+◌, ◌≤◌, Bool, true, false, List, [], ◌∷◌, ◌++◌, map, length, Option, Some, refl, arith}
 use Rattle.std.proofs.lemmas.Bool.{and_parts, both_ways, cond_both}
-use Rattle.std.proofs.lemmas.List.{length_push, length-append}
+use Rattle.std.proofs.lemmas.List.{length_push}
 use Rattle.std.specs.List.{flat_map, list_all}
 use Rattle.cs_grammar.specs.Tree.{Tree, atom, named, reference, conjunction, disjunction, paren, struct, list, wide, marked, merged, Declarations, no_declaration, declared, embedded, Trees, none, more, Fields, no_field, field, DefinitionTree, bodies}
 use Rattle.cs_embeddings.specs.Alternatives.{Alternative, with_declaration, with_fields, opened_if, meets, meet, at, join_declarations, join_bodies, join_operands, join_definition, alternatives}
