@@ -1,0 +1,7 @@
+-- what can be embedded in so many steps can be embedded in more
+pub mod Monotone
+-- how much alternatives are, how they are found and joined, and what they declare
+pub mod Weights
+pub mod Left
+pub mod Joins
+pub mod WellAlternatives
