@@ -1,0 +1,2 @@
+-- where nothing is at fault
+pub mod Flawless
