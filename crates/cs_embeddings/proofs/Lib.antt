@@ -4,3 +4,7 @@ pub mod Bodies
 pub mod Flawless
 -- what can be embedded in so many steps can be embedded in more
 pub mod Monotone
+-- in how many steps definitions can be embedded
+pub mod Steps
+-- whether each part of a list is well
+pub mod Walks

@@ -7,6 +7,7 @@ ghost use Rattle.cs_grammar.specs.View.{expr_view, exprs_view, fields_view, decl
 ghost use Rattle.cs_embeddings.specs.Alternatives.{most_steps};
 ghost use Rattle.cs_embeddings.specs.Checks.{TellsBodies, TellsSteps, TellsRounds, bodies_view};
 ghost use Rattle.cs_embeddings.specs.Flaws.{is_none};
+ghost use Rattle.cs_embeddings.specs.Embedded as Spec;
 ghost use Rattle.cs_embeddings.specs.Embedded.{can_be_embedded, all_embedded, embeds_well, embed_well, fields_embed_well, declarations_embed_well, end_embeds_well};
 
 use crate::definitions::Bodies;
@@ -16,6 +17,13 @@ use std::collections::BTreeMap;
 
 /// How many steps embeddings may take: a definition that embeds the next one is two.
 pub(crate) const MOST_STEPS: usize = 128;
+
+/// Whether there is an operand.
+fn has_operand(operands: &[Expr]) -> bool
+    ensures { result ≡ Spec.has_operand (exprs_view operands.now) }
+{
+    !operands.is_empty()
+}
 
 /// The definitions that can be embedded, each with the least number of steps that it takes.
 #[derive(Drop)]
@@ -88,7 +96,7 @@ impl<'b, 'a> Embeddable<'b, 'a> {
                 self.declarations_embed_well(declarations, left)
             }
             Expr::Paren(inside) => self.can_embed(inside, left),
-            Expr::Or(operands) => !operands.is_empty() && self.can_embed_all(operands, left),
+            Expr::Or(operands) => has_operand(operands) && self.can_embed_all(operands, left),
             Expr::Reference { text, .. } => self.takes(text, steps),
             Expr::Top
             | Expr::Bottom
