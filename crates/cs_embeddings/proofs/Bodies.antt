@@ -1,5 +1,5 @@
 -- Definitions one after another: the table of their bodies, and the list of their names.
-use Rattle.std.proofs.Common.{◌≡◌, ℕ, ◌+◌, ◌<◌, Bool, true, false, ◌||◌, cond, List, [], ◌∷◌, ◌++◌, Option, Some, None, map, filter, take, drop, length, get_or, refl, sym, ap, ap₂, ◌∙◌, subst, not, string_bytes, Vec, Global, add-one}
+use Rattle.std.proofs.Common.{◌≡◌, ℕ, ◌+◌, ◌<◌, Bool, true, false, ◌||◌, cond, List, [], ◌∷◌, ◌++◌, Option, Some, None, map, filter, take, drop, length, get_or, refl, sym, ap, ap₂, ◌∙◌, subst, not, string_bytes, Vec, Global, add-one, zero, suc, arith}
 use Rattle.std.proofs.Math.Seq.{take-suc}
 use Rattle.std.specs.Borrow.{Bor}
 use Rattle.std.specs.BTreeMap.{BTreeMap, get_by}
@@ -8,6 +8,7 @@ use Rattle.std.specs.Ordering.{nat_cmp}
 use Rattle.std.specs.List.{list_any, flat_map}
 use Rattle.std.specs.Map.{update}
 use Rattle.std.specs.Str.{bytes_eq}
+use Rattle.std.proofs.lemmas.Bool.{or_left, or_right}
 use Rattle.std.proofs.lemmas.Cmp.{nat_list_eq_equiv}
 use Rattle.std.proofs.lemmas.Grind.{flat_map-append}
 use Rattle.std.proofs.lemmas.List.{map-append, append_assoc, append-nil}
@@ -40,6 +41,10 @@ bodies_push t ds d =
     ap (map body) (filter-append (λ (x : DefinitionTree). bytes_eq (defined_name x) t) ds (d ∷ []))
     ∙ map-append body (filter (λ (x : DefinitionTree). bytes_eq (defined_name x) t) ds) (filter (λ (x : DefinitionTree). bytes_eq (defined_name x) t) (d ∷ []))
     ∙ ap (λ xs. bodies t ds ++ xs) (elim (bytes_eq (defined_name d) t) as (λ b. map body (cond b (d ∷ []) []) ≡ cond b (body d ∷ []) []) [ true ↦ refl | false ↦ refl ])
+
+from_not : (b : Bool) → not b ≡ true → b ≡ false
+from_not true h = cc
+from_not false h = refl
 
 -- what a name has in the table
 abbrev pub entry_items : Option (Vec (Bor Expr) Global) → List (Bor Expr)
@@ -104,6 +109,15 @@ named_again names ds d named there s = named s ∙ by (bytes_eq (defined_name d)
 pub named_first : (names : List (Bor (List ℕ))) (ds : List DefinitionTree) (d : DefinitionTree) (name : Bor (List ℕ)) → Named names ds → defined_name d ≡ name.now → Named (names ++ name ∷ []) (ds ++ d ∷ [])
 named_first names ds d name named same s = has_name_push s names name ∙ ap₂ (λ a t. a || bytes_eq t s) (named s) (sym same) ∙ sym (declared_more s ds d)
 
+-- a name of the list is declared
+pub named_declared : (names : List (Bor (List ℕ))) (ds : List DefinitionTree) (i : ℕ) (d : Bor (List ℕ)) → Named names ds → i < length names → is_none (bodies (get_or names i d).now ds) ≡ false
+named_declared names ds i d all l = from_not (is_none (bodies (get_or names i d).now ds)) (sym (all (get_or names i d).now) ∙ here names i l)
+  where
+    here : (xs : List (Bor (List ℕ))) (j : ℕ) → j < length xs → has_name (get_or xs j d).now xs ≡ true
+    here [] j k = absurd (omega (arith, k))
+    here (x ∷ xs) zero k = or_left (bytes_eq x.now x.now) (has_name x.now xs) ((bytes_eq-Decides x.now x.now).1 refl)
+    here (x ∷ xs) (suc j) k = or_right (bytes_eq (get_or xs j d).now x.now) (has_name (get_or xs j d).now xs) (here xs j (omega (arith, k)))
+
 -- a name that the table has is declared
 pub declared_by : (o : Option (Vec (Bor Expr) Global)) (v : Vec (Bor Expr) Global) (es : List Tree) → TellsEntry o es → o ≡ Some v → is_none es ≡ false
 declared_by None v es h e = cc
@@ -111,7 +125,7 @@ declared_by (Some w) v es h e = h.1
 
 -- ---- definitions and files, one after another
 
-take_at : {X : Type 0} (xs : List X) (i : ℕ) (x : X) → i < length xs → x ≡ get_or xs i x → take (i + 1) xs ≡ take i xs ++ x ∷ []
+pub take_at : {X : Type 0} (xs : List X) (i : ℕ) (x : X) → i < length xs → x ≡ get_or xs i x → take (i + 1) xs ≡ take i xs ++ x ∷ []
 take_at xs i x l is = rw add-one (take-suc xs i x l ∙ ap (λ y. take i xs ++ y ∷ []) (sym is))
 
 pub definition_more : (ds : List DefinitionTree) (xs : List Definition) (i : ℕ) (d : Definition) → i < length xs → d ≡ get_or xs i d → ds ++ map definition_view (take (i + 1) xs) ≡ (ds ++ map definition_view (take i xs)) ++ definition_view d ∷ []

@@ -69,7 +69,7 @@ impl<'b, 'a> Embeddable<'b, 'a> {
         requires { steps < most_steps }
         ensures same { self.new.bodies ≡ self.old.bodies }
         ensures tells { OnOk result ((ds : List DefinitionTree) (names : List (Bor (List ℕ))) → TellsBodies self.old.bodies.now ds
-            → is_none (bodies name.now ds) ≡ false → TellsRounds self.old ds steps names → TellsRounds self.new ds steps (names ++ name ∷ [])) }
+            → is_none (bodies name.now ds) ≡ false → TellsRounds self.old ds steps names → TellsRounds self.new ds steps (names ++ name.entry ∷ [])) }
     {
         if self.steps.contains_key(name) {
             return Ok(());
