@@ -1,5 +1,7 @@
 -- definitions one after another
 pub mod Bodies
+-- what parts find, one after another
+pub mod Firsts
 -- where nothing is at fault
 pub mod Flawless
 -- what can be embedded in so many steps can be embedded in more

@@ -17,7 +17,7 @@ use Rattle.cs_embeddings.specs.Embedded.{has_operand, all_embedded, embeds_well,
 pub at_place : {X : Type 0} (xs : List X) (i : ℕ) (x : X) → i < length xs → x ≡ get_or xs i x → drop i xs ≡ x ∷ drop (i + 1) xs
 at_place xs i x l e = rw add-one (drop-cons xs i x l ∙ ap (λ y. y ∷ drop (suc i) xs) (sym e))
 
-drop_all : {X : Type 0} (xs : List X) (i : ℕ) → length xs ≤ i → drop i xs ≡ []
+pub drop_all : {X : Type 0} (xs : List X) (i : ℕ) → length xs ≤ i → drop i xs ≡ []
 drop_all [] zero l = refl
 drop_all [] (suc i) l = refl
 drop_all (x ∷ xs) zero l = absurd (omega (arith, l))

@@ -1,5 +1,5 @@
 -- What the checks of embeddings answer, and what the tables tell.
-use Rattle.std.specs.Prelude.{◌≡◌, ℕ, zero, suc, ◌+◌, ◌<◌, ◌≤◌, Bool, true, false, not, if◌then◌else◌, nat_le, List, [], ◌∷◌, map, length, Option, Some, None, Result, Ok, Err, slice_get}
+use Rattle.std.specs.Prelude.{◌≡◌, ℕ, zero, suc, ◌+◌, ◌<◌, ◌≤◌, Bool, true, false, not, if◌then◌else◌, nat_le, List, [], ◌∷◌, ◌++◌, map, length, Option, Some, None, Result, Ok, Err, slice_get}
 use Rattle.std.specs.List.{list_any, AllByRecursion}
 use Rattle.std.specs.Str.{bytes_eq}
 use Rattle.std.specs.declared.alloc.Global.{Global}
@@ -11,17 +11,17 @@ use Rattle.std.specs.Ordering.{nat_cmp}
 use Rattle.cs_grammar.specs.declared.ast.Expr.{Expr}
 use Rattle.cs_grammar.specs.Height.{height}
 use Rattle.cs_grammar.specs.Tree.{Tree, reference, DefinitionTree, bodies, body}
-use Rattle.cs_grammar.specs.View.{expr_view}
+use Rattle.cs_grammar.specs.View.{expr_view, SeenDeclaration, field_seen, embedding_seen}
 use Rattle.cs_embeddings.specs.Alternatives.{Alternative, most_steps}
 use Rattle.cs_embeddings.specs.Embedded.{can_be_embedded, embeds_well}
-use Rattle.cs_embeddings.specs.Flaws.{Flaw, unknown, no_struct, is_none}
+use Rattle.cs_embeddings.specs.Flaws.{Flaw, unknown, no_struct, is_none, flaws, flaws_here}
 use Rattle.cs_embeddings.specs.Size.{size}
 use Rattle.cs_embeddings.specs.Views.{alternatives_view, IsTooMuch}
 use Rattle.cs_embeddings.specs.declared.found.Found.{Found}
 use Rattle.cs_embeddings.specs.declared.definitions.Bodies.{Bodies}
 use Rattle.cs_embeddings.specs.declared.embedded.Embeddable.{Embeddable}
 use Rattle.cs_embeddings.specs.declared.flaws.Flaw as seen
-use Rattle.cs_embeddings.specs.declared.flaws.Flaw.TheVariants as flaws
+use Rattle.cs_embeddings.specs.declared.flaws.Flaw.TheVariants as variants
 use Rattle.cs_embeddings.specs.declared.flaws.Flaws.{Flaws}
 use Rattle.cs_embeddings.specs.declared.fault.EmbeddingFault.{EmbeddingFault}
 use Rattle.cs_embeddings.specs.declared.fault.EmbeddingFault.TheVariants.{OutOfMemory, UnknownName, NoStruct, Reopened, TooHigh, TooLarge}
@@ -76,8 +76,13 @@ Finds view (Ok y) found = found ≡ []
 Finds view (Err e) found = slice_get found 0 ≡ Some (view e)
 
 abbrev pub flaw_view : seen.Flaw → Flaw
-flaw_view (flaws.Unknown o) = unknown o
-flaw_view (flaws.NoStruct o) = no_struct o
+flaw_view (variants.Unknown o) = unknown o
+flaw_view (variants.NoStruct o) = no_struct o
+
+-- those of one declaration of a literal with embeddings
+abbrev pub flaws_seen : List DefinitionTree → SeenDeclaration → List Flaw
+flaws_seen ds (field_seen f) = flaws ds f.value
+flaws_seen ds (embedding_seen o e) = flaws_here ds o e ++ flaws ds e
 
 -- the tables of definitions tell these
 pub record TellsEmbeddable (f : Flaws) (ds : List DefinitionTree) : Type 0 where
