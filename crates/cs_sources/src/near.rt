@@ -97,6 +97,16 @@ impl<'s, 'a> Near<'s, 'a> {
             && matches!(self.inside(), Inside::File | Inside::Struct)
     }
 
+    /// Whether an expression that a struct embeds begins with the token: a declaration without a colon of its own.
+    pub(crate) fn begins_embedding(self) -> bool {
+        let here = self.here();
+        let may_begin = here.sort == Sort::Definition || is_mark(here, "{") || is_mark(here, "(");
+        may_begin
+            && precedes_declaration(self.before(1))
+            && self.inside() == Inside::Struct
+            && self.part().count(Separator::Colon) == 0
+    }
+
     /// Whether the token is the name that the declaration of a definition begins with, outside of all brackets.
     pub(crate) fn declares(self) -> bool {
         let is_name = self.here().sort == Sort::Definition && is_mark(self.behind(1), ":");

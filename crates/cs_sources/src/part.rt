@@ -55,7 +55,7 @@ impl<'s, 'a> Part<'s, 'a> {
     }
 
     /// What the bracket at its front has inside, if it closes at the end.
-    fn inside(self, open: &str) -> Option<Part<'s, 'a>> {
+    pub(crate) fn inside(self, open: &str) -> Option<Part<'s, 'a>> {
         let first = self.first()?;
         let held = first.held()?;
         let closing = first.closing()?;
@@ -64,7 +64,7 @@ impl<'s, 'a> Part<'s, 'a> {
     }
 
     /// It without the parentheses around, which say nothing.
-    fn unwrapped(self) -> Part<'s, 'a> {
+    pub(crate) fn unwrapped(self) -> Part<'s, 'a> {
         let mut left = self;
         for _ in self.from..self.to {
             let Some(inner) = left.inside("(") else { break };
@@ -88,6 +88,21 @@ impl<'s, 'a> Part<'s, 'a> {
             Some(inner) => inner.part(Separator::Comma, place),
             None if place == 0 => Some(whole),
             None => None,
+        }
+    }
+
+    /// Whether it may begin with a label: with `[` where there is none. Texts with escapes aren't read.
+    pub fn begins_with_label(self, label: Option<&str>) -> bool {
+        let Some(first) = self.first() else {
+            return false;
+        };
+        let token = first.here();
+        match label {
+            None => is_mark(token, "["),
+            Some(label) if token.sort == Sort::Text => {
+                token.text.contains('\\') || token.text.trim_matches('"') == label
+            }
+            Some(label) => token.text == label,
         }
     }
 
