@@ -1,5 +1,6 @@
 // Where literals with embeddings declare what they stand for.
 use crate::declared::Declared;
+use crate::near::Near;
 use crate::outline::Separator;
 use crate::part::Part;
 use crate::tokens::is_mark;
@@ -29,7 +30,7 @@ pub const ONLY: Alternative = Alternative {
 struct Coming<'s, 'a> {
     declarations: Part<'s, 'a>,
     next: usize,
-    /// Whether they are in an alternative of what the literal embeds.
+    /// Whether they are in an alternative of what the literal embeds; where all alternatives are followed, whether they are in a value.
     is_chosen: bool,
 }
 
@@ -41,7 +42,19 @@ struct Way<'s, 'a> {
     coming: Vec<Coming<'s, 'a>>,
     /// The definitions that are embedded so far.
     met: Vec<&'a str>,
-    alternative: Alternative,
+    /// None where all of them are followed.
+    alternative: Option<Alternative>,
+}
+
+/// What is embedded, whichever alternative is meant.
+#[derive(Drop)]
+pub struct Embedded<'s, 'a> {
+    /// The declarations of fields, in the order in which they are met.
+    pub fields: Vec<Part<'s, 'a>>,
+    /// The definitions, each once, also of what is embedded in values.
+    pub definitions: Vec<&'a str>,
+    /// The first part that is no struct: neither a literal nor made of some.
+    pub other: Option<Part<'s, 'a>>,
 }
 
 /// Whether a declaration is that of a field: it has a colon of its own.
@@ -120,7 +133,9 @@ impl<'s, 'a> Way<'s, 'a> {
     /// behind it with each of its operands. It isn't known where an operand has alternatives of its own.
     fn choose(&mut self, disjunction: Part<'s, 'a>, is_chosen: bool) -> Result<bool, AllocError> {
         let operands = disjunction.count(Separator::Bar).saturating_add(1);
-        let Alternative { number, count } = self.alternative;
+        let Some(Alternative { number, count }) = self.alternative else {
+            return self.follow_all(disjunction, is_chosen);
+        };
         let each = count.checked_div(operands).unwrap_or(0);
         let is_whole = each.saturating_mul(operands) == count;
         let place = number.checked_div(each).unwrap_or(operands);
@@ -130,12 +145,38 @@ impl<'s, 'a> Way<'s, 'a> {
         if is_chosen || !is_whole {
             return Ok(false);
         }
-        self.alternative = Alternative {
+        self.alternative = Some(Alternative {
             number: number.checked_rem(each).unwrap_or(0),
             count: each,
-        };
+        });
         self.put(operand, true)?;
         Ok(true)
+    }
+
+    /// All operands of a disjunction come next.
+    fn follow_all(
+        &mut self,
+        disjunction: Part<'s, 'a>,
+        is_chosen: bool,
+    ) -> Result<bool, AllocError> {
+        for place in (0..=disjunction.count(Separator::Bar)).rev() {
+            if let Some(operand) = disjunction.part(Separator::Bar, place) {
+                self.put(operand, is_chosen)?;
+            }
+        }
+        Ok(true)
+    }
+
+    /// What literals embed in the value of a field, at any depth, comes next.
+    fn follow_inside(&mut self, field: Part<'s, 'a>) -> Result<(), AllocError> {
+        let source = field.source;
+        for place in field.from..field.to {
+            let token = Near { source, place };
+            if token.begins_embedding() {
+                self.put(token.part(), true)?;
+            }
+        }
+        Ok(())
     }
 }
 
@@ -153,7 +194,7 @@ impl<'s, 'a> Declared<'s, 'a> {
             declared: self,
             coming: Vec::new(alloc),
             met: Vec::new(alloc),
-            alternative,
+            alternative: Some(alternative),
         };
         way.put(literal, false)?;
         let mut left = place;
@@ -171,5 +212,56 @@ impl<'s, 'a> Declared<'s, 'a> {
             }
         }
         Ok(None)
+    }
+
+    /// All that a part embeds: declarations of a literal, or what is embedded in one. Only memory can run out.
+    pub fn embedded(
+        &'s self,
+        alloc: Global,
+        part: Part<'s, 'a>,
+    ) -> Result<Embedded<'s, 'a>, AllocError> {
+        let mut way = Way {
+            declared: self,
+            coming: Vec::new(alloc),
+            met: Vec::new(alloc),
+            alternative: None,
+        };
+        let mut fields = Vec::new(alloc);
+        let mut other = None;
+        way.put(part, false)?;
+        for _ in 0..MOST_PASSED {
+            let Some((declaration, is_inside)) = way.next()? else {
+                break;
+            };
+            if is_field(declaration) {
+                if !is_inside {
+                    fields.push(declaration)?;
+                }
+                way.follow_inside(declaration)?;
+            } else if !way.embed(declaration, is_inside)? {
+                other = other.or(Some(declaration));
+            }
+        }
+        let definitions = way.met;
+        Ok(Embedded {
+            fields,
+            definitions,
+            other,
+        })
+    }
+
+    /// Whether a definition embeds itself. Only memory can run out.
+    pub fn embeds_itself(&'s self, alloc: Global, name: &str) -> Result<bool, AllocError> {
+        for before in 0..self.times(name) {
+            let declaration = self.nth(name, before);
+            let Some(body) = declaration.and_then(|found| found.part().declared()) else {
+                continue;
+            };
+            let embedded = self.embedded(alloc, body)?;
+            if embedded.definitions.iter().any(|met| *met == name) {
+                return Ok(true);
+            }
+        }
+        Ok(false)
     }
 }

@@ -13,7 +13,7 @@ mod stuck;
 mod tokens;
 
 pub use declared::{Declared, declared_in};
-pub use joined::{Alternative, ONLY};
+pub use joined::{Alternative, Embedded, ONLY};
 pub use near::Near;
 pub use outline::{Bracket, Inside, Separator};
 pub use part::Part;

@@ -4,6 +4,7 @@ use crate::outline::Separator;
 use crate::source::Source;
 use crate::tokens::{end_of, is_mark};
 use cs_grammar::{Sort, Token};
+use std::str;
 
 /// A part of a source: its tokens from one place up to another, which are in one bracket. Each part of it is found by the outline of the
 /// source, without a look at the other parts.
@@ -32,6 +33,13 @@ impl<'s, 'a> Part<'s, 'a> {
     pub fn end(self) -> usize {
         let last = self.to.checked_sub(1);
         last.map_or(0, |last| end_of(self.source.token(last)))
+    }
+
+    /// Its text.
+    pub fn text(self) -> &'a str {
+        let start = self.source.token(self.from).start;
+        let text = self.source.named.text.get(start..self.end()).unwrap_or(b"");
+        str::from_utf8(text).unwrap_or("")
     }
 
     /// The place of its separator with so many of the same sort before it.
@@ -104,6 +112,16 @@ impl<'s, 'a> Part<'s, 'a> {
             }
             Some(label) => token.text == label,
         }
+    }
+
+    /// Whether two declarations may declare one key. Escapes aren't read.
+    pub fn may_share_key(self, other: Part<'_, '_>) -> bool {
+        let (Some(first), Some(second)) = (self.first(), other.first()) else {
+            return false;
+        };
+        let (first, second) = (first.here(), second.here());
+        let is_every = is_mark(first, "[") || is_mark(second, "[");
+        is_every || first.text.trim_matches('"') == second.text.trim_matches('"')
     }
 
     /// What is declared by this declaration: what is behind its first colon.
