@@ -289,16 +289,17 @@ DEFAULTS = ["1", '"x"', "null", "-1", "false", "[]", "{}", '[1, ["x"], {}]', "(1
 
 
 class Sources:
-    """Random sources whose only forms of the wide profile are marks of defaults, most of them in place, and embeddings: so many of the
-    declarations of a literal are embedded expressions."""
+    """Random sources whose only forms of the wide profile are marks of defaults, most of them in place, and embeddings, where the package
+    has some: so many of the declarations of a literal are embedded expressions then. Where it has, there are fewer literals and
+    references among the values, as those of one label are refused where they meet."""
 
-    def __init__(self, chance: random.Random, names: list[str], embeddings: float) -> None:
-        self.chance, self.names, self.embeddings = chance, names, embeddings
+    def __init__(self, chance: random.Random, names: list[str], has_embeddings: bool) -> None:
+        self.chance, self.names, self.has_embeddings = chance, names, has_embeddings
+        self.embedded_share = chance.choice([0.3, 0.45, 0.6]) if has_embeddings else 0
 
     def value(self, depth: int) -> str:
         form = self.chance.random()
-        # Values of one label that hold literals are refused where they meet by embeddings, so there are fewer of them.
-        if depth <= 0 or form < (0.5 if self.embeddings else 0.25):
+        if depth <= 0 or form < (0.6 if self.has_embeddings else 0.25):
             return self.chance.choice(ATOMS)
         form = self.chance.random()
         if form < 0.27:
@@ -314,14 +315,16 @@ class Sources:
         return f"({self.value(depth - 1)})"
 
     def name(self) -> str:
-        return self.chance.choice(self.names) if self.chance.random() < 0.995 else "#Z"
+        return self.chance.choice(self.names) if self.chance.random() < 0.997 else "#Z"
 
     def operand(self, depth: int) -> str:
         found = self.value(depth - 1)
         return f"({found})" if any(it in found for it in "|&*") and found[0] not in "{[" else found
 
     def disjunction(self, depth: int) -> str:
-        operands = [self.operand(depth) for _ in range(self.chance.randint(1, 2))]
+        # A mark in parentheses is refused in an operand.
+        inside = 0 if self.has_embeddings and self.chance.random() < 0.8 else depth
+        operands = [self.operand(inside) for _ in range(self.chance.randint(1, 2))]
         form = self.chance.random()
         if form < 0.75:
             operands.insert(self.chance.randint(0, len(operands)), "*" + self.chance.choice(DEFAULTS))
@@ -330,12 +333,12 @@ class Sources:
         return " | ".join(operands)
 
     def struct(self, depth: int) -> str:
-        declared = [self.declaration(depth) for _ in range(self.chance.randint(0, 3))]
+        declared = [self.declaration(depth) for _ in range(self.chance.randint(0, 4 if self.has_embeddings else 3))]
         between = self.chance.choice([", ", ", ", "\n"])
         return "{" + between.join(declared + ["..."] * (self.chance.random() < 0.4)) + "}"
 
     def declaration(self, depth: int) -> str:
-        return self.embedded(depth - 1) if self.chance.random() < self.embeddings else self.field(depth)
+        return self.embedded(depth - 1) if self.chance.random() < self.embedded_share else self.field(depth)
 
     def embedded(self, depth: int) -> str:
         """A definition, a literal, a disjunction or parentheses; a few that can't be embedded, or can't be so far."""
@@ -344,21 +347,21 @@ class Sources:
             return self.name()
         if form < 0.7:
             return self.struct(depth)
-        if form < 0.88:
+        if form < 0.89:
             return " | ".join(self.embedded(depth - 1) for _ in range(self.chance.randint(2, 3)))
-        if form < 0.95:
-            return f"({self.embedded(depth - 1)})"
         if form < 0.97:
+            return f"({self.embedded(depth - 1)})"
+        if form < 0.985:
             return f"{self.name()} & {self.struct(depth)}"
         return self.chance.choice([f"*{{}} | {self.struct(depth)}", "int", '"x"', "[...int]", f"{self.struct(depth)} | 1"])
 
     def field(self, depth: int) -> str:
-        label = self.chance.choice(LABELS)
+        label = self.chance.choice("abcdef" if self.has_embeddings else LABELS)
         form = self.chance.random()
         if form < 0.06:
             return f"[string]: {self.value(depth - 1)}"
         # A name of a kind that is a label, which names that field where it isn't quoted.
-        label = "int" if form < 0.08 else json.dumps(label) if form < 0.2 else label
+        label = "int" if form < 0.07 else json.dumps(label) if form < 0.2 else label
         return f"{label}{self.chance.choice(['', '', '', '?', '!'])}: {self.field(depth) if form > 0.95 else self.value(depth - 1)}"
 
     def listing(self, depth: int) -> str:
@@ -369,29 +372,31 @@ class Sources:
     def body(self, name: str) -> str:
         """The body of a definition: where there are embeddings most are literals and disjunctions of such."""
         form = self.chance.random()
-        if form < 0.3:
-            return self.value(3)
-        if self.embeddings:
-            return self.struct(3) if name == "#P" or form < 0.8 else " | ".join(self.struct(2) for _ in range(2))
-        return self.struct(3) if name == "#P" else self.disjunction(3)
+        if self.has_embeddings:
+            return self.value(3) if form < 0.05 else self.struct(3) if name == "#P" or form < 0.8 else f"{self.struct(2)} | {self.struct(2)}"
+        return self.value(3) if form < 0.3 else self.struct(3) if name == "#P" else self.disjunction(3)
 
-    def opened(self) -> str:
-        """A further body that may stand beside others."""
-        return "{" + ", ".join([f"{self.chance.choice(LABELS)}?: {self.chance.choice(ATOMS)}", "..."]) + "}"
+    def further_body(self, name: str) -> str:
+        """Bodies that stand beside one another have to be opened."""
+        if self.chance.random() < 0.2:
+            return self.body(name)
+        return "{" + f"{self.chance.choice(LABELS)}?: {self.chance.choice(ATOMS)}, ..." + "}"
 
 
 def source_of(chance: random.Random) -> str:
-    """A random package. A definition refers to those behind it most of the time, and has one body."""
-    names = ["#P", "#A", "#B", "#C"][: chance.randint(1, 4)]
-    embeddings = chance.choice([0, 0.3, 0.45])
+    """A random package. A definition refers to those behind it most of the time, and has one body. Every third one has no embeddings."""
+    has_embeddings = chance.random() < 0.67
+    names = ["#P", "#A", "#B", "#C"][: chance.randint(1 + has_embeddings, 4)]
     lines = []
     for place, name in enumerate(names):
-        sources = Sources(chance, (names[place + 1 :] if chance.random() < 0.95 else names) or ["#Z" if chance.random() < 0.01 else names[0]], embeddings)
-        if place + 1 == len(names) and chance.random() < 0.9:
-            sources.embeddings = 0
-        lines.append(f"{name}: {sources.body(name)}")
+        behind = names[place + 1 :]
+        sources = Sources(chance, (behind if chance.random() < 0.96 else names) or ["int"], has_embeddings)
+        # Nothing stands behind the last one that it could embed.
+        sources.embedded_share = sources.embedded_share if behind or chance.random() < 0.05 else 0
+        bodies = [sources.body(name)]
         if chance.random() < 0.07:
-            lines.append(f"{name}: {sources.opened() if chance.random() < 0.8 else sources.body(name)}")
+            bodies = [sources.further_body(name), sources.further_body(name)]
+        lines += [f"{name}: {it}" for it in bodies]
     return "\n".join(lines) + "\n"
 
 
