@@ -177,7 +177,7 @@ def text(it: tuple, labelled: Callable[[str], str] = json.dumps) -> str:
         mark = " & " if form == "and" else " | "
         return mark.join(f"({text(part, labelled)})" if part[0] in ("and", "or") else text(part, labelled) for part in it[1])
     if form == "struct":
-        fields = [f"{'[string]' if mark == '[string]' else labelled(label) + mark}: {text(value, labelled)}" for label, mark, value in it[1]]
+        fields = [text_of_field(*declared, labelled) for declared in it[1]]
         return "{" + ", ".join(fields + ["..."] * it[2]) + "}"
     if form == "list":
         end = [] if it[2] is None else ["..."] if it[2] == ("top",) else [f"...{text(it[2], labelled)}"]
@@ -187,6 +187,12 @@ def text(it: tuple, labelled: Callable[[str], str] = json.dumps) -> str:
     if form == "bound":
         return f"{it[1]}{it[2]}"
     return {"top": "_", "bottom": "_|_"}.get(form) or it[1]
+
+
+def text_of_field(label: str, mark: str, value: tuple, labelled: Callable[[str], str]) -> str:
+    """A source of a declaration; one with the mark `embed` is an embedded expression."""
+    front = "" if mark == "embed" else "[string]: " if mark == "[string]" else f"{labelled(label)}{mark}: "
+    return front + text(value, labelled)
 
 
 def is_integer(doc) -> bool:

@@ -76,9 +76,9 @@ def row_of(lines: list[str]) -> Row:
     return row
 
 
-def rows() -> list[Row]:
-    """The rows of the file; a line that begins with `# ` says something of those below it."""
-    parted = [[it for it in part.split("\n") if it and not it.startswith("# ")] for part in ROWS.read_text().split("\n\n")]
+def rows(path: Path = ROWS) -> list[Row]:
+    """The rows of a file; a line that begins with `# ` says something of those below it."""
+    parted = [[it for it in part.split("\n") if it and not it.startswith("# ")] for part in path.read_text().split("\n\n")]
     return [row_of(lines) for lines in parted if lines]
 
 
@@ -366,7 +366,9 @@ class Sources:
 
     def listing(self, depth: int) -> str:
         front = [self.value(depth - 1) for _ in range(self.chance.randint(0, 2))]
-        end = self.chance.choice(["", "...", "..." + self.value(depth - 1)])
+        each = self.value(depth - 1)
+        # The model writes `..._` as `...`, which has another schema.
+        end = self.chance.choice(["", "...", "..." + each * (each.strip("()") != "_")])
         return f"[{', '.join(front + [end] * bool(end))}]"
 
     def body(self, name: str) -> str:
@@ -580,12 +582,23 @@ class Tried:
             yield f"wanted {sorted(wanted)} {sorted(meaning.beyond)} {as_written(meaning.package)}and {said}"
         if is_refused(source) and not refusal:
             yield f"is refused by the model, and {said}"
-        if not refusal and not wanted - {""}:
+        if refusal:
+            yield from self.other_first(source, refusal)
+        elif not wanted - {""}:
             yield from self.differences(chance, source, printed, meaning.package)
+
+    def other_first(self, source: str, refusal: str) -> Iterator[str]:
+        """What `check` tells first, where that is another refusal."""
+        told = self.run(["check", "--profile", "wide"], source)[0].partition("\n")[0]
+        if f"{refusal}:" not in told:
+            yield f"is refused by {refusal}, and `check` tells first {told!r}"
 
     def differences(self, chance: random.Random, source: str, printed: str, meant: Package) -> Iterator[str]:
         if parsed(printed) != parsed(spelled(meant)):
             yield f"means {spelled(meant)}and is written as {printed}"
+        schemas, wanted = self.run(["export", "--all", "--profile", "wide"], source), self.run(["export", "--all"], as_written(meant))
+        if schemas != wanted:
+            yield f"means {spelled(meant)}and is exported as {schemas}, in place of {wanted}"
         docs = [document(chance, 3) if number % 2 else near(chance, meant, ("ref", "#P"), 6) for number in range(DOCUMENTS)]
         try:
             yield from self.misjudged(source, [(it, "valid" if is_instance(meant, "#P", it) else "invalid") for it in docs])
