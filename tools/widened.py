@@ -9,9 +9,18 @@
 - Random packages, 200 where no number is given: each document has to be an instance by a direct reading of the source exactly where it is
   one of the package that is meant. By that reading a document is an instance of a literal with embedded expressions when, for some choice
   of an alternative for each, one for a name, every declared field is as all of them ask, and every other key is allowed by one of them.
-- With a program: random packages with defaults and no other form of the wide profile. Where the model refuses a mark, `widen --profile wide`
-  refuses by 5. Elsewhere it says of the package what `widen` says of the one that the model means: the number of the same refusal, or a
-  text that is read as the same package; and then `vet --profile wide` judges documents as the model does.
+- With a program: the rows, by `widen --profile wide` and `vet --profile wide`; where the program doesn't take a form so far, `so far`
+  says how it refuses that. Then random packages with defaults and embeddings, every third one without embeddings, every fifth one in a
+  file for each declaration. Where the model refuses, the program has to. Where it doesn't, `widen --profile wide` has to say of the
+  package what `widen` says of the one that the model means: the number of the same refusal, or a text that is read as the same package;
+  `export` writes the same schemas, to the byte, and `vet` judges documents as the model does. The program is refused by 11 where the
+  model uses a rule that it doesn't take: `&` or a mark in what is embedded, two values of a label that an embedding brings together,
+  literals that are joined. `check` has to tell the same number first.
+
+Numbers are compared in the order of the program's conditions: what can't be embedded (9, 11) and what an embedding brings together
+(11), then marks (5), then the package that is meant, where 9 and 10 come before 11. They aren't told apart in three cases: 9 and 11
+where some name isn't declared, 5 and 11 where a package with marks needs that literals are joined, and with such a mark at fault 9 and
+10 too.
 """
 from __future__ import annotations
 
@@ -385,8 +394,8 @@ class Sources:
         return "{" + f"{self.chance.choice(LABELS)}?: {self.chance.choice(ATOMS)}, ..." + "}"
 
 
-def source_of(chance: random.Random) -> str:
-    """A random package. A definition refers to those behind it most of the time, and has one body. Every third one has no embeddings."""
+def sources_of(chance: random.Random) -> list[str]:
+    """The files of a random package: one of all declarations, or one for each. A definition refers to those behind it most of the time, and has one body. Every third one has no embeddings."""
     has_embeddings = chance.random() < 0.67
     names = ["#P", "#A", "#B", "#C"][: chance.randint(1 + has_embeddings, 4)]
     lines = []
@@ -398,8 +407,8 @@ def source_of(chance: random.Random) -> str:
         bodies = [sources.body(name)]
         if chance.random() < 0.07:
             bodies = [sources.further_body(name), sources.further_body(name)]
-        lines += [f"{name}: {it}" for it in bodies]
-    return "\n".join(lines) + "\n"
+        lines += [f"{name}: {it}\n" for it in bodies]
+    return lines if chance.random() < 0.2 else ["".join(lines)]
 
 
 class Reading(WideReader):
@@ -560,21 +569,24 @@ class Tried:
     def __init__(self, program: str, room: Path) -> None:
         self.program, self.room = program, room
 
-    def run(self, words: list[str], source: str, given: str = "") -> tuple[str, str]:
-        """What it prints of a source, and the refusal that it says."""
-        (self.room / "source.cue").write_text(source)
-        words = [self.program, *words, "source.cue"]
+    def run(self, words: list[str], sources: list[str], given: str = "") -> tuple[str, str]:
+        """What it prints of sources, and the refusal that it says."""
+        names = [f"{number}.cue" for number in range(1, len(sources) + 1)]
+        for name, source in zip(names, sources, strict=True):
+            (self.room / name).write_text(source)
+        words = [self.program, *words, "--", *names]
         ran = subprocess.run(words, cwd=self.room, input=given, capture_output=True, encoding="utf-8", timeout=60)
         return ran.stdout, " ".join(ran.stderr.split()[:2])
 
-    def widen(self, source: str) -> tuple[str, str]:
-        return self.run(["widen", "--profile", "wide"], source)
+    def widen(self, sources: list[str]) -> tuple[str, str]:
+        return self.run(["widen", "--profile", "wide"], sources)
 
-    def faults(self, chance: random.Random, source: str) -> Iterator[str]:
+    def faults(self, chance: random.Random, sources: list[str]) -> Iterator[str]:
         """How the package is answered, and then what differs."""
-        printed, refusal = self.widen(source)
+        printed, refusal = self.widen(sources)
+        source = "".join(sources)
         meaning = meaning_of(source)
-        of_package = "" if meaning.numbers else self.run(["widen"], as_written(meaning.package))[1]
+        of_package = "" if meaning.numbers else self.run(["widen"], [as_written(meaning.package)])[1]
         wanted = meaning.wanted(of_package, "*" in source)
         yield f"{refusal or 'accepted'}{' for what is not taken yet' if refusal == 'error 11' and meaning.beyond else ''}"
         said = f"the program says {refusal!r} {printed}"
@@ -583,45 +595,45 @@ class Tried:
         if is_refused(source) and not refusal:
             yield f"is refused by the model, and {said}"
         if refusal:
-            yield from self.other_first(source, refusal)
+            yield from self.other_first(sources, refusal)
         elif not wanted - {""}:
-            yield from self.differences(chance, source, printed, meaning.package)
+            yield from self.differences(chance, sources, printed, meaning.package)
 
-    def other_first(self, source: str, refusal: str) -> Iterator[str]:
+    def other_first(self, sources: list[str], refusal: str) -> Iterator[str]:
         """What `check` tells first, where that is another refusal."""
-        told = self.run(["check", "--profile", "wide"], source)[0].partition("\n")[0]
+        told = self.run(["check", "--profile", "wide"], sources)[0].partition("\n")[0]
         if f"{refusal}:" not in told:
             yield f"is refused by {refusal}, and `check` tells first {told!r}"
 
-    def differences(self, chance: random.Random, source: str, printed: str, meant: Package) -> Iterator[str]:
+    def differences(self, chance: random.Random, sources: list[str], printed: str, meant: Package) -> Iterator[str]:
         if parsed(printed) != parsed(spelled(meant)):
             yield f"means {spelled(meant)}and is written as {printed}"
-        schemas, wanted = self.run(["export", "--all", "--profile", "wide"], source), self.run(["export", "--all"], as_written(meant))
+        schemas, wanted = self.run(["export", "--all", "--profile", "wide"], sources), self.run(["export", "--all"], [as_written(meant)])
         if schemas != wanted:
             yield f"means {spelled(meant)}and is exported as {schemas}, in place of {wanted}"
         docs = [document(chance, 3) if number % 2 else near(chance, meant, ("ref", "#P"), 6) for number in range(DOCUMENTS)]
         try:
-            yield from self.misjudged(source, [(it, "valid" if is_instance(meant, "#P", it) else "invalid") for it in docs])
+            yield from self.misjudged(sources, [(it, "valid" if is_instance(meant, "#P", it) else "invalid") for it in docs])
         except RecursionError:
             yield f"means {spelled(meant)}which the model can't judge by"
 
-    def misjudged(self, source: str, docs: list[tuple[object, str]]) -> Iterator[str]:
+    def misjudged(self, sources: list[str], docs: list[tuple[object, str]]) -> Iterator[str]:
         """The documents that get another verdict than they should."""
         lines = "".join(json.dumps(doc) + "\n" for doc, _wanted in docs)
-        verdicts = self.run(["vet", "--profile", "wide", "--root", "#P", "--lines"], source, lines)[0].split()
+        verdicts = self.run(["vet", "--profile", "wide", "--root", "#P", "--lines"], sources, lines)[0].split()
         for (doc, wanted), verdict in zip(docs, verdicts, strict=True):
             if verdict != wanted:
                 yield f"{json.dumps(doc)} is {wanted}, and the program says {verdict}"
 
     def faults_of_row(self, row: Row) -> Iterator[str]:
         """How the program differs from a row."""
-        printed, refusal = self.widen(row.source)
+        printed, refusal = self.widen([row.source])
         if refusal != (row.so_far or row.refusal()):
             yield f"wanted {row.so_far or row.refusal()!r}, and the program says {refusal!r} {printed}"
         elif not refusal:
             if row.differs(parsed(printed)):
                 yield f"is written as {printed}"
-            yield from self.misjudged(row.source, row.documents)
+            yield from self.misjudged([row.source], row.documents)
 
 
 def is_refused(source: str) -> bool:
@@ -637,10 +649,10 @@ def try_program(given: tuple[str, int]) -> tuple[str, list[str]]:
     """How the random package of a seed is answered, and what differs."""
     program, seed = given
     chance = random.Random(seed)
-    source = source_of(chance)
+    sources = sources_of(chance)
     with tempfile.TemporaryDirectory() as room:
-        answer, *faults = Tried(program, Path(room)).faults(chance, source)
-    return answer, [f"seed {seed}: {source}{it}" for it in faults]
+        answer, *faults = Tried(program, Path(room)).faults(chance, sources)
+    return answer, [f"seed {seed}: {'% '.join(sources)}{it}" for it in faults]
 
 
 def try_rows(program: str) -> list[list[str]]:
