@@ -37,9 +37,10 @@ impl<'s, 'a> Part<'s, 'a> {
 
     /// Its text.
     pub fn text(self) -> &'a str {
-        let start = self.source.token(self.from).start;
-        let text = self.source.named.text;
-        str::from_utf8(text.get(start..self.end()).unwrap_or(b"")).unwrap_or("")
+        let source = self.source;
+        let start = source.token(self.from).start;
+        let text = source.named.text.get(start..self.end()).unwrap_or(b"");
+        str::from_utf8(text).unwrap_or("")
     }
 
     /// The place of its separator with so many of the same sort before it.
