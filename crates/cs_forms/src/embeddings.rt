@@ -40,18 +40,34 @@ pub fn flaw_of_embedding<'s, 'a>(
     sources: &'s [Source<'a>],
 ) -> Result<Option<Flaw<'a>>, AllocError> {
     let declared = declared_in(alloc, sources)?;
-    let embedded = near.embedding();
-    if let Some(embedded) = embedded
-        && let Some(flaw) = flaw_inside(alloc, &declared, embedded)?
-    {
-        return Ok(Some(flaw));
+    flaw_at(alloc, &declared, near)
+}
+
+/// The same by the definitions of the sources.
+fn flaw_at<'s, 'a>(
+    alloc: Global,
+    declared: &'s Declared<'s, 'a>,
+    near: Near<'s, 'a>,
+) -> Result<Option<Flaw<'a>>, AllocError> {
+    let Some(embedded) = near.embedding() else {
+        let field = near.source.declaration_at(near.place);
+        return flaw_beside(alloc, declared, near, Some(field));
+    };
+    match flaw_inside(alloc, declared, embedded)? {
+        Some(flaw) => Ok(Some(flaw)),
+        None => flaw_beside(alloc, declared, near, None),
     }
+}
+
+/// That a field is declared twice where something is embedded: this one, or any where none is given.
+fn flaw_beside<'s, 'a>(
+    alloc: Global,
+    declared: &'s Declared<'s, 'a>,
+    near: Near<'s, 'a>,
+    field: Option<Part<'s, 'a>>,
+) -> Result<Option<Flaw<'a>>, AllocError> {
     let Some(literal) = literal_around(near) else {
         return Ok(None);
-    };
-    let field = match embedded {
-        Some(_) => None,
-        None => Some(near.source.declaration_at(near.place)),
     };
     let joined = declared.embedded(alloc, literal)?;
     let is_alone = joined.definitions.is_empty() && !near.stands_beside_embeddings();
