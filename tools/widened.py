@@ -13,14 +13,14 @@
   says how it refuses that. Then random packages with defaults and embeddings, every third one without embeddings, every fifth one in a
   file for each declaration. Where the model refuses, the program has to. Where it doesn't, `widen --profile wide` has to say of the
   package what `widen` says of the one that the model means: the number of the same refusal, or a text that is read as the same package;
-  `export` writes the same schemas, to the byte, and `vet` judges documents as the model does. The program is refused by 11 where the
+  `export` writes the same schemas, to the byte, and `vet` judges documents as the model does. The program has to refuse by 11 where the
   model uses a rule that it doesn't take: `&` or a mark in what is embedded, two values of a label that an embedding brings together,
   literals that are joined. `check` has to tell the same number first.
 
 Numbers are compared in the order of the program's conditions: what can't be embedded (9, 11), then what an embedding brings together
-(11) or too many nodes with it (14), then marks (5), then the package that is meant, where 9 and 10 come before 11. They aren't told apart in three cases: 9 and 11
-where some name isn't declared, 5 and 11 where a package with marks needs that literals are joined, and with such a mark at fault 9 and
-10 too.
+(11) or too many nodes with it (14), then marks (5), then the package that is meant, where 9 and 10 come before 11. They aren't told
+apart in three cases: 9 and 11 where some name isn't declared, 5 and 11 where a package with marks needs that literals are joined, and
+with such a mark at fault 9 and 10 too.
 """
 from __future__ import annotations
 
@@ -395,7 +395,8 @@ class Sources:
 
 
 def sources_of(chance: random.Random) -> list[str]:
-    """The files of a random package: one of all declarations, or one for each. A definition refers to those behind it most of the time, and has one body. Every third one has no embeddings."""
+    """The files of a random package: one of all declarations, or one for each. A definition refers to those behind it most of the time,
+    and has one body. Every third package has no embeddings."""
     has_embeddings = chance.random() < 0.67
     names = ["#P", "#A", "#B", "#C"][: chance.randint(1 + has_embeddings, 4)]
     lines = []

@@ -91,7 +91,7 @@ fn notes_of_fields(
     notes_of_struct(alloc, labels, every)
 }
 
-/// The same of a literal with embeddings, which has the notes of the fields that it declares itself.
+/// The same of a literal with embeddings, which has the notes of the fields of itself and of the literals that it embeds.
 #[cycle(values)]
 fn notes_of_declarations(
     alloc: Global,
@@ -100,16 +100,55 @@ fn notes_of_declarations(
 ) -> Result<Notes, AllocError> {
     let mut every = Vec::new(alloc);
     let mut labels = Declarations::new(alloc);
+    add_declarations(alloc, declarations, texts, &mut labels, &mut every)?;
+    notes_of_struct(alloc, labels, every)
+}
+
+/// Adds the fields of a literal with embeddings.
+#[cycle(values)]
+fn add_declarations(
+    alloc: Global,
+    declarations: &[Declaration],
+    texts: &mut Texts,
+    labels: &mut Declarations,
+    every: &mut Vec<Notes>,
+) -> Result<(), AllocError> {
     for declaration in declarations {
         match declaration {
-            Declaration::Field(field) => {
-                add_field(alloc, field, texts, &mut labels, &mut every)?;
+            Declaration::Field(field) => add_field(alloc, field, texts, labels, every)?,
+            Declaration::Embedded { value, .. } => {
+                add_embedded(alloc, value, texts, labels, every)?;
             },
-            // Its texts are passed over.
-            Declaration::Embedded { value, .. } => drop(notes_of_value(alloc, value, texts)?),
         }
     }
-    notes_of_struct(alloc, labels, every)
+    Ok(())
+}
+
+/// Adds the fields of a literal that is embedded. The texts of other values are passed over: their fields stand elsewhere, or in an alternative.
+#[cycle(values)]
+fn add_embedded(
+    alloc: Global,
+    value: &Expr,
+    texts: &mut Texts,
+    labels: &mut Declarations,
+    every: &mut Vec<Notes>,
+) -> Result<(), AllocError> {
+    match value {
+        Expr::Struct { fields, .. } => {
+            for field in fields {
+                add_field(alloc, field, texts, labels, every)?;
+            }
+            Ok(())
+        },
+        Expr::Paren(inside) => add_embedded(alloc, inside, texts, labels, every),
+        Expr::Wide(Wide::Merged { declarations, .. }) => {
+            add_declarations(alloc, declarations, texts, labels, every)
+        },
+        _ => {
+            drop(notes_of_value(alloc, value, texts)?);
+            Ok(())
+        },
+    }
 }
 
 /// Adds a field: under its label, or to those under every key.

@@ -1,62 +1,20 @@
--- Samples, worked by the definitions: how high trees are, how deep words nest, which fault a word is, and the limits.
-use Rattle.std.proofs.Common.{◌≡◌, ℕ, zero, suc, pos, ◌<◌, List, [], ◌∷◌, ◌++◌, map, true, false, None, refl, codes, arith, inl, inr}
+-- Samples, worked by the definitions: how deep words nest, which fault a word is, and the limits.
+use Rattle.std.proofs.Common.{◌≡◌, ℕ, zero, suc, ◌<◌, List, [], ◌∷◌, ◌++◌, map, true, false, refl, codes, arith, inl, inr}
 use Rattle.std.specs.Prelude.{◌⊎◌, replicate}
-use Rattle.cs_grammar.specs.declared.ast.FieldMark.TheVariants.{Optional}
 use Rattle.cs_grammar.specs.Atom as atoms
 use Rattle.cs_grammar.specs.declared.fault.SyntaxFault.{SyntaxFault}
 use Rattle.cs_grammar.specs.declared.fault.SyntaxFault.TheVariants.{Syntax, LeftOut}
 use Rattle.cs_grammar.specs.Cut.{Lexeme, IsCut}
 use Rattle.cs_grammar.specs.Words as W
 use Rattle.cs_grammar.specs.Words.{Word, Words}
-use Rattle.cs_grammar.specs.Tree as T
-use Rattle.cs_grammar.specs.Tree.{Tree, Trees, Fields, FileTree, file, definition}
+use Rattle.cs_grammar.specs.Tree.{FileTree}
 use Rattle.cs_grammar.specs.Spells.{SpellsFile}
 use Rattle.cs_grammar.specs.TokenWords.{words}
-use Rattle.cs_syntax.specs.Height.{height, file_height}
+use Rattle.cs_grammar.specs.Height.{file_height}
 use Rattle.cs_syntax.specs.Nesting.{behind, nesting}
 use Rattle.cs_syntax.specs.Place.{is_left_out_name, is_left_out, fault_of, same, past, IsFaultIn}
 use Rattle.cs_syntax.specs.Answer.{IsSpelled}
 use Rattle.cs_syntax.specs.Refusal.{IsMisplaced, IsTooHigh}
-
--- ---- heights
-
-abbrev one : Tree
-one = T.atom (T.integer (pos 1))
-
-abbrev list_of : List Tree → Trees
-list_of [] = T.none
-list_of (e ∷ es) = T.more e (list_of es)
-
-abbrev fields_of : List Tree → Fields
-fields_of [] = T.no_field
-fields_of (e ∷ es) = T.field (record { text = codes "a"; quotes = false }) Optional e (fields_of es)
-
--- so many parentheses around it
-abbrev kept : ℕ → Tree → Tree
-kept zero e = e
-kept (suc n) e = T.paren (kept n e)
-
-without_parts : map height (T.atom T.top ∷ T.atom T.bottom ∷ T.atom T.null ∷ T.atom (T.boolean true) ∷ one ∷ T.atom (T.text (codes "a")) ∷ T.named (codes "int") 4 ∷ T.reference (codes "A") 4 ∷ T.atom (T.bound atoms.less (pos 1)) ∷ T.atom (T.not_integer (pos 1)) ∷ T.atom (T.not_text (codes "a")) ∷ T.atom T.not_null ∷ []) ≡ replicate 12 1
-without_parts = refl
-
--- `1 & (1)`, `(1) | 1`, `(1)` and `((1))`
-operands : map height (T.conjunction (list_of (one ∷ kept 1 one ∷ [])) ∷ T.disjunction (list_of (kept 1 one ∷ one ∷ [])) ∷ kept 1 one ∷ kept 2 one ∷ []) ≡ 3 ∷ 3 ∷ 2 ∷ 3 ∷ []
-operands = refl
-
--- `{}`, `{...}`, `{a?: 1}` and `{a?: 1, a?: (1), a?: 1}`
-structs : map height (T.struct 0 (fields_of []) false ∷ T.struct 0 (fields_of []) true ∷ T.struct 0 (fields_of (one ∷ [])) false ∷ T.struct 0 (fields_of (one ∷ kept 1 one ∷ one ∷ [])) false ∷ []) ≡ 1 ∷ 1 ∷ 2 ∷ 3 ∷ []
-structs = refl
-
--- `[]`, `[...]`, `[1]`, `[...1]`, `[(1), ...1]` and `[1, ...(1)]`
-lists : map height (T.list T.none T.closed ∷ T.list T.none T.any ∷ T.list (list_of (one ∷ [])) T.closed ∷ T.list T.none (T.each one) ∷ T.list (list_of (kept 1 one ∷ [])) (T.each one) ∷ T.list (list_of (one ∷ [])) (T.each (kept 1 one)) ∷ []) ≡ 1 ∷ 1 ∷ 2 ∷ 2 ∷ 3 ∷ 3 ∷ []
-lists = refl
-
--- a file without definitions, and one whose second body is the highest
-files : map file_height (file None [] ∷ file None (definition (codes "A") 0 one ∷ definition (codes "A") 6 (kept 2 one) ∷ definition (codes "B") 16 one ∷ []) ∷ []) ≡ 0 ∷ 3 ∷ []
-files = refl
-
-at_the_limit : map (λ n. height (kept n one)) (27 ∷ 28 ∷ []) ≡ 28 ∷ 29 ∷ []
-at_the_limit = refl
 
 -- ---- nesting
 
@@ -133,10 +91,10 @@ other_levels = refl
 
 -- words of each sort, in the order of their definition
 abbrev pub sorts : Words
-sorts = a ∷ W.definition_name (codes "A") 0 ∷ W.hidden 0 ∷ W.top_mark 0 ∷ W.bottom_mark 0 ∷ one_word ∷ q ∷ W.open_struct 0 ∷ W.close_struct 0 ∷ W.open_list 0 ∷ W.close_list 0 ∷ W.open_paren 0 ∷ W.close_paren 0 ∷ W.comma 0 ∷ W.nl 0 ∷ W.colon 0 ∷ W.question 0 ∷ W.bang 0 ∷ W.amp 0 ∷ W.bar 0 ∷ W.dots 0 ∷ W.relation atoms.less 0 ∷ W.unequal 0 ∷ W.minus 0 ∷ W.star 0 ∷ W.left_out 0 ∷ W.finish 0 ∷ []
+sorts = a ∷ W.definition_name (codes "A") 0 ∷ W.hidden 0 ∷ W.top_mark 0 ∷ W.bottom_mark 0 ∷ one_word ∷ q ∷ W.open_struct 0 ∷ W.open_wide 0 ∷ W.close_struct 0 ∷ W.open_list 0 ∷ W.close_list 0 ∷ W.open_paren 0 ∷ W.close_paren 0 ∷ W.comma 0 ∷ W.nl 0 ∷ W.colon 0 ∷ W.question 0 ∷ W.bang 0 ∷ W.amp 0 ∷ W.bar 0 ∷ W.dots 0 ∷ W.relation atoms.less 0 ∷ W.unequal 0 ∷ W.minus 0 ∷ W.star 0 ∷ W.left_out 0 ∷ W.finish 0 ∷ []
 
 -- the levels behind a word, where a label behind a colon is before it, and 2 and 1 short colons are open
-levels_behind : map (λ w. behind (a ∷ W.colon 0 ∷ []) w (2 ∷ 1 ∷ [])) sorts ≡ replicate 7 (2 ∷ 1 ∷ []) ++ (0 ∷ 2 ∷ 1 ∷ []) ∷ (1 ∷ []) ∷ (0 ∷ 2 ∷ 1 ∷ []) ∷ (1 ∷ []) ∷ (0 ∷ 2 ∷ 1 ∷ []) ∷ (1 ∷ []) ∷ (0 ∷ 1 ∷ []) ∷ (0 ∷ 1 ∷ []) ∷ (3 ∷ 1 ∷ []) ∷ replicate 11 (2 ∷ 1 ∷ [])
+levels_behind : map (λ w. behind (a ∷ W.colon 0 ∷ []) w (2 ∷ 1 ∷ [])) sorts ≡ replicate 7 (2 ∷ 1 ∷ []) ++ (0 ∷ 2 ∷ 1 ∷ []) ∷ (0 ∷ 2 ∷ 1 ∷ []) ∷ (1 ∷ []) ∷ (0 ∷ 2 ∷ 1 ∷ []) ∷ (1 ∷ []) ∷ (0 ∷ 2 ∷ 1 ∷ []) ∷ (1 ∷ []) ∷ (0 ∷ 1 ∷ []) ∷ (0 ∷ 1 ∷ []) ∷ (3 ∷ 1 ∷ []) ∷ replicate 11 (2 ∷ 1 ∷ [])
 levels_behind = refl
 
 -- 28 and 29 parentheses, and as many short colons
@@ -152,7 +110,7 @@ deep = refl
 left_out_names : map is_left_out_name (codes "import" ∷ codes "let" ∷ codes "for" ∷ codes "if" ∷ codes "package" ∷ codes "imports" ∷ codes "in" ∷ [] ∷ []) ≡ true ∷ true ∷ true ∷ true ∷ false ∷ false ∷ false ∷ false ∷ []
 left_out_names = refl
 
-left_out : map is_left_out sorts ≡ false ∷ false ∷ true ∷ replicate 21 false ++ true ∷ true ∷ false ∷ []
+left_out : map is_left_out sorts ≡ false ∷ false ∷ true ∷ replicate 22 false ++ true ∷ true ∷ false ∷ []
 left_out = refl
 
 faults : map fault_of (W.name (codes "let") 5 ∷ W.name (codes "int") 5 ∷ W.hidden 5 ∷ W.left_out 5 ∷ W.finish 9 ∷ []) ≡ LeftOut 5 ∷ Syntax 5 ∷ LeftOut 5 ∷ LeftOut 5 ∷ Syntax 9 ∷ []
