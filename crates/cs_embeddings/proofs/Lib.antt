@@ -1,5 +1,7 @@
 -- definitions one after another
 pub mod Bodies
+-- declarations so far
+pub mod Clashing
 -- what parts find, one after another
 pub mod Firsts
 -- where nothing is at fault
