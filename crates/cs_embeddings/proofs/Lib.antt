@@ -12,3 +12,5 @@ pub mod Monotone
 pub mod Steps
 -- whether each part of a list is well
 pub mod Walks
+-- samples
+pub mod Samples
