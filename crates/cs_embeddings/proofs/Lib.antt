@@ -1,0 +1,2 @@
+-- what is made of parts
+pub mod Parts

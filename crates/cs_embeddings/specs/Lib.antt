@@ -9,3 +9,4 @@ pub mod Without
 -- for private contracts alone
 pub mod Views
 pub mod Checks
+pub mod Made

@@ -72,58 +72,61 @@ fn joined_files<'a>(
     files: &'a [File],
 ) -> Result<Vec<File>, EmbeddingFault> {
     let mut joined = Vec::with_capacity(alloc, files.len())?;
-    let mut left = MOST_NODES;
-    for (number, parsed) in files.iter().enumerate() {
+    let mut nodes = MOST_NODES;
+    for (file, parsed) in files.iter().enumerate() {
         let joiner = Joiner {
             alloc,
             bodies,
-            file: number,
+            file,
         };
-        let (file, rest) = joined_file(joiner, parsed, left)?;
-        left = rest;
-        joined.push(file)?;
+        joined.push(joined_file(joiner, parsed, &mut nodes)?)?;
     }
     Ok(joined)
 }
 
-/// The file that is meant, and how many nodes are left of those that it may have.
+/// The file that is meant. `nodes` counts those that are left of what there may be.
 fn joined_file<'a>(
     joiner: Joiner<'_, 'a>,
     file: &'a File,
-    nodes: usize,
-) -> Result<(File, usize), EmbeddingFault> {
-    let mut definitions = Vec::with_capacity(joiner.alloc, file.definitions.len())?;
-    let mut left = nodes;
-    for definition in &file.definitions {
-        let (one, rest) = joined_definition(joiner, definition, left)?;
-        left = rest;
-        definitions.push(one)?;
-    }
+    nodes: &mut usize,
+) -> Result<File, EmbeddingFault> {
+    let definitions = joined_definitions(joiner, &file.definitions, nodes)?;
     let package = match &file.package {
         Some(name) => Some(name.clone()?),
         None => None,
     };
-    let file = File {
+    Ok(File {
         package,
         definitions,
-    };
-    Ok((file, left))
+    })
+}
+
+/// The definitions that are meant.
+fn joined_definitions<'a>(
+    joiner: Joiner<'_, 'a>,
+    definitions: &'a [Definition],
+    nodes: &mut usize,
+) -> Result<Vec<Definition>, EmbeddingFault> {
+    let mut joined = Vec::with_capacity(joiner.alloc, definitions.len())?;
+    for definition in definitions {
+        joined.push(joined_definition(joiner, definition, nodes)?)?;
+    }
+    Ok(joined)
 }
 
 /// The definition that is meant.
 fn joined_definition<'a>(
     joiner: Joiner<'_, 'a>,
     definition: &'a Definition,
-    nodes: usize,
-) -> Result<(Definition, usize), EmbeddingFault> {
+    nodes: &mut usize,
+) -> Result<Definition, EmbeddingFault> {
     let room = Room {
         place: None,
         is_whole: true,
         levels: MOST_HEIGHT,
-        nodes,
     };
-    let (body, left) = joiner.joined(&definition.body, room)?;
+    let body = joiner.joined(&definition.body, room, nodes)?;
     let name = definition.name.clone()?;
     let at = definition.at;
-    Ok((Definition { name, at, body }, left))
+    Ok(Definition { name, at, body })
 }

@@ -1,0 +1,1 @@
+use Rattle.cs_embeddings.proofs.Parts.{none_more}
