@@ -1,1 +1,0 @@
-use Rattle.cs_embeddings.proofs.Parts.{none_more}
