@@ -1,8 +1,14 @@
--- what is made of parts
+-- what can be embedded in so many steps can be embedded in more
+pub mod Monotone
+-- how much alternatives are, how they are found and joined, and what they declare
+pub mod Weights
+pub mod Left
+pub mod Joins
+pub mod WellAlternatives
+-- what is made of parts one after another, and what expressions stand for
 pub mod Parts
 pub mod JoinedParts
 pub mod Marked
 pub mod JoinedForms
 pub mod Literals
-pub mod Assumed
 pub mod BroughtValues

@@ -82,7 +82,7 @@ impl<'b, 'a> Embeddable<'b, 'a> {
                 self.declarations_embed_well(declarations, left)
             }
             Expr::Paren(inside) => self.can_embed(inside, left),
-            Expr::Or(operands) => self.can_embed_all(operands, left),
+            Expr::Or(operands) => !operands.is_empty() && self.can_embed_all(operands, left),
             Expr::Reference { text, .. } => self.takes(text, steps),
             Expr::Top
             | Expr::Bottom

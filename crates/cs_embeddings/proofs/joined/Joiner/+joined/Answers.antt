@@ -8,7 +8,7 @@ use Rattle.cs_grammar.specs.Tree.{Tree, Fields}
 use Rattle.cs_grammar.specs.View.{expr_view, exprs_view, field_view, fields_view, end_view, wide_view, declarations_view}
 use Rattle.cs_grammar.specs.declared.ast.Expr as Exprs
 use Rattle.cs_grammar.specs.declared.ast.Wide as Wides
-use Rattle.cs_embeddings.proofs.Assumed.{alternatives_well}
+use Rattle.cs_embeddings.proofs.WellAlternatives.{alternatives_embed_well}
 use Rattle.cs_embeddings.proofs.BroughtValues.{brought_unmade_one, brought_made_one}
 use Rattle.cs_embeddings.proofs.JoinedForms.{inner, IsUnmade, IsMadeOf, and_unmade, or_unmade, and_made, or_made, struct_unmade, struct_made, front_unmade, end_unmade, list_made, marked_unmade, marked_made}
 use Rattle.cs_embeddings.proofs.JoinedParts.{IsWellExpr, IsWellField, exprs_well, fields_well, of_map, own, own_clashes, each_made, each_unmade, own_value, own_seen, field_clashes, fields_made, fields_unmade, brought_value, brought_seen, brought_clashes, brought_made, brought_unmade, own_literal, literal_clashes, literals_made, literals_unmade}
@@ -362,7 +362,7 @@ joined_literal-returns-in-len1 t c ds n tells well embeds deep =
     let file = c.args.self.file in let nodes = c.args.nodes.now in let r = c.joined_alternative.result in let rest = c.joined_alternative.new.nodes in
     let xs = c.deref.result.now in let a = c.only-item.result in
     let is = ap alternatives_view c.deref.ensures.value ∙ c.in_ok-found.ensures ds tells embeds in
-    let wells = subst (AllByRecursion (IsWell ds)) (sym is) (alternatives_well ds well room.place (declarations_view c.args.declarations.now) c.args.is_opened embeds) in
+    let wells = subst (AllByRecursion (IsWell ds)) (sym is) (alternatives_embed_well ds room.place (declarations_view c.args.declarations.now) c.args.is_opened embeds) in
     let one = all_at (λ a. IsWell ds (alternative_view a)) xs 0 a c.in-len1.len_at_least c.only-item.is (of_map (IsWell ds) alternative_view xs wells) in
     subst (MakesLiteral V o C file room.levels nodes r rest room.is_whole) is
     (sole V o C file room.levels nodes r rest room.is_whole xs a c.in-len1.len_at_least c.in-len1.len_below c.only-item.is (c.joined_alternative.ensures ds n tells well one deep))
@@ -372,7 +372,7 @@ joined_literal-returns-in_default t c ds n tells well embeds deep =
     let room = c.args.room in let V = joined_value ds n in let C = clashes_value ds n in let o = c.args.at in
     let file = c.args.self.file in let nodes = c.args.nodes.now in let r = c.joined_alternatives.result in let rest = c.joined_alternatives.new.nodes in
     let is = ap alternatives_view c.deref.ensures.value ∙ c.in_ok-found.ensures ds tells embeds in
-    let wells = subst (AllByRecursion (IsWell ds)) (sym is) (alternatives_well ds well room.place (declarations_view c.args.declarations.now) c.args.is_opened embeds) in
+    let wells = subst (AllByRecursion (IsWell ds)) (sym is) (alternatives_embed_well ds room.place (declarations_view c.args.declarations.now) c.args.is_opened embeds) in
     subst (MakesLiteral V o C file room.levels nodes r rest room.is_whole) is
     (whole_several V o C file room.levels nodes c.deref.result.now c.in_default.len_at_least r rest room.is_whole c.if-room.true (c.joined_alternatives.ensures ds n tells well wells deep))
 
@@ -393,7 +393,7 @@ joined_literal-returns-in_err-kept-in_default-2 t c ds n tells well embeds deep 
     let file = c.args.self.file in let nodes = c.args.nodes.now in let e = c.in_err-kept-in_default-2.field-0.0 in
     let below = c.in_ok-below-in_default-2.field-0 in let goes = c.in_ok-below-in_default-2.ensures in
     let is = ap alternatives_view c.deref.ensures.value ∙ c.in_ok-found.ensures ds tells embeds in
-    let wells = subst (AllByRecursion (IsWell ds)) (sym is) (alternatives_well ds well room.place (declarations_view c.args.declarations.now) c.args.is_opened embeds) in
+    let wells = subst (AllByRecursion (IsWell ds)) (sym is) (alternatives_embed_well ds room.place (declarations_view c.args.declarations.now) c.args.is_opened embeds) in
     rw (p.1, p.2)
     (subst (λ all. let u = one_of V room.is_whole o all in IsNoRoom e file room.levels nodes (height u) (size u) (flat_map (clashes_of C) all)) is
     (kept_unmade V o C file room.levels nodes c.deref.result.now c.in_default.len_at_least room.is_whole c.if-room.false below.levels goes.levels e
@@ -407,7 +407,7 @@ joined_literal-returns t c ds n tells well embeds deep =
     let v = c.in_ok-new-in_default-2.field-0 in let x = c.in_ok-kept-in_default-2.kept in
     let boxed : v.value ≡ x = search (rules, c.in_ok-new-in_default-2.ensures.ok) in
     let is = ap alternatives_view c.deref.ensures.value ∙ c.in_ok-found.ensures ds tells embeds in
-    let wells = subst (AllByRecursion (IsWell ds)) (sym is) (alternatives_well ds well room.place (declarations_view c.args.declarations.now) c.args.is_opened embeds) in
+    let wells = subst (AllByRecursion (IsWell ds)) (sym is) (alternatives_embed_well ds room.place (declarations_view c.args.declarations.now) c.args.is_opened embeds) in
     subst (λ all. let u = one_of V room.is_whole o all in IsMade room.levels nodes rest (height u) (size u) (expr_view (Exprs.Paren v)) u (flat_map (clashes_of C) all)) is
     (kept_made V o C file room.levels nodes c.deref.result.now c.in_default.len_at_least room.is_whole c.if-room.false below.levels goes.levels rest (expr_view x) (expr_view (Exprs.Paren v))
     (view-Paren v ∙ ap (λ y. T.paren (expr_view y)) boxed)
