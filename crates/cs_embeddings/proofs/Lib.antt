@@ -18,6 +18,8 @@ pub mod Marked
 pub mod JoinedForms
 pub mod Literals
 pub mod BroughtValues
+pub mod FileParts
+pub mod FoundFiles
 -- in how many steps definitions can be embedded
 pub mod Steps
 -- whether each part of a list is well

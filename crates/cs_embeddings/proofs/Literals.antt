@@ -6,7 +6,7 @@ use Rattle.cs_grammar.specs.Height.{height}
 use Rattle.cs_grammar.specs.Tree.{Tree, Trees, Fields, atom, bottom, named, reference, conjunction, disjunction, paren, struct, list, wide, marked, merged, DefinitionTree}
 use Rattle.cs_grammar.specs.View.{expr_view}
 use Rattle.cs_grammar.specs.declared.ast.Expr.{Expr}
-use Rattle.cs_embeddings.proofs.Parts.{no_room_below, made_below, first_left}
+use Rattle.cs_embeddings.proofs.Parts.{no_room_below, made_below}
 use Rattle.cs_embeddings.specs.Alternatives.{Brought, Alternative}
 use Rattle.cs_embeddings.specs.Clashes.{clashes_in, clashes_of}
 use Rattle.cs_embeddings.specs.Joined.{literal_of, literals_of, fields_of_brought, one_of, parted}

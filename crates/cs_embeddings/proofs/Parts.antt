@@ -4,21 +4,16 @@ use Rattle.std.proofs.Math.Seq.{drop-cons}
 use Rattle.std.proofs.lemmas.Grind.{flat_map-append}
 use Rattle.std.proofs.lemmas.List.{map-append, take-append-drop, take_more, take_all}
 use Rattle.std.specs.List.{flat_map, AllByRecursion}
+use Rattle.cs_embeddings.proofs.Firsts.{first_left}
+use Rattle.cs_embeddings.proofs.Walks.{at_place}
 use Rattle.cs_embeddings.specs.Made.{IsNoRoom, IsMade}
 use Rattle.cs_embeddings.specs.declared.fault.EmbeddingFault.{EmbeddingFault}
 use Rattle.cs_embeddings.specs.declared.fault.EmbeddingFault.TheVariants.{OutOfMemory, UnknownName, NoStruct, Reopened, TooHigh, TooLarge}
 
 -- ---- lists
 
-pub at_place : {X : Type 0} (xs : List X) (i : ℕ) (x : X) → i < length xs → x ≡ get_or xs i x → drop i xs ≡ x ∷ drop (i + 1) xs
-at_place xs i x l e = rw add-one (drop-cons xs i x l ∙ ap (λ y. y ∷ drop (suc i) xs) (sym e))
-
 pub take_at : {X : Type 0} (xs : List X) (i : ℕ) (x : X) → i < length xs → x ≡ get_or xs i x → take (i + 1) xs ≡ take i xs ++ x ∷ []
 take_at xs i x l is = take_more xs i x l ∙ ap (λ y. take i xs ++ y ∷ []) (sym is)
-
-pub first_left : {X : Type 0} (xs ys : List X) (x : X) → slice_get xs 0 ≡ Some x → slice_get (xs ++ ys) 0 ≡ Some x
-first_left [] ys x h = cc
-first_left (y ∷ xs) ys x h = h
 
 -- what holds of all holds of the part that is left, and of its first element
 pub all_left : {X : Type 0} (P : X → Type 0) (xs : List X) (i : ℕ) → AllByRecursion P xs → AllByRecursion P (drop i xs)

@@ -1,14 +1,21 @@
 -- What is made of expressions, and why it isn't made; for private contracts alone.
-use Rattle.std.specs.Prelude.{◌≡◌, ℕ, suc, ◌+◌, ◌<◌, ◌≤◌, true, List, [], Option, Some, Result, Ok, Err, slice_get}
-use Rattle.std.specs.List.{AllByRecursion}
+use Rattle.std.specs.Prelude.{◌≡◌, ℕ, suc, ◌+◌, ◌<◌, ◌≤◌, true, List, [], map, Option, Some, Result, Ok, Err, slice_get}
+use Rattle.std.specs.List.{AllByRecursion, flat_map}
+use Rattle.std.specs.declared.alloc.Global.{Global}
+use Rattle.std.specs.declared.vec.Vec.{Vec}
 use Rattle.cs_grammar.specs.declared.ast.Expr.{Expr}
-use Rattle.cs_grammar.specs.Height.{height}
-use Rattle.cs_grammar.specs.Tree.{Tree, wide, marked, DefinitionTree}
-use Rattle.cs_grammar.specs.View.{expr_view, Seen}
+use Rattle.cs_grammar.specs.declared.ast.File.{File}
+use Rattle.cs_grammar.specs.Height.{height, height_definitions, file_height}
+use Rattle.cs_grammar.specs.Limits.{most_height, most_nodes}
+use Rattle.cs_grammar.specs.Tree.{Tree, wide, marked, DefinitionTree, body, FileTree}
+use Rattle.cs_grammar.specs.View.{expr_view, file_view, Seen}
 use Rattle.cs_embeddings.specs.Alternatives.{Brought, Alternative, at, most_steps}
+use Rattle.cs_embeddings.specs.Clashes.{clashes}
 use Rattle.cs_embeddings.specs.Embedded.{can_be_embedded, embeds_well}
-use Rattle.cs_embeddings.specs.Joined.{placed}
-use Rattle.cs_embeddings.specs.Size.{size}
+use Rattle.cs_embeddings.specs.Flaws.{Flaw, unknown, no_struct}
+use Rattle.cs_embeddings.specs.Joined.{placed, joined_definition, joined_file}
+use Rattle.cs_embeddings.specs.Size.{size, size_of_definitions, size_of_files}
+use Rattle.cs_embeddings.specs.Without.{found_from, IsWithin}
 use Rattle.cs_embeddings.specs.declared.fault.EmbeddingFault.{EmbeddingFault}
 use Rattle.cs_embeddings.specs.declared.fault.EmbeddingFault.TheVariants.{OutOfMemory, UnknownName, NoStruct, Reopened, TooHigh, TooLarge}
 use Rattle.cs_embeddings.specs.declared.joined.Room.{Room}
@@ -79,3 +86,44 @@ with_marks p e bare = bare
 abbrev pub count_mark : Tree → ℕ
 count_mark (wide (marked o e)) = 1
 count_mark e = 0
+
+-- ---- files
+
+-- the first flaw of files
+abbrev pub IsFlaw : EmbeddingFault → List (ℕ × Flaw) → Type 0
+IsFlaw (UnknownName i o) found = slice_get found 0 ≡ Some (i, unknown o)
+IsFlaw (NoStruct i o) found = slice_get found 0 ≡ Some (i, no_struct o)
+IsFlaw _ found = ⊥
+
+-- Ok where nothing is found, or else the first that is found
+abbrev pub FindsFlaw : {Y : Type 0} → Result Y EmbeddingFault → List (ℕ × Flaw) → Type 0
+FindsFlaw (Ok y) found = found ≡ []
+FindsFlaw (Err e) found = IsFlaw e found
+
+-- what these bodies embed can be embedded
+abbrev pub AreBodiesWell : List DefinitionTree → List DefinitionTree → Type 0
+AreBodiesWell ds es = AllByRecursion (λ d. embeds_well (can_be_embedded ds most_steps) (body d) ≡ true) es
+
+abbrev pub MakesDefinitions : {X : Type 0} → (X → List DefinitionTree) → Result X EmbeddingFault → ℕ → ℕ → ℕ → List DefinitionTree → List DefinitionTree → Type 0
+MakesDefinitions view result file nodes rest ds es =
+    let meant = map (joined_definition ds) es in
+    MakesPart view result file most_height nodes rest (height_definitions meant) (size_of_definitions meant) meant (flat_map (λ d. clashes ds (body d)) es)
+
+-- why files aren't made
+abbrev pub IsNoRoomForFiles : EmbeddingFault → List DefinitionTree → List FileTree → Type 0
+IsNoRoomForFiles OutOfMemory ds fs = Unit {0}
+IsNoRoomForFiles (Reopened i o) ds fs = slice_get (found_from (clashes ds) 0 fs) 0 ≡ Some (i, o)
+IsNoRoomForFiles (TooHigh i) ds fs = (f : FileTree) × (slice_get (map (joined_file ds) fs) i ≡ Some f) × (most_height < file_height f)
+IsNoRoomForFiles TooLarge ds fs = most_nodes < size_of_files (map (joined_file ds) fs)
+IsNoRoomForFiles (UnknownName i o) ds fs = ⊥
+IsNoRoomForFiles (NoStruct i o) ds fs = ⊥
+
+-- files are made as they are meant, within the limits, and nothing would be opened
+pub record AreFilesMade (ds : List DefinitionTree) (fs gs : List FileTree) : Type 0 where
+  pub made : gs ≡ map (joined_file ds) fs
+  pub within : IsWithin gs
+  pub apart : found_from (clashes ds) 0 fs ≡ []
+
+abbrev pub MakesFiles : Result (Vec File Global) EmbeddingFault → List DefinitionTree → List FileTree → Type 0
+MakesFiles (Ok v) ds fs = AreFilesMade ds fs (map file_view v.items)
+MakesFiles (Err e) ds fs = IsNoRoomForFiles e ds fs

@@ -245,10 +245,10 @@ joined_alternative-returns-in_err-joined_field t c ds n tells well wells deep =
     let e = c.in_err-joined_field.field-0.0 in let file = c.args.self.file in
     let apart : clashes_in (alternative_view A) ≡ [] = subst (λ xs. clashes_behind [] (held (map brought_view xs)) ≡ []) c.deref.ensures.value (none_first _ (sym c.in_default.is ∙ c.in_ok-offset.ensures)) in
     let here = brought_unmade_one ds inside.levels room.levels goes.0.levels b n deep e file c.loop-brought.nodes
-      (λ m low. c.in_err-joined_field.ensures ds m tells well (value_well ds bs i b l is wells) low) in
+    (λ m low. c.in_err-joined_field.ensures ds m tells well (value_well ds bs i b l is wells) low) in
     let h = brought_unmade V C bs inside.levels mid e file
-      (none_more field_view (brought_seen V C) _ _ (brought_clashes V C) inside.levels mid bs i b l is
-      c.loop-brought.nodes c.loop-brought.fields.items (c.loop-brought.invariant ds n tells well wells deep) e file here) in
+    (none_more field_view (brought_seen V C) _ _ (brought_clashes V C) inside.levels mid bs i b l is
+    c.loop-brought.nodes c.loop-brought.fields.items (c.loop-brought.invariant ds n tells well wells deep) e file here) in
     rw (p.1, p.2) (no_room_inside e file room.levels inside.levels c.args.nodes.now mid _ _ _ goes.0.levels goes.1 (rw apart h))
 
 pub joined_alternative-loop-brought-preserved : goal.joined_alternative-loop-brought-preserved
@@ -260,7 +260,7 @@ joined_alternative-loop-brought-preserved t c ds n tells well wells deep =
     let room = c.args.room in let inside = c.in_ok-inside.inside in let goes = c.in_ok-inside.ensures in
     let x = c.in_ok-joined_field.field-0 in
     let here = brought_made_one ds inside.levels room.levels goes.0.levels b n deep c.loop-brought.nodes c.joined_field.new.nodes (field_view x)
-      (λ m low. c.in_ok-joined_field.ensures ds m tells well (value_well ds bs i b l is wells) low) in
+    (λ m low. c.in_ok-joined_field.ensures ds m tells well (value_well ds bs i b l is wells) low) in
     one_made field_view (brought_seen V C) _ _ (brought_clashes V C) inside.levels c.inside.new.nodes bs i b l is
     c.loop-brought.nodes c.joined_field.new.nodes c.loop-brought.fields.items _ x c.in_ok-push.ensures.items
     (c.loop-brought.invariant ds n tells well wells deep) here
@@ -273,10 +273,10 @@ joined_alternative-returns t c ds n tells well wells deep =
     let room = c.args.room in let inside = c.in_ok-inside.inside in let mid = c.inside.new.nodes in let goes = c.in_ok-inside.ensures in
     let apart : clashes_in (alternative_view A) ≡ [] = subst (λ xs. clashes_behind [] (held (map brought_view xs)) ≡ []) c.deref.ensures.value (none_first _ (sym c.in_default.is ∙ c.in_ok-offset.ensures)) in
     let all = brought_made V C bs inside.levels mid c.loop-brought.nodes v.items
-      (all_made field_view (brought_seen V C) _ _ (brought_clashes V C) inside.levels mid bs i past
-      c.loop-brought.nodes v.items (c.loop-brought.invariant ds n tells well wells deep)) in
+    (all_made field_view (brought_seen V C) _ _ (brought_clashes V C) inside.levels mid bs i past
+    c.loop-brought.nodes v.items (c.loop-brought.invariant ds n tells well wells deep)) in
     let h = made_inside room.levels inside.levels goes.0.levels mid c.loop-brought.nodes _ _ (fields_view v.items) _ _ (λ fs. T.struct o fs A.opened)
-      (expr_view (Exprs.Struct o v A.opened)) (view-Struct o v A.opened) c.args.nodes.now goes.1 all in
+    (expr_view (Exprs.Struct o v A.opened)) (view-Struct o v A.opened) c.args.nodes.now goes.1 all in
     record { made = h.made; low = h.low; left = h.left; apart = ap₂ (λ xs ys. xs ++ ys) apart h.apart }
 
 -- ---- marks
@@ -288,9 +288,11 @@ pub joined_form-joined-requires : goal.joined_form-joined-requires
 joined_form-joined-requires t c =
     let o = c.in-Marked.at in let b = c.in-Marked.value in
     let marked = ap (λ w. count_mark (T.wide (wide_view w))) c.in-Marked.is ∙ ap (λ w. count_mark (T.wide w)) (view-Marked o b) in
-    let bare = ap count_mark c.behind_marks.ensures ∙ no_mark (expr_view c.deref.result.now) in
-    (falls t c.args.room.levels c.is_whole.result.levels (count_mark (T.wide (wide_view c.args.form.now))) (count_mark (expr_view c.behind_marks.result.now))
-    (ap (λ (r : Room). r.levels) c.is_whole.ensures) marked bare c.decreases, tt)
+    let bare = ap count_mark c.behind_marks.ensures ∙ no_mark (expr_view c.deref.result.now) in (
+      falls t c.args.room.levels c.is_whole.result.levels (count_mark (T.wide (wide_view c.args.form.now))) (count_mark (expr_view c.behind_marks.result.now))
+          (ap (λ (r : Room). r.levels) c.is_whole.ensures) marked bare c.decreases,
+      tt,
+    )
 
 pub joined_form-returns-in_err-bare-in-Marked : goal.joined_form-returns-in_err-bare-in-Marked
 joined_form-returns-in_err-bare-in-Marked t c ds n tells well embeds deep =
@@ -316,9 +318,9 @@ joined_form-returns-in_ok-value-in-Marked t c ds n tells well embeds deep =
     let bare = c.behind_marks.ensures ∙ ap (λ y. behind_marks (expr_view y)) c.deref.ensures in
     let boxed : v.value ≡ c.in_ok-with_marks-in-Marked.field-0 = search (rules, c.in_ok-value-in-Marked.ensures.ok) in
     let made =
-      view-Wide (Wides.Marked q v) ∙ ap T.wide (view-Marked q v)
-      ∙ ap₂ (λ (p : ℕ) w. T.wide (T.marked p w)) c.unwrap_or-at.ensures
-      (ap expr_view boxed ∙ c.in_ok-with_marks-in-Marked.ensures ∙ ap (λ y. with_marks room.place (expr_view y) (expr_view x)) c.deref-in-Marked.ensures) in
+    view-Wide (Wides.Marked q v) ∙ ap T.wide (view-Marked q v)
+    ∙ ap₂ (λ (p : ℕ) w. T.wide (T.marked p w)) c.unwrap_or-at.ensures
+    (ap expr_view boxed ∙ c.in_ok-with_marks-in-Marked.ensures ∙ ap (λ y. with_marks room.place (expr_view y) (expr_view x)) c.deref-in-Marked.ensures) in
     subst (IsMadeOf ds n room nodes rest (expr_view (Exprs.Wide (Wides.Marked q v)))) (sym is)
     (marked_made ds n room r c.is_whole.ensures deep o u (subst (λ w. embeds_well (inner ds n) w ≡ true) is embeds) nodes rest (expr_view x) (expr_view (Exprs.Wide (Wides.Marked q v))) made
     (subst (λ w. embeds_well (inner ds n) w ≡ true → r.levels ≤ n → IsMadeOf ds n r nodes rest (expr_view x) w) bare
