@@ -26,6 +26,10 @@ use Rattle.cs_embeddings.specs.declared.fault.EmbeddingFault.TheVariants.{OutOfM
 
 -- ---- bodies
 
+pub height-append : (es gs : List DefinitionTree) → height_definitions (es ++ gs) ≡ max (height_definitions es) (height_definitions gs)
+height-append [] gs = omega arith
+height-append (e ∷ es) gs = let h = height-append es gs in omega arith
+
 module _ (ds : List DefinitionTree) where
   whole_value : (n : ℕ) (e : Tree) → joined_value ds (suc n) None e ≡ joined_with ds (joined_value ds n) true None e
   unfolding joined_value
@@ -104,10 +108,6 @@ module _ (ds : List DefinitionTree) where
   files_are : (xs : List File) → map own_file xs ≡ files_meant xs
   files_are [] = refl
   files_are (x ∷ xs) = ap (λ fs. own_file x ∷ fs) (files_are xs)
-
-  height-append : (es gs : List DefinitionTree) → height_definitions (es ++ gs) ≡ max (height_definitions es) (height_definitions gs)
-  height-append [] gs = omega arith
-  height-append (e ∷ es) gs = let h = height-append es gs in omega arith
 
   files_high : (xs : List File) → height_definitions (flat_map definitions (files_meant xs)) ≡ highest (λ f. file_height (own_file f)) xs
   files_high [] = refl

@@ -20,6 +20,7 @@ pub mod Literals
 pub mod BroughtValues
 pub mod FileParts
 pub mod FoundFiles
+pub mod FileAnswers
 -- in how many steps definitions can be embedded
 pub mod Steps
 -- whether each part of a list is well
