@@ -1,5 +1,7 @@
 -- definitions one after another
 pub mod Bodies
+-- declarations so far
+pub mod Clashing
 -- what parts find, one after another
 pub mod Firsts
 -- where nothing is at fault
@@ -25,3 +27,5 @@ pub mod FileAnswers
 pub mod Steps
 -- whether each part of a list is well
 pub mod Walks
+-- samples
+pub mod Samples

@@ -10,3 +10,4 @@ pub mod Without
 pub mod Views
 pub mod Checks
 pub mod Made
+pub mod ClashTable
