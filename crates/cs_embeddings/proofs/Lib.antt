@@ -29,3 +29,6 @@ pub mod Steps
 pub mod Walks
 -- samples
 pub mod Samples
+-- laws of the definitions
+pub mod DefaultFiles
+pub mod WrittenFiles
