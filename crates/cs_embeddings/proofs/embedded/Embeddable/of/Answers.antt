@@ -15,7 +15,7 @@ loop-steps-preserved c = record {
       subst (λ n. TellsRounds c.add_all.new.self ds n []) (sym (add-one c.loop-steps.steps)) (c.in_ok-add_all.ensures.tells ds bodies (c.loop-steps.invariant.tells ds told));
 }
 
-pub returns : goal.returns
-returns c ds told =
+pub returns-clause-tells : goal.returns-clause-tells
+returns-clause-tells c ds told =
     let all : c.loop-steps.steps ≡ most_steps = omega arith in
     round_tells ds c.loop-steps.embeddable most_steps [] (subst (λ n. TellsRounds c.loop-steps.embeddable ds n []) all (c.loop-steps.invariant.tells ds told))
