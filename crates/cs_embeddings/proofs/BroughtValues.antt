@@ -1,5 +1,5 @@
 -- Values that embeddings brought are joined as the others are, with one literal less inside of them.
-use Rattle.std.proofs.Common.{◌≡◌, ℕ, zero, suc, ◌≤◌, true, List, Option, sym, subst, arith}
+use Rattle.std.proofs.Common.{◌≡◌, ℕ, zero, suc, ◌≤◌, true, List, subst, arith}
 use Rattle.cs_grammar.proofs.Views.{view-value, view-mark}
 use Rattle.cs_grammar.specs.Height.{height}
 use Rattle.cs_grammar.specs.Tree.{Tree, DefinitionTree}

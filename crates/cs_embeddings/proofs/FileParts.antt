@@ -1,7 +1,5 @@
 -- What files stand for, from what their bodies stand for.
-use Rattle.std.proofs.Common.{◌≡◌, ℕ, zero, suc, ◌+◌, ◌<◌, ◌≤◌, max, true, List, [], ◌∷◌, ◌++◌, Option, Some, None, Result, Ok, Err, map, take, drop, length, get_or, slice_get, sum_by, refl, sym, ap, ap₂, ◌∙◌, subst, add-one, arith}
-use Rattle.std.proofs.lemmas.Grind.{flat_map-append}
-use Rattle.std.proofs.lemmas.List.{map-append, take-append-drop}
+use Rattle.std.proofs.Common.{◌≡◌, ℕ, zero, suc, ◌+◌, ◌<◌, max, true, List, [], ◌∷◌, ◌++◌, Some, None, map, take, length, get_or, slice_get, refl, sym, ap, ap₂, ◌∙◌, subst, arith}
 use Rattle.std.proofs.lemmas.List.Sums.{sum_by-cons, sum_by-append}
 use Rattle.std.specs.List.{flat_map, AllByRecursion}
 use Rattle.cs_grammar.specs.Height.{height, height_definitions, file_height}
@@ -10,15 +8,11 @@ use Rattle.cs_grammar.specs.Tree.{Tree, DefinitionTree, body, FileTree, definiti
 use Rattle.cs_grammar.specs.View.{expr_view, definition_view, file_view}
 use Rattle.cs_grammar.specs.declared.ast.Definition.{Definition}
 use Rattle.cs_grammar.specs.declared.ast.File.{File}
-use Rattle.cs_embeddings.proofs.Firsts.{first_left, first_right, none_left}
+use Rattle.cs_embeddings.proofs.Firsts.{first_left, first_right}
 use Rattle.cs_embeddings.proofs.Parts.{highest, total, AreMade, none_more}
-use Rattle.cs_embeddings.proofs.Walks.{at_place}
-use Rattle.cs_embeddings.specs.Alternatives.{most_steps}
-use Rattle.cs_embeddings.specs.Checks.{AreWell}
 use Rattle.cs_embeddings.specs.Clashes.{clashes, clashes_with, clashes_value}
-use Rattle.cs_embeddings.specs.Embedded.{can_be_embedded, embeds_well}
 use Rattle.cs_embeddings.specs.Joined.{joined, joined_with, joined_value, joined_definition, joined_file}
-use Rattle.cs_embeddings.specs.Made.{IsNoRoom, IsMade, IsNoRoomForFiles, AreFilesMade, AreBodiesWell}
+use Rattle.cs_embeddings.specs.Made.{IsNoRoom, IsMade, IsNoRoomForFiles, AreFilesMade}
 use Rattle.cs_embeddings.specs.Size.{size, size_of_definitions, size_of_files}
 use Rattle.cs_embeddings.specs.Without.{found_from, IsWithin}
 use Rattle.cs_embeddings.specs.declared.fault.EmbeddingFault.{EmbeddingFault}

@@ -1,8 +1,8 @@
 -- What each form of an expression stands for, from what its parts stand for.
-use Rattle.std.proofs.Common.{◌≡◌, ℕ, suc, ◌+◌, ◌<◌, ◌≤◌, max, Bool, true, false, ◌&&◌, List, [], ◌∷◌, ◌++◌, Option, Result, Ok, Err, length, refl, sym, ap, ap₂, ◌∙◌, subst, arith}
+use Rattle.std.proofs.Common.{◌≡◌, ℕ, suc, ◌+◌, ◌≤◌, Bool, true, false, List, ◌++◌, Result, Ok, Err, sym, ap, ap₂, ◌∙◌, subst, arith}
 use Rattle.std.specs.Result.{IsErrAnd}
-use Rattle.cs_grammar.specs.Height.{height, height_all, height_fields, height_end, height_wide}
-use Rattle.cs_grammar.specs.Tree.{Tree, Trees, Fields, End, conjunction, disjunction, struct, list, wide, marked, merged, DefinitionTree}
+use Rattle.cs_grammar.specs.Height.{height, height_all, height_fields, height_end}
+use Rattle.cs_grammar.specs.Tree.{Tree, Trees, Fields, End, conjunction, disjunction, struct, list, wide, marked, DefinitionTree}
 use Rattle.cs_embeddings.proofs.JoinedParts.{both}
 use Rattle.cs_embeddings.proofs.Marked.{well_behind, marks_joined, marks_high, marks_large, marks_clashes}
 use Rattle.cs_embeddings.proofs.Parts.{no_room_left, no_room_right, no_room_inside, made_inside}

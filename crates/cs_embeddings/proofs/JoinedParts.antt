@@ -1,14 +1,12 @@
 -- What an expression stands for, part by part, as the code has the parts.
-use Rattle.std.proofs.Common.{◌≡◌, ℕ, zero, suc, ◌+◌, ◌<◌, ◌≤◌, max, Bool, true, false, ◌&&◌, List, [], ◌∷◌, ◌++◌, Option, map, length, get_or, refl, sym, ap, ap₂, ◌∙◌, subst, arith}
+use Rattle.std.proofs.Common.{◌≡◌, ℕ, ◌+◌, max, Bool, true, false, ◌&&◌, List, [], ◌∷◌, ◌++◌, Option, map, refl, ap, ◌∙◌}
 use Rattle.std.specs.List.{flat_map, AllByRecursion}
-use Rattle.cs_grammar.proofs.Views.{view-value, view-mark}
 use Rattle.cs_grammar.specs.Height.{height, height_all, height_fields}
-use Rattle.cs_grammar.specs.Tree.{Tree, Trees, Fields, more, field, DefinitionTree}
+use Rattle.cs_grammar.specs.Tree.{Tree, Fields, more, field, DefinitionTree}
 use Rattle.cs_grammar.specs.View.{expr_view, exprs_view, trees_of, fields_of, field_view, fields_view, Seen}
 use Rattle.cs_grammar.specs.declared.ast.Expr.{Expr}
 use Rattle.cs_grammar.specs.declared.ast.Field.{Field}
-use Rattle.cs_embeddings.proofs.Parts.{highest, total, AreMade, all_at}
-use Rattle.cs_embeddings.specs.Alternatives.{Alternative}
+use Rattle.cs_embeddings.proofs.Parts.{highest, total, AreMade}
 use Rattle.cs_embeddings.specs.Clashes.{clashes_with, clashes_each, clashes_fields, clashes_of}
 use Rattle.cs_embeddings.specs.Embedded.{embeds_well, embed_well, fields_embed_well}
 use Rattle.cs_embeddings.specs.Joined.{joined_with, joined_each, joined_fields, literal_of, literals_of, fields_of_brought, placed}

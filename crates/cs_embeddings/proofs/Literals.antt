@@ -1,22 +1,20 @@
 -- What a literal with embeddings stands for, from its alternatives.
-use Rattle.std.proofs.Common.{◌≡◌, ℕ, suc, ◌+◌, ◌<◌, ◌≤◌, Bool, true, false, List, [], ◌∷◌, ◌++◌, Option, Some, None, Result, Ok, Err, length, map, get_or, slice_get, refl, sym, ap, ◌∙◌, subst, arith}
+use Rattle.std.proofs.Common.{◌≡◌, ℕ, suc, ◌<◌, ◌≤◌, Bool, true, false, List, [], ◌∷◌, Option, None, Result, length, get_or, slice_get, refl, sym, ap, ◌∙◌, subst, arith}
 use Rattle.std.proofs.lemmas.List.{append-nil}
-use Rattle.std.specs.List.{flat_map, AllByRecursion}
+use Rattle.std.specs.List.{flat_map}
 use Rattle.cs_grammar.specs.Height.{height}
-use Rattle.cs_grammar.specs.Tree.{Tree, Trees, Fields, atom, bottom, named, reference, conjunction, disjunction, paren, struct, list, wide, marked, merged, DefinitionTree}
-use Rattle.cs_grammar.specs.View.{expr_view}
+use Rattle.cs_grammar.specs.Tree.{Tree, atom, bottom, named, reference, conjunction, disjunction, paren, struct, list, wide, marked, merged}
 use Rattle.cs_grammar.specs.declared.ast.Expr.{Expr}
 use Rattle.cs_embeddings.proofs.Parts.{no_room_below, made_below}
 use Rattle.cs_embeddings.specs.Alternatives.{Brought, Alternative}
-use Rattle.cs_embeddings.specs.Clashes.{clashes_in, clashes_of}
+use Rattle.cs_embeddings.specs.Clashes.{clashes_of}
 use Rattle.cs_embeddings.specs.Joined.{literal_of, literals_of, fields_of_brought, one_of, parted}
-use Rattle.cs_embeddings.specs.Made.{IsNoRoom, IsMade, IsBelow, Makes, IsWell}
+use Rattle.cs_embeddings.specs.Made.{IsNoRoom, IsMade, Makes}
 use Rattle.cs_embeddings.specs.Size.{size, sizes, size_fields}
 use Rattle.cs_embeddings.specs.Views.{alternative_view, alternatives_view, weight_of, IsTooMuch}
 use Rattle.cs_embeddings.specs.declared.alternatives.Alternative as rust
 use Rattle.cs_embeddings.specs.declared.fault.EmbeddingFault.{EmbeddingFault}
 use Rattle.cs_embeddings.specs.declared.fault.EmbeddingFault.TheVariants.{OutOfMemory, UnknownName, NoStruct, Reopened, TooHigh, TooLarge}
-use Rattle.cs_embeddings.specs.declared.joined.Room.{Room}
 
 -- each expression is a node
 pub some_node : (t : Tree) → 1 ≤ size t

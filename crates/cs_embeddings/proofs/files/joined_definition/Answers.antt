@@ -2,11 +2,11 @@ use Rattle.std.proofs.Common.{rules, ◌≡◌, ◌≤◌, List, ℕ, true, None
 use Rattle.std.proofs.lemmas.Result.{err_from_is_err_and}
 use Rattle.cs_grammar.specs.Height.{height}
 use Rattle.cs_grammar.specs.Limits.{most_height}
-use Rattle.cs_grammar.specs.Tree.{Tree, definition}
-use Rattle.cs_grammar.specs.View.{definition_view, expr_view}
+use Rattle.cs_grammar.specs.Tree.{definition}
+use Rattle.cs_grammar.specs.View.{expr_view}
 use Rattle.cs_embeddings.proofs.FileParts.{body_is, body_clashes}
 use Rattle.cs_embeddings.specs.Clashes.{clashes}
-use Rattle.cs_embeddings.specs.Joined.{joined, joined_with, joined_value}
+use Rattle.cs_embeddings.specs.Joined.{joined_with, joined_value}
 use Rattle.cs_embeddings.specs.Made.{IsNoRoom, IsMade}
 use Rattle.cs_embeddings.specs.Size.{size}
 use Rattle.cs_embeddings.proofs.files.joined_definition.Goals as goal

@@ -1,4 +1,3 @@
-use Rattle.std.proofs.Common.{◌≡◌, map}
 use Rattle.std.proofs.lemmas.Result.{err_from_is_err_and}
 use Rattle.cs_grammar.specs.Limits.{most_height, most_nodes}
 use Rattle.cs_grammar.specs.Tree.{definitions}

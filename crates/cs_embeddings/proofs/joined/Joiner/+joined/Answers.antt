@@ -1,8 +1,8 @@
-use Rattle.std.proofs.Common.{rules, ◌≡◌, ℕ, suc, ◌+◌, ◌*◌, ◌<◌, ◌≤◌, true, false, List, [], ◌∷◌, ◌++◌, length, get_or, map, take, refl, sym, ap, ap₂, ◌∙◌, subst, arith}
+use Rattle.std.proofs.Common.{rules, ◌≡◌, ℕ, suc, ◌+◌, ◌*◌, ◌<◌, ◌≤◌, true, List, [], ◌++◌, length, get_or, map, sym, ap, ap₂, ◌∙◌, subst, arith}
 use Rattle.std.proofs.lemmas.Result.{err_from_is_err_and}
 use Rattle.std.specs.List.{flat_map, AllByRecursion}
 use Rattle.cs_grammar.proofs.Views.{view-And, view-Or, view-Paren, view-Struct, view-List, view-Wide, view-Merged, view-Marked, view-value}
-use Rattle.cs_grammar.specs.Height.{height, height_fields}
+use Rattle.cs_grammar.specs.Height.{height}
 use Rattle.cs_grammar.specs.Tree as T
 use Rattle.cs_grammar.specs.Tree.{Tree, Fields}
 use Rattle.cs_grammar.specs.View.{expr_view, exprs_view, field_view, fields_view, end_view, wide_view, declarations_view}
@@ -11,16 +11,16 @@ use Rattle.cs_grammar.specs.declared.ast.Wide as Wides
 use Rattle.cs_embeddings.proofs.WellAlternatives.{alternatives_embed_well}
 use Rattle.cs_embeddings.proofs.BroughtValues.{brought_unmade_one, brought_made_one}
 use Rattle.cs_embeddings.proofs.JoinedForms.{inner, IsUnmade, IsMadeOf, and_unmade, or_unmade, and_made, or_made, struct_unmade, struct_made, front_unmade, end_unmade, list_made, marked_unmade, marked_made}
-use Rattle.cs_embeddings.proofs.JoinedParts.{IsWellExpr, IsWellField, exprs_well, fields_well, of_map, own, own_clashes, each_made, each_unmade, own_value, own_seen, field_clashes, fields_made, fields_unmade, brought_value, brought_seen, brought_clashes, brought_made, brought_unmade, own_literal, literal_clashes, literals_made, literals_unmade}
+use Rattle.cs_embeddings.proofs.JoinedParts.{IsWellExpr, IsWellField, exprs_well, fields_well, of_map, own, own_clashes, each_made, each_unmade, own_seen, field_clashes, fields_made, fields_unmade, brought_seen, brought_clashes, brought_made, brought_unmade, own_literal, literal_clashes, literals_made, literals_unmade}
 use Rattle.cs_embeddings.proofs.Literals.{too_much, MakesLiteral, no_alternative, sole, whole_several, kept_too_high, kept_unmade, kept_made, none_first}
 use Rattle.cs_embeddings.proofs.Marked.{no_mark}
 use Rattle.cs_embeddings.proofs.Parts.{all_at, no_room_inside, made_inside, none_made, one_made, all_made, none_more}
-use Rattle.cs_embeddings.specs.Alternatives.{Alternative, at, most_steps, alternatives_of}
+use Rattle.cs_embeddings.specs.Alternatives.{most_steps, alternatives_of}
 use Rattle.cs_embeddings.specs.Clashes.{clashes_with, clashes_of, clashes_in, clashes_behind, held, clashes_value}
 use Rattle.cs_embeddings.specs.Embedded.{can_be_embedded, embeds_well}
-use Rattle.cs_embeddings.specs.Joined.{joined_with, joined_value, one_of, literals_of, fields_of_brought}
+use Rattle.cs_embeddings.specs.Joined.{joined_with, joined_value, one_of}
 use Rattle.cs_embeddings.specs.Made.{IsNoRoom, IsMade, IsWell, Makes, behind_marks, with_marks, count_mark}
-use Rattle.cs_embeddings.specs.Size.{size, size_fields}
+use Rattle.cs_embeddings.specs.Size.{size}
 use Rattle.cs_embeddings.specs.Views.{alternative_view, alternatives_view, brought_view}
 use Rattle.cs_embeddings.specs.declared.alternatives.Brought.{Brought}
 use Rattle.cs_embeddings.specs.declared.joined.Room.{Room}
