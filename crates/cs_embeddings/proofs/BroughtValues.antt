@@ -23,16 +23,26 @@ module _ (ds : List DefinitionTree) (levels room : ℕ) (lower : suc levels ≡ 
   abbrev its_value : Tree
   its_value = (field_view b.field.now).value
 
-  pub brought_unmade_one : (n : ℕ) → room ≤ n → (e : EmbeddingFault) (file nodes : ℕ) → ((m : ℕ) → levels ≤ m → IsNoRoom e file levels nodes (height (value_at m its_value)) (size (value_at m its_value)) (clashes_at m its_value)) → IsNoRoom e file levels nodes (height (brought_value (joined_value ds n) (clashes_value ds n) b)) (size (brought_value (joined_value ds n) (clashes_value ds n) b)) (brought_clashes (joined_value ds n) (clashes_value ds n) b)
+  pub brought_unmade_one : (n : ℕ) → room ≤ n → (e : EmbeddingFault) (file nodes : ℕ)
+      → ((m : ℕ) → levels ≤ m → IsNoRoom e file levels nodes (height (value_at m its_value)) (size (value_at m its_value)) (clashes_at m its_value))
+      → IsNoRoom e file levels nodes (height (brought_value (joined_value ds n) (clashes_value ds n) b))
+      (size (brought_value (joined_value ds n) (clashes_value ds n) b)) (brought_clashes (joined_value ds n) (clashes_value ds n) b)
   unfolding joined_value clashes_value
   brought_unmade_one zero deep e file nodes h = absurd (omega arith)
-  brought_unmade_one (suc m) deep e file nodes h = subst (λ t. IsNoRoom e file levels nodes (height (value_at m t)) (size (value_at m t)) (clashes_at m t)) (view-value b.field.now) (h m (omega arith))
+  brought_unmade_one (suc m) deep e file nodes h = subst (λ t. IsNoRoom e file levels nodes (height (value_at m t)) (size (value_at m t)) (clashes_at m t))
+      (view-value b.field.now) (h m (omega arith))
 
-  pub brought_made_one : (n : ℕ) → room ≤ n → (nodes rest : ℕ) (x : Seen) → ((m : ℕ) → levels ≤ m → IsMade levels nodes rest (height (value_at m its_value)) (size (value_at m its_value)) x (with_value b.place (value_at m) (field_view b.field.now)) (clashes_at m its_value)) → IsMade levels nodes rest (height (brought_value (joined_value ds n) (clashes_value ds n) b)) (size (brought_value (joined_value ds n) (clashes_value ds n) b)) x (brought_seen (joined_value ds n) (clashes_value ds n) b) (brought_clashes (joined_value ds n) (clashes_value ds n) b)
+  pub brought_made_one : (n : ℕ) → room ≤ n → (nodes rest : ℕ) (x : Seen)
+      → ((m : ℕ) → levels ≤ m
+      → IsMade levels nodes rest (height (value_at m its_value)) (size (value_at m its_value)) x (with_value b.place (value_at m) (field_view b.field.now))
+      (clashes_at m its_value)) → IsMade levels nodes rest (height (brought_value (joined_value ds n) (clashes_value ds n) b))
+      (size (brought_value (joined_value ds n) (clashes_value ds n) b)) x (brought_seen (joined_value ds n) (clashes_value ds n) b)
+      (brought_clashes (joined_value ds n) (clashes_value ds n) b)
   unfolding joined_value clashes_value
   brought_made_one zero deep nodes rest x h = absurd (omega arith)
   brought_made_one (suc m) deep nodes rest x h =
       let seen : FieldMark → Tree → Seen = λ k t. record { label = (field_view b.field.now).label; mark = placed b.place k; value = value_at m t } in
-      let here = subst (λ t. IsMade levels nodes rest (height (value_at m t)) (size (value_at m t)) x (seen (field_view b.field.now).mark t) (clashes_at m t)) (view-value b.field.now) (h m (omega arith)) in
+      let here = subst (λ t. IsMade levels nodes rest (height (value_at m t)) (size (value_at m t)) x (seen (field_view b.field.now).mark t) (clashes_at m t))
+      (view-value b.field.now) (h m (omega arith)) in
       let t = expr_view b.field.now.value in
       subst (λ k. IsMade levels nodes rest (height (value_at m t)) (size (value_at m t)) x (seen k t) (clashes_at m t)) (view-mark b.field.now) here

@@ -49,7 +49,8 @@ module _ (fs : List FileTree) (flawless : flaws_of_files fs ≡ []) where
   module _ (apart : clashes_of_files fs ≡ []) (within : IsWithin (joined_files fs)) where
     no_other : (e : EmbeddingFault) → IsNoRoomForFiles e (all_definitions fs) fs → e ≡ OutOfMemory
     no_other OutOfMemory h = cc
-    no_other (Reopened i o) h = let k : ◌≡◌ {A = _} (slice_get {X = ℕ × ℕ} [] 0) (Some (i, o)) = subst (λ (xs : List (ℕ × ℕ)). slice_get xs 0 ≡ Some (i, o)) apart h in cc
+    no_other (Reopened i o) h = let k : ◌≡◌ {A = _} (slice_get {X = ℕ × ℕ} [] 0) (Some (i, o)) = subst
+        (λ (xs : List (ℕ × ℕ)). slice_get xs 0 ≡ Some (i, o)) apart h in cc
     no_other (TooHigh i) h = let k = no_higher (joined_files fs) i h.0 h.1 in let low = within.low in let high = h.2 in absurd (omega arith)
     no_other TooLarge h = let small = within.small in absurd (omega arith)
     no_other (UnknownName i o) h = absurd h

@@ -49,7 +49,8 @@ module _ (ds : List DefinitionTree) where
   definition_clashes d = clashes ds (expr_view d.body)
 
   abbrev pub AreDefinitions : ℕ → ℕ → List Definition → List Definition → Type 0
-  AreDefinitions nodes rest xs ys = AreMade definition_view own_definition (λ d. height (own_body d)) (λ d. size (own_body d)) definition_clashes most_height nodes rest xs ys
+  AreDefinitions nodes rest xs ys = AreMade definition_view own_definition (λ d. height (own_body d))
+      (λ d. size (own_body d)) definition_clashes most_height nodes rest xs ys
 
   abbrev meant : List Definition → List DefinitionTree
   meant xs = map (joined_definition ds) (map definition_view xs)
@@ -71,7 +72,9 @@ module _ (ds : List DefinitionTree) where
   clashes_are (x ∷ xs) = ap (λ os. definition_clashes x ++ os) (clashes_are xs)
 
   module _ (xs : List Definition) (nodes : ℕ) where
-    pub definitions_made : (rest : ℕ) (ys : List Definition) → AreDefinitions nodes rest xs ys → IsMade most_height nodes rest (height_definitions (meant xs)) (size_of_definitions (meant xs)) (map definition_view ys) (meant xs) (flat_map (λ d. clashes ds (body d)) (map definition_view xs))
+    pub definitions_made : (rest : ℕ) (ys : List Definition) → AreDefinitions nodes rest xs ys
+        → IsMade most_height nodes rest (height_definitions (meant xs)) (size_of_definitions (meant xs)) (map definition_view ys) (meant xs)
+        (flat_map (λ d. clashes ds (body d)) (map definition_view xs))
     definitions_made rest ys h = record {
       made = h.made ∙ definitions_are xs;
       low = rw (definitions_high xs) h.low;
@@ -79,7 +82,10 @@ module _ (ds : List DefinitionTree) where
       apart = clashes_are xs ∙ h.apart;
     }
 
-    pub definitions_unmade : (e : EmbeddingFault) (file : ℕ) → IsNoRoom e file most_height nodes (highest (λ d. height (own_body d)) xs) (total (λ d. size (own_body d)) xs) (flat_map definition_clashes xs) → IsNoRoom e file most_height nodes (height_definitions (meant xs)) (size_of_definitions (meant xs)) (flat_map (λ d. clashes ds (body d)) (map definition_view xs))
+    pub definitions_unmade : (e : EmbeddingFault) (file : ℕ)
+        → IsNoRoom e file most_height nodes (highest (λ d. height (own_body d)) xs) (total (λ d. size (own_body d)) xs) (flat_map definition_clashes xs)
+        → IsNoRoom e file most_height nodes (height_definitions (meant xs)) (size_of_definitions (meant xs))
+        (flat_map (λ d. clashes ds (body d)) (map definition_view xs))
     definitions_unmade e file h = rw (definitions_high xs, definitions_large xs, clashes_are xs) h
 
   -- ---- files
@@ -105,11 +111,13 @@ module _ (ds : List DefinitionTree) where
 
   files_high : (xs : List File) → height_definitions (flat_map definitions (files_meant xs)) ≡ highest (λ f. file_height (own_file f)) xs
   files_high [] = refl
-  files_high (x ∷ xs) = height-append (definitions (own_file x)) (flat_map definitions (files_meant xs)) ∙ ap (λ h. max (file_height (own_file x)) h) (files_high xs)
+  files_high (x ∷ xs) = height-append (definitions (own_file x)) (flat_map definitions (files_meant xs))
+      ∙ ap (λ h. max (file_height (own_file x)) h) (files_high xs)
 
   files_large : (xs : List File) → size_of_files (files_meant xs) ≡ total file_large xs
   files_large [] = refl
-  files_large (x ∷ xs) = sum_by-append (λ d. size (body d)) (definitions (own_file x)) (flat_map definitions (files_meant xs)) ∙ ap (λ s. file_large x + s) (files_large xs)
+  files_large (x ∷ xs) = sum_by-append (λ d. size (body d)) (definitions (own_file x)) (flat_map definitions (files_meant xs))
+      ∙ ap (λ s. file_large x + s) (files_large xs)
 
   -- where no file has any, none is found
   none_found : (i : ℕ) (xs : List File) → flat_map file_clashes xs ≡ [] → found_from (clashes ds) i (map file_view xs) ≡ []
@@ -140,7 +148,8 @@ module _ (ds : List DefinitionTree) where
   numbered i [] o h = cc
   numbered i (p ∷ os) o h = cc
 
-  first_found : (j : ℕ) (xs : List File) (i : ℕ) (x : File) → i < length xs → x ≡ get_or xs i x → flat_map file_clashes (take i xs) ≡ [] → (o : ℕ) → slice_get (file_clashes x) 0 ≡ Some o → slice_get (found_from (clashes ds) j (map file_view xs)) 0 ≡ Some (j + i, o)
+  first_found : (j : ℕ) (xs : List File) (i : ℕ) (x : File) → i < length xs → x ≡ get_or xs i x → flat_map file_clashes (take i xs) ≡ [] → (o : ℕ)
+      → slice_get (file_clashes x) 0 ≡ Some o → slice_get (found_from (clashes ds) j (map file_view xs)) 0 ≡ Some (j + i, o)
   first_found j [] i x l is none o h = absurd (omega arith)
   first_found j (y ∷ xs) zero x l is none o h =
       rw (add_zero j) (first_left (map (λ p. (j, p)) (file_clashes y)) (found_from (clashes ds) (suc j) (map file_view xs)) (j, o)
@@ -168,23 +177,28 @@ module _ (ds : List DefinitionTree) where
   meant_at (y ∷ xs) (suc i) x l is = meant_at xs i x (omega arith) is
 
   -- one of the files isn't made
-  module _ (xs : List File) (i : ℕ) (x : File) (l : i < length xs) (is : x ≡ get_or xs i x) (rest : ℕ) (ys : List File) (before : AreFiles most_nodes rest (take i xs) ys) where
-    pub files_unmade : (e : EmbeddingFault) → IsNoRoom e i most_height rest (file_height (own_file x)) (file_large x) (file_clashes x) → IsNoRoomForFiles e ds (map file_view xs)
+  module _ (xs : List File) (i : ℕ) (x : File) (l : i < length xs) (is : x ≡ get_or xs i x) (rest : ℕ) (ys : List File)
+      (before : AreFiles most_nodes rest (take i xs) ys) where
+    pub files_unmade : (e : EmbeddingFault) → IsNoRoom e i most_height rest (file_height (own_file x)) (file_large x) (file_clashes x)
+        → IsNoRoomForFiles e ds (map file_view xs)
     files_unmade OutOfMemory h = tt
-    files_unmade (Reopened f o) h = subst (λ j. slice_get (found_from (clashes ds) 0 (map file_view xs)) 0 ≡ Some (j, o)) (from_zero i ∙ sym h.0) (first_found 0 xs i x l is before.apart o h.1)
+    files_unmade (Reopened f o) h = subst (λ j. slice_get (found_from (clashes ds) 0 (map file_view xs)) 0 ≡ Some (j, o)) (from_zero i ∙ sym h.0)
+        (first_found 0 xs i x l is before.apart o h.1)
       where
         from_zero : (i : ℕ) → 0 + i ≡ i
         from_zero i = omega arith
     files_unmade (TooHigh f) h = (own_file x, subst (λ j. slice_get (files_meant xs) j ≡ Some (own_file x)) (sym h.0) (meant_at xs i x l is), h.1)
     files_unmade TooLarge h =
-        let k = none_more file_view own_file (λ f. file_height (own_file f)) file_large file_clashes most_height most_nodes xs i x l is rest ys before TooLarge i h in
+        let k = none_more file_view own_file (λ f. file_height (own_file f)) file_large file_clashes most_height most_nodes xs i x l is rest ys before TooLarge
+        i h in
         let s = files_large xs in omega arith
     files_unmade (UnknownName f o) h = absurd h
     files_unmade (NoStruct f o) h = absurd h
 
 -- ---- which bodies embed what can be embedded
 
-pub bodies_of_files : (P : DefinitionTree → Type 0) (fs : List FileTree) → AllByRecursion P (flat_map definitions fs) → AllByRecursion (λ f. AllByRecursion P (definitions f)) fs
+pub bodies_of_files : (P : DefinitionTree → Type 0) (fs : List FileTree) → AllByRecursion P (flat_map definitions fs)
+    → AllByRecursion (λ f. AllByRecursion P (definitions f)) fs
 bodies_of_files P [] h = tt
 bodies_of_files P (f ∷ fs) h = (left P (definitions f) (flat_map definitions fs) h, bodies_of_files P fs (right P (definitions f) (flat_map definitions fs) h))
   where
