@@ -8,6 +8,8 @@ use Rattle.cs_grammar.specs.Tree.{Tree, DefinitionTree, body, FileTree, definiti
 use Rattle.cs_grammar.specs.View.{expr_view, definition_view, file_view}
 use Rattle.cs_grammar.specs.declared.ast.Definition.{Definition}
 use Rattle.cs_grammar.specs.declared.ast.File.{File}
+use Rattle.cs_embeddings.proofs.Flawless.{first_empty, second_empty}
+use Rattle.cs_embeddings.proofs.FoundFiles.{first_numbered}
 use Rattle.cs_embeddings.proofs.Firsts.{first_left, first_right}
 use Rattle.cs_embeddings.proofs.Parts.{highest, total, AreMade, none_more}
 use Rattle.cs_embeddings.specs.Clashes.{clashes, clashes_with, clashes_value}
@@ -123,12 +125,9 @@ module _ (ds : List DefinitionTree) where
   none_found : (i : ℕ) (xs : List File) → flat_map file_clashes xs ≡ [] → found_from (clashes ds) i (map file_view xs) ≡ []
   none_found i [] h = refl
   none_found i (x ∷ xs) h =
-      let p = parts (file_clashes x) (flat_map file_clashes xs) h in
-      ap₂ {C = List (ℕ × ℕ)} (λ ys zs. map (λ o. (i, o)) ys ++ zs) p.0 (none_found (suc i) xs p.1)
-    where
-      parts : (ys zs : List ℕ) → ys ++ zs ≡ [] → (ys ≡ []) × (zs ≡ [])
-      parts [] zs h = (refl, h)
-      parts (y ∷ ys) zs h = cc
+      let here = first_empty (file_clashes x) (flat_map file_clashes xs) h in
+      let later = second_empty (file_clashes x) (flat_map file_clashes xs) h in
+      ap₂ {C = List (ℕ × ℕ)} (λ ys zs. map (λ o. (i, o)) ys ++ zs) here (none_found (suc i) xs later)
 
   pub files_made : (xs ys : List File) (rest : ℕ) → AreFiles most_nodes rest xs ys → AreFilesMade ds (map file_view xs) (map file_view ys)
   files_made xs ys rest h =
@@ -144,29 +143,23 @@ module _ (ds : List DefinitionTree) where
 
   -- ---- the first that would be opened
 
-  numbered : (i : ℕ) (os : List ℕ) (o : ℕ) → slice_get os 0 ≡ Some o → slice_get {X = ℕ × ℕ} (map (λ p. (i, p)) os) 0 ≡ Some (i, o)
-  numbered i [] o h = cc
-  numbered i (p ∷ os) o h = cc
-
   first_found : (j : ℕ) (xs : List File) (i : ℕ) (x : File) → i < length xs → x ≡ get_or xs i x → flat_map file_clashes (take i xs) ≡ [] → (o : ℕ)
       → slice_get (file_clashes x) 0 ≡ Some o → slice_get (found_from (clashes ds) j (map file_view xs)) 0 ≡ Some (j + i, o)
   first_found j [] i x l is none o h = absurd (omega arith)
   first_found j (y ∷ xs) zero x l is none o h =
       rw (add_zero j) (first_left (map (λ p. (j, p)) (file_clashes y)) (found_from (clashes ds) (suc j) (map file_view xs)) (j, o)
-      (numbered j (file_clashes y) o (subst (λ z. slice_get (file_clashes z) 0 ≡ Some o) is h)))
+      (first_numbered (clashes ds) j (file_clashes y) o (subst (λ z. slice_get (file_clashes z) 0 ≡ Some o) is h)))
     where
       add_zero : (j : ℕ) → j + 0 ≡ j
       add_zero j = omega arith
   first_found j (y ∷ xs) (suc i) x l is none o h =
-      let p = parts (file_clashes y) (flat_map file_clashes (take i xs)) none in
-      let later = first_found (suc j) xs i x (omega arith) is p.1 o h in
+      let here = first_empty (file_clashes y) (flat_map file_clashes (take i xs)) none in
+      let none_later = second_empty (file_clashes y) (flat_map file_clashes (take i xs)) none in
+      let later = first_found (suc j) xs i x (omega arith) is none_later o h in
       first_right (map (λ p. (j, p)) (file_clashes y)) (found_from (clashes ds) (suc j) (map file_view xs)) (j + suc i, o)
-      (ap (map {B = ℕ × ℕ} (λ p. (j, p))) p.0) (subst (λ k. slice_get (found_from (clashes ds) (suc j) (map file_view xs)) 0 ≡ Some (k, o)) (across j i) later)
+      (ap (map {B = ℕ × ℕ} (λ p. (j, p))) here)
+      (subst (λ k. slice_get (found_from (clashes ds) (suc j) (map file_view xs)) 0 ≡ Some (k, o)) (across j i) later)
     where
-      parts : (ys zs : List ℕ) → ys ++ zs ≡ [] → (ys ≡ []) × (zs ≡ [])
-      parts [] zs h = (refl, h)
-      parts (y ∷ ys) zs h = cc
-
       across : (j i : ℕ) → suc j + i ≡ j + suc i
       across j i = omega arith
 

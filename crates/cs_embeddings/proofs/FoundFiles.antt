@@ -19,7 +19,7 @@ module _ {A : Type 0} (found : Tree → List A) where
   abbrev pub from : ℕ → List File → List (ℕ × A)
   from i fs = found_from found i (map file_view fs)
 
-  first_numbered : (i : ℕ) (os : List A) (o : A) → slice_get os 0 ≡ Some o → slice_get {X = ℕ × A} (map (λ p. (i, p)) os) 0 ≡ Some (i, o)
+  pub first_numbered : (i : ℕ) (os : List A) (o : A) → slice_get os 0 ≡ Some o → slice_get {X = ℕ × A} (map (λ p. (i, p)) os) 0 ≡ Some (i, o)
   first_numbered i [] o h = cc
   first_numbered i (p ∷ os) o h = cc
 

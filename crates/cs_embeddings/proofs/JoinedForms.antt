@@ -1,16 +1,15 @@
 -- What each form of an expression stands for, from what its parts stand for.
-use Rattle.std.proofs.Common.{◌≡◌, ℕ, suc, ◌+◌, ◌≤◌, Bool, true, false, List, ◌++◌, Result, Ok, Err, sym, ap, ap₂, ◌∙◌, subst, arith}
-use Rattle.std.specs.Result.{IsErrAnd}
+use Rattle.std.proofs.Common.{◌≡◌, ℕ, suc, ◌+◌, ◌≤◌, Bool, true, false, List, ◌++◌, sym, ap, ap₂, ◌∙◌, subst, arith}
+use Rattle.std.proofs.lemmas.Bool.{and_parts}
 use Rattle.cs_grammar.specs.Height.{height, height_all, height_fields, height_end}
 use Rattle.cs_grammar.specs.Tree.{Tree, Trees, Fields, End, conjunction, disjunction, struct, list, wide, marked, DefinitionTree}
-use Rattle.cs_embeddings.proofs.JoinedParts.{both}
 use Rattle.cs_embeddings.proofs.Marked.{well_behind, marks_joined, marks_high, marks_large, marks_clashes}
 use Rattle.cs_embeddings.proofs.Parts.{no_room_left, no_room_right, no_room_inside, made_inside}
 use Rattle.cs_embeddings.specs.Alternatives.{at, most_steps}
 use Rattle.cs_embeddings.specs.Clashes.{clashes_with, clashes_each, clashes_fields, clashes_end, clashes_value}
 use Rattle.cs_embeddings.specs.Embedded.{can_be_embedded, embeds_well, embed_well, fields_embed_well, end_embeds_well}
 use Rattle.cs_embeddings.specs.Joined.{joined_with, joined_each, joined_fields, joined_end, joined_value}
-use Rattle.cs_embeddings.specs.Made.{IsNoRoom, IsMade, IsBelow, MakesPart, behind_marks, with_marks}
+use Rattle.cs_embeddings.specs.Made.{IsNoRoom, IsMade, IsBelow, behind_marks, with_marks}
 use Rattle.cs_embeddings.specs.Size.{size, sizes, size_fields, size_end}
 use Rattle.cs_embeddings.specs.declared.fault.EmbeddingFault.{EmbeddingFault}
 use Rattle.cs_embeddings.specs.declared.joined.Room.{Room}
@@ -137,7 +136,7 @@ module _ (ds : List DefinitionTree) (n : ℕ) where
     -- a list
     module _ (es : Trees) (end : End) (embeds : embeds_well inner (list es end) ≡ true) (r : Room) (set : r ≡ record inside { is_whole = true }) where
       well : (embed_well inner es ≡ true) × (end_embeds_well inner end ≡ true)
-      well = both (embed_well inner es) (end_embeds_well inner end) embeds
+      well = and_parts (embed_well inner es) (end_embeds_well inner end) embeds
 
       pub front_unmade : (e : EmbeddingFault) (file : ℕ) → (embed_well inner es ≡ true → r.levels ≤ n → EachUnmade e file r mid es)
           → IsUnmade e file room nodes (list es end)

@@ -1,5 +1,6 @@
 -- What an expression stands for, part by part, as the code has the parts.
-use Rattle.std.proofs.Common.{◌≡◌, ℕ, ◌+◌, max, Bool, true, false, ◌&&◌, List, [], ◌∷◌, ◌++◌, Option, map, refl, ap, ◌∙◌}
+use Rattle.std.proofs.Common.{◌≡◌, ℕ, ◌+◌, max, Bool, true, List, [], ◌∷◌, ◌++◌, Option, map, refl, ap, ◌∙◌}
+use Rattle.std.proofs.lemmas.Bool.{and_parts}
 use Rattle.std.specs.List.{flat_map, AllByRecursion}
 use Rattle.cs_grammar.specs.Height.{height, height_all, height_fields}
 use Rattle.cs_grammar.specs.Tree.{Tree, Fields, more, field, DefinitionTree}
@@ -19,10 +20,6 @@ use Rattle.cs_embeddings.specs.declared.fault.EmbeddingFault.{EmbeddingFault}
 
 -- ---- what embeds well, part by part
 
-pub both : (a b : Bool) → (a && b) ≡ true → (a ≡ true) × (b ≡ true)
-both true b h = (refl, h)
-both false b h = cc
-
 module _ (inner : Tree → Bool) where
   abbrev pub IsWellExpr : Expr → Type 0
   IsWellExpr e = embeds_well inner (expr_view e) ≡ true
@@ -33,13 +30,13 @@ module _ (inner : Tree → Bool) where
   pub exprs_well : (es : List Expr) → embed_well inner (exprs_view es) ≡ true → AllByRecursion IsWellExpr es
   exprs_well [] h = tt
   exprs_well (e ∷ es) h =
-      let p = both (embeds_well inner (expr_view e)) (embed_well inner (exprs_view es)) h in
+      let p = and_parts (embeds_well inner (expr_view e)) (embed_well inner (exprs_view es)) h in
       (p.0, exprs_well es p.1)
 
   pub fields_well : (fs : List Field) → fields_embed_well inner (fields_view fs) ≡ true → AllByRecursion IsWellField fs
   fields_well [] h = tt
   fields_well (f ∷ fs) h =
-      let p = both (embeds_well inner (field_view f).value) (fields_embed_well inner (fields_view fs)) h in
+      let p = and_parts (embeds_well inner (field_view f).value) (fields_embed_well inner (fields_view fs)) h in
       (p.0, fields_well fs p.1)
 
 pub of_map : {X Y : Type 0} (P : Y → Type 0) (f : X → Y) (xs : List X) → AllByRecursion P (map f xs) → AllByRecursion (λ x. P (f x)) xs

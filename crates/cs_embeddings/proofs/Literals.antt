@@ -1,9 +1,11 @@
 -- What a literal with embeddings stands for, from its alternatives.
-use Rattle.std.proofs.Common.{◌≡◌, ℕ, suc, ◌<◌, ◌≤◌, Bool, true, false, List, [], ◌∷◌, Option, None, Result, length, get_or, slice_get, refl, sym, ap, ◌∙◌, subst, arith}
+use Rattle.std.proofs.Common.{rules, ◌≡◌, ℕ, suc, ◌<◌, ◌≤◌, Bool, true, false, List, [], ◌∷◌, Option, None, Result, length, get_or, slice_get, refl, sym, ap, ◌∙◌, subst, arith}
 use Rattle.std.proofs.lemmas.List.{append-nil}
 use Rattle.std.specs.List.{flat_map}
 use Rattle.cs_grammar.specs.Height.{height}
 use Rattle.cs_grammar.specs.Tree.{Tree, atom, bottom, named, reference, conjunction, disjunction, paren, struct, list, wide, marked, merged}
+use Rattle.cs_grammar.specs.View.{expr_view}
+use Rattle.cs_grammar.specs.declared.ast.Expr as Exprs
 use Rattle.cs_grammar.specs.declared.ast.Expr.{Expr}
 use Rattle.cs_embeddings.proofs.Parts.{no_room_below, made_below}
 use Rattle.cs_embeddings.specs.Alternatives.{Brought, Alternative}
@@ -114,3 +116,8 @@ module _ (value : Option ℕ → Tree → Tree) (o : ℕ) where
 pub none_first : {X : Type 0} (xs : List X) → None ≡ slice_get xs 0 → xs ≡ []
 none_first [] h = refl
 none_first (x ∷ xs) h = cc
+
+-- ---- no alternative
+
+pub bottom_view : expr_view Exprs.Bottom ≡ atom bottom
+bottom_view = search (rules, Exprs.the_lemmas)

@@ -47,6 +47,10 @@ no_room_right (NoStruct f o) file levels nodes rest high large high' large' clas
 
 -- ---- what has parts
 
+-- a level below there are no more levels than literals inside of one another
+pub lower : (levels below n : ℕ) → suc below ≡ levels → levels ≤ n → below ≤ n
+lower levels below n l deep = omega arith
+
 pub no_room_inside : (e : EmbeddingFault) (file levels below nodes rest high large : ℕ) (clashes : List ℕ) → suc below ≡ levels → suc rest ≡ nodes
     → IsNoRoom e file below rest high large clashes → IsNoRoom e file levels nodes (suc high) (1 + large) clashes
 no_room_inside OutOfMemory file levels below nodes rest high large clashes l n h = tt

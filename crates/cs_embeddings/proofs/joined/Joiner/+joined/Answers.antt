@@ -1,7 +1,7 @@
-use Rattle.std.proofs.Common.{rules, ◌≡◌, ℕ, suc, ◌+◌, ◌*◌, ◌<◌, ◌≤◌, true, List, [], ◌++◌, length, get_or, map, sym, ap, ap₂, ◌∙◌, subst, arith}
+use Rattle.std.proofs.Common.{rules, ◌≡◌, ℕ, ◌<◌, ◌≤◌, true, [], ◌++◌, length, get_or, map, sym, ap, ap₂, ◌∙◌, subst}
 use Rattle.std.proofs.lemmas.Result.{err_from_is_err_and}
 use Rattle.std.specs.List.{flat_map, AllByRecursion}
-use Rattle.cs_grammar.proofs.Views.{view-And, view-Or, view-Paren, view-Struct, view-List, view-Wide, view-Merged, view-Marked, view-value}
+use Rattle.cs_grammar.proofs.Views.{view-And, view-Or, view-Paren, view-Struct, view-List, view-Wide, view-Merged, view-Marked}
 use Rattle.cs_grammar.specs.Height.{height}
 use Rattle.cs_grammar.specs.Tree as T
 use Rattle.cs_grammar.specs.Tree.{Tree, Fields}
@@ -9,20 +9,19 @@ use Rattle.cs_grammar.specs.View.{expr_view, exprs_view, field_view, fields_view
 use Rattle.cs_grammar.specs.declared.ast.Expr as Exprs
 use Rattle.cs_grammar.specs.declared.ast.Wide as Wides
 use Rattle.cs_embeddings.proofs.WellAlternatives.{alternatives_embed_well}
-use Rattle.cs_embeddings.proofs.BroughtValues.{brought_unmade_one, brought_made_one}
+use Rattle.cs_embeddings.proofs.BroughtValues.{brought_unmade_one, brought_made_one, value_well}
 use Rattle.cs_embeddings.proofs.JoinedForms.{inner, IsUnmade, IsMadeOf, and_unmade, or_unmade, and_made, or_made, struct_unmade, struct_made, front_unmade, end_unmade, list_made, marked_unmade, marked_made}
 use Rattle.cs_embeddings.proofs.JoinedParts.{IsWellExpr, IsWellField, exprs_well, fields_well, of_map, own, own_clashes, each_made, each_unmade, own_seen, field_clashes, fields_made, fields_unmade, brought_seen, brought_clashes, brought_made, brought_unmade, own_literal, literal_clashes, literals_made, literals_unmade}
-use Rattle.cs_embeddings.proofs.Literals.{too_much, MakesLiteral, no_alternative, sole, whole_several, kept_too_high, kept_unmade, kept_made, none_first}
-use Rattle.cs_embeddings.proofs.Marked.{no_mark}
-use Rattle.cs_embeddings.proofs.Parts.{all_at, no_room_inside, made_inside, none_made, one_made, all_made, none_more}
-use Rattle.cs_embeddings.specs.Alternatives.{most_steps, alternatives_of}
+use Rattle.cs_embeddings.proofs.Literals.{bottom_view, too_much, MakesLiteral, no_alternative, sole, whole_several, kept_too_high, kept_unmade, kept_made, none_first}
+use Rattle.cs_embeddings.proofs.Marked.{no_mark, falls}
+use Rattle.cs_embeddings.proofs.Parts.{all_at, lower, no_room_inside, made_inside, none_made, one_made, all_made, none_more}
+use Rattle.cs_embeddings.specs.Alternatives.{alternatives_of}
 use Rattle.cs_embeddings.specs.Clashes.{clashes_with, clashes_of, clashes_in, clashes_behind, held, clashes_value}
-use Rattle.cs_embeddings.specs.Embedded.{can_be_embedded, embeds_well}
+use Rattle.cs_embeddings.specs.Embedded.{embeds_well}
 use Rattle.cs_embeddings.specs.Joined.{joined_with, joined_value, one_of}
 use Rattle.cs_embeddings.specs.Made.{IsNoRoom, IsMade, IsWell, Makes, behind_marks, with_marks, count_mark}
 use Rattle.cs_embeddings.specs.Size.{size}
 use Rattle.cs_embeddings.specs.Views.{alternative_view, alternatives_view, brought_view}
-use Rattle.cs_embeddings.specs.declared.alternatives.Brought.{Brought}
 use Rattle.cs_embeddings.specs.declared.joined.Room.{Room}
 use Rattle.cs_embeddings.proofs.joined.Joiner.+joined.Goals as goal
 
@@ -186,10 +185,6 @@ joined_list-returns t c ds n tells well embeds deep =
 
 -- ---- alternatives
 
--- a level below there are no more levels than literals inside of one another
-lower : (levels below n : ℕ) → suc below ≡ levels → levels ≤ n → below ≤ n
-lower levels below n l deep = omega arith
-
 pub joined_alternatives-loop-alternative-init : goal.joined_alternatives-loop-alternative-init
 joined_alternatives-loop-alternative-init t c ds n tells well wells deep =
     let V = joined_value ds n in let C = clashes_value ds n in
@@ -241,15 +236,6 @@ joined_alternative-loop-brought-init t c ds n tells well wells deep =
     let V = joined_value ds n in let C = clashes_value ds n in
     rw c.in_ok-fields.ensures.items (none_made field_view (brought_seen V C) _ _ (brought_clashes V C) c.in_ok-inside.inside.levels c.inside.new.nodes)
 
--- the value of one of the declarations embeds well
-value_well : (ds : List T.DefinitionTree) (bs : List Brought) (i : ℕ) (b : Brought) → i < length bs → b ≡ get_or bs i b
-    → AllByRecursion (λ d. embeds_well (can_be_embedded ds most_steps) d.value ≡ true) (map brought_view bs)
-    → embeds_well (can_be_embedded ds most_steps) (field_view b.field.now).value ≡ true
-value_well ds bs i b l is wells =
-    let I = can_be_embedded ds most_steps in
-    subst (λ u. embeds_well I u ≡ true) (sym (view-value b.field.now))
-    (all_at (λ (b : Brought). embeds_well I (brought_view b).value ≡ true) bs i b l is (of_map (λ d. embeds_well I d.value ≡ true) brought_view bs wells))
-
 pub joined_alternative-returns-in_err-joined_field : goal.joined_alternative-returns-in_err-joined_field
 joined_alternative-returns-in_err-joined_field t c ds n tells well wells deep =
     let p = err_from_is_err_and c.from_residual-in_err-joined_field.result c.from_residual-in_err-joined_field.ensures.1 in
@@ -298,10 +284,6 @@ joined_alternative-returns t c ds n tells well wells deep =
     record { made = h.made; low = h.low; left = h.left; apart = ap₂ (λ xs ys. xs ++ ys) apart h.apart }
 
 -- ---- marks
-
-falls : (t levels levels' marks marks' : ℕ) → levels' ≡ levels → marks ≡ 1 → marks' ≡ 0 → 16 * levels + (8 * marks + 3) ≡ t
-    → 16 * levels' + (8 * marks' + 4) < t
-falls t levels levels' marks marks' l m m' is = omega arith
 
 pub joined_form-joined-requires : goal.joined_form-joined-requires
 joined_form-joined-requires t c =
@@ -369,9 +351,6 @@ joined_literal-returns-in_err-found t c ds n tells well embeds deep =
     (too_much (joined_value ds n) c.args.at room.is_whole all c.in_err-found.field-0.0 c.args.self.file room.levels c.args.nodes.now
     (flat_map (clashes_of (clashes_value ds n)) all)
     (c.in_err-found.ensures ds tells embeds))
-
-bottom_view : expr_view Exprs.Bottom ≡ T.atom T.bottom
-bottom_view = search (rules, Exprs.the_lemmas)
 
 pub joined_literal-returns-in-empty : goal.joined_literal-returns-in-empty
 joined_literal-returns-in-empty t c ds n tells well embeds deep =
