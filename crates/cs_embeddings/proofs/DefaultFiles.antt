@@ -1,5 +1,5 @@
 -- Files without forms of the wide profile stand for themselves: nothing is embedded in them.
-use Rattle.std.proofs.Common.{◌≡◌, ℕ, zero, suc, Bool, true, false, List, [], ◌∷◌, ◌++◌, Option, None, map, refl, sym, ap, ap₂, ◌∙◌}
+use Rattle.std.proofs.Common.{◌≡◌, ℕ, suc, Bool, true, false, List, [], ◌∷◌, ◌++◌, Option, None, map, refl, sym, ap, ap₂, ◌∙◌}
 use Rattle.std.specs.List.{AllByRecursion, flat_map}
 use Rattle.cs_grammar.specs.DefaultForms.{IsDefault, AreDefault, AreDefaultFields, IsDefaultEnd, IsDefaultFile}
 use Rattle.cs_grammar.specs.Limits.{most_height}
@@ -7,8 +7,8 @@ use Rattle.cs_grammar.specs.declared.ast.FieldMark.{FieldMark}
 use Rattle.cs_grammar.specs.declared.ast.FieldMark.TheVariants.{Regular, Optional, Required, Every}
 use Rattle.cs_grammar.specs.Tree.{Tree, atom, named, reference, conjunction, disjunction, paren, struct, list, wide, Trees, none, more, Fields, no_field, field, End, closed, any, each, body, definitions, DefinitionTree, definition, FileTree, file}
 use Rattle.cs_embeddings.specs.Clashes.{clashes, clashes_with, clashes_each, clashes_fields, clashes_end, clashes_value}
-use Rattle.cs_embeddings.specs.Flaws.{Flaw, flaws, flaws_each, flaws_fields, flaws_end}
-use Rattle.cs_embeddings.specs.Joined.{placed, joined, joined_with, joined_each, joined_fields, joined_end, joined_value, joined_definition, joined_file}
+use Rattle.cs_embeddings.specs.Flaws.{flaws, flaws_each, flaws_fields, flaws_end}
+use Rattle.cs_embeddings.specs.Joined.{placed, joined_with, joined_each, joined_fields, joined_end, joined_value, joined_definition, joined_file}
 use Rattle.cs_embeddings.specs.Without.{found_from, all_definitions, IsJoined}
 
 nothing : {X : Type 0} (xs ys : List X) → xs ≡ [] → ys ≡ [] → xs ++ ys ≡ []

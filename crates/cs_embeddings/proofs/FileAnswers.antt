@@ -1,5 +1,5 @@
 -- What is answered of files, where nothing of their embeddings is at fault.
-use Rattle.std.proofs.Common.{◌≡◌, ℕ, zero, suc, ◌<◌, ◌≤◌, max, List, [], ◌∷◌, ◌++◌, Some, Result, Ok, Err, map, slice_get, sym, ap, ◌∙◌, subst, arith}
+use Rattle.std.proofs.Common.{◌≡◌, ℕ, zero, suc, ◌≤◌, List, [], ◌∷◌, ◌++◌, Some, Result, Ok, Err, map, slice_get, subst, arith}
 use Rattle.std.specs.Result.{IfOk, IfErr, IsOkUnless}
 use Rattle.std.specs.List.{flat_map}
 use Rattle.std.specs.declared.alloc.Global.{Global}
@@ -9,8 +9,7 @@ use Rattle.cs_grammar.specs.Tree.{FileTree, definitions}
 use Rattle.cs_grammar.specs.View.{file_view}
 use Rattle.cs_grammar.specs.declared.ast.File.{File}
 use Rattle.cs_embeddings.proofs.FileParts.{height-append}
-use Rattle.cs_embeddings.specs.Clashes.{clashes}
-use Rattle.cs_embeddings.specs.Made.{IsNoRoomForFiles, AreFilesMade, MakesFiles}
+use Rattle.cs_embeddings.specs.Made.{IsNoRoomForFiles, MakesFiles}
 use Rattle.cs_embeddings.specs.Without.{IsJoined, IsWithin, IsRefusal, all_definitions, flaws_of_files, clashes_of_files, joined_files}
 use Rattle.cs_embeddings.specs.declared.fault.EmbeddingFault.{EmbeddingFault}
 use Rattle.cs_embeddings.specs.declared.fault.EmbeddingFault.TheVariants.{OutOfMemory, UnknownName, NoStruct, Reopened, TooHigh, TooLarge}
@@ -50,7 +49,8 @@ module _ (fs : List FileTree) (flawless : flaws_of_files fs ≡ []) where
   module _ (apart : clashes_of_files fs ≡ []) (within : IsWithin (joined_files fs)) where
     no_other : (e : EmbeddingFault) → IsNoRoomForFiles e (all_definitions fs) fs → e ≡ OutOfMemory
     no_other OutOfMemory h = cc
-    no_other (Reopened i o) h = let k : ◌≡◌ {A = _} (slice_get {X = ℕ × ℕ} [] 0) (Some (i, o)) = subst (λ (xs : List (ℕ × ℕ)). slice_get xs 0 ≡ Some (i, o)) apart h in cc
+    no_other (Reopened i o) h = let k : ◌≡◌ {A = _} (slice_get {X = ℕ × ℕ} [] 0) (Some (i, o)) = subst
+        (λ (xs : List (ℕ × ℕ)). slice_get xs 0 ≡ Some (i, o)) apart h in cc
     no_other (TooHigh i) h = let k = no_higher (joined_files fs) i h.0 h.1 in let low = within.low in let high = h.2 in absurd (omega arith)
     no_other TooLarge h = let small = within.small in absurd (omega arith)
     no_other (UnknownName i o) h = absurd h

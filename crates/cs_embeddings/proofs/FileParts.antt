@@ -1,7 +1,5 @@
 -- What files stand for, from what their bodies stand for.
-use Rattle.std.proofs.Common.{◌≡◌, ℕ, zero, suc, ◌+◌, ◌<◌, ◌≤◌, max, true, List, [], ◌∷◌, ◌++◌, Option, Some, None, Result, Ok, Err, map, take, drop, length, get_or, slice_get, sum_by, refl, sym, ap, ap₂, ◌∙◌, subst, add-one, arith}
-use Rattle.std.proofs.lemmas.Grind.{flat_map-append}
-use Rattle.std.proofs.lemmas.List.{map-append, take-append-drop}
+use Rattle.std.proofs.Common.{◌≡◌, ℕ, zero, suc, ◌+◌, ◌<◌, max, true, List, [], ◌∷◌, ◌++◌, Some, None, map, take, length, get_or, slice_get, refl, sym, ap, ap₂, ◌∙◌, subst, arith}
 use Rattle.std.proofs.lemmas.List.Sums.{sum_by-cons, sum_by-append}
 use Rattle.std.specs.List.{flat_map, AllByRecursion}
 use Rattle.cs_grammar.specs.Height.{height, height_definitions, file_height}
@@ -10,15 +8,13 @@ use Rattle.cs_grammar.specs.Tree.{Tree, DefinitionTree, body, FileTree, definiti
 use Rattle.cs_grammar.specs.View.{expr_view, definition_view, file_view}
 use Rattle.cs_grammar.specs.declared.ast.Definition.{Definition}
 use Rattle.cs_grammar.specs.declared.ast.File.{File}
-use Rattle.cs_embeddings.proofs.Firsts.{first_left, first_right, none_left}
+use Rattle.cs_embeddings.proofs.Flawless.{first_empty, second_empty}
+use Rattle.cs_embeddings.proofs.FoundFiles.{first_numbered}
+use Rattle.cs_embeddings.proofs.Firsts.{first_left, first_right}
 use Rattle.cs_embeddings.proofs.Parts.{highest, total, AreMade, none_more}
-use Rattle.cs_embeddings.proofs.Walks.{at_place}
-use Rattle.cs_embeddings.specs.Alternatives.{most_steps}
-use Rattle.cs_embeddings.specs.Checks.{AreWell}
 use Rattle.cs_embeddings.specs.Clashes.{clashes, clashes_with, clashes_value}
-use Rattle.cs_embeddings.specs.Embedded.{can_be_embedded, embeds_well}
 use Rattle.cs_embeddings.specs.Joined.{joined, joined_with, joined_value, joined_definition, joined_file}
-use Rattle.cs_embeddings.specs.Made.{IsNoRoom, IsMade, IsNoRoomForFiles, AreFilesMade, AreBodiesWell}
+use Rattle.cs_embeddings.specs.Made.{IsNoRoom, IsMade, IsNoRoomForFiles, AreFilesMade}
 use Rattle.cs_embeddings.specs.Size.{size, size_of_definitions, size_of_files}
 use Rattle.cs_embeddings.specs.Without.{found_from, IsWithin}
 use Rattle.cs_embeddings.specs.declared.fault.EmbeddingFault.{EmbeddingFault}
@@ -55,7 +51,8 @@ module _ (ds : List DefinitionTree) where
   definition_clashes d = clashes ds (expr_view d.body)
 
   abbrev pub AreDefinitions : ℕ → ℕ → List Definition → List Definition → Type 0
-  AreDefinitions nodes rest xs ys = AreMade definition_view own_definition (λ d. height (own_body d)) (λ d. size (own_body d)) definition_clashes most_height nodes rest xs ys
+  AreDefinitions nodes rest xs ys = AreMade definition_view own_definition (λ d. height (own_body d))
+      (λ d. size (own_body d)) definition_clashes most_height nodes rest xs ys
 
   abbrev meant : List Definition → List DefinitionTree
   meant xs = map (joined_definition ds) (map definition_view xs)
@@ -77,7 +74,9 @@ module _ (ds : List DefinitionTree) where
   clashes_are (x ∷ xs) = ap (λ os. definition_clashes x ++ os) (clashes_are xs)
 
   module _ (xs : List Definition) (nodes : ℕ) where
-    pub definitions_made : (rest : ℕ) (ys : List Definition) → AreDefinitions nodes rest xs ys → IsMade most_height nodes rest (height_definitions (meant xs)) (size_of_definitions (meant xs)) (map definition_view ys) (meant xs) (flat_map (λ d. clashes ds (body d)) (map definition_view xs))
+    pub definitions_made : (rest : ℕ) (ys : List Definition) → AreDefinitions nodes rest xs ys
+        → IsMade most_height nodes rest (height_definitions (meant xs)) (size_of_definitions (meant xs)) (map definition_view ys) (meant xs)
+        (flat_map (λ d. clashes ds (body d)) (map definition_view xs))
     definitions_made rest ys h = record {
       made = h.made ∙ definitions_are xs;
       low = rw (definitions_high xs) h.low;
@@ -85,7 +84,10 @@ module _ (ds : List DefinitionTree) where
       apart = clashes_are xs ∙ h.apart;
     }
 
-    pub definitions_unmade : (e : EmbeddingFault) (file : ℕ) → IsNoRoom e file most_height nodes (highest (λ d. height (own_body d)) xs) (total (λ d. size (own_body d)) xs) (flat_map definition_clashes xs) → IsNoRoom e file most_height nodes (height_definitions (meant xs)) (size_of_definitions (meant xs)) (flat_map (λ d. clashes ds (body d)) (map definition_view xs))
+    pub definitions_unmade : (e : EmbeddingFault) (file : ℕ)
+        → IsNoRoom e file most_height nodes (highest (λ d. height (own_body d)) xs) (total (λ d. size (own_body d)) xs) (flat_map definition_clashes xs)
+        → IsNoRoom e file most_height nodes (height_definitions (meant xs)) (size_of_definitions (meant xs))
+        (flat_map (λ d. clashes ds (body d)) (map definition_view xs))
     definitions_unmade e file h = rw (definitions_high xs, definitions_large xs, clashes_are xs) h
 
   -- ---- files
@@ -111,22 +113,21 @@ module _ (ds : List DefinitionTree) where
 
   files_high : (xs : List File) → height_definitions (flat_map definitions (files_meant xs)) ≡ highest (λ f. file_height (own_file f)) xs
   files_high [] = refl
-  files_high (x ∷ xs) = height-append (definitions (own_file x)) (flat_map definitions (files_meant xs)) ∙ ap (λ h. max (file_height (own_file x)) h) (files_high xs)
+  files_high (x ∷ xs) = height-append (definitions (own_file x)) (flat_map definitions (files_meant xs))
+      ∙ ap (λ h. max (file_height (own_file x)) h) (files_high xs)
 
   files_large : (xs : List File) → size_of_files (files_meant xs) ≡ total file_large xs
   files_large [] = refl
-  files_large (x ∷ xs) = sum_by-append (λ d. size (body d)) (definitions (own_file x)) (flat_map definitions (files_meant xs)) ∙ ap (λ s. file_large x + s) (files_large xs)
+  files_large (x ∷ xs) = sum_by-append (λ d. size (body d)) (definitions (own_file x)) (flat_map definitions (files_meant xs))
+      ∙ ap (λ s. file_large x + s) (files_large xs)
 
   -- where no file has any, none is found
   none_found : (i : ℕ) (xs : List File) → flat_map file_clashes xs ≡ [] → found_from (clashes ds) i (map file_view xs) ≡ []
   none_found i [] h = refl
   none_found i (x ∷ xs) h =
-      let p = parts (file_clashes x) (flat_map file_clashes xs) h in
-      ap₂ {C = List (ℕ × ℕ)} (λ ys zs. map (λ o. (i, o)) ys ++ zs) p.0 (none_found (suc i) xs p.1)
-    where
-      parts : (ys zs : List ℕ) → ys ++ zs ≡ [] → (ys ≡ []) × (zs ≡ [])
-      parts [] zs h = (refl, h)
-      parts (y ∷ ys) zs h = cc
+      let here = first_empty (file_clashes x) (flat_map file_clashes xs) h in
+      let later = second_empty (file_clashes x) (flat_map file_clashes xs) h in
+      ap₂ {C = List (ℕ × ℕ)} (λ ys zs. map (λ o. (i, o)) ys ++ zs) here (none_found (suc i) xs later)
 
   pub files_made : (xs ys : List File) (rest : ℕ) → AreFiles most_nodes rest xs ys → AreFilesMade ds (map file_view xs) (map file_view ys)
   files_made xs ys rest h =
@@ -142,28 +143,23 @@ module _ (ds : List DefinitionTree) where
 
   -- ---- the first that would be opened
 
-  numbered : (i : ℕ) (os : List ℕ) (o : ℕ) → slice_get os 0 ≡ Some o → slice_get {X = ℕ × ℕ} (map (λ p. (i, p)) os) 0 ≡ Some (i, o)
-  numbered i [] o h = cc
-  numbered i (p ∷ os) o h = cc
-
-  first_found : (j : ℕ) (xs : List File) (i : ℕ) (x : File) → i < length xs → x ≡ get_or xs i x → flat_map file_clashes (take i xs) ≡ [] → (o : ℕ) → slice_get (file_clashes x) 0 ≡ Some o → slice_get (found_from (clashes ds) j (map file_view xs)) 0 ≡ Some (j + i, o)
+  first_found : (j : ℕ) (xs : List File) (i : ℕ) (x : File) → i < length xs → x ≡ get_or xs i x → flat_map file_clashes (take i xs) ≡ [] → (o : ℕ)
+      → slice_get (file_clashes x) 0 ≡ Some o → slice_get (found_from (clashes ds) j (map file_view xs)) 0 ≡ Some (j + i, o)
   first_found j [] i x l is none o h = absurd (omega arith)
   first_found j (y ∷ xs) zero x l is none o h =
       rw (add_zero j) (first_left (map (λ p. (j, p)) (file_clashes y)) (found_from (clashes ds) (suc j) (map file_view xs)) (j, o)
-      (numbered j (file_clashes y) o (subst (λ z. slice_get (file_clashes z) 0 ≡ Some o) is h)))
+      (first_numbered (clashes ds) j (file_clashes y) o (subst (λ z. slice_get (file_clashes z) 0 ≡ Some o) is h)))
     where
       add_zero : (j : ℕ) → j + 0 ≡ j
       add_zero j = omega arith
   first_found j (y ∷ xs) (suc i) x l is none o h =
-      let p = parts (file_clashes y) (flat_map file_clashes (take i xs)) none in
-      let later = first_found (suc j) xs i x (omega arith) is p.1 o h in
+      let here = first_empty (file_clashes y) (flat_map file_clashes (take i xs)) none in
+      let none_later = second_empty (file_clashes y) (flat_map file_clashes (take i xs)) none in
+      let later = first_found (suc j) xs i x (omega arith) is none_later o h in
       first_right (map (λ p. (j, p)) (file_clashes y)) (found_from (clashes ds) (suc j) (map file_view xs)) (j + suc i, o)
-      (ap (map {B = ℕ × ℕ} (λ p. (j, p))) p.0) (subst (λ k. slice_get (found_from (clashes ds) (suc j) (map file_view xs)) 0 ≡ Some (k, o)) (across j i) later)
+      (ap (map {B = ℕ × ℕ} (λ p. (j, p))) here)
+      (subst (λ k. slice_get (found_from (clashes ds) (suc j) (map file_view xs)) 0 ≡ Some (k, o)) (across j i) later)
     where
-      parts : (ys zs : List ℕ) → ys ++ zs ≡ [] → (ys ≡ []) × (zs ≡ [])
-      parts [] zs h = (refl, h)
-      parts (y ∷ ys) zs h = cc
-
       across : (j i : ℕ) → suc j + i ≡ j + suc i
       across j i = omega arith
 
@@ -174,23 +170,28 @@ module _ (ds : List DefinitionTree) where
   meant_at (y ∷ xs) (suc i) x l is = meant_at xs i x (omega arith) is
 
   -- one of the files isn't made
-  module _ (xs : List File) (i : ℕ) (x : File) (l : i < length xs) (is : x ≡ get_or xs i x) (rest : ℕ) (ys : List File) (before : AreFiles most_nodes rest (take i xs) ys) where
-    pub files_unmade : (e : EmbeddingFault) → IsNoRoom e i most_height rest (file_height (own_file x)) (file_large x) (file_clashes x) → IsNoRoomForFiles e ds (map file_view xs)
+  module _ (xs : List File) (i : ℕ) (x : File) (l : i < length xs) (is : x ≡ get_or xs i x) (rest : ℕ) (ys : List File)
+      (before : AreFiles most_nodes rest (take i xs) ys) where
+    pub files_unmade : (e : EmbeddingFault) → IsNoRoom e i most_height rest (file_height (own_file x)) (file_large x) (file_clashes x)
+        → IsNoRoomForFiles e ds (map file_view xs)
     files_unmade OutOfMemory h = tt
-    files_unmade (Reopened f o) h = subst (λ j. slice_get (found_from (clashes ds) 0 (map file_view xs)) 0 ≡ Some (j, o)) (from_zero i ∙ sym h.0) (first_found 0 xs i x l is before.apart o h.1)
+    files_unmade (Reopened f o) h = subst (λ j. slice_get (found_from (clashes ds) 0 (map file_view xs)) 0 ≡ Some (j, o)) (from_zero i ∙ sym h.0)
+        (first_found 0 xs i x l is before.apart o h.1)
       where
         from_zero : (i : ℕ) → 0 + i ≡ i
         from_zero i = omega arith
     files_unmade (TooHigh f) h = (own_file x, subst (λ j. slice_get (files_meant xs) j ≡ Some (own_file x)) (sym h.0) (meant_at xs i x l is), h.1)
     files_unmade TooLarge h =
-        let k = none_more file_view own_file (λ f. file_height (own_file f)) file_large file_clashes most_height most_nodes xs i x l is rest ys before TooLarge i h in
+        let k = none_more file_view own_file (λ f. file_height (own_file f)) file_large file_clashes most_height most_nodes xs i x l is rest ys before TooLarge
+        i h in
         let s = files_large xs in omega arith
     files_unmade (UnknownName f o) h = absurd h
     files_unmade (NoStruct f o) h = absurd h
 
 -- ---- which bodies embed what can be embedded
 
-pub bodies_of_files : (P : DefinitionTree → Type 0) (fs : List FileTree) → AllByRecursion P (flat_map definitions fs) → AllByRecursion (λ f. AllByRecursion P (definitions f)) fs
+pub bodies_of_files : (P : DefinitionTree → Type 0) (fs : List FileTree) → AllByRecursion P (flat_map definitions fs)
+    → AllByRecursion (λ f. AllByRecursion P (definitions f)) fs
 bodies_of_files P [] h = tt
 bodies_of_files P (f ∷ fs) h = (left P (definitions f) (flat_map definitions fs) h, bodies_of_files P fs (right P (definitions f) (flat_map definitions fs) h))
   where

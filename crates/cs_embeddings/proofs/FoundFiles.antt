@@ -1,5 +1,5 @@
 -- What is found in files, which are numbered.
-use Rattle.std.proofs.Common.{◌≡◌, ℕ, suc, ◌+◌, ◌<◌, ◌≤◌, List, [], ◌∷◌, ◌++◌, Some, map, drop, length, get_or, slice_get, sym, ap, ◌∙◌, add-one}
+use Rattle.std.proofs.Common.{◌≡◌, ℕ, ◌+◌, ◌<◌, ◌≤◌, List, [], ◌∷◌, ◌++◌, Some, map, drop, length, get_or, slice_get, sym, ap, ◌∙◌, add-one}
 use Rattle.std.specs.List.{flat_map}
 use Rattle.cs_grammar.specs.Tree.{Tree, body}
 use Rattle.cs_grammar.specs.View.{definition_view, file_view}
@@ -19,7 +19,7 @@ module _ {A : Type 0} (found : Tree → List A) where
   abbrev pub from : ℕ → List File → List (ℕ × A)
   from i fs = found_from found i (map file_view fs)
 
-  first_numbered : (i : ℕ) (os : List A) (o : A) → slice_get os 0 ≡ Some o → slice_get {X = ℕ × A} (map (λ p. (i, p)) os) 0 ≡ Some (i, o)
+  pub first_numbered : (i : ℕ) (os : List A) (o : A) → slice_get os 0 ≡ Some o → slice_get {X = ℕ × A} (map (λ p. (i, p)) os) 0 ≡ Some (i, o)
   first_numbered i [] o h = cc
   first_numbered i (p ∷ os) o h = cc
 

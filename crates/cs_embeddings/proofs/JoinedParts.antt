@@ -1,14 +1,13 @@
 -- What an expression stands for, part by part, as the code has the parts.
-use Rattle.std.proofs.Common.{◌≡◌, ℕ, zero, suc, ◌+◌, ◌<◌, ◌≤◌, max, Bool, true, false, ◌&&◌, List, [], ◌∷◌, ◌++◌, Option, map, length, get_or, refl, sym, ap, ap₂, ◌∙◌, subst, arith}
+use Rattle.std.proofs.Common.{◌≡◌, ℕ, ◌+◌, max, Bool, true, List, [], ◌∷◌, ◌++◌, Option, map, refl, ap, ◌∙◌}
+use Rattle.std.proofs.lemmas.Bool.{and_parts}
 use Rattle.std.specs.List.{flat_map, AllByRecursion}
-use Rattle.cs_grammar.proofs.Views.{view-value, view-mark}
 use Rattle.cs_grammar.specs.Height.{height, height_all, height_fields}
-use Rattle.cs_grammar.specs.Tree.{Tree, Trees, Fields, more, field, DefinitionTree}
+use Rattle.cs_grammar.specs.Tree.{Tree, Fields, more, field, DefinitionTree}
 use Rattle.cs_grammar.specs.View.{expr_view, exprs_view, trees_of, fields_of, field_view, fields_view, Seen}
 use Rattle.cs_grammar.specs.declared.ast.Expr.{Expr}
 use Rattle.cs_grammar.specs.declared.ast.Field.{Field}
-use Rattle.cs_embeddings.proofs.Parts.{highest, total, AreMade, all_at}
-use Rattle.cs_embeddings.specs.Alternatives.{Alternative}
+use Rattle.cs_embeddings.proofs.Parts.{highest, total, AreMade}
 use Rattle.cs_embeddings.specs.Clashes.{clashes_with, clashes_each, clashes_fields, clashes_of}
 use Rattle.cs_embeddings.specs.Embedded.{embeds_well, embed_well, fields_embed_well}
 use Rattle.cs_embeddings.specs.Joined.{joined_with, joined_each, joined_fields, literal_of, literals_of, fields_of_brought, placed}
@@ -21,10 +20,6 @@ use Rattle.cs_embeddings.specs.declared.fault.EmbeddingFault.{EmbeddingFault}
 
 -- ---- what embeds well, part by part
 
-pub both : (a b : Bool) → (a && b) ≡ true → (a ≡ true) × (b ≡ true)
-both true b h = (refl, h)
-both false b h = cc
-
 module _ (inner : Tree → Bool) where
   abbrev pub IsWellExpr : Expr → Type 0
   IsWellExpr e = embeds_well inner (expr_view e) ≡ true
@@ -35,13 +30,13 @@ module _ (inner : Tree → Bool) where
   pub exprs_well : (es : List Expr) → embed_well inner (exprs_view es) ≡ true → AllByRecursion IsWellExpr es
   exprs_well [] h = tt
   exprs_well (e ∷ es) h =
-      let p = both (embeds_well inner (expr_view e)) (embed_well inner (exprs_view es)) h in
+      let p = and_parts (embeds_well inner (expr_view e)) (embed_well inner (exprs_view es)) h in
       (p.0, exprs_well es p.1)
 
   pub fields_well : (fs : List Field) → fields_embed_well inner (fields_view fs) ≡ true → AllByRecursion IsWellField fs
   fields_well [] h = tt
   fields_well (f ∷ fs) h =
-      let p = both (embeds_well inner (field_view f).value) (fields_embed_well inner (fields_view fs)) h in
+      let p = and_parts (embeds_well inner (field_view f).value) (fields_embed_well inner (fields_view fs)) h in
       (p.0, fields_well fs p.1)
 
 pub of_map : {X Y : Type 0} (P : Y → Type 0) (f : X → Y) (xs : List X) → AllByRecursion P (map f xs) → AllByRecursion (λ x. P (f x)) xs
@@ -78,7 +73,9 @@ module _ (ds : List DefinitionTree) (value : Option ℕ → Tree → Tree) (inne
   each_clashes (e ∷ es) = ap (λ os. own_clashes e ++ os) (each_clashes es)
 
   module _ (whole : Bool) (es : List Expr) (levels nodes : ℕ) where
-    pub each_made : (rest : ℕ) (ys : List Expr) → AreJoined whole levels nodes rest es ys → let meant = joined_each ds value whole p (exprs_view es) in IsMade levels nodes rest (height_all meant) (sizes meant) (exprs_view ys) meant (clashes_each ds inner p (exprs_view es))
+    pub each_made : (rest : ℕ) (ys : List Expr) → AreJoined whole levels nodes rest es ys
+        → let meant = joined_each ds value whole p (exprs_view es) in IsMade levels nodes rest (height_all meant) (sizes meant) (exprs_view ys) meant
+        (clashes_each ds inner p (exprs_view es))
     each_made rest ys h = record {
       made = ap trees_of h.made ∙ each_trees whole es;
       low = rw (each_high whole es) h.low;
@@ -86,7 +83,10 @@ module _ (ds : List DefinitionTree) (value : Option ℕ → Tree → Tree) (inne
       apart = each_clashes es ∙ h.apart;
     }
 
-    pub each_unmade : (e : EmbeddingFault) (file : ℕ) → IsNoRoom e file levels nodes (highest (λ e. height (own whole e)) es) (total (λ e. size (own whole e)) es) (flat_map own_clashes es) → let meant = joined_each ds value whole p (exprs_view es) in IsNoRoom e file levels nodes (height_all meant) (sizes meant) (clashes_each ds inner p (exprs_view es))
+    pub each_unmade : (e : EmbeddingFault) (file : ℕ)
+        → IsNoRoom e file levels nodes (highest (λ e. height (own whole e)) es) (total (λ e. size (own whole e)) es) (flat_map own_clashes es)
+        → let meant = joined_each ds value whole p (exprs_view es) in IsNoRoom e file levels nodes (height_all meant) (sizes meant)
+        (clashes_each ds inner p (exprs_view es))
     each_unmade e file h = rw (each_high whole es, each_large whole es, each_clashes es) h
 
   -- fields
@@ -123,7 +123,9 @@ module _ (ds : List DefinitionTree) (value : Option ℕ → Tree → Tree) (inne
   fields_clashes (f ∷ fs) = ap (λ os. field_clashes f ++ os) (fields_clashes fs)
 
   module _ (fs : List Field) (levels nodes : ℕ) where
-    pub fields_made : (rest : ℕ) (ys : List Field) → AreFields levels nodes rest fs ys → let meant = joined_fields ds value p (fields_view fs) in IsMade levels nodes rest (height_fields meant) (size_fields meant) (fields_view ys) meant (clashes_fields ds inner p (fields_view fs))
+    pub fields_made : (rest : ℕ) (ys : List Field) → AreFields levels nodes rest fs ys
+        → let meant = joined_fields ds value p (fields_view fs) in IsMade levels nodes rest (height_fields meant) (size_fields meant) (fields_view ys) meant
+        (clashes_fields ds inner p (fields_view fs))
     fields_made rest ys h = record {
       made = ap fields_of h.made ∙ fields_trees fs;
       low = rw (fields_high fs) h.low;
@@ -131,7 +133,10 @@ module _ (ds : List DefinitionTree) (value : Option ℕ → Tree → Tree) (inne
       apart = fields_clashes fs ∙ h.apart;
     }
 
-    pub fields_unmade : (e : EmbeddingFault) (file : ℕ) → IsNoRoom e file levels nodes (highest (λ f. height (own_value f)) fs) (total (λ f. size (own_value f)) fs) (flat_map field_clashes fs) → let meant = joined_fields ds value p (fields_view fs) in IsNoRoom e file levels nodes (height_fields meant) (size_fields meant) (clashes_fields ds inner p (fields_view fs))
+    pub fields_unmade : (e : EmbeddingFault) (file : ℕ)
+        → IsNoRoom e file levels nodes (highest (λ f. height (own_value f)) fs) (total (λ f. size (own_value f)) fs) (flat_map field_clashes fs)
+        → let meant = joined_fields ds value p (fields_view fs) in IsNoRoom e file levels nodes (height_fields meant) (size_fields meant)
+        (clashes_fields ds inner p (fields_view fs))
     fields_unmade e file h = rw (fields_high fs, fields_large fs, fields_clashes fs) h
 
 -- ---- alternatives
@@ -147,7 +152,8 @@ module _ (value : Option ℕ → Tree → Tree) (inner : Option ℕ → Tree →
   brought_clashes b = inner b.place (brought_view b).value
 
   abbrev pub AreBrought : ℕ → ℕ → ℕ → List brought.Brought → List Field → Type 0
-  AreBrought levels nodes rest bs ys = AreMade field_view brought_seen (λ b. height (brought_value b)) (λ b. size (brought_value b)) brought_clashes levels nodes rest bs ys
+  AreBrought levels nodes rest bs ys = AreMade field_view brought_seen (λ b. height (brought_value b))
+      (λ b. size (brought_value b)) brought_clashes levels nodes rest bs ys
 
   brought_trees : (bs : List brought.Brought) → fields_of (map brought_seen bs) ≡ fields_of_brought value (map brought_view bs)
   brought_trees [] = refl
@@ -166,7 +172,9 @@ module _ (value : Option ℕ → Tree → Tree) (inner : Option ℕ → Tree →
   clashes_brought (b ∷ bs) = ap (λ os. brought_clashes b ++ os) (clashes_brought bs)
 
   module _ (bs : List brought.Brought) (levels nodes : ℕ) where
-    pub brought_made : (rest : ℕ) (ys : List Field) → AreBrought levels nodes rest bs ys → let meant = fields_of_brought value (map brought_view bs) in IsMade levels nodes rest (height_fields meant) (size_fields meant) (fields_view ys) meant (flat_map (λ d. inner d.place d.value) (map brought_view bs))
+    pub brought_made : (rest : ℕ) (ys : List Field) → AreBrought levels nodes rest bs ys
+        → let meant = fields_of_brought value (map brought_view bs) in IsMade levels nodes rest (height_fields meant) (size_fields meant)
+        (fields_view ys) meant (flat_map (λ d. inner d.place d.value) (map brought_view bs))
     brought_made rest ys h = record {
       made = ap fields_of h.made ∙ brought_trees bs;
       low = rw (brought_high bs) h.low;
@@ -174,7 +182,10 @@ module _ (value : Option ℕ → Tree → Tree) (inner : Option ℕ → Tree →
       apart = clashes_brought bs ∙ h.apart;
     }
 
-    pub brought_unmade : (e : EmbeddingFault) (file : ℕ) → IsNoRoom e file levels nodes (highest (λ b. height (brought_value b)) bs) (total (λ b. size (brought_value b)) bs) (flat_map brought_clashes bs) → let meant = fields_of_brought value (map brought_view bs) in IsNoRoom e file levels nodes (height_fields meant) (size_fields meant) (flat_map (λ d. inner d.place d.value) (map brought_view bs))
+    pub brought_unmade : (e : EmbeddingFault) (file : ℕ)
+        → IsNoRoom e file levels nodes (highest (λ b. height (brought_value b)) bs) (total (λ b. size (brought_value b)) bs) (flat_map brought_clashes bs)
+        → let meant = fields_of_brought value (map brought_view bs) in IsNoRoom e file levels nodes (height_fields meant) (size_fields meant)
+        (flat_map (λ d. inner d.place d.value) (map brought_view bs))
     brought_unmade e file h = rw (brought_high bs, brought_large bs, clashes_brought bs) h
 
   module _ (o : ℕ) where
@@ -185,7 +196,8 @@ module _ (value : Option ℕ → Tree → Tree) (inner : Option ℕ → Tree →
     literal_clashes a = clashes_of inner (alternative_view a)
 
     abbrev pub AreLiterals : ℕ → ℕ → ℕ → List rust.Alternative → List Expr → Type 0
-    AreLiterals levels nodes rest xs ys = AreMade expr_view own_literal (λ a. height (own_literal a)) (λ a. size (own_literal a)) literal_clashes levels nodes rest xs ys
+    AreLiterals levels nodes rest xs ys = AreMade expr_view own_literal (λ a. height (own_literal a))
+        (λ a. size (own_literal a)) literal_clashes levels nodes rest xs ys
 
     literal_trees : (xs : List rust.Alternative) → trees_of (map own_literal xs) ≡ literals_of value o (alternatives_view xs)
     literal_trees [] = refl
@@ -204,7 +216,9 @@ module _ (value : Option ℕ → Tree → Tree) (inner : Option ℕ → Tree →
     clashes_literals (a ∷ xs) = ap (λ os. literal_clashes a ++ os) (clashes_literals xs)
 
     module _ (xs : List rust.Alternative) (levels nodes : ℕ) where
-      pub literals_made : (rest : ℕ) (ys : List Expr) → AreLiterals levels nodes rest xs ys → let meant = literals_of value o (alternatives_view xs) in IsMade levels nodes rest (height_all meant) (sizes meant) (exprs_view ys) meant (flat_map (clashes_of inner) (alternatives_view xs))
+      pub literals_made : (rest : ℕ) (ys : List Expr) → AreLiterals levels nodes rest xs ys
+          → let meant = literals_of value o (alternatives_view xs) in IsMade levels nodes rest (height_all meant) (sizes meant) (exprs_view ys) meant
+          (flat_map (clashes_of inner) (alternatives_view xs))
       literals_made rest ys h = record {
         made = ap trees_of h.made ∙ literal_trees xs;
         low = rw (literal_high xs) h.low;
@@ -212,5 +226,8 @@ module _ (value : Option ℕ → Tree → Tree) (inner : Option ℕ → Tree →
         apart = clashes_literals xs ∙ h.apart;
       }
 
-      pub literals_unmade : (e : EmbeddingFault) (file : ℕ) → IsNoRoom e file levels nodes (highest (λ a. height (own_literal a)) xs) (total (λ a. size (own_literal a)) xs) (flat_map literal_clashes xs) → let meant = literals_of value o (alternatives_view xs) in IsNoRoom e file levels nodes (height_all meant) (sizes meant) (flat_map (clashes_of inner) (alternatives_view xs))
+      pub literals_unmade : (e : EmbeddingFault) (file : ℕ)
+          → IsNoRoom e file levels nodes (highest (λ a. height (own_literal a)) xs) (total (λ a. size (own_literal a)) xs) (flat_map literal_clashes xs)
+          → let meant = literals_of value o (alternatives_view xs) in IsNoRoom e file levels nodes (height_all meant) (sizes meant)
+          (flat_map (clashes_of inner) (alternatives_view xs))
       literals_unmade e file h = rw (literal_high xs, literal_large xs, clashes_literals xs) h

@@ -1,5 +1,5 @@
 -- Marks change nothing of what is behind them.
-use Rattle.std.proofs.Common.{◌≡◌, ℕ, Bool, false, List, Option, refl, ap}
+use Rattle.std.proofs.Common.{◌≡◌, ℕ, ◌+◌, ◌*◌, ◌<◌, Bool, false, List, Option, refl, ap, arith}
 use Rattle.cs_grammar.specs.Height.{height}
 use Rattle.cs_grammar.specs.Tree.{Tree, wide, marked, DefinitionTree}
 use Rattle.cs_embeddings.specs.Alternatives.{at}
@@ -36,3 +36,8 @@ module _ (ds : List DefinitionTree) (value : Option ℕ → Tree → Tree) (inne
   pub marks_clashes : (e : Tree) → clashes_with ds inner p e ≡ clashes_with ds inner p (behind_marks e)
   marks_clashes (wide (marked o e)) = marks_clashes e
   marks_clashes e = refl
+
+-- without its marks an expression takes less of the steps of a level
+pub falls : (t levels levels' marks marks' : ℕ) → levels' ≡ levels → marks ≡ 1 → marks' ≡ 0 → 16 * levels + (8 * marks + 3) ≡ t
+    → 16 * levels' + (8 * marks' + 4) < t
+falls t levels levels' marks marks' l m m' is = omega arith

@@ -3,12 +3,13 @@ use Rattle.std.specs.Prelude.{◌≡◌, ℕ, suc, ◌+◌, ◌<◌, ◌≤◌, 
 use Rattle.std.specs.List.{AllByRecursion, flat_map}
 use Rattle.std.specs.declared.alloc.Global.{Global}
 use Rattle.std.specs.declared.vec.Vec.{Vec}
+use Rattle.cs_grammar.specs.declared.ast.Definition.{Definition}
 use Rattle.cs_grammar.specs.declared.ast.Expr.{Expr}
 use Rattle.cs_grammar.specs.declared.ast.File.{File}
 use Rattle.cs_grammar.specs.Height.{height, height_definitions, file_height}
 use Rattle.cs_grammar.specs.Limits.{most_height, most_nodes}
 use Rattle.cs_grammar.specs.Tree.{Tree, wide, marked, DefinitionTree, body, FileTree}
-use Rattle.cs_grammar.specs.View.{expr_view, file_view, Seen}
+use Rattle.cs_grammar.specs.View.{expr_view, definition_view, file_view, Seen}
 use Rattle.cs_embeddings.specs.Alternatives.{Brought, Alternative, at, most_steps}
 use Rattle.cs_embeddings.specs.Clashes.{clashes}
 use Rattle.cs_embeddings.specs.Embedded.{can_be_embedded, embeds_well}
@@ -104,10 +105,12 @@ FindsFlaw (Err e) found = IsFlaw e found
 abbrev pub AreBodiesWell : List DefinitionTree → List DefinitionTree → Type 0
 AreBodiesWell ds es = AllByRecursion (λ d. embeds_well (can_be_embedded ds most_steps) (body d) ≡ true) es
 
-abbrev pub MakesDefinitions : {X : Type 0} → (X → List DefinitionTree) → Result X EmbeddingFault → ℕ → ℕ → ℕ → List DefinitionTree → List DefinitionTree → Type 0
-MakesDefinitions view result file nodes rest ds es =
+-- definitions are made of those with these bodies, as they are meant, or there is a reason
+abbrev pub MakesDefinitions : Result (Vec Definition Global) EmbeddingFault → ℕ → ℕ → ℕ → List DefinitionTree → List DefinitionTree → Type 0
+MakesDefinitions result file nodes rest ds es =
     let meant = map (joined_definition ds) es in
-    MakesPart view result file most_height nodes rest (height_definitions meant) (size_of_definitions meant) meant (flat_map (λ d. clashes ds (body d)) es)
+    MakesPart (λ v. map definition_view v.items) result file most_height nodes rest (height_definitions meant) (size_of_definitions meant) meant
+    (flat_map (λ d. clashes ds (body d)) es)
 
 -- why files aren't made
 abbrev pub IsNoRoomForFiles : EmbeddingFault → List DefinitionTree → List FileTree → Type 0

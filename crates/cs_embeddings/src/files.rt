@@ -1,5 +1,5 @@
 // What files stand for without their embeddings.
-ghost use Rattle.std.specs.Prelude.{◌≡◌, ℕ, true, List, [], map, IfOk, IfErr, IsOkUnless};
+ghost use Rattle.std.specs.Prelude.{◌≡◌, true, List, [], map, IfOk, IfErr, IsOkUnless};
 ghost use Rattle.std.specs.List.{AllByRecursion, flat_map};
 ghost use Rattle.cs_grammar.specs.Height.{height, file_height};
 ghost use Rattle.cs_grammar.specs.Limits.{most_height};
@@ -135,7 +135,7 @@ fn joined_definitions<'a>(
 ) -> Result<Vec<Definition>, EmbeddingFault>
     ensures { (ds : List DefinitionTree) → TellsBodies joiner.entry.bodies.now ds → AreWell ds
         → AreBodiesWell ds (map definition_view definitions.now)
-        → MakesDefinitions (λ v. map definition_view v.items) result joiner.entry.file nodes.old nodes.new ds (map definition_view definitions.now) }
+        → MakesDefinitions result joiner.entry.file nodes.old nodes.new ds (map definition_view definitions.now) }
 {
     let mut joined = Vec::with_capacity(joiner.alloc, definitions.len())?;
     for definition in definitions {

@@ -1,8 +1,8 @@
 // Expressions without embeddings.
-ghost use Rattle.std.specs.Prelude.{◌≡◌, ℕ, suc, ◌≤◌, Bool, true, List, [], map, IfOk};
+ghost use Rattle.std.specs.Prelude.{◌≡◌, ℕ, ◌≤◌, true, List, [], IfOk};
 ghost use Rattle.std.specs.List.{AllByRecursion, flat_map};
-ghost use Rattle.cs_grammar.specs.Height.{height, height_all, height_fields, height_end, height_wide};
-ghost use Rattle.cs_grammar.specs.Tree.{Tree, DefinitionTree, disjunction, list, wide};
+ghost use Rattle.cs_grammar.specs.Height.{height, height_all, height_fields, height_end};
+ghost use Rattle.cs_grammar.specs.Tree.{DefinitionTree, disjunction, list, wide};
 ghost use Rattle.cs_grammar.specs.View.{expr_view, exprs_view, field_view, fields_view, end_view, wide_view, declarations_view};
 ghost use Rattle.cs_embeddings.specs.Checks.{TellsBodies, AreWell};
 ghost use Rattle.cs_embeddings.specs.Alternatives.{most_steps, alternatives_of};

@@ -8,4 +8,5 @@ use Rattle.cs_embeddings.proofs.files.check_bodies.Given as goal
 
 abbrev pub invariant-loop-definition : goal.invariant-loop-definition
 invariant-loop-definition l = (ds : List DefinitionTree) → TellsEmbeddable l.flaws ds
-    → flat_map (λ d. flaws ds (body d)) (map definition_view l.definitions) ≡ flat_map (λ d. flaws ds (body d)) (map definition_view (drop l.definition-index l.definitions))
+    → flat_map (λ d. flaws ds (body d)) (map definition_view l.definitions) ≡ flat_map (λ d. flaws ds (body d))
+    (map definition_view (drop l.definition-index l.definitions))

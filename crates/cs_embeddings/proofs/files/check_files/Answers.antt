@@ -10,19 +10,21 @@ use Rattle.cs_embeddings.proofs.files.check_files.Goals as goal
 pub returns-in-Err-Unknown : goal.returns-in-Err-Unknown
 returns-in-Err-Unknown c ds tells =
     let here =
-      subst (λ xs. slice_get (flat_map (λ d. flaws ds (body d)) (map definition_view xs)) 0 ≡ Some (flaw_view c.in-Err-Unknown.field-0)) c.deref.ensures.value
-      (c.in-Err-Unknown.ensures ds tells) in
+    subst (λ xs. slice_get (flat_map (λ d. flaws ds (body d)) (map definition_view xs)) 0 ≡ Some (flaw_view c.in-Err-Unknown.field-0)) c.deref.ensures.value
+    (c.in-Err-Unknown.ensures ds tells) in
     let same = ap flaw_view c.in-Err-Unknown.field-0-is ∙ ap unknown (sym c.in-Err-Unknown.at-is) in
-    first_in (flaws ds) c.args.files.now c.loop-file.file (c.loop-file.invariant ds tells) c.index-files-file.result c.loop-file-test.true c.index-files-file.is _
+    first_in (flaws ds) c.args.files.now c.loop-file.file
+    (c.loop-file.invariant ds tells) c.index-files-file.result c.loop-file-test.true c.index-files-file.is _
     (here ∙ ap (λ (o : Flaw). Some o) same)
 
 pub returns-in-Err-NoStruct : goal.returns-in-Err-NoStruct
 returns-in-Err-NoStruct c ds tells =
     let here =
-      subst (λ xs. slice_get (flat_map (λ d. flaws ds (body d)) (map definition_view xs)) 0 ≡ Some (flaw_view c.in-Err-NoStruct.field-0)) c.deref.ensures.value
-      (c.in-Err-NoStruct.ensures ds tells) in
+    subst (λ xs. slice_get (flat_map (λ d. flaws ds (body d)) (map definition_view xs)) 0 ≡ Some (flaw_view c.in-Err-NoStruct.field-0)) c.deref.ensures.value
+    (c.in-Err-NoStruct.ensures ds tells) in
     let same = ap flaw_view c.in-Err-NoStruct.field-0-is ∙ ap no_struct (sym c.in-Err-NoStruct.at-is) in
-    first_in (flaws ds) c.args.files.now c.loop-file.file (c.loop-file.invariant ds tells) c.index-files-file.result c.loop-file-test.true c.index-files-file.is _
+    first_in (flaws ds) c.args.files.now c.loop-file.file
+    (c.loop-file.invariant ds tells) c.index-files-file.result c.loop-file-test.true c.index-files-file.is _
     (here ∙ ap (λ (o : Flaw). Some o) same)
 
 pub loop-file-preserved : goal.loop-file-preserved

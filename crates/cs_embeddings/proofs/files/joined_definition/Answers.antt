@@ -2,11 +2,11 @@ use Rattle.std.proofs.Common.{rules, ◌≡◌, ◌≤◌, List, ℕ, true, None
 use Rattle.std.proofs.lemmas.Result.{err_from_is_err_and}
 use Rattle.cs_grammar.specs.Height.{height}
 use Rattle.cs_grammar.specs.Limits.{most_height}
-use Rattle.cs_grammar.specs.Tree.{Tree, definition}
-use Rattle.cs_grammar.specs.View.{definition_view, expr_view}
+use Rattle.cs_grammar.specs.Tree.{definition}
+use Rattle.cs_grammar.specs.View.{expr_view}
 use Rattle.cs_embeddings.proofs.FileParts.{body_is, body_clashes}
 use Rattle.cs_embeddings.specs.Clashes.{clashes}
-use Rattle.cs_embeddings.specs.Joined.{joined, joined_with, joined_value}
+use Rattle.cs_embeddings.specs.Joined.{joined_with, joined_value}
 use Rattle.cs_embeddings.specs.Made.{IsNoRoom, IsMade}
 use Rattle.cs_embeddings.specs.Size.{size}
 use Rattle.cs_embeddings.proofs.files.joined_definition.Goals as goal
@@ -29,7 +29,7 @@ returns c ds tells well embeds =
     let within : most_height ≤ most_height = omega arith in
     let name : string_bytes c.in_ok-name.name ≡ string_bytes c.args.definition.now.name = search rules in
     let h =
-      subst (λ t. IsMade most_height nodes rest (height t) (size t) x t (clashes ds b)) (body_is ds b)
-      (subst (λ (cs : List ℕ). IsMade most_height nodes rest (height whole) (size whole) x whole cs) (body_clashes ds b)
-      (c.in_ok-body.ensures ds most_height tells well embeds within)) in
+    subst (λ t. IsMade most_height nodes rest (height t) (size t) x t (clashes ds b)) (body_is ds b)
+    (subst (λ (cs : List ℕ). IsMade most_height nodes rest (height whole) (size whole) x whole cs) (body_clashes ds b)
+    (c.in_ok-body.ensures ds most_height tells well embeds within)) in
     record { made = ap₂ (λ s t. definition s c.args.definition.now.at t) name h.made; low = h.low; left = h.left; apart = h.apart }

@@ -1,4 +1,3 @@
-use Rattle.std.proofs.Common.{◌≡◌, map}
 use Rattle.std.proofs.lemmas.Result.{err_from_is_err_and}
 use Rattle.cs_grammar.specs.Limits.{most_height, most_nodes}
 use Rattle.cs_grammar.specs.Tree.{definitions}
@@ -13,15 +12,18 @@ pub returns-in_err-joined_file : goal.returns-in_err-joined_file
 returns-in_err-joined_file c ds tells well wells =
     let p = err_from_is_err_and c.from_residual-in_err-joined_file.result c.from_residual-in_err-joined_file.ensures.1 in
     let xs = c.args.files.now in let i = c.loop-file.file in let x = c.index-files-file.result in
-    let one = all_at (λ f. AreBodiesWell ds (definitions (file_view f))) xs i x c.loop-file-test.true c.index-files-file.is (of_map (λ f. AreBodiesWell ds (definitions f)) file_view xs wells) in
+    let one = all_at (λ f. AreBodiesWell ds (definitions (file_view f))) xs i x c.loop-file-test.true c.index-files-file.is
+    (of_map (λ f. AreBodiesWell ds (definitions f)) file_view xs wells) in
     rw (p.1, p.2)
-    (files_unmade ds xs i x c.loop-file-test.true c.index-files-file.is c.loop-file.nodes c.loop-file.joined.items (c.loop-file.invariant ds tells well wells) c.in_err-joined_file.field-0.0
+    (files_unmade ds xs i x c.loop-file-test.true c.index-files-file.is c.loop-file.nodes c.loop-file.joined.items
+    (c.loop-file.invariant ds tells well wells) c.in_err-joined_file.field-0.0
     (c.in_err-joined_file.ensures ds tells well one))
 
 pub loop-file-preserved : goal.loop-file-preserved
 loop-file-preserved c ds tells well wells =
     let xs = c.args.files.now in let i = c.loop-file.file in let x = c.index-files-file.result in
-    let one = all_at (λ f. AreBodiesWell ds (definitions (file_view f))) xs i x c.loop-file-test.true c.index-files-file.is (of_map (λ f. AreBodiesWell ds (definitions f)) file_view xs wells) in
+    let one = all_at (λ f. AreBodiesWell ds (definitions (file_view f))) xs i x c.loop-file-test.true c.index-files-file.is
+    (of_map (λ f. AreBodiesWell ds (definitions f)) file_view xs wells) in
     one_made file_view (own_file ds) _ _ (file_clashes ds) most_height most_nodes xs i x c.loop-file-test.true c.index-files-file.is
     c.loop-file.nodes c.joined_file.new.nodes c.loop-file.joined.items _ c.in_ok-joined_file.field-0 c.in_ok-push.ensures.items
     (c.loop-file.invariant ds tells well wells) (c.in_ok-joined_file.ensures ds tells well one)

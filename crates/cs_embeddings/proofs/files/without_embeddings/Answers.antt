@@ -1,6 +1,5 @@
-use Rattle.std.proofs.Common.{◌≡◌, [], true, map, sym, subst}
-use Rattle.std.specs.List.{flat_map}
-use Rattle.cs_grammar.specs.Tree.{body, definitions}
+use Rattle.std.proofs.Common.{◌≡◌, true, map, sym, subst}
+use Rattle.cs_grammar.specs.Tree.{body}
 use Rattle.cs_grammar.specs.View.{file_view}
 use Rattle.cs_embeddings.proofs.FileAnswers.{found_of, within_of, refused_of, only_of}
 use Rattle.cs_embeddings.proofs.FileParts.{bodies_of_files}

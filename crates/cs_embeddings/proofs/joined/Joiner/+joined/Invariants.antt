@@ -44,13 +44,21 @@ abbrev pub decreases-joined_end : goal.decreases-joined_end
 decreases-joined_end l = 16 * l.room.levels + 13
 
 abbrev pub invariant-joined_each-loop-expr : goal.invariant-joined_each-loop-expr
-invariant-joined_each-loop-expr l = (ds : List DefinitionTree) (n : ℕ) → TellsBodies l.self.bodies.now ds → AreWell ds → embed_well (can_be_embedded ds most_steps) (exprs_view l.exprs) ≡ true → l.room.levels ≤ n → AreJoined ds (joined_value ds n) (clashes_value ds n) l.room.place l.room.is_whole l.room.levels l.initial.nodes l.nodes (take l.expr-index l.exprs) l.joined.items
+invariant-joined_each-loop-expr l = (ds : List DefinitionTree) (n : ℕ) → TellsBodies l.self.bodies.now ds → AreWell ds → embed_well
+    (can_be_embedded ds most_steps) (exprs_view l.exprs) ≡ true → l.room.levels ≤ n → AreJoined ds (joined_value ds n)
+    (clashes_value ds n) l.room.place l.room.is_whole l.room.levels l.initial.nodes l.nodes (take l.expr-index l.exprs) l.joined.items
 
 abbrev pub invariant-joined_fields-loop-field : goal.invariant-joined_fields-loop-field
-invariant-joined_fields-loop-field l = (ds : List DefinitionTree) (n : ℕ) → TellsBodies l.self.bodies.now ds → AreWell ds → fields_embed_well (can_be_embedded ds most_steps) (fields_view l.fields) ≡ true → l.room.levels ≤ n → AreFields ds (joined_value ds n) (clashes_value ds n) l.room.place l.room.levels l.initial.nodes l.nodes (take l.field-index l.fields) l.joined.items
+invariant-joined_fields-loop-field l = (ds : List DefinitionTree) (n : ℕ) → TellsBodies l.self.bodies.now ds → AreWell ds → fields_embed_well
+    (can_be_embedded ds most_steps) (fields_view l.fields) ≡ true → l.room.levels ≤ n → AreFields ds (joined_value ds n)
+    (clashes_value ds n) l.room.place l.room.levels l.initial.nodes l.nodes (take l.field-index l.fields) l.joined.items
 
 abbrev pub invariant-joined_alternatives-loop-alternative : goal.invariant-joined_alternatives-loop-alternative
-invariant-joined_alternatives-loop-alternative l = (ds : List DefinitionTree) (n : ℕ) → TellsBodies l.self.bodies.now ds → AreWell ds → AllByRecursion (IsWell ds) (alternatives_view l.alternatives) → l.fn.room.levels ≤ n → AreLiterals (joined_value ds n) (clashes_value ds n) l.at l.inside.levels l.initial.nodes l.nodes (take l.alternative-index l.alternatives) l.joined.items
+invariant-joined_alternatives-loop-alternative l = (ds : List DefinitionTree) (n : ℕ) → TellsBodies l.self.bodies.now ds → AreWell ds → AllByRecursion
+    (IsWell ds) (alternatives_view l.alternatives) → l.fn.room.levels ≤ n → AreLiterals (joined_value ds n)
+    (clashes_value ds n) l.at l.inside.levels l.initial.nodes l.nodes (take l.alternative-index l.alternatives) l.joined.items
 
 abbrev pub invariant-joined_alternative-loop-brought : goal.invariant-joined_alternative-loop-brought
-invariant-joined_alternative-loop-brought l = (ds : List DefinitionTree) (n : ℕ) → TellsBodies l.self.bodies.now ds → AreWell ds → IsWell ds (alternative_view l.alternative) → l.fn.room.levels ≤ n → AreBrought (joined_value ds n) (clashes_value ds n) l.inside.levels l.initial.nodes l.nodes (take l.brought-index l.alternative.declarations.items) l.fields.items
+invariant-joined_alternative-loop-brought l = (ds : List DefinitionTree) (n : ℕ) → TellsBodies l.self.bodies.now ds → AreWell ds → IsWell ds
+    (alternative_view l.alternative) → l.fn.room.levels ≤ n → AreBrought (joined_value ds n) (clashes_value ds n) l.inside.levels l.initial.nodes l.nodes
+    (take l.brought-index l.alternative.declarations.items) l.fields.items
