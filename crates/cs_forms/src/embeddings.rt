@@ -8,6 +8,8 @@ use std::alloc::{AllocError, Global};
 const MOST_AROUND: usize = 32;
 /// How many fields are compared with those before them.
 const MOST_COMPARED: usize = 1_000;
+/// How many of the definitions that are met first are asked whether they embed themselves: each is followed as far as it goes.
+const MOST_ASKED: usize = 2;
 
 /// What is wrong where something is embedded, and the tokens of the expression, the definition or the label that it is about.
 #[derive(Clone, Copy, Drop)]
@@ -109,7 +111,7 @@ fn flaw_inside<'t>(
     embedded: Part<'t, 't>,
 ) -> Result<Option<Flaw>, AllocError> {
     let found = declared.embedded(alloc, embedded)?;
-    for name in &found.definitions {
+    for name in found.definitions.iter().take(MOST_ASKED) {
         if declared.embeds_itself(alloc, *name)?
             && let Some(label) = declared.of(*name)
         {
