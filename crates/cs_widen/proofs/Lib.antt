@@ -7,8 +7,9 @@ mod Once
 mod Refusals
 mod Judged
 pub mod Judgements
--- a literal with defaults, read as it is written
+-- a literal with defaults, and one with embeddings, read as they are written
 mod Direct
+mod Embedding
 -- offsets change nothing of trees, of closed bases, of which names are at fault, of the opening rule, and so of packages
 mod UnplacedTrees
 mod UnplacedBases

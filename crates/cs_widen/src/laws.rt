@@ -7,11 +7,19 @@ ghost use Rattle.cs_package.specs.Environment.{Environment};
 ghost use Rattle.cs_tool.specs.Accepted.{IsAccepted};
 ghost use Rattle.cs_widen.specs.Accepted.{IsAcceptedIn};
 ghost use Rattle.cs_widen.specs.Direct.{AreReadDirectly};
+ghost use Rattle.cs_widen.specs.Embedding.{AreEmbeddingsReadDirectly};
 
 /// A law: a map is an instance of what a struct literal with defaults stands for exactly where each key that is missing is that of a field
 /// that is optional or has a default, each value is as the alternatives of its field ask, whether marked or not, and each key is allowed.
 pub fn defaults_are_read_directly()
     ensures { (E : Environment) (I : Rule → Document → Bool) → IsInstance E I → AreReadDirectly I }
+{}
+
+/// A law: a map is an instance of what a struct literal with embeddings stands for exactly where for some choice of an alternative of each
+/// expression that it embeds, one for a definition however often that is embedded, each declaration is met, as it is written, and each key
+/// is one of theirs or one of them is opened.
+pub fn embeddings_are_read_directly()
+    ensures { (E : Environment) (I : Rule → Document → Bool) → IsInstance E I → AreEmbeddingsReadDirectly I }
 {}
 
 /// A law: in the default profile sources declare what they declare by `cs_tool` alone; and what the default profile accepts, the wide one
