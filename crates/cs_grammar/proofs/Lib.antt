@@ -9,3 +9,4 @@ pub mod BareNames
 pub mod Samples
 pub mod CutSamples
 mod LabelSamples
+mod TreeSamples

@@ -3,7 +3,7 @@ use Rattle.std.proofs.Common.{◌≡◌, ℕ, suc, ◌≤◌, List, [], ◌∷�
 use Rattle.std.specs.List.{flat_map}
 use Rattle.cs_grammar.specs.Limits.{most_height}
 use Rattle.cs_grammar.specs.Tree.{Tree, atom, named, reference, conjunction, disjunction, paren, struct, list, wide, Trees, none, more, Fields, no_field, field, End, closed, any, each, DefinitionTree, definition, definitions, FileTree}
-use Rattle.cs_syntax.specs.Height.{height, height_all, height_fields, height_end, height_definitions, file_height}
+use Rattle.cs_grammar.specs.Height.{height, height_all, height_fields, height_end, height_definitions, file_height}
 use Rattle.cs_print.specs.Printed.{unplaced, unplaced_all, unplaced_fields, unplaced_end, unplaced_definition, IsPrinted, IsReadAs}
 use Rattle.cs_print.proofs.Deep.{nests_low}
 

@@ -7,7 +7,7 @@ ghost use Rattle.cs_grammar.specs.Source.{IsSpelledByIn};
 ghost use Rattle.cs_grammar.specs.Tree.{FileTree, definitions};
 ghost use Rattle.cs_print.specs.Printed.{IsPrinted, IsReadAs};
 ghost use Rattle.cs_grammar.specs.Written.{IsWrittenFile};
-ghost use Rattle.cs_syntax.specs.Height.{height_definitions};
+ghost use Rattle.cs_grammar.specs.Height.{height_definitions};
 
 /// A file that a source spells in a profile can be written down.
 pub fn spelled_files_are_written()

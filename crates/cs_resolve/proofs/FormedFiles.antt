@@ -1,14 +1,15 @@
 -- Files are well formed where a text spells them, and where they can be written down.
-use Rattle.std.proofs.Common.{ℕ, Bool, true, false, cond, List, [], ◌∷◌, Some, None, unwrap_or, codes, sym, subst}
+use Rattle.std.proofs.Common.{ℕ, Bool, true, false, cond, List, [], ◌∷◌, Option, Some, None, unwrap_or, codes, sym, subst}
 use Rattle.std.specs.List.{AllByRecursion}
+use Rattle.std.specs.Option.{option_map}
 use Rattle.std.specs.Str.{bytes_eq}
 use Rattle.std.proofs.lemmas.List.Elements.{recursion_from_All}
 use Rattle.cs_grammar.specs.Source.{IsSpelledBy}
 use Rattle.cs_grammar.specs.Tree as T
-use Rattle.cs_grammar.specs.Tree.{Label, Tree, Trees, Fields, End, DefinitionTree, defined_name, body, FileTree, definitions}
+use Rattle.cs_grammar.specs.Tree.{Label, Tree, Trees, Fields, Declarations, End, DefinitionTree, defined_name, body, FileTree, definitions}
 use Rattle.cs_grammar.specs.Words.{Words}
 use Rattle.cs_grammar.specs.Written.{Place, IsWritten, AreWritten, AreWrittenFields, IsWrittenEnd, IsWrittenDefinition, IsWrittenFile}
-use Rattle.cs_grammar.specs.Spells.{is_null, literal_of, SpellsBound, limit_is, other_number, other_text, other_null, SpellsValue, long, short, SpellsField, labelled, every_key, SpellsExpr, one_branch, disjunction_is, SpellsBars, no_bar, a_bar, SpellsBranch, unmarked, marked_is, SpellsConj, one_operand, conjunction_is, SpellsAmps, no_amp, an_amp, SpellsOperand, top_is, bottom_is, reference_is, name_is, number_is, text_is, bound_is, paren_is, struct_is, list_is, SpellsStruct, no_fields, dots_alone, fields, SpellsFields, no_more_fields, next_field, SpellsList, no_elements, rest_alone, elements, SpellsElements, no_more_elements, next_element, SpellsEnd, closed_is, rest_is, SpellsRest, any_is, each_is, SpellsDefinition, defined, SpellsDefinitions, no_definition, next_definition, SpellsFile, spelled}
+use Rattle.cs_grammar.specs.Spells.{is_null, literal_of, fields_alone, literal_if, SpellsBound, limit_is, other_number, other_text, other_null, SpellsValue, long, short, SpellsField, labelled, every_key, SpellsExpr, one_branch, disjunction_is, SpellsBars, no_bar, a_bar, SpellsBranch, unmarked, marked_is, SpellsConj, one_operand, conjunction_is, SpellsAmps, no_amp, an_amp, SpellsOperand, top_is, bottom_is, reference_is, name_is, number_is, text_is, bound_is, paren_is, struct_is, list_is, wide_struct_is, SpellsWideStruct, no_declarations, wide_dots_alone, some_declarations, SpellsDeclarations, a_field, an_embedding, SpellsMore, no_more, next_declaration, SpellsStruct, no_fields, dots_alone, fields, SpellsFields, no_more_fields, next_field, SpellsList, no_elements, rest_alone, elements, SpellsElements, no_more_elements, next_element, SpellsEnd, closed_is, rest_is, SpellsRest, any_is, each_is, SpellsDefinition, defined, SpellsDefinitions, no_definition, next_definition, SpellsFile, spelled}
 use Rattle.cs_grammar.specs.declared.ast.FieldMark.{FieldMark}
 use Rattle.cs_package.specs.Environment.{IsDefinitionName}
 use Rattle.cs_resolve.specs.Refusal.{AreSpelled}
@@ -31,6 +32,21 @@ of_bound (limit_is n) = tt
 of_bound (other_number n) = tt
 of_bound other_text = tt
 of_bound (other_null e) = tt
+
+-- ---- literals of the wide profile
+
+-- the fields of declarations, where none is an embedding
+abbrev AreFormedAlone : Option Fields → Type 0
+AreFormedAlone (Some fs) = AreWellFormedFields fs
+AreFormedAlone None = Unit {0}
+
+formed_more : (l : Label) (m : FieldMark) (e : Tree) (fs : Option Fields) → IsWellFormed e → AreFormedAlone fs → AreFormedAlone (option_map (T.field l m e) fs)
+formed_more l m e (Some fs) h k = (h, k)
+formed_more l m e None h k = tt
+
+of_literal : (o : ℕ) (ds : Declarations) (b : Bool) (fs : Option Fields) → AreFormedAlone fs → IsWellFormed (literal_if o ds b fs)
+of_literal o ds b (Some fs) h = h
+of_literal o ds b None h = tt
 
 mutual
   of_value : {e : Tree} {ts r : Words} → SpellsValue e ts r → IsWellFormed e
@@ -72,6 +88,20 @@ mutual
   of_operand (paren_is e c) = of_expr e
   of_operand (struct_is s) = of_struct s
   of_operand (list_is l) = of_list l
+  of_operand (wide_struct_is {p} {ds} {b} is s) = subst IsWellFormed (sym is) (of_literal p ds b (fields_alone ds) (of_wide_struct s))
+
+  of_wide_struct : {ds : Declarations} {b : Bool} {ts r : Words} → SpellsWideStruct ds b ts r → AreFormedAlone (fields_alone ds)
+  of_wide_struct no_declarations = tt
+  of_wide_struct (wide_dots_alone c) = tt
+  of_wide_struct (some_declarations d o) = of_declarations d
+
+  of_declarations : {ds : Declarations} {ts r : Words} → SpellsDeclarations ds ts r → AreFormedAlone (fields_alone ds)
+  of_declarations (a_field {l} {m} {e} {ds} f k) = formed_more l m e (fields_alone ds) (of_field f) (of_more k)
+  of_declarations (an_embedding at e k) = tt
+
+  of_more : {ds : Declarations} {ts r : Words} → SpellsMore ds ts r → AreFormedAlone (fields_alone ds)
+  of_more no_more = tt
+  of_more (next_declaration c d) = of_declarations d
 
   of_struct : {fs : Fields} {b : Bool} {ts r : Words} → SpellsStruct fs b ts r → AreWellFormedFields fs
   of_struct no_fields = tt

@@ -16,7 +16,6 @@ use Rattle.cs_resolve.specs.Predeclared.{predeclared}
 use Rattle.cs_resolve.specs.Earlier.{no_refinements}
 use Rattle.cs_resolve.specs.Resolved.{resolved}
 use Rattle.cs_resolve.specs.Scopes.{names_field, innermost, Place, a_name, a_reference, places, faults, unknown, of_field}
-use Rattle.cs_resolve.specs.Size.{nodes}
 use Rattle.cs_resolve.specs.WellFormed.{IsWellFormed, IsWellFormedFile}
 use Rattle.cs_resolve.proofs.Refined.{unopened_of}
 
@@ -87,23 +86,8 @@ marked_kind = wide (marked 3 (named (codes "int") 4))
 marked_is_bottom : resolved no_refinements marked_kind ≡ resolved no_refinements (atom bottom)
 marked_is_bottom = refl
 
-marked_is_one_node : nodes marked_kind ≡ 1
-marked_is_one_node = refl
-
 marked_is_plain : has_literal_or_reference marked_kind ≡ false
 marked_is_plain = refl
-
--- ---- nodes
-
-nodes_of_leaves : map nodes leaves ≡ 1 ∷ 1 ∷ 1 ∷ 1 ∷ 1 ∷ 1 ∷ 1 ∷ 1 ∷ 1 ∷ 1 ∷ 1 ∷ 1 ∷ []
-nodes_of_leaves = refl
-
--- a parenthesis is none, and nor is the bare `...` of a list
-nodes_of_forms : map nodes (around (atom null)) ≡ 3 ∷ 3 ∷ 1 ∷ 2 ∷ 3 ∷ 3 ∷ 2 ∷ 2 ∷ []
-nodes_of_forms = refl
-
-nodes_of_empty : map nodes (empty ∷ list none closed ∷ list none any ∷ []) ≡ 1 ∷ 1 ∷ 1 ∷ []
-nodes_of_empty = refl
 
 -- ---- what is used of files
 

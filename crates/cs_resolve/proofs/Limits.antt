@@ -7,7 +7,7 @@ use Rattle.std.proofs.lemmas.List.Sums.{sum_by-cons}
 use Rattle.cs_grammar.specs.Tree.{atom, top, conjunction, Trees, none, more, DefinitionTree, definition, defined_name, body, FileTree, file, definitions}
 use Rattle.cs_resolve.specs.Declarations.{distinct, names}
 use Rattle.cs_resolve.specs.Resolved.{IsSmall}
-use Rattle.cs_resolve.specs.Size.{nodes, nodes_all, nodes_of_definitions, nodes_of_files}
+use Rattle.cs_grammar.specs.Size.{nodes, nodes_all, nodes_of_definitions, nodes_of_files}
 
 -- ---- nodes
 

@@ -1,18 +1,18 @@
 -- The offsets that a tree has from the words that spell it rise.
-use Rattle.std.proofs.Common.{◌≡◌, ℕ, suc, ◌≤◌, Bool, true, false, cond, List, [], ◌∷◌, ◌++◌, Some, None, refl, sym, subst, arith}
+use Rattle.std.proofs.Common.{◌≡◌, ℕ, suc, ◌≤◌, Bool, true, false, cond, List, [], ◌∷◌, ◌++◌, Option, Some, None, refl, sym, subst, arith}
 use Rattle.std.specs.List.{flat_map}
-use Rattle.std.specs.Option.{unwrap_or}
+use Rattle.std.specs.Option.{option_map, unwrap_or}
 use Rattle.std.specs.Str.{bytes_eq}
 use Rattle.std.specs.Prelude.{codes}
 use Rattle.cs_grammar.specs.Source.{IsSpelledBy}
-use Rattle.cs_grammar.specs.Tree.{Label, Tree, atom, null, boolean, named, reference, conjunction, disjunction, paren, struct, list, Trees, none, more, Fields, no_field, field, End, closed, any, each, DefinitionTree, body, FileTree, definitions}
+use Rattle.cs_grammar.specs.Tree.{Label, Tree, atom, null, boolean, named, reference, conjunction, disjunction, paren, struct, list, Trees, none, more, Declarations, Fields, no_field, field, End, closed, any, each, DefinitionTree, body, FileTree, definitions}
 use Rattle.cs_grammar.specs.Words as W
 use Rattle.cs_grammar.specs.Words.{Words}
-use Rattle.cs_grammar.specs.Spells.{is_null, literal_of, start_at, SpellsBound, limit_is, other_number, other_text, other_null, SpellsLabel, bare_label, quoted_label, SpellsMark, regular, optional, required, SpellsValue, long, short, SpellsField, labelled, every_key, SpellsExpr, one_branch, disjunction_is, SpellsBars, no_bar, a_bar, SpellsBranch, unmarked, marked_is, SpellsConj, one_operand, conjunction_is, SpellsAmps, no_amp, an_amp, SpellsOperand, top_is, bottom_is, reference_is, name_is, number_is, text_is, bound_is, paren_is, struct_is, list_is, SpellsStruct, no_fields, dots_alone, fields, SpellsFields, no_more_fields, next_field, SpellsList, no_elements, rest_alone, elements, SpellsElements, no_more_elements, next_element, SpellsEnd, closed_is, rest_is, SpellsRest, any_is, each_is, SpellsDefinition, defined, SpellsDefinitions, no_definition, next_definition, SpellsFile, spelled}
+use Rattle.cs_grammar.specs.Spells.{is_null, literal_of, start_at, fields_alone, literal_if, SpellsBound, limit_is, other_number, other_text, other_null, SpellsLabel, bare_label, quoted_label, SpellsMark, regular, optional, required, SpellsValue, long, short, SpellsField, labelled, every_key, SpellsExpr, one_branch, disjunction_is, SpellsBars, no_bar, a_bar, SpellsBranch, unmarked, marked_is, SpellsConj, one_operand, conjunction_is, SpellsAmps, no_amp, an_amp, SpellsOperand, top_is, bottom_is, reference_is, name_is, number_is, text_is, bound_is, paren_is, struct_is, list_is, wide_struct_is, SpellsWideStruct, no_declarations, wide_dots_alone, some_declarations, SpellsDeclarations, a_field, an_embedding, SpellsMore, no_more, next_declaration, SpellsStruct, no_fields, dots_alone, fields, SpellsFields, no_more_fields, next_field, SpellsList, no_elements, rest_alone, elements, SpellsElements, no_more_elements, next_element, SpellsEnd, closed_is, rest_is, SpellsRest, any_is, each_is, SpellsDefinition, defined, SpellsDefinitions, no_definition, next_definition, SpellsFile, spelled}
 use Rattle.cs_grammar.specs.declared.ast.FieldMark.{FieldMark}
 use Rattle.cs_grammar.specs.declared.ast.FieldMark.TheVariants.{Regular, Optional, Required, Every}
-use Rattle.cs_grammar.proofs.Rests.{IsRest, whole, behind, of_comma, of_paren, of_list_end, of_struct_end, of_number, of_mark, of_opening, of_package, of_conj as of_marked}
-use Rattle.cs_resolve.proofs.WordOrder.{From, at_least, past, tail, from_cut}
+use Rattle.cs_grammar.proofs.Rests.{IsRest, whole, behind, of_comma, of_paren, of_list_end, of_struct_end, of_number, of_mark, of_opening, of_package, of_conj as of_marked, of_declarations as of_declared}
+use Rattle.cs_resolve.proofs.WordOrder.{From, later, at_least, past, tail, from_cut}
 
 -- ---- marks
 
@@ -124,6 +124,29 @@ of_name s p o r h = by (is_null s) (bytes_eq s (codes "true")) (bytes_eq s (code
     by false false true = still (tail h)
     by false false false = put (at_least h) (still (past h))
 
+-- ---- literals of the wide profile
+
+-- the offsets of the fields of declarations, where none is an embedding
+abbrev marks_alone : Option Fields → List ℕ
+marks_alone (Some fs) = marks_in fs
+marks_alone None = []
+
+within_bound : (o p : ℕ) (xs : List ℕ) → Within o xs p → o ≤ p
+within_bound o p [] h = h
+within_bound o p (x ∷ xs) h = let at = h.0 in let k = within_bound (suc x) p xs h.1 in omega arith
+
+-- a form of the wide profile has no offsets here
+no_offsets : {o : ℕ} {xs : List ℕ} {r : Words} → Spans o xs r → Spans o [] r
+no_offsets {o} {xs} s = still (later (within_bound o s.end xs s.within) s.follows)
+
+marks_more : {o : ℕ} {r : Words} (l : Label) (m : FieldMark) (e : Tree) (fs : Option Fields) → Spans o (key_marks m ++ marks e ++ marks_alone fs) r → Spans o (marks_alone (option_map (field l m e) fs)) r
+marks_more l m e (Some fs) s = s
+marks_more l m e None s = no_offsets s
+
+of_literal : {o : ℕ} {r : Words} (p : ℕ) (ds : Declarations) (b : Bool) (fs : Option Fields) → Spans o (p ∷ marks_alone fs) r → Spans o (marks (literal_if p ds b fs)) r
+of_literal p ds b (Some fs) s = s
+of_literal p ds b None s = no_offsets s
+
 -- ---- spellings
 
 mutual
@@ -172,6 +195,23 @@ mutual
   of_operand (paren_is e c) h = then (of_expr e (tail h)) (of_paren c)
   of_operand (struct_is s) h = put (at_least h) (of_struct s (past h))
   of_operand (list_is l) h = of_list l (tail h)
+  of_operand {o = from} (wide_struct_is {p} {ds} {b} {e} {ts} {r} is s) h =
+      subst (λ (t : Tree). Spans from (marks t) r) (sym is) (of_literal p ds b (fields_alone ds) (put (at_least h) (of_wide_struct s (past h))))
+
+  of_wide_struct : {ds : Declarations} {b : Bool} {o : ℕ} {ts r : Words} → SpellsWideStruct ds b ts r → From o ts → Spans o (marks_alone (fields_alone ds)) r
+  of_wide_struct no_declarations h = still (tail h)
+  of_wide_struct (wide_dots_alone c) h = still (rest (of_struct_end c) (tail h))
+  of_wide_struct (some_declarations d e) h = then (of_declarations d h) (of_opening e)
+
+  of_declarations : {ds : Declarations} {o : ℕ} {ts r : Words} → SpellsDeclarations ds ts r → From o ts → Spans o (marks_alone (fields_alone ds)) r
+  of_declarations (a_field {l} {m} {e} {ds} f k) h =
+      let s = of_field f h in
+      marks_more l m e (fields_alone ds) (both (sooner (omega arith) s.1) (λ p j. of_more k j))
+  of_declarations (an_embedding at e k) h = still (rest (of_declared (an_embedding at e k)) h)
+
+  of_more : {ds : Declarations} {o : ℕ} {ts r : Words} → SpellsMore ds ts r → From o ts → Spans o (marks_alone (fields_alone ds)) r
+  of_more no_more h = still h
+  of_more (next_declaration c d) h = of_declarations d (rest (of_comma c) h)
 
   of_struct : {fs : Fields} {b : Bool} {o : ℕ} {ts r : Words} → SpellsStruct fs b ts r → From o ts → Spans o (marks_in fs) r
   of_struct no_fields h = still (tail h)

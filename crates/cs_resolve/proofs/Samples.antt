@@ -1,9 +1,9 @@
 -- Samples, worked by the definitions.
 use Rattle.std.proofs.Common.{◌≡◌, ℕ, true, false, List, [], ◌∷◌, pos, codes, refl}
-use Rattle.cs_grammar.specs.Tree.{Label, Tree, atom, named, reference, conjunction, paren, struct, list, none, more, Fields, no_field, field, any, each, definition, file}
+use Rattle.cs_grammar.specs.Tree.{Label, Tree, atom, named, reference, conjunction, paren, struct, none, more, Fields, no_field, field, definition, file}
 use Rattle.cs_grammar.specs.Atom as atoms
 use Rattle.cs_grammar.specs.Atom.{top, bottom, integer, bound}
-use Rattle.cs_grammar.specs.declared.ast.FieldMark.TheVariants.{Regular, Optional, Every}
+use Rattle.cs_grammar.specs.declared.ast.FieldMark.TheVariants.{Regular, Every}
 use Rattle.cs_grammar.specs.Spells.{every_label}
 use Rattle.cs_package.specs.Expression as cue
 use Rattle.cs_package.specs.Height.{height, heights}
@@ -11,7 +11,6 @@ use Rattle.cs_resolve.specs.Resolved.{environment_of_files}
 use Rattle.cs_resolve.specs.Opening.{conjunctions}
 use Rattle.cs_resolve.specs.Unopened.{unopened}
 use Rattle.cs_resolve.specs.Earlier.{no_refinements}
-use Rattle.cs_resolve.specs.Size.{nodes}
 use Rattle.cs_resolve.specs.Scopes.{places, faults, unknown, of_field}
 use Rattle.cs_resolve.specs.Declarations.{names, faults_of_files}
 use Rattle.cs_resolve.specs.PackageName.{differing_file}
@@ -111,16 +110,6 @@ inner_every = refl
 every_in_each : conjunctions no_refinements (struct 4 (every 6 (reference (codes "A") 15) (field (plain (codes "a")) Regular (reference (codes "B") 22) (field (quoted []) Regular (reference (codes "C") 30) no_field))) false)
     ≡ (reference (codes "A") 15 ∷ []) ∷ (reference (codes "A") 15 ∷ reference (codes "B") 22 ∷ []) ∷ (reference (codes "A") 15 ∷ reference (codes "C") 30 ∷ []) ∷ []
 every_in_each = refl
-
--- ---- nodes
-
--- `{a: b?: int}`, where `a: b?: int` is short: three nodes
-short_field : nodes (struct 4 (field (plain (codes "a")) Regular (struct 7 (field (plain (codes "b")) Optional (named (codes "int") 11) no_field) false) no_field) false) ≡ 3
-short_field = refl
-
--- `([...] & [...int])`: the parenthesis and the bare `...` are none
-bare_rest : nodes (paren (conjunction (more (list none any) (more (list none (each (named (codes "int") 20))) none)))) ≡ 4
-bare_rest = refl
 
 -- ---- package names
 

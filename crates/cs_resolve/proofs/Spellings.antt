@@ -7,7 +7,7 @@ use Rattle.cs_grammar.specs.Source.{IsSpelledBy}
 use Rattle.cs_grammar.specs.Cut.{Lexeme, lexeme, Cut, blank, new_line, comment, token, finish, comma_if, line_after, line_after_mark, line_ended}
 use Rattle.cs_grammar.specs.Spelling.{is_letter, is_digit, is_name_byte, is_integer, is_definition_rest, underscore_sort, mark_sort, sort_if, sort_of, used_marks, left_out_marks}
 use Rattle.cs_grammar.specs.Tree.{FileTree, defined_name, definitions}
-use Rattle.cs_grammar.specs.TokenWords.{bare_name, mark_kind, word_of, word, words}
+use Rattle.cs_grammar.specs.TokenWords.{bare_name, mark_kind, wide_kind, word_of, word, words}
 use Rattle.cs_grammar.specs.Words as W
 use Rattle.cs_grammar.specs.Words.{Word}
 use Rattle.cs_grammar.specs.declared.token.Sort.{Sort}
@@ -66,9 +66,13 @@ module _ (t : List ℕ) (o : ℕ) where
   of_mark : is_named (word_of (mark_kind t) t o) ≡ true
   of_mark = grind arith
 
+  of_wide : is_named (word_of (wide_kind t) t o) ≡ true
+  of_wide = grind arith
+
   of_token : (s : Sort) → sort_of t ≡ Some s → is_named (word (lexeme s t o)) ≡ true
   of_token sorts.Definition h = bare t h
   of_token sorts.Mark h = of_mark
+  of_token sorts.Wide h = of_wide
   of_token _ h = refl
 
 -- ---- the cut
@@ -111,6 +115,7 @@ after_mark (x ∷ y ∷ z ∷ w ∷ t) = plain
 
 after : (s : Sort) (t : List ℕ) → IsPlain comma_if line_ended (line_after s t)
 after sorts.Mark t = after_mark t
+after sorts.Wide t = plain
 after sorts.LeftOut t = plain
 after sorts.Inserted t = plain
 after sorts.End t = plain

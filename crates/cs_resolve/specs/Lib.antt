@@ -13,7 +13,7 @@ pub mod Refinement
 pub mod ClosedBases
 pub mod Opening
 pub mod Unopened
-pub mod Size
+pub use Rattle.cs_grammar.specs.Size
 pub mod PackageName
 pub mod Resolved
 pub mod Refusal

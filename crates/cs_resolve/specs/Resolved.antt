@@ -1,6 +1,8 @@
 -- What files resolve to (CUE language specification, "Definitions and hidden fields" and "Declarations and scopes").
-use Rattle.std.specs.Prelude.{◌≡◌, ℕ, ◌≤◌, Bool, true, false, List, [], map, length, unwrap_or}
+use Rattle.std.specs.Prelude.{◌≡◌, ◌≤◌, Bool, true, false, List, [], map, length, unwrap_or}
 use Rattle.std.specs.List.{flat_map}
+use Rattle.cs_grammar.specs.Limits.{most_definitions, most_nodes}
+use Rattle.cs_grammar.specs.Size.{nodes_of_files}
 use Rattle.cs_grammar.specs.Tree as T
 use Rattle.cs_grammar.specs.Tree.{Tree, Trees, Fields, End, FileTree, definitions}
 use Rattle.cs_package.specs.Expression as cue
@@ -11,7 +13,6 @@ use Rattle.cs_resolve.specs.Declarations.{names, declared, faults_of_files}
 use Rattle.cs_resolve.specs.Refinement.{Refinements, AreRefinements}
 use Rattle.cs_resolve.specs.Opening.{IsOpened}
 use Rattle.cs_resolve.specs.PackageName.{IsOnePackage}
-use Rattle.cs_resolve.specs.Size.{nodes_of_files}
 
 -- An operand as it is read in a plain refinement: a struct literal as if it ended with `...`. So `{k: "x"}`, which has no
 -- `...` in the source, is open in the environment, where all else is as it is written (own rule).
@@ -69,14 +70,7 @@ environment_of_files rs fs = map (λ d. (d.0, map (resolved rs) d.1)) (declared 
 abbrev pub IsResolved : List FileTree → Type 0
 IsResolved fs = faults_of_files fs ≡ []
 
--- as many definitions and nodes as a package may have (own rule)
-abbrev pub most_definitions : ℕ
-most_definitions = 1000
-
-abbrev pub most_nodes : ℕ
-most_nodes = 50000
-
--- distinct names of definitions, over all files, and nodes of all their bodies
+-- distinct names of definitions, over all files, and nodes of all their bodies, where a form of the wide profile counts as one
 pub record IsSmall (fs : List FileTree) : Type 0 where
   pub definitions : length (names (flat_map definitions fs)) ≤ most_definitions
   pub nodes : nodes_of_files fs ≤ most_nodes

@@ -1,10 +1,10 @@
 // The size of a package.
 
 ghost use Rattle.std.specs.Prelude.{◌≤◌, ◌↔◌, IsTrue, map};
+ghost use Rattle.cs_grammar.specs.Limits.{most_nodes};
+ghost use Rattle.cs_grammar.specs.Size.{nodes, nodes_all, nodes_fields, nodes_end, nodes_of_definitions, nodes_of_files};
 ghost use Rattle.cs_grammar.specs.View.{expr_view, exprs_view, fields_view, end_view, definition_view, file_view};
 ghost use Rattle.cs_resolve.specs.Checks.{Leaves};
-ghost use Rattle.cs_resolve.specs.Resolved.{most_nodes};
-ghost use Rattle.cs_resolve.specs.Size.{nodes, nodes_all, nodes_fields, nodes_end, nodes_of_definitions, nodes_of_files};
 
 use cs_grammar::{Definition, Expr, Field, File, ListEnd};
 

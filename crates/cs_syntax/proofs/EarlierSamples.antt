@@ -15,7 +15,7 @@ use Rattle.cs_grammar.specs.Words as W
 use Rattle.cs_grammar.specs.Words.{Words}
 use Rattle.cs_grammar.proofs.CutSamples.{begins}
 use Rattle.cs_syntax.specs.Earlier.{is_short_earlier, behind_earlier, earlier_nesting, IsSpelledEarlier}
-use Rattle.cs_syntax.specs.Height.{file_height}
+use Rattle.cs_grammar.specs.Height.{file_height}
 use Rattle.cs_syntax.specs.Nesting.{is_short, behind}
 use Rattle.cs_syntax.specs.Reading.{unbracketed_at, many, operand_with, conj_with, branch_with, expr_with, inner, definition_at, line_at, package_at, file_with, file_at}
 use Rattle.cs_syntax.proofs.Soundness.{file_found}

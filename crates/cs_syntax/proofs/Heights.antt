@@ -9,7 +9,7 @@ use Rattle.cs_grammar.specs.Tree as T
 use Rattle.cs_grammar.specs.Tree.{Tree}
 use Rattle.cs_grammar.specs.View.{expr_view, fields_view}
 use Rattle.cs_grammar.proofs.Views.{view-value}
-use Rattle.cs_syntax.specs.Height.{height, height_all, height_fields, height_end}
+use Rattle.cs_grammar.specs.Height.{height, height_all, height_fields, height_end}
 
 max_within : (m n k : ℕ) → nat_le m k ≡ true → nat_le (max m n) k ≡ nat_le n k
 max_within m n k h = grind (arith, nat_tests)

@@ -15,7 +15,6 @@ use Rattle.cs_grammar.specs.Tree.{Tree, FileTree, file, definition}
 use Rattle.cs_grammar.specs.Words as W
 use Rattle.cs_grammar.specs.Words.{Words}
 use Rattle.cs_syntax.specs.Answer.{IsSpelledIn}
-use Rattle.cs_syntax.specs.Height.{height}
 use Rattle.cs_syntax.specs.Reading.{number_at, integer_at, unbracketed_at, many, operand_with, conj_with, branch_with, expr_with, inner, definition_at, line_at, package_at, file_with, file_at}
 use Rattle.cs_syntax.proofs.Soundness.{file_found}
 
@@ -83,10 +82,6 @@ marked_spelled = record {
   spelled = file_found (words (taken profiles.Wide tokens)) (one_file tree) wide_read;
   low = omega arith;
 }
-
--- a mark is no level
-heights : map height (one ∷ T.wide (T.marked 4 one) ∷ tree ∷ T.paren (T.wide (T.marked 5 (T.wide (T.marked 6 one)))) ∷ []) ≡ 1 ∷ 1 ∷ 2 ∷ 2 ∷ []
-heights = refl
 
 -- ---- where a mark may be
 

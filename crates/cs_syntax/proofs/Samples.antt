@@ -1,4 +1,4 @@
--- Samples, worked by the definitions: how high trees are, how deep words nest, which fault a word is, and the limits.
+-- Samples, worked by the definitions: how deep words nest, which fault a word is, and the limits.
 use Rattle.std.proofs.Common.{◌≡◌, ℕ, zero, suc, pos, ◌<◌, List, [], ◌∷◌, ◌++◌, map, true, false, None, refl, codes, arith, inl, inr}
 use Rattle.std.specs.Prelude.{◌⊎◌, replicate}
 use Rattle.cs_grammar.specs.declared.ast.FieldMark.TheVariants.{Optional}
@@ -12,51 +12,11 @@ use Rattle.cs_grammar.specs.Tree as T
 use Rattle.cs_grammar.specs.Tree.{Tree, Trees, Fields, FileTree, file, definition}
 use Rattle.cs_grammar.specs.Spells.{SpellsFile}
 use Rattle.cs_grammar.specs.TokenWords.{words}
-use Rattle.cs_syntax.specs.Height.{height, file_height}
+use Rattle.cs_grammar.specs.Height.{height, file_height}
 use Rattle.cs_syntax.specs.Nesting.{behind, nesting}
 use Rattle.cs_syntax.specs.Place.{is_left_out_name, is_left_out, fault_of, same, past, IsFaultIn}
 use Rattle.cs_syntax.specs.Answer.{IsSpelled}
 use Rattle.cs_syntax.specs.Refusal.{IsMisplaced, IsTooHigh}
-
--- ---- heights
-
-abbrev one : Tree
-one = T.atom (T.integer (pos 1))
-
-abbrev list_of : List Tree → Trees
-list_of [] = T.none
-list_of (e ∷ es) = T.more e (list_of es)
-
-abbrev fields_of : List Tree → Fields
-fields_of [] = T.no_field
-fields_of (e ∷ es) = T.field (record { text = codes "a"; quotes = false }) Optional e (fields_of es)
-
--- so many parentheses around it
-abbrev kept : ℕ → Tree → Tree
-kept zero e = e
-kept (suc n) e = T.paren (kept n e)
-
-without_parts : map height (T.atom T.top ∷ T.atom T.bottom ∷ T.atom T.null ∷ T.atom (T.boolean true) ∷ one ∷ T.atom (T.text (codes "a")) ∷ T.named (codes "int") 4 ∷ T.reference (codes "A") 4 ∷ T.atom (T.bound atoms.less (pos 1)) ∷ T.atom (T.not_integer (pos 1)) ∷ T.atom (T.not_text (codes "a")) ∷ T.atom T.not_null ∷ []) ≡ replicate 12 1
-without_parts = refl
-
--- `1 & (1)`, `(1) | 1`, `(1)` and `((1))`
-operands : map height (T.conjunction (list_of (one ∷ kept 1 one ∷ [])) ∷ T.disjunction (list_of (kept 1 one ∷ one ∷ [])) ∷ kept 1 one ∷ kept 2 one ∷ []) ≡ 3 ∷ 3 ∷ 2 ∷ 3 ∷ []
-operands = refl
-
--- `{}`, `{...}`, `{a?: 1}` and `{a?: 1, a?: (1), a?: 1}`
-structs : map height (T.struct 0 (fields_of []) false ∷ T.struct 0 (fields_of []) true ∷ T.struct 0 (fields_of (one ∷ [])) false ∷ T.struct 0 (fields_of (one ∷ kept 1 one ∷ one ∷ [])) false ∷ []) ≡ 1 ∷ 1 ∷ 2 ∷ 3 ∷ []
-structs = refl
-
--- `[]`, `[...]`, `[1]`, `[...1]`, `[(1), ...1]` and `[1, ...(1)]`
-lists : map height (T.list T.none T.closed ∷ T.list T.none T.any ∷ T.list (list_of (one ∷ [])) T.closed ∷ T.list T.none (T.each one) ∷ T.list (list_of (kept 1 one ∷ [])) (T.each one) ∷ T.list (list_of (one ∷ [])) (T.each (kept 1 one)) ∷ []) ≡ 1 ∷ 1 ∷ 2 ∷ 2 ∷ 3 ∷ 3 ∷ []
-lists = refl
-
--- a file without definitions, and one whose second body is the highest
-files : map file_height (file None [] ∷ file None (definition (codes "A") 0 one ∷ definition (codes "A") 6 (kept 2 one) ∷ definition (codes "B") 16 one ∷ []) ∷ []) ≡ 0 ∷ 3 ∷ []
-files = refl
-
-at_the_limit : map (λ n. height (kept n one)) (27 ∷ 28 ∷ []) ≡ 28 ∷ 29 ∷ []
-at_the_limit = refl
 
 -- ---- nesting
 

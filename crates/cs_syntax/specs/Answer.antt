@@ -8,7 +8,7 @@ use Rattle.cs_grammar.specs.TokenWords.{words}
 use Rattle.cs_grammar.specs.Limits.{most_height}
 use Rattle.cs_grammar.specs.declared.profile.Profile.{Profile}
 use Rattle.cs_grammar.specs.declared.profile.Profile.TheVariants as profiles
-use Rattle.cs_syntax.specs.Height.{file_height}
+use Rattle.cs_grammar.specs.Height.{file_height}
 use Rattle.cs_syntax.specs.Nesting.{nesting, most_nested}
 
 -- the tokens of a source, as the profile takes them, nest no deeper than 28 and spell a file that has no body higher than 28

@@ -7,7 +7,7 @@ use Rattle.cs_grammar.specs.Tree.{FileTree}
 use Rattle.cs_grammar.specs.TokenWords.{words}
 use Rattle.cs_grammar.specs.Words.{Word, Words, colon, question, bang}
 use Rattle.cs_grammar.specs.Limits.{most_height}
-use Rattle.cs_syntax.specs.Height.{file_height}
+use Rattle.cs_grammar.specs.Height.{file_height}
 use Rattle.cs_syntax.specs.Nesting.{OpenLevels, ends_with_chained_label, counted_if, behind, nesting_at, most_nested}
 
 -- a colon behind these words, the newest first, is short where its label is a name or a text that is directly behind another colon

@@ -8,13 +8,13 @@ pub use Rattle.cs_grammar.specs.Words
 pub use Rattle.cs_grammar.specs.TokenWords
 pub use Rattle.cs_grammar.specs.Taken
 pub use Rattle.cs_grammar.specs.Tree
+pub use Rattle.cs_grammar.specs.Height
 pub use Rattle.cs_grammar.specs.Spells
 pub use Rattle.cs_grammar.specs.View
 pub use Rattle.cs_grammar.specs.Source
 pub use Rattle.cs_grammar.specs.Labels
 pub use Rattle.cs_grammar.specs.DefaultForms
 pub use Rattle.cs_lexer.specs.Lexed
-pub mod Height
 pub mod Nesting
 pub mod Place
 pub mod Answer

@@ -11,7 +11,7 @@ use Rattle.cs_grammar.specs.TokenWords.{words}
 use Rattle.cs_grammar.specs.Limits.{most_height}
 use Rattle.cs_grammar.specs.declared.profile.Profile.{Profile}
 use Rattle.cs_grammar.specs.declared.profile.Profile.TheVariants as profiles
-use Rattle.cs_syntax.specs.Height.{file_height}
+use Rattle.cs_grammar.specs.Height.{file_height}
 use Rattle.cs_syntax.specs.Nesting.{nesting, most_nested}
 use Rattle.cs_syntax.specs.Place.{IsFaultIn}
 

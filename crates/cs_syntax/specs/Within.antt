@@ -5,7 +5,7 @@ use Rattle.cs_grammar.specs.declared.fault.SyntaxFault.TheVariants.{TooHigh}
 use Rattle.cs_grammar.specs.Words.{Words}
 use Rattle.cs_grammar.specs.Tree.{FileTree}
 use Rattle.cs_grammar.specs.Limits.{most_height}
-use Rattle.cs_syntax.specs.Height.{file_height}
+use Rattle.cs_grammar.specs.Height.{file_height}
 use Rattle.cs_syntax.specs.Nesting.{nesting, most_nested}
 use Rattle.cs_syntax.specs.Reading.{◌>>=◌, file_at}
 

@@ -4,7 +4,7 @@ use Rattle.std.specs.List.{AllByRecursion, flat_map}
 use Rattle.std.specs.Prelude.{filter, nat_le}
 use Rattle.std.proofs.lemmas.Bool.Decides.{nat_tests}
 use Rattle.std.specs.Str.{bytes_eq}
-use Rattle.cs_syntax.specs.Height as tree
+use Rattle.cs_grammar.specs.Height as tree
 use Rattle.cs_syntax.proofs.Heights.{no_height}
 use Rattle.cs_grammar.specs.Tree as T
 use Rattle.cs_grammar.specs.Tree.{Tree, Trees, Fields, End, DefinitionTree, body, defined_name, FileTree, definitions}

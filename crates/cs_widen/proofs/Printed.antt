@@ -7,7 +7,7 @@ use Rattle.cs_grammar.specs.Limits.{most_height}
 use Rattle.cs_grammar.specs.Source.{IsSpelledByIn}
 use Rattle.cs_grammar.specs.Tree.{Tree, atom, named, reference, conjunction, disjunction, paren, struct, list, wide, marked, Trees, none, more, Fields, no_field, field, End, closed, any, each, DefinitionTree, definition, FileTree, file, body, definitions}
 use Rattle.cs_grammar.specs.Written.{IsWrittenFile}
-use Rattle.cs_syntax.specs.Height.{height, height_all, height_fields, height_end, height_definitions}
+use Rattle.cs_grammar.specs.Height.{height, height_all, height_fields, height_end, height_definitions}
 use Rattle.cs_syntax.proofs.NestingBounds.{max_left, max_right, max_both}
 use Rattle.cs_defaults.specs.Unmarked.{unmarked, unmarked_each, unmarked_fields, unmarked_end, unmarked_definition, unmarked_file}
 use Rattle.cs_defaults.specs.Widened.{IsUnmarked, handing_on}

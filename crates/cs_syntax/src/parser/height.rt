@@ -2,7 +2,7 @@
 
 ghost use Rattle.std.specs.Prelude.{◌≡◌, map, nat_le};
 ghost use Rattle.cs_grammar.specs.View.{expr_view, exprs_view, fields_view, wide_view, declarations_view, declaration_view, end_view, definition_view};
-ghost use Rattle.cs_syntax.specs.Height.{height, height_all, height_fields, height_wide, height_declarations, declaration_height, height_end, height_definitions};
+ghost use Rattle.cs_grammar.specs.Height.{height, height_all, height_fields, height_wide, height_declarations, declaration_height, height_end, height_definitions};
 
 use cs_grammar::{Declaration, Definition, Expr, Field, ListEnd, Wide};
 

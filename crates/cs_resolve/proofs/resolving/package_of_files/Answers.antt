@@ -11,8 +11,9 @@ use Rattle.cs_resolve.specs.Refinement.{Refinements, AreRefinements}
 use Rattle.cs_resolve.specs.ClosedBases.{bases, is_refinement}
 use Rattle.cs_resolve.specs.Narrowed.{HoldBases, TellsRefinements}
 use Rattle.cs_resolve.specs.declared.refinement.Bases as table
-use Rattle.cs_resolve.specs.Resolved.{IsSmall, most_definitions, most_nodes}
-use Rattle.cs_resolve.specs.Size.{nodes_of_files}
+use Rattle.cs_resolve.specs.Resolved.{IsSmall}
+use Rattle.cs_grammar.specs.Limits.{most_definitions, most_nodes}
+use Rattle.cs_grammar.specs.Size.{nodes_of_files}
 use Rattle.cs_package.specs.View.{bodies_of, is_known, names_of}
 use Rattle.cs_resolve.proofs.BaseLaw.{found_refinements, one_refinements}
 use Rattle.cs_resolve.proofs.Faults.{name-refusal, opening-refusal, opening-none, refusal-none, refusal-same}

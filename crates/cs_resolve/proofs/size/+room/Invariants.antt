@@ -1,5 +1,5 @@
 use Rattle.std.proofs.Common.{◌≡◌, ◌+◌, drop}
-use Rattle.cs_resolve.specs.Size.{nodes_all, nodes_fields}
+use Rattle.cs_grammar.specs.Size.{nodes_all, nodes_fields}
 use Rattle.cs_grammar.specs.View.{exprs_view, fields_view}
 use Rattle.cs_resolve.proofs.size.+room.Given as goal
 

@@ -4,7 +4,7 @@ use Rattle.std.proofs.lemmas.List.Sums.{sum_by-append}
 use Rattle.cs_grammar.specs.Tree.{DefinitionTree, body}
 use Rattle.cs_grammar.specs.View.{definition_view}
 use Rattle.cs_grammar.specs.declared.ast.Definition.{Definition}
-use Rattle.cs_resolve.specs.Size.{nodes, nodes_of_definitions}
+use Rattle.cs_grammar.specs.Size.{nodes, nodes_of_definitions}
 use Rattle.cs_resolve.proofs.Sums.{within}
 use Rattle.cs_resolve.proofs.size.room_after_definitions.Goals as goal
 

@@ -1,5 +1,5 @@
 use Rattle.std.proofs.Common.{◌≡◌, ◌+◌, take, map}
-use Rattle.cs_resolve.specs.Size.{nodes_of_definitions}
+use Rattle.cs_grammar.specs.Size.{nodes_of_definitions}
 use Rattle.cs_grammar.specs.View.{definition_view}
 use Rattle.cs_resolve.proofs.size.room_after_definitions.Given as goal
 

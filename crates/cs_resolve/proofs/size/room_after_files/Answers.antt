@@ -6,7 +6,7 @@ use Rattle.std.proofs.lemmas.List.Sums.{sum_by-append}
 use Rattle.cs_grammar.specs.Tree.{DefinitionTree, body, definitions}
 use Rattle.cs_grammar.specs.View.{file_view, definition_view}
 use Rattle.cs_grammar.specs.declared.ast.File.{File}
-use Rattle.cs_resolve.specs.Size.{nodes, nodes_of_definitions, nodes_of_files}
+use Rattle.cs_grammar.specs.Size.{nodes, nodes_of_definitions, nodes_of_files}
 use Rattle.cs_resolve.proofs.Sums.{within}
 use Rattle.cs_resolve.proofs.size.room_after_files.Goals as goal
 

@@ -1,5 +1,5 @@
 use Rattle.std.proofs.Common.{◌≡◌, ◌+◌, take, map}
-use Rattle.cs_resolve.specs.Size.{nodes_of_files}
+use Rattle.cs_grammar.specs.Size.{nodes_of_files}
 use Rattle.cs_grammar.specs.View.{file_view}
 use Rattle.cs_resolve.proofs.size.room_after_files.Given as goal
 

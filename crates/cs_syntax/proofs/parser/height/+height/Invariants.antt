@@ -1,7 +1,7 @@
 use Rattle.std.proofs.Common.{◌≡◌, drop}
 use Rattle.std.specs.Prelude.{nat_le}
 use Rattle.cs_grammar.specs.View.{exprs_view, fields_view}
-use Rattle.cs_syntax.specs.Height.{height_all, height_fields}
+use Rattle.cs_grammar.specs.Height.{height_all, height_fields}
 use Rattle.cs_syntax.proofs.parser.height.+height.Given as goal
 
 abbrev pub invariant-are_low-loop-expr : goal.invariant-are_low-loop-expr

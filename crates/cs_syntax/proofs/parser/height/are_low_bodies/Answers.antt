@@ -1,7 +1,7 @@
 use Rattle.std.proofs.Common.{map, refl, sym, ap, ◌∙◌}
 use Rattle.std.specs.Prelude.{nat_le}
 use Rattle.cs_grammar.specs.View.{expr_view, definition_view}
-use Rattle.cs_syntax.specs.Height.{height, height_definitions}
+use Rattle.cs_grammar.specs.Height.{height, height_definitions}
 use Rattle.cs_syntax.proofs.Heights.{low_one, high_one, low_all}
 use Rattle.cs_syntax.proofs.parser.height.are_low_bodies.Goals as goal
 

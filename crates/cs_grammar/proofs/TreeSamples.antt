@@ -1,0 +1,113 @@
+-- Samples, worked by the definitions: how high trees are, how many nodes they have, and the limits.
+use Rattle.std.proofs.Common.{◌≡◌, ℕ, Bool, zero, suc, pos, List, [], ◌∷◌, map, true, false, None, refl, codes}
+use Rattle.std.specs.Prelude.{replicate}
+use Rattle.cs_grammar.specs.declared.ast.FieldMark.TheVariants.{Regular, Optional}
+use Rattle.cs_grammar.specs.Atom as atoms
+use Rattle.cs_grammar.specs.Height.{height, file_height}
+use Rattle.cs_grammar.specs.Limits.{most_height, most_definitions, most_nodes}
+use Rattle.cs_grammar.specs.Size.{nodes, nodes_of_files}
+use Rattle.cs_grammar.specs.Tree as T
+use Rattle.cs_grammar.specs.Tree.{Label, Tree, Trees, Fields, End, DefinitionTree, file, definition}
+
+limits : most_height ∷ most_definitions ∷ most_nodes ∷ [] ≡ 28 ∷ 1000 ∷ 50000 ∷ []
+limits = refl
+
+-- ---- trees
+
+abbrev one : Tree
+one = T.atom (T.integer (pos 1))
+
+abbrev list_of : List Tree → Trees
+list_of [] = T.none
+list_of (e ∷ es) = T.more e (list_of es)
+
+abbrev a : Label
+a = record { text = codes "a"; quotes = false }
+
+abbrev fields_of : List Tree → Fields
+fields_of [] = T.no_field
+fields_of (e ∷ es) = T.field a Optional e (fields_of es)
+
+abbrev braces : List Tree → Bool → Tree
+braces es opened = T.struct 0 (fields_of es) opened
+
+abbrev brackets : List Tree → End → Tree
+brackets es end = T.list (list_of es) end
+
+-- so many parentheses around it
+abbrev kept : ℕ → Tree → Tree
+kept zero e = e
+kept (suc n) e = T.paren (kept n e)
+
+-- the forms that have no expression inside, in the order of the grammar
+abbrev leaves : List Tree
+leaves =
+    T.atom T.top ∷ T.atom T.bottom ∷ T.atom T.null ∷ T.atom (T.boolean true) ∷ one ∷ T.atom (T.text (codes "a")) ∷ T.named (codes "int") 4
+    ∷ T.reference (codes "A") 4 ∷ T.atom (T.bound atoms.less (pos 1)) ∷ T.atom (T.not_integer (pos 1)) ∷ T.atom (T.not_text (codes "a")) ∷ T.atom T.not_null ∷ []
+
+abbrev star : Tree → Tree
+star e = T.wide (T.marked 4 e)
+
+-- an embedding, a field behind it, and an embedding behind both
+abbrev merged : Tree → Tree → Tree → Tree
+merged d e f = T.wide (T.merged 4 (T.embedded 5 d (T.declared a Regular e (T.embedded 9 f T.no_declaration))) false)
+
+abbrev body : Tree → DefinitionTree
+body e = definition (codes "A") 0 e
+
+-- ---- heights
+
+without_parts : map height leaves ≡ replicate 12 1
+without_parts = refl
+
+-- `1 & (1)`, `(1) | 1`, `(1)` and `((1))`
+operands : map height (T.conjunction (list_of (one ∷ kept 1 one ∷ [])) ∷ T.disjunction (list_of (kept 1 one ∷ one ∷ [])) ∷ kept 1 one ∷ kept 2 one ∷ [])
+    ≡ 3 ∷ 3 ∷ 2 ∷ 3 ∷ []
+operands = refl
+
+-- `{}`, `{...}`, `{a?: 1}` and `{a?: 1, a?: (1), a?: 1}`
+structs : map height (braces [] false ∷ braces [] true ∷ braces (one ∷ []) false ∷ braces (one ∷ kept 1 one ∷ one ∷ []) false ∷ []) ≡ 1 ∷ 1 ∷ 2 ∷ 3 ∷ []
+structs = refl
+
+-- `[]`, `[...]`, `[1]`, `[...1]`, `[(1), ...1]` and `[1, ...(1)]`
+lists : map height (brackets [] T.closed ∷ brackets [] T.any ∷ brackets (one ∷ []) T.closed ∷ brackets [] (T.each one)
+    ∷ brackets (kept 1 one ∷ []) (T.each one) ∷ brackets (one ∷ []) (T.each (kept 1 one)) ∷ [])
+    ≡ 1 ∷ 1 ∷ 2 ∷ 2 ∷ 3 ∷ 3 ∷ []
+lists = refl
+
+-- `1`, `*1`, `*1 | (1)` and `(**1)`: a mark is no level
+marks : map height (one ∷ star one ∷ T.disjunction (list_of (star one ∷ kept 1 one ∷ [])) ∷ T.paren (star (star one)) ∷ []) ≡ 1 ∷ 1 ∷ 3 ∷ 2 ∷ []
+marks = refl
+
+-- `{1, a: 1, 1}`, `{(1), a: 1, 1}`, `{1, a: ((1)), 1}` and `{1, a: (1), (((1)))}`
+embeddings : map height (merged one one one ∷ merged (kept 1 one) one one ∷ merged one (kept 2 one) one ∷ merged one (kept 1 one) (kept 3 one) ∷ [])
+    ≡ 2 ∷ 3 ∷ 4 ∷ 5 ∷ []
+embeddings = refl
+
+-- a file without definitions, and one whose second body is the highest
+files : map file_height (file None [] ∷ file None (body one ∷ body (kept 2 one) ∷ body one ∷ []) ∷ []) ≡ 0 ∷ 3 ∷ []
+files = refl
+
+at_the_limit : map (λ n. height (kept n one)) (27 ∷ 28 ∷ []) ≡ 28 ∷ 29 ∷ []
+at_the_limit = refl
+
+-- ---- nodes
+
+nodes_of_leaves : map nodes leaves ≡ replicate 12 1
+nodes_of_leaves = refl
+
+-- `1 & 1`, `1 | 1`, `((1))`, `{}`, `{a?: 1}`, `{a?: 1, a?: (1)}`, `[]`, `[...]`, `[1, 1]`, `[1, ...]` and `[1, ...1]`: a parenthesis is none, and nor is
+-- the bare `...` of a list
+nodes_of_forms : map nodes (T.conjunction (list_of (one ∷ one ∷ [])) ∷ T.disjunction (list_of (one ∷ one ∷ [])) ∷ kept 2 one
+    ∷ braces [] false ∷ braces (one ∷ []) false ∷ braces (one ∷ kept 1 one ∷ []) true
+    ∷ brackets [] T.closed ∷ brackets [] T.any ∷ brackets (one ∷ one ∷ []) T.closed ∷ brackets (one ∷ []) T.any ∷ brackets (one ∷ []) (T.each one) ∷ [])
+    ≡ 3 ∷ 3 ∷ 1 ∷ 1 ∷ 2 ∷ 3 ∷ 1 ∷ 1 ∷ 3 ∷ 2 ∷ 3 ∷ []
+nodes_of_forms = refl
+
+-- a form of the wide profile is one
+nodes_of_wide : map nodes (star (braces (one ∷ []) false) ∷ merged one one one ∷ []) ≡ 1 ∷ 1 ∷ []
+nodes_of_wide = refl
+
+-- those of all definitions of all files
+nodes_of_all : nodes_of_files (file None (body one ∷ body (kept 2 one) ∷ []) ∷ file None [] ∷ file None (body (braces (one ∷ []) false) ∷ []) ∷ []) ≡ 4
+nodes_of_all = refl
