@@ -83,64 +83,57 @@ fn notes_of_fields(
     fields: &[Field],
     texts: &mut Texts,
 ) -> Result<Notes, AllocError> {
-    let mut every = Vec::new(alloc);
+    let mut notes = Notes::new(alloc);
     let mut labels = Declarations::new(alloc);
     for field in fields {
-        add_field(alloc, field, texts, &mut labels, &mut every)?;
+        add_field(alloc, field, texts, &mut notes, &mut labels)?;
     }
-    notes_of_struct(alloc, labels, every)
+    notes.properties = labels.into_notes(alloc)?;
+    Ok(notes)
 }
 
-/// The same of a literal with embeddings, which has the notes of the fields that it declares itself.
+/// The notes of a struct with embeddings: those of its own fields, since what it embeds has no schema of its own.
 #[cycle(values)]
 fn notes_of_declarations(
     alloc: Global,
     declarations: &[Declaration],
     texts: &mut Texts,
 ) -> Result<Notes, AllocError> {
-    let mut every = Vec::new(alloc);
+    let mut notes = Notes::new(alloc);
     let mut labels = Declarations::new(alloc);
     for declaration in declarations {
         match declaration {
-            Declaration::Field(field) => {
-                add_field(alloc, field, texts, &mut labels, &mut every)?;
-            },
-            // Its texts are passed over.
+            Declaration::Field(field) => add_field(alloc, field, texts, &mut notes, &mut labels)?,
+            // The texts of the fields in it are passed.
             Declaration::Embedded { value, .. } => drop(notes_of_value(alloc, value, texts)?),
         }
     }
-    notes_of_struct(alloc, labels, every)
+    notes.properties = labels.into_notes(alloc)?;
+    Ok(notes)
 }
 
-/// Adds a field: under its label, or to those under every key.
+/// Adds the notes of a field: among the labels, or for `[string]: T` under `allOf`.
 #[cycle(values)]
 fn add_field(
     alloc: Global,
     field: &Field,
     texts: &mut Texts,
+    notes: &mut Notes,
     labels: &mut Declarations,
-    every: &mut Vec<Notes>,
 ) -> Result<(), AllocError> {
     let text = texts.next().flatten();
     let value = notes_of_value(alloc, &field.value, texts)?;
     match field.mark {
-        FieldMark::Every { .. } => Ok(every.push(notes_under_every_key(alloc, text, value)?)?),
+        FieldMark::Every { .. } => {
+            notes
+                .all_of
+                .push(notes_under_every_key(alloc, text, value)?)?;
+        },
         FieldMark::Regular | FieldMark::Optional | FieldMark::Required => {
-            labels.add(alloc, field.label.clone()?, text, value)
+            labels.add(alloc, field.label.clone()?, text, value)?;
         },
     }
-}
-
-/// The notes of a struct, by those of its labels and those under every key.
-fn notes_of_struct(
-    alloc: Global,
-    labels: Declarations,
-    every: Vec<Notes>,
-) -> Result<Notes, AllocError> {
-    let mut notes = Notes::new(alloc);
-    notes.all_of = every;
-    notes.properties = labels.into_notes(alloc)?;
-    Ok(notes)
+    Ok(())
 }
 
 /// The notes of `[string]: T`, by its text and the notes of T.

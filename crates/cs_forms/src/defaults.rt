@@ -114,13 +114,8 @@ fn is_of_literal(token: Token<'_>) -> bool {
     match token.sort {
         Sort::Integer | Sort::Text | Sort::Inserted => true,
         Sort::Name => ["null", "true", "false"].contains(&token.text),
-        Sort::Mark => ["-", ",", "[", "]", "{", "}", "(", ")"].contains(&token.text),
-        Sort::Definition
-        | Sort::Hidden
-        | Sort::Top
-        | Sort::Bottom
-        | Sort::Wide
-        | Sort::LeftOut
-        | Sort::End => false,
+        Sort::Mark | Sort::Wide => ["-", ",", "[", "]", "{", "}", "(", ")"].contains(&token.text),
+        Sort::Definition | Sort::Hidden | Sort::Top | Sort::Bottom | Sort::LeftOut | Sort::End =>
+            false,
     }
 }

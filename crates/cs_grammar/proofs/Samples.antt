@@ -1,5 +1,5 @@
 -- Samples, worked by the definitions. The values are those of CUE's language specification and of this profile of it.
-use Rattle.std.proofs.Common.{◌≡◌, ◌+◌, ◌-◌, ◌^◌, ℤ, pos, neg_ℤ, List, [], ◌∷◌, ◌++◌, map, replicate, Bool, true, false, not, ◌&&◌, Option, Some, None, codes, refl, arith}
+use Rattle.std.proofs.Common.{◌≡◌, ℕ, ◌+◌, ◌-◌, ◌^◌, ℤ, pos, neg_ℤ, List, [], ◌∷◌, ◌++◌, map, replicate, Bool, true, false, not, ◌&&◌, Option, Some, None, codes, refl, arith}
 use Rattle.std.proofs.Math.Utf8.{encode}
 use Rattle.std.specs.List.{list_all, list_any}
 use Rattle.cs_grammar.specs.declared.token.Sort.{Sort}
@@ -13,7 +13,8 @@ use Rattle.cs_grammar.specs.TokenWords.{bare_name, word, words}
 use Rattle.cs_grammar.specs.TextParts.{TextParts, ends, plain, escape, four, eight}
 use Rattle.cs_grammar.specs.Words as W
 use Rattle.cs_grammar.specs.Tree as T
-use Rattle.cs_grammar.specs.Spells.{is_reserved, literal_of, is_null, is_package, is_string, start_at, SpellsNumber, positive, negative}
+use Rattle.cs_grammar.specs.declared.ast.FieldMark.TheVariants.{Regular}
+use Rattle.cs_grammar.specs.Spells.{is_reserved, literal_of, is_null, is_package, is_string, start_at, fields_alone, literal, SpellsNumber, positive, negative}
 use Rattle.std.proofs.lemmas.Int.{ints}
 use Prim.Native.String.{String}
 
@@ -180,7 +181,7 @@ spaces = refl
 wants_comma : map (λ s. line_after s (codes "-")) (sorts.Name ∷ sorts.Definition ∷ sorts.Hidden ∷ sorts.Top ∷ sorts.Bottom ∷ sorts.Integer ∷ sorts.Text ∷ []) ≡ replicate 7 WantsComma
 wants_comma = refl
 
-wants_none : map (λ s. line_after s (codes ")")) (sorts.LeftOut ∷ sorts.Inserted ∷ sorts.End ∷ []) ≡ replicate 3 Plain
+wants_none : map (λ s. line_after s (codes ")")) (sorts.Wide ∷ sorts.LeftOut ∷ sorts.Inserted ∷ sorts.End ∷ []) ≡ replicate 4 Plain
 wants_none = refl
 
 mark_wants_comma : map (λ t. line_after sorts.Mark (codes t)) (")" ∷ "]" ∷ "}" ∷ "?" ∷ "..." ∷ []) ≡ replicate 5 WantsComma
@@ -207,11 +208,15 @@ marks : map (λ t. word (lexeme sorts.Mark (codes t) 7)) ("{" ∷ "}" ∷ "[" �
     ≡ W.open_struct 7 ∷ W.close_struct 7 ∷ W.open_list 7 ∷ W.close_list 7 ∷ W.open_paren 7 ∷ W.close_paren 7 ∷ W.comma 7 ∷ W.colon 7 ∷ W.question 7 ∷ W.bang 7 ∷ W.amp 7 ∷ W.bar 7 ∷ W.dots 7 ∷ W.relation atoms.less 7 ∷ W.relation atoms.at_most 7 ∷ W.relation atoms.more 7 ∷ W.relation atoms.at_least 7 ∷ W.unequal 7 ∷ W.minus 7 ∷ []
 marks = refl
 
+-- a mark that the wide profile reads in its own way
+wide_marks : map (λ t. word (lexeme sorts.Wide (codes t) 7)) ("{" ∷ "}" ∷ "{{" ∷ "*" ∷ "" ∷ []) ≡ W.open_wide 7 ∷ replicate 4 (W.left_out 7)
+wide_marks = refl
+
 bare_names : map (λ t. bare_name (codes t)) ("#A" ∷ "A#" ∷ "##" ∷ "" ∷ []) ≡ map codes ("A" ∷ "A#" ∷ "#" ∷ "" ∷ [])
 bare_names = refl
 
-starts : map W.start (W.name (1 ∷ []) 7 ∷ W.definition_name (1 ∷ []) 7 ∷ W.hidden 7 ∷ W.top_mark 7 ∷ W.bottom_mark 7 ∷ W.numeral 1 7 ∷ W.quoted (1 ∷ []) 7 ∷ W.open_struct 7 ∷ W.close_struct 7 ∷ W.open_list 7 ∷ W.close_list 7 ∷ W.open_paren 7 ∷ W.close_paren 7 ∷ W.comma 7 ∷ W.nl 7 ∷ W.colon 7 ∷ W.question 7 ∷ W.bang 7 ∷ W.amp 7 ∷ W.bar 7 ∷ W.dots 7 ∷ W.relation atoms.less 7 ∷ W.unequal 7 ∷ W.minus 7 ∷ W.left_out 7 ∷ W.finish 7 ∷ [])
-    ≡ replicate 26 7
+starts : map W.start (W.name (1 ∷ []) 7 ∷ W.definition_name (1 ∷ []) 7 ∷ W.hidden 7 ∷ W.top_mark 7 ∷ W.bottom_mark 7 ∷ W.numeral 1 7 ∷ W.quoted (1 ∷ []) 7 ∷ W.open_struct 7 ∷ W.open_wide 7 ∷ W.close_struct 7 ∷ W.open_list 7 ∷ W.close_list 7 ∷ W.open_paren 7 ∷ W.close_paren 7 ∷ W.comma 7 ∷ W.nl 7 ∷ W.colon 7 ∷ W.question 7 ∷ W.bang 7 ∷ W.amp 7 ∷ W.bar 7 ∷ W.dots 7 ∷ W.relation atoms.less 7 ∷ W.unequal 7 ∷ W.minus 7 ∷ W.left_out 7 ∷ W.finish 7 ∷ [])
+    ≡ replicate 27 7
 starts = refl
 
 first_start : map start_at ([] ∷ (W.comma 7 ∷ W.finish 8 ∷ []) ∷ []) ≡ 0 ∷ 7 ∷ []
@@ -233,6 +238,30 @@ package_names = refl
 
 strings : parts (λ t. is_string (codes t)) ("string" ∷ []) ("strin" ∷ "strings" ∷ "String" ∷ "int" ∷ "" ∷ []) ≡ true
 strings = refl
+
+-- ---- literals of the wide profile
+
+-- `_`, with a label and with another
+abbrev labelled_by : List ℕ → T.Declarations → T.Declarations
+labelled_by t ds = T.declared (record { text = t; quotes = false }) Regular (T.atom T.top) ds
+
+abbrev field_by : List ℕ → T.Fields → T.Fields
+field_by t fs = T.field (record { text = t; quotes = false }) Regular (T.atom T.top) fs
+
+-- `_` that is embedded
+abbrev embedded_top : T.Declarations → T.Declarations
+embedded_top ds = T.embedded 7 (T.atom T.top) ds
+
+-- none, a field, two, an embedding, and one before and behind a field
+alone : map fields_alone (T.no_declaration ∷ labelled_by (codes "a") T.no_declaration ∷ labelled_by (codes "a") (labelled_by (codes "b") T.no_declaration) ∷ embedded_top T.no_declaration ∷ embedded_top (labelled_by (codes "a") T.no_declaration) ∷ labelled_by (codes "a") (embedded_top T.no_declaration) ∷ [])
+    ≡ Some T.no_field ∷ Some (field_by (codes "a") T.no_field) ∷ Some (field_by (codes "a") (field_by (codes "b") T.no_field)) ∷ None ∷ None ∷ None ∷ []
+alone = refl
+
+whole : literal 4 T.no_declaration true ≡ T.struct 4 T.no_field true × literal 4 (labelled_by (codes "a") T.no_declaration) false ≡ T.struct 4 (field_by (codes "a") T.no_field) false
+whole = (refl, refl)
+
+with_embeddings : map (literal 4 (labelled_by (codes "a") (embedded_top T.no_declaration))) (true ∷ false ∷ []) ≡ map (λ b. T.wide (T.merged 4 (labelled_by (codes "a") (embedded_top T.no_declaration)) b)) (true ∷ false ∷ [])
+with_embeddings = refl
 
 -- ---- numbers
 

@@ -29,7 +29,7 @@ abbrev mutual
   IsLabelledWide (marked o e) = IsLabelled e
   IsLabelledWide (merged o ds b) = AreLabelledDeclarations ds
 
-  AreLabelledDeclarations : Declarations → Type 0
+  pub AreLabelledDeclarations : Declarations → Type 0
   AreLabelledDeclarations no_declaration = Unit {0}
   AreLabelledDeclarations (declared l m e ds) = HasLabel m × IsLabelled e × AreLabelledDeclarations ds
   AreLabelledDeclarations (embedded o e ds) = IsLabelled e × AreLabelledDeclarations ds

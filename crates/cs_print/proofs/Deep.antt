@@ -1,12 +1,13 @@
 -- The words of a file nest no deeper than its bodies are high.
-use Rattle.std.proofs.Common.{◌≡◌, ℕ, zero, suc, ◌+◌, ◌≤◌, ℤ, List, [], ◌∷◌, Bool, true, false, Option, refl, sym, subst, ◌∙◌, arith}
+use Rattle.std.proofs.Common.{◌≡◌, ℕ, zero, suc, ◌+◌, ◌≤◌, ℤ, List, [], ◌∷◌, Bool, true, false, Option, Some, None, refl, sym, ap, subst, ◌∙◌, arith}
 use Rattle.std.specs.Prelude.{max, ◌||◌}
+use Rattle.std.specs.Option.{option_map}
 use Rattle.cs_grammar.specs.declared.ast.FieldMark.{FieldMark}
 use Rattle.cs_grammar.specs.Words.{Word, Words, name, quoted, open_list, close_list, comma, nl, colon, finish}
 use Rattle.cs_grammar.specs.Tree as T
-use Rattle.cs_grammar.specs.Tree.{Label, Tree, Trees, none, more, Fields, no_field, field, End, DefinitionTree, body, FileTree, definitions}
-use Rattle.cs_grammar.specs.Spells.{is_string, Comma, explicit, inserted, ClosesParen, paren_here, paren_after, ClosesList, list_here, list_after, ClosesStruct, struct_here, struct_after, SpellsNumber, positive, negative, SpellsBound, limit_is, other_number, other_text, other_null, SpellsLabel, bare_label, quoted_label, SpellsMark, regular, optional, required, SpellsOpening, unopened, opened, SpellsValue, long, short, SpellsField, labelled, every_key, SpellsExpr, one_branch, disjunction_is, SpellsBars, no_bar, a_bar, SpellsBranch, unmarked, marked_is, SpellsConj, one_operand, conjunction_is, SpellsAmps, no_amp, an_amp, SpellsOperand, top_is, bottom_is, reference_is, name_is, number_is, text_is, bound_is, paren_is, struct_is, list_is, SpellsStruct, no_fields, dots_alone, fields, SpellsFields, no_more_fields, next_field, SpellsList, no_elements, rest_alone, elements, SpellsElements, no_more_elements, next_element, SpellsEnd, closed_is, rest_is, SpellsRest, any_is, each_is, SpellsDefinition, defined, SpellsDefinitions, no_definition, next_definition, SpellsPackage, no_clause, clause, SpellsFile, spelled}
-use Rattle.cs_grammar.specs.Height.{height, height_all, height_fields, height_end, height_definitions, file_height}
+use Rattle.cs_grammar.specs.Tree.{Label, Tree, Declarations, no_declaration, declared, embedded, Trees, none, more, Fields, no_field, field, End, DefinitionTree, body, FileTree, definitions}
+use Rattle.cs_grammar.specs.Spells.{is_string, fields_alone, literal_if, Comma, explicit, inserted, ClosesParen, paren_here, paren_after, ClosesList, list_here, list_after, ClosesStruct, struct_here, struct_after, SpellsNumber, positive, negative, SpellsBound, limit_is, other_number, other_text, other_null, SpellsLabel, bare_label, quoted_label, SpellsMark, regular, optional, required, SpellsOpening, unopened, opened, SpellsValue, long, short, SpellsField, labelled, every_key, SpellsExpr, one_branch, disjunction_is, SpellsBars, no_bar, a_bar, SpellsBranch, unmarked, marked_is, SpellsConj, one_operand, conjunction_is, SpellsAmps, no_amp, an_amp, SpellsOperand, top_is, bottom_is, reference_is, name_is, number_is, text_is, bound_is, paren_is, struct_is, list_is, wide_struct_is, SpellsWideStruct, no_declarations, wide_dots_alone, some_declarations, SpellsDeclarations, a_field, an_embedding, SpellsMore, no_more, next_declaration, SpellsStruct, no_fields, dots_alone, fields, SpellsFields, no_more_fields, next_field, SpellsList, no_elements, rest_alone, elements, SpellsElements, no_more_elements, next_element, SpellsEnd, closed_is, rest_is, SpellsRest, any_is, each_is, SpellsDefinition, defined, SpellsDefinitions, no_definition, next_definition, SpellsPackage, no_clause, clause, SpellsFile, spelled}
+use Rattle.cs_grammar.specs.Height.{height, height_all, height_fields, height_declarations, height_end, height_definitions, file_height}
 use Rattle.cs_syntax.specs.Nesting.{OpenLevels, ends_with_chained_label, is_short, counted_if, behind, nesting_at, nesting_from, nesting}
 use Rattle.cs_syntax.proofs.NestingBounds.{max_left, max_right, max_both}
 use Rattle.cs_syntax.proofs.NestingCounts.{nesting-cons}
@@ -137,6 +138,25 @@ some_height (T.paren e) = omega arith
 some_height (T.struct o fs b) = omega arith
 some_height (T.list es end) = omega arith
 some_height (T.wide (T.marked o e)) = some_height e
+some_height (T.wide (T.merged o ds b)) = omega arith
+
+-- the fields of declarations are as high as these, where none is an embedding
+abbrev IsHigh : ℕ → Option Fields → Type 0
+IsHigh n (Some fs) = height_fields fs ≡ n
+IsHigh n None = Unit {0}
+
+high_more : (l : Label) (m : FieldMark) (e : Tree) (n : ℕ) (fs : Option Fields) → IsHigh n fs → IsHigh (max (height e) n) (option_map (field l m e) fs)
+high_more l m e n (Some fs) h = ap (max (height e)) h
+high_more l m e n None h = tt
+
+high_alone : (ds : Declarations) → IsHigh (height_declarations ds) (fields_alone ds)
+high_alone no_declaration = refl
+high_alone (declared l m e ds) = high_more l m e (height_declarations ds) (fields_alone ds) (high_alone ds)
+high_alone (embedded o e ds) = tt
+
+literal_height : (p : ℕ) (ds : Declarations) (b : Bool) (fs : Option Fields) → IsHigh (height_declarations ds) fs → height (literal_if p ds b fs) ≡ suc (height_declarations ds)
+literal_height p ds b (Some fs) h = ap suc h
+literal_height p ds b None h = refl
 
 -- what stands inside a bracket may be as high as is left behind it
 bracket : {h : ℕ} {ts r : Words} (w : Word) (m : ℕ) → suc m ≤ h → ((j : ℕ) → m ≤ j → (k n : ℕ) (ns : OpenLevels) → nesting_at (0 ∷ n ∷ ns) + j ≤ k → Low k (n ∷ ns) r → (ws : Words) → Runs k (w ∷ ws) (0 ∷ n ∷ ns) ts)
@@ -203,6 +223,22 @@ mutual
   operand_deep (paren_is {p} {e} v c) h le k n ns low f = bracket _ (height e) le (λ j lj k n ns low f ws. expression_deep v j lj k 0 (n ∷ ns) low (paren_low c (omega arith) f) _) (λ n ns ws. refl) k n ns low f
   operand_deep (struct_is {p} {fs} {b} v) h le k n ns low f = bracket _ (height_fields fs) le (λ j lj k n ns low f ws. struct_deep v j lj k n ns low f _ refl) (λ n ns ws. refl) k n ns low f
   operand_deep (list_is {p} {es} {end} v) h le k n ns low f = bracket _ (max (height_all es) (height_end end)) le (λ j lj k n ns low f ws. list_deep v j lj k n ns low f _) (λ n ns ws. refl) k n ns low f
+  operand_deep (wide_struct_is {p} {ds} {b} is v) h le k n ns low f =
+      let high : suc (height_declarations ds) ≤ h = omega (arith, le, ap height is, literal_height p ds b (fields_alone ds) (high_alone ds)) in
+      bracket _ (height_declarations ds) high (λ j lj k n ns low f ws. wide_struct_deep v j lj k n ns low f _ refl) (λ n ns ws. refl) k n ns low f
+
+  wide_struct_deep : {ds : Declarations} {b : Bool} {ts r : Words} → SpellsWideStruct ds b ts r → (h : ℕ) → height_declarations ds ≤ h → (k n : ℕ) (ns : OpenLevels) → nesting_at (0 ∷ n ∷ ns) + h ≤ k → Low k (n ∷ ns) r → Fresh k (0 ∷ n ∷ ns) ts
+  wide_struct_deep no_declarations h le k n ns low f ws new = pass _ (omega arith) (f _)
+  wide_struct_deep (wide_dots_alone c) h le k n ns low f ws new = pass _ (omega arith) (struct_low c (omega arith) f _)
+  wide_struct_deep (some_declarations v o) h le k n ns low f = declarations_deep v h le k (n ∷ ns) low (λ m within. opening_low o within f)
+
+  declarations_deep : {ds : Declarations} {ts r : Words} → SpellsDeclarations ds ts r → (h : ℕ) → height_declarations ds ≤ h → (k : ℕ) (ns : OpenLevels) → nesting_at (0 ∷ ns) + h ≤ k → AnyLow k ns r → Fresh k (0 ∷ ns) ts
+  declarations_deep (a_field {l} {m} {e} v vs) h le k ns low f = field_fresh v h (max_left (height e) _ le) k 0 ns low (more_deep vs h (max_right (height e) _ le) k ns low f)
+  declarations_deep (an_embedding {o} {e} at v vs) h le k ns low f ws new = expression_deep v h (max_left (height e) _ le) k 0 ns low (more_deep vs h (max_right (height e) _ le) k ns low f 0 (omega arith)) ws
+
+  more_deep : {ds : Declarations} {ts r : Words} → SpellsMore ds ts r → (h : ℕ) → height_declarations ds ≤ h → (k : ℕ) (ns : OpenLevels) → nesting_at (0 ∷ ns) + h ≤ k → AnyLow k ns r → AnyLow k ns ts
+  more_deep no_more h le k ns low f = f
+  more_deep (next_declaration c v) h le k ns low f = λ n within. comma_low c within (declarations_deep v h le k ns low f)
 
   struct_deep : {fs : Fields} {b : Bool} {ts r : Words} → SpellsStruct fs b ts r → (h : ℕ) → height_fields fs ≤ h → (k n : ℕ) (ns : OpenLevels) → nesting_at (0 ∷ n ∷ ns) + h ≤ k → Low k (n ∷ ns) r → Fresh k (0 ∷ n ∷ ns) ts
   struct_deep no_fields h le k n ns low f ws new = pass _ (omega arith) (f _)

@@ -1,9 +1,9 @@
 -- What a source spells can be written down: the words of a source are those of its tokens.
-use Rattle.std.proofs.Common.{◌≡◌, ℕ, ℤ, List, [], ◌∷◌, Bool, true, false, cond, map, Option, Some, None, codes, refl, subst, ◌∙◌, arith}
+use Rattle.std.proofs.Common.{◌≡◌, ℕ, ℤ, List, [], ◌∷◌, Bool, true, false, cond, map, Option, Some, None, codes, refl, sym, subst, ◌∙◌, arith}
 use Rattle.std.proofs.lemmas.Bool.Decides.{nat_tests}
 use Rattle.std.specs.Prelude.{◌==◌, FitsSigned}
 use Rattle.std.specs.Int.{w64}
-use Rattle.std.specs.Option.{unwrap_or}
+use Rattle.std.specs.Option.{option_map, unwrap_or}
 use Rattle.std.specs.List.{AllByRecursion, list_all, list_any}
 use Rattle.std.specs.Str.{bytes_eq}
 use Rattle.cs_grammar.specs.declared.ast.FieldMark.{FieldMark}
@@ -19,12 +19,12 @@ use Rattle.cs_grammar.specs.Spelling.{is_letter, is_digit, is_name_byte, is_defi
 use Rattle.cs_grammar.specs.Cut.{Lexeme, lexeme, Cut, blank, new_line, comment, token, finish, comma_if}
 use Rattle.cs_grammar.specs.Source.{IsSpelledByIn}
 use Rattle.cs_grammar.specs.Taken.{wide_lexeme, taken}
-use Rattle.cs_grammar.specs.TokenWords.{mark_kind, bare_name, word_of, word, words}
+use Rattle.cs_grammar.specs.TokenWords.{mark_kind, wide_kind, bare_name, word_of, word, words}
 use Rattle.cs_grammar.specs.Words as W
 use Rattle.cs_grammar.specs.Words.{Word, Words}
-use Rattle.cs_grammar.specs.Tree.{Label, Tree, atom, named, reference, conjunction, disjunction, paren, struct, list, wide, marked, Trees, Fields, End, DefinitionTree, FileTree}
-use Rattle.cs_grammar.specs.Spells.{is_null, is_reserved, literal_of, Comma, explicit, inserted, ClosesParen, paren_here, paren_after, ClosesList, list_here, list_after, ClosesStruct, struct_here, struct_after, SpellsNumber, positive, negative, SpellsBound, limit_is, other_number, other_text, other_null, SpellsLabel, bare_label, quoted_label, SpellsMark, regular, optional, required, SpellsOpening, unopened, opened, SpellsValue, long, short, SpellsField, labelled, every_key, SpellsExpr, one_branch, disjunction_is, SpellsBars, no_bar, a_bar, SpellsBranch, unmarked, marked_is, SpellsConj, one_operand, conjunction_is, SpellsAmps, no_amp, an_amp, SpellsOperand, top_is, bottom_is, reference_is, name_is, number_is, text_is, bound_is, paren_is, struct_is, list_is, SpellsStruct, no_fields, dots_alone, fields, SpellsFields, no_more_fields, next_field, SpellsList, no_elements, rest_alone, elements, SpellsElements, no_more_elements, next_element, SpellsEnd, closed_is, rest_is, SpellsRest, any_is, each_is, SpellsDefinition, defined, SpellsDefinitions, no_definition, next_definition, SpellsPackage, no_clause, clause, SpellsFile, spelled}
-use Rattle.cs_grammar.specs.Written.{Place, by_itself, of_bar, of_amp, IsName, IsDefinitionName, IsTextOrName, IsWrittenLabel, IsWritten, AreWritten, AreWrittenFields, IsWrittenEnd, IsWrittenDefinition, IsWrittenClause, IsWrittenFile}
+use Rattle.cs_grammar.specs.Tree.{Label, Tree, atom, named, reference, conjunction, disjunction, paren, struct, list, wide, marked, merged, Declarations, no_declaration, declared, embedded, Trees, Fields, field, End, DefinitionTree, FileTree}
+use Rattle.cs_grammar.specs.Spells.{is_null, is_reserved, literal_of, fields_alone, literal_if, Comma, explicit, inserted, ClosesParen, paren_here, paren_after, ClosesList, list_here, list_after, ClosesStruct, struct_here, struct_after, SpellsNumber, positive, negative, SpellsBound, limit_is, other_number, other_text, other_null, SpellsLabel, bare_label, quoted_label, SpellsMark, regular, optional, required, SpellsOpening, unopened, opened, SpellsValue, long, short, SpellsField, labelled, every_key, SpellsExpr, one_branch, disjunction_is, SpellsBars, no_bar, a_bar, SpellsBranch, unmarked, marked_is, SpellsConj, one_operand, conjunction_is, SpellsAmps, no_amp, an_amp, SpellsOperand, top_is, bottom_is, reference_is, name_is, number_is, text_is, bound_is, paren_is, struct_is, list_is, wide_struct_is, SpellsWideStruct, no_declarations, wide_dots_alone, some_declarations, SpellsDeclarations, a_field, an_embedding, SpellsMore, no_more, next_declaration, SpellsStruct, no_fields, dots_alone, fields, SpellsFields, no_more_fields, next_field, SpellsList, no_elements, rest_alone, elements, SpellsElements, no_more_elements, next_element, SpellsEnd, closed_is, rest_is, SpellsRest, any_is, each_is, SpellsDefinition, defined, SpellsDefinitions, no_definition, next_definition, SpellsPackage, no_clause, clause, SpellsFile, spelled}
+use Rattle.cs_grammar.specs.Written.{Place, by_itself, of_bar, of_amp, IsName, IsDefinitionName, IsTextOrName, IsWrittenLabel, IsWritten, AreWrittenDeclarations, AreWritten, AreWrittenFields, IsWrittenEnd, IsWrittenDefinition, IsWrittenClause, IsWrittenFile}
 use Rattle.cs_print.proofs.Tokens.{clash}
 
 -- ---- words of tokens
@@ -65,6 +65,13 @@ mark_good t o = by (bytes_eq t (codes "{")) (bytes_eq t (codes "}")) (bytes_eq t
     by false false false false false false false false false false false false false false false false false false false true = tt
     by false false false false false false false false false false false false false false false false false false false false = tt
 
+brace_good : (t : List ℕ) (o : ℕ) → Good (word_of (wide_kind t) t o)
+brace_good t o = by (bytes_eq t (codes "{"))
+  where
+    by : (b : Bool) → Good (word_of (cond b kinds.OpenWide kinds.LeftOut) t o)
+    by true = tt
+    by false = tt
+
 abbrev is_defined : Option Sort → Bool
 is_defined None = false
 is_defined (Some sorts.Name) = false
@@ -75,6 +82,7 @@ is_defined (Some sorts.Bottom) = false
 is_defined (Some sorts.Integer) = false
 is_defined (Some sorts.Text) = false
 is_defined (Some sorts.Mark) = false
+is_defined (Some sorts.Wide) = false
 is_defined (Some sorts.LeftOut) = false
 is_defined (Some sorts.Inserted) = false
 is_defined (Some sorts.End) = false
@@ -130,6 +138,7 @@ word_good sorts.Bottom t o h = tt
 word_good sorts.Integer t o h = tt
 word_good sorts.Text t o h = tt
 word_good sorts.Mark t o h = mark_good t o
+word_good sorts.Wide t o h = brace_good t o
 word_good sorts.LeftOut t o h = tt
 word_good sorts.Inserted t o h = tt
 word_good sorts.End t o h = tt
@@ -151,6 +160,10 @@ star_good : (b : Bool) (t : List ℕ) (o : ℕ) → Good (word (lexeme (cond b s
 star_good true t o = mark_good t o
 star_good false t o = tt
 
+open_good : (b : Bool) (t : List ℕ) (o : ℕ) → Good (word (lexeme (cond b sorts.Wide sorts.Mark) t o))
+open_good true t o = brace_good t o
+open_good false t o = mark_good t o
+
 wide_good : (k : Lexeme) → Good (word k) → Good (word (wide_lexeme k))
 wide_good (lexeme sorts.LeftOut t o) h = star_good (bytes_eq t (codes "*")) t o
 wide_good (lexeme sorts.Name t o) h = h
@@ -160,7 +173,8 @@ wide_good (lexeme sorts.Top t o) h = h
 wide_good (lexeme sorts.Bottom t o) h = h
 wide_good (lexeme sorts.Integer t o) h = h
 wide_good (lexeme sorts.Text t o) h = h
-wide_good (lexeme sorts.Mark t o) h = h
+wide_good (lexeme sorts.Mark t o) h = open_good (bytes_eq t (codes "{")) t o
+wide_good (lexeme sorts.Wide t o) h = h
 wide_good (lexeme sorts.Inserted t o) h = h
 wide_good (lexeme sorts.End t o) h = h
 
@@ -185,6 +199,7 @@ written_anywhere p (paren e) w = w
 written_anywhere p (struct o fs b) w = w
 written_anywhere p (list es end) w = w
 written_anywhere p (wide (marked o e)) w = written_anywhere p e w
+written_anywhere p (wide (merged o ds b)) w = w
 
 written_itself : (t : Tree) → IsWritten of_bar t → IsWritten by_itself t
 written_itself (atom a) w = w
@@ -196,6 +211,7 @@ written_itself (paren e) w = w
 written_itself (struct o fs b) w = w
 written_itself (list es end) w = w
 written_itself (wide (marked o e)) w = written_itself e w
+written_itself (wide (merged o ds b)) w = w
 
 name_written : (s : List ℕ) (p : ℕ) (e : Tree) → IsName s → is_reserved s ≡ false → e ≡ unwrap_or (literal_of s) (named s p) → IsWritten of_amp e
 name_written s p e name free is = by (is_null s) (bytes_eq s (codes "true")) (bytes_eq s (codes "false")) refl refl refl
@@ -253,6 +269,24 @@ opening_left : {b : Bool} {ws us : Words} → SpellsOpening b ws us → AreGood 
 opening_left (unopened c) g = struct_left c g
 opening_left (opened d c) g = struct_left c (comma_left d g).1
 
+-- the fields of declarations, where none is an embedding
+abbrev AreWrittenAlone : Option Fields → Type 0
+AreWrittenAlone (Some fs) = AreWrittenFields fs
+AreWrittenAlone None = Unit {0}
+
+written_more : (l : Label) (m : FieldMark) (e : Tree) (fs : Option Fields) → IsWrittenLabel l m → IsWritten by_itself e → AreWrittenAlone fs → AreWrittenAlone (option_map (field l m e) fs)
+written_more l m e (Some fs) g h k = (g, h, k)
+written_more l m e None g h k = tt
+
+written_alone : (ds : Declarations) → AreWrittenDeclarations ds → AreWrittenAlone (fields_alone ds)
+written_alone no_declaration w = tt
+written_alone (declared l m e ds) w = written_more l m e (fields_alone ds) w.0 w.1 (written_alone ds w.2)
+written_alone (embedded o e ds) w = tt
+
+literal_written : (p : ℕ) (ds : Declarations) (b : Bool) (fs : Option Fields) → AreWrittenDeclarations ds → AreWrittenAlone fs → IsWritten of_amp (literal_if p ds b fs)
+literal_written p ds b (Some fs) w k = k
+literal_written p ds b None w k = w
+
 mutual
   value_left : {e : Tree} {ws us : Words} → SpellsValue e ws us → AreGood ws → IsWritten by_itself e × AreGood us
   value_left (long k) g = expression_left k g
@@ -308,6 +342,28 @@ mutual
   operand_left (paren_is k c) g = let a = expression_left k g.1 in (a.0, paren_left c a.1)
   operand_left (struct_is k) g = struct_fields_left k g.1
   operand_left (list_is k) g = list_parts_left k g.1
+  operand_left (wide_struct_is {p} {ds} {b} is k) g =
+      let a = declarations_inside_left k g.1 in
+      (subst (IsWritten of_amp) (sym is) (literal_written p ds b (fields_alone ds) a.0 (written_alone ds a.0)), a.1)
+
+  declarations_inside_left : {ds : Declarations} {b : Bool} {ws us : Words} → SpellsWideStruct ds b ws us → AreGood ws → AreWrittenDeclarations ds × AreGood us
+  declarations_inside_left no_declarations g = (tt, g.1)
+  declarations_inside_left (wide_dots_alone c) g = (tt, struct_left c g.1)
+  declarations_inside_left (some_declarations k o) g = let a = declarations_left k g in (a.0, opening_left o a.1)
+
+  declarations_left : {ds : Declarations} {ws us : Words} → SpellsDeclarations ds ws us → AreGood ws → AreWrittenDeclarations ds × AreGood us
+  declarations_left (a_field k ks) g =
+      let a = field_left k g in
+      let b = more_left ks a.2 in
+      ((a.0, a.1, b.0), b.1)
+  declarations_left (an_embedding at k ks) g =
+      let a = expression_left k g in
+      let b = more_left ks a.1 in
+      ((a.0, b.0), b.1)
+
+  more_left : {ds : Declarations} {ws us : Words} → SpellsMore ds ws us → AreGood ws → AreWrittenDeclarations ds × AreGood us
+  more_left no_more g = (tt, g)
+  more_left (next_declaration c k) g = declarations_left k (comma_left c g)
 
   struct_fields_left : {fs : Fields} {b : Bool} {ws us : Words} → SpellsStruct fs b ws us → AreGood ws → AreWrittenFields fs × AreGood us
   struct_fields_left no_fields g = (tt, g.1)

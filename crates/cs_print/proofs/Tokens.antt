@@ -213,6 +213,7 @@ is_named (Some sorts.Bottom) = false
 is_named (Some sorts.Integer) = false
 is_named (Some sorts.Text) = false
 is_named (Some sorts.Mark) = false
+is_named (Some sorts.Wide) = false
 is_named (Some sorts.LeftOut) = false
 is_named (Some sorts.Inserted) = false
 is_named (Some sorts.End) = false

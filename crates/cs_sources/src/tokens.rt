@@ -15,7 +15,7 @@ pub fn is_mark(token: Token<'_>, text: &str) -> bool {
 pub fn ends_value(token: Token<'_>) -> bool {
     match token.sort {
         Sort::Mark => matches!(token.text.as_bytes(), [b'}' | b']' | b')']),
-        Sort::LeftOut | Sort::Inserted | Sort::End => false,
+        Sort::Wide | Sort::LeftOut | Sort::Inserted | Sort::End => false,
         _ => true,
     }
 }

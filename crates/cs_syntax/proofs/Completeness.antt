@@ -5,182 +5,23 @@ use Rattle.std.specs.Prelude.{FitsSigned, neg_ℤ, ◌||◌, max}
 use Rattle.std.specs.Int.{w64}
 use Rattle.std.specs.Option.{unwrap_or}
 use Rattle.cs_grammar.specs.declared.kind.Kind.TheVariants as kinds
-use Rattle.cs_grammar.specs.Atom as atoms
-use Rattle.cs_grammar.specs.Atom.{Relation, top, bottom, integer, text, not_integer, not_text, not_null}
+use Rattle.cs_grammar.specs.Atom.{top, bottom, integer, text, not_integer, not_text, not_null}
 use Rattle.cs_grammar.specs.declared.ast.FieldMark.{FieldMark}
 use Rattle.cs_grammar.specs.declared.ast.FieldMark.TheVariants.{Every}
-use Rattle.cs_grammar.specs.Words.{Words, relation, comma, name, open_list, colon, quoted, top_mark, bottom_mark, definition_name, unequal, close_struct, close_list, dots, finish}
-use Rattle.cs_grammar.specs.Tree.{Label, Tree, atom, reference, closed, named, Trees, none, more, Fields, no_field, field, End, DefinitionTree, body, FileTree}
-use Rattle.cs_grammar.specs.View.{trees_of, fields_of, Seen}
-use Rattle.cs_grammar.specs.Spells.{is_reserved, is_null, is_string, every_label, literal_of, Comma, explicit, inserted, ClosesParen, paren_here, paren_after, ClosesList, list_here, list_after, ClosesStruct, struct_here, struct_after, SpellsNumber, positive, negative, SpellsBound, limit_is, other_number, other_text, other_null, SpellsLabel, bare_label, quoted_label, SpellsMark, regular, optional, required, SpellsOpening, unopened, opened, SpellsValue, long, short, SpellsField, labelled, every_key, SpellsExpr, one_branch, disjunction_is, SpellsBars, no_bar, a_bar, SpellsBranch, unmarked, marked_is, SpellsConj, one_operand, conjunction_is, SpellsAmps, no_amp, an_amp, SpellsOperand, top_is, bottom_is, reference_is, name_is, number_is, text_is, bound_is, paren_is, struct_is, list_is, SpellsStruct, no_fields, dots_alone, fields, SpellsFields, no_more_fields, next_field, SpellsList, no_elements, rest_alone, elements, SpellsElements, no_more_elements, next_element, SpellsEnd, closed_is, rest_is, SpellsRest, any_is, each_is, SpellsDefinition, defined, SpellsDefinitions, no_definition, next_definition, SpellsPackage, no_clause, clause, SpellsFile, spelled}
+use Rattle.cs_grammar.specs.Words.{Words, comma, name, open_list, colon, quoted, top_mark, bottom_mark, definition_name, unequal, close_struct, close_list, dots, finish}
+use Rattle.cs_grammar.specs.Tree.{Label, Tree, atom, reference, closed, named, Trees, none, more, Fields, no_field, field, Declarations, no_declaration, declared, embedded, End, DefinitionTree, body, FileTree}
+use Rattle.cs_grammar.specs.View.{trees_of, fields_of, Seen, declarations_of, SeenDeclaration, field_seen, embedding_seen}
+use Rattle.cs_grammar.specs.Spells.{is_reserved, is_null, is_string, every_label, start_at, literal_of, literal, Comma, explicit, inserted, ClosesParen, paren_here, paren_after, ClosesList, list_here, list_after, ClosesStruct, struct_here, struct_after, SpellsNumber, positive, negative, SpellsBound, limit_is, other_number, other_text, other_null, SpellsLabel, bare_label, quoted_label, SpellsMark, regular, optional, required, SpellsOpening, unopened, opened, SpellsValue, long, short, SpellsField, labelled, every_key, SpellsExpr, one_branch, disjunction_is, SpellsBars, no_bar, a_bar, SpellsBranch, unmarked, marked_is, SpellsConj, one_operand, conjunction_is, SpellsAmps, no_amp, an_amp, SpellsOperand, top_is, bottom_is, reference_is, name_is, number_is, text_is, bound_is, paren_is, struct_is, list_is, wide_struct_is, SpellsWideStruct, no_declarations, wide_dots_alone, some_declarations, a_field, an_embedding, SpellsMore, no_more, next_declaration, SpellsStruct, no_fields, dots_alone, fields, SpellsFields, no_more_fields, next_field, SpellsList, no_elements, rest_alone, elements, SpellsElements, no_more_elements, next_element, SpellsEnd, closed_is, rest_is, SpellsRest, any_is, each_is, SpellsDefinition, defined, SpellsDefinitions, no_definition, next_definition, SpellsPackage, no_clause, clause, SpellsFile, spelled}
 use Rattle.cs_grammar.proofs.Rests.{no_longer, of_field, of_expr, of_branch, of_operand, of_definition}
-use Rattle.cs_syntax.specs.Reading.{◌>>=◌, Read, after, begins_with, begins_comma, comma_at, close_at, paren_end, goes_on_label, begins_field, another_field, another_element, opening_at, may_end, many, signed, number_at, bound_at, unequal_at, integer_at, unbracketed_at, label_at, mark_at, every_key_at, head_at, expected, field_with, fields_with, struct_with, rest_with, end_with, elements_with, list_with, operand_with, amps_with, conj_with, branch_with, bars_with, expr_with, inner, definition_at, line_at, before_end, definitions_at, clause_at, package_at, file_with, file_at}
+use Rattle.cs_syntax.specs.Reading.{◌>>=◌, Read, after, comma_at, close_at, paren_end, goes_on_label, begins_field, another_field, another_element, opening_at, may_end, many, signed, number_at, bound_at, unequal_at, integer_at, unbracketed_at, label_at, mark_at, every_key_at, head_at, expected, field_with, fields_with, struct_with, declaration_with, declarations_with, wide_struct_with, rest_with, end_with, elements_with, list_with, operand_with, amps_with, conj_with, branch_with, bars_with, expr_with, inner, definition_at, line_at, before_end, definitions_at, clause_at, package_at, file_with, file_at}
 use Rattle.cs_syntax.specs.Nesting.{nesting}
-use Rattle.cs_syntax.proofs.BracketLabels.{list_no_label}
-use Rattle.cs_syntax.proofs.NestingBounds.{inside, inside_all, inside_elements, inside_fields, inside_end, inside_definitions, inside_file, inside_low, max_left, max_right}
+use Rattle.cs_syntax.proofs.Boundaries.{Quiet, IsOpen, quiet_comma, quiet_closes_paren, quiet_closes_list, quiet_opening, quiet_fields, quiet_more, quiet_end, quiet_elements, no_amp-bars, expr_open, expr_no_field, conj_no_star}
+use Rattle.cs_syntax.proofs.NestingBounds.{inside, inside_all, inside_elements, inside_fields, inside_declarations, inside_literal, inside_end, inside_definitions, inside_file, inside_low, max_left, max_right}
 
 -- a comma takes a word
 shorter_comma : {ts r : Words} → Comma ts r → length r < length ts
 shorter_comma explicit = omega arith
 shorter_comma inserted = omega arith
-
--- ---- what follows an expression
-
--- no operator goes on here, and no label
-record Quiet (ts : Words) : Type 0 where
-  no_amp_here : after kinds.Amp ts ≡ None
-  no_bar_here : after kinds.Bar ts ≡ None
-  no_label : goes_on_label ts ≡ false
-
-quiet_comma : {ts r : Words} → Comma ts r → Quiet ts
-quiet_comma explicit = record { no_amp_here = refl; no_bar_here = refl; no_label = refl }
-quiet_comma inserted = record { no_amp_here = refl; no_bar_here = refl; no_label = refl }
-
-quiet_closes_paren : {ts r : Words} → ClosesParen ts r → Quiet ts
-quiet_closes_paren paren_here = record { no_amp_here = refl; no_bar_here = refl; no_label = refl }
-quiet_closes_paren paren_after = record { no_amp_here = refl; no_bar_here = refl; no_label = refl }
-
-quiet_closes_list : {ts r : Words} → ClosesList ts r → Quiet ts
-quiet_closes_list list_here = record { no_amp_here = refl; no_bar_here = refl; no_label = refl }
-quiet_closes_list (list_after c) = quiet_comma c
-
-quiet_closes_struct : {ts r : Words} → ClosesStruct ts r → Quiet ts
-quiet_closes_struct struct_here = record { no_amp_here = refl; no_bar_here = refl; no_label = refl }
-quiet_closes_struct (struct_after c) = quiet_comma c
-
-quiet_opening : {b : Bool} {ts r : Words} → SpellsOpening b ts r → Quiet ts
-quiet_opening (unopened c) = quiet_closes_struct c
-quiet_opening (opened c d) = quiet_comma c
-
-quiet_fields : {fs : Fields} {ts r : Words} → SpellsFields fs ts r → Quiet r → Quiet ts
-quiet_fields no_more_fields q = q
-quiet_fields (next_field c f fs) q = quiet_comma c
-
-quiet_end : {end : End} {ts r : Words} → SpellsEnd end ts r → Quiet ts
-quiet_end (closed_is c) = quiet_closes_list c
-quiet_end (rest_is s) = record { no_amp_here = refl; no_bar_here = refl; no_label = refl }
-
-quiet_elements : {es : Trees} {ts r : Words} → SpellsElements es ts r → Quiet r → Quiet ts
-quiet_elements no_more_elements q = q
-quiet_elements (next_element e es) q = record { no_amp_here = refl; no_bar_here = refl; no_label = refl }
-
--- an operator of the outer level ends the inner one
-no_amp-bars : {es : Trees} {ts r : Words} → SpellsBars es ts r → after kinds.Amp r ≡ None → after kinds.Amp ts ≡ None
-no_amp-bars no_bar h = h
-no_amp-bars (a_bar c b) h = refl
-
-no_label-bars : {es : Trees} {ts r : Words} → SpellsBars es ts r → goes_on_label r ≡ false → goes_on_label ts ≡ false
-no_label-bars no_bar h = h
-no_label-bars (a_bar c b) h = refl
-
-no_label-amps : {es : Trees} {ts r : Words} → SpellsAmps es ts r → goes_on_label r ≡ false → goes_on_label ts ≡ false
-no_label-amps no_amp h = h
-no_label-amps (an_amp o a) h = refl
-
--- ---- what begins an expression
-
-record IsOpen (ts : Words) : Type 0 where
-  no_list_end : after kinds.CloseList ts ≡ None
-  no_dots : after kinds.Dots ts ≡ None
-  not_list_end : begins_with kinds.CloseList ts ≡ false
-  not_dots : begins_with kinds.Dots ts ≡ false
-  no_comma : begins_comma ts ≡ false
-
-relation_open : (b : Relation) (p : ℕ) (ts : Words) → IsOpen (relation b p ∷ ts)
-relation_open atoms.less p ts = record { no_list_end = refl; no_dots = refl; not_list_end = refl; not_dots = refl; no_comma = refl }
-relation_open atoms.at_most p ts = record { no_list_end = refl; no_dots = refl; not_list_end = refl; not_dots = refl; no_comma = refl }
-relation_open atoms.more p ts = record { no_list_end = refl; no_dots = refl; not_list_end = refl; not_dots = refl; no_comma = refl }
-relation_open atoms.at_least p ts = record { no_list_end = refl; no_dots = refl; not_list_end = refl; not_dots = refl; no_comma = refl }
-
-number_open : {z : ℤ} {ts r : Words} → SpellsNumber z ts r → IsOpen ts
-number_open (positive h) = record { no_list_end = refl; no_dots = refl; not_list_end = refl; not_dots = refl; no_comma = refl }
-number_open (negative e h) = record { no_list_end = refl; no_dots = refl; not_list_end = refl; not_dots = refl; no_comma = refl }
-
-bound_open : {e : Tree} {ts r : Words} → SpellsBound e ts r → IsOpen ts
-bound_open (limit_is {b} {z} {p} {ts} n) = relation_open b p ts
-bound_open (other_number n) = record { no_list_end = refl; no_dots = refl; not_list_end = refl; not_dots = refl; no_comma = refl }
-bound_open other_text = record { no_list_end = refl; no_dots = refl; not_list_end = refl; not_dots = refl; no_comma = refl }
-bound_open (other_null h) = record { no_list_end = refl; no_dots = refl; not_list_end = refl; not_dots = refl; no_comma = refl }
-
-operand_open : {e : Tree} {ts r : Words} → SpellsOperand e ts r → IsOpen ts
-operand_open top_is = record { no_list_end = refl; no_dots = refl; not_list_end = refl; not_dots = refl; no_comma = refl }
-operand_open bottom_is = record { no_list_end = refl; no_dots = refl; not_list_end = refl; not_dots = refl; no_comma = refl }
-operand_open reference_is = record { no_list_end = refl; no_dots = refl; not_list_end = refl; not_dots = refl; no_comma = refl }
-operand_open (name_is h e) = record { no_list_end = refl; no_dots = refl; not_list_end = refl; not_dots = refl; no_comma = refl }
-operand_open (number_is n) = number_open n
-operand_open text_is = record { no_list_end = refl; no_dots = refl; not_list_end = refl; not_dots = refl; no_comma = refl }
-operand_open (bound_is b) = bound_open b
-operand_open (paren_is e c) = record { no_list_end = refl; no_dots = refl; not_list_end = refl; not_dots = refl; no_comma = refl }
-operand_open (struct_is s) = record { no_list_end = refl; no_dots = refl; not_list_end = refl; not_dots = refl; no_comma = refl }
-operand_open (list_is s) = record { no_list_end = refl; no_dots = refl; not_list_end = refl; not_dots = refl; no_comma = refl }
-
-conj_open : {e : Tree} {ts r : Words} → SpellsConj e ts r → IsOpen ts
-conj_open (one_operand o) = operand_open o
-conj_open (conjunction_is o a) = operand_open o
-
-branch_open : {e : Tree} {ts r : Words} → SpellsBranch e ts r → IsOpen ts
-branch_open (unmarked c) = conj_open c
-branch_open (marked_is c) = record { no_list_end = refl; no_dots = refl; not_list_end = refl; not_dots = refl; no_comma = refl }
-
-expr_open : {e : Tree} {ts r : Words} → SpellsExpr e ts r → IsOpen ts
-expr_open (one_branch c) = branch_open c
-expr_open (disjunction_is c b) = branch_open c
-
--- no expression with nothing behind it that goes on a label is a field
-operand_no_field : {e : Tree} {ts r : Words} → SpellsOperand e ts r → goes_on_label r ≡ false → begins_field ts ≡ false
-operand_no_field top_is q = refl
-operand_no_field bottom_is q = refl
-operand_no_field reference_is q = refl
-operand_no_field (name_is h e) q = rw (h, q) refl
-operand_no_field (number_is (positive h)) q = refl
-operand_no_field (number_is (negative e h)) q = refl
-operand_no_field text_is q = rw q refl
-operand_no_field (bound_is (limit_is n)) q = refl
-operand_no_field (bound_is (other_number n)) q = refl
-operand_no_field (bound_is other_text) q = refl
-operand_no_field (bound_is (other_null h)) q = refl
-operand_no_field (paren_is e c) q = refl
-operand_no_field (struct_is s) q = refl
-operand_no_field (list_is s) q = list_no_label s q
-
-conj_no_field : {e : Tree} {ts r : Words} → SpellsConj e ts r → goes_on_label r ≡ false → begins_field ts ≡ false
-conj_no_field (one_operand o) q = operand_no_field o q
-conj_no_field (conjunction_is o a) q = operand_no_field o (no_label-amps a q)
-
-branch_no_field : {e : Tree} {ts r : Words} → SpellsBranch e ts r → goes_on_label r ≡ false → begins_field ts ≡ false
-branch_no_field (unmarked c) q = conj_no_field c q
-branch_no_field (marked_is c) q = refl
-
-expr_no_field : {e : Tree} {ts r : Words} → SpellsExpr e ts r → goes_on_label r ≡ false → begins_field ts ≡ false
-expr_no_field (one_branch c) q = branch_no_field c q
-expr_no_field (disjunction_is c b) q = branch_no_field c (no_label-bars b q)
-
--- no operand begins with `*`
-relation_no_star : (b : Relation) (p : ℕ) (ts : Words) → after kinds.Star (relation b p ∷ ts) ≡ None
-relation_no_star atoms.less p ts = refl
-relation_no_star atoms.at_most p ts = refl
-relation_no_star atoms.more p ts = refl
-relation_no_star atoms.at_least p ts = refl
-
-operand_no_star : {e : Tree} {ts r : Words} → SpellsOperand e ts r → after kinds.Star ts ≡ None
-operand_no_star top_is = refl
-operand_no_star bottom_is = refl
-operand_no_star reference_is = refl
-operand_no_star (name_is h e) = refl
-operand_no_star (number_is (positive h)) = refl
-operand_no_star (number_is (negative e h)) = refl
-operand_no_star text_is = refl
-operand_no_star (bound_is (limit_is {b} {z} {p} {ts} n)) = relation_no_star b p ts
-operand_no_star (bound_is (other_number n)) = refl
-operand_no_star (bound_is other_text) = refl
-operand_no_star (bound_is (other_null h)) = refl
-operand_no_star (paren_is e c) = refl
-operand_no_star (struct_is s) = refl
-operand_no_star (list_is s) = refl
-
-conj_no_star : {e : Tree} {ts r : Words} → SpellsConj e ts r → after kinds.Star ts ≡ None
-conj_no_star (one_operand o) = operand_no_star o
-conj_no_star (conjunction_is o a) = operand_no_star o
 
 -- ---- marks
 
@@ -324,6 +165,19 @@ struct_first r (labelled bare_label m v) = refl
 struct_first r (labelled quoted_label m v) = refl
 struct_first r (every_key e v) = refl
 
+wide_first : (r : Bool → Read Tree) (ts : Words) → after kinds.CloseStruct ts ≡ None → after kinds.Dots ts ≡ None → wide_struct_with r ts ≡ (declaration_with r ts >>= λ d. declarations_with r (length d.1) d.1 >>= λ ds. opening_at ds.1 >>= λ b. Ok ((d.0 ∷ ds.0, b.0), b.1))
+unfolding wide_struct_with
+wide_first r ts h k = rw (h, k) refl
+
+wide_field_first : (r : Bool → Read Tree) {l : Label} {m : FieldMark} {e : Tree} {ts us : Words} → SpellsField l m e ts us → wide_struct_with r ts ≡ (declaration_with r ts >>= λ d. declarations_with r (length d.1) d.1 >>= λ ds. opening_at ds.1 >>= λ b. Ok ((d.0 ∷ ds.0, b.0), b.1))
+wide_field_first r {ts = ts} (labelled bare_label m v) = wide_first r ts refl refl
+wide_field_first r {ts = ts} (labelled quoted_label m v) = wide_first r ts refl refl
+wide_field_first r {ts = ts} (every_key e v) = wide_first r ts refl refl
+
+another_open : {ts us : Words} → Comma ts us → IsOpen us → another_field ts ≡ Some us
+another_open explicit o = rw (o.not_struct_end, o.not_dots) refl
+another_open inserted o = rw (o.not_struct_end, o.not_dots) refl
+
 another_is : {l : Label} {m : FieldMark} {e : Tree} {ts us vs : Words} → Comma ts us → SpellsField l m e us vs → another_field ts ≡ Some us
 another_is explicit (labelled bare_label m v) = refl
 another_is explicit (labelled quoted_label m v) = refl
@@ -366,6 +220,14 @@ open_alone : (r : Bool → Read Tree) (p : ℕ) {ts us : Words} → ClosesStruct
 unfolding struct_with
 open_alone r p c = rw (struct_end_is c) refl
 
+empty_wide : (r : Bool → Read Tree) (p : ℕ) (ts : Words) → wide_struct_with r (close_struct p ∷ ts) ≡ Ok (([], false), ts)
+unfolding wide_struct_with
+empty_wide r p ts = refl
+
+wide_open_alone : (r : Bool → Read Tree) (p : ℕ) {ts us : Words} → ClosesStruct ts us → wide_struct_with r (dots p ∷ ts) ≡ Ok (([], true), us)
+unfolding wide_struct_with
+wide_open_alone r p c = rw (struct_end_is c) refl
+
 empty_list : (r : Bool → Read Tree) (p : ℕ) (ts : Words) → list_with r (close_list p ∷ ts) ≡ Ok (([], closed), ts)
 unfolding list_with
 empty_list r p ts = refl
@@ -396,6 +258,16 @@ fields_back : (fs : Fields) → fields_of (fields_in fs) ≡ fs
 fields_back no_field = refl
 fields_back (field l m e fs) = ap (field l m e) (fields_back fs)
 
+abbrev declarations_in : Declarations → List SeenDeclaration
+declarations_in no_declaration = []
+declarations_in (declared l m e ds) = field_seen (record { label = l; mark = m; value = e }) ∷ declarations_in ds
+declarations_in (embedded o e ds) = embedding_seen o e ∷ declarations_in ds
+
+declarations_back : (ds : Declarations) → declarations_of (declarations_in ds) ≡ ds
+declarations_back no_declaration = refl
+declarations_back (declared l m e ds) = ap (declared l m e) (declarations_back ds)
+declarations_back (embedded o e ds) = ap (embedded o e) (declarations_back ds)
+
 many_end : {A : Type 0} (skip : Words → Option Words) (p : Read A) (n : ℕ) (ts : Words) → skip ts ≡ None → many skip p n ts ≡ Ok ([], ts)
 unfolding many
 many_end skip p zero ts h = refl
@@ -404,6 +276,17 @@ many_end skip p (suc n) ts h = rw h refl
 many_next : {A : Type 0} (skip : Words → Option Words) (p : Read A) (n : ℕ) {x : A} {xs : List A} {ts us vs r : Words} → skip ts ≡ Some us → p us ≡ Ok (x, vs) → many skip p n vs ≡ Ok (xs, r) → many skip p (suc n) ts ≡ Ok (x ∷ xs, r)
 unfolding many
 many_next skip p n h k m = rw (h, k, m) refl
+
+literal_inside : (p : ℕ) (ds : Declarations) (b : Bool) {e : Tree} {d : ℕ} → e ≡ literal p ds b → inside e ≤ d → inside_declarations ds ≤ d
+literal_inside p ds b is h = omega (arith, h, ap inside is, inside_literal p ds b)
+
+field_declared : (r : Bool → Read Tree) {l : Label} {m : FieldMark} {e : Tree} {ts us : Words} → SpellsField l m e ts us → field_with r ts ≡ Ok (record { label = l; mark = m; value = e }, us) → declaration_with r ts ≡ Ok (field_seen (record { label = l; mark = m; value = e }), us)
+unfolding declaration_with
+field_declared r f h = rw (begins_label f, h) refl
+
+expr_embedded : (d : ℕ) (ts : Words) {o : ℕ} {e : Tree} {us : Words} → o ≡ start_at ts → begins_field ts ≡ false → expr_with (inner d) ts ≡ Ok (e, us) → declaration_with (inner (suc d)) ts ≡ Ok (embedding_seen o e, us)
+unfolding declaration_with inner
+expr_embedded d ts s n h = rw (n, h, s) refl
 
 -- ---- the whole grammar
 
@@ -453,6 +336,7 @@ mutual
   read_operand (paren_is e c) zero h = let never : ⊥ = omega (arith, h) in absurd never
   read_operand (paren_is e c) (suc d) h = rw (read_expr e d (omega (arith, h)) (quiet_closes_paren c), paren_end_is c) refl
   read_operand (struct_is {fs = fs} s) d h = rw (read_struct s d h, fields_back fs) refl
+  read_operand (wide_struct_is {p} {ds} {b} is s) d h = rw (read_wide_struct s d (literal_inside p ds b is h), declarations_back ds, is) refl
   read_operand (list_is {es = es} s) d h = rw (read_list s d h, trees_back es) refl
 
   read_struct : {fs : Fields} {b : Bool} {ts r : Words} → SpellsStruct fs b ts r → (d : ℕ) → inside_fields fs ≤ d → struct_with (inner d) ts ≡ Ok ((fields_in fs, b), r)
@@ -464,6 +348,27 @@ mutual
   read_fields (no_more_fields {r}) d n h k q e = many_end another_field (field_with (inner d)) n r e
   read_fields (next_field c f fs) d zero h k q e = let never : ⊥ = omega (arith, shorter_comma c) in absurd never
   read_fields (next_field c f fs) d (suc n) h k q e = many_next another_field (field_with (inner d)) n (another_is c f) (read_field f d (max_left _ _ h) (quiet_fields fs q)) (read_fields fs d n (max_right _ _ h) (omega (arith, shorter_comma c, no_longer (of_field f))) q e)
+
+  read_wide_struct : {ds : Declarations} {b : Bool} {ts r : Words} → SpellsWideStruct ds b ts r → (d : ℕ) → inside_declarations ds ≤ d → wide_struct_with (inner d) ts ≡ Ok ((declarations_in ds, b), r)
+  read_wide_struct (no_declarations {p} {r}) d h = empty_wide (inner d) p r
+  read_wide_struct (wide_dots_alone {p} c) d h = wide_open_alone (inner d) p c
+  read_wide_struct (some_declarations (a_field {us = us} f m) o) d h = rw (wide_field_first (inner d) f, field_declared (inner d) f (read_field f d (max_left _ _ h) (quiet_more m (quiet_opening o))), read_more m d (length us) (max_right _ _ h) (omega arith) (quiet_opening o) (no_other_field o), opening_is o) refl
+  read_wide_struct (some_declarations (an_embedding s e m) o) zero h = let none_in = max_left _ _ h in let never : ⊥ = omega (arith, none_in) in absurd never
+  read_wide_struct (some_declarations (an_embedding {e = x} {ts = ts} {us = us} s e m) o) (suc d) h =
+      let first : suc (inside x) ≤ suc d = max_left _ _ h in
+      let begins = expr_open e in
+      let q = quiet_more m (quiet_opening o) in
+      rw (wide_first (inner (suc d)) ts begins.no_struct_end begins.no_dots, expr_embedded d _ s (expr_no_field e q.no_label) (read_expr e d (omega (arith, first)) q), read_more m (suc d) (length us) (max_right _ _ h) (omega arith) (quiet_opening o) (no_other_field o), opening_is o) refl
+
+  read_more : {ds : Declarations} {ts r : Words} → SpellsMore ds ts r → (d n : ℕ) → inside_declarations ds ≤ d → length ts ≤ n → Quiet r → another_field r ≡ None → declarations_with (inner d) n ts ≡ Ok (declarations_in ds, r)
+  read_more (no_more {r}) d n h k q e = many_end another_field (declaration_with (inner d)) n r e
+  read_more (next_declaration c x) d zero h k q e = let never : ⊥ = omega (arith, shorter_comma c) in absurd never
+  read_more (next_declaration c (a_field f m)) d (suc n) h k q e = many_next another_field (declaration_with (inner d)) n (another_is c f) (field_declared (inner d) f (read_field f d (max_left _ _ h) (quiet_more m q))) (read_more m d n (max_right _ _ h) (omega (arith, shorter_comma c, no_longer (of_field f))) q e)
+  read_more (next_declaration c (an_embedding s x m)) zero (suc n) h k q e = let none_in = max_left _ _ h in let never : ⊥ = omega (arith, none_in) in absurd never
+  read_more (next_declaration c (an_embedding {e = y} s x m)) (suc d) (suc n) h k q e =
+      let first : suc (inside y) ≤ suc d = max_left _ _ h in
+      let l = quiet_more m q in
+      many_next another_field (declaration_with (inner (suc d))) n (another_open c (expr_open x)) (expr_embedded d _ s (expr_no_field x l.no_label) (read_expr x d (omega (arith, first)) l)) (read_more m (suc d) n (max_right _ _ h) (omega (arith, shorter_comma c, no_longer (of_expr x))) q e)
 
   read_list : {es : Trees} {end : End} {ts r : Words} → SpellsList es end ts r → (d : ℕ) → max (inside_elements es) (inside_end end) ≤ d → list_with (inner d) ts ≡ Ok ((trees_in es, end), r)
   read_list (no_elements {p} {r}) d h = empty_list (inner d) p r

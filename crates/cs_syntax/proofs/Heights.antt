@@ -1,15 +1,16 @@
 -- Heights, one by one.
-use Rattle.std.proofs.Common.{◌≡◌, ℕ, ◌+◌, ◌-◌, suc, zero, ◌<◌, ◌≤◌, List, [], ◌∷◌, length, drop, get_or, drop-cons, true, false, refl, ap, sym, ◌∙◌, arith}
+use Rattle.std.proofs.Common.{◌≡◌, ℕ, ◌+◌, ◌-◌, suc, zero, ◌<◌, ◌≤◌, List, [], ◌∷◌, map, length, drop, get_or, drop-cons, true, false, refl, ap, sym, ◌∙◌, arith}
 use Rattle.std.proofs.Math.Numerals.{add-one}
 use Rattle.std.proofs.lemmas.List.{drop_all}
 use Rattle.std.proofs.lemmas.Bool.Decides.{nat_tests}
 use Rattle.std.specs.Prelude.{max, nat_le, ◌&&◌}
+use Rattle.cs_grammar.specs.declared.ast.Declaration.{Declaration}
 use Rattle.cs_grammar.specs.declared.ast.Field.{Field}
 use Rattle.cs_grammar.specs.Tree as T
 use Rattle.cs_grammar.specs.Tree.{Tree}
-use Rattle.cs_grammar.specs.View.{expr_view, fields_view}
+use Rattle.cs_grammar.specs.View.{expr_view, fields_view, SeenDeclaration, field_seen, embedding_seen, declarations_of, declaration_view, declarations_view}
 use Rattle.cs_grammar.proofs.Views.{view-value}
-use Rattle.cs_grammar.specs.Height.{height, height_all, height_fields, height_end}
+use Rattle.cs_grammar.specs.Height.{height, height_all, height_fields, height_declarations, height_end, declaration_height}
 
 max_within : (m n k : ℕ) → nat_le m k ≡ true → nat_le (max m n) k ≡ nat_le n k
 max_within m n k h = grind (arith, nat_tests)
@@ -47,6 +48,13 @@ module _ {X : Type 0} (one : X → ℕ) (all : List X → ℕ) (nothing : all []
 pub field_parts : (f : Field) (fs : List Field) → height_fields (fields_view (f ∷ fs)) ≡ max (height (expr_view f.value)) (height_fields (fields_view fs))
 field_parts f fs = ap (λ e. max (height e) (height_fields (fields_view fs))) (view-value f)
 
+seen_parts : (d : SeenDeclaration) (ds : List SeenDeclaration) → height_declarations (declarations_of (d ∷ ds)) ≡ max (declaration_height d) (height_declarations (declarations_of ds))
+seen_parts (field_seen f) ds = refl
+seen_parts (embedding_seen o e) ds = refl
+
+pub declaration_parts : (d : Declaration) (ds : List Declaration) → height_declarations (declarations_view (d ∷ ds)) ≡ max (declaration_height (declaration_view d)) (height_declarations (declarations_view ds))
+declaration_parts d ds = seen_parts (declaration_view d) (map declaration_view ds)
+
 one_higher : (n : ℕ) → nat_le (suc n) 0 ≡ false
 one_higher n = grind (arith, nat_tests)
 
@@ -61,6 +69,7 @@ has_height (T.paren e) = one_higher (height e)
 has_height (T.struct o fs b) = one_higher (height_fields fs)
 has_height (T.list es end) = one_higher (max (height_all es) (height_end end))
 has_height (T.wide (T.marked o e)) = has_height e
+has_height (T.wide (T.merged o ds b)) = one_higher (height_declarations ds)
 
 pub no_height : (e : Tree) (k : ℕ) → k ≡ 0 → nat_le (height e) k ≡ false
 no_height e k is = ap (λ n. nat_le (height e) n) is ∙ has_height e

@@ -1,10 +1,11 @@
 -- In the words that a file without `[string]` spells, no `]` is directly before a colon or the mark of a label.
-use Rattle.std.proofs.Common.{◌≡◌, ℕ, ℤ, Bool, true, false, ◌&&◌, List, [], ◌∷◌, Option, refl}
+use Rattle.std.proofs.Common.{◌≡◌, ℕ, ℤ, Bool, true, false, ◌&&◌, List, [], ◌∷◌, Option, Some, None, refl, subst}
 use Rattle.std.specs.List.{AllByRecursion}
+use Rattle.std.specs.Option.{option_map}
 use Rattle.cs_grammar.specs.declared.ast.FieldMark.{FieldMark}
-use Rattle.cs_grammar.specs.Labels.{HasLabel, IsLabelled, AreLabelled, AreLabelledFields, IsLabelledEnd, IsLabelledFile}
-use Rattle.cs_grammar.specs.Spells.{Comma, explicit, inserted, ClosesParen, paren_here, paren_after, ClosesList, list_here, list_after, ClosesStruct, struct_here, struct_after, SpellsNumber, positive, negative, SpellsBound, limit_is, other_number, other_text, other_null, SpellsLabel, bare_label, quoted_label, SpellsMark, regular, optional, required, SpellsOpening, unopened, opened, SpellsValue, long, short, SpellsField, labelled, every_key, SpellsExpr, one_branch, disjunction_is, SpellsBars, no_bar, a_bar, SpellsBranch, unmarked, marked_is, SpellsConj, one_operand, conjunction_is, SpellsAmps, no_amp, an_amp, SpellsOperand, top_is, bottom_is, reference_is, name_is, number_is, text_is, bound_is, paren_is, struct_is, list_is, SpellsStruct, no_fields, dots_alone, fields, SpellsFields, no_more_fields, next_field, SpellsList, no_elements, rest_alone, elements, SpellsElements, no_more_elements, next_element, SpellsEnd, closed_is, rest_is, SpellsRest, any_is, each_is, SpellsDefinition, defined, SpellsDefinitions, no_definition, next_definition, SpellsPackage, no_clause, clause, SpellsFile, spelled}
-use Rattle.cs_grammar.specs.Tree.{Label, Tree, Trees, Fields, End, DefinitionTree, body, FileTree}
+use Rattle.cs_grammar.specs.Labels.{HasLabel, IsLabelled, AreLabelled, AreLabelledFields, AreLabelledDeclarations, IsLabelledEnd, IsLabelledFile}
+use Rattle.cs_grammar.specs.Spells.{fields_alone, literal_if, literal, Comma, explicit, inserted, ClosesParen, paren_here, paren_after, ClosesList, list_here, list_after, ClosesStruct, struct_here, struct_after, SpellsNumber, positive, negative, SpellsBound, limit_is, other_number, other_text, other_null, SpellsLabel, bare_label, quoted_label, SpellsMark, regular, optional, required, SpellsOpening, unopened, opened, SpellsValue, long, short, SpellsField, labelled, every_key, SpellsExpr, one_branch, disjunction_is, SpellsBars, no_bar, a_bar, SpellsBranch, unmarked, marked_is, SpellsConj, one_operand, conjunction_is, SpellsAmps, no_amp, an_amp, SpellsOperand, top_is, bottom_is, reference_is, name_is, number_is, text_is, bound_is, paren_is, struct_is, list_is, wide_struct_is, SpellsWideStruct, no_declarations, wide_dots_alone, some_declarations, SpellsDeclarations, a_field, an_embedding, SpellsMore, no_more, next_declaration, SpellsStruct, no_fields, dots_alone, fields, SpellsFields, no_more_fields, next_field, SpellsList, no_elements, rest_alone, elements, SpellsElements, no_more_elements, next_element, SpellsEnd, closed_is, rest_is, SpellsRest, any_is, each_is, SpellsDefinition, defined, SpellsDefinitions, no_definition, next_definition, SpellsPackage, no_clause, clause, SpellsFile, spelled}
+use Rattle.cs_grammar.specs.Tree.{Label, Tree, Trees, Fields, field, Declarations, no_declaration, declared, embedded, End, DefinitionTree, body, FileTree}
 use Rattle.cs_grammar.specs.Words.{Word, Words, close_list, colon, question, bang}
 
 -- what goes on behind a label: a colon, or a mark
@@ -74,6 +75,28 @@ of_opening : {b : Bool} {ts r : Words} → SpellsOpening b ts r → Apart r → 
 of_opening (unopened c) h = of_struct_end c h
 of_opening (opened c d) h = of_comma c (refl, (of_struct_end d h).apart)
 
+-- ---- literals of the wide profile
+
+alone_labelled : (ds : Declarations) (fs : Fields) → fields_alone ds ≡ Some fs → AreLabelledFields fs → AreLabelledDeclarations ds
+alone_labelled no_declaration fs is h = tt
+alone_labelled (declared l m e ds) fs is h = by (λ gs k parts. alone_labelled ds gs k parts) (fields_alone ds) refl is
+  where
+    by : ((gs : Fields) → fields_alone ds ≡ Some gs → AreLabelledFields gs → AreLabelledDeclarations ds) → (o : Option Fields) → fields_alone ds ≡ o → option_map (field l m e) o ≡ Some fs → AreLabelledDeclarations (declared l m e ds)
+    by again None k made = absurd cc
+    by again (Some gs) k made =
+        let same : fs ≡ field l m e gs = cc in
+        let parts : AreLabelledFields (field l m e gs) = subst AreLabelledFields same h in
+        (parts.0, parts.1, again gs k parts.2)
+alone_labelled (embedded o e ds) fs is h = absurd cc
+
+-- a literal has the labels of its declarations
+literal_labelled : (o : ℕ) (ds : Declarations) (b : Bool) → IsLabelled (literal o ds b) → AreLabelledDeclarations ds
+literal_labelled o ds b h = by (fields_alone ds) refl h
+  where
+    by : (x : Option Fields) → fields_alone ds ≡ x → IsLabelled (literal_if o ds b x) → AreLabelledDeclarations ds
+    by None is k = k
+    by (Some fs) is k = alone_labelled ds fs is k
+
 -- ---- values
 
 mutual
@@ -116,6 +139,20 @@ mutual
   of_operand (paren_is e c) is h = record { quiet = refl; apart = (refl, (of_expr e is (of_paren_end c h.apart)).apart) }
   of_operand (struct_is s) is h = record { quiet = refl; apart = (refl, (of_struct s is h).apart) }
   of_operand (list_is s) is h = record { quiet = refl; apart = (refl, (of_list s is.0 is.1 h).apart) }
+  of_operand (wide_struct_is {p} {ds} {b} e s) is h = record { quiet = refl; apart = (refl, (of_wide_struct s (literal_labelled p ds b (subst IsLabelled e is)) h).apart) }
+
+  of_wide_struct : {ds : Declarations} {b : Bool} {ts r : Words} → SpellsWideStruct ds b ts r → AreLabelledDeclarations ds → Follows r → Follows ts
+  of_wide_struct no_declarations is h = record { quiet = refl; apart = (refl, h.apart) }
+  of_wide_struct (wide_dots_alone c) is h = record { quiet = refl; apart = (refl, (of_struct_end c h.apart).apart) }
+  of_wide_struct (some_declarations d o) is h = of_declarations d is (of_opening o h.apart)
+
+  of_declarations : {ds : Declarations} {ts r : Words} → SpellsDeclarations ds ts r → AreLabelledDeclarations ds → Follows r → Follows ts
+  of_declarations (a_field f m) is h = of_field f is.0 is.1 (of_more m is.2 h)
+  of_declarations (an_embedding o e m) is h = of_expr e is.0 (of_more m is.1 h)
+
+  of_more : {ds : Declarations} {ts r : Words} → SpellsMore ds ts r → AreLabelledDeclarations ds → Follows r → Follows ts
+  of_more no_more is h = h
+  of_more (next_declaration c d) is h = of_comma c (of_declarations d is h).apart
 
   of_struct : {fs : Fields} {b : Bool} {ts r : Words} → SpellsStruct fs b ts r → AreLabelledFields fs → Follows r → Follows ts
   of_struct no_fields is h = record { quiet = refl; apart = (refl, h.apart) }

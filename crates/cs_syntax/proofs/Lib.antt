@@ -6,8 +6,9 @@
 pub mod WordKinds
 pub mod QuotedTexts
 pub mod Reader
--- completeness, with the lists that a label's bracket begins
+-- completeness, with the lists that a label's bracket begins, and what begins and follows an expression
 pub mod BracketLabels
+pub mod Boundaries
 pub mod Completeness
 -- soundness, faults, and what the call answers
 pub mod Soundness
@@ -20,12 +21,15 @@ pub mod LabelledWords
 pub mod EarlierNesting
 pub mod Depths
 pub mod Heights
+pub mod Declared
 -- what the profiles have to do with each other
 pub mod TakenTokens
-pub mod StarlessWords
+pub mod DefaultWords
+pub mod WideWords
 pub mod UsedWords
 -- samples
 pub mod GrammarSamples
 pub mod Samples
 pub mod EarlierSamples
 pub mod ProfileSamples
+pub mod EmbeddingSamples

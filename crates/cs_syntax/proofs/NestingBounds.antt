@@ -1,14 +1,14 @@
 -- How many values of a spelled tree are inside one another is bounded by how deep its words nest.
-use Rattle.std.proofs.Common.{◌≡◌, ℕ, suc, ◌+◌, ◌≤◌, ℤ, List, [], ◌∷◌, Bool, true, false, Option, Some, None, cond, refl, ◌∙◌, subst, arith}
+use Rattle.std.proofs.Common.{◌≡◌, ℕ, suc, ◌+◌, ◌≤◌, ℤ, List, [], ◌∷◌, Bool, true, false, Option, Some, None, cond, refl, sym, ap, ◌∙◌, subst, arith}
 use Rattle.std.proofs.lemmas.Bool.Decides.{nat_tests}
 use Rattle.std.specs.Prelude.{max, ◌||◌, codes}
-use Rattle.std.specs.Option.{unwrap_or}
+use Rattle.std.specs.Option.{option_map, unwrap_or}
 use Rattle.std.specs.Str.{bytes_eq}
 use Rattle.cs_grammar.specs.declared.ast.FieldMark.{FieldMark}
 use Rattle.cs_grammar.specs.Words.{Word, Words, name, quoted, open_list, close_list, comma, nl, colon}
 use Rattle.cs_grammar.specs.Tree as T
-use Rattle.cs_grammar.specs.Tree.{Label, Tree, Trees, none, more, Fields, no_field, field, End, DefinitionTree, body, FileTree, definitions}
-use Rattle.cs_grammar.specs.Spells.{is_null, is_string, literal_of, Comma, explicit, inserted, ClosesParen, paren_here, paren_after, ClosesList, list_here, list_after, ClosesStruct, struct_here, struct_after, SpellsNumber, positive, negative, SpellsBound, limit_is, other_number, other_text, other_null, SpellsLabel, bare_label, quoted_label, SpellsMark, regular, optional, required, SpellsOpening, unopened, opened, SpellsValue, long, short, SpellsField, labelled, every_key, SpellsExpr, one_branch, disjunction_is, SpellsBars, no_bar, a_bar, SpellsBranch, unmarked, marked_is, SpellsConj, one_operand, conjunction_is, SpellsAmps, no_amp, an_amp, SpellsOperand, top_is, bottom_is, reference_is, name_is, number_is, text_is, bound_is, paren_is, struct_is, list_is, SpellsStruct, no_fields, dots_alone, fields, SpellsFields, no_more_fields, next_field, SpellsList, no_elements, rest_alone, elements, SpellsElements, no_more_elements, next_element, SpellsEnd, closed_is, rest_is, SpellsRest, any_is, each_is, defined, SpellsDefinitions, no_definition, next_definition, SpellsPackage, no_clause, clause, SpellsFile, spelled}
+use Rattle.cs_grammar.specs.Tree.{Label, Tree, Trees, none, more, Fields, no_field, field, Declarations, no_declaration, declared, embedded, End, DefinitionTree, body, FileTree, definitions}
+use Rattle.cs_grammar.specs.Spells.{is_null, is_string, literal_of, fields_alone, literal_if, literal, Comma, explicit, inserted, ClosesParen, paren_here, paren_after, ClosesList, list_here, list_after, ClosesStruct, struct_here, struct_after, SpellsNumber, positive, negative, SpellsBound, limit_is, other_number, other_text, other_null, SpellsLabel, bare_label, quoted_label, SpellsMark, regular, optional, required, SpellsOpening, unopened, opened, SpellsValue, long, short, SpellsField, labelled, every_key, SpellsExpr, one_branch, disjunction_is, SpellsBars, no_bar, a_bar, SpellsBranch, unmarked, marked_is, SpellsConj, one_operand, conjunction_is, SpellsAmps, no_amp, an_amp, SpellsOperand, top_is, bottom_is, reference_is, name_is, number_is, text_is, bound_is, paren_is, struct_is, list_is, wide_struct_is, SpellsWideStruct, no_declarations, wide_dots_alone, some_declarations, SpellsDeclarations, a_field, an_embedding, SpellsMore, no_more, next_declaration, SpellsStruct, no_fields, dots_alone, fields, SpellsFields, no_more_fields, next_field, SpellsList, no_elements, rest_alone, elements, SpellsElements, no_more_elements, next_element, SpellsEnd, closed_is, rest_is, SpellsRest, any_is, each_is, defined, SpellsDefinitions, no_definition, next_definition, SpellsPackage, no_clause, clause, SpellsFile, spelled}
 use Rattle.cs_syntax.specs.Nesting.{OpenLevels, ends_with_chained_label, is_short, counted_if, behind, nesting_at, nesting_from, nesting}
 use Rattle.cs_syntax.proofs.NestingCounts.{nesting-cons}
 
@@ -27,6 +27,12 @@ abbrev mutual
 
   pub inside_wide : T.Wide → ℕ
   inside_wide (T.marked o e) = inside e
+  inside_wide (T.merged o ds b) = inside_declarations ds
+
+  pub inside_declarations : Declarations → ℕ
+  inside_declarations no_declaration = 0
+  inside_declarations (declared l m e ds) = max (suc (inside e)) (inside_declarations ds)
+  inside_declarations (embedded o e ds) = max (suc (inside e)) (inside_declarations ds)
 
   pub inside_all : Trees → ℕ
   inside_all none = 0
@@ -52,6 +58,23 @@ inside_definitions (d ∷ ds) = max (suc (inside (body d))) (inside_definitions 
 
 abbrev pub inside_file : FileTree → ℕ
 inside_file f = inside_definitions (definitions f)
+
+-- a literal has inside what its declarations have, whether one is an embedding or none
+inside_alone : (ds : Declarations) (fs : Fields) → fields_alone ds ≡ Some fs → inside_fields fs ≡ inside_declarations ds
+inside_alone no_declaration fs is = let none_is : no_field ≡ fs = cc in rw (sym none_is) refl
+inside_alone (declared l m e ds) fs is = by (λ gs h. inside_alone ds gs h) (fields_alone ds) refl is
+  where
+    by : ((gs : Fields) → fields_alone ds ≡ Some gs → inside_fields gs ≡ inside_declarations ds) → (o : Option Fields) → fields_alone ds ≡ o → option_map (field l m e) o ≡ Some fs → inside_fields fs ≡ inside_declarations (declared l m e ds)
+    by again None h k = absurd cc
+    by again (Some gs) h k = let made : field l m e gs ≡ fs = cc in rw (sym made, again gs h) refl
+inside_alone (embedded o e ds) fs is = absurd cc
+
+pub inside_literal : (o : ℕ) (ds : Declarations) (b : Bool) → inside (literal o ds b) ≡ inside_declarations ds
+inside_literal o ds b = by (fields_alone ds) refl
+  where
+    by : (x : Option Fields) → fields_alone ds ≡ x → inside (literal_if o ds b x) ≡ inside_declarations ds
+    by None h = refl
+    by (Some fs) h = inside_alone ds fs h
 
 -- ---- numbers
 
@@ -249,6 +272,7 @@ mutual
   operand_low {n = n} {ns = ns} (paren_is e c) h = let x = expr_low e (pass h) in (one_in _ n ns x.0, paren_goes c x.1.1)
   operand_low (struct_is s) h = struct_low s refl (pass h)
   operand_low (list_is s) h = list_low s (pass h)
+  operand_low (wide_struct_is {p} {ds} {b} e s) h = let x = wide_struct_low s refl (pass h) in (omega (arith, x.0, ap inside e, inside_literal p ds b), x.1)
 
   struct_low : {k n : ℕ} {fs : Fields} {b : Bool} {ws ts r : Words} {ns : OpenLevels} → SpellsStruct fs b ts r → begins_colon ws ≡ false → Runs k ws (0 ∷ n ∷ ns) ts → Fits k (inside_fields fs) (n ∷ ns) × Goes k (n ∷ ns) r
   struct_low {n = n} {ns = ns} no_fields f h = (around 0 n ns h, (_, pass h))
@@ -258,6 +282,19 @@ mutual
   fields_low : {k m n : ℕ} {fs : Fields} {ws ts r : Words} {ns : OpenLevels} → SpellsFields fs ts r → Runs k ws (m ∷ n ∷ ns) ts → Fits k (inside_fields fs) (n ∷ ns) × Leaves k (n ∷ ns) r
   fields_low {m = m} {n = n} {ns = ns} no_more_fields h = (around m n ns h, (m, (_, h)))
   fields_low {n = n} {ns = ns} (next_field c v fs) h = let g = comma_goes c h in let x = field_low v g.1 g.2 in let y = fields_low fs x.1.1.1 in (max_plus _ _ _ (one_in _ n ns x.0) y.0, y.1)
+
+  wide_struct_low : {k n : ℕ} {ds : Declarations} {b : Bool} {ws ts r : Words} {ns : OpenLevels} → SpellsWideStruct ds b ts r → begins_colon ws ≡ false → Runs k ws (0 ∷ n ∷ ns) ts → Fits k (inside_declarations ds) (n ∷ ns) × Goes k (n ∷ ns) r
+  wide_struct_low {n = n} {ns = ns} no_declarations f h = (around 0 n ns h, (_, pass h))
+  wide_struct_low {n = n} {ns = ns} (wide_dots_alone c) f h = (around 0 n ns h, struct_goes c (pass h))
+  wide_struct_low (some_declarations d o) f h = let x = declarations_low d f h in (x.0, opening_goes o x.1.1.1)
+
+  declarations_low : {k n : ℕ} {ds : Declarations} {ws ts r : Words} {ns : OpenLevels} → SpellsDeclarations ds ts r → begins_colon ws ≡ false → Runs k ws (0 ∷ n ∷ ns) ts → Fits k (inside_declarations ds) (n ∷ ns) × Leaves k (n ∷ ns) r
+  declarations_low {n = n} {ns = ns} (a_field v m) f h = let x = field_low v f h in let y = more_low m x.1.1.1 in (max_plus _ _ _ (one_in _ n ns x.0) y.0, y.1)
+  declarations_low {n = n} {ns = ns} (an_embedding o e m) f h = let x = expr_low e h in let y = more_low m x.1.1 in (max_plus _ _ _ (one_in _ n ns x.0) y.0, y.1)
+
+  more_low : {k m n : ℕ} {ds : Declarations} {ws ts r : Words} {ns : OpenLevels} → SpellsMore ds ts r → Runs k ws (m ∷ n ∷ ns) ts → Fits k (inside_declarations ds) (n ∷ ns) × Leaves k (n ∷ ns) r
+  more_low {m = m} {n = n} {ns = ns} no_more h = (around m n ns h, (m, (_, h)))
+  more_low (next_declaration c d) h = let g = comma_goes c h in declarations_low d g.1 g.2
 
   list_low : {k n : ℕ} {es : Trees} {end : End} {ws ts r : Words} {ns : OpenLevels} → SpellsList es end ts r → Runs k ws (0 ∷ n ∷ ns) ts → Fits k (max (inside_elements es) (inside_end end)) (n ∷ ns) × Goes k (n ∷ ns) r
   list_low {n = n} {ns = ns} no_elements h = (around 0 n ns h, (_, pass h))

@@ -8,7 +8,7 @@ use Rattle.cs_grammar.specs.declared.kind.Kind.{Kind}
 use Rattle.cs_grammar.specs.declared.kind.Kind.TheVariants as kinds
 use Rattle.cs_syntax.specs.declared.parser.nesting.PrecedingToken.{PrecedingToken}
 use Rattle.cs_syntax.specs.declared.parser.nesting.PrecedingToken.TheVariants as before
-use Rattle.cs_grammar.specs.Words.{Word, Words, name, quoted, open_struct, close_struct, open_list, close_list, open_paren, close_paren, comma, nl, colon, question, bang, relation}
+use Rattle.cs_grammar.specs.Words.{Word, Words, name, quoted, open_struct, open_wide, close_struct, open_list, close_list, open_paren, close_paren, comma, nl, colon, question, bang, relation}
 use Rattle.cs_grammar.specs.Spells.{is_string}
 use Rattle.cs_syntax.specs.Reading.{word_kind, names_string}
 use Rattle.cs_syntax.specs.Nesting.{ends_with_chained_label, ends_with_chained_string, is_short, closed, counted_if, behind, nesting_at, nesting_from}
@@ -259,6 +259,7 @@ colon_is false k n ns is = state_is n (n + base ns + k) ns (omega (arith, is))
 
 levels_is : (ws : Words) (w : Word) (n : ℕ) (ns : List ℕ) → levels_next (before_of ws) (word_kind w) (state (n ∷ ns)) ≡ state (behind ws w (n ∷ ns))
 levels_is ws (open_struct o) n ns = open_is n ns
+levels_is ws (open_wide o) n ns = open_is n ns
 levels_is ws (open_list o) n ns = open_is n ns
 levels_is ws (open_paren o) n ns = open_is n ns
 levels_is ws (close_struct o) n ns = close_is n ns

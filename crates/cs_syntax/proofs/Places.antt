@@ -17,11 +17,11 @@ use Rattle.cs_grammar.specs.Cut.{Lexeme, lexeme, comma_if, Cut, blank, new_line,
 use Rattle.cs_grammar.specs.Stuck.{Stuck, no_token, too_large, past_blank, past_line, past_comment, past_token}
 use Rattle.cs_grammar.specs.Words as W
 use Rattle.std.specs.Prelude.{◌&&◌, ◌||◌, not, cond}
-use Rattle.cs_grammar.specs.Words.{Word, Words, start, name, quoted, definition_name, numeral, top_mark, bottom_mark, open_paren, open_struct, open_list, relation, unequal, minus}
+use Rattle.cs_grammar.specs.Words.{Word, Words, start, name, quoted, definition_name, numeral, top_mark, bottom_mark, open_paren, open_struct, open_wide, open_list, relation, unequal, minus}
 use Rattle.cs_grammar.specs.Tree.{Tree, atom, not_integer, DefinitionTree, FileTree, file}
 use Rattle.cs_grammar.specs.Spells.{is_reserved, is_null, literal_of}
 use Rattle.cs_grammar.specs.TokenWords.{words}
-use Rattle.cs_syntax.specs.Reading.{◌>>=◌, Read, word_kind, begins_with, begins_comma, fault_at, behind_if, after, after_comma, or_fault, beyond, comma_at, close_at, paren_end, expected, signed, number_or, number_at, name_or, null_or, bound_at, unequal_at, integer_at, unbracketed_at, or_more, many, another_field, another_element, opening, opening_if, opening_at, rest_behind, may_end, label_at, mark_if, mark_at, begins_string, string_at, every_key_at, head_if, head_at, field_with, fields_with, struct_if, struct_with, rest_if, rest_with, end_if, end_with, elements_with, list_if, list_with, operand_with, amps_with, conj_with, branch_if, branch_with, bars_with, expr_with, value_if, begins_field, inner, definition_at, line_at, before_end, definitions_at, is_clause, clause_at, package_if, package_at, whole, file_with, file_at}
+use Rattle.cs_syntax.specs.Reading.{◌>>=◌, Read, word_kind, begins_with, begins_comma, fault_at, behind_if, after, after_comma, or_fault, beyond, comma_at, close_at, paren_end, expected, signed, number_or, number_at, name_or, null_or, bound_at, unequal_at, integer_at, unbracketed_at, or_more, many, another_field, another_element, opening, opening_if, opening_at, rest_behind, may_end, label_at, mark_if, mark_at, begins_string, string_at, every_key_at, head_if, head_at, field_with, fields_with, struct_if, struct_with, declaration_if, declaration_with, declarations_with, wide_struct_if, wide_struct_with, rest_if, rest_with, end_if, end_with, elements_with, list_if, list_with, operand_with, amps_with, conj_with, branch_if, branch_with, bars_with, expr_with, value_if, begins_field, inner, definition_at, line_at, before_end, definitions_at, is_clause, clause_at, package_if, package_at, whole, file_with, file_at}
 use Rattle.cs_syntax.specs.Place.{is_left_out, fault_if, Ends, same, past, IsFaultIn}
 use Rattle.cs_lexer.specs.Lexed.{IsRefusal}
 use Rattle.cs_syntax.specs.Refusal.{IsFileRefusalIn}
@@ -259,6 +259,23 @@ module _ (r : Bool → Read Tree) (h : (b : Bool) → IsGoing (r b)) where
       by None (Some us) g k = moved ts us (struct_if r ts None (Some us)) k.0 (then_to us (close_at kinds.CloseStruct us) _ (struct_end_goes us k.1) (λ vs l. (same, l)))
       by None None g k = then ts (field_with r ts) _ (field_goes ts e) (λ f l. then f.1 (fields_with r (length f.1) f.1) _ (many_goes another_field field_skips (field_with r) field_goes (length f.1) f.1 l) (λ fs m. then fs.1 (opening_at fs.1) _ (opening_goes fs.1 m) (λ b n. (same, n))))
 
+  declaration_goes : IsGoing (declaration_with r)
+  unfolding declaration_with
+  declaration_goes ts e = by (begins_field ts)
+    where
+      by : (b : Bool) → Goes ts (declaration_if r b ts)
+      by true = then ts (field_with r ts) _ (field_goes ts e) (λ x k. (same, k))
+      by false = then ts (r false ts) _ (h false ts e) (λ x k. (same, k))
+
+  wide_struct_goes : IsGoing (wide_struct_with r)
+  unfolding wide_struct_with
+  wide_struct_goes ts e = by (after kinds.CloseStruct ts) (after kinds.Dots ts) (after_goes kinds.CloseStruct refl ts e) (after_goes kinds.Dots refl ts e)
+    where
+      by : (o d : Option Words) → GoesBehind ts o → GoesBehind ts d → Goes ts (wide_struct_if r ts o d)
+      by (Some us) d g k = g
+      by None (Some us) g k = moved ts us (wide_struct_if r ts None (Some us)) k.0 (then_to us (close_at kinds.CloseStruct us) _ (struct_end_goes us k.1) (λ vs l. (same, l)))
+      by None None g k = then ts (declaration_with r ts) _ (declaration_goes ts e) (λ d l. then d.1 (declarations_with r (length d.1) d.1) _ (many_goes another_field field_skips (declaration_with r) declaration_goes (length d.1) d.1 l) (λ ds m. then ds.1 (opening_at ds.1) _ (opening_goes ds.1 m) (λ b n. (same, n))))
+
   rest_goes : IsGoing (rest_with r)
   unfolding rest_with
   rest_goes ts e = by (may_end ts)
@@ -288,6 +305,7 @@ module _ (r : Bool → Read Tree) (h : (b : Bool) → IsGoing (r b)) where
   unfolding operand_with
   operand_goes (open_paren o ∷ ts) (before e) = moved (open_paren o ∷ ts) ts (operand_with r (open_paren o ∷ ts)) (past same) (then ts (r false ts) _ (h false ts e) (λ x k. then_to x.1 (paren_end x.1) _ (paren_end_goes x.1 k) (λ us l. (same, l))))
   operand_goes (open_struct o ∷ ts) (before e) = moved (open_struct o ∷ ts) ts (operand_with r (open_struct o ∷ ts)) (past same) (then ts (struct_with r ts) _ (struct_goes ts e) (λ x k. (same, k)))
+  operand_goes (open_wide o ∷ ts) (before e) = moved (open_wide o ∷ ts) ts (operand_with r (open_wide o ∷ ts)) (past same) (then ts (wide_struct_with r ts) _ (wide_struct_goes ts e) (λ x k. (same, k)))
   operand_goes (open_list o ∷ ts) (before e) = moved (open_list o ∷ ts) ts (operand_with r (open_list o ∷ ts)) (past same) (then ts (list_with r ts) _ (list_goes ts e) (λ x k. (same, k)))
   operand_goes ts e = plain_goes ts e
 

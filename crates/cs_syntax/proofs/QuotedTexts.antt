@@ -17,7 +17,7 @@ use Rattle.cs_grammar.specs.declared.profile.Profile.TheVariants as profiles
 use Rattle.cs_grammar.specs.Taken.{wide_sort, taken}
 use Rattle.cs_grammar.specs.Cut.{Lexeme, lexeme, comma_if, Cut, blank, new_line, comment, token, finish}
 use Rattle.cs_grammar.specs.View.{lexemes_view}
-use Rattle.cs_grammar.specs.TokenWords.{mark_kind, kind_of}
+use Rattle.cs_grammar.specs.TokenWords.{mark_kind, wide_kind, kind_of}
 use Rattle.cs_lexer.specs.Quoted.{begins_quote, is_quoted, are_quoted}
 
 -- ---- what is a text
@@ -91,6 +91,11 @@ wide_quoted sorts.LeftOut t h = by (bytes_eq t (codes "*"))
     by : (b : Bool) → is_quoted (cond b sorts.Mark sorts.LeftOut) t ≡ true
     by true = refl
     by false = refl
+wide_quoted sorts.Mark t h = by (bytes_eq t (codes "{"))
+  where
+    by : (b : Bool) → is_quoted (cond b sorts.Wide sorts.Mark) t ≡ true
+    by true = refl
+    by false = refl
 wide_quoted s t h = h
 
 pub taken_quoted : (p : Profile) (ks : List Lexeme) → are_quoted ks ≡ true → are_quoted (taken p ks) ≡ true
@@ -137,9 +142,13 @@ mark_no_text t =
     unless (bytes_eq t (codes "*")) kinds.Star refl (
     record { is = refl }))))))))))))))))))))
 
+wide_no_text : (t : List ℕ) → OtherKind (wide_kind t)
+wide_no_text t = unless (bytes_eq t (codes "{")) kinds.OpenWide refl (record { is = refl })
+
 text_quoted : (s : Sort) (t : List ℕ) → kind_of s t ≡ kinds.Text → is_quoted s t ≡ true → begins_quote t ≡ true
 text_quoted sorts.Text t k h = h
 text_quoted sorts.Mark t k h = let never : true ≡ false = sym (ap is_text_kind k) ∙ (mark_no_text t).is in absurd cc
+text_quoted sorts.Wide t k h = let never : true ≡ false = sym (ap is_text_kind k) ∙ (wide_no_text t).is in absurd cc
 text_quoted s t k h = absurd cc
 
 -- a text among these tokens begins with a quote

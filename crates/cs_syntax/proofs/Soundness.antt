@@ -8,11 +8,11 @@ use Rattle.cs_grammar.specs.declared.kind.Kind.TheVariants as kinds
 use Rattle.cs_grammar.specs.declared.ast.FieldMark.{FieldMark}
 use Rattle.cs_grammar.specs.declared.ast.FieldMark.TheVariants.{Every}
 use Rattle.cs_grammar.specs.Atom as atoms
-use Rattle.cs_grammar.specs.Words.{Words, name, quoted, definition_name, top_mark, bottom_mark, numeral, open_paren, open_struct, open_list, close_paren, close_struct, close_list, comma, nl, colon, question, bang, amp, bar, dots, relation, unequal, minus, star, finish}
+use Rattle.cs_grammar.specs.Words.{Words, name, quoted, definition_name, top_mark, bottom_mark, numeral, open_paren, open_struct, open_wide, open_list, close_paren, close_struct, close_list, comma, nl, colon, question, bang, amp, bar, dots, relation, unequal, minus, star, finish}
 use Rattle.cs_grammar.specs.Tree.{Label, Tree, atom, not_integer, End, DefinitionTree, FileTree, file}
-use Rattle.cs_grammar.specs.View.{trees_of, fields_of, Seen}
-use Rattle.cs_grammar.specs.Spells.{is_reserved, is_null, is_package, is_string, every_label, start_at, literal_of, Comma, explicit, inserted, ClosesParen, paren_here, paren_after, ClosesList, list_here, list_after, ClosesStruct, struct_here, struct_after, SpellsNumber, positive, negative, SpellsBound, limit_is, other_number, other_text, other_null, SpellsLabel, bare_label, quoted_label, SpellsMark, regular, optional, required, SpellsOpening, unopened, opened, SpellsValue, long, short, SpellsField, labelled, every_key, SpellsExpr, one_branch, disjunction_is, SpellsBars, no_bar, a_bar, SpellsBranch, unmarked, marked_is, SpellsConj, one_operand, conjunction_is, SpellsAmps, no_amp, an_amp, SpellsOperand, top_is, bottom_is, reference_is, name_is, number_is, text_is, bound_is, paren_is, struct_is, list_is, SpellsStruct, no_fields, dots_alone, fields, SpellsFields, no_more_fields, next_field, SpellsList, no_elements, rest_alone, elements, SpellsElements, no_more_elements, next_element, SpellsEnd, closed_is, rest_is, SpellsRest, any_is, each_is, SpellsDefinition, defined, SpellsDefinitions, no_definition, next_definition, SpellsPackage, no_clause, clause, SpellsFile, spelled}
-use Rattle.cs_syntax.specs.Reading.{◌>>=◌, Read, expected, begins_with, behind_if, begins_comma, comma_at, close_at, paren_end, another_field, another_element, opening, opening_if, opening_at, rest_behind, may_end, signed, number_or, number_at, name_or, null_or, bound_at, unequal_at, integer_at, unbracketed_at, or_fault, or_more, many, label_at, mark_at, string_at, every_key_at, head_at, field_with, fields_with, struct_with, rest_if, rest_with, end_if, end_with, elements_with, list_with, operand_with, amps_with, conjunction_of, conj_with, branch_with, bars_with, disjunction_of, expr_with, value_if, begins_field, inner, definition_at, line_at, before_end, definitions_at, clause_at, package_if, package_at, whole, file_with, file_at}
+use Rattle.cs_grammar.specs.View.{trees_of, fields_of, Seen, declarations_of, SeenDeclaration, field_seen, embedding_seen}
+use Rattle.cs_grammar.specs.Spells.{is_reserved, is_null, is_package, is_string, every_label, start_at, literal_of, Comma, explicit, inserted, ClosesParen, paren_here, paren_after, ClosesList, list_here, list_after, ClosesStruct, struct_here, struct_after, SpellsNumber, positive, negative, SpellsBound, limit_is, other_number, other_text, other_null, SpellsLabel, bare_label, quoted_label, SpellsMark, regular, optional, required, SpellsOpening, unopened, opened, SpellsValue, long, short, SpellsField, labelled, every_key, SpellsExpr, one_branch, disjunction_is, SpellsBars, no_bar, a_bar, SpellsBranch, unmarked, marked_is, SpellsConj, one_operand, conjunction_is, SpellsAmps, no_amp, an_amp, SpellsOperand, top_is, bottom_is, reference_is, name_is, number_is, text_is, bound_is, paren_is, struct_is, list_is, wide_struct_is, SpellsWideStruct, no_declarations, wide_dots_alone, some_declarations, SpellsDeclarations, a_field, an_embedding, SpellsMore, no_more, next_declaration, SpellsStruct, no_fields, dots_alone, fields, SpellsFields, no_more_fields, next_field, SpellsList, no_elements, rest_alone, elements, SpellsElements, no_more_elements, next_element, SpellsEnd, closed_is, rest_is, SpellsRest, any_is, each_is, SpellsDefinition, defined, SpellsDefinitions, no_definition, next_definition, SpellsPackage, no_clause, clause, SpellsFile, spelled}
+use Rattle.cs_syntax.specs.Reading.{◌>>=◌, Read, expected, begins_with, behind_if, begins_comma, comma_at, close_at, paren_end, another_field, another_element, opening, opening_if, opening_at, rest_behind, may_end, signed, number_or, number_at, name_or, null_or, bound_at, unequal_at, integer_at, unbracketed_at, or_fault, or_more, many, label_at, mark_at, string_at, every_key_at, head_at, field_with, fields_with, struct_with, declaration_if, declaration_with, declarations_with, wide_struct_with, rest_if, rest_with, end_if, end_with, elements_with, list_with, operand_with, amps_with, conjunction_of, conj_with, branch_with, bars_with, disjunction_of, expr_with, value_if, begins_field, inner, definition_at, line_at, before_end, definitions_at, clause_at, package_if, package_at, whole, file_with, file_at}
 
 -- P of what was read and of what is left
 abbrev IfRead : {A : Type 0} → (A → Words → Type 0) → Result (A × Words) SyntaxFault → Type 0
@@ -309,6 +309,48 @@ module _ (r : Bool → Read Tree) (h : IsSound r) where
   struct_of (relation atoms.less p ∷ ts) = first_field_of (relation atoms.less p ∷ ts)
   struct_of ts = first_field_of ts
 
+  -- a field, or an embedding with where it begins
+  abbrev DeclarationOf : Words → SeenDeclaration → Words → Type 0
+  DeclarationOf ts (field_seen f) us = FieldOf ts f us
+  DeclarationOf ts (embedding_seen o e) us = (o ≡ start_at ts) × SpellsExpr e ts us
+
+  declaration_of : (ts : Words) → IfRead (DeclarationOf ts) (declaration_with r ts)
+  unfolding declaration_with
+  declaration_of ts = by (begins_field ts)
+    where
+      by : (b : Bool) → IfRead (DeclarationOf ts) (declaration_if r b ts)
+      by true = if_bind (FieldOf ts) (DeclarationOf ts) (field_with r ts) _ (field_of ts) (λ f us s. s)
+      by false = if_bind (λ e us. SpellsExpr e ts us) (DeclarationOf ts) (r false ts) _ (h.exprs ts) (λ e us s. (refl, s))
+
+  abbrev MoreOf : Words → List SeenDeclaration → Words → Type 0
+  MoreOf ts ds us = SpellsMore (declarations_of ds) ts us
+
+  declared_by : {ts us ws : Words} (d : SeenDeclaration) (ds : List SeenDeclaration) → DeclarationOf ts d us → MoreOf us ds ws → SpellsDeclarations (declarations_of (d ∷ ds)) ts ws
+  declared_by (field_seen f) ds s m = a_field s m
+  declared_by (embedding_seen o e) ds s m = an_embedding s.0 s.1 m
+
+  many_declarations_of : (n : ℕ) (ts : Words) → IfRead (MoreOf ts) (declarations_with r n ts)
+  unfolding many
+  many_declarations_of zero ts = no_more
+  many_declarations_of (suc n) ts = by (many_declarations_of n) (another_field ts) (comma_if (not (begins_with kinds.CloseStruct (drop 1 ts) || begins_with kinds.Dots (drop 1 ts))) ts)
+    where
+      by : ((us : Words) → IfRead (MoreOf us) (declarations_with r n us)) → (o : Option Words) → IfBehind (Comma ts) o → IfRead (MoreOf ts) (or_more (declaration_with r) (declarations_with r n) ts o)
+      by again None k = no_more
+      by again (Some us) c = if_bind (DeclarationOf us) (MoreOf ts) (declaration_with r us) _ (declaration_of us) (λ d vs s. if_bind (MoreOf vs) (MoreOf ts) (declarations_with r n vs) _ (again vs) (λ ds ws t. next_declaration c (declared_by d ds s t)))
+
+  abbrev WideStructOf : Words → List SeenDeclaration × Bool → Words → Type 0
+  WideStructOf ts x us = SpellsWideStruct (declarations_of x.0) x.1 ts us
+
+  first_declaration_of : (ts : Words) → IfRead (WideStructOf ts) (declaration_with r ts >>= λ d. declarations_with r (length d.1) d.1 >>= λ ds. opening_at ds.1 >>= λ b. Ok ((d.0 ∷ ds.0, b.0), b.1))
+  first_declaration_of ts = if_bind (DeclarationOf ts) (WideStructOf ts) (declaration_with r ts) _ (declaration_of ts) (λ d us s. if_bind (MoreOf us) (WideStructOf ts) (declarations_with r (length us) us) _ (many_declarations_of (length us) us) (λ ds vs t. if_bind (λ b ws. SpellsOpening b vs ws) (WideStructOf ts) (opening_at vs) _ (opening_of vs) (λ b ws o. some_declarations (declared_by d ds s t) o)))
+
+  wide_struct_of : (ts : Words) → IfRead (WideStructOf ts) (wide_struct_with r ts)
+  unfolding wide_struct_with
+  wide_struct_of (close_struct p ∷ ts) = no_declarations
+  wide_struct_of (dots p ∷ ts) = if_left (ClosesStruct ts) (WideStructOf (dots p ∷ ts)) (close_at kinds.CloseStruct ts) _ (closes_struct_of ts) (λ us c. wide_dots_alone c)
+  wide_struct_of (relation atoms.less p ∷ ts) = first_declaration_of (relation atoms.less p ∷ ts)
+  wide_struct_of ts = first_declaration_of ts
+
   rest_of : (ts : Words) → IfRead (λ e us. SpellsRest e ts us) (rest_with r ts)
   unfolding rest_with
   rest_of ts = by (may_end ts)
@@ -364,6 +406,7 @@ module _ (r : Bool → Read Tree) (h : IsSound r) where
   unfolding operand_with
   operand_of (open_paren p ∷ ts) = if_bind (λ e us. SpellsExpr e ts us) (λ e us. SpellsOperand e (open_paren p ∷ ts) us) (r false ts) _ (h.exprs ts) (λ e us s. if_left (ClosesParen us) (λ e us. SpellsOperand e (open_paren p ∷ ts) us) (paren_end us) _ (closes_paren_of us) (λ vs c. paren_is s c))
   operand_of (open_struct p ∷ ts) = if_bind (StructOf ts) (λ e us. SpellsOperand e (open_struct p ∷ ts) us) (struct_with r ts) _ (struct_of ts) (λ x us s. struct_is s)
+  operand_of (open_wide p ∷ ts) = if_bind (WideStructOf ts) (λ e us. SpellsOperand e (open_wide p ∷ ts) us) (wide_struct_with r ts) _ (wide_struct_of ts) (λ x us s. wide_struct_is refl s)
   operand_of (open_list p ∷ ts) = if_bind (ListOf ts) (λ e us. SpellsOperand e (open_list p ∷ ts) us) (list_with r ts) _ (list_of ts) (λ x us s. list_is s)
   operand_of ts = plain_of ts
 

@@ -1,25 +1,21 @@
--- Words that spell a file have none of a form that is left out, so the wide profile takes the same words.
-use Rattle.std.proofs.Common.{◌≡◌, ℕ, ◌≤◌, ℤ, Bool, true, false, List, [], ◌∷◌, map, Option, refl, sym, subst}
+-- Words that spell a file have none of a form that is left out, so the wide profile takes them one by one, and they spell the same file.
+use Rattle.std.proofs.Common.{◌≡◌, ℕ, ◌≤◌, ℤ, Bool, false, List, [], ◌∷◌, map, Option, refl, sym, subst}
 use Rattle.cs_grammar.specs.declared.ast.FieldMark.{FieldMark}
 use Rattle.cs_grammar.specs.declared.profile.Profile.TheVariants as profiles
-use Rattle.cs_grammar.specs.declared.token.Sort.TheVariants as sorts
-use Rattle.cs_grammar.specs.Cut.{Lexeme, lexeme}
-use Rattle.cs_grammar.specs.Spells.{Comma, explicit, inserted, ClosesParen, paren_here, paren_after, ClosesList, list_here, list_after, ClosesStruct, struct_here, struct_after, SpellsNumber, positive, negative, SpellsBound, limit_is, other_number, other_text, other_null, SpellsLabel, bare_label, quoted_label, SpellsMark, regular, optional, required, SpellsOpening, unopened, opened, SpellsValue, long, short, SpellsField, labelled, every_key, SpellsExpr, one_branch, disjunction_is, SpellsBars, no_bar, a_bar, SpellsBranch, unmarked, marked_is, SpellsConj, one_operand, conjunction_is, SpellsAmps, no_amp, an_amp, SpellsOperand, top_is, bottom_is, reference_is, name_is, number_is, text_is, bound_is, paren_is, struct_is, list_is, SpellsStruct, no_fields, dots_alone, fields, SpellsFields, no_more_fields, next_field, SpellsList, no_elements, rest_alone, elements, SpellsElements, no_more_elements, next_element, SpellsEnd, closed_is, rest_is, SpellsRest, any_is, each_is, SpellsDefinition, defined, SpellsDefinitions, no_definition, next_definition, SpellsPackage, no_clause, clause, SpellsFile, spelled}
+use Rattle.cs_grammar.specs.Cut.{Lexeme}
+use Rattle.cs_grammar.specs.Spells.{Comma, explicit, inserted, ClosesParen, paren_here, paren_after, ClosesList, list_here, list_after, ClosesStruct, struct_here, struct_after, SpellsNumber, positive, negative, SpellsBound, limit_is, other_number, other_text, other_null, SpellsLabel, bare_label, quoted_label, SpellsMark, regular, optional, required, SpellsOpening, unopened, opened, SpellsValue, long, short, SpellsField, labelled, every_key, SpellsExpr, one_branch, disjunction_is, SpellsBars, no_bar, a_bar, SpellsBranch, unmarked, marked_is, SpellsConj, one_operand, conjunction_is, SpellsAmps, no_amp, an_amp, SpellsOperand, top_is, bottom_is, reference_is, name_is, number_is, text_is, bound_is, paren_is, struct_is, list_is, wide_struct_is, SpellsWideStruct, no_declarations, wide_dots_alone, some_declarations, SpellsDeclarations, a_field, an_embedding, SpellsMore, no_more, next_declaration, SpellsStruct, no_fields, dots_alone, fields, SpellsFields, no_more_fields, next_field, SpellsList, no_elements, rest_alone, elements, SpellsElements, no_more_elements, next_element, SpellsEnd, closed_is, rest_is, SpellsRest, any_is, each_is, SpellsDefinition, defined, SpellsDefinitions, no_definition, next_definition, SpellsPackage, no_clause, clause, SpellsFile, spelled}
 use Rattle.cs_grammar.specs.Taken.{wide_lexeme}
-use Rattle.cs_grammar.specs.TokenWords.{word, words}
-use Rattle.cs_grammar.specs.Tree.{Label, Tree, Trees, Fields, End, DefinitionTree, FileTree}
-use Rattle.cs_grammar.specs.Words.{Word, Words, left_out}
+use Rattle.cs_grammar.specs.TokenWords.{words}
+use Rattle.cs_grammar.specs.Tree.{Label, Tree, Trees, Fields, Declarations, End, DefinitionTree, FileTree}
+use Rattle.cs_grammar.specs.Words.{Words}
 use Rattle.cs_syntax.specs.Answer.{IsSpelled, IsSpelledIn}
 use Rattle.cs_syntax.specs.Nesting.{nesting, most_nested}
-
-abbrev is_unused : Word → Bool
-is_unused (left_out o) = true
-is_unused _ = false
+use Rattle.cs_syntax.proofs.WideWords.{all_widened, is_left_out, lexeme_widened, file_widened, nesting_widened}
 
 -- each of the words is one of the grammar
 abbrev Used : Words → Type 0
 Used [] = Unit {0}
-Used (w ∷ ts) = (is_unused w ≡ false) × Used ts
+Used (w ∷ ts) = (is_left_out w ≡ false) × Used ts
 
 -- ---- marks, numbers and labels
 
@@ -104,6 +100,20 @@ mutual
   of_operand (paren_is e c) h = (refl, of_expr e (of_paren_end c h))
   of_operand (struct_is s) h = (refl, of_struct s h)
   of_operand (list_is s) h = (refl, of_list s h)
+  of_operand (wide_struct_is e s) h = (refl, of_wide_struct s h)
+
+  of_wide_struct : {ds : Declarations} {b : Bool} {ts r : Words} → SpellsWideStruct ds b ts r → Used r → Used ts
+  of_wide_struct no_declarations h = (refl, h)
+  of_wide_struct (wide_dots_alone c) h = (refl, of_struct_end c h)
+  of_wide_struct (some_declarations d o) h = of_declarations d (of_opening o h)
+
+  of_declarations : {ds : Declarations} {ts r : Words} → SpellsDeclarations ds ts r → Used r → Used ts
+  of_declarations (a_field f m) h = of_field f (of_more m h)
+  of_declarations (an_embedding o e m) h = of_expr e (of_more m h)
+
+  of_more : {ds : Declarations} {ts r : Words} → SpellsMore ds ts r → Used r → Used ts
+  of_more no_more h = h
+  of_more (next_declaration c d) h = of_comma c (of_declarations d h)
 
   of_struct : {fs : Fields} {b : Bool} {ts r : Words} → SpellsStruct fs b ts r → Used r → Used ts
   of_struct no_fields h = (refl, h)
@@ -149,21 +159,17 @@ of_file (spelled p ds) = of_package p (of_definitions ds (refl, tt))
 
 -- ---- the tokens of the wide profile
 
-same_word : (k : Lexeme) → is_unused (word k) ≡ false → word (wide_lexeme k) ≡ word k
-same_word (lexeme sorts.LeftOut t o) h = let never : true ≡ false = h in absurd cc
-same_word (lexeme s t o) h = refl
-
-same_words : (ks : List Lexeme) → Used (words ks) → words (map wide_lexeme ks) ≡ words ks
-same_words [] h = refl
-same_words (k ∷ ks) h = rw (same_word k h.0, same_words ks h.1) refl
+words_widened : (ks : List Lexeme) → Used (words ks) → words (map wide_lexeme ks) ≡ all_widened (words ks)
+words_widened [] h = refl
+words_widened (k ∷ ks) h = rw (lexeme_widened k h.0, words_widened ks h.1) refl
 
 pub spelled_wide : (source : List ℕ) (f : FileTree) → IsSpelled source f → IsSpelledIn profiles.Wide source f
 spelled_wide source f h =
-    let same = sym (same_words h.tokens (of_file h.spelled)) in
+    let same = sym (words_widened h.tokens (of_file h.spelled)) in
     record {
       tokens = h.tokens;
       cut = h.cut;
-      nested = subst (λ ts. nesting ts ≤ most_nested) same h.nested;
-      spelled = subst (SpellsFile f) same h.spelled;
+      nested = subst (λ ts. nesting ts ≤ most_nested) same (subst (λ n. n ≤ most_nested) (sym (nesting_widened (words h.tokens))) h.nested);
+      spelled = subst (SpellsFile f) same (file_widened h.spelled);
       low = h.low;
     }

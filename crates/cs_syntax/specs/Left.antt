@@ -9,7 +9,7 @@ use Rattle.cs_syntax.specs.declared.parser.nesting.NestingState as rust
 use Rattle.cs_syntax.specs.Counting.{NestingState}
 use Rattle.cs_grammar.specs.Words.{Words}
 use Rattle.cs_grammar.specs.Tree.{Label}
-use Rattle.cs_grammar.specs.View.{lexemes_view, label_of}
+use Rattle.cs_grammar.specs.View.{lexemes_view, label_of, Seen, SeenDeclaration, field_seen, embedding_seen}
 use Rattle.cs_grammar.specs.TokenWords.{words}
 use Rattle.cs_syntax.specs.Reading.{Fails}
 
@@ -50,6 +50,13 @@ Reads view (Err e) p read = Fails e read
 abbrev pub ReadsPast : {X : Type 0} → Result X SyntaxFault → Parser → Result Words SyntaxFault → Type 0
 ReadsPast (Ok x) p read = read ≡ Ok (left p)
 ReadsPast (Err e) p read = Fails e read
+
+-- ---- declarations of a literal
+
+-- the field that a declaration is
+abbrev pub declared_field : SeenDeclaration → Option Seen
+declared_field (field_seen f) = Some f
+declared_field (embedding_seen o e) = None
 
 -- ---- the nesting of tokens
 

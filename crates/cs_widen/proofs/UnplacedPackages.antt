@@ -19,8 +19,9 @@ use Rattle.cs_resolve.specs.Declarations.{distinct, names, bodies_of, declared}
 use Rattle.cs_resolve.specs.Opening.{all_conjunctions, IsOpened}
 use Rattle.cs_resolve.specs.PackageName.{IsOnePackage}
 use Rattle.cs_resolve.specs.Refinement.{Refinements}
-use Rattle.cs_resolve.specs.Resolved.{narrowed_operands, resolved, resolved_all, resolved_fields, resolved_end, environment_of_files, IsPackage, most_definitions, most_nodes}
-use Rattle.cs_resolve.specs.Size.{nodes, nodes_of_definitions}
+use Rattle.cs_resolve.specs.Resolved.{narrowed_operands, resolved, resolved_all, resolved_fields, resolved_end, environment_of_files, IsPackage}
+use Rattle.cs_grammar.specs.Limits.{most_definitions, most_nodes}
+use Rattle.cs_grammar.specs.Size.{nodes, nodes_of_definitions}
 use Rattle.cs_resolve.proofs.BaseLaw.{found_refinements, one_refinements}
 use Rattle.cs_widen.proofs.UnplacedTrees.{same_name, same_nodes}
 use Rattle.cs_widen.proofs.UnplacedBases.{same_bodies, same_refinements}

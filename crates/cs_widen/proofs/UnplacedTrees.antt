@@ -5,7 +5,7 @@ use Rattle.cs_grammar.specs.Tree.{Tree, atom, named, reference, conjunction, dis
 use Rattle.cs_print.specs.Printed.{unplaced, unplaced_all, unplaced_fields, unplaced_end, unplaced_definition}
 use Rattle.cs_resolve.specs.Plain.{has_literal_or_reference, has_literal_or_reference_some, has_literal_or_reference_end}
 use Rattle.cs_resolve.specs.Scopes.{labels}
-use Rattle.cs_resolve.specs.Size.{nodes, nodes_all, nodes_fields, nodes_end}
+use Rattle.cs_grammar.specs.Size.{nodes, nodes_all, nodes_fields, nodes_end}
 
 -- what f gives for lists, one behind the other
 pub behind : {X Y : Type 0} (f : X → Y) {ps qs : List Y} (xs ys : List X) → ps ≡ map f xs → qs ≡ map f ys → ps ++ qs ≡ map f (xs ++ ys)

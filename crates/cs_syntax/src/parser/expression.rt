@@ -5,7 +5,9 @@
 ghost use Rattle.std.specs.Prelude.{◌≡◌, ◌≤◌, map, length, true, false};
 ghost use Rattle.cs_grammar.specs.View.{expr_view, field_view, declaration_view, end_view};
 ghost use Rattle.cs_syntax.specs.Left.{left, Reads};
-ghost use Rattle.cs_syntax.specs.Reading.{inner, field_with, fields_with, struct_with, declaration_with, declarations_with, wide_struct_with, rest_with, end_with, elements_with, list_with, operand_with, amps_with, conj_with, branch_with, bars_with, expr_with, most_depth};
+ghost use Rattle.cs_syntax.specs.Reading.{inner, field_with, fields_with, struct_with, rest_with, end_with, elements_with, list_with};
+ghost use Rattle.cs_syntax.specs.Reading.{declaration_with, declarations_with, wide_struct_with};
+ghost use Rattle.cs_syntax.specs.Reading.{operand_with, amps_with, conj_with, branch_with, bars_with, expr_with, most_depth};
 
 use crate::parser::kind::kind_of;
 use crate::parser::literal::literal;

@@ -1,24 +1,46 @@
 // Literals of the wide profile.
 
-ghost use Rattle.std.specs.Prelude.{◌≡◌, Some, IfOk};
-ghost use Rattle.cs_grammar.specs.View.{expr_view, fields_view, declarations_view};
+ghost use Rattle.std.specs.Prelude.{◌≡◌, [], ◌∷◌, Some, IfOk};
+ghost use Rattle.cs_grammar.specs.View.{expr_view, field_view, fields_view, declaration_view, declarations_view, declarations_of};
 ghost use Rattle.cs_grammar.specs.Spells.{fields_alone, literal};
 ghost use Rattle.cs_grammar.specs.Tree.{Fields};
-ghost use Rattle.std.specs.Option.{is_some};
+ghost use Rattle.std.specs.Option.{is_some, option_map};
+ghost use Rattle.cs_syntax.specs.Left.{declared_field};
 
 use cs_grammar::{Declaration, Expr, Field, Wide};
 use std::alloc::{AllocError, Global};
+
+/// Whether a declaration is a field: a literal of it alone has no embedding.
+fn is_field(declaration: &Declaration) -> bool
+    ensures { result
+        ≡ is_some (fields_alone (declarations_of (declaration_view declaration.now ∷ []))) }
+{
+    match declaration {
+        Declaration::Field(_) => true,
+        Declaration::Embedded { .. } => false,
+    }
+}
 
 /// Whether no declaration is an embedding.
 fn are_fields(declarations: &[Declaration]) -> bool
     ensures { result ≡ is_some (fields_alone (declarations_view declarations.now)) }
 {
     for declaration in declarations {
-        if let Declaration::Embedded { .. } = declaration {
+        if !is_field(declaration) {
             return false;
         }
     }
     true
+}
+
+/// The field that a declaration is.
+fn declared_field(declaration: Declaration) -> Option<Field>
+    ensures { option_map field_view result ≡ declared_field (declaration_view declaration) }
+{
+    match declaration {
+        Declaration::Field(field) => Some(field),
+        Declaration::Embedded { .. } => None,
+    }
 }
 
 /// The fields among the declarations.
@@ -29,7 +51,7 @@ fn fields_among(alloc: Global, declarations: Vec<Declaration>) -> Result<Vec<Fie
 {
     let mut fields = Vec::new(alloc);
     for declaration in declarations {
-        if let Declaration::Field(field) = declaration {
+        if let Some(field) = declared_field(declaration) {
             fields.push(field)?;
         }
     }

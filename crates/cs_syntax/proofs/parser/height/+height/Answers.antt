@@ -1,9 +1,9 @@
 use Rattle.std.proofs.Common.{refl, sym, ap, ◌∙◌}
 use Rattle.std.specs.Prelude.{nat_le, max, ◌&&◌, ◌-◌}
-use Rattle.cs_grammar.specs.View.{expr_view, exprs_view, fields_view, end_view}
-use Rattle.cs_grammar.specs.Height.{height, height_all, height_fields, height_end}
+use Rattle.cs_grammar.specs.View.{expr_view, exprs_view, fields_view, declaration_view, declarations_view, end_view}
+use Rattle.cs_grammar.specs.Height.{height, height_all, height_fields, height_declarations, declaration_height, height_end}
 use Rattle.cs_grammar.proofs.Views.{view-And, view-Or, view-Paren, view-Struct, view-List, view-Closed, view-Any, view-Each}
-use Rattle.cs_syntax.proofs.Heights.{low_one, high_one, low_all, field_parts, no_height, one_more, positive, nothing_high, within_both}
+use Rattle.cs_syntax.proofs.Heights.{low_one, high_one, low_all, field_parts, declaration_parts, no_height, one_more, positive, nothing_high, within_both}
 use Rattle.cs_syntax.proofs.parser.height.+height.Goals as goal
 
 pub are_low-returns-then-not-is_low : goal.are_low-returns-then-not-is_low
@@ -35,6 +35,21 @@ pub are_low_fields-returns : goal.are_low_fields-returns
 are_low_fields-returns t c =
     let es = c.deref-field-items.result.now in
     sym (low_all (λ f. height (expr_view f.value)) (λ fs. height_fields (fields_view fs)) refl field_parts es c.loop-field.field-index c.args.limit c.loop-field-test.false) ∙ c.loop-field.invariant ∙ ap (λ xs. nat_le (height_fields (fields_view xs)) c.args.limit) c.deref-field-items.ensures.value
+
+pub are_low_declarations-returns-then-not-is_low_declaration : goal.are_low_declarations-returns-then-not-is_low_declaration
+are_low_declarations-returns-then-not-is_low_declaration t c =
+    let ds = c.deref-declaration-items.result.now in
+    sym (high_one (λ d. declaration_height (declaration_view d)) (λ ds. height_declarations (declarations_view ds)) refl declaration_parts ds c.loop-declaration.declaration-index c.args.limit c.declaration-item.result c.loop-declaration-test.true c.declaration-item.is (sym c.if-not-is_low_declaration.ensures)) ∙ c.loop-declaration.invariant ∙ ap (λ xs. nat_le (height_declarations (declarations_view xs)) c.args.limit) c.deref-declaration-items.ensures.value
+
+pub are_low_declarations-loop-declaration-preserved : goal.are_low_declarations-loop-declaration-preserved
+are_low_declarations-loop-declaration-preserved t c =
+    let ds = c.deref-declaration-items.result.now in
+    low_one (λ d. declaration_height (declaration_view d)) (λ ds. height_declarations (declarations_view ds)) refl declaration_parts ds c.loop-declaration.declaration-index c.args.limit c.declaration-item.result c.loop-declaration-test.true c.declaration-item.is (sym c.if-not-is_low_declaration.ensures) ∙ c.loop-declaration.invariant
+
+pub are_low_declarations-returns : goal.are_low_declarations-returns
+are_low_declarations-returns t c =
+    let ds = c.deref-declaration-items.result.now in
+    sym (low_all (λ d. declaration_height (declaration_view d)) (λ ds. height_declarations (declarations_view ds)) refl declaration_parts ds c.loop-declaration.declaration-index c.args.limit c.loop-declaration-test.false) ∙ c.loop-declaration.invariant ∙ ap (λ xs. nat_le (height_declarations (declarations_view xs)) c.args.limit) c.deref-declaration-items.ensures.value
 
 pub is_low-returns-then-limit-eq0 : goal.is_low-returns-then-limit-eq0
 is_low-returns-then-limit-eq0 t c = sym (no_height (expr_view c.args.expr.now) c.args.limit c.if-limit-eq0.true)

@@ -1,10 +1,10 @@
 use Rattle.std.proofs.Common.{◌≡◌, ◌+◌, ◌-◌, ◌<◌, suc, Ok, refl, map, sym, ap, ◌∙◌, arith, length, false}
 use Rattle.std.proofs.lemmas.Result.{err_from_is_err_and}
 use Rattle.cs_grammar.specs.declared.kind.Kind.TheVariants as kinds
-use Rattle.cs_grammar.specs.View.{expr_view, field_view}
+use Rattle.cs_grammar.specs.View.{expr_view, field_view, declaration_view}
 use Rattle.cs_grammar.proofs.Views.{view-And, view-Or}
 use Rattle.cs_syntax.specs.Left.{left}
-use Rattle.cs_syntax.specs.Reading.{inner, field_with, operand_with, conj_with, branch_with, expr_with, after, another_field, another_element}
+use Rattle.cs_syntax.specs.Reading.{inner, field_with, declaration_with, operand_with, conj_with, branch_with, expr_with, after, another_field, another_element}
 use Rattle.cs_syntax.proofs.WordKinds.{at_end, operand_end}
 use Rattle.cs_syntax.proofs.Reader.{goes_on, ends, out, breaks, fails-of, met, joined}
 use Rattle.cs_syntax.proofs.parser.place.Parser.+parse.Goals as goal
@@ -30,6 +30,28 @@ fields-returns-then-not-skip_to_field t c = sym c.loop.invariant ∙ ends field_
 
 pub fields-returns : goal.fields-returns
 fields-returns t c = sym c.loop.invariant ∙ out field_view another_field (field_with (inner c.args.depth)) c.loop.fields.items _ (left c.loop.self) (omega arith)
+
+pub declarations-returns-in_err-declaration : goal.declarations-returns-in_err-declaration
+declarations-returns-in_err-declaration t c =
+    let p = err_from_is_err_and c.from_residual.result c.from_residual.ensures.1 in
+    let k = length c.args.self.now.tokens.now - c.loop.counter in
+    let n = length c.args.self.now.tokens.now - (c.loop.counter + 1) in
+    let is : k ≡ suc n = omega arith in
+    let f = c.in_err-declaration.field-0.0 in
+    rw (p.1, p.2) (fails-of f _ _ c.loop.invariant (breaks declaration_view another_field (declaration_with (inner c.args.depth)) c.loop.declarations.items f k n (left c.loop.self) (left c.skip_to_field.new.self) is c.if-not-skip_to_field.ensures c.in_err-declaration.ensures))
+
+pub declarations-loop-preserved : goal.declarations-loop-preserved
+declarations-loop-preserved t c =
+    let k = length c.args.self.now.tokens.now - c.loop.counter in
+    let n = length c.args.self.now.tokens.now - (c.loop.counter + 1) in
+    let is : k ≡ suc n = omega arith in
+    rw c.in_ok-push.ensures.items (goes_on declaration_view another_field (declaration_with (inner c.args.depth)) c.loop.declarations.items c.in_ok-declaration.field-0 k n (left c.loop.self) (left c.skip_to_field.new.self) (left c.declaration.new.self) is c.if-not-skip_to_field.ensures c.in_ok-declaration.ensures ∙ c.loop.invariant)
+
+pub declarations-returns-then-not-skip_to_field : goal.declarations-returns-then-not-skip_to_field
+declarations-returns-then-not-skip_to_field t c = sym c.loop.invariant ∙ ends declaration_view another_field (declaration_with (inner c.args.depth)) c.loop.declarations.items _ (left c.loop.self) c.if-not-skip_to_field.ensures.0 ∙ ap (λ ts. Ok (map declaration_view c.loop.declarations.items, ts)) (sym c.if-not-skip_to_field.ensures.1)
+
+pub declarations-returns : goal.declarations-returns
+declarations-returns t c = sym c.loop.invariant ∙ out declaration_view another_field (declaration_with (inner c.args.depth)) c.loop.declarations.items _ (left c.loop.self) (omega arith)
 
 pub elements-returns-in_err-inside : goal.elements-returns-in_err-inside
 elements-returns-in_err-inside t c =

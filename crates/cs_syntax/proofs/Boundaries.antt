@@ -1,0 +1,177 @@
+-- What may follow an expression, and what begins one: so a reader with one word of look-ahead takes it for nothing else.
+use Rattle.std.proofs.Common.{◌≡◌, ℕ, ℤ, Bool, false, ◌∷◌, None, refl}
+use Rattle.cs_grammar.specs.declared.kind.Kind.TheVariants as kinds
+use Rattle.cs_grammar.specs.Atom as atoms
+use Rattle.cs_grammar.specs.Atom.{Relation, top, bottom, integer, text, not_integer, not_text, not_null}
+use Rattle.cs_grammar.specs.Words.{Words, relation}
+use Rattle.cs_grammar.specs.Tree.{Tree, Trees, Fields, Declarations, End}
+use Rattle.cs_grammar.specs.Spells.{Comma, explicit, inserted, ClosesParen, paren_here, paren_after, ClosesList, list_here, list_after, ClosesStruct, struct_here, struct_after, SpellsNumber, positive, negative, SpellsBound, limit_is, other_number, other_text, other_null, SpellsOpening, unopened, opened, SpellsExpr, one_branch, disjunction_is, SpellsBars, no_bar, a_bar, SpellsBranch, unmarked, marked_is, SpellsConj, one_operand, conjunction_is, SpellsAmps, no_amp, an_amp, SpellsOperand, top_is, bottom_is, reference_is, name_is, number_is, text_is, bound_is, paren_is, struct_is, list_is, wide_struct_is, SpellsMore, no_more, next_declaration, SpellsFields, no_more_fields, next_field, SpellsElements, no_more_elements, next_element, SpellsEnd, closed_is, rest_is}
+use Rattle.cs_syntax.specs.Reading.{after, begins_with, begins_comma, goes_on_label, begins_field}
+use Rattle.cs_syntax.proofs.BracketLabels.{list_no_label}
+
+-- ---- what follows an expression
+
+-- no operator goes on here, and no label
+pub record Quiet (ts : Words) : Type 0 where
+  pub no_amp_here : after kinds.Amp ts ≡ None
+  pub no_bar_here : after kinds.Bar ts ≡ None
+  pub no_label : goes_on_label ts ≡ false
+
+pub quiet_comma : {ts r : Words} → Comma ts r → Quiet ts
+quiet_comma explicit = record { no_amp_here = refl; no_bar_here = refl; no_label = refl }
+quiet_comma inserted = record { no_amp_here = refl; no_bar_here = refl; no_label = refl }
+
+pub quiet_closes_paren : {ts r : Words} → ClosesParen ts r → Quiet ts
+quiet_closes_paren paren_here = record { no_amp_here = refl; no_bar_here = refl; no_label = refl }
+quiet_closes_paren paren_after = record { no_amp_here = refl; no_bar_here = refl; no_label = refl }
+
+pub quiet_closes_list : {ts r : Words} → ClosesList ts r → Quiet ts
+quiet_closes_list list_here = record { no_amp_here = refl; no_bar_here = refl; no_label = refl }
+quiet_closes_list (list_after c) = quiet_comma c
+
+quiet_closes_struct : {ts r : Words} → ClosesStruct ts r → Quiet ts
+quiet_closes_struct struct_here = record { no_amp_here = refl; no_bar_here = refl; no_label = refl }
+quiet_closes_struct (struct_after c) = quiet_comma c
+
+pub quiet_opening : {b : Bool} {ts r : Words} → SpellsOpening b ts r → Quiet ts
+quiet_opening (unopened c) = quiet_closes_struct c
+quiet_opening (opened c d) = quiet_comma c
+
+pub quiet_fields : {fs : Fields} {ts r : Words} → SpellsFields fs ts r → Quiet r → Quiet ts
+quiet_fields no_more_fields q = q
+quiet_fields (next_field c f fs) q = quiet_comma c
+
+pub quiet_more : {ds : Declarations} {ts r : Words} → SpellsMore ds ts r → Quiet r → Quiet ts
+quiet_more no_more q = q
+quiet_more (next_declaration c d) q = quiet_comma c
+
+pub quiet_end : {end : End} {ts r : Words} → SpellsEnd end ts r → Quiet ts
+quiet_end (closed_is c) = quiet_closes_list c
+quiet_end (rest_is s) = record { no_amp_here = refl; no_bar_here = refl; no_label = refl }
+
+pub quiet_elements : {es : Trees} {ts r : Words} → SpellsElements es ts r → Quiet r → Quiet ts
+quiet_elements no_more_elements q = q
+quiet_elements (next_element e es) q = record { no_amp_here = refl; no_bar_here = refl; no_label = refl }
+
+-- an operator of the outer level ends the inner one
+pub no_amp-bars : {es : Trees} {ts r : Words} → SpellsBars es ts r → after kinds.Amp r ≡ None → after kinds.Amp ts ≡ None
+no_amp-bars no_bar h = h
+no_amp-bars (a_bar c b) h = refl
+
+no_label-bars : {es : Trees} {ts r : Words} → SpellsBars es ts r → goes_on_label r ≡ false → goes_on_label ts ≡ false
+no_label-bars no_bar h = h
+no_label-bars (a_bar c b) h = refl
+
+no_label-amps : {es : Trees} {ts r : Words} → SpellsAmps es ts r → goes_on_label r ≡ false → goes_on_label ts ≡ false
+no_label-amps no_amp h = h
+no_label-amps (an_amp o a) h = refl
+
+-- ---- what begins an expression
+
+pub record IsOpen (ts : Words) : Type 0 where
+  pub no_list_end : after kinds.CloseList ts ≡ None
+  pub no_dots : after kinds.Dots ts ≡ None
+  pub not_list_end : begins_with kinds.CloseList ts ≡ false
+  pub no_struct_end : after kinds.CloseStruct ts ≡ None
+  pub not_struct_end : begins_with kinds.CloseStruct ts ≡ false
+  pub not_dots : begins_with kinds.Dots ts ≡ false
+  pub no_comma : begins_comma ts ≡ false
+
+relation_open : (b : Relation) (p : ℕ) (ts : Words) → IsOpen (relation b p ∷ ts)
+relation_open atoms.less p ts = record { no_list_end = refl; no_dots = refl; not_list_end = refl; no_struct_end = refl; not_struct_end = refl; not_dots = refl; no_comma = refl }
+relation_open atoms.at_most p ts = record { no_list_end = refl; no_dots = refl; not_list_end = refl; no_struct_end = refl; not_struct_end = refl; not_dots = refl; no_comma = refl }
+relation_open atoms.more p ts = record { no_list_end = refl; no_dots = refl; not_list_end = refl; no_struct_end = refl; not_struct_end = refl; not_dots = refl; no_comma = refl }
+relation_open atoms.at_least p ts = record { no_list_end = refl; no_dots = refl; not_list_end = refl; no_struct_end = refl; not_struct_end = refl; not_dots = refl; no_comma = refl }
+
+number_open : {z : ℤ} {ts r : Words} → SpellsNumber z ts r → IsOpen ts
+number_open (positive h) = record { no_list_end = refl; no_dots = refl; not_list_end = refl; no_struct_end = refl; not_struct_end = refl; not_dots = refl; no_comma = refl }
+number_open (negative e h) = record { no_list_end = refl; no_dots = refl; not_list_end = refl; no_struct_end = refl; not_struct_end = refl; not_dots = refl; no_comma = refl }
+
+bound_open : {e : Tree} {ts r : Words} → SpellsBound e ts r → IsOpen ts
+bound_open (limit_is {b} {z} {p} {ts} n) = relation_open b p ts
+bound_open (other_number n) = record { no_list_end = refl; no_dots = refl; not_list_end = refl; no_struct_end = refl; not_struct_end = refl; not_dots = refl; no_comma = refl }
+bound_open other_text = record { no_list_end = refl; no_dots = refl; not_list_end = refl; no_struct_end = refl; not_struct_end = refl; not_dots = refl; no_comma = refl }
+bound_open (other_null h) = record { no_list_end = refl; no_dots = refl; not_list_end = refl; no_struct_end = refl; not_struct_end = refl; not_dots = refl; no_comma = refl }
+
+operand_open : {e : Tree} {ts r : Words} → SpellsOperand e ts r → IsOpen ts
+operand_open top_is = record { no_list_end = refl; no_dots = refl; not_list_end = refl; no_struct_end = refl; not_struct_end = refl; not_dots = refl; no_comma = refl }
+operand_open bottom_is = record { no_list_end = refl; no_dots = refl; not_list_end = refl; no_struct_end = refl; not_struct_end = refl; not_dots = refl; no_comma = refl }
+operand_open reference_is = record { no_list_end = refl; no_dots = refl; not_list_end = refl; no_struct_end = refl; not_struct_end = refl; not_dots = refl; no_comma = refl }
+operand_open (name_is h e) = record { no_list_end = refl; no_dots = refl; not_list_end = refl; no_struct_end = refl; not_struct_end = refl; not_dots = refl; no_comma = refl }
+operand_open (number_is n) = number_open n
+operand_open text_is = record { no_list_end = refl; no_dots = refl; not_list_end = refl; no_struct_end = refl; not_struct_end = refl; not_dots = refl; no_comma = refl }
+operand_open (bound_is b) = bound_open b
+operand_open (paren_is e c) = record { no_list_end = refl; no_dots = refl; not_list_end = refl; no_struct_end = refl; not_struct_end = refl; not_dots = refl; no_comma = refl }
+operand_open (struct_is s) = record { no_list_end = refl; no_dots = refl; not_list_end = refl; no_struct_end = refl; not_struct_end = refl; not_dots = refl; no_comma = refl }
+operand_open (wide_struct_is e s) = record { no_list_end = refl; no_dots = refl; not_list_end = refl; no_struct_end = refl; not_struct_end = refl; not_dots = refl; no_comma = refl }
+operand_open (list_is s) = record { no_list_end = refl; no_dots = refl; not_list_end = refl; no_struct_end = refl; not_struct_end = refl; not_dots = refl; no_comma = refl }
+
+conj_open : {e : Tree} {ts r : Words} → SpellsConj e ts r → IsOpen ts
+conj_open (one_operand o) = operand_open o
+conj_open (conjunction_is o a) = operand_open o
+
+branch_open : {e : Tree} {ts r : Words} → SpellsBranch e ts r → IsOpen ts
+branch_open (unmarked c) = conj_open c
+branch_open (marked_is c) = record { no_list_end = refl; no_dots = refl; not_list_end = refl; no_struct_end = refl; not_struct_end = refl; not_dots = refl; no_comma = refl }
+
+pub expr_open : {e : Tree} {ts r : Words} → SpellsExpr e ts r → IsOpen ts
+expr_open (one_branch c) = branch_open c
+expr_open (disjunction_is c b) = branch_open c
+
+-- no expression with nothing behind it that goes on a label is a field
+operand_no_field : {e : Tree} {ts r : Words} → SpellsOperand e ts r → goes_on_label r ≡ false → begins_field ts ≡ false
+operand_no_field top_is q = refl
+operand_no_field bottom_is q = refl
+operand_no_field reference_is q = refl
+operand_no_field (name_is h e) q = rw (h, q) refl
+operand_no_field (number_is (positive h)) q = refl
+operand_no_field (number_is (negative e h)) q = refl
+operand_no_field text_is q = rw q refl
+operand_no_field (bound_is (limit_is n)) q = refl
+operand_no_field (bound_is (other_number n)) q = refl
+operand_no_field (bound_is other_text) q = refl
+operand_no_field (bound_is (other_null h)) q = refl
+operand_no_field (paren_is e c) q = refl
+operand_no_field (struct_is s) q = refl
+operand_no_field (wide_struct_is e s) q = refl
+operand_no_field (list_is s) q = list_no_label s q
+
+conj_no_field : {e : Tree} {ts r : Words} → SpellsConj e ts r → goes_on_label r ≡ false → begins_field ts ≡ false
+conj_no_field (one_operand o) q = operand_no_field o q
+conj_no_field (conjunction_is o a) q = operand_no_field o (no_label-amps a q)
+
+branch_no_field : {e : Tree} {ts r : Words} → SpellsBranch e ts r → goes_on_label r ≡ false → begins_field ts ≡ false
+branch_no_field (unmarked c) q = conj_no_field c q
+branch_no_field (marked_is c) q = refl
+
+pub expr_no_field : {e : Tree} {ts r : Words} → SpellsExpr e ts r → goes_on_label r ≡ false → begins_field ts ≡ false
+expr_no_field (one_branch c) q = branch_no_field c q
+expr_no_field (disjunction_is c b) q = branch_no_field c (no_label-bars b q)
+
+-- no operand begins with `*`
+relation_no_star : (b : Relation) (p : ℕ) (ts : Words) → after kinds.Star (relation b p ∷ ts) ≡ None
+relation_no_star atoms.less p ts = refl
+relation_no_star atoms.at_most p ts = refl
+relation_no_star atoms.more p ts = refl
+relation_no_star atoms.at_least p ts = refl
+
+operand_no_star : {e : Tree} {ts r : Words} → SpellsOperand e ts r → after kinds.Star ts ≡ None
+operand_no_star top_is = refl
+operand_no_star bottom_is = refl
+operand_no_star reference_is = refl
+operand_no_star (name_is h e) = refl
+operand_no_star (number_is (positive h)) = refl
+operand_no_star (number_is (negative e h)) = refl
+operand_no_star text_is = refl
+operand_no_star (bound_is (limit_is {b} {z} {p} {ts} n)) = relation_no_star b p ts
+operand_no_star (bound_is (other_number n)) = refl
+operand_no_star (bound_is other_text) = refl
+operand_no_star (bound_is (other_null h)) = refl
+operand_no_star (paren_is e c) = refl
+operand_no_star (struct_is s) = refl
+operand_no_star (list_is s) = refl
+operand_no_star (wide_struct_is e s) = refl
+
+pub conj_no_star : {e : Tree} {ts r : Words} → SpellsConj e ts r → after kinds.Star ts ≡ None
+conj_no_star (one_operand o) = operand_no_star o
+conj_no_star (conjunction_is o a) = operand_no_star o

@@ -1,0 +1,283 @@
+-- The words of a source of the default profile, as the wide one takes them: they spell the same file and nest as deep.
+use Rattle.std.proofs.Common.{◌≡◌, ℕ, ℤ, max, Bool, true, false, ◌||◌, cond, List, [], ◌∷◌, map, Option, Some, refl, sym, ap, ap₂, ◌∙◌}
+use Rattle.std.specs.Prelude.{codes}
+use Rattle.std.specs.Str.{bytes_eq}
+use Rattle.cs_grammar.specs.declared.ast.FieldMark.{FieldMark}
+use Rattle.cs_grammar.specs.declared.kind.Kind.{Kind}
+use Rattle.cs_grammar.specs.declared.kind.Kind.TheVariants as kinds
+use Rattle.cs_grammar.specs.declared.token.Sort.TheVariants as sorts
+use Rattle.cs_grammar.specs.Cut.{Lexeme, lexeme}
+use Rattle.cs_grammar.specs.Spells.{start_at, fields_alone, literal, Comma, explicit, inserted, ClosesParen, paren_here, paren_after, ClosesList, list_here, list_after, ClosesStruct, struct_here, struct_after, SpellsNumber, positive, negative, SpellsBound, limit_is, other_number, other_text, other_null, SpellsLabel, bare_label, quoted_label, SpellsMark, regular, optional, required, SpellsOpening, unopened, opened, SpellsValue, long, short, SpellsField, labelled, every_key, SpellsExpr, one_branch, disjunction_is, SpellsBars, no_bar, a_bar, SpellsBranch, unmarked, marked_is, SpellsConj, one_operand, conjunction_is, SpellsAmps, no_amp, an_amp, SpellsOperand, top_is, bottom_is, reference_is, name_is, number_is, text_is, bound_is, paren_is, struct_is, list_is, wide_struct_is, SpellsWideStruct, no_declarations, wide_dots_alone, some_declarations, SpellsDeclarations, a_field, an_embedding, SpellsMore, no_more, next_declaration, SpellsStruct, no_fields, dots_alone, fields, SpellsFields, no_more_fields, next_field, SpellsList, no_elements, rest_alone, elements, SpellsElements, no_more_elements, next_element, SpellsEnd, closed_is, rest_is, SpellsRest, any_is, each_is, SpellsDefinition, defined, SpellsDefinitions, no_definition, next_definition, SpellsPackage, no_clause, clause, SpellsFile, spelled}
+use Rattle.cs_grammar.specs.Taken.{wide_lexeme}
+use Rattle.cs_grammar.specs.TokenWords.{mark_kind, word_of, word}
+use Rattle.cs_grammar.specs.Tree.{Label, Tree, struct, Trees, Fields, no_field, field, Declarations, no_declaration, declared, End, DefinitionTree, FileTree}
+use Rattle.cs_grammar.specs.Words.{Word, Words, name, quoted, open_struct, open_wide, open_list, close_list, colon, question, bang, left_out}
+use Rattle.cs_syntax.specs.Nesting.{OpenLevels, ends_with_chained_label, ends_with_chained_string, is_short, counted_if, behind, nesting_at, nesting_from, nesting}
+
+-- a word as the wide profile takes it
+abbrev pub widened : Word → Word
+widened (open_struct o) = open_wide o
+widened w = w
+
+abbrev pub all_widened : Words → Words
+all_widened ts = map widened ts
+
+start_same : (ts : Words) → start_at (all_widened ts) ≡ start_at ts
+start_same [] = refl
+start_same (open_struct o ∷ ts) = refl
+start_same (w ∷ ts) = refl
+
+-- ---- fields as declarations
+
+abbrev declarations_from : Fields → Declarations
+declarations_from no_field = no_declaration
+declarations_from (field l m e fs) = declared l m e (declarations_from fs)
+
+alone_from : (fs : Fields) → fields_alone (declarations_from fs) ≡ Some fs
+alone_from no_field = refl
+alone_from (field l m e fs) = rw (alone_from fs) refl
+
+literal_from : (o : ℕ) (fs : Fields) (b : Bool) → struct o fs b ≡ literal o (declarations_from fs) b
+literal_from o fs b = rw (alone_from fs) refl
+
+-- ---- marks, numbers and labels
+
+wide_comma : {ts r : Words} → Comma ts r → Comma (all_widened ts) (all_widened r)
+wide_comma explicit = explicit
+wide_comma inserted = inserted
+
+wide_paren_end : {ts r : Words} → ClosesParen ts r → ClosesParen (all_widened ts) (all_widened r)
+wide_paren_end paren_here = paren_here
+wide_paren_end paren_after = paren_after
+
+wide_list_end : {ts r : Words} → ClosesList ts r → ClosesList (all_widened ts) (all_widened r)
+wide_list_end list_here = list_here
+wide_list_end (list_after c) = list_after (wide_comma c)
+
+wide_struct_end : {ts r : Words} → ClosesStruct ts r → ClosesStruct (all_widened ts) (all_widened r)
+wide_struct_end struct_here = struct_here
+wide_struct_end (struct_after c) = struct_after (wide_comma c)
+
+wide_number : {z : ℤ} {ts r : Words} → SpellsNumber z ts r → SpellsNumber z (all_widened ts) (all_widened r)
+wide_number (positive fits) = positive fits
+wide_number (negative is fits) = negative is fits
+
+wide_bound : {e : Tree} {ts r : Words} → SpellsBound e ts r → SpellsBound e (all_widened ts) (all_widened r)
+wide_bound (limit_is n) = limit_is (wide_number n)
+wide_bound (other_number n) = other_number (wide_number n)
+wide_bound other_text = other_text
+wide_bound (other_null is) = other_null is
+
+wide_label : {l : Label} {ts r : Words} → SpellsLabel l ts r → SpellsLabel l (all_widened ts) (all_widened r)
+wide_label bare_label = bare_label
+wide_label quoted_label = quoted_label
+
+wide_mark : {m : FieldMark} {ts r : Words} → SpellsMark m ts r → SpellsMark m (all_widened ts) (all_widened r)
+wide_mark regular = regular
+wide_mark optional = optional
+wide_mark required = required
+
+wide_opening : {b : Bool} {ts r : Words} → SpellsOpening b ts r → SpellsOpening b (all_widened ts) (all_widened r)
+wide_opening (unopened c) = unopened (wide_struct_end c)
+wide_opening (opened c d) = opened (wide_comma c) (wide_struct_end d)
+
+-- ---- values
+
+mutual
+  wide_value : {e : Tree} {ts r : Words} → SpellsValue e ts r → SpellsValue e (all_widened ts) (all_widened r)
+  wide_value (long e) = long (wide_expr e)
+  wide_value (short {ts = ts} o f) = short (o ∙ sym (start_same ts)) (wide_field f)
+
+  wide_field : {l : Label} {m : FieldMark} {e : Tree} {ts r : Words} → SpellsField l m e ts r → SpellsField l m e (all_widened ts) (all_widened r)
+  wide_field (labelled l m v) = labelled (wide_label l) (wide_mark m) (wide_value v)
+  wide_field (every_key s v) = every_key s (wide_value v)
+
+  wide_expr : {e : Tree} {ts r : Words} → SpellsExpr e ts r → SpellsExpr e (all_widened ts) (all_widened r)
+  wide_expr (one_branch c) = one_branch (wide_branch c)
+  wide_expr (disjunction_is c b) = disjunction_is (wide_branch c) (wide_bars b)
+
+  wide_bars : {es : Trees} {ts r : Words} → SpellsBars es ts r → SpellsBars es (all_widened ts) (all_widened r)
+  wide_bars no_bar = no_bar
+  wide_bars (a_bar c b) = a_bar (wide_branch c) (wide_bars b)
+
+  wide_branch : {e : Tree} {ts r : Words} → SpellsBranch e ts r → SpellsBranch e (all_widened ts) (all_widened r)
+  wide_branch (unmarked c) = unmarked (wide_conj c)
+  wide_branch (marked_is c) = marked_is (wide_conj c)
+
+  wide_conj : {e : Tree} {ts r : Words} → SpellsConj e ts r → SpellsConj e (all_widened ts) (all_widened r)
+  wide_conj (one_operand o) = one_operand (wide_operand o)
+  wide_conj (conjunction_is o a) = conjunction_is (wide_operand o) (wide_amps a)
+
+  wide_amps : {es : Trees} {ts r : Words} → SpellsAmps es ts r → SpellsAmps es (all_widened ts) (all_widened r)
+  wide_amps no_amp = no_amp
+  wide_amps (an_amp o a) = an_amp (wide_operand o) (wide_amps a)
+
+  wide_operand : {e : Tree} {ts r : Words} → SpellsOperand e ts r → SpellsOperand e (all_widened ts) (all_widened r)
+  wide_operand top_is = top_is
+  wide_operand bottom_is = bottom_is
+  wide_operand reference_is = reference_is
+  wide_operand (name_is k e) = name_is k e
+  wide_operand (number_is n) = number_is (wide_number n)
+  wide_operand text_is = text_is
+  wide_operand (bound_is b) = bound_is (wide_bound b)
+  wide_operand (paren_is e c) = paren_is (wide_expr e) (wide_paren_end c)
+  wide_operand (struct_is {p} {fs} {b} s) = wide_struct_is (literal_from p fs b) (wide_struct s)
+  wide_operand (list_is s) = list_is (wide_list s)
+  wide_operand (wide_struct_is e s) = wide_struct_is e (wide_wide_struct s)
+
+  wide_struct : {fs : Fields} {b : Bool} {ts r : Words} → SpellsStruct fs b ts r → SpellsWideStruct (declarations_from fs) b (all_widened ts) (all_widened r)
+  wide_struct no_fields = no_declarations
+  wide_struct (dots_alone c) = wide_dots_alone (wide_struct_end c)
+  wide_struct (fields f fs o) = some_declarations (a_field (wide_field f) (wide_fields fs)) (wide_opening o)
+
+  wide_fields : {fs : Fields} {ts r : Words} → SpellsFields fs ts r → SpellsMore (declarations_from fs) (all_widened ts) (all_widened r)
+  wide_fields no_more_fields = no_more
+  wide_fields (next_field c f fs) = next_declaration (wide_comma c) (a_field (wide_field f) (wide_fields fs))
+
+  wide_wide_struct : {ds : Declarations} {b : Bool} {ts r : Words} → SpellsWideStruct ds b ts r → SpellsWideStruct ds b (all_widened ts) (all_widened r)
+  wide_wide_struct no_declarations = no_declarations
+  wide_wide_struct (wide_dots_alone c) = wide_dots_alone (wide_struct_end c)
+  wide_wide_struct (some_declarations d o) = some_declarations (wide_declarations d) (wide_opening o)
+
+  wide_declarations : {ds : Declarations} {ts r : Words} → SpellsDeclarations ds ts r → SpellsDeclarations ds (all_widened ts) (all_widened r)
+  wide_declarations (a_field f m) = a_field (wide_field f) (wide_more m)
+  wide_declarations (an_embedding {ts = ts} o e m) = an_embedding (o ∙ sym (start_same ts)) (wide_expr e) (wide_more m)
+
+  wide_more : {ds : Declarations} {ts r : Words} → SpellsMore ds ts r → SpellsMore ds (all_widened ts) (all_widened r)
+  wide_more no_more = no_more
+  wide_more (next_declaration c d) = next_declaration (wide_comma c) (wide_declarations d)
+
+  wide_list : {es : Trees} {end : End} {ts r : Words} → SpellsList es end ts r → SpellsList es end (all_widened ts) (all_widened r)
+  wide_list no_elements = no_elements
+  wide_list (rest_alone s) = rest_alone (wide_rest s)
+  wide_list (elements e es s) = elements (wide_expr e) (wide_elements es) (wide_end s)
+
+  wide_elements : {es : Trees} {ts r : Words} → SpellsElements es ts r → SpellsElements es (all_widened ts) (all_widened r)
+  wide_elements no_more_elements = no_more_elements
+  wide_elements (next_element e es) = next_element (wide_expr e) (wide_elements es)
+
+  wide_end : {end : End} {ts r : Words} → SpellsEnd end ts r → SpellsEnd end (all_widened ts) (all_widened r)
+  wide_end (closed_is c) = closed_is (wide_list_end c)
+  wide_end (rest_is s) = rest_is (wide_rest s)
+
+  wide_rest : {end : End} {ts r : Words} → SpellsRest end ts r → SpellsRest end (all_widened ts) (all_widened r)
+  wide_rest (any_is c) = any_is (wide_list_end c)
+  wide_rest (each_is e c) = each_is (wide_expr e) (wide_list_end c)
+
+-- ---- files
+
+wide_definition : {d : DefinitionTree} {ts r : Words} → SpellsDefinition d ts r → SpellsDefinition d (all_widened ts) (all_widened r)
+wide_definition (defined v) = defined (wide_value v)
+
+wide_definitions : {ds : List DefinitionTree} {ts r : Words} → SpellsDefinitions ds ts r → SpellsDefinitions ds (all_widened ts) (all_widened r)
+wide_definitions no_definition = no_definition
+wide_definitions (next_definition d c ds) = next_definition (wide_definition d) (wide_comma c) (wide_definitions ds)
+
+wide_package : {c : Option (List ℕ)} {ts r : Words} → SpellsPackage c ts r → SpellsPackage c (all_widened ts) (all_widened r)
+wide_package no_clause = no_clause
+wide_package (clause is c) = clause is (wide_comma c)
+
+-- they spell what they spelled
+pub file_widened : {f : FileTree} {ts : Words} → SpellsFile f ts → SpellsFile f (all_widened ts)
+file_widened (spelled p ds) = spelled (wide_package p) (wide_definitions ds)
+
+-- ---- nesting
+
+label_same : (ws : Words) → ends_with_chained_label (all_widened ws) ≡ ends_with_chained_label ws
+label_same (name s o ∷ colon p ∷ ws) = refl
+label_same (quoted s o ∷ colon p ∷ ws) = refl
+label_same (name s o ∷ open_struct p ∷ ws) = refl
+label_same (quoted s o ∷ open_struct p ∷ ws) = refl
+label_same (open_struct o ∷ ws) = refl
+label_same ws = refl
+
+string_same : (ws : Words) → ends_with_chained_string (all_widened ws) ≡ ends_with_chained_string ws
+string_same (close_list o ∷ name s p ∷ open_list q ∷ colon r ∷ ws) = refl
+string_same (close_list o ∷ name s p ∷ open_list q ∷ open_struct r ∷ ws) = refl
+string_same (close_list o ∷ name s p ∷ open_struct q ∷ ws) = refl
+string_same (close_list o ∷ open_struct p ∷ ws) = refl
+string_same (open_struct o ∷ ws) = refl
+string_same ws = refl
+
+short_same : (ws : Words) → is_short (all_widened ws) ≡ is_short ws
+short_same (question o ∷ ws) = label_same ws
+short_same (bang o ∷ ws) = label_same ws
+short_same [] = refl
+short_same (open_struct o ∷ ws) = refl
+short_same (w ∷ ws) = ap₂ (λ a b. a || b) (label_same (w ∷ ws)) (string_same (w ∷ ws))
+
+behind_same : (ws : Words) (w : Word) (ns : OpenLevels) → behind (all_widened ws) (widened w) ns ≡ behind ws w ns
+behind_same ws (colon o) ns = ap (λ b. counted_if b ns) (short_same ws)
+behind_same ws (open_struct o) ns = refl
+behind_same ws w ns = refl
+
+nesting_from_same : (ws : Words) (ns : OpenLevels) (ts : Words) → nesting_from (all_widened ws) ns (all_widened ts) ≡ nesting_from ws ns ts
+nesting_from_same ws ns [] = refl
+nesting_from_same ws ns (w ∷ ts) = ap (max (nesting_at ns)) (ap (λ ms. nesting_from (all_widened (w ∷ ws)) ms (all_widened ts)) (behind_same ws w ns) ∙ nesting_from_same (w ∷ ws) (behind ws w ns) ts)
+
+-- they nest as deep as they did
+pub nesting_widened : (ts : Words) → nesting (all_widened ts) ≡ nesting ts
+nesting_widened ts = nesting_from_same [] (0 ∷ []) ts
+
+-- ---- the words of tokens
+
+abbrev opens : Kind → Bool
+opens kinds.OpenStruct = true
+opens _ = false
+
+record Other (k : Kind) : Type 0 where
+  is : opens k ≡ false
+
+unless : (b : Bool) (k : Kind) {l : Kind} → opens k ≡ false → Other l → Other (cond b k l)
+unless true k h i = record { is = h }
+unless false k h i = i
+
+-- a mark other than `{`
+mark_other : (t : List ℕ) → bytes_eq t (codes "{") ≡ false → Other (mark_kind t)
+mark_other t h = rw h (
+    unless (bytes_eq t (codes "}")) kinds.CloseStruct refl (
+    unless (bytes_eq t (codes "[")) kinds.OpenList refl (
+    unless (bytes_eq t (codes "]")) kinds.CloseList refl (
+    unless (bytes_eq t (codes "(")) kinds.OpenParen refl (
+    unless (bytes_eq t (codes ")")) kinds.CloseParen refl (
+    unless (bytes_eq t (codes ",")) kinds.Comma refl (
+    unless (bytes_eq t (codes ":")) kinds.Colon refl (
+    unless (bytes_eq t (codes "?")) kinds.Question refl (
+    unless (bytes_eq t (codes "!")) kinds.Bang refl (
+    unless (bytes_eq t (codes "&")) kinds.Amp refl (
+    unless (bytes_eq t (codes "|")) kinds.Bar refl (
+    unless (bytes_eq t (codes "...")) kinds.Dots refl (
+    unless (bytes_eq t (codes "<")) kinds.Less refl (
+    unless (bytes_eq t (codes "<=")) kinds.AtMost refl (
+    unless (bytes_eq t (codes ">")) kinds.More refl (
+    unless (bytes_eq t (codes ">=")) kinds.AtLeast refl (
+    unless (bytes_eq t (codes "!=")) kinds.Unequal refl (
+    unless (bytes_eq t (codes "-")) kinds.Minus refl (
+    unless (bytes_eq t (codes "*")) kinds.Star refl (
+    record { is = refl }))))))))))))))))))))
+
+word_same : (k : Kind) (t : List ℕ) (o : ℕ) → opens k ≡ false → word_of k t o ≡ widened (word_of k t o)
+word_same kinds.OpenStruct t o h = absurd cc
+word_same k t o h = refl
+
+mark_widened : (t : List ℕ) (o : ℕ) → word (wide_lexeme (lexeme sorts.Mark t o)) ≡ widened (word (lexeme sorts.Mark t o))
+mark_widened t o = by (bytes_eq t (codes "{")) refl
+  where
+    by : (b : Bool) → bytes_eq t (codes "{") ≡ b → word (lexeme (cond b sorts.Wide sorts.Mark) t o) ≡ widened (word (lexeme sorts.Mark t o))
+    by true e = rw e refl
+    by false e = word_same (mark_kind t) t o (mark_other t e).is
+
+-- a word of a form that is left out
+abbrev pub is_left_out : Word → Bool
+is_left_out (left_out o) = true
+is_left_out _ = false
+
+pub lexeme_widened : (k : Lexeme) → is_left_out (word k) ≡ false → word (wide_lexeme k) ≡ widened (word k)
+lexeme_widened (lexeme sorts.LeftOut t o) h = let never : true ≡ false = h in absurd cc
+lexeme_widened (lexeme sorts.Mark t o) h = mark_widened t o
+lexeme_widened (lexeme sorts.Wide t o) h = by (bytes_eq t (codes "{"))
+  where
+    by : (b : Bool) → word_of (cond b kinds.OpenWide kinds.LeftOut) t o ≡ widened (word_of (cond b kinds.OpenWide kinds.LeftOut) t o)
+    by true = refl
+    by false = refl
+lexeme_widened (lexeme s t o) h = refl
