@@ -230,11 +230,13 @@ mutual
   wide_struct_deep : {ds : Declarations} {b : Bool} {ts r : Words} → SpellsWideStruct ds b ts r → (h : ℕ) → height_declarations ds ≤ h → (k n : ℕ) (ns : OpenLevels) → nesting_at (0 ∷ n ∷ ns) + h ≤ k → Low k (n ∷ ns) r → Fresh k (0 ∷ n ∷ ns) ts
   wide_struct_deep no_declarations h le k n ns low f ws new = pass _ (omega arith) (f _)
   wide_struct_deep (wide_dots_alone c) h le k n ns low f ws new = pass _ (omega arith) (struct_low c (omega arith) f _)
-  wide_struct_deep (some_declarations v o) h le k n ns low f = declarations_deep v h le k (n ∷ ns) low (λ m within. opening_low o within f)
+  wide_struct_deep (some_declarations v o) h le k n ns low f ws new = declarations_deep v h le k (n ∷ ns) low (λ m within. opening_low o within f) ws new
 
   declarations_deep : {ds : Declarations} {ts r : Words} → SpellsDeclarations ds ts r → (h : ℕ) → height_declarations ds ≤ h → (k : ℕ) (ns : OpenLevels) → nesting_at (0 ∷ ns) + h ≤ k → AnyLow k ns r → Fresh k (0 ∷ ns) ts
-  declarations_deep (a_field {l} {m} {e} v vs) h le k ns low f = field_fresh v h (max_left (height e) _ le) k 0 ns low (more_deep vs h (max_right (height e) _ le) k ns low f)
-  declarations_deep (an_embedding {o} {e} at v vs) h le k ns low f ws new = expression_deep v h (max_left (height e) _ le) k 0 ns low (more_deep vs h (max_right (height e) _ le) k ns low f 0 (omega arith)) ws
+  declarations_deep (a_field {l} {m} {e} v vs) h le k ns low f ws new =
+      field_fresh v h (max_left (height e) _ le) k 0 ns low (more_deep vs h (max_right (height e) _ le) k ns low f) ws new
+  declarations_deep (an_embedding {o} {e} at v vs) h le k ns low f ws new =
+      expression_deep v h (max_left (height e) _ le) k 0 ns low (more_deep vs h (max_right (height e) _ le) k ns low f 0 (omega arith)) ws
 
   more_deep : {ds : Declarations} {ts r : Words} → SpellsMore ds ts r → (h : ℕ) → height_declarations ds ≤ h → (k : ℕ) (ns : OpenLevels) → nesting_at (0 ∷ ns) + h ≤ k → AnyLow k ns r → AnyLow k ns ts
   more_deep no_more h le k ns low f = f

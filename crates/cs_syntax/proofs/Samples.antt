@@ -1,18 +1,16 @@
 -- Samples, worked by the definitions: how deep words nest, which fault a word is, and the limits.
-use Rattle.std.proofs.Common.{◌≡◌, ℕ, zero, suc, pos, ◌<◌, List, [], ◌∷◌, ◌++◌, map, true, false, None, refl, codes, arith, inl, inr}
+use Rattle.std.proofs.Common.{◌≡◌, ℕ, zero, suc, ◌<◌, List, [], ◌∷◌, ◌++◌, map, true, false, refl, codes, arith, inl, inr}
 use Rattle.std.specs.Prelude.{◌⊎◌, replicate}
-use Rattle.cs_grammar.specs.declared.ast.FieldMark.TheVariants.{Optional}
 use Rattle.cs_grammar.specs.Atom as atoms
 use Rattle.cs_grammar.specs.declared.fault.SyntaxFault.{SyntaxFault}
 use Rattle.cs_grammar.specs.declared.fault.SyntaxFault.TheVariants.{Syntax, LeftOut}
 use Rattle.cs_grammar.specs.Cut.{Lexeme, IsCut}
 use Rattle.cs_grammar.specs.Words as W
 use Rattle.cs_grammar.specs.Words.{Word, Words}
-use Rattle.cs_grammar.specs.Tree as T
-use Rattle.cs_grammar.specs.Tree.{Tree, Trees, Fields, FileTree, file, definition}
+use Rattle.cs_grammar.specs.Tree.{FileTree}
 use Rattle.cs_grammar.specs.Spells.{SpellsFile}
 use Rattle.cs_grammar.specs.TokenWords.{words}
-use Rattle.cs_grammar.specs.Height.{height, file_height}
+use Rattle.cs_grammar.specs.Height.{file_height}
 use Rattle.cs_syntax.specs.Nesting.{behind, nesting}
 use Rattle.cs_syntax.specs.Place.{is_left_out_name, is_left_out, fault_of, same, past, IsFaultIn}
 use Rattle.cs_syntax.specs.Answer.{IsSpelled}
