@@ -12,11 +12,10 @@ use Rattle.cs_print.specs.Printed.{IsReadAs}
 use Rattle.cs_defaults.specs.Widened.{IsUnmarked}
 use Rattle.cs_embeddings.specs.Without.{IsJoined}
 use Rattle.cs_tool.specs.Accepted.{AreFiles, AreFilesIn, IsAccepted}
-use Rattle.cs_tool.proofs.Declared.{one_files}
 use Rattle.cs_widen.specs.Accepted.{IsAcceptedIn}
 use Rattle.cs_widen.specs.Meant.{IsMeant, IsMeantIn, Declare}
 use Rattle.cs_widen.specs.Stands.{AreMeant}
-use Rattle.cs_widen.proofs.Once.{one_meant}
+use Rattle.cs_widen.proofs.Once.{one_files, one_meant}
 use Rattle.cs_widen.proofs.Printed.{spelled_low}
 
 abbrev pub HaveDefaultForms : Type 0
@@ -82,7 +81,7 @@ module _ (law : StandForThemselves) (ss : List (List ℕ)) where
   pub meant_in_default : (s : List ℕ) (E : Environment) → IsAccepted ss E → IsMeantIn profiles.Default ss s → IsMeant ss s
   meant_in_default s E accepted h =
       let same = only_themselves h.accepted.files h.accepted.meant h.accepted.spelled h.accepted.stand_for in
-      let files = same ∙ one_files ss h.accepted.files accepted.files h.accepted.spelled accepted.spelled in
+      let files = same ∙ one_files profiles.Default ss h.accepted.files accepted.files h.accepted.spelled accepted.spelled in
       record { environment = E; accepted = accepted; read = subst (λ fs. IsReadAs s fs) files h.read }
 
   pub declare_in_default : (E : Environment) → IsAccepted ss E → Declare profiles.Default ss ss
