@@ -756,9 +756,11 @@ awk 'BEGIN {
     print "}"
 }' > wide.cue
 try 'wide: 40,000 references of one label: widen' 0 'error 5 at 664' 'widen --profile=wide wide.cue'
+{ printf '#A: {'; many 16000 'x: *1 | int, '; printf '}\n'; } > wide.cue
+try 'wide: 16,000 defaults of one label: widen' 0 'error 5 at 8' 'widen --profile=wide wide.cue'
+try 'wide: 16,000 defaults of one label: widen --why' 0 'told error 5 at 8' 'widen --profile=wide --why wide.cue'
 { printf '#A: {'; many 40000 'x: *1 | int, '; printf '}\n'; } > wide.cue
-try 'wide: 40,000 defaults of one label: widen' 0 'error 5 at 8' 'widen --profile=wide wide.cue'
-try 'wide: 40,000 defaults of one label: widen --why' 0 'told error 5 at 8' 'widen --profile=wide --why wide.cue'
+try 'wide: 40,000 defaults of one label: widen' 0 'error 14' 'widen --profile=wide wide.cue'
 { printf '#A: {'; listed 5000 'a%d: *1 | int' ', '; printf '}\n'; } > wide.cue
 try 'wide: 5,000 defaults: export' 0 'shows "a4999":{"anyOf":' 'export --profile=wide --root #A wide.cue'
 printf '{}' > empty
@@ -780,4 +782,90 @@ try 'wide: 500,000 parentheses around a mark: export' 0 'error 7' 'export --prof
 { printf '#A: '; many 24 '{a: '; printf '{y: *1 | int, '; many 45000 'x: 1, '; printf '}'; many 24 '}'; printf '\n'; } > wide.cue
 try 'wide: 45,000 fields 25 levels deep: widen' 0 'shows y?: 1 | int' 'widen --profile=wide wide.cue'
 try 'wide: 45,000 fields 25 levels deep: export' 0 'error 14' 'export --profile=wide --root #A wide.cue'
+# Embeddings of the wide profile: chains, circles and doublings of definitions, many literals, many alternatives, and what is high or large
+# with what is embedded alone.
+# embeds COUNT FORM: so many definitions that embed the next one, by a form of printf that has its number once or twice, and a last one
+embeds() {
+    awk -v count="$1" -v form="$2" 'BEGIN { for (i = 0; i < count; i++) printf "#A%d: " form "\n", i, i + 1, i + 1 }'
+    printf '#A%d: {z: int}\n' "$1"
+}
+embeds 64 '{#A%d, a%d: int}' > wide.cue
+try 'wide: a chain of 64 embeddings: export' 0 'shows "a63":{"type":"integer"}' 'export --profile=wide --root #A0 wide.cue'
+stack=1024
+try 'wide: a chain of 64 embeddings, 1 MiB of stack: list' 0 'shows #A64: struct' 'list --profile=wide wide.cue'
+stack=8192
+embeds 65 '{#A%d, a%d: int}' > wide.cue
+try 'wide: a chain of 65 embeddings: widen' 0 'error 11 at 6' 'widen --profile=wide wide.cue'
+try 'wide: a chain of 65 embeddings: widen --why' 0 'told error 11 at 6' 'widen --profile=wide --why wide.cue'
+embeds 999 '{#A%d, a%d: int}' > wide.cue
+try 'wide: a chain of 999 embeddings: widen' 0 'error 11 at 6' 'widen --profile=wide wide.cue'
+try 'wide: a chain of 999 embeddings: check' 1000000 'holds 2 wide.cue:1:7: error 11:' 'check --profile=wide wide.cue'
+{ printf '#B: {y: int}\n'; listed 999 '#A%d: {#B, x: int}' '\n'; } > wide.cue
+try 'wide: 999 definitions embed one: widen' 0 'shows #A998: {' 'widen --profile=wide wide.cue'
+try 'wide: 999 definitions embed one: export' 100000 'shows "A998":{"additionalProperties":false' 'export --profile=wide --all wide.cue'
+awk 'BEGIN { for (i = 0; i < 999; i++) printf "#A%d: {a%d: int}\n", i, i; printf "#P: {"; for (i = 0; i < 999; i++) printf "#A%d, ", i; print "}" }' > wide.cue
+try 'wide: one definition embeds 999: widen' 0 'shows #P: {' 'widen --profile=wide wide.cue'
+awk 'BEGIN { for (i = 0; i < 1000; i++) printf "#A%d: {#A%d}\n", i, (i + 1) % 1000 }' > wide.cue
+try 'wide: a circle of 1,000 embeddings: widen' 0 'error 11 at 6' 'widen --profile=wide wide.cue'
+try 'wide: a circle of 1,000 embeddings: widen --why' 0 'told error 11 at 6' 'widen --profile=wide --why wide.cue'
+embeds 60 '{#A%d, #A%d}' > wide.cue
+try 'wide: 60 doublings that stand once: widen' 0 'shows #A0: {' 'widen --profile=wide wide.cue'
+embeds 40 '{#A%d | #A%d}' > wide.cue
+try 'wide: 40 doublings of alternatives: widen' 1000000 'error 14' 'widen --profile=wide wide.cue'
+embeds 24 '{x: {#A%d}, y: {#A%d}}' > wide.cue
+try 'wide: 24 doublings of values: widen' 0 'error 14' 'widen --profile=wide wide.cue'
+try 'wide: 24 doublings of values: widen --why' 0 'told error 14' 'widen --profile=wide --why wide.cue'
+embeds 30 '{x: {#A%d}, y%d: int}' > wide.cue
+try 'wide: 30 literals in one another by names: widen' 0 'error 7' 'widen --profile=wide wide.cue'
+embeds 26 '{x: {#A%d}, y%d: int}' > wide.cue
+try 'wide: 28 high by names: widen' 0 'shows #A0: {' 'widen --profile=wide wide.cue'
+stack=1024
+try 'wide: 28 high by names, 1 MiB of stack: check' 0 'lines 0' 'check --profile=wide wide.cue'
+stack=8192
+{
+    for name in B C D; do printf '#%s: ' $name; listed 40 '{%d: int}' ' | ' | sed "s/{/{$name/g"; printf '\n'; done
+    printf '#P: {#B, #C, #D}\n'
+} > wide.cue
+try 'wide: 64,000 alternatives of three definitions: widen' 0 'error 14' 'widen --profile=wide wide.cue'
+{
+    for name in B C; do printf '#%s: ' $name; listed 70 '{%d: int}' ' | ' | sed "s/{/{$name/g"; printf '\n'; done
+    printf '#P: {#B, #C}\n'
+} > wide.cue
+try 'wide: 4,900 alternatives of two definitions: widen' 0 'shows C69: int' 'widen --profile=wide wide.cue'
+{ printf '#A: {'; listed 25000 '{a%d: int}' ', '; printf '}\n'; } > wide.cue
+try 'wide: 25,000 literals in one: widen' 0 'shows a24999: int' 'widen --profile=wide wide.cue'
+try 'wide: 25,000 literals in one: export' 1000000 'shows "a24999":{"type":"integer"}' 'export --profile=wide --root #A wide.cue'
+{ printf '#A: {'; listed 25000 '{a%d: int}' ', '; printf ', int}\n'; } > wide.cue
+try 'wide: 25,000 literals and a kind in one: widen --why' 0 'told error 11 at' 'widen --profile=wide --why wide.cue'
+{ printf '#A: {'; many 25000 '{a: >0}, '; printf '}\n'; } > wide.cue
+try 'wide: 25,000 literals of one label: widen' 0 'shows a: >0' 'widen --profile=wide wide.cue'
+{ printf '#A: {'; many 12000 '{a: #B}, {a: #C}, '; printf '}\n#B: int\n#C: int\n'; } > wide.cue
+try 'wide: 24,000 references of one label: widen' 0 'error 11 at 18' 'widen --profile=wide wide.cue'
+{ printf '#A: {'; many 20000 '{a: {}}, '; printf '}\n'; } > wide.cue
+try 'wide: 20,000 structs of one label: widen' 0 'error 11 at 18' 'widen --profile=wide wide.cue'
+{ printf '#A: {'; listed 20000 '{a%d: {}}' ', '; printf '}\n'; } > wide.cue
+try 'wide: 20,000 structs of other labels: widen' 0 'shows a19999: {}' 'widen --profile=wide wide.cue'
+{ printf '#B: {z: int}\n#A: {'; many 50000 '#B, '; printf '}\n'; } > wide.cue
+try 'wide: one definition 50,000 times in a literal: widen' 0 'shows #A: {' 'widen --profile=wide wide.cue'
+nested 28 '{' '' '}' | sed 's/^/#A: /' > wide.cue
+try 'wide: 28 literals embedded in one another: widen' 0 'lines 0 #A: {}' 'widen --profile=wide wide.cue'
+stack=1024
+try 'wide: 28 embedded literals, 1 MiB of stack: export' 0 '{"A":{"additionalProperties":false,"type":"object"}}' \
+    'export --profile=wide --root #A wide.cue'
+stack=8192
+nested 29 '{' '' '}' | sed 's/^/#A: /' > wide.cue
+try 'wide: 29 literals embedded in one another: widen' 0 'error 7' 'widen --profile=wide wide.cue'
+{ printf '#A: '; nested 500000 '{' '' '}'; } > wide.cue
+try 'wide: 500,000 literals embedded in one another: widen' 0 'error 7' 'widen --profile=wide wide.cue'
+{ listed 10000 '#B: {a%d: int, ...}' '\n'; printf '\n#A: {#B, b: int}\n'; } > wide.cue
+try 'wide: 10,000 bodies of one embedded name: widen' 0 'shows b: int' 'widen --profile=wide wide.cue'
+{ printf '#A: {'; listed 20000 '#Z%d' ', '; printf '}\n'; } > wide.cue
+try 'wide: 20,000 embedded names that are not declared: widen' 0 'error 9 at 5' 'widen --profile=wide wide.cue'
+# Each of the 50 faults that are told is mended, and the rest read again.
+try 'wide: 20,000 embedded names that are not declared: check' 20000000 'holds 2 wide.cue:1:6: error 9:' 'check --profile=wide wide.cue'
+{ printf '#B: {'; listed 20000 'a%d: int' ', '; printf '}\n#A: {#B, b: int}\n'; } > wide.cue
+printf '{}' > empty
+missing=$(awk 'BEGIN { for (i = 0; i < 20000; i++) printf "⏎empty:1:1: (root): the key \"a%d\" is missing [wide.cue:2:6 #A.a%d]", i, i }')
+try 'wide: 20,000 embedded keys, none there: vet --why' 2020002 'holds 1 the key "a19999" is missing' \
+    'vet --why --profile=wide --most 1000000 --root #A --doc empty wide.cue'
 closing

@@ -8,8 +8,8 @@ written as the same text with these words, and has the same schemas. A line for 
 
     tools/laid_out.py PROGRAM
 
-The packages are those of the folders of examples/, and in cases/ those of the rows and the runs that FORMS names, each once. A source
-of more than 1 MiB isn't read again.
+The packages are those of the folders of examples/, in cases/ those of the rows and the runs that FORMS names, and those of
+tools/widening.rows, each once. A source of more than 1 MiB isn't read again.
 """
 from __future__ import annotations
 
@@ -23,6 +23,7 @@ from collections.abc import Callable, Iterator
 from concurrent.futures import ThreadPoolExecutor
 from pathlib import Path
 
+import widened
 from prefixes import PATIENCE, TOP, Report, rows_of, spelled
 
 MOST_BYTES = 1_048_576
@@ -91,6 +92,8 @@ def packages() -> Iterator[Package]:
                 yield from of_run(path.parent, row[0])
         elif path.name == "args":
             yield from of_args(path)
+    for row in widened.rows():
+        yield (row.source.encode(),), "#P"
 
 
 def joined() -> dict[tuple[bytes, ...], list[str]]:

@@ -1,17 +1,23 @@
 #!/usr/bin/env python3
-"""Counts how many of the faults of ordinary CUE two runs of `check` tell. A line for each package and for each thing that
-is wrong, the share of all faults, and a closing count.
+"""Counts how many of the faults of ordinary CUE two runs of `check` tell, and how many definitions are taken as they were first written.
+Two lines for each package and one for each thing that is wrong, the share of all faults and of all definitions, and a closing count.
 
     tools/natural.py PROGRAM [FOLDER..]        folders of packages; those of cases/natural where none is named
 
 A folder has the files of a package, as somebody writes them who doesn't know the profile, and `mends`: what is changed in
-them, one fault after the other, until `export` accepts them. cases/README.md says how that is written.
+them, one fault after the other, until `export` accepts them. Where it has none, its definitions are counted alone. `taken` names the
+definitions that are taken. cases/README.md says how both are written.
 
 - The mends are made in turn. Each time `export` has to refuse with the number of the mend, at a place in the lines that it
   changes, and the first fault that `check` tells has to be the same one. After the last mend `check` tells nothing.
 - `check` is run on the package as it is, and once more with the mends of all the faults that this run told.
 
 A fault is a number and a place in the package as it is. Two runs have to tell 85 % of the faults, and nothing else.
+
+The definitions are those at the top of the files, hidden ones among them; those inside of others are parts of these. A definition is taken
+where `export` accepts it as the root of a file that has its declarations, and those of all that it refers to, directly or by others; names
+in comments and texts are no references, and imports and the names of packages are left out. It is asked without further words and with
+`--profile wide`: that has to take what is taken without it, and just those that `taken` names, where there is that file.
 """
 from __future__ import annotations
 
@@ -28,6 +34,12 @@ WANTED_PERCENT = 85
 MEND = re.compile(r"(\d+| ) ([^ :]+): (.*?) =>(?: (.*))?")
 REFUSED = re.compile(r"error (\d+)(?: at (\d+))?\n")
 TOLD = re.compile(r"(?:([^ :]+):(?:(\d+):(\d+):)? )?error (\d+): (.*)")
+NO_NAMES = re.compile(r'//[^\n]*|"(?:[^"\\\n]|\\.)*"')
+# A bracket, or a name that is declared where no bracket is open.
+AT_TOP = re.compile(r"(?P<opens>[{(\[])|(?P<closes>[})\]])|(?:^|,)[ \t]*(?P<name>_?#?[A-Za-z_]\w*)[ \t]*:", re.M)
+IS_DEFINITION = re.compile(r"_?#\w+")
+# How the two lists of definitions in `taken` begin, and the words of each.
+PROFILES = {"default": [], "wide": ["--profile", "wide"]}
 
 
 class Change(NamedTuple):
@@ -225,6 +237,73 @@ def meet(package: Package, mends: list[Mend]) -> list[Fault]:
     return met
 
 
+def without_texts(text: str) -> str:
+    """The text with blanks in place of its comments and texts."""
+    return NO_NAMES.sub(lambda found: " " * len(found[0]), text)
+
+
+def declarations(text: str) -> list[tuple[str, str]]:
+    """The names that are declared at the top of a file, each with the text up to the next one."""
+    starts, depth = [], 0
+    for found in AT_TOP.finditer(without_texts(text)):
+        depth += bool(found["opens"]) - bool(found["closes"])
+        if found["name"] and depth == 0:
+            starts.append((found["name"], found.start("name")))
+    ends = [start for _name, start in starts[1:]] + [len(text)]
+    return [(name, text[start:end].strip().rstrip(",")) for (name, start), end in zip(starts, ends)]
+
+
+class Written:
+    """The declarations at the top of a package as it was first written."""
+
+    def __init__(self, folder: Path) -> None:
+        self.declared: dict[str, list[str]] = {}
+        for path in sorted(folder.glob("*.cue")):
+            for name, declared in declarations(path.read_text(encoding="utf-8")):
+                self.declared.setdefault(name, []).append(declared)
+
+    def definitions(self) -> list[str]:
+        return [name for name in self.declared if IS_DEFINITION.fullmatch(name)]
+
+    def reached(self, root: str) -> list[str]:
+        """The root and the names that it refers to, directly or by others."""
+        found = [root]
+        for name in found:
+            text = without_texts("\n".join(self.declared[name]))
+            found += [it for it in self.declared if it not in found and re.search(rf"(?<![\w#]){re.escape(it)}(?!\w)", text)]
+        return found
+
+    def is_taken(self, program: str, root: str, words: list[str]) -> bool:
+        """Whether `export` accepts the definition with what it refers to."""
+        source = "".join(f"{declared}\n" for name in self.reached(root) for declared in self.declared[name])
+        run = [program, "export", "--root", root, *words]
+        ran = subprocess.run(run, input=source, capture_output=True, encoding="utf-8", timeout=int(os.environ.get("PATIENCE", 20)))
+        if ran.returncode not in (0, 2):
+            raise Wrong(f"export of {root} ended with status {ran.returncode} and said {ran.stderr!r}")
+        return ran.returncode == 0
+
+
+class Taken(NamedTuple):
+    """The definitions of a package, those of them that are taken by each profile, and what is wrong with that."""
+
+    definitions: list[str]
+    by_profile: dict[str, list[str]]
+    wrong: list[str]
+
+
+def taken_of(program: str, folder: Path) -> Taken:
+    written = Written(folder)
+    definitions = written.definitions()
+    by_profile = {profile: [it for it in definitions if written.is_taken(program, it, words)] for profile, words in PROFILES.items()}
+    wrong = [f"{it} is taken without `--profile wide` alone" for it in by_profile["default"] if it not in by_profile["wide"]]
+    named = folder / "taken"
+    for line in named.read_text(encoding="utf-8").splitlines() if named.exists() else []:
+        profile, *names = line.split()
+        if sorted(names) != sorted(by_profile[profile]):
+            wrong.append(f"the {profile} profile takes {' '.join(by_profile[profile])}, and has to take {' '.join(names)}")
+    return Taken(definitions, by_profile, wrong)
+
+
 class Measured(NamedTuple):
     """The faults of a package that are met one after the other, those that each of two runs of `check` tells, and the
     package in its second run."""
@@ -265,7 +344,8 @@ def report(name: str, measured: Measured) -> None:
     print(f"{name}: {len(measured.met)} faults met, {first} of them told in one run, {len(caught)} in two")
 
 
-def main(program: str, folders: list[Path]) -> int:
+def count_faults(program: str, folders: list[Path]) -> tuple[int, int]:
+    """How many things are right of the faults of packages, and how many aren't."""
     met = caught = failed = 0
     for folder in folders:
         try:
@@ -279,8 +359,35 @@ def main(program: str, folders: list[Path]) -> int:
         failed += len(measured.others())
     enough = caught * 100 >= met * WANTED_PERCENT > 0
     print(f"all: {met} faults met, {caught} of them told in two runs, which is {100 * caught // max(met, 1)} %")
-    print(f"{met + enough} passed, {failed + (not enough)} failed")
-    return 0 if enough and failed == 0 else 1
+    return met + enough, failed + (not enough)
+
+
+def count_definitions(program: str, folders: list[Path]) -> tuple[int, int]:
+    """How many definitions are answered well, and how many things are wrong."""
+    many = failed = 0
+    sums = dict.fromkeys(PROFILES, 0)
+    for folder in folders:
+        taken = taken_of(program, folder)
+        many, failed = many + len(taken.definitions), failed + len(taken.wrong)
+        for it in taken.wrong:
+            print(f"{folder.name}: {it}")
+        for profile, names in taken.by_profile.items():
+            sums[profile] += len(names)
+        print(f"{folder.name}: {said_of(len(taken.definitions), {profile: len(names) for profile, names in taken.by_profile.items()})}")
+    print(f"all: {said_of(many, sums)}")
+    return many, failed + (many == 0)
+
+
+def said_of(many: int, taken: dict[str, int]) -> str:
+    return f"{many} definitions, {taken['default']} of them taken as they were first written, {taken['wide']} with `--profile wide`"
+
+
+def main(program: str, folders: list[Path]) -> int:
+    mended = [it for it in folders if (it / "mends").exists()]
+    passed, failed = count_faults(program, mended) if mended else (0, 0)
+    taken, wrong = count_definitions(program, folders)
+    print(f"{passed + taken} passed, {failed + wrong} failed")
+    return 1 if failed + wrong else 0
 
 
 if __name__ == "__main__":

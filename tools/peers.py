@@ -2,9 +2,12 @@
 """Has other validators of JSON Schema judge the documents that `samples` writes. A line for each validator that was found, one for
 each wrong verdict, and a closing count of verdicts.
 
-    tools/peers.py PROGRAM [PACKAGE..]        a file is a package, and so are the files of a folder together; where none is named,
-                                              each file of examples/ and of the folders in cases/, and the packages of the rows
-                                              `widened` there, by `--profile wide`
+    tools/peers.py PROGRAM [PACKAGE..]        a file is a package, and so are the files of a folder together, and the rows of a file
+                                              as tools/widening.rows that the program takes; where none is named, each file of
+                                              examples/ and of the folders in cases/, the packages of the rows `widened` there, and
+                                              tools/widening.rows
+
+The packages of rows are exported by `--profile wide`.
 
 Of each definition that `export` takes, up to 1,000 documents of `samples` have to be valid, and up to 1,000 of `samples --invalid`
 invalid: by the definition (`vet`), by the exported schema (`validate`), and by that schema, as it is printed plainly, with
@@ -32,7 +35,8 @@ import tempfile
 from collections.abc import Callable
 from pathlib import Path
 
-from prefixes import TOP, on_a_line, rows_of, spelled
+import widened
+from prefixes import TOP, WIDE, on_a_line, rows_of, spelled
 
 MOST = 1000
 # The library, the class of its validators, and its package.
@@ -232,11 +236,11 @@ class Report:
             self.add(package, root, schema, True)
             self.add(package, root, schema, False)
 
-    def add_row(self, package: Package, root: str, cells: list[str]) -> None:
-        """A row whose sources are accepted: its documents, and the samples of its definitions."""
+    def add_row(self, package: Package, root: str, docs: dict[str, list[str]]) -> None:
+        """A row whose sources are accepted: its documents of each verdict, and the samples of its definitions."""
         schema = package.on_files("export", root)[0]
-        for verdict, _, docs in (cell.partition(": ") for cell in cells):
-            self.judge(package, root, schema, [on_a_line(spelled(it)) for it in docs.split(" ")], verdict == "valid")
+        for verdict, given in docs.items():
+            self.judge(package, root, schema, given, verdict == "valid")
         self.add_package(package)
 
 
@@ -249,7 +253,20 @@ def add_rows(report: Report, program: str) -> None:
             with tempfile.TemporaryDirectory(prefix=f"{file.parent.name}-{number}-") as room:
                 for name, source in enumerate(sources.split(" % "), 1):
                     (Path(room) / f"{name}.cue").write_text(spelled(source), encoding="utf-8")
-                report.add_row(Package(program, Path(room), ("--profile", "wide")), root, cells[2:])
+                parted = [cell.partition(": ") for cell in cells[2:]]
+                docs = {verdict: [on_a_line(spelled(it)) for it in given.split(" ")] for verdict, _, given in parted}
+                report.add_row(Package(program, Path(room), WIDE), root, docs)
+
+
+def add_model_rows(report: Report, program: str, path: Path) -> None:
+    """The rows of a file as tools/widening.rows that the program takes."""
+    for row in widened.rows(path):
+        if row.refusal() or row.so_far:
+            continue
+        docs = {verdict: [json.dumps(doc) for doc, given in row.documents if given == verdict] for verdict in ("valid", "invalid")}
+        with tempfile.TemporaryDirectory(prefix="row-") as room:
+            (Path(room) / "row.cue").write_text(f"{row.source}\n", encoding="utf-8")
+            report.add_row(Package(program, Path(room), WIDE), "#P", {verdict: given for verdict, given in docs.items() if given})
 
 
 def main(program: str, paths: list[Path], with_rows: bool) -> int:
@@ -260,7 +277,10 @@ def main(program: str, paths: list[Path], with_rows: bool) -> int:
         return 1
     report = Report(validators)
     for path in paths:
-        report.add_package(Package(program, path))
+        if path.suffix == ".rows":
+            add_model_rows(report, program, path)
+        else:
+            report.add_package(Package(program, path))
     if with_rows:
         add_rows(report, program)
     print(f"{report.documents} documents of {report.definitions} definitions; {report.refused} packages are refused by `export`")
@@ -277,5 +297,5 @@ if __name__ == "__main__":
         sys.exit(__doc__)
     named = [Path(it) for it in sys.argv[2:]]
     folders = sorted({file.parent for file in (TOP / "examples").glob("*/*.cue")})
-    stored = [*sorted((TOP / "examples").glob("*.cue")), *folders, *sorted((TOP / "cases").glob("*/*.cue"))]
+    stored = [*sorted((TOP / "examples").glob("*.cue")), *folders, *sorted((TOP / "cases").glob("*/*.cue")), widened.ROWS]
     sys.exit(main(str(Path(sys.argv[1]).resolve()), named or stored, with_rows=not named))

@@ -5,7 +5,7 @@ for each difference, and a closing count.
 
     tools/prefixes.py PROGRAM
 
-The documents are those of examples/ and of the tables of cases/, and for each package and schema a list of all of them, which has
+The documents are those of examples/, of the tables of cases/ and of tools/widening.rows, and for each package and schema a list of all of them, which has
 many reasons. Each is told by `vet`, `validate` and `agree`, of the closest alternatives and of all, in lines, by `--format json` and by
 `--format basic`, whose units of schemas are those on the way to what is told. All formats have to tell as much, and no line twice.
 """
@@ -21,6 +21,8 @@ from collections import Counter
 from concurrent.futures import ThreadPoolExecutor
 from dataclasses import dataclass, field
 from pathlib import Path
+
+import widened
 
 TOP = Path(__file__).resolve().parent.parent
 ALL = 1_000_000
@@ -39,17 +41,20 @@ MOST_SAMPLES = 10_000
 OF_SCHEMAS = ("the document is not valid", "the subschema is not valid")
 TIMES = re.compile("⟨([0-9]+)×([^⟩]*)⟩")
 PATIENCE = int(os.environ.get("PATIENCE", "20"))
+# The words that ask for the wide profile.
+WIDE = ("--profile", "wide")
 
 
 @dataclass
 class Rules:
-    """A package and one of its definitions, or a schema, with documents: each a text on one line."""
+    """A package and one of its definitions, or a schema, with documents: each a text on one line. A package has the words of its profile."""
 
     name: str
     docs: list[str]
     sources: list[str] = field(default_factory=list)
     root: str = ""
     schema: str = ""
+    profile: tuple[str, ...] = ()
 
 
 @dataclass
@@ -100,6 +105,20 @@ def of_packages(path: Path) -> list[Rules]:
     return rules
 
 
+def of_widened(path: Path) -> list[Rules]:
+    """The rows of the wide profile whose sources aren't refused."""
+    rules = []
+    for sources, root, _, _, *cells in (row for row in rows_of(path) if len(row) > 4):
+        rules.append(Rules(f"{path}: {sources[:60]}", judged(cells), spelled(sources).split(" % "), spelled(root), profile=WIDE))
+    return rules
+
+
+def of_model() -> list[Rules]:
+    """The rows of tools/widening.rows that the program takes."""
+    taken = [row for row in widened.rows() if not row.refusal() and not row.so_far]
+    return [Rules(str(row), [json.dumps(doc) for doc, _verdict in row.documents], [row.source], "#P", profile=WIDE) for row in taken]
+
+
 def of_schemas(path: Path) -> list[Rules]:
     return [Rules(f"{path}: {schema[:60]}", judged(cells), schema=spelled(schema)) for schema, *cells in rows_of(path)]
 
@@ -123,7 +142,8 @@ def run_of(path: Path, words: list[str]) -> Rules | None:
     if not doc or not (schema or (root and files)):
         return None
     name = f"{path}: {' '.join(words)[:100]}"
-    return Rules(name, [on_a_line(read[doc])], [read[it] for it in files], root, read.get(schema, ""))
+    profile = WIDE if given.get("--profile") == "wide" else ()
+    return Rules(name, [on_a_line(read[doc])], [read[it] for it in files], root, read.get(schema, ""), profile)
 
 
 def of_runs(path: Path) -> list[Rules]:
@@ -146,6 +166,7 @@ def all_rules() -> list[Rules]:
     rules = [of_example(it.parent) for it in sorted((TOP / "examples").glob("*/schema.json"))]
     for form, read in (
         ("packages", of_packages),
+        ("widened", of_widened),
         ("schemas", of_schemas),
         ("documents", of_documents),
         ("runs", of_runs),
@@ -153,14 +174,14 @@ def all_rules() -> list[Rules]:
     ):
         for path in sorted((TOP / "cases").glob(f"*/{form}")):
             rules += read(path)
-    return joined(rules)
+    return joined(rules + of_model())
 
 
 def joined(rules: list[Rules]) -> list[Rules]:
     """The same, with the documents of one package or schema together, each once."""
     found: dict[tuple, Rules] = {}
     for it in rules:
-        first = found.setdefault((tuple(it.sources), it.root, it.schema), it)
+        first = found.setdefault((tuple(it.sources), it.root, it.schema, it.profile), it)
         first.docs = list(dict.fromkeys([*first.docs, *it.docs]))
     return [it for it in found.values() if it.docs]
 
@@ -171,7 +192,7 @@ def listed(rules: Rules) -> list[Rules]:
     if rules.sources:
         if any(re.match(r"\s*package\b", it) for it in rules.sources):
             return []
-        return [Rules(name, [doc], [*rules.sources, f"#ListOfAll: [...{rules.root}]\n"], "#ListOfAll")]
+        return [Rules(name, [doc], [*rules.sources, f"#ListOfAll: [...{rules.root}]\n"], "#ListOfAll", profile=rules.profile)]
     try:
         try:
             schema = json.loads(rules.schema)
@@ -197,7 +218,7 @@ class Program:
         for name, text in zip(self.files, rules.sources):
             (room / name).write_text(text, encoding="utf-8")
         (room / "docs").write_text("".join(f"{doc}\n" for doc in rules.docs), encoding="utf-8")
-        schema = rules.schema or self.run("export", "--root", rules.root, "--", *self.files).stdout
+        schema = rules.schema or self.run("export", *rules.profile, "--root", rules.root, "--", *self.files).stdout
         (room / "schema").write_text(schema, encoding="utf-8")
 
     def run(self, *words: str) -> subprocess.CompletedProcess[str]:
@@ -212,7 +233,7 @@ class Program:
         """What is told of each document that is told of, by its number."""
         how = LINES[kind] if form == "lines" else ["--format", form, *OBJECTS[kind]]
         many = [] if form != "lines" and most == 20 else ["--most", str(most)]
-        by = ["--schema", "schema"] if command == "validate" else ["--root", self.rules.root]
+        by = ["--schema", "schema"] if command == "validate" else ["--root", self.rules.root, *self.rules.profile]
         with (self.room / "docs").open(encoding="utf-8") as docs:
             run = subprocess.run(
                 [self.program, command, *how, *many, *by, "--lines", "--", *(self.files if command != "validate" else [])],
@@ -315,7 +336,7 @@ def samples_differ(whole: subprocess.CompletedProcess[str], few: subprocess.Comp
 def compare_samples(program: Program, report: Report) -> None:
     """Compares the documents of a definition, and those that just fail."""
     for kind in ([], ["--invalid"]):
-        by = [*kind, "--root", program.rules.root, "--", *program.files]
+        by = [*kind, "--root", program.rules.root, *program.rules.profile, "--", *program.files]
         whole = program.run("samples", "--most", str(MOST_SAMPLES), *by)
         for most in FEWER:
             if whole.returncode == 0 and most < len(whole.stdout.splitlines()):

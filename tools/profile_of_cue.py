@@ -10,6 +10,7 @@ from __future__ import annotations
 
 import json
 import re
+from collections.abc import Callable
 
 Package = dict[str, list[tuple]]
 
@@ -169,22 +170,29 @@ def spelled(package: Package) -> str:
     return ";".join(f"{name}: {text(body)}" for name, bodies in package.items() for body in bodies)
 
 
-def text(it: tuple) -> str:
+def text(it: tuple, labelled: Callable[[str], str] = json.dumps) -> str:
+    """A source of the expression, with labels as `labelled` writes them."""
     form = it[0]
     if form in ("and", "or"):
         mark = " & " if form == "and" else " | "
-        return mark.join(f"({text(part)})" if part[0] in ("and", "or") else text(part) for part in it[1])
+        return mark.join(f"({text(part, labelled)})" if part[0] in ("and", "or") else text(part, labelled) for part in it[1])
     if form == "struct":
-        fields = [f"{'[string]' if mark == '[string]' else json.dumps(label) + mark}: {text(value)}" for label, mark, value in it[1]]
+        fields = [text_of_field(*declared, labelled) for declared in it[1]]
         return "{" + ", ".join(fields + ["..."] * it[2]) + "}"
     if form == "list":
-        end = [] if it[2] is None else ["..."] if it[2] == ("top",) else [f"...{text(it[2])}"]
-        return "[" + ", ".join([text(part) for part in it[1]] + end) + "]"
+        end = [] if it[2] is None else ["..."] if it[2] == ("top",) else [f"...{text(it[2], labelled)}"]
+        return "[" + ", ".join([text(part, labelled) for part in it[1]] + end) + "]"
     if form in ("value", "not"):
         return ("!=" if form == "not" else "") + json.dumps(it[1])
     if form == "bound":
         return f"{it[1]}{it[2]}"
     return {"top": "_", "bottom": "_|_"}.get(form) or it[1]
+
+
+def text_of_field(label: str, mark: str, value: tuple, labelled: Callable[[str], str]) -> str:
+    """A source of a declaration; one with the mark `embed` is an embedded expression."""
+    front = "" if mark == "embed" else "[string]: " if mark == "[string]" else f"{labelled(label)}{mark}: "
+    return front + text(value, labelled)
 
 
 def is_integer(doc) -> bool:

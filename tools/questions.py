@@ -6,7 +6,8 @@ has to be. A line for each wrong answer, the kinds of answers, and a closing cou
 
 - 1,000 random pairs of small packages, most of them a package and an edited copy of it, in both directions. Whatever small document
   separates them by the evaluator below, which knows the program's only by docs/PROFILE.md, has to be found: `compatible` and
-  `error 17` are wrong there. A document that is told has to separate them.
+  `error 17` are wrong there. A document that is told has to separate them. Every other pair is asked with `--profile wide`, and written
+  with embeddings: the first fields of literals stand in literals that these embed, which means the same.
 - The packages of each folder: each definition against itself, which is `compatible`, and against the package with an edit, for each kind
   of edit and each definition where the first one fits. A document that is told has to separate them. No question takes longer than
   is named, 1 second where nothing is.
@@ -22,6 +23,7 @@ import sys
 import tempfile
 import time
 from collections import Counter
+from collections.abc import Sequence
 from pathlib import Path
 
 sys.path.insert(0, str(Path(__file__).resolve().parent))
@@ -254,13 +256,33 @@ def documents(chance: random.Random, old: Package, new: Package) -> list:
 # Questions.
 
 
-def asked(program: str, pair, seconds: float = 60) -> str:
+def with_embeddings(chance: random.Random, it: tuple) -> tuple:
+    """The same expression, with the first fields of some literals in literals that they embed; one of the two is open where it was open."""
+    parted = with_parts(it, [with_embeddings(chance, part) for part in inner(it)])
+    if it[0] != "struct" or chance.random() < 0.3:
+        return parted
+    _form, fields, is_open = parted
+    place = chance.randint(0, len(fields))
+    is_open_inside = is_open and chance.random() < 0.5
+    return ("struct", [("", "embed", ("struct", fields[:place], is_open_inside)), *fields[place:]], is_open and not is_open_inside)
+
+
+def embedding(chance: random.Random, package_of: Package) -> Package:
+    return {name: [with_embeddings(chance, body) for body in bodies] for name, bodies in package_of.items()}
+
+
+def asked_with_embeddings(program: str, chance: random.Random, pair) -> str:
+    old, root, new, new_root = pair
+    return asked(program, (embedding(chance, old), root, embedding(chance, new), new_root), profile=["--profile", "wide"])
+
+
+def asked(program: str, pair, seconds: float = 60, profile: Sequence[str] = ()) -> str:
     """What `compare` says of the pair: `compatible`, the document that separates it, `error 17`, or `refused` for any other refusal."""
     old, root, new, new_root = pair
     with tempfile.TemporaryDirectory() as room:
         for name, source in (("old.cue", old), ("new.cue", new)):
             Path(room, name).write_text(spelled(source).replace(";", "\n"))
-        words = [program, "compare", "--root", root, "--new-root", new_root, "--old", "old.cue", "--new", "new.cue"]
+        words = [program, "compare", *profile, "--root", root, "--new-root", new_root, "--old", "old.cue", "--new", "new.cue"]
         run = subprocess.run(words, cwd=room, capture_output=True, text=True, timeout=seconds)
     said = run.stdout.splitlines() or run.stderr.splitlines()
     if run.returncode > 2 or not said:
@@ -294,6 +316,7 @@ def kind_of(answer: str) -> str:
 class Report:
     def __init__(self) -> None:
         self.kinds: Counter[str] = Counter()
+        self.embedded: Counter[str] = Counter()
         self.wrong = 0
         self.slowest = 0.0
 
@@ -312,7 +335,8 @@ def try_random(program: str, count: int, seed: int, report: Report) -> None:
             old = package(chance)
             new = package(chance) if chance.random() < 0.25 else edited_copy(chance, old)
             pairs += [(old, "#A", new, "#A"), (new, "#A", old, "#A")]
-        answers = [asked(program, pair) for pair in pairs]
+        answers = [asked_with_embeddings(program, chance, it) if place // 2 % 2 else asked(program, it) for place, it in enumerate(pairs)]
+        report.embedded.update(kind_of(it) for place, it in enumerate(answers) if place // 2 % 2)
         for place in range(0, len(pairs), 2):
             docs = [] if answers[place] == "refused" else documents(chance, pairs[place][0], pairs[place][2])
             for pair, answer in zip(pairs[place : place + 2], answers[place : place + 2]):
@@ -342,6 +366,10 @@ def try_folder(program: str, folder: Path, slowest: float, report: Report) -> No
         report.add(pair, answer, wrong, f"{folder.name}: {what}: ")
 
 
+def told_of(kinds: Counter[str]) -> str:
+    return ", ".join(f"{count} {kind}" for kind, count in sorted(kinds.items()))
+
+
 def main() -> int:
     words = argparse.ArgumentParser()
     words.add_argument("program")
@@ -354,8 +382,8 @@ def main() -> int:
     try_random(program, given.pairs, given.seed, report)
     for folder in given.folders:
         try_folder(program, folder, given.slowest, report)
-    told = ", ".join(f"{count} {kind}" for kind, count in sorted(report.kinds.items()))
-    print(f"{told}; the slowest of the folders took {report.slowest:.2f} seconds")
+    print(f"{told_of(report.embedded)} with embeddings")
+    print(f"{told_of(report.kinds)}; the slowest of the folders took {report.slowest:.2f} seconds")
     print(f"{sum(report.kinds.values()) - report.wrong} passed, {report.wrong} failed")
     return 1 if report.wrong else 0
 

@@ -9,9 +9,18 @@
 - Random packages, 200 where no number is given: each document has to be an instance by a direct reading of the source exactly where it is
   one of the package that is meant. By that reading a document is an instance of a literal with embedded expressions when, for some choice
   of an alternative for each, one for a name, every declared field is as all of them ask, and every other key is allowed by one of them.
-- With a program: random packages with defaults and no other form of the wide profile. Where the model refuses a mark, `widen --profile wide`
-  refuses by 5. Elsewhere it says of the package what `widen` says of the one that the model means: the number of the same refusal, or a
-  text that is read as the same package; and then `vet --profile wide` judges documents as the model does.
+- With a program: the rows, by `widen --profile wide` and `vet --profile wide`; where the program doesn't take a form so far, `so far`
+  says how it refuses that. Then random packages with defaults and embeddings, every third one without embeddings, every fifth one in a
+  file for each declaration. Where the model refuses, the program has to. Where it doesn't, `widen --profile wide` has to say of the
+  package what `widen` says of the one that the model means: the number of the same refusal, or a text that is read as the same package;
+  `export` writes the same schemas, to the byte, and `vet` judges documents as the model does. The program is refused by 11 where the
+  model uses a rule that it doesn't take: `&` or a mark in what is embedded, two values of a label that an embedding brings together,
+  literals that are joined. `check` has to tell the same number first.
+
+Numbers are compared in the order of the program's conditions: what can't be embedded (9, 11) and what an embedding brings together
+(11), then marks (5), then the package that is meant, where 9 and 10 come before 11. They aren't told apart in three cases: 9 and 11
+where some name isn't declared, 5 and 11 where a package with marks needs that literals are joined, and with such a mark at fault 9 and
+10 too.
 """
 from __future__ import annotations
 
@@ -25,11 +34,12 @@ import tempfile
 from collections import Counter
 from collections.abc import Iterator
 from concurrent.futures import ThreadPoolExecutor
+from dataclasses import dataclass, field
 from pathlib import Path
 
 sys.path.insert(0, str(Path(__file__).resolve().parent))
-from profile_of_cue import Package, admits, is_instance, parsed  # noqa: E402
-from widening import Refused, Widening, WideReader, breaks_opening, is_plain, spelled, widened  # noqa: E402
+from profile_of_cue import Package, admits, is_instance, parsed, text  # noqa: E402
+from widening import Alternative, Quoted, Refused, Widening, WideReader, breaks_opening, is_plain, parts, spelled, widened  # noqa: E402
 
 ROWS = Path(__file__).resolve().parent / "widening.rows"
 LABELS = ["a", "b", "c"]
@@ -39,35 +49,71 @@ DOCUMENTS = 60
 # Rows.
 
 
-def faults_of_row(row: list[str]) -> Iterator[str]:
-    """What is wrong with the row of these lines."""
-    source = "\n".join(it for it in row if it.startswith(("#", "package")))
-    wanted = [it[3:] for it in row if it.startswith("=> ")]
+@dataclass
+class Row:
+    """A row of the file: a source, the lines that say what it stands for or how it is refused, how the program refuses it so far, if it
+    does, and documents with what they are."""
+
+    source: str
+    wanted: list[str] = field(default_factory=list)
+    so_far: str = ""
+    documents: list[tuple[object, str]] = field(default_factory=list)
+
+    def __str__(self) -> str:
+        return " ".join(self.source.split())
+
+    def refusal(self) -> str:
+        """How it is refused by the rules."""
+        return self.wanted[0] if self.wanted[0].startswith("error") else ""
+
+    def differs(self, meant: Package) -> bool:
+        """Whether the definitions that the row has are others in the package."""
+        wanted = parsed("\n".join(self.wanted))
+        return not wanted or any(spelled({name: meant[name]}) != spelled({name: bodies}) for name, bodies in wanted.items())
+
+
+def row_of(lines: list[str]) -> Row:
+    row = Row("\n".join(it for it in lines if it.startswith(("#", "package"))))
+    for line in lines:
+        word, _, rest = line.partition(" ")
+        if word == "=>":
+            row.wanted.append(rest)
+        elif word == "so":
+            row.so_far = rest.removeprefix("far ")
+        elif word in ("valid", "invalid"):
+            row.documents += [(it, word) for it in read_all(rest)]
+    return row
+
+
+def rows(path: Path = ROWS) -> list[Row]:
+    """The rows of a file; a line that begins with `# ` says something of those below it."""
+    parted = [[it for it in part.split("\n") if it and not it.startswith("# ")] for part in path.read_text().split("\n\n")]
+    return [row_of(lines) for lines in parted if lines]
+
+
+def faults_of_row(row: Row) -> Iterator[str]:
+    """How the model differs from a row."""
     try:
-        meant = widened(source)
+        meant = widened(row.source)
     except Refused as why:
-        if [f"error {why.number}"] != wanted:
+        if f"error {why.number}" != row.refusal():
             yield str(why)
         return
-    of_rows = parsed("" if wanted[0].startswith("error") else "\n".join(wanted))
-    if not of_rows or any(spelled({name: meant[name]}) != spelled({name: bodies}) for name, bodies in of_rows.items()):
+    if row.refusal() or row.differs(meant):
         yield f"stands for {spelled(meant)}"
         return
-    for line in row:
-        word, _, documents = line.partition(" ")
-        if word in ("valid", "invalid"):
-            for document in read_all(documents):
-                if is_instance(meant, "#P", document) != (word == "valid"):
-                    yield f"{json.dumps(document)} is {'in' if word == 'valid' else ''}valid"
+    for document, verdict in row.documents:
+        if is_instance(meant, "#P", document) != (verdict == "valid"):
+            yield f"{json.dumps(document)} isn't {verdict}"
 
 
-def read_all(text: str) -> Iterator:
+def read_all(texts: str) -> Iterator:
     """The JSON texts that stand one behind the other."""
     reader = json.JSONDecoder()
-    while text:
-        document, place = reader.raw_decode(text)
+    while texts:
+        document, place = reader.raw_decode(texts)
         yield document
-        text = text[place:].lstrip()
+        texts = texts[place:].lstrip()
 
 
 # Random packages.
@@ -245,40 +291,49 @@ def fault_of_package(chance: random.Random, package: Package) -> str | None:
     return None
 
 
-# A program, on random packages with defaults alone.
+# A program, on the rows, and on random packages with defaults and embeddings.
 
 ATOMS = ["int", "string", "bool", "uint8", "1", '"x"', "null", ">0", "!=1", "-1", "true", "_"]
 DEFAULTS = ["1", '"x"', "null", "-1", "false", "[]", "{}", '[1, ["x"], {}]', "(1)"]
 
 
 class Sources:
-    """Random sources whose only form of the wide profile are marks of defaults, most of them in place."""
+    """Random sources whose only forms of the wide profile are marks of defaults, most of them in place, and embeddings, where the package
+    has some: so many of the declarations of a literal are embedded expressions then. Where it has, there are fewer literals and
+    references among the values, as those of one label are refused where they meet."""
 
-    def __init__(self, chance: random.Random, names: list[str]) -> None:
-        self.chance, self.names = chance, names
+    def __init__(self, chance: random.Random, names: list[str], has_embeddings: bool) -> None:
+        self.chance, self.names, self.has_embeddings = chance, names, has_embeddings
+        self.embedded_share = chance.choice([0.3, 0.45, 0.6]) if has_embeddings else 0
 
     def value(self, depth: int) -> str:
         form = self.chance.random()
-        if depth <= 0 or form < 0.25:
+        if depth <= 0 or form < (0.6 if self.has_embeddings else 0.25):
             return self.chance.choice(ATOMS)
-        if form < 0.45:
+        form = self.chance.random()
+        if form < 0.27:
             return self.struct(depth)
-        if form < 0.58:
-            return self.chance.choice(self.names)
-        if form < 0.82:
+        if form < 0.45:
+            return self.name()
+        if form < 0.77:
             return self.disjunction(depth)
-        if form < 0.88:
+        if form < 0.84:
             return " & ".join(self.operand(depth) for _ in range(2))
-        if form < 0.96:
+        if form < 0.95:
             return self.listing(depth)
         return f"({self.value(depth - 1)})"
+
+    def name(self) -> str:
+        return self.chance.choice(self.names) if self.chance.random() < 0.997 else "#Z"
 
     def operand(self, depth: int) -> str:
         found = self.value(depth - 1)
         return f"({found})" if any(it in found for it in "|&*") and found[0] not in "{[" else found
 
     def disjunction(self, depth: int) -> str:
-        operands = [self.operand(depth) for _ in range(self.chance.randint(1, 2))]
+        # A mark in parentheses is refused in an operand.
+        inside = 0 if self.has_embeddings and self.chance.random() < 0.8 else depth
+        operands = [self.operand(inside) for _ in range(self.chance.randint(1, 2))]
         form = self.chance.random()
         if form < 0.75:
             operands.insert(self.chance.randint(0, len(operands)), "*" + self.chance.choice(DEFAULTS))
@@ -287,104 +342,340 @@ class Sources:
         return " | ".join(operands)
 
     def struct(self, depth: int) -> str:
-        fields = [self.field(depth) for _ in range(self.chance.randint(0, 3))]
-        return "{" + ", ".join(fields + ["..."] * (self.chance.random() < 0.4)) + "}"
+        declared = [self.declaration(depth) for _ in range(self.chance.randint(0, 4 if self.has_embeddings else 3))]
+        between = self.chance.choice([", ", ", ", "\n"])
+        return "{" + between.join(declared + ["..."] * (self.chance.random() < 0.4)) + "}"
+
+    def declaration(self, depth: int) -> str:
+        return self.embedded(depth - 1) if self.chance.random() < self.embedded_share else self.field(depth)
+
+    def embedded(self, depth: int) -> str:
+        """A definition, a literal, a disjunction or parentheses; a few that can't be embedded, or can't be so far."""
+        form = self.chance.random()
+        if depth <= 0 or form < 0.5:
+            return self.name()
+        if form < 0.7:
+            return self.struct(depth)
+        if form < 0.89:
+            return " | ".join(self.embedded(depth - 1) for _ in range(self.chance.randint(2, 3)))
+        if form < 0.97:
+            return f"({self.embedded(depth - 1)})"
+        if form < 0.985:
+            return f"{self.name()} & {self.struct(depth)}"
+        return self.chance.choice([f"*{{}} | {self.struct(depth)}", "int", '"x"', "[...int]", f"{self.struct(depth)} | 1"])
 
     def field(self, depth: int) -> str:
-        label = self.chance.choice(LABELS)
+        label = self.chance.choice("abcdef" if self.has_embeddings else LABELS)
         form = self.chance.random()
         if form < 0.06:
             return f"[string]: {self.value(depth - 1)}"
-        label = json.dumps(label) if form < 0.2 else label
+        # A name of a kind that is a label, which names that field where it isn't quoted.
+        label = "int" if form < 0.07 else json.dumps(label) if form < 0.2 else label
         return f"{label}{self.chance.choice(['', '', '', '?', '!'])}: {self.field(depth) if form > 0.95 else self.value(depth - 1)}"
 
     def listing(self, depth: int) -> str:
         front = [self.value(depth - 1) for _ in range(self.chance.randint(0, 2))]
-        end = self.chance.choice(["", "...", "..." + self.value(depth - 1)])
+        each = self.value(depth - 1)
+        # The model writes `..._` as `...`, which has another schema.
+        end = self.chance.choice(["", "...", "..." + each * (each.strip("()") != "_")])
         return f"[{', '.join(front + [end] * bool(end))}]"
 
+    def body(self, name: str) -> str:
+        """The body of a definition: where there are embeddings most are literals and disjunctions of such."""
+        form = self.chance.random()
+        if self.has_embeddings:
+            return self.value(3) if form < 0.05 else self.struct(3) if name == "#P" or form < 0.8 else f"{self.struct(2)} | {self.struct(2)}"
+        return self.value(3) if form < 0.3 else self.struct(3) if name == "#P" else self.disjunction(3)
 
-def source_of(chance: random.Random) -> str:
-    """A random package. A definition refers to those behind it most of the time, and has one body."""
-    names = ["#P", "#A", "#B", "#C"][: chance.randint(1, 4)]
+    def further_body(self, name: str) -> str:
+        """Bodies that stand beside one another have to be opened."""
+        if self.chance.random() < 0.2:
+            return self.body(name)
+        return "{" + f"{self.chance.choice(LABELS)}?: {self.chance.choice(ATOMS)}, ..." + "}"
+
+
+def sources_of(chance: random.Random) -> list[str]:
+    """The files of a random package: one of all declarations, or one for each. A definition refers to those behind it most of the time, and has one body. Every third one has no embeddings."""
+    has_embeddings = chance.random() < 0.67
+    names = ["#P", "#A", "#B", "#C"][: chance.randint(1 + has_embeddings, 4)]
     lines = []
     for place, name in enumerate(names):
-        sources = Sources(chance, (names[place + 1 :] if chance.random() < 0.93 else names) or ["int"])
-        body = sources.value if chance.random() < 0.3 else sources.struct if name == "#P" else sources.disjunction
-        lines += [f"{name}: {body(3)}" for _ in range(1 + (chance.random() < 0.05))]
-    return "\n".join(lines) + "\n"
+        behind = names[place + 1 :]
+        sources = Sources(chance, (behind if chance.random() < 0.96 else names) or ["int"], has_embeddings)
+        # Nothing stands behind the last one that it could embed.
+        sources.embedded_share = sources.embedded_share if behind or chance.random() < 0.05 else 0
+        bodies = [sources.body(name)]
+        if chance.random() < 0.07:
+            bodies = [sources.further_body(name), sources.further_body(name)]
+        lines += [f"{name}: {it}\n" for it in bodies]
+    return lines if chance.random() < 0.2 else ["".join(lines)]
 
 
-def without_marks(source: str) -> Package:
-    """What a source with defaults alone means, where the model refuses no mark."""
-    package = WideReader(source).package()
-    return {name: [Widening(package).unmarked(body, True) for body in bodies] for name, bodies in package.items()}
+class Reading(WideReader):
+    """The reader, which goes on behind a mark that is refused: what is embedded is looked at before marks are."""
+
+    def __init__(self, source: str) -> None:
+        self.has_wrong_mark = False
+        super().__init__(source)
+
+    def refuse_mark(self, why: str) -> None:
+        self.has_wrong_mark = True
+
+
+# What the model has and the program doesn't take yet. The program refuses the first three by 11 before it looks at marks, and the last
+# one where it looks whether literals are opened.
+EMBEDDED_CONJUNCTION = "`&` that is embedded"
+EMBEDDED_MARK = "a mark in what is embedded"
+TWO_VALUES = "two values of a label that an embedding brings together"
+JOINED = "literals that are joined"
+
+
+class Taken(Widening):
+    """The model, which notes what of it the program doesn't take yet, and leaves what can't be joined as it is: whether literals are
+    opened, and which names name fields, is asked of the package that is meant."""
+
+    def __init__(self, package: Package) -> None:
+        super().__init__(package)
+        self.beyond: set[str] = set()
+
+    def stands_for(self, it: tuple, copied: frozenset = frozenset(), brought: tuple = ()) -> tuple:
+        if it[0] == "struct" and any(mark == "embed" for _label, mark, _value in it[1]):
+            found = self.of_literal(it, copied, Alternative((), False, frozenset()), (), brought)
+            if any(brings_together(one) for one in found or []):
+                self.beyond.add(TWO_VALUES)
+        return super().stands_for(it, copied, brought)
+
+    def alternatives(self, it: tuple, copied: frozenset, before: Alternative, reaching: tuple, embedded: bool, brought: tuple = ()) -> list[Alternative] | None:
+        found = super().alternatives(it, copied, before, reaching, embedded, brought)
+        if found is not None and embedded and it[0] in ("and", "marked"):
+            self.beyond.add(EMBEDDED_CONJUNCTION if it[0] == "and" else EMBEDDED_MARK)
+        return found
+
+    def joined(self, operands: list[tuple], meant: list[tuple]) -> tuple:
+        self.beyond.add(JOINED)
+        try:
+            return super().joined(operands, meant)
+        except Refused:
+            return ("and", meant)
+
+    def refuse_names(self, one: Alternative) -> None:
+        pass
+
+
+def brings_together(one: Alternative) -> bool:
+    """Two declarations of one label hold literals or references that aren't the same one reference; `[string]` is of every label."""
+    held = [it for it in one.declarations if not is_plain(it.value)]
+    for place, it in enumerate(held):
+        for other in held[:place]:
+            is_same = it.value[0] == "ref" and it.value == other.value
+            if "[string]" in (it.mark, other.mark) or it.label == other.label and not is_same:
+                return True
+    return False
+
+
+def references(it: tuple) -> set[str]:
+    """The definitions that an expression refers to."""
+    return {it[1]} if it[0] == "ref" else set().union(*(references(part) for part in parts(it)))
+
+
+@dataclass
+class Meaning:
+    """What the model says of a source: the numbers that it may be refused by, in place of which the meant package says why, and what it
+    needs that the program doesn't take yet."""
+
+    numbers: set[int] = field(default_factory=set)
+    beyond: set[str] = field(default_factory=set)
+    package: Package = field(default_factory=dict)
+
+    def wanted(self, of_package: str, has_marks: bool) -> set[str]:
+        """The answers that are right, where this is how the meant package is refused."""
+        if self.numbers:
+            return {f"error {it}" for it in self.numbers}
+        if not self.beyond:
+            return {of_package}
+        # Names are looked at before literals that have to be opened, and marks before both.
+        ahead = {of_package} & {"error 9", "error 10"}
+        return {"error 11", *ahead, *(["error 5"] if has_marks else [])}
+
+
+def meaning_of(source: str) -> Meaning:
+    """What a source means, by the order of the program's conditions: what is embedded, then marks, then the package that is meant."""
+    reader = Reading(source)
+    package = reader.package()
+    taken = Taken(package)
+    meaning, meant = Meaning(beyond=taken.beyond), {}
+    for name, bodies in package.items():
+        try:
+            meant[name] = [taken.stands_for(body) for body in bodies]
+        except Refused as why:
+            meaning.numbers.add(why.number)
+    if taken.beyond - {JOINED}:
+        meaning.numbers.add(11)
+    if meaning.numbers:
+        named = set().union(*(references(body) for bodies in package.values() for body in bodies))
+        # The program tells the first one by text, and a name that isn't declared where it is embedded itself.
+        meaning.numbers |= set() if named <= package.keys() else {9, 11}
+        return meaning
+    return with_marks_taken(reader, taken, meaning, meant)
+
+
+def with_marks_taken(reader: Reading, taken: Taken, meaning: Meaning, meant: Package) -> Meaning:
+    for name, bodies in meant.items():
+        if breaks_opening(bodies):
+            taken.beyond.add(JOINED)
+        try:
+            meaning.package[name] = [taken.unmarked(body, True) for body in bodies]
+        except Refused as why:
+            meaning.numbers.add(why.number)
+    if reader.has_wrong_mark:
+        meaning.numbers.add(5)
+    # Literals that are joined may have no default any more.
+    if meaning.numbers and JOINED in taken.beyond:
+        meaning.numbers |= {9, 10, 11}
+    return meaning
+
+
+def as_written(package: Package) -> str:
+    """A source of the package whose labels are bare where they were, so that names name the same fields."""
+
+    def labelled(label: str) -> str:
+        return json.dumps(label) if isinstance(label, Quoted) else label
+
+    return "".join(f"{name}: {text(body, labelled)}\n" for name, bodies in package.items() for body in bodies)
+
+
+def near(chance: random.Random, package: Package, it: tuple, depth: int):
+    """A document that often is an instance of an expression."""
+    if depth <= 0 or chance.random() < 0.06:
+        return document(chance, 1)
+    if it[0] == "or":
+        return near(chance, package, chance.choice(it[1]), depth)
+    if it[0] in ("and", "ref"):
+        found = [near(chance, package, part, depth - 1) for part in (it[1] if it[0] == "and" else package.get(it[1], [("top",)]))]
+        return {label: inner for part in found for label, inner in part.items()} if all(isinstance(part, dict) for part in found) else found[0]
+    if it[0] == "struct":
+        fields = [(label, value) for label, mark, value in it[1] if mark != "[string]" and chance.random() < (0.5 if mark == "?" else 0.97)]
+        return {str(label): near(chance, package, value, depth - 1) for label, value in fields}
+    if it[0] == "list":
+        return [near(chance, package, part, depth - 1) for part in it[1]]
+    if it[0] == "kind":
+        return {"string": "x", "bool": True}.get(it[1], 1)
+    return it[1] if it[0] == "value" else document(chance, 1)
 
 
 class Tried:
-    """A program, with the files of a random package."""
+    """A program, with the files of a package."""
 
     def __init__(self, program: str, room: Path) -> None:
         self.program, self.room = program, room
 
-    def run(self, words: list[str], source: str, given: str = "") -> tuple[str, str]:
-        """What it prints of a source, and the refusal that it says."""
-        (self.room / "source.cue").write_text(source)
-        words = [self.program, *words, "source.cue"]
+    def run(self, words: list[str], sources: list[str], given: str = "") -> tuple[str, str]:
+        """What it prints of sources, and the refusal that it says."""
+        names = [f"{number}.cue" for number in range(1, len(sources) + 1)]
+        for name, source in zip(names, sources, strict=True):
+            (self.room / name).write_text(source)
+        words = [self.program, *words, "--", *names]
         ran = subprocess.run(words, cwd=self.room, input=given, capture_output=True, encoding="utf-8", timeout=60)
         return ran.stdout, " ".join(ran.stderr.split()[:2])
 
-    def faults(self, chance: random.Random, source: str) -> Iterator[str]:
-        """Why the package is refused, and then what differs."""
-        text, refusal = self.run(["widen", "--profile", "wide"], source)
-        try:
-            meant = without_marks(source)
-        except Refused as why:
-            yield f"error {why.number}"
-            if refusal != f"error {why.number}":
-                yield f"is refused by the model ({why}), and the program says {refusal!r} {text}"
-            return
-        wanted = self.run(["widen"], spelled(meant))[1]
-        yield wanted
-        if refusal != wanted:
-            yield f"means {spelled(meant)}which says {wanted!r}, and the program says {refusal!r}"
-        elif not wanted:
-            yield from self.differences(chance, source, text, meant)
+    def widen(self, sources: list[str]) -> tuple[str, str]:
+        return self.run(["widen", "--profile", "wide"], sources)
 
-    def differences(self, chance: random.Random, source: str, text: str, meant: Package) -> Iterator[str]:
-        if parsed(text) != parsed(spelled(meant)):
-            yield f"means {spelled(meant)}and is written as {text}"
-        docs = [document(chance, 3) for _ in range(DOCUMENTS)]
-        lines = "".join(json.dumps(it) + "\n" for it in docs)
-        verdicts = self.run(["vet", "--profile", "wide", "--root", "#P", "--lines"], source, lines)[0].split()
-        wanted = ["valid" if is_instance(meant, "#P", it) else "invalid" for it in docs]
-        for doc, verdict, asked in zip(docs, verdicts, wanted, strict=True):
-            if verdict != asked:
-                yield f"means {spelled(meant)}where {json.dumps(doc)} is {asked}, and the program says {verdict}"
+    def faults(self, chance: random.Random, sources: list[str]) -> Iterator[str]:
+        """How the package is answered, and then what differs."""
+        printed, refusal = self.widen(sources)
+        source = "".join(sources)
+        meaning = meaning_of(source)
+        of_package = "" if meaning.numbers else self.run(["widen"], [as_written(meaning.package)])[1]
+        wanted = meaning.wanted(of_package, "*" in source)
+        yield f"{refusal or 'accepted'}{' for what is not taken yet' if refusal == 'error 11' and meaning.beyond else ''}"
+        said = f"the program says {refusal!r} {printed}"
+        if refusal not in wanted:
+            yield f"wanted {sorted(wanted)} {sorted(meaning.beyond)} {as_written(meaning.package)}and {said}"
+        if is_refused(source) and not refusal:
+            yield f"is refused by the model, and {said}"
+        if refusal:
+            yield from self.other_first(sources, refusal)
+        elif not wanted - {""}:
+            yield from self.differences(chance, sources, printed, meaning.package)
+
+    def other_first(self, sources: list[str], refusal: str) -> Iterator[str]:
+        """What `check` tells first, where that is another refusal."""
+        told = self.run(["check", "--profile", "wide"], sources)[0].partition("\n")[0]
+        if f"{refusal}:" not in told:
+            yield f"is refused by {refusal}, and `check` tells first {told!r}"
+
+    def differences(self, chance: random.Random, sources: list[str], printed: str, meant: Package) -> Iterator[str]:
+        if parsed(printed) != parsed(spelled(meant)):
+            yield f"means {spelled(meant)}and is written as {printed}"
+        schemas, wanted = self.run(["export", "--all", "--profile", "wide"], sources), self.run(["export", "--all"], [as_written(meant)])
+        if schemas != wanted:
+            yield f"means {spelled(meant)}and is exported as {schemas}, in place of {wanted}"
+        docs = [document(chance, 3) if number % 2 else near(chance, meant, ("ref", "#P"), 6) for number in range(DOCUMENTS)]
+        try:
+            yield from self.misjudged(sources, [(it, "valid" if is_instance(meant, "#P", it) else "invalid") for it in docs])
+        except RecursionError:
+            yield f"means {spelled(meant)}which the model can't judge by"
+
+    def misjudged(self, sources: list[str], docs: list[tuple[object, str]]) -> Iterator[str]:
+        """The documents that get another verdict than they should."""
+        lines = "".join(json.dumps(doc) + "\n" for doc, _wanted in docs)
+        verdicts = self.run(["vet", "--profile", "wide", "--root", "#P", "--lines"], sources, lines)[0].split()
+        for (doc, wanted), verdict in zip(docs, verdicts, strict=True):
+            if verdict != wanted:
+                yield f"{json.dumps(doc)} is {wanted}, and the program says {verdict}"
+
+    def faults_of_row(self, row: Row) -> Iterator[str]:
+        """How the program differs from a row."""
+        printed, refusal = self.widen([row.source])
+        if refusal != (row.so_far or row.refusal()):
+            yield f"wanted {row.so_far or row.refusal()!r}, and the program says {refusal!r} {printed}"
+        elif not refusal:
+            if row.differs(parsed(printed)):
+                yield f"is written as {printed}"
+            yield from self.misjudged([row.source], row.documents)
+
+
+def is_refused(source: str) -> bool:
+    """Whether the model as it stands refuses it."""
+    try:
+        widened(source)
+    except Refused:
+        return True
+    return False
 
 
 def try_program(given: tuple[str, int]) -> tuple[str, list[str]]:
-    """How the random package of a seed is refused, and what differs."""
+    """How the random package of a seed is answered, and what differs."""
     program, seed = given
     chance = random.Random(seed)
-    source = source_of(chance)
+    sources = sources_of(chance)
     with tempfile.TemporaryDirectory() as room:
-        refusal, *faults = Tried(program, Path(room)).faults(chance, source)
-    return refusal, [f"seed {seed}: {source}{it}" for it in faults]
+        answer, *faults = Tried(program, Path(room)).faults(chance, sources)
+    return answer, [f"seed {seed}: {'% '.join(sources)}{it}" for it in faults]
+
+
+def try_rows(program: str) -> list[list[str]]:
+    """What differs of each row."""
+    with tempfile.TemporaryDirectory() as room:
+        tried = Tried(program, Path(room))
+        return [[f"{row}: {it}" for it in tried.faults_of_row(row)] for row in rows()]
 
 
 def on_program(words: argparse.Namespace) -> int:
     program = str(words.program.resolve())
     seeds = range(words.seed, words.seed + words.random)
+    of_rows = try_rows(program)
     with ThreadPoolExecutor(int(os.environ.get("JOBS") or len(os.sched_getaffinity(0)))) as pool:
         answers = list(pool.map(try_program, [(program, it) for it in seeds]))
-    for _refusal, faults in answers:
-        for it in faults:
-            print(it)
-    refusals = Counter(refusal or "accepted" for refusal, _faults in answers)
-    print(", ".join(f"{many} {said}" for said, many in refusals.most_common()))
-    failed = sum(bool(faults) for _refusal, faults in answers)
-    print(f"{len(answers) - failed} passed, {failed} failed")
+    faults = [*of_rows, *(it for _answer, it in answers)]
+    for it in (it for some in faults for it in some):
+        print(it)
+    told = Counter(answer for answer, _faults in answers)
+    print(f"{len(of_rows)} rows, {sum(bool(row.so_far) for row in rows())} of them of what isn't taken yet")
+    print(", ".join(f"{many} {said}" for said, many in told.most_common()))
+    failed = sum(bool(it) for it in faults)
+    print(f"{len(faults) - failed} passed, {failed} failed")
     return 1 if failed or not answers else 0
 
 
@@ -392,12 +683,11 @@ def main(words: argparse.Namespace) -> int:
     if words.program:
         return on_program(words)
     passed = failed = refused = 0
-    for row in ROWS.read_text().split("\n\n"):
-        lines = [it for it in row.split("\n") if it and not it.startswith("# ")]
-        faults = list(faults_of_row(lines)) if lines else []
-        passed, failed = passed + (bool(lines) and not faults), failed + bool(faults)
+    for row in rows():
+        faults = list(faults_of_row(row))
+        passed, failed = passed + (not faults), failed + bool(faults)
         for it in faults:
-            print(f"{' '.join(lines[:3])}: {it}")
+            print(f"{row}: {it}")
     for seed in range(words.seed, words.seed + words.random):
         chance = random.Random(seed)
         fault = fault_of_package(chance, package_of(chance))

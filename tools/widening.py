@@ -74,10 +74,10 @@ class WideReader(Reader):
             operands.append(self.marked())
         if len(operands) == 1:
             if operands[0][0] == "marked":
-                raise Refused(5, "a mark outside of a disjunction")
+                self.refuse_mark("a mark outside of a disjunction")
             return operands[0]
         if sum(it[0] == "marked" for it in operands) > 1:
-            raise Refused(5, "two defaults in one disjunction")
+            self.refuse_mark("two defaults in one disjunction")
         return ("or", operands)
 
     def marked(self) -> tuple:
@@ -85,8 +85,11 @@ class WideReader(Reader):
             return self.conjunction()
         operand = self.conjunction()
         if not is_default_literal(operand):
-            raise Refused(5, "a default that is no literal")
+            self.refuse_mark("a default that is no literal")
         return ("marked", operand)
+
+    def refuse_mark(self, why: str) -> None:
+        raise Refused(5, why)
 
     def operand(self) -> tuple:
         if self.peek() == "close" and self.peek(1) == "(":
@@ -403,8 +406,9 @@ class Widening:
         return it
 
     def conjunction(self, operands: list[tuple], copied: frozenset, brought: tuple) -> tuple:
+        """A conjunction of what is shut stays: whether it narrows a definition is seen where all is meant."""
         meant = [self.stands_for(it, copied, brought) for it in operands]
-        if not breaks_opening(meant):
+        if not breaks_opening(meant) or any(is_shut(it) for it in operands):
             return ("and", meant)
         return self.joined([(it, copied, brought) for it in operands], meant)
 
@@ -429,10 +433,7 @@ class Widening:
 
     def literal(self, one: Alternative) -> tuple:
         """The literal of declarations that are joined, with the values of a label joined where the opening rule asks for it."""
-        labels = frozenset(it.label for it in one.declarations if it.mark != "[string]" and not isinstance(it.label, Quoted))
-        for it in one.declarations:
-            if names_in(it.value) & labels - it.home:
-                raise Refused(10, "a name would name a field of another literal")
+        self.refuse_names(one)
         every = [it for it in one.declarations if it.mark == "[string]"]
         fields: list[tuple] = []
         done: set[str] = set()
@@ -451,6 +452,12 @@ class Widening:
                 value = self.joined([(other.value, other.copied, other.brought) for other in same], meant)
                 fields.append((it.label, "?" if all(other.mark == "?" for other in same) else "", value))
         return ("struct", fields, one.opened)
+
+    def refuse_names(self, one: Alternative) -> None:
+        labels = frozenset(it.label for it in one.declarations if it.mark != "[string]" and not isinstance(it.label, Quoted))
+        for it in one.declarations:
+            if names_in(it.value) & labels - it.home:
+                raise Refused(10, "a name would name a field of another literal")
 
     @staticmethod
     def refuse_relaxed(same: list[Declaration]) -> None:

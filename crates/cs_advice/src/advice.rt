@@ -3,10 +3,11 @@ use crate::bases::put_not_opened;
 use crate::labels::{field_without, label_over, labels_inside, text_between};
 use crate::names::{put_field_reference, put_unknown};
 use crate::text::{put_around, put_filled, put_tokens};
-use cs_forms::{Form, Found, said_of_form, said_of_shown};
+use cs_forms::{Form, Found, flaw_of_embedding, said_of_form, said_of_shown};
 use cs_grammar::{Sort, Token};
 use cs_sources::{Near, Source, declared_in, end_of, follows_label, separates};
 use cs_text::Written;
+use std::alloc::{AllocError, Global};
 
 /// How many bytes of the other fields are shown.
 const MOST_SHOWN: usize = 60;
@@ -28,7 +29,7 @@ pub fn put_advice(
     };
     match found.form {
         Form::DefaultMark => put_default(text, near),
-        Form::ExcludedDefault => put_excluded(text, said, near),
+        Form::ExcludedDefault => put_excluded(text, said, sources, near),
         Form::Let => {
             let more = "; write `#{}: ..` at the top of a file, and `#{}` for `{}`";
             put_with_name(text, said, near.behind(1), more)
@@ -36,9 +37,9 @@ pub fn put_advice(
         Form::TopLevelField => put_with_name(text, said, near.here(), ", so write `#{}: ..`"),
         Form::HiddenName => put_hidden(text, near),
         Form::Limit | Form::LimitKind => put_limit(text, said, near),
-        Form::EmbeddedDefinition => {
-            let others = other_fields(near).unwrap_or("..");
-            put_around(text, said, shown, others)
+        Form::EmbeddedDefinition => put_embedded_definition(text, said, near),
+        Form::EmbeddedNoStruct | Form::EmbeddedItself | Form::EmbeddedTwice => {
+            put_flaw(text, said, sources, near)
         }
         Form::EmbeddedStruct => put_embedded_struct(text, near),
         Form::FieldReference => put_field_reference(text, near),
@@ -60,8 +61,18 @@ fn put_default(text: &mut String, mark: Near<'_, '_>) -> Written {
 }
 
 /// Puts what could exclude a default, with the label that has it.
-fn put_excluded(text: &mut String, said: &str, near: Near<'_, '_>) -> Written {
-    put_filled(text, said, &[label_over(near).unwrap_or("x"); 3])
+fn put_excluded(
+    text: &mut String,
+    said: &str,
+    sources: &[Source<'_>],
+    near: Near<'_, '_>,
+) -> Written {
+    let label = match label_over(near) {
+        Some(label) => label,
+        // Where it was embedded, it is that of two declarations.
+        None => shown_of_flaw(*text.allocator(), sources, near)?.unwrap_or("x"),
+    };
+    put_filled(text, said, &[label; 3])
 }
 
 /// Puts what is said of a form, and behind it more, where a token is a name, which that names.
@@ -126,13 +137,81 @@ fn other_fields<'a>(near: Near<'_, 'a>) -> Option<&'a str> {
     is_shown.then_some(fields)
 }
 
+/// What is said first where the wide profile takes what is embedded.
+const TAKEN: &str = "`--profile wide` takes embeddings; without it ";
+
+/// Whether the wide profile takes what a struct embeds from a token on: definitions, literals and what parentheses hold, as alternatives.
+fn is_taken(near: Near<'_, '_>) -> bool {
+    let Some(embedded) = near.embedding() else {
+        return false;
+    };
+    let mut next = Some(near);
+    for _ in embedded.from..embedded.to {
+        match next {
+            Some(token) if token.place >= embedded.to => return true,
+            Some(token) if is_taken_token(token.here()) => next = token.next(),
+            Some(_) => return false,
+            None => return true,
+        }
+    }
+    true
+}
+
+/// Whether embeddings have a token, outside of brackets.
+fn is_taken_token(token: Token<'_>) -> bool {
+    token.sort == Sort::Definition || matches!(token.text.as_bytes(), [b'{' | b'(' | b'|'])
+}
+
+/// Puts what to write for an embedded definition.
+fn put_embedded_definition(text: &mut String, said: &str, near: Near<'_, '_>) -> Written {
+    let others = other_fields(near).unwrap_or("..");
+    let name = near.here().text;
+    match said.split_once(": ") {
+        Some((_, remedy)) if is_taken(near) => {
+            text.push_str(TAKEN)?;
+            put_around(text, remedy, name, others)
+        }
+        _ => put_around(text, said, name, others),
+    }
+}
+
+/// What is wrong about something where it is embedded, if that is short and on one line.
+fn shown_of_flaw<'a>(
+    alloc: Global,
+    sources: &[Source<'a>],
+    near: Near<'_, '_>,
+) -> Result<Option<&'a str>, AllocError> {
+    let Some(source) = sources.get(near.source.file) else {
+        return Ok(None);
+    };
+    let place = near.place;
+    let flaw = flaw_of_embedding(alloc, Near { source, place }, sources)?;
+    let shown = flaw.map_or("", |flaw| flaw.shown);
+    let is_shown = !shown.is_empty() && shown.len() <= MOST_SHOWN && !shown.contains('\n');
+    Ok(is_shown.then_some(shown))
+}
+
+/// Puts what is wrong where something is embedded.
+fn put_flaw(text: &mut String, said: &str, sources: &[Source<'_>], near: Near<'_, '_>) -> Written {
+    let shown = shown_of_flaw(*text.allocator(), sources, near)?;
+    put_filled(text, said, &[shown.unwrap_or("..")])?;
+    let is_joined = shown.is_some_and(|shown| shown.contains('&'));
+    text.push_str(if is_joined { "; what `&` joins is embedded one by one" } else { "" })
+}
+
 /// Puts what to write for an embedded struct: the labels around it, where they are few.
 fn put_embedded_struct(text: &mut String, near: Near<'_, '_>) -> Written {
     let alloc = *text.allocator();
     let labels = labels_inside(alloc, near.bracket())?;
+    let front = if is_taken(near) {
+        TAKEN
+    } else {
+        "an embedded struct: "
+    };
+    text.push_str(front)?;
     if labels.is_empty() || labels.len() > MOST_NAMED {
-        return text.push_str(said_of_form(Form::EmbeddedStruct));
+        return text.push_str("put the fields around it into each alternative");
     }
-    put_tokens(text, "an embedded struct: put ", &labels, " and ")?;
+    put_tokens(text, "put ", &labels, " and ")?;
     text.push_str(" into each alternative")
 }

@@ -23,7 +23,7 @@ pub fn tell_too_high<'a>(told: &mut Told<'a>, source: Option<&Source<'a>>) -> Wr
         return told.hint.push_str(said);
     }
     let Some(near) = first_too_high(told.alloc(), source)? else {
-        return Ok(());
+        return put_high_embedded(&mut told.hint, source);
     };
     told.place_at(near);
     let is_bracket = near.held().is_some();
@@ -31,6 +31,14 @@ pub fn tell_too_high<'a>(told: &mut Told<'a>, source: Option<&Source<'a>>) -> Wr
     let said =
         "level 29 is in this {}: brackets, short fields, `&`, `|` and the value inside make 28 at most; give an inner part a definition";
     put_filled(&mut told.hint, said, &[part])
+}
+
+/// Puts that a source nests too deep by what it embeds, where it embeds something.
+fn put_high_embedded(text: &mut String, source: &Source<'_>) -> Written {
+    let embeds = (0..source.tokens.len()).any(|place| Near { source, place }.begins_embedding());
+    let said =
+        "with what is embedded brackets, short fields, `&`, `|` and the value inside make more than 28 levels: give an inner part a definition";
+    text.push_str(if embeds { said } else { "" })
 }
 
 /// The name in the package clause of a source.
@@ -88,6 +96,12 @@ pub fn put_no_root(text: &mut String, sources: &[Source<'_>], root: &str) -> Wri
 /// Puts how many definitions or nodes the sources have, where these are too many (14): so many definitions there are, and the nodes
 /// are counted where these are few enough. Only memory can run out.
 pub fn put_too_large(text: &mut String, definitions: usize, sources: &[Source<'_>]) -> Written {
+    // No definitions are counted where the source that is meant is too large.
+    if definitions == 0 {
+        let said =
+            "what the sources stand for has more than 50,000 nodes of expressions, or 1,048,576 bytes: split the package by roots";
+        return text.push_str(said);
+    }
     let remedy = " may be: split the package by roots";
     if definitions > MOST_DEFINITIONS {
         return put_grouped(text, definitions, &[" definitions, and 1,000", remedy]);

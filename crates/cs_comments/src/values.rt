@@ -83,57 +83,103 @@ fn notes_of_fields(
     fields: &[Field],
     texts: &mut Texts,
 ) -> Result<Notes, AllocError> {
-    let mut notes = Notes::new(alloc);
+    let mut every = Vec::new(alloc);
     let mut labels = Declarations::new(alloc);
     for field in fields {
-        add_field(alloc, field, texts, &mut notes, &mut labels)?;
+        add_field(alloc, field, texts, &mut labels, &mut every)?;
     }
-    notes.properties = labels.into_notes(alloc)?;
-    Ok(notes)
+    notes_of_struct(alloc, labels, every)
 }
 
-/// The notes of a struct with embeddings: those of its own fields, since what it embeds has no schema of its own.
+/// The same of a literal with embeddings, which has the notes of the fields of itself and of the literals that it embeds.
 #[cycle(values)]
 fn notes_of_declarations(
     alloc: Global,
     declarations: &[Declaration],
     texts: &mut Texts,
 ) -> Result<Notes, AllocError> {
-    let mut notes = Notes::new(alloc);
+    let mut every = Vec::new(alloc);
     let mut labels = Declarations::new(alloc);
-    for declaration in declarations {
-        match declaration {
-            Declaration::Field(field) => add_field(alloc, field, texts, &mut notes, &mut labels)?,
-            // The texts of the fields in it are passed.
-            Declaration::Embedded { value, .. } => drop(notes_of_value(alloc, value, texts)?),
-        }
-    }
-    notes.properties = labels.into_notes(alloc)?;
-    Ok(notes)
+    add_declarations(alloc, declarations, texts, &mut labels, &mut every)?;
+    notes_of_struct(alloc, labels, every)
 }
 
-/// Adds the notes of a field: among the labels, or for `[string]: T` under `allOf`.
+/// Adds the fields of a literal with embeddings.
+#[cycle(values)]
+fn add_declarations(
+    alloc: Global,
+    declarations: &[Declaration],
+    texts: &mut Texts,
+    labels: &mut Declarations,
+    every: &mut Vec<Notes>,
+) -> Result<(), AllocError> {
+    for declaration in declarations {
+        match declaration {
+            Declaration::Field(field) => add_field(alloc, field, texts, labels, every)?,
+            Declaration::Embedded { value, .. } => {
+                add_embedded(alloc, value, texts, labels, every)?;
+            },
+        }
+    }
+    Ok(())
+}
+
+/// Adds the fields of a literal that is embedded. The texts of other values are passed over: their fields stand elsewhere, or in an alternative.
+#[cycle(values)]
+fn add_embedded(
+    alloc: Global,
+    value: &Expr,
+    texts: &mut Texts,
+    labels: &mut Declarations,
+    every: &mut Vec<Notes>,
+) -> Result<(), AllocError> {
+    match value {
+        Expr::Struct { fields, .. } => {
+            for field in fields {
+                add_field(alloc, field, texts, labels, every)?;
+            }
+            Ok(())
+        },
+        Expr::Paren(inside) => add_embedded(alloc, inside, texts, labels, every),
+        Expr::Wide(Wide::Merged { declarations, .. }) => {
+            add_declarations(alloc, declarations, texts, labels, every)
+        },
+        _ => {
+            drop(notes_of_value(alloc, value, texts)?);
+            Ok(())
+        },
+    }
+}
+
+/// Adds a field: under its label, or to those under every key.
 #[cycle(values)]
 fn add_field(
     alloc: Global,
     field: &Field,
     texts: &mut Texts,
-    notes: &mut Notes,
     labels: &mut Declarations,
+    every: &mut Vec<Notes>,
 ) -> Result<(), AllocError> {
     let text = texts.next().flatten();
     let value = notes_of_value(alloc, &field.value, texts)?;
     match field.mark {
-        FieldMark::Every { .. } => {
-            notes
-                .all_of
-                .push(notes_under_every_key(alloc, text, value)?)?;
-        },
+        FieldMark::Every { .. } => Ok(every.push(notes_under_every_key(alloc, text, value)?)?),
         FieldMark::Regular | FieldMark::Optional | FieldMark::Required => {
-            labels.add(alloc, field.label.clone()?, text, value)?;
+            labels.add(alloc, field.label.clone()?, text, value)
         },
     }
-    Ok(())
+}
+
+/// The notes of a struct, by those of its labels and those under every key.
+fn notes_of_struct(
+    alloc: Global,
+    labels: Declarations,
+    every: Vec<Notes>,
+) -> Result<Notes, AllocError> {
+    let mut notes = Notes::new(alloc);
+    notes.all_of = every;
+    notes.properties = labels.into_notes(alloc)?;
+    Ok(notes)
 }
 
 /// The notes of `[string]: T`, by its text and the notes of T.

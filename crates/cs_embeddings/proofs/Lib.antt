@@ -1,0 +1,17 @@
+-- definitions one after another
+pub mod Bodies
+-- what parts find, one after another
+pub mod Firsts
+-- where nothing is at fault
+pub mod Flawless
+-- what can be embedded in so many steps can be embedded in more
+pub mod Monotone
+-- how much alternatives are, how they are found and joined, and what they declare
+pub mod Weights
+pub mod Left
+pub mod Joins
+pub mod WellAlternatives
+-- in how many steps definitions can be embedded
+pub mod Steps
+-- whether each part of a list is well
+pub mod Walks

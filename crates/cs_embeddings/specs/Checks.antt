@@ -1,5 +1,5 @@
 -- What the checks of embeddings answer, and what the tables tell.
-use Rattle.std.specs.Prelude.{◌≡◌, ℕ, zero, suc, ◌+◌, ◌<◌, ◌≤◌, Bool, true, false, nat_le, List, [], ◌∷◌, map, length, Option, Some, None, Result, Ok, Err, slice_get}
+use Rattle.std.specs.Prelude.{◌≡◌, ℕ, zero, suc, ◌+◌, ◌<◌, ◌≤◌, Bool, true, false, not, if◌then◌else◌, nat_le, List, [], ◌∷◌, ◌++◌, map, length, Option, Some, None, Result, Ok, Err, slice_get}
 use Rattle.std.specs.List.{list_any, AllByRecursion}
 use Rattle.std.specs.Str.{bytes_eq}
 use Rattle.std.specs.declared.alloc.Global.{Global}
@@ -11,17 +11,17 @@ use Rattle.std.specs.Ordering.{nat_cmp}
 use Rattle.cs_grammar.specs.declared.ast.Expr.{Expr}
 use Rattle.cs_grammar.specs.Height.{height}
 use Rattle.cs_grammar.specs.Tree.{Tree, reference, DefinitionTree, bodies, body}
-use Rattle.cs_grammar.specs.View.{expr_view}
+use Rattle.cs_grammar.specs.View.{expr_view, SeenDeclaration, field_seen, embedding_seen}
 use Rattle.cs_embeddings.specs.Alternatives.{Alternative, most_steps}
 use Rattle.cs_embeddings.specs.Embedded.{can_be_embedded, embeds_well}
-use Rattle.cs_embeddings.specs.Flaws.{Flaw, unknown, no_struct, is_none}
+use Rattle.cs_embeddings.specs.Flaws.{Flaw, unknown, no_struct, is_none, flaws, flaws_here}
 use Rattle.cs_embeddings.specs.Size.{size}
 use Rattle.cs_embeddings.specs.Views.{alternatives_view, IsTooMuch}
 use Rattle.cs_embeddings.specs.declared.found.Found.{Found}
 use Rattle.cs_embeddings.specs.declared.definitions.Bodies.{Bodies}
 use Rattle.cs_embeddings.specs.declared.embedded.Embeddable.{Embeddable}
 use Rattle.cs_embeddings.specs.declared.flaws.Flaw as seen
-use Rattle.cs_embeddings.specs.declared.flaws.Flaw.TheVariants as flaws
+use Rattle.cs_embeddings.specs.declared.flaws.Flaw.TheVariants as variants
 use Rattle.cs_embeddings.specs.declared.flaws.Flaws.{Flaws}
 use Rattle.cs_embeddings.specs.declared.fault.EmbeddingFault.{EmbeddingFault}
 use Rattle.cs_embeddings.specs.declared.fault.EmbeddingFault.TheVariants.{OutOfMemory, UnknownName, NoStruct, Reopened, TooHigh, TooLarge}
@@ -29,19 +29,20 @@ use Rattle.cs_embeddings.specs.declared.fault.EmbeddingFault.TheVariants.{OutOfM
 abbrev pub bodies_view : List (Bor Expr) → List Tree
 bodies_view es = map (λ e. expr_view e.now) es
 
+-- a name that the table has is declared
 abbrev pub TellsEntry : Option (Vec (Bor Expr) Global) → List Tree → Type 0
 TellsEntry None es = es ≡ []
-TellsEntry (Some v) es = bodies_view v.items ≡ es
+TellsEntry (Some v) es = (bodies_view v.items ≡ es) × (is_none es ≡ false)
 
 -- the table has the bodies of each definition
 abbrev pub TellsTable : BTreeMap (Bor (List ℕ)) (Vec (Bor Expr) Global) → List DefinitionTree → Type 0
 TellsTable m ds = (s : List ℕ) → TellsEntry (get_by (λ k. slice_cmp nat_cmp s k.now) m) (bodies s ds)
 
--- it has them, and the list has the name of each definition
+-- it has them, and the list has the name of each definition and no other
 pub record TellsBodies (b : Bodies) (ds : List DefinitionTree) : Type 0 where
   pub table : TellsTable b.by_name ds
   pub none : b.none.items ≡ []
-  pub named : (s : List ℕ) → is_none (bodies s ds) ≡ false → list_any (λ t. bytes_eq s t.now) b.names.items ≡ true
+  pub named : (s : List ℕ) → list_any (λ t. bytes_eq s t.now) b.names.items ≡ not (is_none (bodies s ds))
 
 -- whether a definition can be embedded in so many steps, as the table tells it
 abbrev pub takes_by : Option ℕ → Bool → ℕ → Bool
@@ -56,6 +57,17 @@ takes m ds s n = takes_by (get_by (λ k. slice_cmp nat_cmp s k.now) m) (is_none 
 abbrev pub TellsSteps : Embeddable → List DefinitionTree → ℕ → Type 0
 TellsSteps e ds most = (s : List ℕ) (o n : ℕ) → n ≤ most → takes e.steps ds s n ≡ can_be_embedded ds n (reference s o)
 
+-- what the table has of a definition: the least number of steps, at most so many; or nothing, where so many are too few
+abbrev pub TellsLeast : Option ℕ → List DefinitionTree → List ℕ → ℕ → Type 0
+TellsLeast None ds s most = is_none (bodies s ds) ≡ false → can_be_embedded ds most (reference s 0) ≡ false
+TellsLeast (Some least) ds s most = (least ≤ most) × (is_none (bodies s ds) ≡ false) × (can_be_embedded ds least (reference s 0) ≡ true)
+    × ((n : ℕ) → n < least → can_be_embedded ds n (reference s 0) ≡ false)
+
+-- so it is after so many rounds, and after one more of the definitions of these names
+abbrev pub TellsRounds : Embeddable → List DefinitionTree → ℕ → List (Bor (List ℕ)) → Type 0
+TellsRounds e ds rounds names = (s : List ℕ) → TellsLeast (get_by (λ k. slice_cmp nat_cmp s k.now) e.steps) ds s
+    (if list_any (λ t. bytes_eq s t.now) names then suc rounds else rounds)
+
 -- ---- flaws
 
 -- Ok where nothing is found, or else the first that is found
@@ -64,8 +76,13 @@ Finds view (Ok y) found = found ≡ []
 Finds view (Err e) found = slice_get found 0 ≡ Some (view e)
 
 abbrev pub flaw_view : seen.Flaw → Flaw
-flaw_view (flaws.Unknown o) = unknown o
-flaw_view (flaws.NoStruct o) = no_struct o
+flaw_view (variants.Unknown o) = unknown o
+flaw_view (variants.NoStruct o) = no_struct o
+
+-- those of one declaration of a literal with embeddings
+abbrev pub flaws_seen : List DefinitionTree → SeenDeclaration → List Flaw
+flaws_seen ds (field_seen f) = flaws ds f.value
+flaws_seen ds (embedding_seen o e) = flaws_here ds o e ++ flaws ds e
 
 -- the tables of definitions tell these
 pub record TellsEmbeddable (f : Flaws) (ds : List DefinitionTree) : Type 0 where

@@ -3,6 +3,11 @@ use Rattle.std.specs.Prelude.{ℕ, zero, suc, Bool, true, false, ◌&&◌, List,
 use Rattle.std.specs.List.{list_all}
 use Rattle.cs_grammar.specs.Tree.{Tree, atom, named, reference, conjunction, disjunction, paren, struct, list, wide, marked, merged, Declarations, no_declaration, declared, embedded, Trees, none, more, Fields, no_field, field, End, closed, any, each, DefinitionTree, bodies}
 
+-- whether there is one
+abbrev pub has_operand : Trees → Bool
+has_operand none = false
+has_operand (more e es) = true
+
 -- `inner e` says whether e can be embedded
 module _ (inner : Tree → Bool) where
   abbrev pub all_embedded : Trees → Bool
@@ -49,7 +54,7 @@ can_be_embedded ds (suc n) (struct o fs b) = fields_embed_well (can_be_embedded 
 can_be_embedded ds (suc n) (wide (merged o cs b)) = declarations_embed_well (can_be_embedded ds n) cs
 can_be_embedded ds (suc n) (wide (marked o e)) = false
 can_be_embedded ds (suc n) (paren e) = can_be_embedded ds n e
-can_be_embedded ds (suc n) (disjunction es) = all_embedded (can_be_embedded ds n) es
+can_be_embedded ds (suc n) (disjunction es) = has_operand es && all_embedded (can_be_embedded ds n) es
 can_be_embedded ds (suc n) (reference s o) = list_all (can_be_embedded ds n) (bodies s ds)
 can_be_embedded ds (suc n) (atom a) = false
 can_be_embedded ds (suc n) (named s o) = false

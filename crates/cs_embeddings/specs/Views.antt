@@ -1,7 +1,7 @@
 -- How the code has alternatives, and how much they are; for private contracts alone.
-use Rattle.std.specs.Prelude.{◌≡◌, ℕ, suc, ◌+◌, ◌<◌, List, [], ◌∷◌, map, length, Result, Ok, Err}
-use Rattle.cs_grammar.specs.View.{expr_view, field_view}
-use Rattle.cs_embeddings.specs.Alternatives.{Brought, Alternative}
+use Rattle.std.specs.Prelude.{◌≡◌, ℕ, suc, ◌+◌, ◌<◌, List, [], ◌∷◌, map, length, Option, Result, Ok, Err}
+use Rattle.cs_grammar.specs.View.{Seen, expr_view, field_view}
+use Rattle.cs_embeddings.specs.Alternatives.{Brought, Alternative, with_declaration}
 use Rattle.cs_embeddings.specs.declared.alternatives.Alternative as rust
 use Rattle.cs_embeddings.specs.declared.alternatives.Brought as brought
 use Rattle.cs_embeddings.specs.declared.fault.EmbeddingFault.{EmbeddingFault}
@@ -15,6 +15,10 @@ alternative_view a = record { declarations = map brought_view a.declarations.ite
 
 abbrev pub alternatives_view : List rust.Alternative → List Alternative
 alternatives_view xs = map alternative_view xs
+
+-- a field behind the declarations that are there
+abbrev pub with_field : Option ℕ → Seen → Alternative → Alternative
+with_field p f a = with_declaration p f.label f.mark f.value a
 
 -- how much alternatives are: each is one, with its declarations
 abbrev pub weight_of : List Alternative → ℕ

@@ -1,10 +1,13 @@
 // Which expressions can be embedded.
-ghost use Rattle.std.specs.Prelude.{◌≡◌, ℕ, suc, ◌<◌, ◌≤◌, List, map, IfOk, OnOk};
+ghost use Rattle.std.specs.Prelude.{◌≡◌, ℕ, suc, ◌<◌, ◌≤◌, Bool, false, List, [], ◌∷◌, ◌++◌, map, IfOk, OnOk};
+ghost use Rattle.std.specs.Borrow.{Bor};
 ghost use Rattle.std.specs.List.{list_all};
-ghost use Rattle.cs_grammar.specs.Tree.{DefinitionTree};
+ghost use Rattle.cs_grammar.specs.Tree.{DefinitionTree, reference, bodies};
 ghost use Rattle.cs_grammar.specs.View.{expr_view, exprs_view, fields_view, declarations_view, end_view};
 ghost use Rattle.cs_embeddings.specs.Alternatives.{most_steps};
-ghost use Rattle.cs_embeddings.specs.Checks.{TellsBodies, TellsSteps, bodies_view};
+ghost use Rattle.cs_embeddings.specs.Checks.{TellsBodies, TellsSteps, TellsRounds, bodies_view};
+ghost use Rattle.cs_embeddings.specs.Flaws.{is_none};
+ghost use Rattle.cs_embeddings.specs.Embedded as Spec;
 ghost use Rattle.cs_embeddings.specs.Embedded.{can_be_embedded, all_embedded, embeds_well, embed_well, fields_embed_well, declarations_embed_well, end_embeds_well};
 
 use crate::definitions::Bodies;
@@ -14,6 +17,13 @@ use std::collections::BTreeMap;
 
 /// How many steps embeddings may take: a definition that embeds the next one is two.
 pub(crate) const MOST_STEPS: usize = 128;
+
+/// Whether there is an operand.
+fn has_operand(operands: &[Expr]) -> bool
+    ensures { result ≡ Spec.has_operand (exprs_view operands.now) }
+{
+    !operands.is_empty()
+}
 
 /// The definitions that can be embedded, each with the least number of steps that it takes.
 #[derive(Drop)]
@@ -43,8 +53,9 @@ impl<'b, 'a> Embeddable<'b, 'a> {
     /// Adds the definitions whose bodies can be embedded in so many steps, and that aren't there yet.
     fn add_all(&mut self, steps: usize) -> Result<(), AllocError>
         requires { steps < most_steps }
-        ensures { OnOk result ((ds : List DefinitionTree) → TellsBodies self.old.bodies.now ds → TellsSteps self.old ds steps
-            → TellsSteps self.new ds (suc steps)) }
+        ensures same { self.new.bodies ≡ self.old.bodies }
+        ensures tells { OnOk result ((ds : List DefinitionTree) → TellsBodies self.old.bodies.now ds → TellsRounds self.old ds steps []
+            → TellsRounds self.new ds (suc steps) []) }
     {
         let bodies = self.bodies;
         for name in &bodies.names {
@@ -56,6 +67,9 @@ impl<'b, 'a> Embeddable<'b, 'a> {
     /// The same of one definition.
     fn add(&mut self, name: &'a str, steps: usize) -> Result<(), AllocError>
         requires { steps < most_steps }
+        ensures same { self.new.bodies ≡ self.old.bodies }
+        ensures tells { OnOk result ((ds : List DefinitionTree) (names : List (Bor (List ℕ))) → TellsBodies self.old.bodies.now ds
+            → is_none (bodies name.now ds) ≡ false → TellsRounds self.old ds steps names → TellsRounds self.new ds steps (names ++ name.entry ∷ [])) }
     {
         if self.steps.contains_key(name) {
             return Ok(());
@@ -82,7 +96,7 @@ impl<'b, 'a> Embeddable<'b, 'a> {
                 self.declarations_embed_well(declarations, left)
             }
             Expr::Paren(inside) => self.can_embed(inside, left),
-            Expr::Or(operands) => self.can_embed_all(operands, left),
+            Expr::Or(operands) => has_operand(operands) && self.can_embed_all(operands, left),
             Expr::Reference { text, .. } => self.takes(text, steps),
             Expr::Top
             | Expr::Bottom
@@ -102,7 +116,10 @@ impl<'b, 'a> Embeddable<'b, 'a> {
     }
 
     /// Whether a definition can be embedded in so many steps, as the table tells it. One that isn't declared is at fault by its name alone.
-    fn takes(&self, name: &str, steps: usize) -> bool {
+    fn takes(&self, name: &str, steps: usize) -> bool
+        ensures { (ds : List DefinitionTree) (most o : ℕ) → TellsBodies self.now.bodies.now ds → TellsSteps self.now ds most → steps ≤ most
+            → result ≡ can_be_embedded ds steps (reference name.now o) }
+    {
         match self.steps.get(name) {
             Some(least) => *least <= steps,
             None => steps > 0 && self.bodies.of_name(name).is_empty(),
@@ -110,7 +127,10 @@ impl<'b, 'a> Embeddable<'b, 'a> {
     }
 
     #[cycle(embedded)]
-    fn can_embed_all(&self, exprs: &[Expr], steps: usize) -> bool {
+    fn can_embed_all(&self, exprs: &[Expr], steps: usize) -> bool
+        ensures { (ds : List DefinitionTree) (most : ℕ) → TellsBodies self.now.bodies.now ds → TellsSteps self.now ds most → steps ≤ most
+            → result ≡ all_embedded (can_be_embedded ds steps) (exprs_view exprs.now) }
+    {
         for expr in exprs {
             if !self.can_embed(expr, steps) {
                 return false;
@@ -120,7 +140,10 @@ impl<'b, 'a> Embeddable<'b, 'a> {
     }
 
     /// The same of the bodies of a definition.
-    fn can_embed_bodies(&self, bodies: &[&Expr], steps: usize) -> bool {
+    fn can_embed_bodies(&self, bodies: &[&Expr], steps: usize) -> bool
+        ensures { (ds : List DefinitionTree) (most : ℕ) → TellsBodies self.now.bodies.now ds → TellsSteps self.now ds most → steps ≤ most
+            → result ≡ list_all (can_be_embedded ds steps) (bodies_view bodies.now) }
+    {
         for body in bodies {
             if !self.can_embed(body, steps) {
                 return false;
@@ -131,7 +154,10 @@ impl<'b, 'a> Embeddable<'b, 'a> {
 
     /// Whether each expression that a literal embeds, at any depth, can be embedded in so many steps.
     #[cycle(embedded)]
-    fn embeds_well(&self, expr: &Expr, steps: usize) -> bool {
+    fn embeds_well(&self, expr: &Expr, steps: usize) -> bool
+        ensures { (ds : List DefinitionTree) (most : ℕ) → TellsBodies self.now.bodies.now ds → TellsSteps self.now ds most → steps ≤ most
+            → result ≡ embeds_well (can_be_embedded ds steps) (expr_view expr.now) }
+    {
         match expr {
             Expr::And(operands) | Expr::Or(operands) => self.embed_well(operands, steps),
             Expr::Paren(inside) => self.embeds_well(inside, steps),
@@ -159,7 +185,10 @@ impl<'b, 'a> Embeddable<'b, 'a> {
     }
 
     #[cycle(embedded)]
-    fn embed_well(&self, exprs: &[Expr], steps: usize) -> bool {
+    fn embed_well(&self, exprs: &[Expr], steps: usize) -> bool
+        ensures { (ds : List DefinitionTree) (most : ℕ) → TellsBodies self.now.bodies.now ds → TellsSteps self.now ds most → steps ≤ most
+            → result ≡ embed_well (can_be_embedded ds steps) (exprs_view exprs.now) }
+    {
         for expr in exprs {
             if !self.embeds_well(expr, steps) {
                 return false;
@@ -169,7 +198,10 @@ impl<'b, 'a> Embeddable<'b, 'a> {
     }
 
     #[cycle(embedded)]
-    fn fields_embed_well(&self, fields: &[Field], steps: usize) -> bool {
+    fn fields_embed_well(&self, fields: &[Field], steps: usize) -> bool
+        ensures { (ds : List DefinitionTree) (most : ℕ) → TellsBodies self.now.bodies.now ds → TellsSteps self.now ds most → steps ≤ most
+            → result ≡ fields_embed_well (can_be_embedded ds steps) (fields_view fields.now) }
+    {
         for field in fields {
             if !self.embeds_well(&field.value, steps) {
                 return false;
@@ -179,7 +211,10 @@ impl<'b, 'a> Embeddable<'b, 'a> {
     }
 
     #[cycle(embedded)]
-    fn declarations_embed_well(&self, declarations: &[Declaration], steps: usize) -> bool {
+    fn declarations_embed_well(&self, declarations: &[Declaration], steps: usize) -> bool
+        ensures { (ds : List DefinitionTree) (most : ℕ) → TellsBodies self.now.bodies.now ds → TellsSteps self.now ds most → steps ≤ most
+            → result ≡ declarations_embed_well (can_be_embedded ds steps) (declarations_view declarations.now) }
+    {
         for declaration in declarations {
             let is_well = match declaration {
                 Declaration::Field(field) => self.embeds_well(&field.value, steps),
@@ -193,7 +228,10 @@ impl<'b, 'a> Embeddable<'b, 'a> {
     }
 
     #[cycle(embedded)]
-    fn end_embeds_well(&self, end: &ListEnd, steps: usize) -> bool {
+    fn end_embeds_well(&self, end: &ListEnd, steps: usize) -> bool
+        ensures { (ds : List DefinitionTree) (most : ℕ) → TellsBodies self.now.bodies.now ds → TellsSteps self.now ds most → steps ≤ most
+            → result ≡ end_embeds_well (can_be_embedded ds steps) (end_view end.now) }
+    {
         match end {
             ListEnd::Closed | ListEnd::Any => true,
             ListEnd::Each(each) => self.embeds_well(each, steps),

@@ -1,8 +1,8 @@
 // What of the embeddings is at fault.
-ghost use Rattle.std.specs.Prelude.{◌≡◌, List};
+ghost use Rattle.std.specs.Prelude.{◌≡◌, List, map};
 ghost use Rattle.cs_grammar.specs.Tree.{DefinitionTree};
-ghost use Rattle.cs_grammar.specs.View.{expr_view, exprs_view, fields_view, declarations_view, end_view};
-ghost use Rattle.cs_embeddings.specs.Checks.{Finds, TellsEmbeddable, flaw_view};
+ghost use Rattle.cs_grammar.specs.View.{expr_view, exprs_view, fields_view, declaration_view, declarations_view, end_view};
+ghost use Rattle.cs_embeddings.specs.Checks.{Finds, TellsEmbeddable, flaw_view, flaws_seen};
 ghost use Rattle.cs_embeddings.specs.Flaws as Spec;
 
 use crate::definitions::Bodies;
@@ -58,7 +58,10 @@ impl Flaws<'_, '_, '_> {
     }
 
     #[cycle(flaws)]
-    fn check_each(&self, exprs: &[Expr]) -> Result<(), Flaw> {
+    fn check_each(&self, exprs: &[Expr]) -> Result<(), Flaw>
+        ensures { (ds : List DefinitionTree) → TellsEmbeddable self.now ds
+            → Finds flaw_view result (Spec.flaws_each ds (exprs_view exprs.now)) }
+    {
         for expr in exprs {
             self.check(expr)?;
         }
@@ -66,7 +69,10 @@ impl Flaws<'_, '_, '_> {
     }
 
     #[cycle(flaws)]
-    fn check_fields(&self, fields: &[Field]) -> Result<(), Flaw> {
+    fn check_fields(&self, fields: &[Field]) -> Result<(), Flaw>
+        ensures { (ds : List DefinitionTree) → TellsEmbeddable self.now ds
+            → Finds flaw_view result (Spec.flaws_fields ds (fields_view fields.now)) }
+    {
         for field in fields {
             self.check(&field.value)?;
         }
@@ -74,21 +80,35 @@ impl Flaws<'_, '_, '_> {
     }
 
     #[cycle(flaws)]
-    fn check_declarations(&self, declarations: &[Declaration]) -> Result<(), Flaw> {
+    fn check_declarations(&self, declarations: &[Declaration]) -> Result<(), Flaw>
+        ensures { (ds : List DefinitionTree) → TellsEmbeddable self.now ds
+            → Finds flaw_view result (Spec.flaws_declarations ds (declarations_view declarations.now)) }
+    {
         for declaration in declarations {
-            match declaration {
-                Declaration::Field(field) => self.check(&field.value)?,
-                Declaration::Embedded { at, value } => {
-                    self.check_embedded(*at, value)?;
-                    self.check(value)?;
-                }
-            }
+            self.check_declaration(declaration)?;
         }
         Ok(())
     }
 
     #[cycle(flaws)]
-    fn check_end(&self, end: &ListEnd) -> Result<(), Flaw> {
+    fn check_declaration(&self, declaration: &Declaration) -> Result<(), Flaw>
+        ensures { (ds : List DefinitionTree) → TellsEmbeddable self.now ds
+            → Finds flaw_view result (flaws_seen ds (declaration_view declaration.now)) }
+    {
+        match declaration {
+            Declaration::Field(field) => self.check(&field.value),
+            Declaration::Embedded { at, value } => {
+                self.check_embedded(*at, value)?;
+                self.check(value)
+            }
+        }
+    }
+
+    #[cycle(flaws)]
+    fn check_end(&self, end: &ListEnd) -> Result<(), Flaw>
+        ensures { (ds : List DefinitionTree) → TellsEmbeddable self.now ds
+            → Finds flaw_view result (Spec.flaws_end ds (end_view end.now)) }
+    {
         match end {
             ListEnd::Closed | ListEnd::Any => Ok(()),
             ListEnd::Each(each) => self.check(each),
@@ -110,7 +130,10 @@ impl Flaws<'_, '_, '_> {
 
     /// Looks for a name that is embedded and not declared.
     #[cycle(names)]
-    fn check_names(&self, expr: &Expr) -> Result<(), Flaw> {
+    fn check_names(&self, expr: &Expr) -> Result<(), Flaw>
+        ensures { (ds : List DefinitionTree) → TellsEmbeddable self.now ds
+            → Finds flaw_view result (map Spec.unknown (Spec.unknown_in ds (expr_view expr.now))) }
+    {
         match expr {
             Expr::Reference { text, at } if self.bodies.of_name(text).is_empty() => {
                 Err(Flaw::Unknown { at: *at })
@@ -137,7 +160,10 @@ impl Flaws<'_, '_, '_> {
     }
 
     #[cycle(names)]
-    fn check_names_of(&self, exprs: &[Expr]) -> Result<(), Flaw> {
+    fn check_names_of(&self, exprs: &[Expr]) -> Result<(), Flaw>
+        ensures { (ds : List DefinitionTree) → TellsEmbeddable self.now ds
+            → Finds flaw_view result (map Spec.unknown (Spec.unknown_each ds (exprs_view exprs.now))) }
+    {
         for expr in exprs {
             self.check_names(expr)?;
         }

@@ -37,8 +37,8 @@ impl<'a> Found<'a> {
         if weight > room.saturating_sub(self.weight) {
             return Err(EmbeddingFault::TooLarge);
         }
-        self.weight += weight;
         self.alternatives.push(alternative)?;
+        self.weight += weight;
         Ok(())
     }
 

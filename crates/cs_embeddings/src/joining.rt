@@ -1,11 +1,12 @@
 // What a literal with embeddings can be.
-ghost use Rattle.std.specs.Prelude.{◌≡◌, ℕ, List, ◌++◌, map, true};
-ghost use Rattle.cs_grammar.specs.Tree.{DefinitionTree};
-ghost use Rattle.cs_grammar.specs.View.{expr_view, exprs_view, declarations_view};
+ghost use Rattle.std.specs.Prelude.{◌≡◌, ℕ, List, [], ◌∷◌, ◌++◌, map, true, Some};
+ghost use Rattle.std.specs.List.{flat_map, list_all};
+ghost use Rattle.cs_grammar.specs.Tree.{DefinitionTree, bodies};
+ghost use Rattle.cs_grammar.specs.View.{expr_view, exprs_view, field_view, declarations_view};
 ghost use Rattle.cs_embeddings.specs.Alternatives as Spec;
-ghost use Rattle.cs_embeddings.specs.Checks.{TellsBodies, bodies_view, ReachesAll};
-ghost use Rattle.cs_embeddings.specs.Embedded.{can_be_embedded, declarations_embed_well};
-ghost use Rattle.cs_embeddings.specs.Views.{alternative_view, alternatives_view, Reaches};
+ghost use Rattle.cs_embeddings.specs.Checks.{TellsBodies, ReachesAll};
+ghost use Rattle.cs_embeddings.specs.Embedded.{can_be_embedded, all_embedded, declarations_embed_well};
+ghost use Rattle.cs_embeddings.specs.Views.{alternative_view, alternatives_view, with_field, Reaches};
 
 use crate::EmbeddingFault;
 use crate::alternatives::{Alternative, Brought};
@@ -78,11 +79,8 @@ impl<'a> Joining<'_, 'a> {
             }
             Expr::Paren(inside) => self.join(left, place, inside, before, found),
             Expr::Or(operands) => self.join_operands(left, place, operands, &before, found),
-            Expr::Reference { text, at } if before.meets(text) => found.push(self.room, before),
             Expr::Reference { text, at } => {
-                let at = place.unwrap_or(*at);
-                let joined = self.join_definition(left, at, text, before)?;
-                found.append(self.room, joined)
+                self.join_definition(left, place.unwrap_or(*at), text, before, found)
             }
             Expr::Top
             | Expr::Bottom
@@ -109,7 +107,11 @@ impl<'a> Joining<'_, 'a> {
         place: Option<usize>,
         expr: &'a Expr,
         before: Found<'a>,
-    ) -> Result<Found<'a>, EmbeddingFault> {
+    ) -> Result<Found<'a>, EmbeddingFault>
+        ensures { (ds : List DefinitionTree) → TellsBodies self.entry.bodies.now ds → can_be_embedded ds steps (expr_view expr.now) ≡ true
+            → ReachesAll result self.entry.room (flat_map (Spec.alternatives ds steps place (expr_view expr.now))
+            (alternatives_view before.entry.alternatives.items)) }
+    {
         let mut found = Found::nothing(self.alloc);
         for alternative in before.alternatives {
             self.join(steps, place, expr, alternative, &mut found)?;
@@ -125,7 +127,12 @@ impl<'a> Joining<'_, 'a> {
         place: Option<usize>,
         declarations: &'a [Declaration],
         before: Alternative<'a>,
-    ) -> Result<Found<'a>, EmbeddingFault> {
+    ) -> Result<Found<'a>, EmbeddingFault>
+        ensures { (ds : List DefinitionTree) → TellsBodies self.entry.bodies.now ds
+            → declarations_embed_well (can_be_embedded ds steps) (declarations_view declarations.now) ≡ true
+            → ReachesAll result self.entry.room (Spec.join_declarations (Spec.alternatives ds steps) place (declarations_view declarations.now)
+            (alternative_view before.entry ∷ [])) }
+    {
         let mut found = Found::nothing(self.alloc);
         found.push(self.room, before)?;
         for declaration in declarations {
@@ -143,7 +150,9 @@ impl<'a> Joining<'_, 'a> {
         place: Option<usize>,
         field: &'a Field,
         before: Found<'a>,
-    ) -> Result<Found<'a>, EmbeddingFault> {
+    ) -> Result<Found<'a>, EmbeddingFault>
+        ensures { ReachesAll result self.entry.room (map (with_field place (field_view field.now)) (alternatives_view before.entry.alternatives.items)) }
+    {
         let mut found = Found::nothing(self.alloc);
         for mut alternative in before.alternatives {
             alternative.declarations.push(Brought { field, place })?;
@@ -152,7 +161,7 @@ impl<'a> Joining<'_, 'a> {
         Ok(found)
     }
 
-    /// The bodies of a definition one behind the other, behind what is before them.
+    /// Adds the alternatives of the definition of that name; what is before it alone where the definition is embedded already.
     #[cycle(join)]
     fn join_definition(
         self,
@@ -160,7 +169,33 @@ impl<'a> Joining<'_, 'a> {
         at: usize,
         name: &'a str,
         before: Alternative<'a>,
-    ) -> Result<Found<'a>, EmbeddingFault> {
+        found: &mut Found<'a>,
+    ) -> Result<(), EmbeddingFault>
+        ensures { (ds : List DefinitionTree) → TellsBodies self.entry.bodies.now ds → list_all (can_be_embedded ds steps) (bodies name.now ds) ≡ true
+            → Reaches result self.entry.room (alternatives_view found.old.alternatives.items
+            ++ Spec.join_definition (Spec.alternatives ds steps) name.now at (bodies name.now ds) (alternative_view before.entry))
+            (alternatives_view found.new.alternatives.items) }
+    {
+        if before.meets(name) {
+            return found.push(self.room, before);
+        }
+        let joined = self.join_bodies(steps, at, name, before)?;
+        found.append(self.room, joined)
+    }
+
+    /// The bodies of a definition one behind the other, behind what is before them.
+    #[cycle(join)]
+    fn join_bodies(
+        self,
+        steps: usize,
+        at: usize,
+        name: &'a str,
+        before: Alternative<'a>,
+    ) -> Result<Found<'a>, EmbeddingFault>
+        ensures { (ds : List DefinitionTree) → TellsBodies self.entry.bodies.now ds → list_all (can_be_embedded ds steps) (bodies name.now ds) ≡ true
+            → ReachesAll result self.entry.room (map (Spec.meet name.now) (Spec.join_bodies (Spec.alternatives ds steps) (Some at) (bodies name.now ds)
+            (alternative_view before.entry ∷ []))) }
+    {
         let mut found = Found::nothing(self.alloc);
         found.push(self.room, before)?;
         for body in self.bodies.of_name(name) {
@@ -170,7 +205,9 @@ impl<'a> Joining<'_, 'a> {
     }
 
     /// Those before it, which embed the definition of that name.
-    fn meet(self, name: &'a str, before: Found<'a>) -> Result<Found<'a>, EmbeddingFault> {
+    fn meet(self, name: &'a str, before: Found<'a>) -> Result<Found<'a>, EmbeddingFault>
+        ensures { ReachesAll result self.entry.room (map (Spec.meet name.now) (alternatives_view before.entry.alternatives.items)) }
+    {
         let mut found = Found::nothing(self.alloc);
         for mut alternative in before.alternatives {
             alternative.met.push(name)?;
@@ -188,7 +225,13 @@ impl<'a> Joining<'_, 'a> {
         operands: &'a [Expr],
         before: &Alternative<'a>,
         found: &mut Found<'a>,
-    ) -> Result<(), EmbeddingFault> {
+    ) -> Result<(), EmbeddingFault>
+        ensures { (ds : List DefinitionTree) → TellsBodies self.entry.bodies.now ds
+            → all_embedded (can_be_embedded ds steps) (exprs_view operands.now) ≡ true
+            → Reaches result self.entry.room (alternatives_view found.old.alternatives.items
+            ++ Spec.join_operands (Spec.alternatives ds steps) place (exprs_view operands.now) (alternative_view before.now))
+            (alternatives_view found.new.alternatives.items) }
+    {
         for operand in operands {
             self.join(steps, place, operand, before.copy(self.alloc)?, found)?;
         }

@@ -5,7 +5,9 @@ use cs_advice::{
     Told, Written, put_advice, put_all, put_filled, put_no_root, put_too_large, tell_chain,
     tell_cycle, tell_package_name, tell_too_high,
 };
-use cs_forms::{Form, Found, form_left_out_in, form_out_of_place, form_stuck, form_unknown};
+use cs_forms::{
+    Form, Found, form_left_out_in, form_not_opened, form_out_of_place, form_stuck, form_unknown,
+};
 use cs_grammar::Profile;
 use cs_meanings::explanation;
 use cs_place::Named;
@@ -77,7 +79,7 @@ fn tell_form<'a>(
         Fault::LeftOut { .. } => form_left_out_in(profile, near),
         Fault::UnknownName { .. } => form_unknown(near),
         Fault::FieldReference { .. } => Found::at(near, Form::FieldReference),
-        Fault::NotOpened { .. } => Found::at(near, Form::NotOpened),
+        Fault::NotOpened { .. } => form_not_opened(told.alloc(), profile, near, sources)?,
         _ => return Ok(()),
     };
     told.place(source.named, found.start, found.end);

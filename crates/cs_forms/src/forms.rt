@@ -134,6 +134,12 @@ pub enum Form {
     FieldReference,
     /// A struct literal without `...` in a conjunction.
     NotOpened,
+    /// `{int, a: int}`, `{#B & {b: int}, a: int}`: something is embedded that is no struct, in the wide profile, as the next two.
+    EmbeddedNoStruct,
+    /// `#P: {#P, a: int}`.
+    EmbeddedItself,
+    /// `{#B, x: {..}}` where `x` has a struct or a reference in `#B`.
+    EmbeddedTwice,
 }
 
 /// A form, and the bytes of the source that show it: from `start` up to `end`, which is behind the last one.

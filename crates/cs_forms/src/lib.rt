@@ -2,6 +2,7 @@
 #![tactic(auto)]
 
 mod defaults;
+mod embeddings;
 mod forms;
 mod names;
 mod stuck;
@@ -9,6 +10,7 @@ mod syntax;
 mod words;
 
 pub use defaults::form_left_out_in;
+pub use embeddings::{Flaw, flaw_of_embedding, form_not_opened};
 pub use forms::{Form, Found};
 pub use names::form_unknown;
 pub use stuck::form_stuck;

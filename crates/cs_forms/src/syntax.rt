@@ -71,9 +71,15 @@ fn form_in_struct(near: Near<'_, '_>) -> Form {
         Sort::Definition => Form::EmbeddedDefinition,
         Sort::Integer if behind.text == ":" => Form::DigitLabel,
         _ if here.text == "{" => Form::EmbeddedStruct,
+        _ if here.text == "(" && is_embedded(near) => Form::EmbeddedStruct,
         _ if here.text == "(" => Form::DynamicLabel,
         _ => Form::EmbeddedValue,
     }
+}
+
+/// Whether what parentheses hold is embedded, and no label.
+fn is_embedded(near: Near<'_, '_>) -> bool {
+    near.closing().is_some() && near.embedding().is_some()
 }
 
 /// The form inside of an expression, behind the end of a value.

@@ -155,8 +155,12 @@ impl<'t> Words<'t> for Definitions<'t> {
             InstanceCause::Part { place, .. } => {
                 node.part(self.package, self.sources, *place, path)
             }
-            InstanceCause::Alternative { place, .. } => Ok(node.operand(Separator::Bar, *place)),
-            InstanceCause::Member { declaration, .. } => node.member(*declaration, path),
+            InstanceCause::Alternative { place, .. } => {
+                Ok(node.operand(self.sources, Separator::Bar, *place))
+            }
+            InstanceCause::Member { declaration, .. } => {
+                node.member(self.sources, *declaration, path)
+            }
             InstanceCause::Element { place, .. } => node.element(*place, path),
             InstanceCause::Unmet
             | InstanceCause::Missing { .. }
@@ -180,7 +184,7 @@ impl<'t> Words<'t> for Definitions<'t> {
         let mut source = node.source;
         let mut finding = match cause {
             InstanceCause::Missing { declaration, .. } => {
-                source = source.and_then(|found| found.declaration(*declaration));
+                source = node.declaration(self.alloc, self.sources, *declaration)?;
                 self.missing(node.parts().get(*declaration), path)?
             }
             InstanceCause::Extra { member, .. } => self.extra(node.parts(), item, *member)?,

@@ -2,8 +2,8 @@
 use cs_package::{FieldMark, Package, Part, Shape, ShapeEnd};
 use cs_place::{Position, put_quoted};
 use cs_reason_words::{SourcePlace, put_number};
-use cs_sources::{Declared, Part as SourcePart, Separator};
-use std::alloc::AllocError;
+use cs_sources::{Alternative, Declared, ONLY, Part as SourcePart, Separator};
+use std::alloc::{AllocError, Global};
 
 /// What a rule is.
 #[derive(Clone, Copy, Drop)]
@@ -14,6 +14,8 @@ pub(crate) struct Node<'t> {
     pub(crate) shape: Option<&'t Shape>,
     /// The expression in the sources, where that was found.
     pub(crate) source: Option<SourcePart<'t, 't>>,
+    /// Which of the alternatives of that, where it is a literal with embeddings.
+    alternative: Alternative,
 }
 
 /// The name of a definition and its bodies, if the package has it.
@@ -49,6 +51,14 @@ fn is_plain(label: &str) -> bool {
         && label.bytes().all(|x| matches!(x, b'a'..=b'z' | b'A'..=b'Z' | b'0'..=b'9' | b'_' | b'$'))
 }
 
+/// The label of a declaration; none where that is `[string]`.
+fn label_of(part: &Part) -> Option<&str> {
+    match part.mark {
+        FieldMark::Every { .. } => None,
+        _ => Some(part.label.as_str()),
+    }
+}
+
 /// Puts the step of a path to what a declaration declares.
 pub(crate) fn put_label(path: &mut String, part: &Part) -> Result<(), AllocError> {
     if matches!(part.mark, FieldMark::Every { .. }) {
@@ -75,6 +85,7 @@ impl<'t> Node<'t> {
             definition,
             shape: None,
             source: None,
+            alternative: ONLY,
         })
     }
 
@@ -84,6 +95,7 @@ impl<'t> Node<'t> {
             definition: self.definition,
             shape,
             source,
+            alternative: ONLY,
         }
     }
 
@@ -103,7 +115,7 @@ impl<'t> Node<'t> {
                 Ok(self.to(bodies.get(place), source))
             }
             Some(Shape::Definition(definition)) => Node::of(package, *definition, path),
-            Some(_) => Ok(self.operand(Separator::Amp, place)),
+            Some(_) => Ok(self.operand(sources, Separator::Amp, place)),
         }
     }
 
@@ -115,12 +127,29 @@ impl<'t> Node<'t> {
         }
     }
 
-    /// The operand at a place.
-    pub(crate) fn operand(self, separator: Separator, place: usize) -> Node<'t> {
-        let source = self
-            .source
-            .and_then(|found| found.operand(separator, place));
-        self.to(self.operands().get(place), source)
+    /// The operand at a place. All alternatives of a literal with embeddings are that literal.
+    pub(crate) fn operand(
+        self,
+        sources: &Declared<'_, '_>,
+        separator: Separator,
+        place: usize,
+    ) -> Node<'t> {
+        let shape = self.operands().get(place);
+        let Some(found) = self.source else {
+            return self.to(shape, None);
+        };
+        if sources.embeds(found) {
+            let alternative = Alternative {
+                number: place,
+                count: self.operands().len(),
+            };
+            return Node {
+                shape,
+                alternative,
+                ..self
+            };
+        }
+        self.to(shape, found.operand(separator, place))
     }
 
     /// The declarations of a struct literal.
@@ -131,10 +160,37 @@ impl<'t> Node<'t> {
         }
     }
 
+    /// Where the declaration at a place is written.
+    pub(crate) fn declaration(
+        self,
+        alloc: Global,
+        sources: &'t Declared<'t, 't>,
+        place: usize,
+    ) -> Result<Option<SourcePart<'t, 't>>, AllocError> {
+        let Some(found) = self.source else {
+            return Ok(None);
+        };
+        if !sources.embeds(found) {
+            return Ok(found.declaration(place));
+        }
+        let joined = sources.joined(alloc, found, self.alternative, place)?;
+        match (joined, self.parts().get(place)) {
+            (Some(declaration), Some(part)) if declaration.begins_with_label(label_of(part)) => {
+                Ok(Some(declaration))
+            }
+            _ => Ok(None),
+        }
+    }
+
     /// What the declaration at a place declares.
-    pub(crate) fn member(self, place: usize, path: &mut String) -> Result<Node<'t>, AllocError> {
-        let source = match self.source {
-            Some(found) => found.member(place),
+    pub(crate) fn member(
+        self,
+        sources: &'t Declared<'t, 't>,
+        place: usize,
+        path: &mut String,
+    ) -> Result<Node<'t>, AllocError> {
+        let source = match self.declaration(*path.allocator(), sources, place)? {
+            Some(declaration) => declaration.declared(),
             None => None,
         };
         let Some(part) = self.parts().get(place) else {

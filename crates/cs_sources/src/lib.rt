@@ -4,6 +4,7 @@
 
 mod cut;
 mod declared;
+mod joined;
 mod near;
 mod outline;
 mod part;
@@ -12,6 +13,7 @@ mod stuck;
 mod tokens;
 
 pub use declared::{Declared, declared_in};
+pub use joined::{Alternative, Embedded, ONLY};
 pub use near::Near;
 pub use outline::{Bracket, Inside, Separator};
 pub use part::Part;

@@ -97,6 +97,44 @@ impl<'s, 'a> Near<'s, 'a> {
             && matches!(self.inside(), Inside::File | Inside::Struct)
     }
 
+    /// Whether an expression that a struct embeds begins with the token: a declaration without a colon of its own.
+    pub fn begins_embedding(self) -> bool {
+        let here = self.here();
+        let may_begin = here.sort == Sort::Definition || is_mark(here, "{") || is_mark(here, "(");
+        may_begin
+            && precedes_declaration(self.before(1))
+            && self.inside() == Inside::Struct
+            && self.part().count(Separator::Colon) == 0
+    }
+
+    /// The expression that a struct embeds and that the token is in, in no other struct.
+    pub fn embedding(self) -> Option<Part<'s, 'a>> {
+        let declaration = self.source.declaration_at(self.place);
+        let around = self.source.bracket(self.source.around(declaration.from));
+        let is_embedded = around.inside == Inside::Struct
+            && declaration.count(Separator::Colon) == 0
+            && !is_mark(declaration.first()?.here(), "...");
+        is_embedded.then_some(declaration)
+    }
+
+    /// Whether the declaration that the token is in stands in a struct that embeds an expression, or that is embedded.
+    pub fn stands_beside_embeddings(self) -> bool {
+        let source = self.source;
+        let bracket = source.around(source.declaration_at(self.place).from);
+        let opening = source.bracket(bracket).first.saturating_sub(1);
+        let held = source.held(bracket);
+        let is_embedded = Near {
+            source,
+            place: opening,
+        }
+        .embedding()
+        .is_some();
+        let embeds = (held.from..held.to).any(|place| {
+            source.around(place) == bracket && Near { source, place }.begins_embedding()
+        });
+        bracket > 0 && (is_embedded || embeds)
+    }
+
     /// Whether the token is the name that the declaration of a definition begins with, outside of all brackets.
     pub(crate) fn declares(self) -> bool {
         let is_name = self.here().sort == Sort::Definition && is_mark(self.behind(1), ":");

@@ -4,6 +4,7 @@ use crate::outline::Separator;
 use crate::source::Source;
 use crate::tokens::{end_of, is_mark};
 use cs_grammar::{Sort, Token};
+use std::str;
 
 /// A part of a source: its tokens from one place up to another, which are in one bracket. Each part of it is found by the outline of the
 /// source, without a look at the other parts.
@@ -34,6 +35,13 @@ impl<'s, 'a> Part<'s, 'a> {
         last.map_or(0, |last| end_of(self.source.token(last)))
     }
 
+    /// Its text.
+    pub fn text(self) -> &'a str {
+        let start = self.source.token(self.from).start;
+        let text = self.source.named.text.get(start..self.end()).unwrap_or(b"");
+        str::from_utf8(text).unwrap_or("")
+    }
+
     /// The place of its separator with so many of the same sort before it.
     pub fn separator(self, separator: Separator, before: usize) -> Option<usize> {
         self.source.separator(separator, self.from, self.to, before)
@@ -55,7 +63,7 @@ impl<'s, 'a> Part<'s, 'a> {
     }
 
     /// What the bracket at its front has inside, if it closes at the end.
-    fn inside(self, open: &str) -> Option<Part<'s, 'a>> {
+    pub(crate) fn inside(self, open: &str) -> Option<Part<'s, 'a>> {
         let first = self.first()?;
         let held = first.held()?;
         let closing = first.closing()?;
@@ -64,7 +72,7 @@ impl<'s, 'a> Part<'s, 'a> {
     }
 
     /// It without the parentheses around, which say nothing.
-    fn unwrapped(self) -> Part<'s, 'a> {
+    pub(crate) fn unwrapped(self) -> Part<'s, 'a> {
         let mut left = self;
         for _ in self.from..self.to {
             let Some(inner) = left.inside("(") else { break };
@@ -89,6 +97,31 @@ impl<'s, 'a> Part<'s, 'a> {
             None if place == 0 => Some(whole),
             None => None,
         }
+    }
+
+    /// Whether it may begin with a label: with `[` where there is none. Texts with escapes aren't read.
+    pub fn begins_with_label(self, label: Option<&str>) -> bool {
+        let Some(first) = self.first() else {
+            return false;
+        };
+        let token = first.here();
+        match label {
+            None => is_mark(token, "["),
+            Some(label) if token.sort == Sort::Text => {
+                token.text.contains('\\') || token.text.trim_matches('"') == label
+            }
+            Some(label) => token.text == label,
+        }
+    }
+
+    /// Whether two declarations may declare one key. Escapes aren't read.
+    pub fn may_share_key(self, other: Part<'_, '_>) -> bool {
+        let (Some(first), Some(second)) = (self.first(), other.first()) else {
+            return false;
+        };
+        let (first, second) = (first.here(), second.here());
+        let is_every = is_mark(first, "[") || is_mark(second, "[");
+        is_every || first.text.trim_matches('"') == second.text.trim_matches('"')
     }
 
     /// What is declared by this declaration: what is behind its first colon.

@@ -1,5 +1,5 @@
 // Sources with the mends of their faults, so that the next ones show.
-use crate::sources::mends::{Mend, mended_name};
+use crate::sources::mends::{Mend, mended_beside, mended_embedding, mended_name};
 use crate::sources::reading::place_of;
 use cs_place::Named;
 use cs_sources::{Source, is_mark, separates};
@@ -133,11 +133,26 @@ pub(crate) fn mend_fault(drafts: &mut [Draft<'_>], fault: &Fault) -> Result<bool
         return Ok(false);
     };
     let place = draft.source.place_at(offset);
-    if let Fault::NotOpened { .. } = fault {
-        draft.open_literal(place)?;
-    } else {
+    let is_name = !matches!(fault, Fault::NotOpened { .. });
+    if let Some(mend) = mended_embedding(&draft.source, place, is_name) {
+        draft.add(mend)?;
+    } else if is_name {
         let mend = mended_name(&draft.source, place);
         draft.add(mend)?;
+    } else if let Some(mend) = mended_beside(&draft.source, place) {
+        draft.add(mend)?;
+    } else {
+        draft.open_literal(place)?;
     }
     Ok(true)
+}
+
+/// Whether a fault is at what a struct of a draft embeds.
+pub(crate) fn is_at_embedding(drafts: &[Draft<'_>], fault: &Fault) -> bool {
+    let (file, offset) = place_of(fault);
+    let Some(draft) = drafts.get(file) else {
+        return false;
+    };
+    let place = draft.source.place_at(offset);
+    mended_embedding(&draft.source, place, true).is_some()
 }

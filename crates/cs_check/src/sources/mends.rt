@@ -1,7 +1,7 @@
 // What is mended at a place of a source: a label, an operand, a declaration, or the lines of a definition.
 use cs_grammar::Sort;
 use cs_sources::Separator::{Amp, Bar, Colon, Comma};
-use cs_sources::{Inside, Part, Source, is_mark, separates};
+use cs_sources::{Inside, Near, Part, Source, is_mark, separates};
 
 /// A mend: what is from one offset of a source up to another one becomes a text.
 #[derive(Clone, Copy)]
@@ -163,6 +163,25 @@ pub(crate) fn mend_at(source: &Source<'_>, offset: usize, made: usize) -> Option
         0 | 2 => Some(Mend::over(source, definition.from, definition.to, " ")),
         _ => None,
     }
+}
+
+/// What a mend puts in the place of what is embedded.
+const EMBEDDED: &str = "{...}";
+
+/// The mend of an embedding at a place: of what is embedded, or of the name there alone. None where none is.
+pub(crate) fn mended_embedding(source: &Source<'_>, place: usize, is_name: bool) -> Option<Mend> {
+    let embedded = Near { source, place }.embedding()?;
+    if is_name {
+        return Some(Mend::over(source, place, place.saturating_add(1), EMBEDDED));
+    }
+    Some(Mend::over(source, embedded.from, embedded.to, EMBEDDED))
+}
+
+/// The mend of a value that an embedding would open: `_`. None where no embedding is beside it.
+pub(crate) fn mended_beside(source: &Source<'_>, place: usize) -> Option<Mend> {
+    let value = source.declaration_at(place).declared()?;
+    let is_beside = Near { source, place }.stands_beside_embeddings();
+    is_beside.then_some(Mend::over(source, value.from, value.to, "_"))
 }
 
 /// The mend of a name that isn't declared, or is a field: `_`; as the name of a label in brackets, another label.

@@ -1,6 +1,6 @@
 // Faults are told and mended one after another, and the sources are read again after each.
 use crate::MOST_FAULTS;
-use crate::sources::draft::{Draft, mend_fault};
+use crate::sources::draft::{Draft, is_at_embedding, mend_fault};
 use crate::sources::mends::mend_at;
 use cs_tool::{Fault, accepted_package, slices_of};
 use cs_widen::{Profile, stands_for};
@@ -20,6 +20,8 @@ struct Told<'f, 'a> {
     rest: Vec<Fault>,
     /// The words that mends took out until the sources were files.
     taken: BTreeSet<&'a str>,
+    /// Whether an embedding was taken out, so that it isn't known which structs are joined.
+    is_loose: bool,
 }
 
 /// Whether a fault is one of a text that spells no file. These are 3 to 7.
@@ -139,8 +141,11 @@ impl<'f, 'a> Told<'f, 'a> {
         };
         let (offset, is_mended) = draft.origin(at);
         let word = draft.source.token(draft.source.place_at(offset)).text;
-        let is_taken = self.taken.contains(word);
-        (is_known && !is_mended).then_some((at_place(fault, file, offset), !is_taken))
+        let fault = at_place(fault, file, offset);
+        let is_joined = matches!(fault, Fault::NotOpened { .. })
+            && !is_at_embedding(drafts, &fault);
+        let is_uncertain = self.taken.contains(word) || is_joined && self.is_loose;
+        (is_known && !is_mended).then_some((fault, !is_uncertain))
     }
 
     /// Tells and mends the next fault of a package, and says whether to look for others.
@@ -152,6 +157,7 @@ impl<'f, 'a> Told<'f, 'a> {
             return Ok(false);
         };
         let is_mended = mend_fault(drafts, &fault)?;
+        self.is_loose = self.is_loose || is_at_embedding(drafts, &fault);
         Ok((!is_certain || self.tell(fault)?) && is_mended)
     }
 
@@ -166,6 +172,7 @@ impl<'f, 'a> Told<'f, 'a> {
             }
         } else {
             goes_on = mend_fault(drafts, self.first)?;
+            self.is_loose = is_at_embedding(drafts, self.first);
         }
         for _ in 0..MOST_READS {
             goes_on = goes_on && self.tell_next(drafts)?;
@@ -187,6 +194,7 @@ pub(crate) fn further_faults(
         first,
         rest: Vec::new(alloc),
         taken: BTreeSet::new(alloc),
+        is_loose: false,
     };
     if matches!(first.number(), 3..=7 | 9..=12) {
         told.tell_further(&mut Draft::each(alloc, sources)?)?;

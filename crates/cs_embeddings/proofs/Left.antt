@@ -1,0 +1,54 @@
+-- Alternatives that are found one after another, while others are left, and how much they are.
+use Rattle.std.proofs.Common.{◌≡◌, ℕ, ◌+◌, ◌-◌, ◌<◌, List, [], ◌∷◌, ◌++◌, length, map, Option, append_assoc, sym, ap, ap₂, ◌∙◌, subst, arith}
+use Rattle.std.proofs.lemmas.List.{map-append, length-map}
+use Rattle.std.specs.Borrow.{Bor}
+use Rattle.cs_grammar.specs.View.{field_view}
+use Rattle.cs_grammar.specs.declared.ast.Field.{Field}
+use Rattle.cs_grammar.proofs.Views.{view-mark, view-value}
+use Rattle.cs_embeddings.specs.Alternatives.{Brought, Alternative}
+use Rattle.cs_embeddings.specs.Views.{brought_view, alternative_view, alternatives_view, weight_of, IsTooMuch}
+use Rattle.cs_embeddings.specs.declared.alternatives.Alternative as rust
+use Rattle.cs_embeddings.specs.declared.alternatives.Brought as brought
+use Rattle.cs_embeddings.specs.declared.fault.EmbeddingFault.{EmbeddingFault}
+use Rattle.cs_embeddings.proofs.Weights.{weight-append, too_much_of_left}
+
+-- what is too much with it shows that all are
+pub too_much_here : (e : EmbeddingFault) (room : ℕ) (before own rest all : List Alternative) → before ++ (own ++ rest) ≡ all
+    → IsTooMuch e room (before ++ own) → IsTooMuch e room all
+too_much_here e room before own rest all whole h = subst (IsTooMuch e room) (append_assoc before own rest ∙ whole)
+    (too_much_of_left e room (before ++ own) rest h)
+
+-- ---- how much is found
+
+-- it is as much as is counted
+pub weight_pushed : (xs ys : List rust.Alternative) (a : rust.Alternative) (w n : ℕ) → ys ≡ xs ++ a ∷ [] → w ≡ weight_of (alternatives_view xs)
+    → n ≡ length a.declarations.items → w + (n + 1) ≡ weight_of (alternatives_view ys)
+weight_pushed xs ys a w n grown weighed counted =
+    let e = ap (λ zs. weight_of (alternatives_view zs)) grown ∙ ap weight_of (map-append alternative_view xs (a ∷ []))
+    ∙ weight-append (alternatives_view xs) (alternative_view a ∷ []) in
+    omega (arith, length-map a.declarations.items brought_view)
+
+-- it would be more than there is room for
+pub weight_above : (xs : List rust.Alternative) (a : rust.Alternative) (room w n : ℕ) → room - w < n + 1 → w ≡ weight_of (alternatives_view xs)
+    → n ≡ length a.declarations.items → room < weight_of (alternatives_view xs ++ alternative_view a ∷ [])
+weight_above xs a room w n above weighed counted = omega
+    (arith, length-map a.declarations.items brought_view, weight-append (alternatives_view xs) (alternative_view a ∷ []))
+
+-- ---- what stands in an alternative
+
+-- one definition more is embedded
+pub met_more : (xs ys : List (Bor (List ℕ))) (s : Bor (List ℕ)) → ys ≡ xs ++ s ∷ [] → map (λ t. t.now) ys ≡ map (λ t. t.now) xs ++ s.now ∷ []
+met_more xs ys s grown = ap (map (λ t. t.now)) grown ∙ map-append (λ (t : Bor (List ℕ)). t.now) xs (s ∷ [])
+
+-- a field as a declaration
+abbrev pub brought_field : Option ℕ → Field → Brought
+brought_field p f = record { label = (field_view f).label; mark = (field_view f).mark; value = (field_view f).value; place = p }
+
+seen_field : (f : Bor Field) (p : Option ℕ) → brought_view (record { field = f; place = p }) ≡ brought_field p f.now
+seen_field f p = ap₂ (λ m v. record { label = (field_view f.now).label; mark = m; value = v; place = p }) (sym (view-mark f.now)) (sym (view-value f.now))
+
+-- one field more is declared
+pub declared_more : (xs ys : List brought.Brought) (f : Bor Field) (p : Option ℕ) → ys ≡ xs ++ record { field = f; place = p } ∷ []
+    → map brought_view ys ≡ map brought_view xs ++ brought_field p f.now ∷ []
+declared_more xs ys f p grown =
+    ap (map brought_view) grown ∙ map-append brought_view xs (record { field = f; place = p } ∷ []) ∙ ap (λ b. map brought_view xs ++ b ∷ []) (seen_field f p)
