@@ -25,3 +25,14 @@ returns-in_err-joined-clause-only c = λ E accepted.
     let spelled = lent p ss xs c.in_ok-spelled.spelled.items c.deref.ensures.value c.in_ok-spelled.ensures.spelled in
     let r = err_from_is_err_and c.from_residual-in_err-joined.result c.from_residual-in_err-joined.ensures.1 in
     rw (r.1, r.2) (c.in_err-joined.ensures.only (no_flaw p ss fs spelled E accepted) (no_clash p ss fs spelled E accepted) (within p ss fs spelled E accepted))
+
+pub returns-clause-only : goal.returns-clause-only
+returns-clause-only c = λ E accepted.
+    let p = c.args.profile in
+    let ss = bytes_in c.args.sources.now in
+    let xs = c.deref.result.now in
+    let fs = map file_view xs in
+    let spelled = lent p ss xs c.in_ok-spelled.spelled.items c.deref.ensures.value c.in_ok-spelled.ensures.spelled in
+    let ys = c.deref-2.result.now in
+    let joined = subst (λ zs. IsJoined fs (map file_view zs)) (sym c.deref-2.ensures.value) c.in_ok-joined.ensures.found in
+    c.meant_files.ensures.only (no_fault p ss fs spelled E accepted (map file_view ys) joined)

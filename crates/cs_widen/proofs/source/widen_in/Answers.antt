@@ -12,6 +12,11 @@ use Rattle.cs_widen.proofs.Printed.{meant_written, meant_default, meant_read}
 use Rattle.cs_widen.proofs.Refusals.{by_resolve, by_guard}
 use Rattle.cs_widen.proofs.source.widen_in.Goals as goal
 
+pub returns-in_err-meant-clause-only : goal.returns-in_err-meant-clause-only
+returns-in_err-meant-clause-only c = λ E accepted.
+    let r = err_from_is_err_and c.from_residual.result c.from_residual.ensures.1 in
+    rw (r.1, r.2) (c.in_err-meant.ensures.only E accepted)
+
 pub source_of-requires-clause-written : goal.source_of-requires-clause-written
 source_of-requires-clause-written c =
     let gs = map file_view c.in_ok-meant.meant.items in
