@@ -367,7 +367,12 @@ def count_definitions(program: str, folders: list[Path]) -> tuple[int, int]:
     many = failed = 0
     sums = dict.fromkeys(PROFILES, 0)
     for folder in folders:
-        taken = taken_of(program, folder)
+        try:
+            taken = taken_of(program, folder)
+        except Wrong as wrong:
+            failed += 1
+            print(f"{folder.name}: {wrong}")
+            continue
         many, failed = many + len(taken.definitions), failed + len(taken.wrong)
         for it in taken.wrong:
             print(f"{folder.name}: {it}")

@@ -7,7 +7,7 @@ each wrong verdict, and a closing count of verdicts.
                                               examples/ and of the folders in cases/, the packages of the rows `widened` there, and
                                               tools/widening.rows
 
-The packages of rows are exported by `--profile wide`.
+The packages of rows are exported by `--profile wide`, and so are others where `export` refuses them without these words.
 
 Of each definition that `export` takes, up to 1,000 documents of `samples` have to be valid, and up to 1,000 of `samples --invalid`
 invalid: by the definition (`vet`), by the exported schema (`validate`), and by that schema, as it is printed plainly, with
@@ -226,10 +226,14 @@ class Report:
                     self.fail(f"{where}: {name} says {verdict} of {doc}, which is {wanted}")
 
     def add_package(self, package: Package) -> None:
+        """The samples of each definition; one that is refused is tried by `--profile wide`."""
         try:
             schemas = package.schemas()
         except Refused:
-            self.refused += 1
+            if package.profile:
+                self.refused += 1
+            else:
+                self.add_package(Package(package.program, package.path, WIDE))
             return
         for root, schema in schemas.items():
             self.definitions += 1

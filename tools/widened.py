@@ -13,14 +13,14 @@
   says how it refuses that. Then random packages with defaults and embeddings, every third one without embeddings, every fifth one in a
   file for each declaration. Where the model refuses, the program has to. Where it doesn't, `widen --profile wide` has to say of the
   package what `widen` says of the one that the model means: the number of the same refusal, or a text that is read as the same package;
-  `export` writes the same schemas, to the byte, and `vet` judges documents as the model does. The program is refused by 11 where the
+  `export` writes the same schemas, to the byte, and `vet` judges documents as the model does. The program has to refuse by 11 where the
   model uses a rule that it doesn't take: `&` or a mark in what is embedded, two values of a label that an embedding brings together,
   literals that are joined. `check` has to tell the same number first.
 
-Numbers are compared in the order of the program's conditions: what can't be embedded (9, 11) and what an embedding brings together
-(11), then marks (5), then the package that is meant, where 9 and 10 come before 11. They aren't told apart in three cases: 9 and 11
-where some name isn't declared, 5 and 11 where a package with marks needs that literals are joined, and with such a mark at fault 9 and
-10 too.
+Numbers are compared in the order of the program's conditions: what can't be embedded (9, 11), then what an embedding brings together
+(11) or too many nodes with it (14), then marks (5), then the package that is meant, where 9 and 10 come before 11. They aren't told
+apart in three cases: 9 and 11 where some name isn't declared, 5 and 11 where a package with marks needs that literals are joined, and
+with such a mark at fault 9 and 10 too.
 """
 from __future__ import annotations
 
@@ -39,7 +39,7 @@ from pathlib import Path
 
 sys.path.insert(0, str(Path(__file__).resolve().parent))
 from profile_of_cue import Package, admits, is_instance, parsed, text  # noqa: E402
-from widening import Alternative, Quoted, Refused, Widening, WideReader, breaks_opening, is_plain, parts, spelled, widened  # noqa: E402
+from widening import MOST_NODES, Alternative, Quoted, Refused, Widening, WideReader, breaks_opening, is_plain, parts, spelled, widened  # noqa: E402
 
 ROWS = Path(__file__).resolve().parent / "widening.rows"
 LABELS = ["a", "b", "c"]
@@ -395,7 +395,8 @@ class Sources:
 
 
 def sources_of(chance: random.Random) -> list[str]:
-    """The files of a random package: one of all declarations, or one for each. A definition refers to those behind it most of the time, and has one body. Every third one has no embeddings."""
+    """The files of a random package: one of all declarations, or one for each. A definition refers to those behind it most of the time,
+    and has one body. Every third package has no embeddings."""
     has_embeddings = chance.random() < 0.67
     names = ["#P", "#A", "#B", "#C"][: chance.randint(1 + has_embeddings, 4)]
     lines = []
@@ -478,6 +479,11 @@ def references(it: tuple) -> set[str]:
     return {it[1]} if it[0] == "ref" else set().union(*(references(part) for part in parts(it)))
 
 
+def size(it: tuple) -> int:
+    """The nodes of an expression; a mark is none."""
+    return (it[0] != "marked") + sum(size(part) for part in parts(it))
+
+
 @dataclass
 class Meaning:
     """What the model says of a source: the numbers that it may be refused by, in place of which the meant package says why, and what it
@@ -511,6 +517,8 @@ def meaning_of(source: str) -> Meaning:
             meaning.numbers.add(why.number)
     if taken.beyond - {JOINED}:
         meaning.numbers.add(11)
+    if sum(size(body) for bodies in meant.values() for body in bodies) > MOST_NODES:
+        meaning.numbers.add(14)
     if meaning.numbers:
         named = set().union(*(references(body) for bodies in package.values() for body in bodies))
         # The program tells the first one by text, and a name that isn't declared where it is embedded itself.

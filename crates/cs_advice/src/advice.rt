@@ -185,8 +185,13 @@ fn shown_of_flaw<'a>(
         return Ok(None);
     };
     let place = near.place;
-    let flaw = flaw_of_embedding(alloc, Near { source, place }, sources)?;
-    let shown = flaw.map_or("", |flaw| flaw.shown);
+    let Some(flaw) = flaw_of_embedding(alloc, Near { source, place }, sources)? else {
+        return Ok(None);
+    };
+    let Some(source) = sources.get(flaw.file) else {
+        return Ok(None);
+    };
+    let shown = source.whole().between(flaw.from, flaw.to).text();
     let is_shown = !shown.is_empty() && shown.len() <= MOST_SHOWN && !shown.contains('\n');
     Ok(is_shown.then_some(shown))
 }
@@ -196,7 +201,11 @@ fn put_flaw(text: &mut String, said: &str, sources: &[Source<'_>], near: Near<'_
     let shown = shown_of_flaw(*text.allocator(), sources, near)?;
     put_filled(text, said, &[shown.unwrap_or("..")])?;
     let is_joined = shown.is_some_and(|shown| shown.contains('&'));
-    text.push_str(if is_joined { "; what `&` joins is embedded one by one" } else { "" })
+    text.push_str(if is_joined {
+        "; what `&` joins is embedded one by one"
+    } else {
+        ""
+    })
 }
 
 /// Puts what to write for an embedded struct: the labels around it, where they are few.

@@ -1,5 +1,7 @@
 -- definitions one after another
 pub mod Bodies
+-- declarations so far
+pub mod Clashing
 -- what parts find, one after another
 pub mod Firsts
 -- where nothing is at fault
@@ -11,7 +13,22 @@ pub mod Weights
 pub mod Left
 pub mod Joins
 pub mod WellAlternatives
+-- what is made of parts one after another, and what expressions stand for
+pub mod Parts
+pub mod JoinedParts
+pub mod Marked
+pub mod JoinedForms
+pub mod Literals
+pub mod BroughtValues
+pub mod FileParts
+pub mod FoundFiles
+pub mod FileAnswers
 -- in how many steps definitions can be embedded
 pub mod Steps
 -- whether each part of a list is well
 pub mod Walks
+-- samples
+pub mod Samples
+-- laws of the definitions
+pub mod DefaultFiles
+pub mod WrittenFiles

@@ -171,15 +171,18 @@ module _ (ds : List DefinitionTree) where
     where
       one : n + 1 ≡ suc n
       one = omega arith
+
       fewer : (k : ℕ) → k < n + 1 → can_be_embedded ds k (reference name.now 0) ≡ false
       fewer k l =
           let top = cond (has_name name.now names) (suc n) n in
           let low : k ≤ top = omega (arith, within (has_name name.now names) n) in
           steps_fewer k top (reference name.now 0) low (before_told (steps_at name.now m) name.now top none declared (told name.now))
+
       least : TellsLeast (Some (n + 1)) ds name.now (suc n)
       least =
           let low : n + 1 ≤ suc n = omega arith in
           (low, declared, sym (stepped (n + 1) n (reference name.now 0) true one (sym well)), fewer)
+
       here : steps_at name.now after ≡ Some (n + 1)
       here = puts name.now ∙ ap (λ b. cond b (Some (n + 1)) (steps_at name.now m)) ((bytes_eq-Decides name.now name.now).1 refl)
 

@@ -10,16 +10,16 @@ use Rattle.cs_embeddings.proofs.Monotone.{embeds_well_more}
 
 -- ---- lists
 
-all-append : {X : Type 0} (P : X → Type 0) (xs ys : List X) → AllByRecursion P xs → AllByRecursion P ys → AllByRecursion P (xs ++ ys)
+pub all-append : {X : Type 0} (P : X → Type 0) (xs ys : List X) → AllByRecursion P xs → AllByRecursion P ys → AllByRecursion P (xs ++ ys)
 all-append P [] ys h k = k
 all-append P (x ∷ xs) ys h k = (h.0, all-append P xs ys h.1 k)
 
-all-map : {X Y : Type 0} (P : X → Type 0) (Q : Y → Type 0) (f : X → Y) → ((x : X) → P x → Q (f x)) → (xs : List X) → AllByRecursion P xs
+pub all-map : {X Y : Type 0} (P : X → Type 0) (Q : Y → Type 0) (f : X → Y) → ((x : X) → P x → Q (f x)) → (xs : List X) → AllByRecursion P xs
     → AllByRecursion Q (map f xs)
 all-map P Q f kept [] h = tt
 all-map P Q f kept (x ∷ xs) h = (kept x h.0, all-map P Q f kept xs h.1)
 
-all-flat_map : {X Y : Type 0} (P : X → Type 0) (Q : Y → Type 0) (f : X → List Y) → ((x : X) → P x → AllByRecursion Q (f x)) → (xs : List X)
+pub all-flat_map : {X Y : Type 0} (P : X → Type 0) (Q : Y → Type 0) (f : X → List Y) → ((x : X) → P x → AllByRecursion Q (f x)) → (xs : List X)
     → AllByRecursion P xs → AllByRecursion Q (flat_map f xs)
 all-flat_map P Q f kept [] h = tt
 all-flat_map P Q f kept (x ∷ xs) h = all-append Q (f x) (flat_map f xs) (kept x h.0) (all-flat_map P Q f kept xs h.1)

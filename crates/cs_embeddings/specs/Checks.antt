@@ -9,13 +9,11 @@ use Rattle.std.specs.BTreeMap.{BTreeMap, get_by}
 use Rattle.std.specs.Cmp.Lexicographic.{slice_cmp}
 use Rattle.std.specs.Ordering.{nat_cmp}
 use Rattle.cs_grammar.specs.declared.ast.Expr.{Expr}
-use Rattle.cs_grammar.specs.Height.{height}
 use Rattle.cs_grammar.specs.Tree.{Tree, reference, DefinitionTree, bodies, body}
 use Rattle.cs_grammar.specs.View.{expr_view, SeenDeclaration, field_seen, embedding_seen}
 use Rattle.cs_embeddings.specs.Alternatives.{Alternative, most_steps}
 use Rattle.cs_embeddings.specs.Embedded.{can_be_embedded, embeds_well}
 use Rattle.cs_embeddings.specs.Flaws.{Flaw, unknown, no_struct, is_none, flaws, flaws_here}
-use Rattle.cs_embeddings.specs.Size.{size}
 use Rattle.cs_embeddings.specs.Views.{alternatives_view, IsTooMuch}
 use Rattle.cs_embeddings.specs.declared.found.Found.{Found}
 use Rattle.cs_embeddings.specs.declared.definitions.Bodies.{Bodies}
@@ -24,7 +22,6 @@ use Rattle.cs_embeddings.specs.declared.flaws.Flaw as seen
 use Rattle.cs_embeddings.specs.declared.flaws.Flaw.TheVariants as variants
 use Rattle.cs_embeddings.specs.declared.flaws.Flaws.{Flaws}
 use Rattle.cs_embeddings.specs.declared.fault.EmbeddingFault.{EmbeddingFault}
-use Rattle.cs_embeddings.specs.declared.fault.EmbeddingFault.TheVariants.{OutOfMemory, UnknownName, NoStruct, Reopened, TooHigh, TooLarge}
 
 abbrev pub bodies_view : List (Bor Expr) → List Tree
 bodies_view es = map (λ e. expr_view e.now) es
@@ -96,28 +93,6 @@ pub record TellsEmbeddable (f : Flaws) (ds : List DefinitionTree) : Type 0 where
 abbrev pub ReachesAll : Result Found EmbeddingFault → ℕ → List Alternative → Type 0
 ReachesAll (Ok f) room xs = alternatives_view f.alternatives.items ≡ xs
 ReachesAll (Err e) room xs = IsTooMuch e room xs
-
--- ---- trees
-
--- why a tree isn't made of an expression in a file: of what would be opened this is the first
-abbrev pub IsNoRoom : EmbeddingFault → ℕ → ℕ → ℕ → Tree → List ℕ → Type 0
-IsNoRoom OutOfMemory file levels nodes t clashes = Unit {0}
-IsNoRoom (Reopened f o) file levels nodes t clashes = (f ≡ file) × (slice_get clashes 0 ≡ Some o)
-IsNoRoom (TooHigh f) file levels nodes t clashes = (f ≡ file) × (levels < height t)
-IsNoRoom TooLarge file levels nodes t clashes = nodes < size t
-IsNoRoom (UnknownName f o) file levels nodes t clashes = ⊥
-IsNoRoom (NoStruct f o) file levels nodes t clashes = ⊥
-
--- the tree t is made, it is no higher than it may be, it leaves so many of the nodes, and nothing would be opened; or there is a reason
-pub record IsMade (levels nodes rest : ℕ) (tree t : Tree) (clashes : List ℕ) : Type 0 where
-  pub made : tree ≡ t
-  pub low : height t ≤ levels
-  pub left : rest + size t ≡ nodes
-  pub apart : clashes ≡ []
-
-abbrev pub Makes : Result (Expr × ℕ) EmbeddingFault → ℕ → ℕ → ℕ → Tree → List ℕ → Type 0
-Makes (Ok x) file levels nodes t clashes = IsMade levels nodes x.1 (expr_view x.0) t clashes
-Makes (Err e) file levels nodes t clashes = IsNoRoom e file levels nodes t clashes
 
 -- each expression that the bodies embed can be embedded
 abbrev pub AreWell : List DefinitionTree → Type 0

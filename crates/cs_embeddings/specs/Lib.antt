@@ -9,3 +9,5 @@ pub mod Without
 -- for private contracts alone
 pub mod Views
 pub mod Checks
+pub mod Made
+pub mod ClashTable

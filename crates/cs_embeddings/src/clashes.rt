@@ -1,6 +1,9 @@
 // What an embedding would open.
-ghost use Rattle.std.specs.Prelude.{◌≡◌, [], map, IfOk, slice_get};
+ghost use Rattle.std.specs.Prelude.{◌≡◌, false, List, [], ◌∷◌, ◌++◌, map, IfOk, OnOk, slice_get};
+ghost use Rattle.std.specs.List.{list_any};
 ghost use Rattle.cs_grammar.specs.View.{expr_view, exprs_view, end_view};
+ghost use Rattle.cs_embeddings.specs.Alternatives as Alternatives;
+ghost use Rattle.cs_embeddings.specs.ClashTable.{TellsSeen};
 ghost use Rattle.cs_embeddings.specs.Views.{brought_view};
 ghost use Rattle.cs_embeddings.specs.Clashes as Spec;
 
@@ -70,6 +73,13 @@ fn is_same_reference(first: &Expr, second: &Expr) -> bool
     }
 }
 
+/// Whether a declaration is of every label.
+fn is_every(mark: FieldMark) -> bool
+    ensures { result ≡ Spec.is_every mark }
+{
+    matches!(mark, FieldMark::Every { .. })
+}
+
 /// The declarations so far that aren't plain.
 #[derive(Drop)]
 struct Seen<'a> {
@@ -82,8 +92,11 @@ struct Seen<'a> {
 
 impl<'a> Seen<'a> {
     /// Whether a declaration differs from one of them.
-    fn differs(&self, brought: Brought<'a>) -> bool {
-        if matches!(brought.field.mark, FieldMark::Every { .. }) {
+    fn differs(&self, brought: Brought<'a>) -> bool
+        ensures { (before : List Alternatives.Brought) → TellsSeen self.now before
+            → result ≡ list_any (λ c. Spec.differ c (brought_view brought.entry)) before }
+    {
+        if is_every(brought.field.mark) {
             return !self.is_empty;
         }
         if self.has_every {
@@ -96,9 +109,13 @@ impl<'a> Seen<'a> {
     }
 
     /// Adds a declaration that doesn't differ from them.
-    fn add(&mut self, brought: Brought<'a>) -> Result<(), AllocError> {
+    fn add(&mut self, brought: Brought<'a>) -> Result<(), AllocError>
+        ensures { OnOk result ((before : List Alternatives.Brought) → TellsSeen self.old before
+            → list_any (λ c. Spec.differ c (brought_view brought.entry)) before ≡ false
+            → TellsSeen self.new (before ++ brought_view brought.entry ∷ [])) }
+    {
         self.is_empty = false;
-        if matches!(brought.field.mark, FieldMark::Every { .. }) {
+        if is_every(brought.field.mark) {
             self.has_every = true;
             return Ok(());
         }

@@ -38,7 +38,8 @@ impl<'b, 'a> Embeddable<'b, 'a> {
         alloc: Global,
         bodies: &'b Bodies<'a>,
     ) -> Result<Embeddable<'b, 'a>, AllocError>
-        ensures { IfOk result (λ e. (ds : List DefinitionTree) → TellsBodies bodies.now ds → TellsSteps e ds most_steps) }
+        ensures same { IfOk result (λ e. e.bodies.now ≡ bodies.now) }
+        ensures tells { IfOk result (λ e. (ds : List DefinitionTree) → TellsBodies bodies.now ds → TellsSteps e ds most_steps) }
     {
         let mut embeddable = Embeddable {
             bodies,

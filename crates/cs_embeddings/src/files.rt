@@ -1,7 +1,19 @@
 // What files stand for without their embeddings.
-ghost use Rattle.std.specs.Prelude.{◌≡◌, ℕ, List, [], map, IfOk, IfErr, IsOkUnless};
-ghost use Rattle.cs_grammar.specs.View.{definition_view, file_view};
-ghost use Rattle.cs_embeddings.specs.Without.{IsJoined, IsWithin, IsRefusal, flaws_of_files, clashes_of_files, joined_files};
+ghost use Rattle.std.specs.Prelude.{◌≡◌, true, List, [], map, IfOk, IfErr, IsOkUnless};
+ghost use Rattle.std.specs.List.{AllByRecursion, flat_map};
+ghost use Rattle.cs_grammar.specs.Height.{height, file_height};
+ghost use Rattle.cs_grammar.specs.Limits.{most_height};
+ghost use Rattle.cs_grammar.specs.Tree.{DefinitionTree, body, definitions};
+ghost use Rattle.cs_grammar.specs.View.{expr_view, definition_view, file_view};
+ghost use Rattle.cs_embeddings.specs.Alternatives.{most_steps};
+ghost use Rattle.cs_embeddings.specs.Checks.{TellsBodies, TellsEmbeddable, AreWell, Finds, flaw_view};
+ghost use Rattle.cs_embeddings.specs.Clashes.{clashes};
+ghost use Rattle.cs_embeddings.specs.Embedded.{can_be_embedded, embeds_well};
+ghost use Rattle.cs_embeddings.specs.Flaws as Spec;
+ghost use Rattle.cs_embeddings.specs.Joined as Joined;
+ghost use Rattle.cs_embeddings.specs.Made.{AreBodiesWell, FindsFlaw, MakesPart, MakesDefinitions, MakesFiles};
+ghost use Rattle.cs_embeddings.specs.Size.{size, size_of_definitions};
+ghost use Rattle.cs_embeddings.specs.Without.{IsJoined, IsWithin, IsRefusal, found_from, flaws_of_files, clashes_of_files, joined_files};
 
 use crate::EmbeddingFault;
 use crate::definitions::Bodies;
@@ -42,7 +54,10 @@ pub fn without_embeddings(alloc: Global, files: &[File]) -> Result<Vec<File>, Em
 }
 
 /// Looks for the first flaw.
-fn check_files(flaws: &Flaws<'_, '_, '_>, files: &[File]) -> Result<(), EmbeddingFault> {
+fn check_files(flaws: &Flaws<'_, '_, '_>, files: &[File]) -> Result<(), EmbeddingFault>
+    ensures { (ds : List DefinitionTree) → TellsEmbeddable flaws.now ds
+        → FindsFlaw result (found_from (Spec.flaws ds) 0 (map file_view files.now)) }
+{
     for (file, parsed) in files.iter().enumerate() {
         match check_bodies(flaws, &parsed.definitions) {
             Ok(()) => {}
@@ -58,7 +73,10 @@ fn check_files(flaws: &Flaws<'_, '_, '_>, files: &[File]) -> Result<(), Embeddin
 }
 
 /// Looks for the first flaw of a file.
-fn check_bodies(flaws: &Flaws<'_, '_, '_>, definitions: &[Definition]) -> Result<(), Flaw> {
+fn check_bodies(flaws: &Flaws<'_, '_, '_>, definitions: &[Definition]) -> Result<(), Flaw>
+    ensures { (ds : List DefinitionTree) → TellsEmbeddable flaws.now ds
+        → Finds flaw_view result (flat_map (λ d. Spec.flaws ds (body d)) (map definition_view definitions.now)) }
+{
     for definition in definitions {
         flaws.check(&definition.body)?;
     }
@@ -70,60 +88,81 @@ fn joined_files<'a>(
     alloc: Global,
     bodies: &Bodies<'a>,
     files: &'a [File],
-) -> Result<Vec<File>, EmbeddingFault> {
+) -> Result<Vec<File>, EmbeddingFault>
+    ensures { (ds : List DefinitionTree) → TellsBodies bodies.now ds → AreWell ds
+        → AllByRecursion (λ f. AreBodiesWell ds (definitions f)) (map file_view files.now) → MakesFiles result ds (map file_view files.now) }
+{
     let mut joined = Vec::with_capacity(alloc, files.len())?;
-    let mut left = MOST_NODES;
-    for (number, parsed) in files.iter().enumerate() {
+    let mut nodes = MOST_NODES;
+    for (file, parsed) in files.iter().enumerate() {
         let joiner = Joiner {
             alloc,
             bodies,
-            file: number,
+            file,
         };
-        let (file, rest) = joined_file(joiner, parsed, left)?;
-        left = rest;
-        joined.push(file)?;
+        joined.push(joined_file(joiner, parsed, &mut nodes)?)?;
     }
     Ok(joined)
 }
 
-/// The file that is meant, and how many nodes are left of those that it may have.
+/// The file that is meant. `nodes` counts those that are left of what there may be.
 fn joined_file<'a>(
     joiner: Joiner<'_, 'a>,
     file: &'a File,
-    nodes: usize,
-) -> Result<(File, usize), EmbeddingFault> {
-    let mut definitions = Vec::with_capacity(joiner.alloc, file.definitions.len())?;
-    let mut left = nodes;
-    for definition in &file.definitions {
-        let (one, rest) = joined_definition(joiner, definition, left)?;
-        left = rest;
-        definitions.push(one)?;
-    }
+    nodes: &mut usize,
+) -> Result<File, EmbeddingFault>
+    ensures { (ds : List DefinitionTree) → TellsBodies joiner.entry.bodies.now ds → AreWell ds → AreBodiesWell ds (definitions (file_view file.now))
+        → let meant = Joined.joined_file ds (file_view file.now) in
+        MakesPart file_view result joiner.entry.file most_height nodes.old nodes.new (file_height meant) (size_of_definitions (definitions meant)) meant
+        (flat_map (λ d. clashes ds (body d)) (definitions (file_view file.now))) }
+{
+    let definitions = joined_definitions(joiner, &file.definitions, nodes)?;
     let package = match &file.package {
         Some(name) => Some(name.clone()?),
         None => None,
     };
-    let file = File {
+    Ok(File {
         package,
         definitions,
-    };
-    Ok((file, left))
+    })
+}
+
+/// The definitions that are meant.
+fn joined_definitions<'a>(
+    joiner: Joiner<'_, 'a>,
+    definitions: &'a [Definition],
+    nodes: &mut usize,
+) -> Result<Vec<Definition>, EmbeddingFault>
+    ensures { (ds : List DefinitionTree) → TellsBodies joiner.entry.bodies.now ds → AreWell ds
+        → AreBodiesWell ds (map definition_view definitions.now)
+        → MakesDefinitions result joiner.entry.file nodes.old nodes.new ds (map definition_view definitions.now) }
+{
+    let mut joined = Vec::with_capacity(joiner.alloc, definitions.len())?;
+    for definition in definitions {
+        joined.push(joined_definition(joiner, definition, nodes)?)?;
+    }
+    Ok(joined)
 }
 
 /// The definition that is meant.
 fn joined_definition<'a>(
     joiner: Joiner<'_, 'a>,
     definition: &'a Definition,
-    nodes: usize,
-) -> Result<(Definition, usize), EmbeddingFault> {
+    nodes: &mut usize,
+) -> Result<Definition, EmbeddingFault>
+    ensures { (ds : List DefinitionTree) → TellsBodies joiner.entry.bodies.now ds → AreWell ds
+        → embeds_well (can_be_embedded ds most_steps) (expr_view definition.now.body) ≡ true
+        → let meant = Joined.joined ds (expr_view definition.now.body) in
+        MakesPart definition_view result joiner.entry.file most_height nodes.old nodes.new (height meant) (size meant)
+        (Joined.joined_definition ds (definition_view definition.now)) (clashes ds (expr_view definition.now.body)) }
+{
     let room = Room {
         place: None,
         is_whole: true,
         levels: MOST_HEIGHT,
-        nodes,
     };
-    let (body, left) = joiner.joined(&definition.body, room)?;
+    let body = joiner.joined(&definition.body, room, nodes)?;
     let name = definition.name.clone()?;
     let at = definition.at;
-    Ok((Definition { name, at, body }, left))
+    Ok(Definition { name, at, body })
 }

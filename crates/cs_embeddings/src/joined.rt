@@ -1,12 +1,18 @@
 // Expressions without embeddings.
-ghost use Rattle.std.specs.Prelude.{◌≡◌, ℕ, suc, ◌≤◌, Bool, true, List, map};
-ghost use Rattle.cs_grammar.specs.Tree.{DefinitionTree};
-ghost use Rattle.cs_grammar.specs.View.{expr_view, exprs_view, fields_view, end_view};
-ghost use Rattle.cs_embeddings.specs.Checks.{TellsBodies, AreWell, Makes};
-ghost use Rattle.cs_embeddings.specs.Alternatives.{most_steps};
-ghost use Rattle.cs_embeddings.specs.Clashes.{clashes_with, clashes_value};
-ghost use Rattle.cs_embeddings.specs.Embedded.{can_be_embedded, embeds_well};
+ghost use Rattle.std.specs.Prelude.{◌≡◌, ℕ, ◌≤◌, true, List, [], IfOk};
+ghost use Rattle.std.specs.List.{AllByRecursion, flat_map};
+ghost use Rattle.cs_grammar.specs.Height.{height, height_all, height_fields, height_end};
+ghost use Rattle.cs_grammar.specs.Tree.{DefinitionTree, disjunction, list, wide};
+ghost use Rattle.cs_grammar.specs.View.{expr_view, exprs_view, field_view, fields_view, end_view, wide_view, declarations_view};
+ghost use Rattle.cs_embeddings.specs.Checks.{TellsBodies, AreWell};
+ghost use Rattle.cs_embeddings.specs.Alternatives.{most_steps, alternatives_of};
+ghost use Rattle.cs_embeddings.specs.Clashes.{clashes_with, clashes_each, clashes_fields, clashes_end, clashes_of, clashes_value};
+ghost use Rattle.cs_embeddings.specs.Embedded.{can_be_embedded, embeds_well, embed_well, fields_embed_well, declarations_embed_well, end_embeds_well};
 ghost use Rattle.cs_embeddings.specs.Joined as Spec;
+ghost use Rattle.cs_embeddings.specs.Made as Made;
+ghost use Rattle.cs_embeddings.specs.Made.{GoesBelow, GoesInside, IsWell, Makes, MakesPart};
+ghost use Rattle.cs_embeddings.specs.Size.{size, sizes, size_fields, size_end};
+ghost use Rattle.cs_embeddings.specs.Views.{alternative_view, alternatives_view};
 
 use crate::EmbeddingFault;
 use crate::alternatives::Alternative;
@@ -14,9 +20,9 @@ use crate::clashes::first_clash;
 use crate::definitions::Bodies;
 use crate::joining::Joining;
 use cs_grammar::{Declaration, Expr, Field, FieldMark, ListEnd, Wide};
-use std::alloc::Global;
+use std::alloc::{AllocError, Global};
 
-/// Where an expression stands, and how much it may be with what it embeds.
+/// Where an expression stands, and how high it may be with what it embeds.
 #[derive(Clone, Copy)]
 pub(crate) struct Room {
     /// The offset of the reference that brought it; `None` where it stands in the text.
@@ -25,27 +31,14 @@ pub(crate) struct Room {
     pub(crate) is_whole: bool,
     /// How high it may be.
     pub(crate) levels: usize,
-    /// How many nodes it may have.
-    pub(crate) nodes: usize,
 }
 
 impl Room {
-    fn is_whole(self, is_whole: bool) -> Room {
+    fn is_whole(self, is_whole: bool) -> Room
+        ensures { result ≡ record self { is_whole = is_whole } }
+    {
         Room { is_whole, ..self }
     }
-
-    fn left(self, nodes: usize) -> Room {
-        Room { nodes, ..self }
-    }
-}
-
-/// Makes expressions without embeddings.
-#[derive(Clone, Copy)]
-pub(crate) struct Joiner<'b, 'a> {
-    pub(crate) alloc: Global,
-    pub(crate) bodies: &'b Bodies<'a>,
-    /// The number of the file.
-    pub(crate) file: usize,
 }
 
 /// A declaration's mark, at the offset of the reference that brought it.
@@ -58,9 +51,30 @@ fn placed(place: Option<usize>, mark: FieldMark) -> FieldMark
     }
 }
 
+/// What is behind the marks of an expression.
+fn behind_marks(expr: &Expr) -> &Expr
+    ensures { expr_view result.now ≡ Made.behind_marks (expr_view expr.now) }
+{
+    match expr {
+        Expr::Wide(Wide::Marked { value, .. }) => behind_marks(value),
+        bare => bare,
+    }
+}
+
+/// Makes expressions without embeddings.
+#[derive(Clone, Copy)]
+pub(crate) struct Joiner<'b, 'a> {
+    pub(crate) alloc: Global,
+    pub(crate) bodies: &'b Bodies<'a>,
+    /// The number of the file.
+    pub(crate) file: usize,
+}
+
 impl<'a> Joiner<'_, 'a> {
     /// One level less, where there is one.
-    fn below(self, room: Room) -> Result<Room, EmbeddingFault> {
+    fn below(self, room: Room) -> Result<Room, EmbeddingFault>
+        ensures { GoesBelow result self.entry.file room }
+    {
         let Some(levels) = room.levels.checked_sub(1) else {
             return Err(EmbeddingFault::TooHigh { file: self.file });
         };
@@ -68,99 +82,83 @@ impl<'a> Joiner<'_, 'a> {
     }
 
     /// One level and one node less, where there are.
-    fn inside(self, room: Room) -> Result<Room, EmbeddingFault> {
+    fn inside(self, room: Room, nodes: &mut usize) -> Result<Room, EmbeddingFault>
+        ensures { GoesInside result self.entry.file room nodes.old nodes.new }
+    {
         let below = self.below(room)?;
-        let Some(nodes) = room.nodes.checked_sub(1) else {
+        let Some(left) = nodes.checked_sub(1) else {
             return Err(EmbeddingFault::TooLarge);
         };
-        Ok(Room { nodes, ..below })
+        *nodes = left;
+        Ok(below)
     }
 
-    /// What an expression stands for, and how many nodes are left of those that it may have.
+    /// An expression without parts, if there is room for it.
+    fn leaf(self, leaf: Expr, room: Room, nodes: &mut usize) -> Result<Expr, EmbeddingFault>
+        ensures { height (expr_view leaf) ≡ 1 → size (expr_view leaf) ≡ 1
+            → Makes result self.entry.file room.levels nodes.old nodes.new (expr_view leaf) [] }
+    {
+        self.inside(room, nodes)?;
+        Ok(leaf)
+    }
+
+    /// What an expression stands for. `nodes` counts those that are left of what there may be.
     #[cycle(joined)]
-    pub(crate) fn joined(self, expr: &'a Expr, room: Room) -> Result<(Expr, usize), EmbeddingFault>
+    pub(crate) fn joined(
+        self,
+        expr: &'a Expr,
+        room: Room,
+        nodes: &mut usize,
+    ) -> Result<Expr, EmbeddingFault>
         ensures { (ds : List DefinitionTree) (n : ℕ) → TellsBodies self.entry.bodies.now ds → AreWell ds
-            → embeds_well (can_be_embedded ds most_steps) (expr_view expr.now) ≡ true → room.levels ≤ suc n
-            → Makes result self.entry.file room.levels room.nodes
+            → embeds_well (can_be_embedded ds most_steps) (expr_view expr.now) ≡ true → room.levels ≤ n
+            → Makes result self.entry.file room.levels nodes.old nodes.new
             (Spec.joined_with ds (Spec.joined_value ds n) room.is_whole room.place (expr_view expr.now))
             (clashes_with ds (clashes_value ds n) room.place (expr_view expr.now)) }
     {
         match expr {
             Expr::And(operands) => {
-                let (operands, left) = self.joined_each(
-                    operands,
-                    self.inside(room)?.is_whole(false),
-                )?;
-                Ok((Expr::And(operands), left))
+                let inside = self.inside(room, nodes)?.is_whole(false);
+                Ok(Expr::And(self.joined_each(operands, inside, nodes)?))
             }
             Expr::Or(operands) => {
-                let (operands, left) = self.joined_each(
-                    operands,
-                    self.inside(room)?.is_whole(false),
-                )?;
-                Ok((Expr::Or(operands), left))
+                let inside = self.inside(room, nodes)?.is_whole(false);
+                Ok(Expr::Or(self.joined_each(operands, inside, nodes)?))
             }
             Expr::Paren(kept) => {
-                let (kept, left) = self.joined(kept, self.below(room)?.is_whole(true))?;
-                Ok((Expr::Paren(Box::new(self.alloc, kept)?), left))
+                let kept = self.joined(kept, self.below(room)?.is_whole(true), nodes)?;
+                Ok(Expr::Paren(Box::new(self.alloc, kept)?))
             }
             Expr::Struct { at, fields, opened } => {
-                let at = room.place.unwrap_or(*at);
-                let opened = *opened;
-                let (fields, left) = self.joined_fields(fields, self.inside(room)?)?;
-                Ok((Expr::Struct { at, fields, opened }, left))
+                let (at, opened) = (room.place.unwrap_or(*at), *opened);
+                let inside = self.inside(room, nodes)?;
+                let fields = self.joined_fields(fields, inside, nodes)?;
+                Ok(Expr::Struct { at, fields, opened })
             }
-            Expr::List { front, end } => self.joined_list(front, end, self.inside(room)?),
-            Expr::Wide(form) => self.joined_form(form, room),
-            Expr::Top
-            | Expr::Bottom
-            | Expr::Null
-            | Expr::Bool(_)
-            | Expr::Int(_)
-            | Expr::Text(_)
-            | Expr::Name { .. }
-            | Expr::Reference { .. }
-            | Expr::Bound { .. }
-            | Expr::NotInt(_)
-            | Expr::NotText(_)
-            | Expr::NotNull => {
-                let left = self.inside(room)?.nodes;
-                Ok((self.copied(expr, room.place)?, left))
+            Expr::List { front, end } => self.joined_list(front, end, room, nodes),
+            Expr::Wide(form) => self.joined_form(form, room, nodes),
+            Expr::Top => self.leaf(Expr::Top, room, nodes),
+            Expr::Bottom => self.leaf(Expr::Bottom, room, nodes),
+            Expr::Null => self.leaf(Expr::Null, room, nodes),
+            Expr::Bool(truth) => self.leaf(Expr::Bool(*truth), room, nodes),
+            Expr::Int(integer) => self.leaf(Expr::Int(*integer), room, nodes),
+            Expr::Text(text) => self.leaf(Expr::Text(text.clone()?), room, nodes),
+            Expr::Name { text, at } => {
+                let (text, at) = (text.clone()?, room.place.unwrap_or(*at));
+                self.leaf(Expr::Name { text, at }, room, nodes)
             }
+            Expr::Reference { text, at } => {
+                let (text, at) = (text.clone()?, room.place.unwrap_or(*at));
+                self.leaf(Expr::Reference { text, at }, room, nodes)
+            }
+            Expr::Bound { relation, limit } => {
+                let (relation, limit) = (*relation, *limit);
+                self.leaf(Expr::Bound { relation, limit }, room, nodes)
+            }
+            Expr::NotInt(integer) => self.leaf(Expr::NotInt(*integer), room, nodes),
+            Expr::NotText(text) => self.leaf(Expr::NotText(text.clone()?), room, nodes),
+            Expr::NotNull => self.leaf(Expr::NotNull, room, nodes),
         }
-    }
-
-    /// An expression without parts.
-    fn copied(self, expr: &Expr, place: Option<usize>) -> Result<Expr, EmbeddingFault> {
-        Ok(match expr {
-            Expr::Bottom => Expr::Bottom,
-            Expr::Null => Expr::Null,
-            Expr::Bool(truth) => Expr::Bool(*truth),
-            Expr::Int(integer) => Expr::Int(*integer),
-            Expr::Text(text) => Expr::Text(text.clone()?),
-            Expr::Name { text, at } => Expr::Name {
-                text: text.clone()?,
-                at: place.unwrap_or(*at),
-            },
-            Expr::Reference { text, at } => Expr::Reference {
-                text: text.clone()?,
-                at: place.unwrap_or(*at),
-            },
-            Expr::Bound { relation, limit } => Expr::Bound {
-                relation: *relation,
-                limit: *limit,
-            },
-            Expr::NotInt(integer) => Expr::NotInt(*integer),
-            Expr::NotText(text) => Expr::NotText(text.clone()?),
-            Expr::NotNull => Expr::NotNull,
-            Expr::Top
-            | Expr::And(_)
-            | Expr::Or(_)
-            | Expr::Paren(_)
-            | Expr::Struct { .. }
-            | Expr::List { .. }
-            | Expr::Wide(_) => Expr::Top,
-        })
     }
 
     #[cycle(joined)]
@@ -168,15 +166,19 @@ impl<'a> Joiner<'_, 'a> {
         self,
         exprs: &'a [Expr],
         room: Room,
-    ) -> Result<(Vec<Expr>, usize), EmbeddingFault> {
+        nodes: &mut usize,
+    ) -> Result<Vec<Expr>, EmbeddingFault>
+        ensures { (ds : List DefinitionTree) (n : ℕ) → TellsBodies self.entry.bodies.now ds → AreWell ds
+            → embed_well (can_be_embedded ds most_steps) (exprs_view exprs.now) ≡ true → room.levels ≤ n
+            → let meant = Spec.joined_each ds (Spec.joined_value ds n) room.is_whole room.place (exprs_view exprs.now) in
+            MakesPart (λ v. exprs_view v.items) result self.entry.file room.levels nodes.old nodes.new (height_all meant) (sizes meant) meant
+            (clashes_each ds (clashes_value ds n) room.place (exprs_view exprs.now)) }
+    {
         let mut joined = Vec::with_capacity(self.alloc, exprs.len())?;
-        let mut left = room.nodes;
         for expr in exprs {
-            let (one, rest) = self.joined(expr, room.left(left))?;
-            left = rest;
-            joined.push(one)?;
+            joined.push(self.joined(expr, room, nodes)?)?;
         }
-        Ok((joined, left))
+        Ok(joined)
     }
 
     #[cycle(joined)]
@@ -184,28 +186,44 @@ impl<'a> Joiner<'_, 'a> {
         self,
         fields: &'a [Field],
         room: Room,
-    ) -> Result<(Vec<Field>, usize), EmbeddingFault> {
+        nodes: &mut usize,
+    ) -> Result<Vec<Field>, EmbeddingFault>
+        ensures { (ds : List DefinitionTree) (n : ℕ) → TellsBodies self.entry.bodies.now ds → AreWell ds
+            → fields_embed_well (can_be_embedded ds most_steps) (fields_view fields.now) ≡ true → room.levels ≤ n
+            → let meant = Spec.joined_fields ds (Spec.joined_value ds n) room.place (fields_view fields.now) in
+            MakesPart (λ v. fields_view v.items) result self.entry.file room.levels nodes.old nodes.new (height_fields meant) (size_fields meant) meant
+            (clashes_fields ds (clashes_value ds n) room.place (fields_view fields.now)) }
+    {
         let mut joined = Vec::with_capacity(self.alloc, fields.len())?;
-        let mut left = room.nodes;
         for field in fields {
-            let (one, rest) = self.joined_field(field, room.left(left))?;
-            left = rest;
-            joined.push(one)?;
+            joined.push(self.joined_field(field, room, nodes)?)?;
         }
-        Ok((joined, left))
+        Ok(joined)
     }
 
     #[cycle(joined)]
-    fn joined_field(self, field: &'a Field, room: Room) -> Result<(Field, usize), EmbeddingFault> {
-        let (value, left) = self.joined(&field.value, room.is_whole(true))?;
+    fn joined_field(
+        self,
+        field: &'a Field,
+        room: Room,
+        nodes: &mut usize,
+    ) -> Result<Field, EmbeddingFault>
+        ensures { (ds : List DefinitionTree) (n : ℕ) → TellsBodies self.entry.bodies.now ds → AreWell ds
+            → embeds_well (can_be_embedded ds most_steps) (field_view field.now).value ≡ true → room.levels ≤ n
+            → let value = Spec.joined_with ds (Spec.joined_value ds n) true room.place in
+            let meant = value (field_view field.now).value in
+            MakesPart field_view result self.entry.file room.levels nodes.old nodes.new (height meant) (size meant)
+            (Made.with_value room.place value (field_view field.now))
+            (clashes_with ds (clashes_value ds n) room.place (field_view field.now).value) }
+    {
+        let value = self.joined(&field.value, room.is_whole(true), nodes)?;
         let label = field.label.clone()?;
-        let field = Field {
+        Ok(Field {
             label,
             quoted: field.quoted,
             mark: placed(room.place, field.mark),
             value,
-        };
-        Ok((field, left))
+        })
     }
 
     #[cycle(joined)]
@@ -214,39 +232,86 @@ impl<'a> Joiner<'_, 'a> {
         front: &'a [Expr],
         end: &'a ListEnd,
         room: Room,
-    ) -> Result<(Expr, usize), EmbeddingFault> {
-        let (front, left) = self.joined_each(front, room.is_whole(true))?;
-        let (end, left) = self.joined_end(end, room.left(left))?;
-        Ok((Expr::List { front, end }, left))
+        nodes: &mut usize,
+    ) -> Result<Expr, EmbeddingFault>
+        ensures { (ds : List DefinitionTree) (n : ℕ) → TellsBodies self.entry.bodies.now ds → AreWell ds
+            → embeds_well (can_be_embedded ds most_steps) (list (exprs_view front.now) (end_view end.now)) ≡ true → room.levels ≤ n
+            → Makes result self.entry.file room.levels nodes.old nodes.new
+            (Spec.joined_with ds (Spec.joined_value ds n) room.is_whole room.place (list (exprs_view front.now) (end_view end.now)))
+            (clashes_with ds (clashes_value ds n) room.place (list (exprs_view front.now) (end_view end.now))) }
+    {
+        let inside = self.inside(room, nodes)?.is_whole(true);
+        let front = self.joined_each(front, inside, nodes)?;
+        let end = self.joined_end(end, inside, nodes)?;
+        Ok(Expr::List { front, end })
     }
 
     #[cycle(joined)]
-    fn joined_end(self, end: &'a ListEnd, room: Room) -> Result<(ListEnd, usize), EmbeddingFault> {
+    fn joined_end(
+        self,
+        end: &'a ListEnd,
+        room: Room,
+        nodes: &mut usize,
+    ) -> Result<ListEnd, EmbeddingFault>
+        ensures { (ds : List DefinitionTree) (n : ℕ) → TellsBodies self.entry.bodies.now ds → AreWell ds
+            → end_embeds_well (can_be_embedded ds most_steps) (end_view end.now) ≡ true → room.levels ≤ n
+            → let meant = Spec.joined_end ds (Spec.joined_value ds n) room.place (end_view end.now) in
+            MakesPart end_view result self.entry.file room.levels nodes.old nodes.new (height_end meant) (size_end meant) meant
+            (clashes_end ds (clashes_value ds n) room.place (end_view end.now)) }
+    {
         match end {
-            ListEnd::Closed => Ok((ListEnd::Closed, room.nodes)),
-            ListEnd::Any => Ok((ListEnd::Any, room.nodes)),
+            ListEnd::Closed => Ok(ListEnd::Closed),
+            ListEnd::Any => Ok(ListEnd::Any),
             ListEnd::Each(each) => {
-                let (each, left) = self.joined(each, room.is_whole(true))?;
-                Ok((ListEnd::Each(Box::new(self.alloc, each)?), left))
+                let each = self.joined(each, room.is_whole(true), nodes)?;
+                Ok(ListEnd::Each(Box::new(self.alloc, each)?))
             }
         }
     }
 
     /// What a form of the wide profile stands for.
     #[cycle(joined)]
-    fn joined_form(self, form: &'a Wide, room: Room) -> Result<(Expr, usize), EmbeddingFault> {
+    fn joined_form(
+        self,
+        form: &'a Wide,
+        room: Room,
+        nodes: &mut usize,
+    ) -> Result<Expr, EmbeddingFault>
+        ensures { (ds : List DefinitionTree) (n : ℕ) → TellsBodies self.entry.bodies.now ds → AreWell ds
+            → embeds_well (can_be_embedded ds most_steps) (wide (wide_view form.now)) ≡ true → room.levels ≤ n
+            → Makes result self.entry.file room.levels nodes.old nodes.new
+            (Spec.joined_with ds (Spec.joined_value ds n) room.is_whole room.place (wide (wide_view form.now)))
+            (clashes_with ds (clashes_value ds n) room.place (wide (wide_view form.now))) }
+    {
         match form {
             Wide::Marked { at, value } => {
                 let at = room.place.unwrap_or(*at);
-                let (value, left) = self.joined(value, room.is_whole(false))?;
-                let value = Box::new(self.alloc, value)?;
-                Ok((Expr::Wide(Wide::Marked { at, value }), left))
+                let bare = self.joined(behind_marks(value), room.is_whole(false), nodes)?;
+                let value = Box::new(self.alloc, self.with_marks(value, room.place, bare)?)?;
+                Ok(Expr::Wide(Wide::Marked { at, value }))
             }
             Wide::Merged {
                 at,
                 declarations,
                 opened,
-            } => self.joined_literal(room.place.unwrap_or(*at), declarations, *opened, room),
+            } => {
+                let at = room.place.unwrap_or(*at);
+                self.joined_literal(at, declarations, *opened, room, nodes)
+            }
+        }
+    }
+
+    /// The marks of an expression before another one.
+    fn with_marks(self, expr: &Expr, place: Option<usize>, bare: Expr) -> Result<Expr, AllocError>
+        ensures { IfOk result (λ e. expr_view e ≡ Made.with_marks place (expr_view expr.now) (expr_view bare)) }
+    {
+        match expr {
+            Expr::Wide(Wide::Marked { at, value }) => {
+                let at = place.unwrap_or(*at);
+                let value = Box::new(self.alloc, self.with_marks(value, place, bare)?)?;
+                Ok(Expr::Wide(Wide::Marked { at, value }))
+            }
+            _ => Ok(bare),
         }
     }
 
@@ -258,20 +323,30 @@ impl<'a> Joiner<'_, 'a> {
         declarations: &'a [Declaration],
         is_opened: bool,
         room: Room,
-    ) -> Result<(Expr, usize), EmbeddingFault> {
+        nodes: &mut usize,
+    ) -> Result<Expr, EmbeddingFault>
+        ensures { (ds : List DefinitionTree) (n : ℕ) → TellsBodies self.entry.bodies.now ds → AreWell ds
+            → declarations_embed_well (can_be_embedded ds most_steps) (declarations_view declarations.now) ≡ true → room.levels ≤ n
+            → let alternatives = alternatives_of ds room.place (declarations_view declarations.now) is_opened in
+            Makes result self.entry.file room.levels nodes.old nodes.new
+            (Spec.one_of (Spec.joined_value ds n) room.is_whole at alternatives)
+            (flat_map (clashes_of (clashes_value ds n)) alternatives) }
+    {
         let joining = Joining {
             alloc: self.alloc,
             bodies: self.bodies,
-            room: room.nodes,
+            room: *nodes,
         };
         let found = joining.alternatives_of(room.place, declarations, is_opened)?;
         match &*found.alternatives {
-            [] => Ok((Expr::Bottom, self.inside(room)?.nodes)),
-            [only] => self.joined_alternative(at, only, room),
-            alternatives if room.is_whole => self.joined_alternatives(at, alternatives, room),
+            [] => self.leaf(Expr::Bottom, room, nodes),
+            [only] => self.joined_alternative(at, only, room, nodes),
+            alternatives if room.is_whole => {
+                self.joined_alternatives(at, alternatives, room, nodes)
+            }
             alternatives => {
-                let (kept, left) = self.joined_alternatives(at, alternatives, self.below(room)?)?;
-                Ok((Expr::Paren(Box::new(self.alloc, kept)?), left))
+                let kept = self.joined_alternatives(at, alternatives, self.below(room)?, nodes)?;
+                Ok(Expr::Paren(Box::new(self.alloc, kept)?))
             }
         }
     }
@@ -283,16 +358,20 @@ impl<'a> Joiner<'_, 'a> {
         at: usize,
         alternatives: &[Alternative<'a>],
         room: Room,
-    ) -> Result<(Expr, usize), EmbeddingFault> {
-        let room = self.inside(room)?;
+        nodes: &mut usize,
+    ) -> Result<Expr, EmbeddingFault>
+        ensures { (ds : List DefinitionTree) (n : ℕ) → TellsBodies self.entry.bodies.now ds → AreWell ds
+            → AllByRecursion (IsWell ds) (alternatives_view alternatives.now) → room.levels ≤ n
+            → Makes result self.entry.file room.levels nodes.old nodes.new
+            (disjunction (Spec.literals_of (Spec.joined_value ds n) at (alternatives_view alternatives.now)))
+            (flat_map (clashes_of (clashes_value ds n)) (alternatives_view alternatives.now)) }
+    {
+        let inside = self.inside(room, nodes)?;
         let mut joined = Vec::with_capacity(self.alloc, alternatives.len())?;
-        let mut left = room.nodes;
         for alternative in alternatives {
-            let (one, rest) = self.joined_alternative(at, alternative, room.left(left))?;
-            left = rest;
-            joined.push(one)?;
+            joined.push(self.joined_alternative(at, alternative, inside, nodes)?)?;
         }
-        Ok((Expr::Or(joined), left))
+        Ok(Expr::Or(joined))
     }
 
     /// The literal that an alternative is.
@@ -302,27 +381,26 @@ impl<'a> Joiner<'_, 'a> {
         at: usize,
         alternative: &Alternative<'a>,
         room: Room,
-    ) -> Result<(Expr, usize), EmbeddingFault> {
-        let room = self.inside(room)?;
+        nodes: &mut usize,
+    ) -> Result<Expr, EmbeddingFault>
+        ensures { (ds : List DefinitionTree) (n : ℕ) → TellsBodies self.entry.bodies.now ds → AreWell ds
+            → IsWell ds (alternative_view alternative.now) → room.levels ≤ n
+            → Makes result self.entry.file room.levels nodes.old nodes.new
+            (Spec.literal_of (Spec.joined_value ds n) at (alternative_view alternative.now))
+            (clashes_of (clashes_value ds n) (alternative_view alternative.now)) }
+    {
+        let inside = self.inside(room, nodes)?;
         if let Some(offset) = first_clash(self.alloc, &alternative.declarations)? {
             let file = self.file;
             return Err(EmbeddingFault::Reopened { file, offset });
         }
         let mut fields = Vec::with_capacity(self.alloc, alternative.declarations.len())?;
-        let mut left = room.nodes;
         for brought in &alternative.declarations {
             let place = brought.place;
-            let (field, rest) = self.joined_field(
-                brought.field,
-                Room {
-                    place,
-                    ..room.left(left)
-                },
-            )?;
-            left = rest;
-            fields.push(field)?;
+            let room = Room { place, ..inside };
+            fields.push(self.joined_field(brought.field, room, nodes)?)?;
         }
         let opened = alternative.opened;
-        Ok((Expr::Struct { at, fields, opened }, left))
+        Ok(Expr::Struct { at, fields, opened })
     }
 }

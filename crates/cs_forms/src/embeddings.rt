@@ -8,22 +8,47 @@ use std::alloc::{AllocError, Global};
 const MOST_AROUND: usize = 32;
 /// How many fields are compared with those before them.
 const MOST_COMPARED: usize = 1_000;
+/// How many of the definitions that are met first are asked whether they embed themselves: each is followed as far as it goes.
+const MOST_ASKED: usize = 2;
 
-/// What is wrong where something is embedded.
+/// What is wrong where something is embedded, and the tokens of the expression, the definition or the label that it is about.
 #[derive(Clone, Copy, Drop)]
-pub struct Flaw<'a> {
+pub struct Flaw {
     pub form: Form,
-    /// What it is about: an expression, a definition or a label.
-    pub shown: &'a str,
+    /// The place of the source among the sources.
+    pub file: usize,
+    /// The place of the first token, and that behind the last one.
+    pub from: usize,
+    pub to: usize,
+}
+
+impl Flaw {
+    /// A flaw that is about a part of a source.
+    fn about(form: Form, part: Part<'_, '_>) -> Flaw {
+        let Part { source, from, to } = part;
+        let file = source.file;
+        Flaw {
+            form,
+            file,
+            from,
+            to,
+        }
+    }
+
+    /// A flaw that is about the label of a declaration, which may be the name of a definition.
+    fn of_label(form: Form, declaration: Part<'_, '_>) -> Flaw {
+        let from = declaration.from;
+        Flaw::about(form, declaration.between(from, from.saturating_add(1)))
+    }
 }
 
 /// The form where a struct literal has to be opened in a profile: in the wide one also where something is embedded that can't be, and at a
 /// value that an embedding would open. Only memory can run out.
-pub fn form_not_opened<'s, 'a>(
+pub fn form_not_opened(
     alloc: Global,
     profile: Profile,
-    near: Near<'s, 'a>,
-    sources: &'s [Source<'a>],
+    near: Near<'_, '_>,
+    sources: &[Source<'_>],
 ) -> Result<Found, AllocError> {
     let flaw = match profile {
         Profile::Default => None,
@@ -34,49 +59,63 @@ pub fn form_not_opened<'s, 'a>(
 
 /// What is wrong with what is embedded at a token, or with a value there that stands beside what is embedded; none where that isn't it. Only
 /// memory can run out.
-pub fn flaw_of_embedding<'s, 'a>(
+pub fn flaw_of_embedding(
     alloc: Global,
-    near: Near<'s, 'a>,
-    sources: &'s [Source<'a>],
-) -> Result<Option<Flaw<'a>>, AllocError> {
+    near: Near<'_, '_>,
+    sources: &[Source<'_>],
+) -> Result<Option<Flaw>, AllocError> {
     let declared = declared_in(alloc, sources)?;
-    let embedded = near.embedding();
-    if let Some(embedded) = embedded
-        && let Some(flaw) = flaw_inside(alloc, &declared, embedded)?
-    {
-        return Ok(Some(flaw));
+    flaw_at(alloc, &declared, near)
+}
+
+/// The same by the definitions of the sources.
+fn flaw_at<'t>(
+    alloc: Global,
+    declared: &'t Declared<'t, 't>,
+    near: Near<'t, 't>,
+) -> Result<Option<Flaw>, AllocError> {
+    let Some(embedded) = near.embedding() else {
+        let field = near.source.declaration_at(near.place);
+        return flaw_beside(alloc, declared, near, Some(field));
+    };
+    match flaw_inside(alloc, declared, embedded)? {
+        Some(flaw) => Ok(Some(flaw)),
+        None => flaw_beside(alloc, declared, near, None),
     }
+}
+
+/// That a field is declared twice where something is embedded: this one, or any where none is given.
+fn flaw_beside<'t>(
+    alloc: Global,
+    declared: &'t Declared<'t, 't>,
+    near: Near<'t, 't>,
+    field: Option<Part<'t, 't>>,
+) -> Result<Option<Flaw>, AllocError> {
     let Some(literal) = literal_around(near) else {
         return Ok(None);
-    };
-    let field = match embedded {
-        Some(_) => None,
-        None => Some(near.source.declaration_at(near.place)),
     };
     let joined = declared.embedded(alloc, literal)?;
     let is_alone = joined.definitions.is_empty() && !near.stands_beside_embeddings();
     match declared_twice(&joined.fields, field) {
-        Some(shown) if !is_alone => Ok(Some(Flaw {
-            form: Form::EmbeddedTwice,
-            shown,
-        })),
+        Some(declaration) if !is_alone => {
+            Ok(Some(Flaw::of_label(Form::EmbeddedTwice, declaration)))
+        }
         _ => Ok(None),
     }
 }
 
 /// What can't be embedded in an expression: a part of it that is no struct, or a definition that embeds itself.
-fn flaw_inside<'s, 'a>(
+fn flaw_inside<'t>(
     alloc: Global,
-    declared: &'s Declared<'s, 'a>,
-    embedded: Part<'s, 'a>,
-) -> Result<Option<Flaw<'a>>, AllocError> {
+    declared: &'t Declared<'t, 't>,
+    embedded: Part<'t, 't>,
+) -> Result<Option<Flaw>, AllocError> {
     let found = declared.embedded(alloc, embedded)?;
-    for name in &found.definitions {
-        if declared.embeds_itself(alloc, *name)? {
-            return Ok(Some(Flaw {
-                form: Form::EmbeddedItself,
-                shown: *name,
-            }));
+    for name in found.definitions.iter().take(MOST_ASKED) {
+        if declared.embeds_itself(alloc, *name)?
+            && let Some(label) = declared.of(*name)
+        {
+            return Ok(Some(Flaw::of_label(Form::EmbeddedItself, label.part())));
         }
     }
     let Some(other) = found.other else {
@@ -84,18 +123,15 @@ fn flaw_inside<'s, 'a>(
     };
     let declaration = other.source.declaration_at(other.from);
     let is_body = declaration.count(Separator::Colon) > 0;
-    let shown = match declaration.first() {
-        Some(name) if is_body => name.here().text,
-        _ => other.text(),
-    };
-    Ok(Some(Flaw {
-        form: Form::EmbeddedNoStruct,
-        shown,
+    Ok(Some(if is_body {
+        Flaw::of_label(Form::EmbeddedNoStruct, declaration)
+    } else {
+        Flaw::about(Form::EmbeddedNoStruct, other)
     }))
 }
 
 /// What the literal holds that has the declaration which a token is in, whether by itself or by embedding literals that have it.
-fn literal_around<'s, 'a>(near: Near<'s, 'a>) -> Option<Part<'s, 'a>> {
+fn literal_around<'t>(near: Near<'t, 't>) -> Option<Part<'t, 't>> {
     let source = near.source;
     let mut inner = near.place;
     let mut found = None;
@@ -112,8 +148,11 @@ fn literal_around<'s, 'a>(near: Near<'s, 'a>) -> Option<Part<'s, 'a>> {
     found
 }
 
-/// The label of a field that may be declared twice: of this one, or of any where none is given.
-fn declared_twice<'a>(fields: &[Part<'_, 'a>], field: Option<Part<'_, 'a>>) -> Option<&'a str> {
+/// The declaration of a field that may be declared twice: this one, or the first of any where none is given.
+fn declared_twice<'t>(
+    fields: &[Part<'t, 't>],
+    field: Option<Part<'t, 't>>,
+) -> Option<Part<'t, 't>> {
     for (place, other) in fields.iter().enumerate().take(MOST_COMPARED) {
         let is_meant = match field {
             Some(field) => field.may_share_key(*other),
@@ -127,7 +166,7 @@ fn declared_twice<'a>(fields: &[Part<'_, 'a>], field: Option<Part<'_, 'a>>) -> O
                 .take(MOST_COMPARED)
                 .any(|next| next.may_share_key(*other))
         {
-            return Some(field.unwrap_or(*other).first()?.here().text);
+            return Some(field.unwrap_or(*other));
         }
     }
     None

@@ -90,8 +90,24 @@ fn behind_value(near: Near<'_, '_>) -> Found {
         "(" if before.sort == Sort::Name => Found::before(near, Form::Call),
         "[" if before.text != "}" => Found::at(near, Form::Index),
         ":" if before.sort == Sort::Definition => Found::before(near, Form::NestedDefinition),
+        ":" if near.colon().is_none() => behind_label(near),
         _ if is_relation(here) => Found::at(near, Form::Comparison),
         "-" | "div" | "mod" | "quo" | "rem" => Found::at(near, Form::Arithmetic),
+        _ => plain(near),
+    }
+}
+
+/// The form at the colon behind what is no label.
+fn behind_label(near: Near<'_, '_>) -> Found {
+    let Some(first) = near.part().first() else {
+        return plain(near);
+    };
+    let token = first.here();
+    match token.text.as_bytes() {
+        _ if token.sort == Sort::Integer => Found::at(first, Form::DigitLabel),
+        [b'*'] => Found::at(first, Form::MisplacedDefault),
+        [b'['] => Found::at(first, Form::Pattern),
+        [b'('] => Found::at(first, Form::DynamicLabel),
         _ => plain(near),
     }
 }

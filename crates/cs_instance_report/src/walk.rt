@@ -173,12 +173,14 @@ impl<'t> Node<'t> {
         if !sources.embeds(found) {
             return Ok(found.declaration(place));
         }
-        let joined = sources.joined(alloc, found, self.alternative, place)?;
-        match (joined, self.parts().get(place)) {
-            (Some(declaration), Some(part)) if declaration.begins_with_label(label_of(part)) => {
-                Ok(Some(declaration))
-            }
-            _ => Ok(None),
+        let Some(part) = self.parts().get(place) else {
+            return Ok(None);
+        };
+        let label = label_of(part);
+        match sources.joined(alloc, found, self.alternative, place)? {
+            Some(declaration) if declaration.begins_with_label(label) => Ok(Some(declaration)),
+            Some(_) => Ok(None),
+            None => sources.joined_once(alloc, found, label),
         }
     }
 

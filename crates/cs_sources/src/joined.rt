@@ -214,6 +214,31 @@ impl<'s, 'a> Declared<'s, 'a> {
         Ok(None)
     }
 
+    /// The only declaration that a literal with embeddings has for a label, whichever alternative is meant; none where it has several. Only
+    /// memory can run out.
+    pub fn joined_once(
+        &'s self,
+        alloc: Global,
+        literal: Part<'s, 'a>,
+        label: Option<&str>,
+    ) -> Result<Option<Part<'s, 'a>>, AllocError> {
+        let embedded = self.embedded(alloc, literal)?;
+        // It isn't known then what else is embedded.
+        if embedded.other.is_some() {
+            return Ok(None);
+        }
+        let mut found = None;
+        for field in &embedded.fields {
+            if field.begins_with_label(label) {
+                if found.is_some() {
+                    return Ok(None);
+                }
+                found = Some(*field);
+            }
+        }
+        Ok(found)
+    }
+
     /// All that a part embeds: declarations of a literal, or what is embedded in one. Only memory can run out.
     pub fn embedded(
         &'s self,

@@ -37,8 +37,9 @@ impl<'s, 'a> Part<'s, 'a> {
 
     /// Its text.
     pub fn text(self) -> &'a str {
-        let start = self.source.token(self.from).start;
-        let text = self.source.named.text.get(start..self.end()).unwrap_or(b"");
+        let source = self.source;
+        let start = source.token(self.from).start;
+        let text = source.named.text.get(start..self.end()).unwrap_or(b"");
         str::from_utf8(text).unwrap_or("")
     }
 

@@ -7,5 +7,5 @@ abbrev pub invariant-loop-name : goal.invariant-loop-name
 invariant-loop-name l = record {
   same : l.self.bodies ≡ l.initial.self.bodies;
   tells : (ds : List DefinitionTree) → TellsBodies l.initial.self.bodies.now ds → TellsRounds l.initial.self ds l.steps []
-    → TellsRounds l.self ds l.steps (take l.name-index l.name-items);
+      → TellsRounds l.self ds l.steps (take l.name-index l.name-items);
 }

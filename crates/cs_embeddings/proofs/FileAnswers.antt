@@ -1,0 +1,61 @@
+-- What is answered of files, where nothing of their embeddings is at fault.
+use Rattle.std.proofs.Common.{◌≡◌, ℕ, zero, suc, ◌≤◌, List, [], ◌∷◌, ◌++◌, Some, Result, Ok, Err, map, slice_get, subst, arith}
+use Rattle.std.specs.Result.{IfOk, IfErr, IsOkUnless}
+use Rattle.std.specs.List.{flat_map}
+use Rattle.std.specs.declared.alloc.Global.{Global}
+use Rattle.std.specs.declared.vec.Vec.{Vec}
+use Rattle.cs_grammar.specs.Height.{height_definitions, file_height}
+use Rattle.cs_grammar.specs.Tree.{FileTree, definitions}
+use Rattle.cs_grammar.specs.View.{file_view}
+use Rattle.cs_grammar.specs.declared.ast.File.{File}
+use Rattle.cs_embeddings.proofs.FileParts.{height-append}
+use Rattle.cs_embeddings.specs.Made.{IsNoRoomForFiles, MakesFiles}
+use Rattle.cs_embeddings.specs.Without.{IsJoined, IsWithin, IsRefusal, all_definitions, flaws_of_files, clashes_of_files, joined_files}
+use Rattle.cs_embeddings.specs.declared.fault.EmbeddingFault.{EmbeddingFault}
+use Rattle.cs_embeddings.specs.declared.fault.EmbeddingFault.TheVariants.{OutOfMemory, UnknownName, NoStruct, Reopened, TooHigh, TooLarge}
+
+-- no file is higher than all are
+no_higher : (fs : List FileTree) (i : ℕ) (f : FileTree) → slice_get fs i ≡ Some f → file_height f ≤ height_definitions (flat_map definitions fs)
+no_higher [] i f is = cc
+no_higher (g ∷ fs) zero f is =
+    let same : g ≡ f = cc in
+    let all = height-append (definitions g) (flat_map definitions fs) in
+    subst (λ h. file_height h ≤ height_definitions (definitions g ++ flat_map definitions fs)) same (omega arith)
+no_higher (g ∷ fs) (suc i) f is =
+    let later = no_higher fs i f is in
+    let all = height-append (definitions g) (flat_map definitions fs) in omega arith
+
+module _ (fs : List FileTree) (flawless : flaws_of_files fs ≡ []) where
+  pub found_of : (r : Result (Vec File Global) EmbeddingFault) → MakesFiles r (all_definitions fs) fs → IfOk r (λ v. IsJoined fs (map file_view v.items))
+  found_of (Ok v) h = record { flawless = flawless; apart = h.apart; joined = h.made }
+  found_of (Err e) h = tt
+
+  pub within_of : (r : Result (Vec File Global) EmbeddingFault) → MakesFiles r (all_definitions fs) fs → IfOk r (λ v. IsWithin (map file_view v.items))
+  within_of (Ok v) h = h.within
+  within_of (Err e) h = tt
+
+  refusal : (e : EmbeddingFault) → IsNoRoomForFiles e (all_definitions fs) fs → IsRefusal e fs
+  refusal OutOfMemory h = tt
+  refusal (Reopened i o) h = (flawless, h)
+  refusal (TooHigh i) h = (flawless, h)
+  refusal TooLarge h = (flawless, h)
+  refusal (UnknownName i o) h = absurd h
+  refusal (NoStruct i o) h = absurd h
+
+  pub refused_of : (r : Result (Vec File Global) EmbeddingFault) → MakesFiles r (all_definitions fs) fs → IfErr r (λ e. IsRefusal e fs)
+  refused_of (Ok v) h = tt
+  refused_of (Err e) h = refusal e h
+
+  module _ (apart : clashes_of_files fs ≡ []) (within : IsWithin (joined_files fs)) where
+    no_other : (e : EmbeddingFault) → IsNoRoomForFiles e (all_definitions fs) fs → e ≡ OutOfMemory
+    no_other OutOfMemory h = cc
+    no_other (Reopened i o) h = let k : ◌≡◌ {A = _} (slice_get {X = ℕ × ℕ} [] 0) (Some (i, o)) = subst
+        (λ (xs : List (ℕ × ℕ)). slice_get xs 0 ≡ Some (i, o)) apart h in cc
+    no_other (TooHigh i) h = let k = no_higher (joined_files fs) i h.0 h.1 in let low = within.low in let high = h.2 in absurd (omega arith)
+    no_other TooLarge h = let small = within.small in absurd (omega arith)
+    no_other (UnknownName i o) h = absurd h
+    no_other (NoStruct i o) h = absurd h
+
+    pub only_of : (r : Result (Vec File Global) EmbeddingFault) → MakesFiles r (all_definitions fs) fs → IsOkUnless r OutOfMemory
+    only_of (Ok v) h = tt
+    only_of (Err e) h = no_other e h

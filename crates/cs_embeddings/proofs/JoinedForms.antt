@@ -1,0 +1,197 @@
+-- What each form of an expression stands for, from what its parts stand for.
+use Rattle.std.proofs.Common.{◌≡◌, ℕ, suc, ◌+◌, ◌≤◌, Bool, true, false, List, ◌++◌, sym, ap, ap₂, ◌∙◌, subst, arith}
+use Rattle.std.proofs.lemmas.Bool.{and_parts}
+use Rattle.cs_grammar.specs.Height.{height, height_all, height_fields, height_end}
+use Rattle.cs_grammar.specs.Tree.{Tree, Trees, Fields, End, conjunction, disjunction, struct, list, wide, marked, DefinitionTree}
+use Rattle.cs_embeddings.proofs.Marked.{well_behind, marks_joined, marks_high, marks_large, marks_clashes}
+use Rattle.cs_embeddings.proofs.Parts.{no_room_left, no_room_right, no_room_inside, made_inside}
+use Rattle.cs_embeddings.specs.Alternatives.{at, most_steps}
+use Rattle.cs_embeddings.specs.Clashes.{clashes_with, clashes_each, clashes_fields, clashes_end, clashes_value}
+use Rattle.cs_embeddings.specs.Embedded.{can_be_embedded, embeds_well, embed_well, fields_embed_well, end_embeds_well}
+use Rattle.cs_embeddings.specs.Joined.{joined_with, joined_each, joined_fields, joined_end, joined_value}
+use Rattle.cs_embeddings.specs.Made.{IsNoRoom, IsMade, IsBelow, behind_marks, with_marks}
+use Rattle.cs_embeddings.specs.Size.{size, sizes, size_fields, size_end}
+use Rattle.cs_embeddings.specs.declared.fault.EmbeddingFault.{EmbeddingFault}
+use Rattle.cs_embeddings.specs.declared.joined.Room.{Room}
+
+module _ (ds : List DefinitionTree) (n : ℕ) where
+  abbrev pub inner : Tree → Bool
+  inner = can_be_embedded ds most_steps
+
+  abbrev pub meant : Room → Tree → Tree
+  meant room t = joined_with ds (joined_value ds n) room.is_whole room.place t
+
+  abbrev pub found : Room → Tree → List ℕ
+  found room t = clashes_with ds (clashes_value ds n) room.place t
+
+  abbrev pub IsUnmade : EmbeddingFault → ℕ → Room → ℕ → Tree → Type 0
+  IsUnmade e file room nodes t = IsNoRoom e file room.levels nodes (height (meant room t)) (size (meant room t)) (found room t)
+
+  abbrev pub IsMadeOf : Room → ℕ → ℕ → Tree → Tree → Type 0
+  IsMadeOf room nodes rest x t = IsMade room.levels nodes rest (height (meant room t)) (size (meant room t)) x (meant room t) (found room t)
+
+  -- many
+
+  abbrev pub each_meant : Room → Trees → Trees
+  each_meant room es = joined_each ds (joined_value ds n) room.is_whole room.place es
+
+  abbrev pub each_found : Room → Trees → List ℕ
+  each_found room es = clashes_each ds (clashes_value ds n) room.place es
+
+  abbrev pub EachUnmade : EmbeddingFault → ℕ → Room → ℕ → Trees → Type 0
+  EachUnmade e file room nodes es = IsNoRoom e file room.levels nodes (height_all (each_meant room es)) (sizes (each_meant room es)) (each_found room es)
+
+  abbrev pub EachMade : Room → ℕ → ℕ → Trees → Trees → Type 0
+  EachMade room nodes rest x es = IsMade room.levels nodes rest (height_all (each_meant room es)) (sizes (each_meant room es)) x (each_meant room es)
+      (each_found room es)
+
+  abbrev pub end_meant : Room → End → End
+  end_meant room end = joined_end ds (joined_value ds n) room.place end
+
+  abbrev pub end_found : Room → End → List ℕ
+  end_found room end = clashes_end ds (clashes_value ds n) room.place end
+
+  abbrev pub EndUnmade : EmbeddingFault → ℕ → Room → ℕ → End → Type 0
+  EndUnmade e file room nodes end = IsNoRoom e file room.levels nodes (height_end (end_meant room end)) (size_end (end_meant room end)) (end_found room end)
+
+  abbrev pub EndMade : Room → ℕ → ℕ → End → End → Type 0
+  EndMade room nodes rest x end = IsMade room.levels nodes rest (height_end (end_meant room end)) (size_end (end_meant room end)) x (end_meant room end)
+      (end_found room end)
+
+  abbrev pub fields_meant : Room → Fields → Fields
+  fields_meant room fs = joined_fields ds (joined_value ds n) room.place fs
+
+  abbrev pub fields_found : Room → Fields → List ℕ
+  fields_found room fs = clashes_fields ds (clashes_value ds n) room.place fs
+
+  abbrev pub FieldsUnmade : EmbeddingFault → ℕ → Room → ℕ → Fields → Type 0
+  FieldsUnmade e file room nodes fs = IsNoRoom e file room.levels nodes (height_fields (fields_meant room fs)) (size_fields (fields_meant room fs))
+      (fields_found room fs)
+
+  abbrev pub FieldsMade : Room → ℕ → ℕ → Fields → Fields → Type 0
+  FieldsMade room nodes rest x fs = IsMade room.levels nodes rest (height_fields (fields_meant room fs)) (size_fields (fields_meant room fs)) x
+      (fields_meant room fs) (fields_found room fs)
+
+  -- the room for the parts
+  module _ (room inside : Room) (nodes mid : ℕ) (goes : IsBelow room inside × (suc mid ≡ nodes)) (deep : room.levels ≤ n) where
+    abbrev parts : Bool → Room
+    parts b = record { place = room.place; is_whole = b; levels = inside.levels }
+
+    lower : inside.levels ≤ n
+    lower = let l = goes.0.levels in omega arith
+
+    module _ (b : Bool) (r : Room) (set : r ≡ record inside { is_whole = b }) where
+      same : r ≡ parts b
+      same = set ∙ ap (λ p. let q : Room = record { place = p; is_whole = b; levels = inside.levels } in q) goes.0.place
+
+      at_parts : (Q : Room → Type 0) → (r.levels ≤ n → Q r) → Q (parts b)
+      at_parts Q h = (subst (λ (q : Room). q.levels ≤ n → Q q) same h) lower
+
+    module _ (t : Tree) (es : Trees) (embeds : embeds_well inner t ≡ true) (r : Room) (set : r ≡ record inside { is_whole = false }) where
+      module _ (e : EmbeddingFault) (file : ℕ) (each : embed_well inner es ≡ true → r.levels ≤ n → EachUnmade e file r mid es) where
+        operands_unmade : embed_well inner es ≡ true
+            → let m = each_meant (parts false) es in IsNoRoom e file room.levels nodes (suc (height_all m)) (1 + sizes m) (each_found room es)
+        operands_unmade well = no_room_inside e file room.levels inside.levels nodes mid _ _ _ goes.0.levels goes.1
+            (at_parts false r set (λ q. EachUnmade e file q mid es) (each well))
+
+        pub and_unmade : t ≡ conjunction es → IsUnmade e file room nodes t
+        and_unmade is = subst (IsUnmade e file room nodes) (sym is) (operands_unmade (subst (λ u. embeds_well inner u ≡ true) is embeds))
+
+        pub or_unmade : t ≡ disjunction es → IsUnmade e file room nodes t
+        or_unmade is = subst (IsUnmade e file room nodes) (sym is) (operands_unmade (subst (λ u. embeds_well inner u ≡ true) is embeds))
+
+      module _ (rest : ℕ) (x : Trees) (y : Tree) (each : embed_well inner es ≡ true → r.levels ≤ n → EachMade r mid rest x es) where
+        operands_made : embed_well inner es ≡ true → EachMade (parts false) mid rest x es
+        operands_made well = at_parts false r set (λ q. EachMade q mid rest x es) (each well)
+
+        pub and_made : t ≡ conjunction es → y ≡ conjunction x → IsMadeOf room nodes rest y t
+        and_made is made = subst (IsMadeOf room nodes rest y) (sym is)
+            (made_inside room.levels inside.levels goes.0.levels mid rest _ _ x _ _ conjunction y made nodes goes.1
+            (operands_made (subst (λ u. embeds_well inner u ≡ true) is embeds)))
+
+        pub or_made : t ≡ disjunction es → y ≡ disjunction x → IsMadeOf room nodes rest y t
+        or_made is made = subst (IsMadeOf room nodes rest y) (sym is)
+            (made_inside room.levels inside.levels goes.0.levels mid rest _ _ x _ _ disjunction y made nodes goes.1
+            (operands_made (subst (λ u. embeds_well inner u ≡ true) is embeds)))
+
+    -- a literal
+    module _ (t : Tree) (o : ℕ) (fs : Fields) (b : Bool) (is : t ≡ struct o fs b) (embeds : embeds_well inner t ≡ true) where
+      pub struct_unmade : (e : EmbeddingFault) (file : ℕ) → (fields_embed_well inner fs ≡ true → inside.levels ≤ n → FieldsUnmade e file inside mid fs)
+          → IsUnmade e file room nodes t
+      struct_unmade e file fields =
+          let h = fields (subst (λ u. embeds_well inner u ≡ true) is embeds) lower in
+          let k : FieldsUnmade e file (parts true) mid fs = subst
+          (λ p. let q : Room = record { place = p; is_whole = true; levels = inside.levels } in FieldsUnmade e file q mid fs) goes.0.place h in
+          subst (IsUnmade e file room nodes) (sym is) (no_room_inside e file room.levels inside.levels nodes mid _ _ _ goes.0.levels goes.1 k)
+
+      pub struct_made : (rest : ℕ) (x : Fields) (y : Tree) → y ≡ struct (at room.place o) x b
+          → (fields_embed_well inner fs ≡ true → inside.levels ≤ n → FieldsMade inside mid rest x fs) → IsMadeOf room nodes rest y t
+      struct_made rest x y made fields =
+          let h = fields (subst (λ u. embeds_well inner u ≡ true) is embeds) lower in
+          let k : FieldsMade (parts true) mid rest x fs = subst
+          (λ p. let q : Room = record { place = p; is_whole = true; levels = inside.levels } in FieldsMade q mid rest x fs) goes.0.place h in
+          subst (IsMadeOf room nodes rest y) (sym is) (made_inside room.levels inside.levels goes.0.levels mid rest _ _ x _ _
+          (λ gs. struct (at room.place o) gs b) y made nodes goes.1 k)
+
+    -- a list
+    module _ (es : Trees) (end : End) (embeds : embeds_well inner (list es end) ≡ true) (r : Room) (set : r ≡ record inside { is_whole = true }) where
+      well : (embed_well inner es ≡ true) × (end_embeds_well inner end ≡ true)
+      well = and_parts (embed_well inner es) (end_embeds_well inner end) embeds
+
+      pub front_unmade : (e : EmbeddingFault) (file : ℕ) → (embed_well inner es ≡ true → r.levels ≤ n → EachUnmade e file r mid es)
+          → IsUnmade e file room nodes (list es end)
+      front_unmade e file each =
+          no_room_inside e file room.levels inside.levels nodes mid _ _ _ goes.0.levels goes.1
+          (no_room_left e file inside.levels mid _ _ (height_end (end_meant room end)) (size_end (end_meant room end)) _ (end_found room end)
+          (at_parts true r set (λ q. EachUnmade e file q mid es) (each well.0)))
+
+      module _ (mid' : ℕ) (x : Trees) (each : embed_well inner es ≡ true → r.levels ≤ n → EachMade r mid mid' x es) where
+        front : EachMade (parts true) mid mid' x es
+        front = at_parts true r set (λ q. EachMade q mid mid' x es) (each well.0)
+
+        pub end_unmade : (e : EmbeddingFault) (file : ℕ) → (end_embeds_well inner end ≡ true → r.levels ≤ n → EndUnmade e file r mid' end)
+            → IsUnmade e file room nodes (list es end)
+        end_unmade e file ended =
+            no_room_inside e file room.levels inside.levels nodes mid _ _ _ goes.0.levels goes.1
+            (no_room_right e file inside.levels mid mid' _ _ _ _ _ _ front.left front.apart
+            (at_parts true r set (λ q. EndUnmade e file q mid' end) (ended well.1)))
+
+        pub list_made : (rest : ℕ) (z : End) (y : Tree) → y ≡ list x z → (end_embeds_well inner end ≡ true → r.levels ≤ n → EndMade r mid' rest z end)
+            → IsMadeOf room nodes rest y (list es end)
+        list_made rest z y made ended =
+            let last : EndMade (parts true) mid' rest z end = at_parts true r set (λ q. EndMade q mid' rest z end) (ended well.1) in
+            record {
+              made = made ∙ ap₂ list front.made last.made;
+              low = let a = front.low in let b = last.low in let l = goes.0.levels in omega arith;
+              left = let a = front.left in let b = last.left in let l = goes.1 in omega arith;
+              apart = ap₂ (λ xs ys. xs ++ ys) front.apart last.apart;
+            }
+
+  -- marks
+  module _ (room r : Room) (set : r ≡ record room { is_whole = false }) (deep : room.levels ≤ n) (o : ℕ) (t : Tree) (embeds : embeds_well inner t ≡ true) where
+    abbrev bare : Tree
+    bare = behind_marks t
+
+    abbrev unmarked : Room
+    unmarked = record room { is_whole = false }
+
+    at_unmarked : (Q : Room → Type 0) → (embeds_well inner bare ≡ true → r.levels ≤ n → Q r) → Q unmarked
+    at_unmarked Q h = (subst (λ (q : Room). q.levels ≤ n → Q q) set (h (sym (well_behind inner t) ∙ embeds))) deep
+
+    pub marked_unmade : (e : EmbeddingFault) (file nodes : ℕ) → (embeds_well inner bare ≡ true → r.levels ≤ n → IsUnmade e file r nodes bare)
+        → IsUnmade e file room nodes (wide (marked o t))
+    marked_unmade e file nodes h =
+        let p = room.place in let V = joined_value ds n in let C = clashes_value ds n in
+        rw (marks_high ds V C p t, marks_large ds V C p t, marks_clashes ds V C p t) (at_unmarked (λ q. IsUnmade e file q nodes bare) h)
+
+    pub marked_made : (nodes rest : ℕ) (x y : Tree) → y ≡ wide (marked (at room.place o) (with_marks room.place t x))
+        → (embeds_well inner bare ≡ true → r.levels ≤ n → IsMadeOf r nodes rest x bare) → IsMadeOf room nodes rest y (wide (marked o t))
+    marked_made nodes rest x y made h =
+        let p = room.place in let V = joined_value ds n in let C = clashes_value ds n in
+        let k : IsMadeOf unmarked nodes rest x bare = at_unmarked (λ q. IsMadeOf q nodes rest x bare) h in
+        record {
+          made = made ∙ ap (λ u. wide (marked (at p o) u)) (ap (with_marks p t) k.made ∙ sym (marks_joined ds V C p t));
+          low = rw (marks_high ds V C p t) k.low;
+          left = rw (marks_large ds V C p t) k.left;
+          apart = marks_clashes ds V C p t ∙ k.apart;
+        }

@@ -1,0 +1,156 @@
+-- Samples, worked by the definitions: files with embeddings, and what they stand for or why they are refused.
+use Rattle.std.proofs.Common.{◌≡◌, ℕ, true, false, List, [], ◌∷◌, codes, None, refl}
+use Rattle.cs_grammar.specs.Spells.{every_label}
+use Rattle.cs_grammar.specs.Tree.{Label, Tree, named, reference, conjunction, disjunction, paren, struct, wide, merged, Declarations, no_declaration, declared, embedded, none, more, Fields, no_field, field, DefinitionTree, definition, FileTree, file}
+use Rattle.cs_grammar.specs.declared.ast.FieldMark.TheVariants.{Regular, Optional, Every}
+use Rattle.cs_embeddings.specs.Alternatives.{alternatives}
+use Rattle.cs_embeddings.specs.Clashes.{clashes_value}
+use Rattle.cs_embeddings.specs.Embedded.{can_be_embedded}
+use Rattle.cs_embeddings.specs.Flaws.{unknown, no_struct}
+use Rattle.cs_embeddings.specs.Joined.{joined_value}
+use Rattle.cs_embeddings.specs.Without.{IsJoined, flaws_of_files, clashes_of_files}
+
+-- one file with these definitions
+abbrev only : List DefinitionTree → List FileTree
+only ds = file None ds ∷ []
+
+abbrev label : List ℕ → Label
+label t = record { text = t; quotes = false }
+
+-- one field of that name, and those behind it; and the same of declarations
+abbrev with : List ℕ → Tree → Fields → Fields
+with t e fs = field (label t) Regular e fs
+
+abbrev has : List ℕ → Tree → Declarations → Declarations
+has t e cs = declared (label t) Regular e cs
+
+abbrev braces : ℕ → Fields → Tree
+braces o fs = struct o fs false
+
+abbrev ellipsis : ℕ → Fields → Tree
+ellipsis o fs = struct o fs true
+
+abbrev literal : ℕ → Declarations → Tree
+literal o cs = wide (merged o cs false)
+
+-- an expression that is embedded where it begins
+abbrev puts : ℕ → (ℕ → Tree) → Declarations → Declarations
+puts o e cs = embedded o (e o) cs
+
+abbrev refers : List ℕ → ℕ → Tree
+refers s o = reference s o
+
+abbrev or : Tree → Tree → Tree
+or d e = disjunction (more d (more e none))
+
+abbrev and : Tree → Tree → Tree
+and d e = conjunction (more d (more e none))
+
+abbrev int : ℕ → Tree
+int o = named (codes "int") o
+
+abbrev string : ℕ → Tree
+string o = named (codes "string") o
+
+-- `{name: int}` at that offset
+abbrev one : List ℕ → ℕ → Tree
+one t o = braces o (with t (int 9) no_field)
+
+-- ---- what files stand for
+
+-- `#B: {a: int}` and `#P: {#B, b: int}`, which stands for `{a: int, b: int}`
+fields_of_both : IsJoined (only (definition (codes "B") 0 (one (codes "a") 4) ∷ definition (codes "P") 0 (literal 24 (puts 25 (refers (codes "B")) (has (codes "b") (int 32) no_declaration))) ∷ [])) (only (definition (codes "B") 0 (one (codes "a") 4) ∷ definition (codes "P") 0 (braces 24 (with (codes "a") (int 25) (with (codes "b") (int 32) no_field))) ∷ []))
+unfolding can_be_embedded alternatives clashes_value joined_value
+fields_of_both = record { flawless = refl; apart = refl; joined = refl }
+
+-- `#P: {#B, ...}` for `{a: int, ...}`
+opened_itself : IsJoined (only (definition (codes "B") 0 (one (codes "a") 4) ∷ definition (codes "P") 0 (wide (merged 24 (puts 25 (refers (codes "B")) no_declaration) true)) ∷ [])) (only (definition (codes "B") 0 (one (codes "a") 4) ∷ definition (codes "P") 0 (ellipsis 24 (with (codes "a") (int 25) no_field)) ∷ []))
+unfolding can_be_embedded alternatives clashes_value joined_value
+opened_itself = record { flawless = refl; apart = refl; joined = refl }
+
+-- `#B: {a: int, ...}` and `#P: {#B, b: int}` for `{a: int, b: int, ...}`
+opened_by_what_is_embedded : IsJoined (only (definition (codes "B") 0 (ellipsis 4 (with (codes "a") (int 8) no_field)) ∷ definition (codes "P") 0 (literal 24 (puts 25 (refers (codes "B")) (has (codes "b") (int 32) no_declaration))) ∷ [])) (only (definition (codes "B") 0 (ellipsis 4 (with (codes "a") (int 8) no_field)) ∷ definition (codes "P") 0 (ellipsis 24 (with (codes "a") (int 25) (with (codes "b") (int 32) no_field))) ∷ []))
+unfolding can_be_embedded alternatives clashes_value joined_value
+opened_by_what_is_embedded = record { flawless = refl; apart = refl; joined = refl }
+
+-- `{{a: int}, b: int}` for `{a: int, b: int}`
+literal_in_a_literal : IsJoined (only (definition (codes "P") 0 (literal 4 (puts 5 (one (codes "a")) (has (codes "b") (int 18) no_declaration))) ∷ [])) (only (definition (codes "P") 0 (braces 4 (with (codes "a") (int 9) (with (codes "b") (int 18) no_field))) ∷ []))
+unfolding can_be_embedded alternatives clashes_value joined_value
+literal_in_a_literal = record { flawless = refl; apart = refl; joined = refl }
+
+-- `{name: string, {a: int} | {b: int}}` for `{name: string, a: int} | {name: string, b: int}`
+alternatives_in_order : IsJoined (only (definition (codes "P") 0 (literal 4 (has (codes "name") (string 11) (puts 19 (λ o. or (one (codes "a") o) (one (codes "b") 30)) no_declaration))) ∷ [])) (only (definition (codes "P") 0 (or (braces 4 (with (codes "name") (string 11) (with (codes "a") (int 9) no_field))) (braces 4 (with (codes "name") (string 11) (with (codes "b") (int 9) no_field)))) ∷ []))
+unfolding can_be_embedded alternatives clashes_value joined_value
+alternatives_in_order = record { flawless = refl; apart = refl; joined = refl }
+
+-- `#A: {a: int}`, `#B: {b: int}` and `#P: {#A | #B, c: int}` for `{a: int, c: int} | {b: int, c: int}`
+one_definition_or_the_other : IsJoined (only (definition (codes "A") 0 (one (codes "a") 4) ∷ definition (codes "B") 0 (one (codes "b") 4) ∷ definition (codes "P") 0 (literal 24 (puts 25 (λ o. or (refers (codes "A") o) (refers (codes "B") 30)) (has (codes "c") (int 37) no_declaration))) ∷ [])) (only (definition (codes "A") 0 (one (codes "a") 4) ∷ definition (codes "B") 0 (one (codes "b") 4) ∷ definition (codes "P") 0 (or (braces 24 (with (codes "a") (int 25) (with (codes "c") (int 37) no_field))) (braces 24 (with (codes "b") (int 30) (with (codes "c") (int 37) no_field)))) ∷ []))
+unfolding can_be_embedded alternatives clashes_value joined_value
+one_definition_or_the_other = record { flawless = refl; apart = refl; joined = refl }
+
+-- `#A: {a: int} | {b: int}`, `#B: {#A}`, `#C: {#A}` and `#P: {#B, #C}` for `{a: int} | {b: int}`: #A is chosen once
+one_choice : IsJoined (only (definition (codes "A") 0 (or (one (codes "a") 4) (one (codes "b") 15)) ∷ definition (codes "B") 0 (literal 4 (puts 5 (refers (codes "A")) no_declaration)) ∷ definition (codes "C") 0 (literal 4 (puts 5 (refers (codes "A")) no_declaration)) ∷ definition (codes "P") 0 (literal 24 (puts 25 (refers (codes "B")) (puts 29 (refers (codes "C")) no_declaration))) ∷ [])) (only (definition (codes "A") 0 (or (one (codes "a") 4) (one (codes "b") 15)) ∷ definition (codes "B") 0 (or (braces 4 (with (codes "a") (int 5) no_field)) (braces 4 (with (codes "b") (int 5) no_field))) ∷ definition (codes "C") 0 (or (braces 4 (with (codes "a") (int 5) no_field)) (braces 4 (with (codes "b") (int 5) no_field))) ∷ definition (codes "P") 0 (or (braces 24 (with (codes "a") (int 25) no_field)) (braces 24 (with (codes "b") (int 25) no_field))) ∷ []))
+unfolding can_be_embedded alternatives clashes_value joined_value
+one_choice = record { flawless = refl; apart = refl; joined = refl }
+
+-- `#B: {a: int}`, `#B: {b: int}` and `#P: {#B}` for `{a: int, b: int}`
+two_bodies : IsJoined (only (definition (codes "B") 0 (one (codes "a") 4) ∷ definition (codes "B") 0 (one (codes "b") 4) ∷ definition (codes "P") 0 (literal 24 (puts 25 (refers (codes "B")) no_declaration)) ∷ [])) (only (definition (codes "B") 0 (one (codes "a") 4) ∷ definition (codes "B") 0 (one (codes "b") 4) ∷ definition (codes "P") 0 (braces 24 (with (codes "a") (int 25) (with (codes "b") (int 25) no_field))) ∷ []))
+unfolding can_be_embedded alternatives clashes_value joined_value
+two_bodies = record { flawless = refl; apart = refl; joined = refl }
+
+-- `{{a: int} | {b: int}} & {{c: int}}` for `({a: int} | {b: int}) & {c: int}`
+parentheses_where_needed : IsJoined (only (definition (codes "P") 0 (and (literal 4 (puts 5 (λ o. or (one (codes "a") o) (one (codes "b") 16)) no_declaration)) (literal 28 (puts 29 (one (codes "c")) no_declaration))) ∷ [])) (only (definition (codes "P") 0 (and (paren (or (braces 4 (with (codes "a") (int 9) no_field)) (braces 4 (with (codes "b") (int 9) no_field)))) (braces 28 (with (codes "c") (int 9) no_field))) ∷ []))
+unfolding can_be_embedded alternatives clashes_value joined_value
+parentheses_where_needed = record { flawless = refl; apart = refl; joined = refl }
+
+-- `#C: {a: int}`, `#B: {x: {y: #C}}` and `#P: {#B}` for `{x: {y: #C}}`, all at the reference
+places_of_what_is_brought : IsJoined (only (definition (codes "C") 0 (one (codes "a") 4) ∷ definition (codes "B") 0 (braces 4 (with (codes "x") (braces 8 (with (codes "y") (refers (codes "C") 12) no_field)) no_field)) ∷ definition (codes "P") 0 (literal 24 (puts 25 (refers (codes "B")) no_declaration)) ∷ [])) (only (definition (codes "C") 0 (one (codes "a") 4) ∷ definition (codes "B") 0 (braces 4 (with (codes "x") (braces 8 (with (codes "y") (refers (codes "C") 12) no_field)) no_field)) ∷ definition (codes "P") 0 (braces 24 (with (codes "x") (braces 25 (with (codes "y") (refers (codes "C") 25) no_field)) no_field)) ∷ []))
+unfolding can_be_embedded alternatives clashes_value joined_value
+places_of_what_is_brought = record { flawless = refl; apart = refl; joined = refl }
+
+-- `#B: {[string]: int}` and `#P: {#B}` for `{[string]: int}`, at the reference
+place_of_every_key : IsJoined (only (definition (codes "B") 0 (braces 4 (field every_label (Every 6) (int 15) no_field)) ∷ definition (codes "P") 0 (literal 24 (puts 25 (refers (codes "B")) no_declaration)) ∷ [])) (only (definition (codes "B") 0 (braces 4 (field every_label (Every 6) (int 15) no_field)) ∷ definition (codes "P") 0 (braces 24 (field every_label (Every 25) (int 25) no_field)) ∷ []))
+unfolding can_be_embedded alternatives clashes_value joined_value
+place_of_every_key = record { flawless = refl; apart = refl; joined = refl }
+
+-- `#B: {x: #X}`, `#C: {x: #X}` and `#P: {#B, #C}`: the same reference each time
+same_reference_twice : IsJoined (only (definition (codes "X") 0 (one (codes "a") 4) ∷ definition (codes "B") 0 (braces 4 (with (codes "x") (refers (codes "X") 8) no_field)) ∷ definition (codes "C") 0 (braces 4 (with (codes "x") (refers (codes "X") 8) no_field)) ∷ definition (codes "P") 0 (literal 24 (puts 25 (refers (codes "B")) (puts 29 (refers (codes "C")) no_declaration))) ∷ [])) (only (definition (codes "X") 0 (one (codes "a") 4) ∷ definition (codes "B") 0 (braces 4 (with (codes "x") (refers (codes "X") 8) no_field)) ∷ definition (codes "C") 0 (braces 4 (with (codes "x") (refers (codes "X") 8) no_field)) ∷ definition (codes "P") 0 (braces 24 (with (codes "x") (refers (codes "X") 25) (with (codes "x") (refers (codes "X") 29) no_field))) ∷ []))
+unfolding can_be_embedded alternatives clashes_value joined_value
+same_reference_twice = record { flawless = refl; apart = refl; joined = refl }
+
+-- ---- why files are refused
+
+-- `#P: {#P, a: int}`: what is embedded
+embeds_itself : flaws_of_files (only (definition (codes "P") 0 (literal 4 (puts 5 (refers (codes "P")) (has (codes "a") (int 12) no_declaration))) ∷ [])) ≡ (0, no_struct 5) ∷ []
+unfolding can_be_embedded
+embeds_itself = refl
+
+-- `#B: int` and `#P: {#B, a: int}`: what is embedded
+embeds_a_kind : flaws_of_files (only (definition (codes "B") 0 (int 4) ∷ definition (codes "P") 0 (literal 24 (puts 25 (refers (codes "B")) (has (codes "a") (int 32) no_declaration))) ∷ [])) ≡ (0, no_struct 25) ∷ []
+unfolding can_be_embedded
+embeds_a_kind = refl
+
+-- `#P: {#B, a: int}` without #B: its name
+embeds_nothing_declared : flaws_of_files (only (definition (codes "P") 0 (literal 24 (puts 25 (refers (codes "B")) (has (codes "a") (int 32) no_declaration))) ∷ [])) ≡ (0, unknown 25) ∷ []
+unfolding can_be_embedded
+embeds_nothing_declared = refl
+
+-- `#B: {v: int, x?: {#B, w?: int}}`: what is embedded
+embeds_itself_below : flaws_of_files (only (definition (codes "B") 0 (braces 4 (with (codes "v") (int 8) (field (label (codes "x")) Optional (literal 17 (puts 18 (refers (codes "B")) (declared (label (codes "w")) Optional (int 26) no_declaration))) no_field))) ∷ [])) ≡ (0, no_struct 18) ∷ []
+unfolding can_be_embedded
+embeds_itself_below = refl
+
+-- `#X: {a: int}`, `#B: {x: #X}` and `#P: {#B, x: {b: int, ...}}`: the second value
+would_be_opened : clashes_of_files (only (definition (codes "X") 0 (one (codes "a") 4) ∷ definition (codes "B") 0 (braces 4 (with (codes "x") (refers (codes "X") 8) no_field)) ∷ definition (codes "P") 0 (literal 24 (puts 25 (refers (codes "B")) (has (codes "x") (ellipsis 32 (with (codes "b") (int 36) no_field)) no_declaration))) ∷ [])) ≡ (0, 32) ∷ []
+unfolding alternatives clashes_value
+would_be_opened = refl
+
+-- `#B: {x: #X}`, `#C: {x: #Y}` and `#P: {#B, #C}`: the reference that brings the second one
+another_reference : clashes_of_files (only (definition (codes "X") 0 (one (codes "a") 4) ∷ definition (codes "Y") 0 (one (codes "b") 4) ∷ definition (codes "B") 0 (braces 4 (with (codes "x") (refers (codes "X") 8) no_field)) ∷ definition (codes "C") 0 (braces 4 (with (codes "x") (refers (codes "Y") 8) no_field)) ∷ definition (codes "P") 0 (literal 24 (puts 25 (refers (codes "B")) (puts 29 (refers (codes "C")) no_declaration))) ∷ [])) ≡ (0, 29) ∷ []
+unfolding alternatives clashes_value
+another_reference = refl
+
+-- `#B: {x: #X}` and `#P: {#B, [string]: {b: int}}`: the value of every key
+every_key_beside : clashes_of_files (only (definition (codes "X") 0 (one (codes "a") 4) ∷ definition (codes "B") 0 (braces 4 (with (codes "x") (refers (codes "X") 8) no_field)) ∷ definition (codes "P") 0 (literal 24 (puts 25 (refers (codes "B")) (declared every_label (Every 29) (one (codes "b") 39) no_declaration))) ∷ [])) ≡ (0, 39) ∷ []
+unfolding alternatives clashes_value
+every_key_beside = refl
