@@ -1,5 +1,5 @@
 -- What the default profile accepts stands for itself, in either profile.
-use Rattle.std.proofs.Common.{◌≡◌, ℕ, List, [], ◌∷◌, sym, subst, ◌∙◌}
+use Rattle.std.proofs.Common.{◌≡◌, ℕ, List, [], ◌∷◌, subst, ◌∙◌}
 use Rattle.std.specs.List.{AllByRecursion}
 use Rattle.cs_grammar.specs.declared.profile.Profile.TheVariants as profiles
 use Rattle.cs_grammar.specs.DefaultForms.{IsDefaultFile}
@@ -10,10 +10,13 @@ use Rattle.cs_package.specs.Environment.{Environment}
 use Rattle.cs_resolve.specs.Resolved.{IsPackage}
 use Rattle.cs_print.specs.Printed.{IsReadAs}
 use Rattle.cs_defaults.specs.Widened.{IsUnmarked}
+use Rattle.cs_embeddings.specs.Without.{IsJoined}
 use Rattle.cs_tool.specs.Accepted.{AreFiles, AreFilesIn, IsAccepted}
-use Rattle.cs_tool.proofs.Declared.{one_files}
 use Rattle.cs_widen.specs.Accepted.{IsAcceptedIn}
 use Rattle.cs_widen.specs.Meant.{IsMeant, IsMeantIn, Declare}
+use Rattle.cs_widen.specs.Stands.{AreMeant}
+use Rattle.cs_widen.proofs.Once.{one_files, one_meant}
+use Rattle.cs_widen.proofs.Printed.{spelled_low}
 
 abbrev pub HaveDefaultForms : Type 0
 HaveDefaultForms = (source : List ℕ) (f : FileTree) → IsSpelledBy source f → IsDefaultFile f
@@ -38,13 +41,22 @@ all_wide law [] (f ∷ fs) h = absurd h
 all_wide law (s ∷ ss) [] h = absurd h
 all_wide law (s ∷ ss) (f ∷ fs) h = (law s f h.0, all_wide law ss fs h.1)
 
-module _ (law : HaveDefaultForms) (stay : Stay) (ss : List (List ℕ)) where
-  themselves : (fs : List FileTree) → AreFiles ss fs → IsUnmarked fs fs
-  themselves fs spelled = stay fs (all_default law ss fs spelled)
+abbrev pub HaveNoEmbeddings : Type 0
+HaveNoEmbeddings = (fs : List FileTree) → AllByRecursion IsDefaultFile fs → IsJoined fs fs
 
+-- files of the default profile stand for themselves
+abbrev pub StandForThemselves : Type 0
+StandForThemselves = (ss : List (List ℕ)) (fs : List FileTree) → AreFiles ss fs → AreMeant fs fs
+
+pub themselves : HaveDefaultForms → HaveNoEmbeddings → Stay → StandForThemselves
+themselves law unjoined stay ss fs spelled =
+    let forms = all_default law ss fs spelled in
+    record { joined = fs; are_joined = unjoined fs forms; low = spelled_low profiles.Default ss fs spelled; unmarked = stay fs forms }
+
+module _ (law : StandForThemselves) (ss : List (List ℕ)) where
   -- what such files stand for is they
-  only_themselves : (fs gs : List FileTree) → AreFiles ss fs → IsUnmarked fs gs → gs ≡ fs
-  only_themselves fs gs spelled h = h.unmarked ∙ sym (themselves fs spelled).unmarked
+  only_themselves : (fs gs : List FileTree) → AreFiles ss fs → AreMeant fs gs → gs ≡ fs
+  only_themselves fs gs spelled h = one_meant fs gs fs h (law ss fs spelled)
 
   pub accepted_in_default : (E : Environment) → IsAccepted ss E → IsAcceptedIn profiles.Default ss E
   accepted_in_default E h = record {
@@ -52,7 +64,7 @@ module _ (law : HaveDefaultForms) (stay : Stay) (ss : List (List ℕ)) where
     files = h.files;
     spelled = h.spelled;
     meant = h.files;
-    stand_for = themselves h.files h.spelled;
+    stand_for = law ss h.files h.spelled;
     one_package = h.one_package;
     guarded = h.guarded;
   }
@@ -69,7 +81,7 @@ module _ (law : HaveDefaultForms) (stay : Stay) (ss : List (List ℕ)) where
   pub meant_in_default : (s : List ℕ) (E : Environment) → IsAccepted ss E → IsMeantIn profiles.Default ss s → IsMeant ss s
   meant_in_default s E accepted h =
       let same = only_themselves h.accepted.files h.accepted.meant h.accepted.spelled h.accepted.stand_for in
-      let files = same ∙ one_files ss h.accepted.files accepted.files h.accepted.spelled accepted.spelled in
+      let files = same ∙ one_files profiles.Default ss h.accepted.files accepted.files h.accepted.spelled accepted.spelled in
       record { environment = E; accepted = accepted; read = subst (λ fs. IsReadAs s fs) files h.read }
 
   pub declare_in_default : (E : Environment) → IsAccepted ss E → Declare profiles.Default ss ss
@@ -81,7 +93,7 @@ module _ (law : HaveDefaultForms) (stay : Stay) (ss : List (List ℕ)) where
     files = h.files;
     spelled = all_wide wide ss h.files h.spelled;
     meant = h.files;
-    stand_for = themselves h.files h.spelled;
+    stand_for = law ss h.files h.spelled;
     one_package = h.one_package;
     guarded = h.guarded;
   }

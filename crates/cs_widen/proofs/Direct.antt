@@ -17,7 +17,7 @@ use Rattle.cs_defaults.specs.Leading.{leading, has_default}
 use Rattle.cs_defaults.specs.Unmarked.{unmarked, unmarked_fields, optional_if}
 use Rattle.cs_widen.specs.Direct.{fields_read, declaration_reads, field_reads, is_allowed, AreReadDirectly}
 
-all_same : {X : Type 0} (p q : X → Bool) → ((x : X) → p x ≡ q x) → (xs : List X) → list_all p xs ≡ list_all q xs
+pub all_same : {X : Type 0} (p q : X → Bool) → ((x : X) → p x ≡ q x) → (xs : List X) → list_all p xs ≡ list_all q xs
 all_same p q same [] = refl
 all_same p q same (x ∷ xs) = rw (same x, all_same p q same xs) refl
 

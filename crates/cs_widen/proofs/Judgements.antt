@@ -6,14 +6,15 @@ use Rattle.cs_grammar.specs.declared.profile.Profile.TheVariants as profiles
 use Rattle.cs_package.specs.Environment.{Environment}
 use Rattle.cs_tool.specs.Accepted.{IsAccepted}
 use Rattle.cs_tool.specs.Headline.{IsExport, IsVerdict}
-use Rattle.cs_tool.specs.Ready.{IsReady}
+use Rattle.cs_tool.specs.Ready.{IsReady, IsReadyToVet, IsReadyToAgree}
 use Rattle.cs_tool.specs.declared.fault.Fault.{Fault}
 use Rattle.cs_tool.specs.declared.fault.Fault.TheVariants.{OutOfMemory}
 use Rattle.cs_tool.proofs.Declared as tool
-use Rattle.cs_widen.specs.Calls.{Means, IsExportIn, IsVerdictIn, RefusesIn}
+use Rattle.cs_widen.specs.Accepted.{IsAcceptedIn}
+use Rattle.cs_widen.specs.Calls.{Means, IsExportIn, IsVerdictIn, RefusesIn, IsReadyToVetIn, IsReadyToAgreeIn}
 use Rattle.cs_widen.specs.Meant.{Declare, StandForIn, DeclaresRootIn}
 use Rattle.cs_widen.specs.Refused.{MeantRefusal, MeantRefusalIn, MeansTooMuchAs}
-use Rattle.cs_widen.proofs.Default.{HaveDefaultForms, Stay, declare_in_default, default_accepted}
+use Rattle.cs_widen.proofs.Default.{StandForThemselves, declare_in_default, default_accepted}
 use Rattle.cs_widen.proofs.Once.{one_environment}
 
 -- ---- which sources are judged
@@ -22,9 +23,9 @@ pub by_meant : (p : Profile) (ss : List (List ℕ)) (s : List ℕ) → StandForI
 by_meant profiles.Default ss s h = absurd cc
 by_meant profiles.Wide ss s h = h.1
 
-pub by_themselves : HaveDefaultForms → Stay → (p : Profile) (ss : List (List ℕ)) → StandForIn p ss None → (E : Environment) → IsAccepted ss E → Declare p ss ss
-by_themselves law stay profiles.Default ss h E a = declare_in_default law stay ss E a
-by_themselves law stay profiles.Wide ss h E a = h
+pub by_themselves : StandForThemselves → (p : Profile) (ss : List (List ℕ)) → StandForIn p ss None → (E : Environment) → IsAccepted ss E → Declare p ss ss
+by_themselves law profiles.Default ss h E a = declare_in_default law ss E a
+by_themselves law profiles.Wide ss h E a = h
 
 -- ---- answers
 
@@ -45,16 +46,40 @@ module _ (p : Profile) (ss judged : List (List ℕ)) (declare : Declare p ss jud
     same = tool.one_environment v.declares.accepted declare.taken;
   }
 
-  pub ready : (root : List ℕ) → DeclaresRootIn p ss root → IsReady judged root
-  ready root h =
-      let same = one_environment p ss declare.environment h.0 declare.given h.2 in
-      (h.0, h.1, record { accepted = subst (λ E. IsAccepted judged E) same declare.taken; named = h.3 })
+  takes : (E : Environment) → IsAcceptedIn p ss E → IsAccepted judged E
+  takes E a = subst (λ F. IsAccepted judged F) (one_environment p ss declare.environment E declare.given a) declare.taken
 
-pub ready_themselves : HaveDefaultForms → Stay → (p : Profile) (ss : List (List ℕ)) → StandForIn p ss None → (root : List ℕ)
-    → DeclaresRootIn p ss root → IsReady ss root
-ready_themselves law stay profiles.Default ss h root d =
-    (d.0, d.1, record { accepted = default_accepted law stay ss d.0 d.2; named = d.3 })
-ready_themselves law stay profiles.Wide ss h root d = ready profiles.Wide ss ss h root d
+  pub ready : (root : List ℕ) → DeclaresRootIn p ss root → IsReady judged root
+  ready root h = (h.0, h.1, record { accepted = takes h.0 h.2; named = h.3 })
+
+  pub ready_to_vet : (root text : List ℕ) → IsReadyToVetIn p ss root text → IsReadyToVet judged root text
+  ready_to_vet root text r = record {
+    input = record {
+      environment = r.environment;
+      name = r.name;
+      declares = record { accepted = takes r.environment r.accepted; named = r.named };
+      document = r.document;
+      read = r.read;
+    };
+    within = r.within;
+  }
+
+  pub ready_to_agree : (root text : List ℕ) → IsReadyToAgreeIn p ss root text → IsReadyToAgree judged root text
+  ready_to_agree root text r = record {
+    vetted = ready_to_vet root text r.vetted;
+    within = λ items rules many. r.within items rules (judged, declare, many);
+  }
+
+module _ (law : StandForThemselves) (p : Profile) (ss : List (List ℕ)) (stand : StandForIn p ss None) where
+  pub declare_themselves : (E : Environment) → IsAcceptedIn p ss E → Declare p ss ss
+  declare_themselves E a = by_profile p stand a
+    where
+      by_profile : (q : Profile) → StandForIn q ss None → IsAcceptedIn q ss E → Declare q ss ss
+      by_profile profiles.Default s b = declare_in_default law ss E (default_accepted law ss E b)
+      by_profile profiles.Wide s b = s
+
+  pub ready_themselves : (root : List ℕ) → DeclaresRootIn p ss root → IsReady ss root
+  ready_themselves root d = ready p ss ss (declare_themselves d.0 d.2) root d
 
 -- ---- refusals
 

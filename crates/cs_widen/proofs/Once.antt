@@ -1,6 +1,8 @@
 -- In a profile sources are spelled by one list of files, which stands for one, so that they declare one environment.
-use Rattle.std.proofs.Common.{◌≡◌, ℕ, List, [], ◌∷◌, refl, sym, subst, ◌∙◌}
+use Rattle.std.proofs.Common.{◌≡◌, ℕ, ◌≤◌, List, [], ◌∷◌, map, refl, sym, ap, subst, ◌∙◌}
 use Rattle.cs_grammar.specs.Cut.{Lexeme}
+use Rattle.cs_grammar.specs.Limits.{most_nodes}
+use Rattle.cs_grammar.specs.Size.{nodes_of_files}
 use Rattle.cs_grammar.specs.Spells.{SpellsFile}
 use Rattle.cs_grammar.specs.Taken.{taken}
 use Rattle.cs_grammar.specs.TokenWords.{words}
@@ -13,9 +15,14 @@ use Rattle.cs_package.specs.Environment.{Environment}
 use Rattle.cs_resolve.specs.Resolved.{IsPackage}
 use Rattle.cs_resolve.proofs.BaseLaw as resolve
 use Rattle.cs_guard.specs.Guarded.{IsGuarded}
-use Rattle.cs_defaults.specs.Widened.{IsUnmarked, mark_faults}
+use Rattle.cs_defaults.specs.Unmarked.{unmarked_file}
+use Rattle.cs_defaults.specs.Widened.{handing_on, mark_faults}
+use Rattle.cs_embeddings.specs.Size.{size_of_files}
+use Rattle.cs_embeddings.specs.Without.{IsJoined, IsWithin, flaws_of_files, clashes_of_files, joined_files}
 use Rattle.cs_tool.specs.Accepted.{AreFilesIn}
 use Rattle.cs_widen.specs.Accepted.{IsAcceptedIn}
+use Rattle.cs_widen.specs.Stands.{AreMeant}
+use Rattle.cs_widen.proofs.Sizes.{same_size_files}
 
 one_file : (p : Profile) (s : List ℕ) (f g : FileTree) → IsSpelledIn p s f → IsSpelledIn p s g → f ≡ g
 one_file p s f g a b =
@@ -33,22 +40,41 @@ one_files p (s ∷ ss) (f ∷ fs) (g ∷ gs) a b =
     let others = one_files p ss fs gs a.1 b.1 in
     cc
 
-pub one_meant : (fs gs hs : List FileTree) → IsUnmarked fs gs → IsUnmarked fs hs → gs ≡ hs
-one_meant fs gs hs a b = a.unmarked ∙ sym b.unmarked
+pub one_meant : (fs gs hs : List FileTree) → AreMeant fs gs → AreMeant fs hs → gs ≡ hs
+one_meant fs gs hs a b =
+    let joined = a.are_joined.joined ∙ sym b.are_joined.joined in
+    a.unmarked.unmarked ∙ ap (λ js. map (unmarked_file (handing_on js)) js) joined ∙ sym b.unmarked.unmarked
 
 -- what is accepted has the files that the sources spell, and the environment of what these stand for
 module _ (p : Profile) (ss : List (List ℕ)) (fs : List FileTree) (spelled : AreFilesIn p ss fs) (E : Environment) (accepted : IsAcceptedIn p ss E) where
   same_files : accepted.files ≡ fs
   same_files = one_files p ss accepted.files fs accepted.spelled spelled
 
-  pub no_fault : mark_faults fs ≡ []
-  no_fault = subst (λ gs. mark_faults gs ≡ []) same_files accepted.stand_for.faultless
+  stand : AreMeant fs accepted.meant
+  stand = subst (λ hs. AreMeant hs accepted.meant) same_files accepted.stand_for
 
-  module _ (gs : List FileTree) (stand_for : IsUnmarked fs gs) where
+  -- nothing is at fault in them, and without embeddings they are neither too high nor too large
+  pub no_flaw : flaws_of_files fs ≡ []
+  no_flaw = stand.are_joined.flawless
+
+  pub no_clash : clashes_of_files fs ≡ []
+  no_clash = stand.are_joined.apart
+
+  small : size_of_files stand.joined ≤ most_nodes
+  small =
+      let same = same_size_files (handing_on stand.joined) stand.joined in
+      let nodes = subst (λ gs. nodes_of_files gs ≤ most_nodes) stand.unmarked.unmarked accepted.one_package.small.nodes in
+      subst (λ n. n ≤ most_nodes) (sym same) nodes
+
+  pub within : IsWithin (joined_files fs)
+  within = subst IsWithin stand.are_joined.joined (record { low = stand.low; small = small })
+
+  pub no_fault : (js : List FileTree) → IsJoined fs js → mark_faults js ≡ []
+  no_fault js joined = subst (λ hs. mark_faults hs ≡ []) (stand.are_joined.joined ∙ sym joined.joined) stand.unmarked.faultless
+
+  module _ (gs : List FileTree) (stand_for : AreMeant fs gs) where
     pub are_package : IsPackage gs E
-    are_package =
-        let there = subst (λ hs. IsUnmarked hs accepted.meant) same_files accepted.stand_for in
-        subst (λ hs. IsPackage hs E) (one_meant fs accepted.meant gs there stand_for) accepted.one_package
+    are_package = subst (λ hs. IsPackage hs E) (one_meant fs accepted.meant gs stand stand_for) accepted.one_package
 
     pub one_environment_of : (F : Environment) → IsPackage gs F → E ≡ F
     one_environment_of F h = resolve.one_environment gs E F are_package h

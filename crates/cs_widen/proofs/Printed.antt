@@ -1,84 +1,75 @@
 -- What files stand for can be printed, and what is printed of it is read again.
-use Rattle.std.proofs.Common.{◌≡◌, ℕ, suc, ◌≤◌, max, List, [], ◌∷◌, ◌++◌, Bool, map, refl, sym, ap, ap₂, subst, arith}
+use Rattle.std.proofs.Common.{◌≡◌, ℕ, ◌≤◌, List, [], ◌∷◌, ◌++◌, Bool, map, sym, subst, arith}
 use Rattle.std.specs.List.{AllByRecursion, flat_map}
 use Rattle.cs_grammar.specs.declared.profile.Profile.{Profile}
 use Rattle.cs_grammar.specs.DefaultForms.{IsDefaultFile}
+use Rattle.cs_grammar.specs.Height.{height, height_definitions, file_height}
 use Rattle.cs_grammar.specs.Limits.{most_height}
 use Rattle.cs_grammar.specs.Source.{IsSpelledByIn}
-use Rattle.cs_grammar.specs.Tree.{Tree, atom, named, reference, conjunction, disjunction, paren, struct, list, wide, marked, Trees, none, more, Fields, no_field, field, End, closed, any, each, DefinitionTree, definition, FileTree, file, body, definitions}
+use Rattle.cs_grammar.specs.Tree.{DefinitionTree, FileTree, body, definitions}
 use Rattle.cs_grammar.specs.Written.{IsWrittenFile}
-use Rattle.cs_grammar.specs.Height.{height, height_all, height_fields, height_end, height_definitions}
-use Rattle.cs_syntax.proofs.NestingBounds.{max_left, max_right, max_both}
-use Rattle.cs_defaults.specs.Unmarked.{unmarked, unmarked_each, unmarked_fields, unmarked_end, unmarked_definition, unmarked_file}
+use Rattle.cs_defaults.specs.Unmarked.{unmarked_file}
 use Rattle.cs_defaults.specs.Widened.{IsUnmarked, handing_on}
+use Rattle.cs_embeddings.specs.Without.{IsJoined, IsWithin}
 use Rattle.cs_print.specs.Printed.{IsPrinted, IsReadAs}
 use Rattle.cs_tool.specs.Accepted.{AreFilesIn}
+use Rattle.cs_widen.specs.Stands.{AreMeant}
 
--- ---- heights: a mark is no level
-
-mutual
-  same_height : (has : List ℕ → Bool) (e : Tree) → height (unmarked has e) ≡ height e
-  same_height has (atom a) = refl
-  same_height has (named s o) = refl
-  same_height has (reference s o) = refl
-  same_height has (conjunction es) = ap suc (same_heights has es)
-  same_height has (disjunction es) = ap suc (same_heights has es)
-  same_height has (paren e) = ap suc (same_height has e)
-  same_height has (struct o fs b) = ap suc (same_height_fields has fs)
-  same_height has (list es end) = ap₂ (λ m n. suc (max m n)) (same_heights has es) (same_height_end has end)
-  same_height has (wide (marked o e)) = same_height has e
-
-  same_heights : (has : List ℕ → Bool) (es : Trees) → height_all (unmarked_each has es) ≡ height_all es
-  same_heights has none = refl
-  same_heights has (more e es) = ap₂ (λ m n. max m n) (same_height has e) (same_heights has es)
-
-  same_height_fields : (has : List ℕ → Bool) (fs : Fields) → height_fields (unmarked_fields has fs) ≡ height_fields fs
-  same_height_fields has no_field = refl
-  same_height_fields has (field l m e fs) = ap₂ (λ m n. max m n) (same_height has e) (same_height_fields has fs)
-
-  same_height_end : (has : List ℕ → Bool) (end : End) → height_end (unmarked_end has end) ≡ height_end end
-  same_height_end has closed = refl
-  same_height_end has any = refl
-  same_height_end has (each e) = same_height has e
-
-same_height_definitions : (has : List ℕ → Bool) (ds : List DefinitionTree) → height_definitions (map (unmarked_definition has) ds) ≡ height_definitions ds
-same_height_definitions has [] = refl
-same_height_definitions has (definition s o e ∷ ds) = ap₂ (λ m n. max m n) (same_height has e) (same_height_definitions has ds)
+-- ---- heights
 
 low_append : (ds es : List DefinitionTree) (h : ℕ) → height_definitions ds ≤ h → height_definitions es ≤ h → height_definitions (ds ++ es) ≤ h
 low_append [] es h a b = b
 low_append (d ∷ ds) es h a b =
-    let here = max_left (height (body d)) (height_definitions ds) a in
-    let others = low_append ds es h (max_right (height (body d)) (height_definitions ds) a) b in
-    max_both (height (body d)) (height_definitions (ds ++ es)) here others
+    let others = low_append ds es h (omega arith) b in
+    omega arith
 
--- what is meant by low files is low
-all_low : (has : List ℕ → Bool) (p : Profile) (ss : List (List ℕ)) (fs : List FileTree) → AreFilesIn p ss fs
+low_parts : (ds es : List DefinitionTree) (h : ℕ) → height_definitions (ds ++ es) ≤ h → (height_definitions ds ≤ h) × (height_definitions es ≤ h)
+low_parts [] es h a = (omega arith, a)
+low_parts (d ∷ ds) es h a =
+    let others = low_parts ds es h (omega arith) in
+    (omega (arith, others.0), others.1)
+
+-- the bodies that files of some sources have are low
+pub spelled_low : (p : Profile) (ss : List (List ℕ)) (fs : List FileTree) → AreFilesIn p ss fs → height_definitions (flat_map definitions fs) ≤ most_height
+spelled_low p [] [] h = omega arith
+spelled_low p [] (f ∷ fs) h = absurd h
+spelled_low p (s ∷ ss) [] h = absurd h
+spelled_low p (s ∷ ss) (f ∷ fs) h = low_append (definitions f) (flat_map definitions fs) most_height h.0.low (spelled_low p ss fs h.1)
+
+abbrev pub AreNoHigher : Type 0
+AreNoHigher = (has : List ℕ → Bool) (f : FileTree) → file_height (unmarked_file has f) ≤ file_height f
+
+-- files without their marks are low where they were
+unmarked_low : AreNoHigher → (has : List ℕ → Bool) (fs : List FileTree) → height_definitions (flat_map definitions fs) ≤ most_height
     → height_definitions (flat_map definitions (map (unmarked_file has) fs)) ≤ most_height
-all_low has p [] [] h = omega arith
-all_low has p [] (f ∷ fs) h = absurd h
-all_low has p (s ∷ ss) [] h = absurd h
-all_low has p (s ∷ ss) (file c ds ∷ fs) h =
-    let here = subst (λ n. n ≤ most_height) (sym (same_height_definitions has ds)) h.0.low in
-    let others = flat_map definitions (map (unmarked_file has) fs) in
-    low_append (map (unmarked_definition has) ds) others most_height here (all_low has p ss fs h.1)
+unmarked_low law has [] h = h
+unmarked_low law has (f ∷ fs) h =
+    let parts = low_parts (definitions f) (flat_map definitions fs) most_height h in
+    let here : file_height (unmarked_file has f) ≤ most_height = omega (arith, law has f, parts.0) in
+    low_append (definitions (unmarked_file has f)) (flat_map definitions (map (unmarked_file has) fs)) most_height here (unmarked_low law has fs parts.1)
 
 -- ---- what is spelled can be written down
 
 abbrev pub WritesSpelled : Type 0
 WritesSpelled = (p : Profile) (source : List ℕ) (f : FileTree) → IsSpelledByIn p source f → IsWrittenFile f
 
+abbrev pub WritesJoined : Type 0
+WritesJoined = (fs gs : List FileTree) → AllByRecursion IsWrittenFile fs → IsJoined fs gs → AllByRecursion IsWrittenFile gs
+
 abbrev pub WritesUnmarked : Type 0
 WritesUnmarked = (has : List ℕ → Bool) (f : FileTree) → IsWrittenFile f → IsWrittenFile (unmarked_file has f)
 
-all_written : WritesSpelled → WritesUnmarked → (has : List ℕ → Bool) (p : Profile) (ss : List (List ℕ)) (fs : List FileTree)
-    → AreFilesIn p ss fs → AllByRecursion IsWrittenFile (map (unmarked_file has) fs)
-all_written law keeps has p [] [] h = tt
-all_written law keeps has p [] (f ∷ fs) h = absurd h
-all_written law keeps has p (s ∷ ss) [] h = absurd h
-all_written law keeps has p (s ∷ ss) (f ∷ fs) h =
+all_spelled : WritesSpelled → (p : Profile) (ss : List (List ℕ)) (fs : List FileTree) → AreFilesIn p ss fs → AllByRecursion IsWrittenFile fs
+all_spelled law p [] [] h = tt
+all_spelled law p [] (f ∷ fs) h = absurd h
+all_spelled law p (s ∷ ss) [] h = absurd h
+all_spelled law p (s ∷ ss) (f ∷ fs) h =
     let spelled : IsSpelledByIn p s f = record { tokens = h.0.tokens; cut = h.0.cut; spelled = h.0.spelled } in
-    (keeps has f (law p s f spelled), all_written law keeps has p ss fs h.1)
+    (law p s f spelled, all_spelled law p ss fs h.1)
+
+all_unmarked : WritesUnmarked → (has : List ℕ → Bool) (fs : List FileTree) → AllByRecursion IsWrittenFile fs → AllByRecursion IsWrittenFile (map (unmarked_file has) fs)
+all_unmarked law has [] h = tt
+all_unmarked law has (f ∷ fs) h = (law has f h.0, all_unmarked law has fs h.1)
 
 abbrev pub HaveNoMarks : Type 0
 HaveNoMarks = (has : List ℕ → Bool) (f : FileTree) → IsDefaultFile (unmarked_file has f)
@@ -92,15 +83,22 @@ AreRead = (source : List ℕ) (fs : List FileTree) → IsPrinted source fs → h
 
 -- ---- what the files of sources stand for
 
-module _ (p : Profile) (ss : List (List ℕ)) (fs : List FileTree) (spelled : AreFilesIn p ss fs) (gs : List FileTree) (stand_for : IsUnmarked fs gs) where
-  pub meant_written : WritesSpelled → WritesUnmarked → AllByRecursion IsWrittenFile gs
-  meant_written law keeps =
-      subst (λ hs. AllByRecursion IsWrittenFile hs) (sym stand_for.unmarked) (all_written law keeps (handing_on fs) p ss fs spelled)
+pub are_meant : (fs js gs : List FileTree) → IsJoined fs js → IsWithin js → IsUnmarked js gs → AreMeant fs gs
+are_meant fs js gs joined within unmarked = record { joined = js; are_joined = joined; low = within.low; unmarked = unmarked }
+
+module _ (fs gs : List FileTree) (stand_for : AreMeant fs gs) where
+  abbrev has : List ℕ → Bool
+  has = handing_on stand_for.joined
+
+  pub meant_written : (p : Profile) (ss : List (List ℕ)) → AreFilesIn p ss fs → WritesSpelled → WritesJoined → WritesUnmarked → AllByRecursion IsWrittenFile gs
+  meant_written p ss spelled law joins keeps =
+      let written = joins fs stand_for.joined (all_spelled law p ss fs spelled) stand_for.are_joined in
+      subst (λ hs. AllByRecursion IsWrittenFile hs) (sym stand_for.unmarked.unmarked) (all_unmarked keeps has stand_for.joined written)
 
   pub meant_default : HaveNoMarks → AllByRecursion IsDefaultFile gs
-  meant_default law = subst (λ hs. AllByRecursion IsDefaultFile hs) (sym stand_for.unmarked) (all_default law (handing_on fs) fs)
+  meant_default law = subst (λ hs. AllByRecursion IsDefaultFile hs) (sym stand_for.unmarked.unmarked) (all_default law has stand_for.joined)
 
-  pub meant_read : AreRead → (s : List ℕ) → IsPrinted s gs → IsReadAs s gs
-  meant_read law s printed =
-      let low = all_low (handing_on fs) p ss fs spelled in
-      law s gs printed (subst (λ hs. height_definitions (flat_map definitions hs) ≤ most_height) (sym stand_for.unmarked) low)
+  pub meant_read : AreNoHigher → AreRead → (s : List ℕ) → IsPrinted s gs → IsReadAs s gs
+  meant_read lower law s printed =
+      let low = unmarked_low lower has stand_for.joined stand_for.low in
+      law s gs printed (subst (λ hs. height_definitions (flat_map definitions hs) ≤ most_height) (sym stand_for.unmarked.unmarked) low)

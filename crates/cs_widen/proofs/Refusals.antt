@@ -1,35 +1,102 @@
--- Which refusal of a package is which refusal of the sources.
-use Rattle.std.proofs.Common.{ℕ, List, refl}
+-- Which refusal of each stage is which refusal of the sources.
+use Rattle.std.proofs.Common.{ℕ, List, inl, inr, refl}
 use Rattle.cs_grammar.specs.Tree.{FileTree}
 use Rattle.cs_grammar.specs.declared.profile.Profile.{Profile}
 use Rattle.cs_package.specs.Environment.{Environment}
+use Rattle.cs_resolve.specs.Refusal as resolve
 use Rattle.cs_resolve.specs.Resolved.{IsPackage}
+use Rattle.cs_resolve.specs.declared.fault.ResolveFault.{ResolveFault}
+use Rattle.cs_resolve.specs.declared.fault.ResolveFault.TheVariants as names
 use Rattle.cs_guard.specs.Cycles as guard
 use Rattle.cs_guard.specs.declared.fault.GuardFault.{GuardFault}
 use Rattle.cs_guard.specs.declared.fault.GuardFault.TheVariants as cycles
-use Rattle.cs_defaults.specs.Widened.{IsUnmarked}
+use Rattle.cs_defaults.specs.Widened as defaults
+use Rattle.cs_defaults.specs.declared.fault.DefaultFault.{DefaultFault}
+use Rattle.cs_defaults.specs.declared.fault.DefaultFault.TheVariants as marks
+use Rattle.cs_embeddings.specs.Without as embeddings
+use Rattle.cs_embeddings.specs.Without.{IsJoined}
+use Rattle.cs_embeddings.specs.declared.fault.EmbeddingFault.{EmbeddingFault}
+use Rattle.cs_embeddings.specs.declared.fault.EmbeddingFault.TheVariants as joins
 use Rattle.cs_tool.specs.Accepted.{AreTexts, AreFilesIn}
-use Rattle.cs_tool.specs.Conversions.{of_guard}
-use Rattle.cs_widen.specs.Refused.{IsUnguardedIn, RefusalIn}
+use Rattle.cs_tool.specs.Conversions.{of_resolve, of_guard}
+use Rattle.cs_tool.specs.First.{SpellingRefusal}
+use Rattle.cs_tool.specs.declared.fault.Fault.{Fault}
+use Rattle.cs_tool.specs.declared.fault.Fault.TheVariants.{SourcesTooLong, NotUtf8, NoToken, Syntax, LeftOut, IntegerRange, TooHigh, OutOfMemory}
+use Rattle.cs_widen.specs.Refused.{of_embedding, of_mark, IsEmbeddingRefusal, IsMarkRefusal, IsNoPackageIn, IsUnguardedIn, RefusalIn}
+use Rattle.cs_widen.specs.Stands.{AreMeant, AreMeantBy}
 
--- the sources spell these files, which stand for those; they are a package
-module _ (p : Profile) (ss : List (List ℕ)) (texts : AreTexts ss) (fs : List FileTree) (spelled : AreFilesIn p ss fs)
-    (gs : List FileTree) (stand_for : IsUnmarked fs gs) (E : Environment) (one_package : IsPackage gs E) where
-  unguarded : (f : GuardFault) → guard.IsRefusal f E → IsUnguardedIn p ss (of_guard f)
-  unguarded f h = record {
-    texts = texts;
-    files = fs;
-    spelled = spelled;
+pub by_spelling : (p : Profile) (ss : List (List ℕ)) (e : Fault) → SpellingRefusal p ss e → RefusalIn p ss e
+by_spelling p ss OutOfMemory h = tt
+by_spelling p ss SourcesTooLong h = h
+by_spelling p ss (NotUtf8 number) h = h
+by_spelling p ss (NoToken number offset) h = h
+by_spelling p ss (Syntax number offset) h = h
+by_spelling p ss (LeftOut number offset) h = inl h
+by_spelling p ss (IntegerRange number offset) h = h
+by_spelling p ss (TooHigh number) h = inl h
+by_spelling p ss _ h = absurd h
+
+-- the sources spell these files
+module _ (p : Profile) (ss : List (List ℕ)) (texts : AreTexts ss) (fs : List FileTree) (spelled : AreFilesIn p ss fs) where
+  embedding_refusal : (f : EmbeddingFault) → embeddings.IsRefusal f fs → IsEmbeddingRefusal p ss (of_embedding f)
+  embedding_refusal f h = record { texts = texts; files = fs; spelled = spelled; fault = f; refused = h; told = refl }
+
+  pub by_embedding : (f : EmbeddingFault) → embeddings.IsRefusal f fs → RefusalIn p ss (of_embedding f)
+  by_embedding joins.OutOfMemory h = tt
+  by_embedding (joins.UnknownName i o) h = inl (embedding_refusal (joins.UnknownName i o) h)
+  by_embedding (joins.NoStruct i o) h = inl (embedding_refusal (joins.NoStruct i o) h)
+  by_embedding (joins.Reopened i o) h = inl (embedding_refusal (joins.Reopened i o) h)
+  by_embedding (joins.TooHigh i) h = inr (embedding_refusal (joins.TooHigh i) h)
+  by_embedding joins.TooLarge h = inl (embedding_refusal joins.TooLarge h)
+
+  -- they have no flaw, and are these without embeddings
+  module _ (js : List FileTree) (joined : IsJoined fs js) where
+    mark_refusal : (f : DefaultFault) → defaults.IsRefusal f js → IsMarkRefusal p ss (of_mark f)
+    mark_refusal f h = record { texts = texts; files = fs; spelled = spelled; joined = js; are_joined = joined; fault = f; refused = h; told = refl }
+
+    pub by_mark : (f : DefaultFault) → defaults.IsRefusal f js → RefusalIn p ss (of_mark f)
+    by_mark marks.OutOfMemory h = tt
+    by_mark (marks.Mark i o) h = inr (mark_refusal (marks.Mark i o) h)
+
+-- the sources spell files, which stand for these
+module _ (p : Profile) (ss : List (List ℕ)) (gs : List FileTree) (meant : AreMeantBy p ss gs) where
+  no_package : (f : ResolveFault) → resolve.IsRefusal f gs → IsNoPackageIn p ss (of_resolve f)
+  no_package f h = record {
+    texts = meant.texts;
+    files = meant.files;
+    spelled = meant.spelled;
     meant = gs;
-    stand_for = stand_for;
-    environment = E;
-    one_package = one_package;
+    stand_for = meant.stand_for;
     fault = f;
     refused = h;
     told = refl;
   }
 
-  pub by_guard : (f : GuardFault) → guard.IsRefusal f E → RefusalIn p ss (of_guard f)
-  by_guard cycles.OutOfMemory h = tt
-  by_guard (cycles.Cycle names) h = unguarded (cycles.Cycle names) h
-  by_guard (cycles.ChainTooLong names) h = unguarded (cycles.ChainTooLong names) h
+  pub by_resolve : (f : ResolveFault) → resolve.IsRefusal f gs → RefusalIn p ss (of_resolve f)
+  by_resolve names.OutOfMemory h = tt
+  by_resolve (names.PackageName i) h = no_package (names.PackageName i) h
+  by_resolve (names.UnknownName i o) h = inr (no_package (names.UnknownName i o) h)
+  by_resolve (names.FieldReference i o) h = no_package (names.FieldReference i o) h
+  by_resolve (names.NotOpened i o) h = inr (no_package (names.NotOpened i o) h)
+  by_resolve (names.TooLarge n) h = inr (no_package (names.TooLarge n) h)
+
+  -- they are a package
+  module _ (E : Environment) (one_package : IsPackage gs E) where
+    unguarded : (f : GuardFault) → guard.IsRefusal f E → IsUnguardedIn p ss (of_guard f)
+    unguarded f h = record {
+      texts = meant.texts;
+      files = meant.files;
+      spelled = meant.spelled;
+      meant = gs;
+      stand_for = meant.stand_for;
+      environment = E;
+      one_package = one_package;
+      fault = f;
+      refused = h;
+      told = refl;
+    }
+
+    pub by_guard : (f : GuardFault) → guard.IsRefusal f E → RefusalIn p ss (of_guard f)
+    by_guard cycles.OutOfMemory h = tt
+    by_guard (cycles.Cycle names) h = unguarded (cycles.Cycle names) h
+    by_guard (cycles.ChainTooLong names) h = unguarded (cycles.ChainTooLong names) h

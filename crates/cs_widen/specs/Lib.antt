@@ -5,3 +5,4 @@ pub mod Meant
 pub mod Refused
 pub mod Calls
 pub mod Direct
+pub mod Embedding

@@ -3,10 +3,11 @@ ghost use Rattle.std.specs.Prelude.{◌≡◌, ◌⊎◌, IfOk, IfErr};
 ghost use Rattle.cs_tool.specs.Agreement.{IsAgreement};
 ghost use Rattle.cs_tool.specs.CallRefusals.{ExportRefusal, VetRefusal, AgreeRefusal};
 ghost use Rattle.cs_tool.specs.Given.{bytes_in};
-ghost use Rattle.cs_widen.specs.Calls.{Means, IsExportIn, IsVerdictIn, RefusesIn};
+ghost use Rattle.cs_widen.specs.Calls.{Means, IsExportIn, IsVerdictIn, RefusesIn, IsReadyToVetIn, IsReadyToAgreeIn};
 ghost use Rattle.cs_widen.specs.Meant.{DeclaresRootIn};
 ghost use Rattle.cs_widen.specs.Refused.{MeansTooMuchAs};
 
+use crate::laws::default_files_are_meant;
 use crate::standing::stands_for_in;
 use cs_syntax::Profile;
 use cs_tool::{Fault, agree, export, vet};
@@ -29,8 +30,7 @@ pub fn export_in(
     ensures only { DeclaresRootIn profile (bytes_in sources.now) root.now
         → IfErr result (λ e. (e ≡ Fault.OutOfMemory) ⊎ MeansTooMuchAs e (bytes_in sources.now)) }
 {
-    cs_syntax::default_files_have_default_forms(); // for the proof: no mark stands in what they spell
-    cs_defaults::default_files_stay(); // for the proof: so the files stand for themselves
+    default_files_are_meant(); // for the proof: what they spell stands for itself
     match stands_for_in(alloc, profile, sources)? {
         Some(meant) => export(alloc, &[meant.as_bytes()], root),
         None => export(alloc, sources, root),
@@ -52,9 +52,10 @@ pub fn vet_in(
     ensures found { IfOk result (λ b. IsVerdictIn profile (bytes_in sources.now) root.now doc.now b) }
     ensures refused { IfErr result (λ e. RefusesIn profile (bytes_in sources.now)
         (λ judged. VetRefusal judged root.now doc.now e) e) }
+    ensures only { IsReadyToVetIn profile (bytes_in sources.now) root.now doc.now
+        → IfErr result (λ e. (e ≡ Fault.OutOfMemory) ⊎ MeansTooMuchAs e (bytes_in sources.now)) }
 {
-    cs_syntax::default_files_have_default_forms(); // for the proof: no mark stands in what they spell
-    cs_defaults::default_files_stay(); // for the proof: so the files stand for themselves
+    default_files_are_meant(); // for the proof: what they spell stands for itself
     match stands_for_in(alloc, profile, sources)? {
         Some(meant) => vet(alloc, &[meant.as_bytes()], root, doc),
         None => vet(alloc, sources, root, doc),
@@ -76,9 +77,10 @@ pub fn agree_in(
         (λ judged. IsAgreement judged root.now doc.now b)) }
     ensures refused { IfErr result (λ e. RefusesIn profile (bytes_in sources.now)
         (λ judged. AgreeRefusal judged root.now doc.now e) e) }
+    ensures only { IsReadyToAgreeIn profile (bytes_in sources.now) root.now doc.now
+        → IfErr result (λ e. (e ≡ Fault.OutOfMemory) ⊎ MeansTooMuchAs e (bytes_in sources.now)) }
 {
-    cs_syntax::default_files_have_default_forms(); // for the proof: no mark stands in what they spell
-    cs_defaults::default_files_stay(); // for the proof: so the files stand for themselves
+    default_files_are_meant(); // for the proof: what they spell stands for itself
     match stands_for_in(alloc, profile, sources)? {
         Some(meant) => agree(alloc, &[meant.as_bytes()], root, doc),
         None => agree(alloc, sources, root, doc),

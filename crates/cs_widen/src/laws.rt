@@ -2,17 +2,36 @@
 ghost use Rattle.std.specs.Prelude.{◌↔◌, ℕ, List, Bool};
 ghost use Rattle.cs_document.specs.Document.{Document};
 ghost use Rattle.cs_instance.specs.Instance.{Rule, IsInstance};
+ghost use Rattle.cs_grammar.specs.Tree.{FileTree};
 ghost use Rattle.cs_grammar.specs.declared.profile.Profile.TheVariants as profiles;
 ghost use Rattle.cs_package.specs.Environment.{Environment};
-ghost use Rattle.cs_tool.specs.Accepted.{IsAccepted};
+ghost use Rattle.cs_tool.specs.Accepted.{AreFiles, IsAccepted};
 ghost use Rattle.cs_widen.specs.Accepted.{IsAcceptedIn};
 ghost use Rattle.cs_widen.specs.Direct.{AreReadDirectly};
+ghost use Rattle.cs_widen.specs.Embedding.{AreEmbeddingsReadDirectly};
+ghost use Rattle.cs_widen.specs.Stands.{AreMeant};
 
 /// A law: a map is an instance of what a struct literal with defaults stands for exactly where each key that is missing is that of a field
 /// that is optional or has a default, each value is as the alternatives of its field ask, whether marked or not, and each key is allowed.
 pub fn defaults_are_read_directly()
     ensures { (E : Environment) (I : Rule → Document → Bool) → IsInstance E I → AreReadDirectly I }
 {}
+
+/// A law: a map is an instance of what a struct literal with embeddings stands for exactly where for some choice of an alternative of each
+/// expression that it embeds, one for a definition however often that is embedded, each declaration is met, as it is written, and each key
+/// is one of theirs or one of them is opened.
+pub fn embeddings_are_read_directly()
+    ensures { (E : Environment) (I : Rule → Document → Bool) → IsInstance E I → AreEmbeddingsReadDirectly I }
+{}
+
+/// A law: the files that sources of the default profile spell stand for themselves.
+pub(crate) fn default_files_are_meant()
+    ensures { (sources : List (List ℕ)) (fs : List FileTree) → AreFiles sources fs → AreMeant fs fs }
+{
+    cs_syntax::default_files_have_default_forms(); // for the proof: no form of the wide profile stands in what they spell
+    cs_embeddings::default_files_have_no_embeddings(); // for the proof: so nothing is embedded
+    cs_defaults::default_files_stay(); // for the proof: and nothing is marked
+}
 
 /// A law: in the default profile sources declare what they declare by `cs_tool` alone; and what the default profile accepts, the wide one
 /// accepts, with the same definitions, and so with the same instances.
@@ -22,7 +41,6 @@ pub fn wide_law()
     ensures wide { (sources : List (List ℕ)) (E : Environment)
         → IsAccepted sources E → IsAcceptedIn profiles.Wide sources E }
 {
-    cs_syntax::default_files_have_default_forms(); // for the proof: no mark stands in what they spell
+    default_files_are_meant(); // for the proof: what they spell stands for itself
     cs_syntax::wide_reads_the_default(); // for the proof: the wide profile reads them as the default one
-    cs_defaults::default_files_stay(); // for the proof: so the files stand for themselves
 }

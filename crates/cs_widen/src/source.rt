@@ -14,7 +14,9 @@ ghost use Rattle.cs_tool.specs.Given.{bytes_in};
 ghost use Rattle.cs_widen.specs.Accepted.{IsAcceptedIn};
 ghost use Rattle.cs_widen.specs.Meant.{IsMeant, IsMeantIn};
 ghost use Rattle.cs_widen.specs.Refused.{RefusalIn, of_embedding, of_mark};
+ghost use Rattle.cs_widen.specs.Stands.{AreMeantBy};
 
+use crate::laws::default_files_are_meant;
 use cs_defaults::{DefaultFault, without_marks};
 use cs_embeddings::{EmbeddingFault, without_embeddings};
 use cs_guard::guard;
@@ -33,8 +35,7 @@ pub fn widen(alloc: Global, sources: &[&[u8]]) -> Result<String, Fault>
         → IsAccepted (bytes_in sources.now) E → IsOkUnless result Fault.OutOfMemory }
 {
     accepted_package(alloc, sources)?;
-    cs_syntax::default_files_have_default_forms(); // for the proof: no mark stands in what they spell
-    cs_defaults::default_files_stay(); // for the proof: so the files stand for themselves
+    default_files_are_meant(); // for the proof: what they spell stands for itself
     widen_in(alloc, Profile::Default, sources)
 }
 
@@ -51,9 +52,7 @@ pub fn widen_in(alloc: Global, profile: Profile, sources: &[&[u8]]) -> Result<St
     ensures only { (E : Environment)
         → IsAcceptedIn profile (bytes_in sources.now) E → IsOkUnless result Fault.OutOfMemory }
 {
-    let spelled = spelled_files(alloc, profile, sources)?;
-    let joined = joined_files(alloc, &spelled)?;
-    let meant = meant_files(alloc, &joined)?;
+    let meant = files_meant_by(alloc, profile, sources)?;
     cs_print::spelled_files_are_written(); // for the proof: what a source spells can be printed
     cs_print::printed_sources_are_read(); // for the proof: what is printed keeps the limits
     cs_embeddings::joined_files_can_be_written(); // for the proof: what has no embeddings can be printed
@@ -64,6 +63,18 @@ pub fn widen_in(alloc: Global, profile: Profile, sources: &[&[u8]]) -> Result<St
     let package = guard(alloc, resolve_written(alloc, meant)?)?;
     drop(package);
     Ok(source)
+}
+
+/// The files that sources stand for in a profile: those that they spell, first without embeddings and then without marks of defaults.
+fn files_meant_by(alloc: Global, profile: Profile, sources: &[&[u8]]) -> Result<Vec<File>, Fault>
+    ensures found { IfOk result (λ v. AreMeantBy profile (bytes_in sources.now) (map file_view v.items)) }
+    ensures refused { IfErr result (λ e. RefusalIn profile (bytes_in sources.now) e) }
+    ensures only { (E : Environment)
+        → IsAcceptedIn profile (bytes_in sources.now) E → IsOkUnless result Fault.OutOfMemory }
+{
+    let spelled = spelled_files(alloc, profile, sources)?;
+    let joined = joined_files(alloc, &spelled)?;
+    meant_files(alloc, &joined)
 }
 
 /// Files without embeddings.

@@ -8,6 +8,7 @@ ghost use Rattle.cs_widen.specs.Accepted.{IsAcceptedIn};
 ghost use Rattle.cs_widen.specs.Meant.{StandFor, StandForIn};
 ghost use Rattle.cs_widen.specs.Refused.{MeantRefusal, MeantRefusalIn, MeansTooMuchAs};
 
+use crate::laws::default_files_are_meant;
 use crate::source::widen_in;
 use cs_syntax::Profile;
 use cs_tool::{Fault, MOST_BYTES, accepted_package};
@@ -24,9 +25,8 @@ pub fn stands_for(alloc: Global, sources: &[&[u8]]) -> Result<Option<String>, Fa
     ensures only { (E : Environment) → IsAcceptedIn profiles.Wide (bytes_in sources.now) E
         → IfErr result (λ e. (e ≡ Fault.OutOfMemory) ⊎ MeansTooMuchAs e (bytes_in sources.now)) }
 {
-    cs_syntax::default_files_have_default_forms(); // for the proof: no mark stands in what they spell
+    default_files_are_meant(); // for the proof: what they spell stands for itself
     cs_syntax::wide_reads_the_default(); // for the proof: the wide profile reads them as the default one
-    cs_defaults::default_files_stay(); // for the proof: so the files stand for themselves
     match accepted_package(alloc, sources) {
         Ok(_) => return Ok(None),
         Err(Fault::OutOfMemory) => return Err(Fault::OutOfMemory),

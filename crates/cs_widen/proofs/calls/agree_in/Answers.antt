@@ -1,5 +1,5 @@
 use Rattle.std.proofs.Common.{◌≡◌, [], ◌∷◌, Bool, Some, string_bytes, sym, ap, subst, ◌∙◌}
-use Rattle.std.proofs.lemmas.Result.{IfOk-weaker, IfErr-weaker}
+use Rattle.std.proofs.lemmas.Result.{IfOk-weaker, IfErr-weaker, err_from_is_err_and}
 use Rattle.std.specs.Option.{option_map}
 use Rattle.cs_tool.specs.Agreement.{IsAgreement}
 use Rattle.cs_tool.specs.CallRefusals.{AgreeRefusal}
@@ -7,7 +7,7 @@ use Rattle.cs_tool.specs.Given.{bytes_in}
 use Rattle.cs_tool.specs.declared.fault.Fault.{Fault}
 use Rattle.cs_widen.specs.Calls.{Means, RefusesIn}
 use Rattle.cs_widen.specs.Meant.{StandForIn}
-use Rattle.cs_widen.proofs.Judgements.{by_meant, by_themselves, refused_meant, refused_themselves}
+use Rattle.cs_widen.proofs.Judgements.{by_meant, by_themselves, memory_alone, declare_themselves, ready_to_agree, refused_meant, refused_themselves}
 use Rattle.cs_widen.proofs.calls.agree_in.Goals as goal
 
 pub returns-in-Some-clause-found : goal.returns-in-Some-clause-found
@@ -35,10 +35,9 @@ returns-in-None-clause-found c =
     let p = c.args.profile in
     let ss = bytes_in c.args.sources.now in
     let stand = subst (λ s. StandForIn p ss s) (ap (option_map string_bytes) c.in-None.is) c.in_ok-meant.ensures.found in
-    let law = c.default_files_have_default_forms.ensures in
-    let stay = c.default_files_stay.ensures in
+    let law = c.default_files_are_meant.ensures in
     IfOk-weaker c.agree-in-None.result (λ (b : Bool). IsAgreement ss c.args.root.now c.args.doc.now b) (λ (b : Bool). Means p ss (λ judged. IsAgreement judged c.args.root.now c.args.doc.now b))
-    (λ b x. (ss, by_themselves law stay p ss stand x.verdict.environment x.verdict.declares.accepted, x)) c.agree-in-None.ensures.found
+    (λ b x. (ss, by_themselves law p ss stand x.verdict.environment x.verdict.declares.accepted, x)) c.agree-in-None.ensures.found
 
 pub returns-in-None-clause-refused : goal.returns-in-None-clause-refused
 returns-in-None-clause-refused c =
@@ -47,3 +46,25 @@ returns-in-None-clause-refused c =
     let stand = subst (λ s. StandForIn p ss s) (ap (option_map string_bytes) c.in-None.is) c.in_ok-meant.ensures.found in
     IfErr-weaker c.agree-in-None.result (λ (e : Fault). AgreeRefusal ss c.args.root.now c.args.doc.now e) (λ (e : Fault). RefusesIn p ss (λ judged. AgreeRefusal judged c.args.root.now c.args.doc.now e) e)
     (λ e h. refused_themselves ss (λ judged. AgreeRefusal judged c.args.root.now c.args.doc.now e) p e stand h) c.agree-in-None.ensures.refused
+
+pub returns-in_err-meant-clause-only : goal.returns-in_err-meant-clause-only
+returns-in_err-meant-clause-only c = λ r.
+    let p = err_from_is_err_and c.from_residual.result c.from_residual.ensures.1 in
+    rw (p.1, p.2) (c.in_err-meant.ensures.only r.vetted.environment r.vetted.accepted)
+
+pub returns-in-Some-clause-only : goal.returns-in-Some-clause-only
+returns-in-Some-clause-only c = λ r.
+    let p = c.args.profile in
+    let ss = bytes_in c.args.sources.now in
+    let m = c.as_bytes.result.now in
+    let same : option_map string_bytes c.in_ok-meant.field-0 ≡ Some m = ap (option_map string_bytes) c.in-Some.is ∙ ap Some (sym c.as_bytes.ensures.value) in
+    let stand = subst (λ s. StandForIn p ss s) same c.in_ok-meant.ensures.found in
+    memory_alone ss c.agree.result (c.agree.ensures.only (ready_to_agree p ss (m ∷ []) (by_meant p ss m stand) c.args.root.now c.args.doc.now r))
+
+pub returns-in-None-clause-only : goal.returns-in-None-clause-only
+returns-in-None-clause-only c = λ r.
+    let p = c.args.profile in
+    let ss = bytes_in c.args.sources.now in
+    let stand = subst (λ s. StandForIn p ss s) (ap (option_map string_bytes) c.in-None.is) c.in_ok-meant.ensures.found in
+    let declare = declare_themselves c.default_files_are_meant.ensures p ss stand r.vetted.environment r.vetted.accepted in
+    memory_alone ss c.agree-in-None.result (c.agree-in-None.ensures.only (ready_to_agree p ss ss declare c.args.root.now c.args.doc.now r))

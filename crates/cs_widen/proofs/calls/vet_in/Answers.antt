@@ -1,5 +1,5 @@
 use Rattle.std.proofs.Common.{◌≡◌, [], ◌∷◌, Bool, Some, string_bytes, sym, ap, subst, ◌∙◌}
-use Rattle.std.proofs.lemmas.Result.{IfOk-weaker, IfErr-weaker}
+use Rattle.std.proofs.lemmas.Result.{IfOk-weaker, IfErr-weaker, err_from_is_err_and}
 use Rattle.std.specs.Option.{option_map}
 use Rattle.cs_tool.specs.Headline.{IsVerdict}
 use Rattle.cs_tool.specs.CallRefusals.{VetRefusal}
@@ -7,7 +7,7 @@ use Rattle.cs_tool.specs.Given.{bytes_in}
 use Rattle.cs_tool.specs.declared.fault.Fault.{Fault}
 use Rattle.cs_widen.specs.Calls.{IsVerdictIn, RefusesIn}
 use Rattle.cs_widen.specs.Meant.{StandForIn}
-use Rattle.cs_widen.proofs.Judgements.{by_meant, by_themselves, judged_in, refused_meant, refused_themselves}
+use Rattle.cs_widen.proofs.Judgements.{by_meant, by_themselves, judged_in, memory_alone, declare_themselves, ready_to_vet, refused_meant, refused_themselves}
 use Rattle.cs_widen.proofs.calls.vet_in.Goals as goal
 
 pub returns-in-Some-clause-found : goal.returns-in-Some-clause-found
@@ -35,11 +35,10 @@ returns-in-None-clause-found c =
     let p = c.args.profile in
     let ss = bytes_in c.args.sources.now in
     let stand = subst (λ s. StandForIn p ss s) (ap (option_map string_bytes) c.in-None.is) c.in_ok-meant.ensures.found in
-    let law = c.default_files_have_default_forms.ensures in
-    let stay = c.default_files_stay.ensures in
+    let law = c.default_files_are_meant.ensures in
     IfOk-weaker c.vet-in-None.result (λ (b : Bool). IsVerdict ss c.args.root.now c.args.doc.now b) (λ (b : Bool). IsVerdictIn p ss c.args.root.now c.args.doc.now b)
     (λ b x.
-    let declare = by_themselves law stay p ss stand x.environment x.declares.accepted in
+    let declare = by_themselves law p ss stand x.environment x.declares.accepted in
     judged_in p ss ss declare c.args.root.now c.args.doc.now b x) c.vet-in-None.ensures.found
 
 pub returns-in-None-clause-refused : goal.returns-in-None-clause-refused
@@ -49,3 +48,25 @@ returns-in-None-clause-refused c =
     let stand = subst (λ s. StandForIn p ss s) (ap (option_map string_bytes) c.in-None.is) c.in_ok-meant.ensures.found in
     IfErr-weaker c.vet-in-None.result (λ (e : Fault). VetRefusal ss c.args.root.now c.args.doc.now e) (λ (e : Fault). RefusesIn p ss (λ judged. VetRefusal judged c.args.root.now c.args.doc.now e) e)
     (λ e h. refused_themselves ss (λ judged. VetRefusal judged c.args.root.now c.args.doc.now e) p e stand h) c.vet-in-None.ensures.refused
+
+pub returns-in_err-meant-clause-only : goal.returns-in_err-meant-clause-only
+returns-in_err-meant-clause-only c = λ r.
+    let p = err_from_is_err_and c.from_residual.result c.from_residual.ensures.1 in
+    rw (p.1, p.2) (c.in_err-meant.ensures.only r.environment r.accepted)
+
+pub returns-in-Some-clause-only : goal.returns-in-Some-clause-only
+returns-in-Some-clause-only c = λ r.
+    let p = c.args.profile in
+    let ss = bytes_in c.args.sources.now in
+    let m = c.as_bytes.result.now in
+    let same : option_map string_bytes c.in_ok-meant.field-0 ≡ Some m = ap (option_map string_bytes) c.in-Some.is ∙ ap Some (sym c.as_bytes.ensures.value) in
+    let stand = subst (λ s. StandForIn p ss s) same c.in_ok-meant.ensures.found in
+    memory_alone ss c.vet.result (c.vet.ensures.only (ready_to_vet p ss (m ∷ []) (by_meant p ss m stand) c.args.root.now c.args.doc.now r))
+
+pub returns-in-None-clause-only : goal.returns-in-None-clause-only
+returns-in-None-clause-only c = λ r.
+    let p = c.args.profile in
+    let ss = bytes_in c.args.sources.now in
+    let stand = subst (λ s. StandForIn p ss s) (ap (option_map string_bytes) c.in-None.is) c.in_ok-meant.ensures.found in
+    let declare = declare_themselves c.default_files_are_meant.ensures p ss stand r.environment r.accepted in
+    memory_alone ss c.vet-in-None.result (c.vet-in-None.ensures.only (ready_to_vet p ss ss declare c.args.root.now c.args.doc.now r))
